@@ -1,0 +1,4 @@
+pub mod FormulaViews
+pub mod Parts
+pub mod Same
+pub mod Shifted

@@ -1,0 +1,48 @@
+-- What `get` tells of the list that it looks into.
+use Rattle.std.proofs.Common.{◌≡◌, ℕ, zero, suc, ◌+◌, ◌≤◌, List, [], ◌∷◌, ◌++◌, take, drop, ◌<◌, length, get_or, map, arith, add-one, ap, subst, sym}
+use Rattle.std.specs.List.{slice_get}
+use Rattle.std.specs.declared.option.Option.TheVariants.{Some}
+use Rattle.lois_base.specs.Data.{TermD, CompD, depth, depth_of_terms, depth_of_comp, depth_of_comps}
+use Rattle.lois_base.specs.Depth.{deep_le-depth}
+use Rattle.lois_base.specs.Tree.{tree, comp_of}
+use Rattle.lois_base.specs.declared.values.Comp.{Comp}
+use Rattle.lois_base.specs.declared.values.Term.{Term}
+use Rattle.lois_base.specs.declared.values.Comps.TheDeep.{deep-Term, deep-Comp}
+
+module _ {X : Type 0} where
+  pub drop_at : (xs : List X) (i : ℕ) (x : X) → Some x ≡ slice_get xs i → drop i xs ≡ x ∷ drop (i + 1) xs
+  drop_at [] i x e = absurd (cc)
+  drop_at (y ∷ xs) zero x e = cc
+  drop_at (y ∷ xs) (suc i) x e = rw add-one (rw add-one at (drop_at xs i x e))
+
+  pub take_at : (xs : List X) (i : ℕ) (x : X) → Some x ≡ slice_get xs i → take (i + 1) xs ≡ take i xs ++ x ∷ []
+  take_at [] i x e = absurd (cc)
+  take_at (y ∷ xs) zero x e = cc
+  take_at (y ∷ xs) (suc i) x e = rw add-one (ap (λ l. y ∷ l) (rw add-one at (take_at xs i x e)))
+
+pub part_within : (ts : List TermD) (i : ℕ) (t : TermD) → Some t ≡ slice_get ts i → depth t ≤ depth_of_terms ts
+part_within [] i t e = absurd (cc)
+part_within (u ∷ ts) zero t e = grind arith
+part_within (u ∷ ts) (suc i) t e = omega (arith, part_within ts i t e)
+
+pub comp_within : (cs : List CompD) (i : ℕ) (c : CompD) → Some c ≡ slice_get cs i → depth_of_comp c ≤ depth_of_comps cs
+comp_within [] i c e = absurd (cc)
+comp_within (d ∷ cs) zero c e = grind arith
+comp_within (d ∷ cs) (suc i) c e = omega (arith, comp_within cs i c e)
+
+pub deep_at : (ts : List Term) (i : ℕ) (t : Term) → i < length ts → deep-Term (get_or ts i t) ≤ depth_of_terms (map tree ts)
+deep_at [] i t l = omega arith
+deep_at (u ∷ ts) zero t l = omega (arith, deep_le-depth u)
+deep_at (u ∷ ts) (suc i) t l = omega (arith, deep_at ts i t (omega arith))
+
+-- an item of a slice of terms is less deep than the terms
+pub term_within : (ts : List Term) (vs : List TermD) (i : ℕ) (t : Term) → map tree ts ≡ vs → i < length ts → t ≡ get_or ts i t → deep-Term t ≤ depth_of_terms vs
+term_within ts vs i t m l e = subst (λ v. deep-Term t ≤ depth_of_terms v) m (subst (λ u. deep-Term u ≤ depth_of_terms (map tree ts)) (sym e) (deep_at ts i t l))
+
+pub deep_comp_at : (cs : List Comp) (i : ℕ) (c : Comp) → i < length cs → deep-Comp (get_or cs i c) ≤ depth_of_comps (map comp_of cs)
+deep_comp_at [] i c l = omega arith
+deep_comp_at (d ∷ cs) zero c l = omega (arith, deep_le-depth d.item)
+deep_comp_at (d ∷ cs) (suc i) c l = omega (arith, deep_comp_at cs i c (omega arith))
+
+pub comp_item_within : (cs : List Comp) (vs : List CompD) (i : ℕ) (c : Comp) → map comp_of cs ≡ vs → i < length cs → c ≡ get_or cs i c → deep-Comp c ≤ depth_of_comps vs
+comp_item_within cs vs i c m l e = subst (λ v. deep-Comp c ≤ depth_of_comps v) m (subst (λ d. deep-Comp d ≤ depth_of_comps (map comp_of cs)) (sym e) (deep_comp_at cs i c l))

@@ -1,0 +1,35 @@
+-- Formulas as contracts see them.
+use Rattle.std.specs.Prelude.{ℕ, suc, List, [], ◌∷◌}
+use Rattle.lois_base.specs.declared.guards.Lit.{Lit}
+use Rattle.lois_base.specs.Fits.{LitFits}
+
+mutual
+  pub data FormulaD : Type 0 where
+    lit : Lit → FormulaD
+    all : FormulasD → FormulaD
+    any : FormulasD → FormulaD
+    neg : FormulaD → FormulaD
+    exists : FormulaD → FormulaD
+    forall : FormulaD → FormulaD
+
+  pub data FormulasD : Type 0 where
+    no_formulas : FormulasD
+    formula : FormulaD → FormulasD → FormulasD
+
+abbrev pub formulas_of : List FormulaD → FormulasD
+formulas_of [] = no_formulas
+formulas_of (f ∷ fs) = formula f (formulas_of fs)
+
+-- which levels may be used: a quantifier in a formula of n levels binds level n
+abbrev mutual
+  pub FormulaFits : ℕ → FormulaD → Type 0
+  FormulaFits n (lit l) = LitFits n l
+  FormulaFits n (all fs) = FormulasFit n fs
+  FormulaFits n (any fs) = FormulasFit n fs
+  FormulaFits n (neg f) = FormulaFits n f
+  FormulaFits n (exists f) = FormulaFits (suc n) f
+  FormulaFits n (forall f) = FormulaFits (suc n) f
+
+  pub FormulasFit : ℕ → FormulasD → Type 0
+  FormulasFit n no_formulas = Unit {0}
+  FormulasFit n (formula f fs) = FormulaFits n f × FormulasFit n fs

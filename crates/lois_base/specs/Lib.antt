@@ -1,0 +1,15 @@
+pub mod Names
+pub mod Atom
+pub mod Truth
+pub mod Fits
+pub mod FormulaData
+pub mod FormulaTruth
+pub mod FormulaView
+pub mod Data
+pub mod Tree
+pub mod Depth
+pub mod Pairs
+pub mod Codes
+pub mod Values
+pub mod Normal
+pub mod Shift

@@ -1,0 +1,66 @@
+-- Normal terms: no comprehension is empty or superfluous, and no binder is unused or fixed.
+use Rattle.std.specs.Prelude.{◌≡◌, ℕ, ◌+◌, ◌<◌, ◌≤◌, List, ◌++◌, length, map, IsTrue, IsFalse, ◌⊎◌}
+use Rattle.std.specs.List.{Any, flat_map}
+use Rattle.lois_base.specs.Atom.{Atom, equal}
+use Rattle.lois_base.specs.Data.{TermD, var, tag, tup, coll, TermsD, no_terms, term, CompD, comp, CompsD, no_comps, more}
+use Rattle.lois_base.specs.Truth.{atom_at, holds}
+use Rattle.lois_base.specs.Values.{IsExtension, InAt}
+use Rattle.lois_base.specs.declared.guards.Lit.{Lit}
+
+-- a guard that holds where both do
+abbrev pub both : List (List Lit) → List (List Lit) → List (List Lit)
+both u g = flat_map (λ c. map (λ d. c ++ d) g) u
+
+abbrev pub LitUses : ℕ → Lit → Type 0
+LitUses b l = (l.left ≡ b) ⊎ (l.right ≡ b)
+
+abbrev pub GuardUses : ℕ → List (List Lit) → Type 0
+GuardUses b = Any (Any (LitUses b))
+
+-- a level occurs, in the guards too
+abbrev mutual
+  pub Occurs : ℕ → TermD → Type 0
+  Occurs b (var i) = i ≡ b
+  Occurs b (tag t) = ⊥
+  Occurs b (tup ts) = OccursInPart b ts
+  Occurs b (coll cs) = OccursInItem b cs
+
+  pub OccursInPart : ℕ → TermsD → Type 0
+  OccursInPart b no_terms = ⊥
+  OccursInPart b (term t ts) = Occurs b t ⊎ OccursInPart b ts
+
+  pub OccursInComp : ℕ → CompD → Type 0
+  OccursInComp b (comp m g t) = GuardUses b g ⊎ Occurs b t
+
+  pub OccursInItem : ℕ → CompsD → Type 0
+  OccursInItem b no_comps = ⊥
+  OccursInItem b (more c cs) = OccursInComp b c ⊎ OccursInItem b cs
+
+abbrev pub joined : CompsD → CompsD → CompsD
+joined no_comps cs = cs
+joined (more k ks) cs = more k (joined ks cs)
+
+-- a choice of n atoms at which a guard holds
+pub record Meets (n : ℕ) (u : List (List Lit)) (c : List Atom) : Type 0 where
+  pub count : length c ≡ n
+  pub met : IsTrue (holds c u)
+
+abbrev mutual
+  pub IsNormal : TermD → List (List Lit) → ℕ → Type 0
+  IsNormal (var i) u n = Unit {0}
+  IsNormal (tag t) u n = Unit {0}
+  IsNormal (tup ts) u n = PartsAreNormal ts u n
+  IsNormal (coll cs) u n = EachIsNormal cs no_comps u n
+
+  pub PartsAreNormal : TermsD → List (List Lit) → ℕ → Type 0
+  PartsAreNormal no_terms u n = Unit {0}
+  PartsAreNormal (term t ts) u n = IsNormal t u n × PartsAreNormal ts u n
+
+  pub EachIsNormal : CompsD → CompsD → List (List Lit) → ℕ → Type 0
+  EachIsNormal no_comps before u n = Unit {0}
+  EachIsNormal (more k ks) before u n =
+      IsNormalComp k (joined before ks) u n × EachIsNormal ks (joined before (more k no_comps)) u n
+
+  pub IsNormalComp : CompD → CompsD → List (List Lit) → ℕ → Type 0
+  IsNormalComp (comp m g t) others u n =
+      ((c : List Atom) × Meets (n + m) (both u g) c) × ((b : ℕ) → n ≤ b → b < n + m → Occurs b t) × ((b a : ℕ) → n ≤ b → b < n + m → a < b → (c : List Atom) × Meets (n + m) (both u g) c × IsFalse (equal (atom_at c b) (atom_at c a))) × ((c e : List Atom) × Meets n u c × IsExtension c m g e × (InAt t (c ++ e) others c → ⊥)) × IsNormal t (both u g) (n + m)

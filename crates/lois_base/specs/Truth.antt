@@ -1,0 +1,29 @@
+-- Truth at a choice of atoms.
+use Rattle.std.specs.Prelude.{ℕ, Bool, not, List, get_or, map, IsTrue}
+use Rattle.std.specs.List.{list_all, list_any}
+use Rattle.lois_base.specs.Atom.{Atom, equal, below, whole}
+use Rattle.lois_base.specs.declared.guards.Lit.{Lit}
+use Rattle.lois_base.specs.declared.guards.Op.{Op}
+use Rattle.lois_base.specs.declared.guards.Op.TheVariants.{Eq, Ne, Lt}
+
+-- the atom at a level, where the level is below the choice's length
+abbrev pub atom_at : List Atom → ℕ → Atom
+atom_at u i = get_or u i (whole 0)
+
+abbrev pub op_holds : Op → Atom → Atom → Bool
+op_holds Eq a b = equal a b
+op_holds Ne a b = not (equal a b)
+op_holds Lt a b = below a b
+
+abbrev pub lit_holds : List Atom → Lit → Bool
+lit_holds u l = op_holds l.op (atom_at u l.left) (atom_at u l.right)
+
+abbrev pub cube_holds : List Atom → List Lit → Bool
+cube_holds u = list_all (lit_holds u)
+
+abbrev pub holds : List Atom → List (List Lit) → Bool
+holds u = list_any (cube_holds u)
+
+-- a choice of whole numbers
+abbrev pub sampled : List ℕ → List Atom
+sampled = map whole

@@ -1,0 +1,96 @@
+//! Formulas with quantifiers.
+
+ghost use Rattle.std.specs.Prelude.{◌≡◌, ℕ, ◌+◌, ◌<◌, ◌^◌, IfOk, OnOk, OnErr, List, [], ◌∷◌, ◌++◌, length, slice_get, option_map, map, IsTrue, ◌↔◌};
+ghost use Rattle.lois_base.specs.FormulaData.{formulas_of};
+ghost use Rattle.lois_base.specs.FormulaView.{view, views};
+
+use crate::{Lit, NoMemory};
+use std::alloc::Global;
+
+#[derive(Drop)]
+#[cycle(formula)]
+pub enum Formula {
+    Lit(Lit),
+    All(Formulas),
+    Any(Formulas),
+    Not(Box<Formula>),
+    Exists(Box<Formula>),
+    Forall(Box<Formula>),
+}
+
+#[derive(Drop)]
+#[cycle(formula)]
+pub struct Formulas {
+    items: Vec<Formula>,
+}
+
+impl Formulas {
+    pub fn new(alloc: Global) -> Self
+        ensures { views result ≡ [] }
+    {
+        Formulas {
+            items: Vec::new(alloc),
+        }
+    }
+
+    pub fn len(&self) -> usize
+        ensures { result ≡ length (views self.now) }
+    {
+        self.items.len()
+    }
+
+    pub fn get(&self, index: usize) -> Option<&Formula>
+        ensures { option_map (λ f. view f.now) result ≡ slice_get (views self.now) index }
+    {
+        self.items.get(index)
+    }
+
+    #[tactic(auto, using(crate::proofs::FormulaViews::views_is))]
+    pub fn as_slice(&self) -> &[Formula]
+        ensures { map view result.now ≡ views self.now }
+    {
+        &self.items
+    }
+
+    pub fn push(&mut self, item: Formula) -> Result<(), NoMemory>
+        ensures ok { OnOk result (views self.new ≡ views self.old ++ view item ∷ []) }
+        ensures err { OnErr result (views self.new ≡ views self.old) }
+    {
+        self.items.push(item).map_err(|_| NoMemory)
+    }
+
+    #[cycle(copy)]
+    pub fn copy(&self, alloc: Global) -> Result<Self, NoMemory>
+        ensures { IfOk result (λ r. views r ≡ views self.now) }
+    {
+        let mut copy = Formulas::new(alloc);
+        for item in &self.items {
+            copy.push(item.copy(alloc)?)?;
+        }
+        Ok(copy)
+    }
+
+}
+
+fn boxed(alloc: Global, formula: Formula) -> Result<Box<Formula>, NoMemory>
+    ensures { IfOk result (λ b. view b.value ≡ view formula) }
+{
+    Box::new(alloc, formula).map_err(|_| NoMemory)
+}
+
+impl Formula {
+    #[cycle(copy)]
+    pub fn copy(&self, alloc: Global) -> Result<Self, NoMemory>
+        ensures { IfOk result (λ r. view r ≡ view self.now) }
+    {
+        match self {
+            Formula::Lit(lit) => Ok(Formula::Lit(*lit)),
+            Formula::All(parts) => Ok(Formula::All(parts.copy(alloc)?)),
+            Formula::Any(parts) => Ok(Formula::Any(parts.copy(alloc)?)),
+            Formula::Not(body) => Ok(Formula::Not(boxed(alloc, body.copy(alloc)?)?)),
+            Formula::Exists(body) => Ok(Formula::Exists(boxed(alloc, body.copy(alloc)?)?)),
+            Formula::Forall(body) => Ok(Formula::Forall(boxed(alloc, body.copy(alloc)?)?)),
+        }
+    }
+
+}
