@@ -13,3 +13,5 @@ pub mod Codes
 pub mod Values
 pub mod Normal
 pub mod Shift
+pub mod Validity
+pub mod Theory

@@ -5,17 +5,22 @@ ghost use Rattle.lois_base.specs.Fits.{LitFits, CubeFits, ConstraintFits};
 ghost use Rattle.lois_base.specs.Truth.{lit_holds, cube_holds, holds, sampled};
 
 use crate::NoMemory;
+use smallvec::SmallVec;
 use std::alloc::Global;
 use std::marker::Model;
 
-#[derive(Clone, Copy, PartialEq, Eq, Debug)]
+// Most cubes are short, and take no allocation.
+const INLINE_LITERALS: usize = 8;
+
+#[derive(Clone, Copy, PartialEq, Eq, Debug, Default)]
 pub enum Op {
+    #[default]
     Eq,
     Ne,
     Lt,
 }
 
-#[derive(Clone, Copy, PartialEq, Eq, Debug)]
+#[derive(Clone, Copy, PartialEq, Eq, Debug, Default)]
 pub struct Lit {
     pub op: Op,
     pub left: usize,
@@ -24,7 +29,7 @@ pub struct Lit {
 
 #[derive(Drop)]
 pub struct Cube {
-    items: Vec<Lit>,
+    items: SmallVec<Lit, INLINE_LITERALS>,
 }
 
 impl Model for Cube {
@@ -76,7 +81,7 @@ impl Cube {
         ensures { result ≡ [] }
     {
         Cube {
-            items: Vec::new(alloc),
+            items: SmallVec::new(alloc),
         }
     }
 
@@ -89,7 +94,13 @@ impl Cube {
     pub fn get(&self, index: usize) -> Option<&Lit>
         ensures { option_map (λ t. t.now) result ≡ slice_get self.now index }
     {
-        self.items.get(index)
+        self.as_slice().get(index)
+    }
+
+    pub fn as_slice(&self) -> &[Lit]
+        ensures { result.now ≡ self.now }
+    {
+        self.items.as_slice()
     }
 
     pub fn push(&mut self, item: Lit) -> Result<(), NoMemory>
@@ -103,7 +114,7 @@ impl Cube {
         ensures { IfOk result (λ r. r ≡ self.now) }
     {
         Ok(Cube {
-            items: Vec::from_slice(alloc, &self.items)?,
+            items: SmallVec::from_slice(alloc, self.items.as_slice())?,
         })
     }
 
@@ -111,7 +122,7 @@ impl Cube {
         requires { CubeFits (length sample.now) self.now }
         ensures { result ≡ cube_holds (sampled sample.now) self.now }
     {
-        for lit in &self.items {
+        for lit in self.as_slice() {
             if !lit.at(sample) {
                 return false;
             }
@@ -122,7 +133,7 @@ impl Cube {
     pub fn fits(&self, size: usize) -> bool
         ensures { IsTrue result ↔ CubeFits size self.now }
     {
-        self.items.iter().all(|item| item.fits(size))
+        self.as_slice().iter().all(|item| item.fits(size))
     }
 }
 
@@ -145,6 +156,12 @@ impl Constraint {
         ensures { option_map (λ t. t.now) result ≡ slice_get self.now index }
     {
         self.items.get(index)
+    }
+
+    pub fn as_slice(&self) -> &[Cube]
+        ensures { result.now ≡ self.now }
+    {
+        &self.items
     }
 
     pub fn push(&mut self, item: Cube) -> Result<(), NoMemory>

@@ -1,0 +1,102 @@
+-- What an answer may use: the operators of its arguments, and their levels.
+use Rattle.std.specs.Prelude.{ℕ, ◌≤◌, suc, Bool, true, false, List, IsTrue}
+use Rattle.std.specs.List.{All}
+use Rattle.lois_base.specs.declared.guards.Lit.{Lit}
+use Rattle.lois_base.specs.declared.guards.Op.{Op}
+use Rattle.lois_base.specs.declared.guards.Op.TheVariants.{Eq, Ne, Lt}
+use Rattle.lois_base.specs.Data.{TermD, var, tag, tup, coll, TermsD, no_terms, term, CompD, comp, CompsD, no_comps, more}
+use Rattle.lois_base.specs.FormulaData.{FormulaD, lit, all, any, neg, exists, forall, FormulasD, no_formulas, formula}
+use Rattle.lois_base.specs.Normal.{GuardUses}
+
+-- `=` and `!=` are admitted over all atoms, and `<` where the atoms are ordered
+abbrev pub is_admitted : Bool → Op → Bool
+is_admitted ordered Eq = true
+is_admitted ordered Ne = true
+is_admitted ordered Lt = ordered
+
+abbrev pub AdmitsLit : Bool → Lit → Type 0
+AdmitsLit ordered l = IsTrue (is_admitted ordered l.op)
+
+abbrev pub AdmitsCube : Bool → List Lit → Type 0
+AdmitsCube ordered = All (AdmitsLit ordered)
+
+abbrev pub AdmitsConstraint : Bool → List (List Lit) → Type 0
+AdmitsConstraint ordered = All (AdmitsCube ordered)
+
+abbrev mutual
+  pub AdmitsFormula : Bool → FormulaD → Type 0
+  AdmitsFormula ordered (lit l) = AdmitsLit ordered l
+  AdmitsFormula ordered (all fs) = AdmitsFormulas ordered fs
+  AdmitsFormula ordered (any fs) = AdmitsFormulas ordered fs
+  AdmitsFormula ordered (neg f) = AdmitsFormula ordered f
+  AdmitsFormula ordered (exists f) = AdmitsFormula ordered f
+  AdmitsFormula ordered (forall f) = AdmitsFormula ordered f
+
+  pub AdmitsFormulas : Bool → FormulasD → Type 0
+  AdmitsFormulas ordered no_formulas = Unit {0}
+  AdmitsFormulas ordered (formula f fs) = AdmitsFormula ordered f × AdmitsFormulas ordered fs
+
+abbrev mutual
+  pub AdmitsTerm : Bool → TermD → Type 0
+  AdmitsTerm ordered (var i) = Unit {0}
+  AdmitsTerm ordered (tag t) = Unit {0}
+  AdmitsTerm ordered (tup ts) = AdmitsParts ordered ts
+  AdmitsTerm ordered (coll cs) = AdmitsItems ordered cs
+
+  pub AdmitsParts : Bool → TermsD → Type 0
+  AdmitsParts ordered no_terms = Unit {0}
+  AdmitsParts ordered (term t ts) = AdmitsTerm ordered t × AdmitsParts ordered ts
+
+  pub AdmitsComp : Bool → CompD → Type 0
+  AdmitsComp ordered (comp m g t) = AdmitsConstraint ordered g × AdmitsTerm ordered t
+
+  pub AdmitsItems : Bool → CompsD → Type 0
+  AdmitsItems ordered no_comps = Unit {0}
+  AdmitsItems ordered (more c cs) = AdmitsComp ordered c × AdmitsItems ordered cs
+
+-- no `<` occurs
+abbrev pub IsOrderFreeCube : List Lit → Type 0
+IsOrderFreeCube = AdmitsCube false
+
+abbrev pub IsOrderFree : List (List Lit) → Type 0
+IsOrderFree = AdmitsConstraint false
+
+abbrev pub IsOrderFreeFormula : FormulaD → Type 0
+IsOrderFreeFormula = AdmitsFormula false
+
+abbrev pub IsOrderFreeTerm : TermD → Type 0
+IsOrderFreeTerm = AdmitsTerm false
+
+-- each tuple has 2 to 8 parts
+abbrev pub count_of_parts : TermsD → ℕ
+count_of_parts no_terms = 0
+count_of_parts (term t ts) = suc (count_of_parts ts)
+
+abbrev mutual
+  pub HasUsualWidths : TermD → Type 0
+  HasUsualWidths (var i) = Unit {0}
+  HasUsualWidths (tag t) = Unit {0}
+  HasUsualWidths (tup ts) = (2 ≤ count_of_parts ts) × (count_of_parts ts ≤ 8) × PartsHaveUsualWidths ts
+  HasUsualWidths (coll cs) = ItemsHaveUsualWidths cs
+
+  pub PartsHaveUsualWidths : TermsD → Type 0
+  PartsHaveUsualWidths no_terms = Unit {0}
+  PartsHaveUsualWidths (term t ts) = HasUsualWidths t × PartsHaveUsualWidths ts
+
+  pub CompHasUsualWidths : CompD → Type 0
+  CompHasUsualWidths (comp m g t) = HasUsualWidths t
+
+  pub ItemsHaveUsualWidths : CompsD → Type 0
+  ItemsHaveUsualWidths no_comps = Unit {0}
+  ItemsHaveUsualWidths (more c cs) = CompHasUsualWidths c × ItemsHaveUsualWidths cs
+
+-- each level of the literal is used in the constraint g
+abbrev pub LitUsesOnly : List (List Lit) → Lit → Type 0
+LitUsesOnly g l = GuardUses l.left g × GuardUses l.right g
+
+abbrev pub CubeUsesOnly : List (List Lit) → List Lit → Type 0
+CubeUsesOnly g = All (LitUsesOnly g)
+
+-- a constraint uses only levels that the constraint g uses
+abbrev pub UsesOnly : List (List Lit) → List (List Lit) → Type 0
+UsesOnly g = All (CubeUsesOnly g)
