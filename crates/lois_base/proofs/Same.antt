@@ -61,45 +61,45 @@ mutual
   same_parts_refl no_terms c = tt
   same_parts_refl (term t ts) c = (same_refl t c, same_parts_refl ts c)
 
-  all_in_refl : (ks : CompsD) (c : List Atom) (cs : CompsD) → ((w : TermD) (x : List Atom) → MemberAt c ks w x → MemberAt c cs w x) → AllInAt ks c cs c
+  all_in_refl : (ks : CompsD) (c : List Atom) (cs : CompsD) → ((w : TermD) (x : List Atom) → MemberAt w x ks c → MemberAt w x cs c) → AllInAt ks c cs c
   all_in_refl no_comps c cs within = tt
   all_in_refl (more k ks) c cs within =
       (each_in_refl k c cs (λ w x m. within w x (inl m)), all_in_refl ks c cs (λ w x m. within w x (inr m)))
 
-  each_in_refl : (k : CompD) (c : List Atom) (cs : CompsD) → ((w : TermD) (x : List Atom) → MakesAt c k w x → MemberAt c cs w x) → EachInAt k c cs c
+  each_in_refl : (k : CompD) (c : List Atom) (cs : CompsD) → ((w : TermD) (x : List Atom) → MakesAt w x k c → MemberAt w x cs c) → EachInAt k c cs c
   each_in_refl (comp m g t) c cs within =
       λ e h. (t, c ++ e, within t (c ++ e) (e, h, refl, refl), same_refl t (c ++ e))
 
-  some_is_refl : (ks : CompsD) (c : List Atom) (w : TermD) (x : List Atom) → MemberAt c ks w x → SomeIsAt ks c w x
+  some_is_refl : (ks : CompsD) (c : List Atom) (w : TermD) (x : List Atom) → MemberAt w x ks c → SomeIsAt ks c w x
   some_is_refl no_comps c w x m = m
   some_is_refl (more k ks) c w x (inl m) = inl (one_is_refl k c w x m)
   some_is_refl (more k ks) c w x (inr m) = inr (some_is_refl ks c w x m)
 
-  one_is_refl : (k : CompD) (c : List Atom) (w : TermD) (x : List Atom) → MakesAt c k w x → OneIsAt k c w x
+  one_is_refl : (k : CompD) (c : List Atom) (w : TermD) (x : List Atom) → MakesAt w x k c → OneIsAt k c w x
   one_is_refl (comp m g t) c w x h =
       (h.0, h.1, subst (λ y. SameAt t (c ++ h.0) y x) (sym h.2) (subst (λ y. SameAt t (c ++ h.0) t y) (sym h.3) (same_refl t (c ++ h.0))))
 
 -- the members of a set, in place of its comprehensions
-pub all_in_is : (ks : CompsD) (c : List Atom) (ss : CompsD) (d : List Atom) → AllInAt ks c ss d → (w : TermD) (x : List Atom) → MemberAt c ks w x → InAt w x ss d
+pub all_in_is : (ks : CompsD) (c : List Atom) (ss : CompsD) (d : List Atom) → AllInAt ks c ss d → (w : TermD) (x : List Atom) → MemberAt w x ks c → InAt w x ss d
 all_in_is no_comps c ss d h w x m = absurd m
 all_in_is (more (comp m g t) ks) c ss d h w x (inl n) =
     let i : InAt t (c ++ n.0) ss d = h.0 n.0 n.1 in
     subst (λ y. InAt w y ss d) (sym n.3) (subst (λ v. InAt v (c ++ n.0) ss d) (sym n.2) i)
 all_in_is (more k ks) c ss d h w x (inr n) = all_in_is ks c ss d h.1 w x n
 
-pub is_all_in : (ks : CompsD) (c : List Atom) (ss : CompsD) (d : List Atom) → ((w : TermD) (x : List Atom) → MemberAt c ks w x → InAt w x ss d) → AllInAt ks c ss d
+pub is_all_in : (ks : CompsD) (c : List Atom) (ss : CompsD) (d : List Atom) → ((w : TermD) (x : List Atom) → MemberAt w x ks c → InAt w x ss d) → AllInAt ks c ss d
 is_all_in no_comps c ss d h = tt
 is_all_in (more (comp m g t) ks) c ss d h =
     (λ e n. h t (c ++ e) (inl (e, n, refl, refl)), is_all_in ks c ss d (λ w x n. h w x (inr n)))
 
 -- some member is the same as w at x
-pub some_is_is : (ks : CompsD) (c : List Atom) (w : TermD) (x : List Atom) → SomeIsAt ks c w x → (v : TermD) × (y : List Atom) × MemberAt c ks v y × SameAt v y w x
+pub some_is_is : (ks : CompsD) (c : List Atom) (w : TermD) (x : List Atom) → SomeIsAt ks c w x → (v : TermD) × (y : List Atom) × MemberAt v y ks c × SameAt v y w x
 some_is_is no_comps c w x h = absurd h
 some_is_is (more (comp m g t) ks) c w x (inl h) = (t, c ++ h.0, inl (h.0, h.1, refl, refl), h.2)
 some_is_is (more k ks) c w x (inr h) =
     let i = some_is_is ks c w x h in (i.0, i.1, inr i.2, i.3)
 
-pub is_some_is : (ks : CompsD) (c : List Atom) (w : TermD) (x : List Atom) (v : TermD) (y : List Atom) → MemberAt c ks v y → SameAt v y w x → SomeIsAt ks c w x
+pub is_some_is : (ks : CompsD) (c : List Atom) (w : TermD) (x : List Atom) (v : TermD) (y : List Atom) → MemberAt v y ks c → SameAt v y w x → SomeIsAt ks c w x
 is_some_is no_comps c w x v y m h = m
 is_some_is (more (comp m g t) ks) c w x v y (inl n) h =
     inl (n.0, n.1, subst (λ z. SameAt t z w x) n.3 (subst (λ u. SameAt u y w x) n.2 h))
@@ -125,16 +125,16 @@ mutual
   in_sym (more k ks) c w x (inr h) =
       let i = in_sym ks c w x h in (i.0, i.1, inr i.2, i.3)
 
-  one_sym : (k : CompD) (c : List Atom) (w : TermD) (x : List Atom) → OneIsAt k c w x → (cs : CompsD) → ((v : TermD) (y : List Atom) → MakesAt c k v y → MemberAt c cs v y) → InAt w x cs c
+  one_sym : (k : CompD) (c : List Atom) (w : TermD) (x : List Atom) → OneIsAt k c w x → (cs : CompsD) → ((v : TermD) (y : List Atom) → MakesAt v y k c → MemberAt v y cs c) → InAt w x cs c
   one_sym (comp m g t) c w x h cs within =
       (t, c ++ h.0, within t (c ++ h.0) (h.0, h.1, refl, refl), same_sym t (c ++ h.0) w x h.2)
 
-  some_sym : (ks : CompsD) (c : List Atom) (ss : CompsD) (d : List Atom) → AllInAt ks c ss d → (w : TermD) (x : List Atom) → MemberAt c ks w x → SomeIsAt ss d w x
+  some_sym : (ks : CompsD) (c : List Atom) (ss : CompsD) (d : List Atom) → AllInAt ks c ss d → (w : TermD) (x : List Atom) → MemberAt w x ks c → SomeIsAt ss d w x
   some_sym no_comps c ss d h w x m = absurd m
   some_sym (more k ks) c ss d h w x (inl m) = each_sym k c ss d h.0 w x m
   some_sym (more k ks) c ss d h w x (inr m) = some_sym ks c ss d h.1 w x m
 
-  each_sym : (k : CompD) (c : List Atom) (ss : CompsD) (d : List Atom) → EachInAt k c ss d → (w : TermD) (x : List Atom) → MakesAt c k w x → SomeIsAt ss d w x
+  each_sym : (k : CompD) (c : List Atom) (ss : CompsD) (d : List Atom) → EachInAt k c ss d → (w : TermD) (x : List Atom) → MakesAt w x k c → SomeIsAt ss d w x
   each_sym (comp m g t) c ss d h w x n =
       let i : InAt t (c ++ n.0) ss d = h n.0 n.1 in
       let s : SameAt i.0 i.1 t (c ++ n.0) = same_sym t (c ++ n.0) i.0 i.1 i.3 in

@@ -69,7 +69,6 @@ impl Formulas {
         }
         Ok(copy)
     }
-
 }
 
 fn boxed(alloc: Global, formula: Formula) -> Result<Box<Formula>, NoMemory>
@@ -92,5 +91,4 @@ impl Formula {
             Formula::Forall(body) => Ok(Formula::Forall(boxed(alloc, body.copy(alloc)?)?)),
         }
     }
-
 }
