@@ -69,6 +69,7 @@ impl Formulas {
         }
         Ok(copy)
     }
+
 }
 
 fn boxed(alloc: Global, formula: Formula) -> Result<Box<Formula>, NoMemory>
@@ -91,4 +92,5 @@ impl Formula {
             Formula::Forall(body) => Ok(Formula::Forall(boxed(alloc, body.copy(alloc)?)?)),
         }
     }
+
 }
