@@ -1,4 +1,5 @@
 pub mod FormulaViews
+pub mod Order
 pub mod Parts
 pub mod Same
 pub mod Shifted

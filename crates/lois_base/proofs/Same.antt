@@ -1,54 +1,11 @@
 -- To be the same value is an equivalence.
-use Rattle.std.proofs.Common.{◌≡◌, ℕ, suc, ◌+◌, ◌*◌, List, ◌++◌, refl, sym, ap, ◌∙◌, subst, arith, ℤ, pos, negsuc, ◌*ℤ◌}
-use Rattle.std.proofs.lemmas.Int.{ints}
-use Rattle.std.specs.Bool.{IsTrue}
-use Rattle.std.proofs.Math.Nat.{mul_left_comm, mul_assoc, mul_comm, mul_right_comm, mul-pos, eq_of_mul-eq-mul_left}
+use Rattle.std.proofs.Common.{List, ◌++◌, refl, sym, ◌∙◌, subst}
 use mathlib.Core.Logic.{inl, inr}
-use Rattle.lois_base.specs.Atom.{Atom, equal, crossed}
+use Rattle.lois_base.specs.Atom.{Atom}
 use Rattle.lois_base.specs.Data.{TermD, var, tag, tup, coll, TermsD, no_terms, term, CompD, comp, CompsD, no_comps, more}
 use Rattle.lois_base.specs.Truth.{atom_at}
 use Rattle.lois_base.specs.Values.{MakesAt, MemberAt, SameAt, SamePartsAt, AllInAt, EachInAt, SomeIsAt, OneIsAt, InAt}
-
-pub equal_is : (a b : Atom) → IsTrue (equal a b) → crossed a b ≡ crossed b a
-equal_is a b h = grind (arith, ints)
-
-pub is_equal : (a b : Atom) → crossed a b ≡ crossed b a → IsTrue (equal a b)
-is_equal a b h = grind (arith, ints)
-
-pub equal_refl : (a : Atom) → IsTrue (equal a a)
-equal_refl a = is_equal a a refl
-
-pub equal_sym : (a b : Atom) → IsTrue (equal a b) → IsTrue (equal b a)
-equal_sym a b h = is_equal b a (sym (equal_is a b h))
-
--- through a middle product, which is divided by the middle denominator
-nat_cross : (p q r s t u : ℕ) → p * (s + 1) ≡ r * (q + 1) → r * (u + 1) ≡ t * (s + 1) → p * (u + 1) ≡ t * (q + 1)
-nat_cross p q r s t u h k =
-    let e : (s + 1) * (p * (u + 1)) ≡ (s + 1) * (t * (q + 1)) =
-    mul_left_comm (s + 1) p (u + 1) ∙ sym (mul_assoc p (s + 1) (u + 1)) ∙ ap (λ z. z * (u + 1)) h ∙ mul_right_comm r (q + 1) (u + 1) ∙ ap (λ z. z * (q + 1)) k ∙ ap (λ z. z * (q + 1)) (mul_comm t (s + 1)) ∙ mul_assoc (s + 1) t (q + 1) in
-    eq_of_mul-eq-mul_left (s + 1) (omega arith) (p * (u + 1)) (t * (q + 1)) e
-
-cross_trans : (p r t : ℤ) (q s u : ℕ) → p *ℤ pos (s + 1) ≡ r *ℤ pos (q + 1) → r *ℤ pos (u + 1) ≡ t *ℤ pos (s + 1) → p *ℤ pos (u + 1) ≡ t *ℤ pos (q + 1)
-cross_trans (pos p) (pos r) (pos t) q s u h k = ap pos (nat_cross p q r s t u (omega (arith, ints)) (omega (arith, ints)))
-cross_trans (negsuc p) (negsuc r) (negsuc t) q s u h k =
-    let e = nat_cross (suc p) q (suc r) s (suc t) u (omega (arith, ints)) (omega (arith, ints)) in
-    omega (arith, ints)
-cross_trans (pos p) (pos r) (negsuc t) q s u h k =
-    let e = mul-pos {m = suc t} {n = s + 1} (omega arith) (omega arith) in
-    omega (arith, ints)
-cross_trans (pos p) (negsuc r) t q s u h k =
-    let e = mul-pos {m = suc r} {n = q + 1} (omega arith) (omega arith) in
-    omega (arith, ints)
-cross_trans (negsuc p) (pos r) t q s u h k =
-    let e = mul-pos {m = suc p} {n = s + 1} (omega arith) (omega arith) in
-    omega (arith, ints)
-cross_trans (negsuc p) (negsuc r) (pos t) q s u h k =
-    let e = mul-pos {m = suc r} {n = u + 1} (omega arith) (omega arith) in
-    omega (arith, ints)
-
-pub equal_trans : (a b c : Atom) → IsTrue (equal a b) → IsTrue (equal b c) → IsTrue (equal a c)
-equal_trans a b c h k =
-    is_equal a c (cross_trans a.over b.over c.over a.under b.under c.under (equal_is a b h) (equal_is b c k))
+use Rattle.lois_base.proofs.Order.{equal_refl, equal_sym, equal_trans}
 
 mutual
   pub same_refl : (t : TermD) (c : List Atom) → SameAt t c t c
