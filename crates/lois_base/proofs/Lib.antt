@@ -1,4 +1,5 @@
 pub mod FormulaViews
+pub mod Members
 pub mod Order
 pub mod Parts
 pub mod Same
