@@ -1,4 +1,4 @@
--- Which levels a term may use.
+-- Which levels a term may use: each is below the size n, and below n + m inside of a comprehension of m binders.
 use Rattle.std.specs.Prelude.{ℕ, ◌+◌, ◌<◌, ◌^◌, List}
 use Rattle.std.specs.List.{All}
 use Rattle.lois_base.specs.declared.guards.Lit.{Lit}

@@ -11,13 +11,14 @@ use Rattle.lois_base.specs.declared.guards.Lit.{Lit}
 abbrev pub both : List (List Lit) → List (List Lit) → List (List Lit)
 both u g = flat_map (λ c. map (λ d. c ++ d) g) u
 
+-- a literal, or some literal of a guard, speaks of the level b
 abbrev pub LitUses : ℕ → Lit → Type 0
 LitUses b l = (l.left ≡ b) ⊎ (l.right ≡ b)
 
 abbrev pub GuardUses : ℕ → List (List Lit) → Type 0
 GuardUses b = Any (Any (LitUses b))
 
--- a level occurs, in the guards too
+-- the level b occurs in a term, the guards inside it included
 abbrev mutual
   pub Occurs : ℕ → TermD → Type 0
   Occurs b (var i) = i ≡ b
@@ -36,6 +37,7 @@ abbrev mutual
   OccursInItem b no_comps = ⊥
   OccursInItem b (more c cs) = OccursInComp b c ⊎ OccursInItem b cs
 
+-- one list of comprehensions after the other
 abbrev pub joined : CompsD → CompsD → CompsD
 joined no_comps cs = cs
 joined (more k ks) cs = more k (joined ks cs)
@@ -45,6 +47,15 @@ pub record Meets (n : ℕ) (u : List (List Lit)) (c : List Atom) : Type 0 where
   pub count : length c ≡ n
   pub met : IsTrue (holds c u)
 
+-- A comprehension of m binders with a guard and an item, beside others, at the choices of n atoms at which u holds: it is met
+-- somewhere, each binder occurs in the item, no binder is fixed to an earlier level, and somewhere it has a member of its own.
+pub record IsLean (m : ℕ) (g : List (List Lit)) (t : TermD) (others : CompsD) (u : List (List Lit)) (n : ℕ) : Type 0 where
+  pub met : (c : List Atom) × Meets (n + m) (both u g) c
+  pub used : (b : ℕ) → n ≤ b → b < n + m → Occurs b t
+  pub free : (b a : ℕ) → n ≤ b → b < n + m → a < b → (c : List Atom) × Meets (n + m) (both u g) c × IsFalse (equal (atom_at c b) (atom_at c a))
+  pub own : (c e : List Atom) × Meets n u c × IsExtension c m g e × (InAt t (c ++ e) others c → ⊥)
+
+-- Normal under u, with n levels. Each comprehension is judged beside those before and those after it.
 abbrev mutual
   pub IsNormal : TermD → List (List Lit) → ℕ → Type 0
   IsNormal (var i) u n = Unit {0}
@@ -62,5 +73,4 @@ abbrev mutual
       IsNormalComp k (joined before ks) u n × EachIsNormal ks (joined before (more k no_comps)) u n
 
   pub IsNormalComp : CompD → CompsD → List (List Lit) → ℕ → Type 0
-  IsNormalComp (comp m g t) others u n =
-      ((c : List Atom) × Meets (n + m) (both u g) c) × ((b : ℕ) → n ≤ b → b < n + m → Occurs b t) × ((b a : ℕ) → n ≤ b → b < n + m → a < b → (c : List Atom) × Meets (n + m) (both u g) c × IsFalse (equal (atom_at c b) (atom_at c a))) × ((c e : List Atom) × Meets n u c × IsExtension c m g e × (InAt t (c ++ e) others c → ⊥)) × IsNormal t (both u g) (n + m)
+  IsNormalComp (comp m g t) others u n = IsLean m g t others u n × IsNormal t (both u g) (n + m)

@@ -6,14 +6,17 @@ use Rattle.lois_base.specs.Fits.{Fits}
 use Rattle.lois_base.specs.Truth.{atom_at, holds}
 use Rattle.lois_base.specs.declared.guards.Lit.{Lit}
 
--- A value: a term with a choice of atoms, whose length the term fits (`IsProper`). Of other choices nothing is meant.
+-- A value is a term with a choice of atoms, whose length the term fits (`IsProper`). The definitions below have an answer
+-- at other choices too, which nobody rests on: a level that a choice lacks reads as zero.
 pub record PointValue : Type 0 where
   pub term_of : TermD
   pub choice : List Atom
 
+-- the value of a term at a choice
 abbrev pub point : TermD → List Atom → PointValue
 point t c = record { term_of = t; choice = c }
 
+-- the term fits the choice
 abbrev pub IsProper : PointValue → Type 0
 IsProper v = Fits (length v.choice) v.term_of
 
@@ -22,22 +25,24 @@ pub record IsExtension (c : List Atom) (m : ℕ) (g : List (List Lit)) (e : List
   pub count : length e ≡ m
   pub guard : IsTrue (holds (c ++ e) g)
 
--- the term w at the choice x is made by the comprehension at c
-abbrev pub MakesAt : List Atom → CompD → TermD → List Atom → Type 0
-MakesAt c (comp m g t) w x = (e : List Atom) × IsExtension c m g e × (w ≡ t) × (x ≡ c ++ e)
+-- the item of a comprehension at c, with its choice made longer, is the term w at the choice x
+abbrev pub MakesAt : TermD → List Atom → CompD → List Atom → Type 0
+MakesAt w x (comp m g t) c = (e : List Atom) × IsExtension c m g e × (w ≡ t) × (x ≡ c ++ e)
 
-abbrev pub MemberAt : List Atom → CompsD → TermD → List Atom → Type 0
-MemberAt c no_comps w x = ⊥
-MemberAt c (more k ks) w x = MakesAt c k w x ⊎ MemberAt c ks w x
+-- some comprehension of a set at c makes the term w at the choice x
+abbrev pub MemberAt : TermD → List Atom → CompsD → List Atom → Type 0
+MemberAt w x no_comps c = ⊥
+MemberAt w x (more k ks) c = MakesAt w x k c ⊎ MemberAt w x ks c
 
--- the same value: a term at a choice, and another
+-- The same value: equal atoms, equal tags, tuples whose parts are the same one by one, and sets of which each member of
+-- one is the same as some member of the other. It recurses on the first term alone.
 abbrev mutual
   pub SameAt : TermD → List Atom → TermD → List Atom → Type 0
   SameAt (var i) c (var j) d = IsTrue (equal (atom_at c i) (atom_at d j))
   SameAt (tag n) c (tag k) d = n ≡ k
   SameAt (tup ts) c (tup ss) d = SamePartsAt ts c ss d
   SameAt (coll cs) c (coll ss) d =
-      AllInAt cs c ss d × ((w : TermD) (x : List Atom) → MemberAt d ss w x → SomeIsAt cs c w x)
+      AllInAt cs c ss d × ((w : TermD) (x : List Atom) → MemberAt w x ss d → SomeIsAt cs c w x)
   SameAt _ c _ d = ⊥
 
   pub SamePartsAt : TermsD → List Atom → TermsD → List Atom → Type 0
@@ -52,7 +57,7 @@ abbrev mutual
 
   pub EachInAt : CompD → List Atom → CompsD → List Atom → Type 0
   EachInAt (comp m g t) c ss d =
-      (e : List Atom) → IsExtension c m g e → (w : TermD) × (x : List Atom) × MemberAt d ss w x × SameAt t (c ++ e) w x
+      (e : List Atom) → IsExtension c m g e → (w : TermD) × (x : List Atom) × MemberAt w x ss d × SameAt t (c ++ e) w x
 
   -- some member is the same as w at x
   pub SomeIsAt : CompsD → List Atom → TermD → List Atom → Type 0
@@ -62,42 +67,41 @@ abbrev mutual
   pub OneIsAt : CompD → List Atom → TermD → List Atom → Type 0
   OneIsAt (comp m g t) c w x = (e : List Atom) × IsExtension c m g e × SameAt t (c ++ e) w x
 
--- a value is in a set; a set is included in another
+-- some member of a set is the same as t at c
 abbrev pub InAt : TermD → List Atom → CompsD → List Atom → Type 0
-InAt t c ss d = (w : TermD) × (x : List Atom) × MemberAt d ss w x × SameAt t c w x
+InAt t c ss d = (w : TermD) × (x : List Atom) × MemberAt w x ss d × SameAt t c w x
 
-abbrev pub IncludedAt : CompsD → List Atom → CompsD → List Atom → Type 0
-IncludedAt = AllInAt
-
--- deeper than a number
+-- deeper than a number: each tuple and each set adds one to the depth of its deepest part or member
 abbrev mutual
-  pub DeeperAt : TermD → ℕ → List Atom → Type 0
-  DeeperAt (var i) n c = ⊥
-  DeeperAt (tag t) n c = ⊥
-  DeeperAt (tup ts) zero c = Unit {0}
-  DeeperAt (tup ts) (suc n) c = SomePartDeeperAt ts n c
-  DeeperAt (coll cs) zero c = Unit {0}
-  DeeperAt (coll cs) (suc n) c = SomeMemberDeeperAt cs n c
+  pub DeeperAt : TermD → List Atom → ℕ → Type 0
+  DeeperAt (var i) c n = ⊥
+  DeeperAt (tag t) c n = ⊥
+  DeeperAt (tup ts) c zero = Unit {0}
+  DeeperAt (tup ts) c (suc n) = SomePartDeeperAt ts c n
+  DeeperAt (coll cs) c zero = Unit {0}
+  DeeperAt (coll cs) c (suc n) = SomeMemberDeeperAt cs c n
 
-  pub SomePartDeeperAt : TermsD → ℕ → List Atom → Type 0
-  SomePartDeeperAt no_terms n c = ⊥
-  SomePartDeeperAt (term t ts) n c = DeeperAt t n c ⊎ SomePartDeeperAt ts n c
+  pub SomePartDeeperAt : TermsD → List Atom → ℕ → Type 0
+  SomePartDeeperAt no_terms c n = ⊥
+  SomePartDeeperAt (term t ts) c n = DeeperAt t c n ⊎ SomePartDeeperAt ts c n
 
-  pub SomeMemberDeeperAt : CompsD → ℕ → List Atom → Type 0
-  SomeMemberDeeperAt no_comps n c = ⊥
-  SomeMemberDeeperAt (more k ks) n c = OneDeeperAt k n c ⊎ SomeMemberDeeperAt ks n c
+  pub SomeMemberDeeperAt : CompsD → List Atom → ℕ → Type 0
+  SomeMemberDeeperAt no_comps c n = ⊥
+  SomeMemberDeeperAt (more k ks) c n = OneDeeperAt k c n ⊎ SomeMemberDeeperAt ks c n
 
-  pub OneDeeperAt : CompD → ℕ → List Atom → Type 0
-  OneDeeperAt (comp m g t) n c = (e : List Atom) × IsExtension c m g e × DeeperAt t n (c ++ e)
+  pub OneDeeperAt : CompD → List Atom → ℕ → Type 0
+  OneDeeperAt (comp m g t) c n = (e : List Atom) × IsExtension c m g e × DeeperAt t (c ++ e) n
 
--- u is, as written, a member of the set v
+-- only sets have members
 abbrev pub IsMemberOf : TermD → List Atom → TermD → List Atom → Type 0
-IsMemberOf t c (coll ks) d = MemberAt d ks t c
+IsMemberOf t c (coll ks) d = MemberAt t c ks d
 IsMemberOf t c _ d = ⊥
 
+-- u is, as written, a member of the set v: an item of v, at the choice of v with the atoms of the item's binders
 abbrev pub IsMember : PointValue → PointValue → Type 0
 IsMember u v = IsMemberOf u.term_of u.choice v.term_of v.choice
 
+-- v and w are the same value
 abbrev pub IsSame : PointValue → PointValue → Type 0
 IsSame v w = SameAt v.term_of v.choice w.term_of w.choice
 
@@ -109,5 +113,6 @@ IsIn v w = (u : PointValue) × IsMember u w × IsSame v u
 abbrev pub IsIncluded : PointValue → PointValue → Type 0
 IsIncluded v w = (u : PointValue) → IsMember u v → IsIn u w
 
+-- v is deeper than n
 abbrev pub IsDeeper : PointValue → ℕ → Type 0
-IsDeeper v n = DeeperAt v.term_of n v.choice
+IsDeeper v n = DeeperAt v.term_of v.choice n
