@@ -5,7 +5,7 @@ use Rattle.lois_meaning.specs.declared.syntax.Expr.{Expr}
 use Rattle.lois_meaning.specs.declared.syntax.Cond.{Cond}
 use Rattle.lois_meaning.specs.declared.syntax.Binding.{Binding}
 use Rattle.lois_meaning.specs.declared.syntax.Exprs.{Exprs}
-use Rattle.lois_meaning.specs.declared.syntax.Bindings.{Bindings}
+use Rattle.lois_meaning.specs.declared.syntax.Bindings.{Bindings, out-Bindings}
 use Rattle.lois_meaning.specs.declared.syntax.Conds.{Conds}
 use Rattle.lois_meaning.specs.declared.syntax.Cond.TheFolds.{fold-Cond, fold-Expr, fold-Binding, fold-Bindings, fold-Conds, fold-Exprs}
 use Rattle.lois_meaning.specs.declared.syntax.Cond.TheOpen.{Cond-F, Expr-F, Binding-F, Bindings-F, Conds-F, Exprs-F}
@@ -108,6 +108,19 @@ stmt_tree = fold-Stmt StmtD (List StmtD) stmt_step stmts_step
 
 abbrev pub stmts_list : Stmts → List StmtD
 stmts_list = fold-Stmts StmtD (List StmtD) stmt_step stmts_step
+
+-- the items that a list holds
+abbrev pub exprs_held : Exprs → List Expr
+exprs_held es = es.items.items
+
+abbrev pub bindings_held : Bindings → List Binding
+bindings_held bs = (out-Bindings bs).items.items
+
+abbrev pub conds_held : Conds → List Cond
+conds_held cs = cs.items.items
+
+abbrev pub stmts_held : Stmts → List Stmt
+stmts_held l = l.items.items
 
 abbrev pub param_tree : Param → ParamD
 param_tree p = record { place = p.pos.offset; name = p.name }

@@ -1,7 +1,7 @@
 //! The syntax tree of a script: statements, parameters and the whole.
 
 ghost use Rattle.std.specs.Prelude.{◌≡◌, ℕ, List, [], ◌∷◌, ◌++◌, length, map, slice_get, option_map, OnOk, OnErr};
-ghost use Rattle.lois_meaning.specs.View.{param_tree, params_list, stmt_tree, stmts_list};
+ghost use Rattle.lois_meaning.specs.View.{param_tree, params_list, stmt_tree, stmts_list, stmts_held};
 
 use crate::{Binding, Cond, Expr, Pos};
 use lois_base::{Name, NoMemory};
@@ -84,6 +84,7 @@ impl Stmts {
     /// The statements, first to last.
     pub fn as_slice(&self) -> &[Stmt]
         ensures items { map stmt_tree result.now ≡ stmts_list self.now }
+        ensures held { result.now ≡ stmts_held self.now }
     {
         &self.items
     }

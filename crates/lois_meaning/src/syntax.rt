@@ -1,7 +1,7 @@
 //! The syntax tree of a script: expressions and conditions.
 
 ghost use Rattle.std.specs.Prelude.{◌≡◌, ℕ, List, [], ◌∷◌, ◌++◌, length, map, slice_get, option_map, OnOk, OnErr};
-ghost use Rattle.lois_meaning.specs.View.{tree, binding_tree, cond_tree, exprs_list, bindings_list, conds_list};
+ghost use Rattle.lois_meaning.specs.View.{tree, binding_tree, cond_tree, exprs_list, bindings_list, conds_list, exprs_held, bindings_held, conds_held};
 
 use lois_base::{Name, NoMemory};
 use std::alloc::Global;
@@ -129,6 +129,7 @@ impl Exprs {
     /// The expressions, first to last.
     pub fn as_slice(&self) -> &[Expr]
         ensures items { map tree result.now ≡ exprs_list self.now }
+        ensures held { result.now ≡ exprs_held self.now }
     {
         &self.items
     }
@@ -169,6 +170,7 @@ impl Bindings {
     /// The bindings, first to last.
     pub fn as_slice(&self) -> &[Binding]
         ensures items { map binding_tree result.now ≡ bindings_list self.now }
+        ensures held { result.now ≡ bindings_held self.now }
     {
         &self.items
     }
@@ -209,6 +211,7 @@ impl Conds {
     /// The conditions, first to last.
     pub fn as_slice(&self) -> &[Cond]
         ensures items { map cond_tree result.now ≡ conds_list self.now }
+        ensures held { result.now ≡ conds_held self.now }
     {
         &self.items
     }
