@@ -2,7 +2,9 @@
 #![tactic(auto)]
 
 mod faults;
+mod script;
 mod syntax;
 
 pub use faults::FaultKind;
-pub use syntax::{Operation, Pos};
+pub use script::{Param, Params, Script, Stmt, Stmts};
+pub use syntax::{Binding, Bindings, Cond, Conds, Expr, Exprs, Operation, Pos};
