@@ -1,2 +1,8 @@
 pub mod Tree
 pub mod View
+pub mod Kinds
+pub mod Store
+pub mod Automata
+pub mod Expressions
+pub mod Faults
+pub mod Runs
