@@ -6,3 +6,4 @@ pub mod Automata
 pub mod Expressions
 pub mod Faults
 pub mod Runs
+pub mod Scope
