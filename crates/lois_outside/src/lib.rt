@@ -22,3 +22,6 @@ pub use standard::{StdSink, StdSource};
 pub use sure::{SureSink, SureSource};
 pub use taking::Source;
 pub use writing::write_all;
+
+#[cfg(test)]
+mod tests;
