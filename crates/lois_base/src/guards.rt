@@ -182,6 +182,14 @@ impl Constraint {
         &self.items
     }
 
+    /// The cubes by value, in order.
+    pub fn into_vec(self) -> Vec<Cube>
+        ensures { result.items ≡ self }
+    {
+        let Constraint { items } = self;
+        items
+    }
+
     /// Appends a cube.
     pub fn push(&mut self, item: Cube) -> Result<(), NoMemory>
         ensures ok { OnOk result (self.new ≡ self.old ++ item ∷ []) }

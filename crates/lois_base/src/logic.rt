@@ -58,6 +58,15 @@ impl Formulas {
         &self.items
     }
 
+    /// The formulas by value, in order.
+    #[tactic(auto, using(crate::proofs::FormulaViews::views_is))]
+    pub fn into_vec(self) -> Vec<Formula>
+        ensures { map view result.items ≡ views self }
+    {
+        let Formulas { items } = self;
+        items
+    }
+
     /// Appends a formula.
     pub fn push(&mut self, item: Formula) -> Result<(), NoMemory>
         ensures ok { OnOk result (views self.new ≡ views self.old ++ view item ∷ []) }

@@ -117,6 +117,14 @@ impl Terms {
         &self.items
     }
 
+    /// The terms by value, in order.
+    pub fn into_vec(self) -> Vec<Term>
+        ensures { map tree result.items ≡ self }
+    {
+        let Terms { items } = self;
+        items
+    }
+
     /// Appends a term.
     pub fn push(&mut self, item: Term) -> Result<(), NoMemory>
         ensures ok { OnOk result (self.new ≡ self.old ++ tree item ∷ []) }
@@ -180,6 +188,14 @@ impl Comps {
         ensures { map comp_of result.now ≡ self.now }
     {
         &self.items
+    }
+
+    /// The comprehensions by value, in order.
+    pub fn into_vec(self) -> Vec<Comp>
+        ensures { map comp_of result.items ≡ self }
+    {
+        let Comps { items } = self;
+        items
     }
 
     /// Appends a comprehension.

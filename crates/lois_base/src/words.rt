@@ -3,6 +3,9 @@
 ghost use Rattle.std.specs.Prelude.{◌≡◌, ◌↔◌, IsTrue, IfOk, OnOk, OnErr, [], ◌∷◌, ◌++◌, length, slice_get, option_map, map};
 ghost use Rattle.lois_base.specs.Names.{IsName, begins_with_letter, is_letter, is_name_byte};
 ghost use Rattle.std.specs.List.{list_all};
+ghost use Rattle.std.specs.Str.{bytes_eq};
+ghost use Rattle.std.specs.Cmp.Rules.{comparing};
+ghost use Rattle.std.proofs.Common.{rules};
 
 use crate::NoMemory;
 use std::alloc::Global;
@@ -54,13 +57,20 @@ impl Name {
             bytes: Vec::from_slice(alloc, &self.bytes)?,
         })
     }
+}
 
-    /// Whether the two names have the same bytes.
-    pub fn same(&self, other: &Name) -> bool
-        ensures { IsTrue result ↔ (self.now ≡ other.now) }
-    {
+impl PartialEq for Name {
+    ghost eq = { bytes_eq };
+
+    ghost laws = { Prim.search (comparing, rules) };
+
+    fn eq(&self, other: &Name) -> bool {
         self.bytes() == other.bytes()
     }
+}
+
+impl Eq for Name {
+    ghost laws = { Prim.search (comparing, rules) };
 }
 
 /// Whether the bytes have the form of a name.
