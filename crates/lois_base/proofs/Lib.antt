@@ -4,3 +4,4 @@ pub mod Order
 pub mod Parts
 pub mod Same
 pub mod Shifted
+pub mod Validity

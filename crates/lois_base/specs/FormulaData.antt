@@ -1,5 +1,5 @@
 -- Formulas as contracts see them.
-use Rattle.std.specs.Prelude.{ℕ, suc, List, [], ◌∷◌}
+use Rattle.std.specs.Prelude.{ℕ, suc, max, List, [], ◌∷◌}
 use Rattle.lois_base.specs.declared.guards.Lit.{Lit}
 use Rattle.lois_base.specs.Fits.{LitFits}
 
@@ -33,3 +33,17 @@ abbrev mutual
   pub FormulasFit : ℕ → FormulasD → Type 0
   FormulasFit n no_formulas = Unit {0}
   FormulasFit n (formula f fs) = FormulaFits n f × FormulasFit n fs
+
+-- how deeply formulas are nested
+abbrev mutual
+  pub depth_of_formula : FormulaD → ℕ
+  depth_of_formula (lit l) = 0
+  depth_of_formula (all fs) = suc (depth_of_formulas fs)
+  depth_of_formula (any fs) = suc (depth_of_formulas fs)
+  depth_of_formula (neg f) = suc (depth_of_formula f)
+  depth_of_formula (exists f) = suc (depth_of_formula f)
+  depth_of_formula (forall f) = suc (depth_of_formula f)
+
+  pub depth_of_formulas : FormulasD → ℕ
+  depth_of_formulas no_formulas = 0
+  depth_of_formulas (formula f fs) = max (depth_of_formula f) (depth_of_formulas fs)
