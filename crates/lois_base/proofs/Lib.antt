@@ -1,4 +1,6 @@
+pub mod Choices
 pub mod FormulaViews
+pub mod Levels
 pub mod Members
 pub mod Order
 pub mod Parts

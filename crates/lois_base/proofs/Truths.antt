@@ -14,6 +14,7 @@ use Rattle.lois_base.specs.Truth.{atom_at, op_holds, lit_holds, cube_holds, hold
 use Rattle.lois_base.specs.declared.guards.Lit.{Lit}
 use Rattle.lois_base.specs.declared.guards.Op.{Op}
 use Rattle.lois_base.specs.declared.guards.Op.TheVariants.{Eq, Ne, Lt}
+use Rattle.lois_base.proofs.Choices.{equal_for_at, equal_for_sym, equal_for_longer}
 use Rattle.lois_base.proofs.Order.{equal_refl, equal_sym, equal_respects, below_respects}
 
 -- a literal holds at both choices, or at neither
@@ -36,34 +37,11 @@ op_respects Eq a b x y h k = equal_respects a b x y h k
 op_respects Ne a b x y h k = ap not (equal_respects a b x y h k)
 op_respects Lt a b x y h k = below_respects a b x y h k
 
+abbrev pub Each : ℕ → Type 0
+Each i = Unit {0}
+
 pub equal_at : (c d : List Atom) → AreEqual c d → (i : ℕ) → IsTrue (equal (atom_at c i) (atom_at d i))
-equal_at c d h i = go (cases_lt i (length c))
-  where
-    go : i < length c ⊎ length c ≤ i → IsTrue (equal (atom_at c i) (atom_at d i))
-    go (inl l) = h.atoms i l
-    go (inr l) =
-        let m : length d ≤ i = omega (arith, h.count) in
-        rw (get_or_past c i (whole 0) l, get_or_past d i (whole 0) m) (equal_refl (whole 0))
-
-pub equal_choices_refl : (c : List Atom) → AreEqual c c
-equal_choices_refl c = record { count = refl; atoms = λ i l. equal_refl (atom_at c i) }
-
-pub equal_choices_sym : (c d : List Atom) → AreEqual c d → AreEqual d c
-equal_choices_sym c d h =
-    record { count = sym h.count; atoms = λ i l. equal_sym (atom_at c i) (atom_at d i) (equal_at c d h i) }
-
-pub length_same : (c d e f : List Atom) → length c ≡ length d → length e ≡ length f → length (c ++ e) ≡ length (d ++ f)
-length_same c d e f h k = omega (arith, length-append c e, length-append d f)
-
-pub equal_longer : (c d e : List Atom) → AreEqual c d → AreEqual (c ++ e) (d ++ e)
-equal_longer c d e h = record { count = length_same c d e e h.count refl; atoms = λ i l. go i (cases_lt i (length c)) }
-  where
-    go : (i : ℕ) → i < length c ⊎ length c ≤ i → IsTrue (equal (atom_at (c ++ e) i) (atom_at (d ++ e) i))
-    go i (inl l) =
-        let m : i < length d = omega (arith, h.count) in
-        rw (get_or_append_left c e (whole 0) i l, get_or_append_left d e (whole 0) i m) (h.atoms i l)
-    go i (inr l) =
-        rw (get_or-append_right c e (length c) i (whole 0) refl l, get_or-append_right d e (length c) i (whole 0) (sym h.count) l) (equal_refl (atom_at e (i - length c)))
+equal_at c d h i = equal_for_at Each c d h i tt
 
 pub lit_equal : (c d : List Atom) → AreEqual c d → (l : Lit) → LitAgrees c d l
 lit_equal c d h l =
@@ -80,9 +58,9 @@ mutual
   formula_equal (lit l) c d h g = subst IsTrue (lit_equal c d h l) g
   formula_equal (all fs) c d h g = all_equal fs c d h g
   formula_equal (any fs) c d h g = any_equal fs c d h g
-  formula_equal (neg f) c d h g = λ k. g (formula_equal f d c (equal_choices_sym c d h) k)
-  formula_equal (exists f) c d h g = (g.0, formula_equal f (c ++ g.0 ∷ []) (d ++ g.0 ∷ []) (equal_longer c d (g.0 ∷ []) h) g.1)
-  formula_equal (forall f) c d h g = λ a. formula_equal f (c ++ a ∷ []) (d ++ a ∷ []) (equal_longer c d (a ∷ []) h) (g a)
+  formula_equal (neg f) c d h g = λ k. g (formula_equal f d c (equal_for_sym Each c d h) k)
+  formula_equal (exists f) c d h g = (g.0, formula_equal f (c ++ g.0 ∷ []) (d ++ g.0 ∷ []) (equal_for_longer Each c d (g.0 ∷ []) h) g.1)
+  formula_equal (forall f) c d h g = λ a. formula_equal f (c ++ a ∷ []) (d ++ a ∷ []) (equal_for_longer Each c d (a ∷ []) h) (g a)
 
   all_equal : (fs : FormulasD) (c d : List Atom) → AreEqual c d → AllHold c fs → AllHold d fs
   all_equal no_formulas c d h g = tt

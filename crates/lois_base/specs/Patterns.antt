@@ -5,10 +5,14 @@ use Rattle.lois_base.specs.Truth.{atom_at, op_holds}
 use Rattle.lois_base.specs.declared.guards.Op.{Op}
 use Rattle.lois_base.specs.declared.guards.Op.TheVariants.{Eq, Lt}
 
--- equal atoms at each level
-pub record AreEqual (c d : List Atom) : Type 0 where
+-- equal atoms at each level of which P holds
+pub record AreEqualFor (P : ℕ → Type 0) (c d : List Atom) : Type 0 where
   pub count : length c ≡ length d
-  pub atoms : (i : ℕ) → i < length c → IsTrue (equal (atom_at c i) (atom_at d i))
+  pub atoms : (i : ℕ) → P i → i < length c → IsTrue (equal (atom_at c i) (atom_at d i))
+
+-- equal atoms at each level
+abbrev pub AreEqual : List Atom → List Atom → Type 0
+AreEqual = AreEqualFor (λ i. Unit {0})
 
 -- the relation of an operator holds at the same pairs of positions
 abbrev pub Agree : Op → List Atom → List Atom → Type 0
