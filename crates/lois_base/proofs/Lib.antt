@@ -1,7 +1,11 @@
+pub mod Choices
 pub mod FormulaViews
+pub mod Levels
 pub mod Members
 pub mod Order
 pub mod Parts
 pub mod Same
+pub mod Samples
 pub mod Shifted
 pub mod Validity
+pub mod Truths

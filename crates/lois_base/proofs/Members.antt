@@ -1,10 +1,10 @@
 -- What it is for values to be the same, in place of their terms and choices: an equivalence that members, inclusion and depth respect.
-use Rattle.std.proofs.Common.{◌≡◌, ℕ, zero, suc, List, ◌++◌, refl, sym, subst}
+use Rattle.std.proofs.Common.{◌≡◌, ℕ, zero, suc, List, ◌++◌, refl, subst}
 use mathlib.Core.Logic.{inl, inr}
 use Rattle.lois_base.specs.Atom.{Atom}
 use Rattle.lois_base.specs.Data.{TermD, var, tag, tup, coll, TermsD, no_terms, term, CompD, comp, CompsD, no_comps, more}
 use Rattle.lois_base.specs.Values.{PointValue, point, MemberAt, SameAt, SamePartsAt, AllInAt, EachInAt, InAt, DeeperAt, SomePartDeeperAt, SomeMemberDeeperAt, OneDeeperAt, IsMemberOf, IsMember, IsSame, IsIn, IsIncluded, IsDeeper}
-use Rattle.lois_base.proofs.Same.{same_at_refl, same_at_sym, same_at_trans, all_in_is, is_all_in, some_is_is, is_some_is}
+use Rattle.lois_base.proofs.Same.{same_at_refl, same_at_sym, same_at_trans, all_in_is, is_all_in, is_some_is}
 
 pub same_refl : (v : PointValue) → IsSame v v
 same_refl v = same_at_refl v.term_of v.choice

@@ -1,11 +1,11 @@
 -- Atoms are a dense total order without ends.
-use Rattle.std.proofs.Common.{◌≡◌, ℕ, ◌+◌, ◌*◌, ◌<◌, ◌≤◌, Bool, true, false, not, ◌&&◌, ℤ, pos, negsuc, ◌+ℤ◌, ◌*ℤ◌, arith, refl, sym, ap, ◌∙◌, subst}
+use Rattle.std.proofs.Common.{◌≡◌, ℕ, ◌+◌, ◌*◌, ◌<◌, ◌≤◌, Bool, true, false, not, ◌&&◌, pos, negsuc, ◌+ℤ◌, arith, refl, sym, ap}
 use Rattle.std.proofs.lemmas.Int.{ints}
 use Rattle.std.proofs.Math.Nat.{mul-le-mul_right, le_of_mul-le-mul_right}
 use Rattle.std.specs.Bool.{IsTrue, IsFalse}
 use borrow.Author.Differences.{up, down, sum_is_lem}
 use mathlib.Core.Logic.{◌⊎◌, inl, inr}
-use Rattle.lois_base.specs.Atom.{Atom, equal, below, crossed}
+use Rattle.lois_base.specs.Atom.{Atom, equal, below}
 
 -- the order of two fractions in natural numbers
 abbrev AtMost : Atom → Atom → Type 0
@@ -80,11 +80,11 @@ higher a =
     (b, less_in a b (omega (arith, ap (λ x. x * (a.under + 1)) (sum_is_lem a.over (pos 1)))))
 
 -- the laws of equality and order, by cases on the tests
-test : (b : Bool) → IsTrue b ⊎ IsFalse b
+pub test : (b : Bool) → IsTrue b ⊎ IsFalse b
 test true = inl refl
 test false = inr refl
 
-same_truth : (a b : Bool) → (IsTrue a → IsTrue b) → (IsTrue b → IsTrue a) → a ≡ b
+pub same_truth : (a b : Bool) → (IsTrue a → IsTrue b) → (IsTrue b → IsTrue a) → a ≡ b
 same_truth true true f g = refl
 same_truth true false f g = sym (f refl)
 same_truth false true f g = g refl

@@ -15,3 +15,4 @@ pub mod Normal
 pub mod Shift
 pub mod Validity
 pub mod Theory
+pub mod Patterns

@@ -1,0 +1,88 @@
+-- Truth at two choices of atoms: literals that hold at both alike decide it, so equal atoms do, and atoms that stand alike.
+use Rattle.std.proofs.Common.{◌≡◌, ℕ, ◌-◌, ◌<◌, ◌≤◌, ◌⊎◌, inl, inr, not, List, [], ◌∷◌, ◌++◌, length, length-append, refl, sym, ap, subst, arith}
+use Rattle.std.proofs.lemmas.List.{get_or_past, get_or_append_left, get_or-append_right}
+use Rattle.std.proofs.lemmas.List.Elements.{All-head, All-tail, All-weaker}
+use Rattle.std.proofs.lemmas.Bool.{cases_lt}
+use Rattle.std.specs.Bool.{IsTrue}
+use Rattle.std.specs.List.{All}
+use Rattle.lois_base.specs.Atom.{Atom, equal, whole}
+use Rattle.lois_base.specs.Fits.{LitFits, CubeFits, ConstraintFits}
+use Rattle.lois_base.specs.FormulaData.{FormulaD, lit, all, any, neg, exists, forall, FormulasD, no_formulas, formula}
+use Rattle.lois_base.specs.FormulaTruth.{FormulaHolds, AllHold, AnyHolds}
+use Rattle.lois_base.specs.Patterns.{AreEqual, Agree, AreAlike}
+use Rattle.lois_base.specs.Truth.{atom_at, op_holds, lit_holds, cube_holds, holds}
+use Rattle.lois_base.specs.declared.guards.Lit.{Lit}
+use Rattle.lois_base.specs.declared.guards.Op.{Op}
+use Rattle.lois_base.specs.declared.guards.Op.TheVariants.{Eq, Ne, Lt}
+use Rattle.lois_base.proofs.Choices.{equal_for_at, equal_for_sym, equal_for_longer}
+use Rattle.lois_base.proofs.Order.{equal_refl, equal_sym, equal_respects, below_respects}
+
+-- a literal holds at both choices, or at neither
+abbrev pub LitAgrees : List Atom → List Atom → Lit → Type 0
+LitAgrees c d l = lit_holds c l ≡ lit_holds d l
+
+pub cube_agrees : (c d : List Atom) (k : List Lit) → All (LitAgrees c d) k → cube_holds c k ≡ cube_holds d k
+cube_agrees c d [] h = refl
+cube_agrees c d (l ∷ k) h =
+    rw (All-head (LitAgrees c d) l k h, cube_agrees c d k (All-tail (LitAgrees c d) l k h))
+
+pub holds_agree : (c d : List Atom) (g : List (List Lit)) → All (All (LitAgrees c d)) g → holds c g ≡ holds d g
+holds_agree c d [] h = refl
+holds_agree c d (k ∷ g) h =
+    rw (cube_agrees c d k (All-head (All (LitAgrees c d)) k g h), holds_agree c d g (All-tail (All (LitAgrees c d)) k g h))
+
+-- ---- equal atoms
+pub op_respects : (op : Op) (a b x y : Atom) → IsTrue (equal a b) → IsTrue (equal x y) → op_holds op a x ≡ op_holds op b y
+op_respects Eq a b x y h k = equal_respects a b x y h k
+op_respects Ne a b x y h k = ap not (equal_respects a b x y h k)
+op_respects Lt a b x y h k = below_respects a b x y h k
+
+abbrev pub Each : ℕ → Type 0
+Each i = Unit {0}
+
+pub equal_at : (c d : List Atom) → AreEqual c d → (i : ℕ) → IsTrue (equal (atom_at c i) (atom_at d i))
+equal_at c d h i = equal_for_at Each c d h i tt
+
+pub lit_equal : (c d : List Atom) → AreEqual c d → (l : Lit) → LitAgrees c d l
+lit_equal c d h l =
+    op_respects l.op (atom_at c l.left) (atom_at d l.left) (atom_at c l.right) (atom_at d l.right) (equal_at c d h l.left) (equal_at c d h l.right)
+
+pub cube_equal : (c d : List Atom) → AreEqual c d → (k : List Lit) → cube_holds c k ≡ cube_holds d k
+cube_equal c d h k = cube_agrees c d k (λ i x l. lit_equal c d h _)
+
+pub holds_equal : (c d : List Atom) → AreEqual c d → (g : List (List Lit)) → holds c g ≡ holds d g
+holds_equal c d h g = holds_agree c d g (λ i k l j x m. lit_equal c d h _)
+
+mutual
+  pub formula_equal : (f : FormulaD) (c d : List Atom) → AreEqual c d → FormulaHolds c f → FormulaHolds d f
+  formula_equal (lit l) c d h g = subst IsTrue (lit_equal c d h l) g
+  formula_equal (all fs) c d h g = all_equal fs c d h g
+  formula_equal (any fs) c d h g = any_equal fs c d h g
+  formula_equal (neg f) c d h g = λ k. g (formula_equal f d c (equal_for_sym Each c d h) k)
+  formula_equal (exists f) c d h g = (g.0, formula_equal f (c ++ g.0 ∷ []) (d ++ g.0 ∷ []) (equal_for_longer Each c d (g.0 ∷ []) h) g.1)
+  formula_equal (forall f) c d h g = λ a. formula_equal f (c ++ a ∷ []) (d ++ a ∷ []) (equal_for_longer Each c d (a ∷ []) h) (g a)
+
+  all_equal : (fs : FormulasD) (c d : List Atom) → AreEqual c d → AllHold c fs → AllHold d fs
+  all_equal no_formulas c d h g = tt
+  all_equal (formula f fs) c d h g = (formula_equal f c d h g.0, all_equal fs c d h g.1)
+
+  any_equal : (fs : FormulasD) (c d : List Atom) → AreEqual c d → AnyHolds c fs → AnyHolds d fs
+  any_equal no_formulas c d h g = g
+  any_equal (formula f fs) c d h (inl g) = inl (formula_equal f c d h g)
+  any_equal (formula f fs) c d h (inr g) = inr (any_equal fs c d h g)
+
+-- ---- atoms that stand alike
+pub op_alike : (op : Op) (c d : List Atom) → AreAlike c d → Agree op c d
+op_alike Eq c d h = h.equals
+op_alike Ne c d h = λ i j l m. ap not (h.equals i j l m)
+op_alike Lt c d h = h.smaller
+
+pub lit_alike : (c d : List Atom) → AreAlike c d → (l : Lit) → LitFits (length c) l → LitAgrees c d l
+lit_alike c d h l fits = op_alike l.op c d h l.left l.right fits.0 fits.1
+
+pub cube_alike : (c d : List Atom) → AreAlike c d → (k : List Lit) → CubeFits (length c) k → cube_holds c k ≡ cube_holds d k
+cube_alike c d h k fits = cube_agrees c d k (All-weaker (LitFits (length c)) (LitAgrees c d) (lit_alike c d h) k fits)
+
+pub holds_alike : (c d : List Atom) → AreAlike c d → (g : List (List Lit)) → ConstraintFits (length c) g → holds c g ≡ holds d g
+holds_alike c d h g fits =
+    holds_agree c d g (All-weaker (CubeFits (length c)) (All (LitAgrees c d)) (λ k. All-weaker (LitFits (length c)) (LitAgrees c d) (lit_alike c d h) k) g fits)

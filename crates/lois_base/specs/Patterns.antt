@@ -1,0 +1,26 @@
+-- Choices of atoms beside one another.
+use Rattle.std.specs.Prelude.{◌≡◌, ℕ, ◌<◌, List, length, IsTrue}
+use Rattle.lois_base.specs.Atom.{Atom, equal}
+use Rattle.lois_base.specs.Truth.{atom_at, op_holds}
+use Rattle.lois_base.specs.declared.guards.Op.{Op}
+use Rattle.lois_base.specs.declared.guards.Op.TheVariants.{Eq, Lt}
+
+-- equal atoms at each level of which P holds
+pub record AreEqualFor (P : ℕ → Type 0) (c d : List Atom) : Type 0 where
+  pub count : length c ≡ length d
+  pub atoms : (i : ℕ) → P i → i < length c → IsTrue (equal (atom_at c i) (atom_at d i))
+
+-- equal atoms at each level
+abbrev pub AreEqual : List Atom → List Atom → Type 0
+AreEqual = AreEqualFor (λ i. Unit {0})
+
+-- the relation of an operator holds at the same pairs of positions
+abbrev pub Agree : Op → List Atom → List Atom → Type 0
+Agree op c d =
+    (i j : ℕ) → i < length c → j < length c → op_holds op (atom_at c i) (atom_at c j) ≡ op_holds op (atom_at d i) (atom_at d j)
+
+-- equal and smaller atoms stand at exactly the same pairs of positions
+pub record AreAlike (c d : List Atom) : Type 0 where
+  pub count : length c ≡ length d
+  pub equals : Agree Eq c d
+  pub smaller : Agree Lt c d
