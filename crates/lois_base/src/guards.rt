@@ -12,6 +12,7 @@ use std::marker::Model;
 // Most cubes are short, and take no allocation.
 const INLINE_LITERALS: usize = 8;
 
+/// How two atoms are compared.
 #[derive(Clone, Copy, PartialEq, Eq, Debug, Default)]
 pub enum Op {
     #[default]
@@ -20,6 +21,7 @@ pub enum Op {
     Lt,
 }
 
+/// A literal: a comparison of the atoms at two levels.
 #[derive(Clone, Copy, PartialEq, Eq, Debug, Default)]
 pub struct Lit {
     pub op: Op,
@@ -27,6 +29,7 @@ pub struct Lit {
     pub right: usize,
 }
 
+/// A list of literals, which holds where all of them hold. Eight of them lie in the value itself.
 #[derive(Drop)]
 pub struct Cube {
     items: SmallVec<Lit, INLINE_LITERALS>,
@@ -41,6 +44,7 @@ impl Model for Cube {
     ghost view = { λ a. a.items.items };
 }
 
+/// A list of cubes, which holds where one of them holds. So one cube without literals is true, and no cube is false.
 #[derive(Drop)]
 pub struct Constraint {
     items: Vec<Cube>,
@@ -56,6 +60,7 @@ impl Model for Constraint {
 }
 
 impl Lit {
+    /// Whether the literal holds at the sample.
     pub fn at(self, sample: &[u64]) -> bool
         requires { LitFits (length sample.now) self }
         ensures { result ≡ lit_holds (sampled sample.now) self }
@@ -69,6 +74,7 @@ impl Lit {
         }
     }
 
+    /// Whether both levels are below `size`.
     pub fn fits(&self, size: usize) -> bool
         ensures { IsTrue result ↔ LitFits size self.now }
     {
@@ -77,6 +83,7 @@ impl Lit {
 }
 
 impl Cube {
+    /// A list without literals.
     pub fn new(alloc: Global) -> Self
         ensures { result ≡ [] }
     {
@@ -85,24 +92,28 @@ impl Cube {
         }
     }
 
+    /// How many literals there are.
     pub fn len(&self) -> usize
         ensures { result ≡ length self.now }
     {
         self.items.len()
     }
 
+    /// The literal at an index, or `None` where there is none.
     pub fn get(&self, index: usize) -> Option<&Lit>
         ensures { option_map (λ t. t.now) result ≡ slice_get self.now index }
     {
         self.as_slice().get(index)
     }
 
+    /// The literals, in order.
     pub fn as_slice(&self) -> &[Lit]
         ensures { result.now ≡ self.now }
     {
         self.items.as_slice()
     }
 
+    /// Appends a literal.
     pub fn push(&mut self, item: Lit) -> Result<(), NoMemory>
         ensures ok { OnOk result (self.new ≡ self.old ++ item ∷ []) }
         ensures err { OnErr result (self.new ≡ self.old) }
@@ -110,6 +121,7 @@ impl Cube {
         self.items.push(item).map_err(|_| NoMemory)
     }
 
+    /// An equal cube.
     pub fn copy(&self, alloc: Global) -> Result<Self, NoMemory>
         ensures { IfOk result (λ r. r ≡ self.now) }
     {
@@ -118,6 +130,7 @@ impl Cube {
         })
     }
 
+    /// Whether each literal holds at the sample.
     pub fn at(&self, sample: &[u64]) -> bool
         requires { CubeFits (length sample.now) self.now }
         ensures { result ≡ cube_holds (sampled sample.now) self.now }
@@ -130,6 +143,7 @@ impl Cube {
         true
     }
 
+    /// Whether each level is below `size`.
     pub fn fits(&self, size: usize) -> bool
         ensures { IsTrue result ↔ CubeFits size self.now }
     {
@@ -138,6 +152,7 @@ impl Cube {
 }
 
 impl Constraint {
+    /// A list without cubes.
     pub fn new(alloc: Global) -> Self
         ensures { result ≡ [] }
     {
@@ -146,24 +161,28 @@ impl Constraint {
         }
     }
 
+    /// How many cubes there are.
     pub fn len(&self) -> usize
         ensures { result ≡ length self.now }
     {
         self.items.len()
     }
 
+    /// The cube at an index, or `None` where there is none.
     pub fn get(&self, index: usize) -> Option<&Cube>
         ensures { option_map (λ t. t.now) result ≡ slice_get self.now index }
     {
         self.items.get(index)
     }
 
+    /// The cubes, in order.
     pub fn as_slice(&self) -> &[Cube]
         ensures { result.now ≡ self.now }
     {
         &self.items
     }
 
+    /// Appends a cube.
     pub fn push(&mut self, item: Cube) -> Result<(), NoMemory>
         ensures ok { OnOk result (self.new ≡ self.old ++ item ∷ []) }
         ensures err { OnErr result (self.new ≡ self.old) }
@@ -171,6 +190,7 @@ impl Constraint {
         self.items.push(item).map_err(|_| NoMemory)
     }
 
+    /// An equal constraint.
     pub fn copy(&self, alloc: Global) -> Result<Self, NoMemory>
         ensures { IfOk result (λ r. r ≡ self.now) }
     {
@@ -181,6 +201,7 @@ impl Constraint {
         Ok(copy)
     }
 
+    /// Whether some cube holds at the sample.
     pub fn at(&self, sample: &[u64]) -> bool
         requires { ConstraintFits (length sample.now) self.now }
         ensures { result ≡ holds (sampled sample.now) self.now }
@@ -193,6 +214,7 @@ impl Constraint {
         false
     }
 
+    /// Whether each level is below `size`.
     pub fn fits(&self, size: usize) -> bool
         ensures { IsTrue result ↔ ConstraintFits size self.now }
     {

@@ -5,6 +5,7 @@ mod deciding;
 mod guards;
 mod logic;
 mod memory;
+mod numbers;
 #[cfg(test)]
 mod tests;
 mod theory;
@@ -15,6 +16,7 @@ pub use deciding::{Decider, Kind};
 pub use guards::{Constraint, Cube, Lit, Op};
 pub use logic::{Formula, Formulas};
 pub use memory::NoMemory;
+pub use numbers::Numbers;
 pub use theory::Structure;
 pub use values::{Comp, Comps, Term, Terms};
-pub use words::Name;
+pub use words::{Name, Names, is_name};

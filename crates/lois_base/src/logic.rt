@@ -7,6 +7,7 @@ ghost use Rattle.lois_base.specs.FormulaView.{view, views};
 use crate::{Lit, NoMemory};
 use std::alloc::Global;
 
+/// A formula. A quantifier in a formula of `size` levels binds level `size`, and its body has one level more.
 #[derive(Drop)]
 #[cycle(formula)]
 pub enum Formula {
@@ -18,6 +19,7 @@ pub enum Formula {
     Forall(Box<Formula>),
 }
 
+/// A list of formulas.
 #[derive(Drop)]
 #[cycle(formula)]
 pub struct Formulas {
@@ -25,6 +27,7 @@ pub struct Formulas {
 }
 
 impl Formulas {
+    /// A list without formulas.
     pub fn new(alloc: Global) -> Self
         ensures { views result ≡ [] }
     {
@@ -33,18 +36,21 @@ impl Formulas {
         }
     }
 
+    /// How many formulas there are.
     pub fn len(&self) -> usize
         ensures { result ≡ length (views self.now) }
     {
         self.items.len()
     }
 
+    /// The formula at an index, or `None` where there is none.
     pub fn get(&self, index: usize) -> Option<&Formula>
         ensures { option_map (λ f. view f.now) result ≡ slice_get (views self.now) index }
     {
         self.items.get(index)
     }
 
+    /// The formulas, in order.
     #[tactic(auto, using(crate::proofs::FormulaViews::views_is))]
     pub fn as_slice(&self) -> &[Formula]
         ensures { map view result.now ≡ views self.now }
@@ -52,6 +58,7 @@ impl Formulas {
         &self.items
     }
 
+    /// Appends a formula.
     pub fn push(&mut self, item: Formula) -> Result<(), NoMemory>
         ensures ok { OnOk result (views self.new ≡ views self.old ++ view item ∷ []) }
         ensures err { OnErr result (views self.new ≡ views self.old) }
@@ -59,6 +66,7 @@ impl Formulas {
         self.items.push(item).map_err(|_| NoMemory)
     }
 
+    /// An equal list.
     #[cycle(copy)]
     pub fn copy(&self, alloc: Global) -> Result<Self, NoMemory>
         ensures { IfOk result (λ r. views r ≡ views self.now) }
@@ -71,13 +79,15 @@ impl Formulas {
     }
 }
 
-fn boxed(alloc: Global, formula: Formula) -> Result<Box<Formula>, NoMemory>
-    ensures { IfOk result (λ b. view b.value ≡ view formula) }
-{
-    Box::new(alloc, formula).map_err(|_| NoMemory)
-}
-
 impl Formula {
+    /// The formula in a box, as the part of another.
+    pub fn boxed(self, alloc: Global) -> Result<Box<Formula>, NoMemory>
+        ensures { IfOk result (λ b. view b.value ≡ view self) }
+    {
+        Box::new(alloc, self).map_err(|_| NoMemory)
+    }
+
+    /// An equal formula.
     #[cycle(copy)]
     pub fn copy(&self, alloc: Global) -> Result<Self, NoMemory>
         ensures { IfOk result (λ r. view r ≡ view self.now) }
@@ -86,9 +96,9 @@ impl Formula {
             Formula::Lit(lit) => Ok(Formula::Lit(*lit)),
             Formula::All(parts) => Ok(Formula::All(parts.copy(alloc)?)),
             Formula::Any(parts) => Ok(Formula::Any(parts.copy(alloc)?)),
-            Formula::Not(body) => Ok(Formula::Not(boxed(alloc, body.copy(alloc)?)?)),
-            Formula::Exists(body) => Ok(Formula::Exists(boxed(alloc, body.copy(alloc)?)?)),
-            Formula::Forall(body) => Ok(Formula::Forall(boxed(alloc, body.copy(alloc)?)?)),
+            Formula::Not(body) => Ok(Formula::Not(body.copy(alloc)?.boxed(alloc)?)),
+            Formula::Exists(body) => Ok(Formula::Exists(body.copy(alloc)?.boxed(alloc)?)),
+            Formula::Forall(body) => Ok(Formula::Forall(body.copy(alloc)?.boxed(alloc)?)),
         }
     }
 }

@@ -9,6 +9,7 @@ use crate::{Constraint, Name, NoMemory};
 use std::alloc::Global;
 use std::marker::Model;
 
+/// A term: the atom at a level, a tag, a tuple or a set.
 #[derive(Drop)]
 #[cycle(term)]
 pub enum Term {
@@ -18,6 +19,7 @@ pub enum Term {
     Coll(Comps),
 }
 
+/// A comprehension. In a term of `size` levels its binders are the levels from `size` on, and its members are the item at each choice of them at which the guard holds.
 #[derive(Drop)]
 #[cycle(term)]
 pub struct Comp {
@@ -26,12 +28,14 @@ pub struct Comp {
     pub item: Term,
 }
 
+/// A list of terms.
 #[derive(Drop)]
 #[cycle(term)]
 pub struct Terms {
     items: Vec<Term>,
 }
 
+/// A list of comprehensions, whose members are those of all of them.
 #[derive(Drop)]
 #[cycle(term)]
 pub struct Comps {
@@ -83,6 +87,7 @@ impl Model for Comps {
 }
 
 impl Terms {
+    /// A list without terms.
     pub fn new(alloc: Global) -> Self
         ensures { result ≡ [] }
     {
@@ -91,24 +96,28 @@ impl Terms {
         }
     }
 
+    /// How many terms there are.
     pub fn len(&self) -> usize
         ensures { result ≡ length self.now }
     {
         self.items.len()
     }
 
+    /// The term at an index, or `None` where there is none.
     pub fn get(&self, index: usize) -> Option<&Term>
         ensures { option_map (λ t. tree t.now) result ≡ slice_get self.now index }
     {
         self.items.get(index)
     }
 
+    /// The terms, in order.
     pub fn as_slice(&self) -> &[Term]
         ensures { map tree result.now ≡ self.now }
     {
         &self.items
     }
 
+    /// Appends a term.
     pub fn push(&mut self, item: Term) -> Result<(), NoMemory>
         ensures ok { OnOk result (self.new ≡ self.old ++ tree item ∷ []) }
         ensures err { OnErr result (self.new ≡ self.old) }
@@ -116,6 +125,7 @@ impl Terms {
         self.items.push(item).map_err(|_| NoMemory)
     }
 
+    /// An equal list.
     #[cycle(copy)]
     pub fn copy(&self, alloc: Global) -> Result<Self, NoMemory>
         ensures { IfOk result (λ r. r ≡ self.now) }
@@ -127,8 +137,9 @@ impl Terms {
         Ok(copy)
     }
 
+    /// Whether each part fits `size`.
     #[cycle(fits)]
-    fn fit(&self, size: usize) -> bool
+    pub fn fits(&self, size: usize) -> bool
         ensures { IsTrue result ↔ PartsFit size (terms_of self.now) }
     {
         for item in &self.items {
@@ -141,6 +152,7 @@ impl Terms {
 }
 
 impl Comps {
+    /// A list without comprehensions.
     pub fn new(alloc: Global) -> Self
         ensures { result ≡ [] }
     {
@@ -149,24 +161,28 @@ impl Comps {
         }
     }
 
+    /// How many comprehensions there are.
     pub fn len(&self) -> usize
         ensures { result ≡ length self.now }
     {
         self.items.len()
     }
 
+    /// The comprehension at an index, or `None` where there is none.
     pub fn get(&self, index: usize) -> Option<&Comp>
         ensures { option_map (λ t. comp_of t.now) result ≡ slice_get self.now index }
     {
         self.items.get(index)
     }
 
+    /// The comprehensions, in order.
     pub fn as_slice(&self) -> &[Comp]
         ensures { map comp_of result.now ≡ self.now }
     {
         &self.items
     }
 
+    /// Appends a comprehension.
     pub fn push(&mut self, item: Comp) -> Result<(), NoMemory>
         ensures ok { OnOk result (self.new ≡ self.old ++ comp_of item ∷ []) }
         ensures err { OnErr result (self.new ≡ self.old) }
@@ -174,6 +190,7 @@ impl Comps {
         self.items.push(item).map_err(|_| NoMemory)
     }
 
+    /// An equal list.
     #[cycle(copy)]
     pub fn copy(&self, alloc: Global) -> Result<Self, NoMemory>
         ensures { IfOk result (λ r. r ≡ self.now) }
@@ -185,8 +202,9 @@ impl Comps {
         Ok(copy)
     }
 
+    /// Whether each comprehension fits `size`.
     #[cycle(fits)]
-    fn fit(&self, size: usize) -> bool
+    pub fn fits(&self, size: usize) -> bool
         ensures { IsTrue result ↔ ItemsFit size (comps_of self.now) }
     {
         for item in &self.items {
@@ -199,6 +217,7 @@ impl Comps {
 }
 
 impl Comp {
+    /// An equal comprehension.
     #[cycle(copy)]
     pub fn copy(&self, alloc: Global) -> Result<Self, NoMemory>
         ensures { IfOk result (λ r. r ≡ self.now) }
@@ -210,8 +229,9 @@ impl Comp {
         })
     }
 
+    /// Whether the guard and the item use only levels below `size` and the binders, and that sum is a usize.
     #[cycle(fits)]
-    fn fits(&self, size: usize) -> bool
+    pub fn fits(&self, size: usize) -> bool
         ensures { IsTrue result ↔ CompFits size (comp_of self.now) }
     {
         match size.checked_add(self.binders) {
@@ -222,6 +242,7 @@ impl Comp {
 }
 
 impl Term {
+    /// An equal term.
     #[cycle(copy)]
     pub fn copy(&self, alloc: Global) -> Result<Self, NoMemory>
         ensures { IfOk result (λ r. r ≡ self.now) }
@@ -234,6 +255,7 @@ impl Term {
         }
     }
 
+    /// Whether the term uses only levels below `size`, where each comprehension adds its binders.
     #[cycle(fits)]
     pub fn fits(&self, size: usize) -> bool
         ensures { IsTrue result ↔ Fits size (tree self.now) }
@@ -241,8 +263,8 @@ impl Term {
         match self {
             Term::Var(level) => *level < size,
             Term::Tag(_) => true,
-            Term::Tup(parts) => parts.fit(size),
-            Term::Coll(comps) => comps.fit(size),
+            Term::Tup(parts) => parts.fits(size),
+            Term::Coll(comps) => comps.fits(size),
         }
     }
 }

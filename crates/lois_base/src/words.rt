@@ -1,12 +1,16 @@
 //! Names and tags.
 
-ghost use Rattle.std.specs.Prelude.{◌≡◌, IfOk};
-ghost use Rattle.lois_base.specs.Names.{IsName};
+ghost use Rattle.std.specs.Prelude.{◌≡◌, ◌↔◌, IsTrue, IfOk, OnOk, OnErr, [], ◌∷◌, ◌++◌, length, slice_get, option_map, map};
+ghost use Rattle.lois_base.specs.Names.{IsName, begins_with_letter, is_letter, is_name_byte};
+ghost use Rattle.std.specs.List.{list_all};
 
 use crate::NoMemory;
 use std::alloc::Global;
 use std::marker::Model;
 
+const LONGEST_NAME: usize = 64;
+
+/// A name or a tag: 1 to 64 bytes, a letter first, then letters, digits and `_`.
 #[derive(Drop)]
 pub struct Name {
     bytes: Vec<u8>,
@@ -24,6 +28,7 @@ impl Model for Name {
 }
 
 impl Name {
+    /// The name that the bytes spell.
     pub fn from_bytes(alloc: Global, bytes: &[u8]) -> Result<Name, NoMemory>
         requires { IsName bytes.now }
         ensures { IfOk result (λ r. r ≡ bytes.now) }
@@ -33,6 +38,7 @@ impl Name {
         })
     }
 
+    /// The bytes of the name.
     pub fn bytes(&self) -> &[u8]
         ensures same { result.now ≡ self.now }
         ensures name { IsName self.now }
@@ -40,11 +46,123 @@ impl Name {
         &self.bytes
     }
 
+    /// An equal name.
     pub fn copy(&self, alloc: Global) -> Result<Self, NoMemory>
         ensures { IfOk result (λ r. r ≡ self.now) }
     {
         Ok(Name {
             bytes: Vec::from_slice(alloc, &self.bytes)?,
         })
+    }
+
+    /// Whether the two names have the same bytes.
+    pub fn same(&self, other: &Name) -> bool
+        ensures { IsTrue result ↔ (self.now ≡ other.now) }
+    {
+        self.bytes() == other.bytes()
+    }
+}
+
+/// Whether the bytes have the form of a name.
+pub fn is_name(bytes: &[u8]) -> bool
+    ensures { IsTrue result ↔ IsName bytes.now }
+{
+    bytes.len() <= LONGEST_NAME && has_letter_first(bytes) && has_name_bytes(bytes)
+}
+
+fn has_letter_first(bytes: &[u8]) -> bool
+    ensures { result ≡ begins_with_letter bytes.now }
+{
+    match bytes {
+        [] => false,
+        [first, ..] => begins_name(*first),
+    }
+}
+
+fn has_name_bytes(bytes: &[u8]) -> bool
+    ensures { result ≡ list_all is_name_byte bytes.now }
+{
+    for byte in bytes {
+        if !continues_name(*byte) {
+            return false;
+        }
+    }
+    true
+}
+
+fn begins_name(byte: u8) -> bool
+    ensures { result ≡ is_letter byte }
+{
+    matches!(byte, b'a'..=b'z' | b'A'..=b'Z')
+}
+
+fn continues_name(byte: u8) -> bool
+    ensures { result ≡ is_name_byte byte }
+{
+    begins_name(byte) || matches!(byte, b'0'..=b'9' | b'_')
+}
+
+/// A list of names.
+#[derive(Drop)]
+pub struct Names {
+    items: Vec<Name>,
+}
+
+impl Model for Names {
+    ghost use Rattle.std.specs.Prelude.{ℕ, List};
+
+    ghost Value = { List (List ℕ) };
+
+    ghost view = { λ a. a.items.items };
+}
+
+impl Names {
+    /// A list without names.
+    pub fn new(alloc: Global) -> Self
+        ensures { result ≡ [] }
+    {
+        Names {
+            items: Vec::new(alloc),
+        }
+    }
+
+    /// How many names there are.
+    pub fn len(&self) -> usize
+        ensures { result ≡ length self.now }
+    {
+        self.items.len()
+    }
+
+    /// The name at an index, or `None` where there is none.
+    pub fn get(&self, index: usize) -> Option<&Name>
+        ensures { option_map (λ name. name.now) result ≡ slice_get self.now index }
+    {
+        self.items.get(index)
+    }
+
+    /// The names, in order.
+    pub fn as_slice(&self) -> &[Name]
+        ensures { result.now ≡ self.now }
+    {
+        &self.items
+    }
+
+    /// Appends a name.
+    pub fn push(&mut self, item: Name) -> Result<(), NoMemory>
+        ensures ok { OnOk result (self.new ≡ self.old ++ item ∷ []) }
+        ensures err { OnErr result (self.new ≡ self.old) }
+    {
+        self.items.push(item).map_err(|_| NoMemory)
+    }
+
+    /// An equal list.
+    pub fn copy(&self, alloc: Global) -> Result<Self, NoMemory>
+        ensures { IfOk result (λ r. r ≡ self.now) }
+    {
+        let mut copy = Names::new(alloc);
+        for item in &self.items {
+            copy.push(item.copy(alloc)?)?;
+        }
+        Ok(copy)
     }
 }

@@ -4,10 +4,10 @@ use Rattle.lois_base.specs.Fits.{PartsFit, ItemsFit}
 use Rattle.lois_base.specs.Tree.{tree, comp_of}
 use Rattle.lois_base.proofs.values.+fits.Given as goal
 
-abbrev pub invariant-Comps::fit-loop-item : goal.invariant-Comps::fit-loop-item
-invariant-Comps::fit-loop-item l =
+abbrev pub invariant-Comps::fits-loop-item : goal.invariant-Comps::fits-loop-item
+invariant-Comps::fits-loop-item l =
     ItemsFit l.size (comps_of l.self) ↔ ItemsFit l.size (comps_of (map comp_of (drop l.item-index l.item-items)))
 
-abbrev pub invariant-Terms::fit-loop-item : goal.invariant-Terms::fit-loop-item
-invariant-Terms::fit-loop-item l =
+abbrev pub invariant-Terms::fits-loop-item : goal.invariant-Terms::fits-loop-item
+invariant-Terms::fits-loop-item l =
     PartsFit l.size (terms_of l.self) ↔ PartsFit l.size (terms_of (map tree (drop l.item-index l.item-items)))
