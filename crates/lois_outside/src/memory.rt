@@ -35,7 +35,9 @@ impl MemorySource {
     /// A source of these bytes. `step` is at least 1.
     pub fn new(bytes: Vec<u8>, step: usize, failing: Vec<u64>) -> MemorySource
         requires { 1 ≤ step }
-        ensures { result ≡ record { left = bytes.items; step = step; failing = failing.items; calls = 0; faults = 0 } }
+        ensures state { result ≡ record { left = bytes.items; step = step; failing = failing.items; calls = 0; faults = 0 } }
+        ensures told { ⟦<MemorySource as Source>⟧.left result ≡ Some bytes.items }
+        ensures no_fault { ⟦<MemorySource as Source>⟧.faults result ≡ 0 }
     {
         MemorySource {
             bytes,
@@ -116,7 +118,8 @@ impl MemorySink {
         failing: Vec<u64>,
     ) -> Result<MemorySink, NoMemory>
         requires { 1 ≤ step }
-        ensures { IfOk result (λ k. k ≡ record { held = []; room = room; step = step; failing = failing.items; calls = 0; faults = 0 }) }
+        ensures state { IfOk result (λ k. k ≡ record { held = []; room = room; step = step; failing = failing.items; calls = 0; faults = 0 }) }
+        ensures no_fault { IfOk result (λ k. ⟦<MemorySink as Sink>⟧.faults k ≡ 0) }
     {
         let held = Vec::with_capacity(alloc, room).map_err(|_| NoMemory)?;
         Ok(MemorySink {
@@ -131,7 +134,8 @@ impl MemorySink {
 
     /// The bytes that it holds.
     pub fn held(&self) -> &[u8]
-        ensures { result.now ≡ self.now.held }
+        ensures held { result.now ≡ self.now.held }
+        ensures told { ⟦<MemorySink as Sink>⟧.held self.now ≡ Some result.now }
     {
         &self.held
     }

@@ -27,7 +27,9 @@ impl<R: Read> Model for StdSource<R> {
 impl<R: Read> StdSource<R> {
     /// Reads from this reader. No fault is counted yet.
     pub fn new(inner: R) -> StdSource<R>
-        ensures { result ≡ record { inner = inner; faults = 0 } }
+        ensures state { result ≡ record { inner = inner; faults = 0 } }
+        ensures told { ⟦<StdSource<R> as Source>⟧.left result ≡ R.remaining inner }
+        ensures no_fault { ⟦<StdSource<R> as Source>⟧.faults result ≡ 0 }
     {
         StdSource { inner, faults: 0 }
     }
@@ -81,7 +83,9 @@ impl<W: Write> Model for StdSink<W> {
 impl<W: Write> StdSink<W> {
     /// Writes to this writer. No fault is counted yet.
     pub fn new(inner: W) -> StdSink<W>
-        ensures { result ≡ record { inner = inner; faults = 0 } }
+        ensures state { result ≡ record { inner = inner; faults = 0 } }
+        ensures told { ⟦<StdSink<W> as Sink>⟧.held result ≡ W.contents inner }
+        ensures no_fault { ⟦<StdSink<W> as Sink>⟧.faults result ≡ 0 }
     {
         StdSink { inner, faults: 0 }
     }

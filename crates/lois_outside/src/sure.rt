@@ -4,7 +4,8 @@ ghost use Rattle.std.specs.Prelude.{◌≡◌, ℕ, ◌≤◌, IfOk, List, None,
 use crate::{Failed, Sink, Source};
 use std::marker::Model;
 
-/// Gives the bytes of a `Vec`, as many at a call as the slice has room for, and never fails.
+/// Gives the bytes of a `Vec`, as many at a call as the slice has room for. It never fails, and its
+/// count of faults is always 0.
 #[derive(Drop)]
 pub struct SureSource {
     bytes: Vec<u8>,
@@ -23,7 +24,9 @@ impl Model for SureSource {
 impl SureSource {
     /// A source of these bytes.
     pub fn new(bytes: Vec<u8>) -> SureSource
-        ensures { result ≡ bytes.items }
+        ensures left { result ≡ bytes.items }
+        ensures told { ⟦<SureSource as Source>⟧.left result ≡ Some bytes.items }
+        ensures no_fault { ⟦<SureSource as Source>⟧.faults result ≡ 0 }
     {
         SureSource { bytes, next: 0 }
     }
@@ -47,13 +50,16 @@ impl Source for SureSource {
     }
 }
 
-/// Takes every piece whole, keeps nothing, and never fails.
+/// Takes every piece whole and tells no content. It never fails, and its count of faults is always 0.
 #[derive(Drop)]
 pub struct SureSink;
 
 impl SureSink {
     /// A sink.
-    pub fn new() -> SureSink {
+    pub fn new() -> SureSink
+        ensures untold { ⟦<SureSink as Sink>⟧.held result ≡ None }
+        ensures no_fault { ⟦<SureSink as Sink>⟧.faults result ≡ 0 }
+    {
         SureSink
     }
 }

@@ -4,30 +4,20 @@ ghost use Rattle.std.specs.Prelude.{◌≤◌};
 
 use super::*;
 use std::alloc::{AllocError, Global};
-use std::env;
-use std::fs;
-use std::io;
 use std::io::{Read, Write};
-use std::process;
 use std::test::Fail;
+use std::{env, fs, io, process};
 
 // A script of 39 bytes, and its output of 76.
 const SCRIPT: &[u8] = b"atoms equality; let a = atoms; print a;";
+
 const OUTPUT: &[u8] =
     b"lois results 1\natoms equality\nparameters\ncase when true\na = {$0 for $0}\nend\n";
 
-fn script_source(
-    alloc: Global,
-    step: usize,
-    failing: &[u64],
-) -> Result<MemorySource, AllocError>
+fn script_source(alloc: Global, step: usize, failing: &[u64]) -> Result<MemorySource, AllocError>
     requires { 1 ≤ step }
 {
-    Ok(MemorySource::new(
-        SCRIPT.to_vec(alloc)?,
-        step,
-        failing.to_vec(alloc)?,
-    ))
+    Ok(MemorySource::new(SCRIPT.to_vec(alloc)?, step, failing.to_vec(alloc)?))
 }
 
 #[test]
@@ -42,11 +32,19 @@ fn reads_to_the_end(rt: HostRuntime) -> Result<(), Fail> {
         for limit in [0, 1, 7, 8, 38] {
             let mut source = script_source(alloc, step, &[])?;
             let answer = read_all(alloc, &mut source, limit);
-            assert_eq!(rt; answer.err(), Some(ReadError::TooLong(limit + 1)), "at step {step}");
+            assert_eq!(rt;
+                answer.err(),
+                Some(ReadError::TooLong(limit + 1)),
+                "at step {step}"
+            );
 
             // The bytes behind those that were taken are left.
             let rest = read_all(alloc, &mut source, 39)?;
-            assert_eq!(rt; rest.as_slice(), &SCRIPT[limit + 1..], "at step {step}, limit {limit}");
+            assert_eq!(rt;
+                rest.as_slice(),
+                &SCRIPT[limit + 1..],
+                "at step {step}, limit {limit}"
+            );
         }
     }
     let mut nothing = MemorySource::new(Vec::new(alloc), 1, Vec::new(alloc));
@@ -60,7 +58,11 @@ fn tells_a_fault_of_the_source(rt: HostRuntime) -> Result<(), Fail> {
     for (failing, taken) in [(0, 0), (1, 8), (2, 16), (3, 24), (4, 32), (5, 39)] {
         let mut source = script_source(alloc, 8, &[failing])?;
         let answer = read_all(alloc, &mut source, 1_048_576);
-        assert_eq!(rt; answer.err(), Some(ReadError::ReadFault), "at call {failing}");
+        assert_eq!(rt;
+            answer.err(),
+            Some(ReadError::ReadFault),
+            "at call {failing}"
+        );
 
         // What was taken stays taken, and the next call doesn't fail again.
         let rest = read_all(alloc, &mut source, 1_048_576)?;
@@ -77,15 +79,29 @@ fn writes_as_far_as_the_sink_takes(rt: HostRuntime) -> Result<(), Fail> {
     for failing in 0..8usize {
         let list = [failing as u64].to_vec(alloc)?;
         let mut sink = MemorySink::new(alloc, 76, 10, list)?;
-        assert_eq!(rt; write_all(&mut sink, OUTPUT), Err(Failed), "at call {failing}");
+        assert_eq!(rt;
+            write_all(&mut sink, OUTPUT),
+            Err(Failed),
+            "at call {failing}"
+        );
         assert_eq!(rt; sink.held(), &OUTPUT[..10 * failing], "at call {failing}");
     }
-    for (room, is_written) in [(0, false), (70, false), (75, false), (76, true), (100, true)] {
+    for (room, is_written) in [
+        (0, false),
+        (70, false),
+        (75, false),
+        (76, true),
+        (100, true),
+    ] {
         for step in [1, 10, 4096] {
             let mut sink = MemorySink::new(alloc, room, step, Vec::new(alloc))?;
             let answer = write_all(&mut sink, OUTPUT);
             assert_eq!(rt; answer.is_ok(), is_written, "at room {room}, step {step}");
-            assert_eq!(rt; sink.held(), &OUTPUT[..room.min(76)], "at room {room}, step {step}");
+            assert_eq!(rt;
+                sink.held(),
+                &OUTPUT[..room.min(76)],
+                "at room {room}, step {step}"
+            );
 
             // Nothing to write is written anywhere.
             assert_eq!(rt; write_all(&mut sink, &[]), Ok(()));
@@ -124,7 +140,10 @@ fn reads_and_writes_a_file(rt: HostRuntime) -> Result<(), Fail> {
 
     // A folder opens, and gives no bytes.
     let mut folder = StdSource::new(fs::open(&rt, env::temp_dir(&rt)?)?);
-    assert_eq!(rt; read_all(alloc, &mut folder, 76).err(), Some(ReadError::ReadFault));
+    assert_eq!(rt;
+        read_all(alloc, &mut folder, 76).err(),
+        Some(ReadError::ReadFault)
+    );
     Ok(())
 }
 
@@ -177,7 +196,11 @@ fn tells_a_fault_in_mid_stream(rt: HostRuntime) -> Result<(), Fail> {
             breaks_at,
         });
         let answer = read_all(alloc, &mut source, 76);
-        assert_eq!(rt; answer.err(), Some(ReadError::ReadFault), "at call {breaks_at}");
+        assert_eq!(rt;
+            answer.err(),
+            Some(ReadError::ReadFault),
+            "at call {breaks_at}"
+        );
         let rest = read_all(alloc, &mut source, 76)?;
         assert_eq!(rt; rest.as_slice(), &OUTPUT[(10 * breaks_at).min(76)..]);
     }
@@ -188,7 +211,11 @@ fn tells_a_fault_in_mid_stream(rt: HostRuntime) -> Result<(), Fail> {
             calls: 0,
             breaks_at,
         });
-        assert_eq!(rt; write_all(&mut sink, OUTPUT), Err(Failed), "at call {breaks_at}");
+        assert_eq!(rt;
+            write_all(&mut sink, OUTPUT),
+            Err(Failed),
+            "at call {breaks_at}"
+        );
         assert_eq!(rt; written.as_slice(), &OUTPUT[..10 * breaks_at]);
     }
     Ok(())
