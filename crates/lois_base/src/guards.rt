@@ -13,7 +13,7 @@ use std::marker::Model;
 const INLINE_LITERALS: usize = 8;
 
 /// How two atoms are compared.
-#[derive(Clone, Copy, PartialEq, Eq, Debug, Default)]
+#[derive(Clone, Copy, PartialEq, Eq, PartialOrd, Ord, Hash, Debug, Default)]
 pub enum Op {
     #[default]
     Eq,
@@ -22,7 +22,7 @@ pub enum Op {
 }
 
 /// A literal: a comparison of the atoms at two levels.
-#[derive(Clone, Copy, PartialEq, Eq, Debug, Default)]
+#[derive(Clone, Copy, PartialEq, Eq, PartialOrd, Ord, Hash, Debug, Default)]
 pub struct Lit {
     pub op: Op,
     pub left: usize,
