@@ -2,6 +2,7 @@ pub mod Choices
 pub mod FormulaViews
 pub mod Levels
 pub mod Members
+pub mod Moves
 pub mod Order
 pub mod Parts
 pub mod Same
