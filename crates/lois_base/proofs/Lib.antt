@@ -9,4 +9,5 @@ pub mod Same
 pub mod Samples
 pub mod Shifted
 pub mod Validity
+pub mod TheLaws
 pub mod Truths
