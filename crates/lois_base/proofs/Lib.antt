@@ -1,5 +1,7 @@
+pub mod Both
 pub mod Choices
 pub mod FormulaViews
+pub mod Gaps
 pub mod Levels
 pub mod Members
 pub mod Moves
