@@ -1,5 +1,6 @@
 pub mod Both
 pub mod Choices
+pub mod Depths
 pub mod FormulaViews
 pub mod Gaps
 pub mod Levels
@@ -7,6 +8,7 @@ pub mod Members
 pub mod Moves
 pub mod Order
 pub mod Parts
+pub mod Raised
 pub mod Same
 pub mod Samples
 pub mod Shifted
