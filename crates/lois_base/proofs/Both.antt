@@ -1,7 +1,6 @@
 -- The constraint of two constraints holds where both do.
-use Rattle.std.proofs.Common.{◌≡◌, Bool, true, false, ◌&&◌, ◌||◌, List, [], ◌∷◌, ◌++◌, map, refl, sym, ap, ◌∙◌}
+use Rattle.std.proofs.Common.{◌≡◌, Bool, true, false, ◌&&◌, ◌||◌, List, [], ◌∷◌, ◌++◌, map, refl, sym}
 use Rattle.std.proofs.lemmas.List.Folds.{list_all-append, list_any-append}
-use Rattle.std.specs.List.{flat_map}
 use Rattle.lois_base.specs.Atom.{Atom}
 use Rattle.lois_base.specs.Normal.{both}
 use Rattle.lois_base.specs.Truth.{lit_holds, cube_holds, holds}

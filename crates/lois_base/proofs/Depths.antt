@@ -1,5 +1,5 @@
 -- How deep a value is, against how deeply its term is written.
-use Rattle.std.proofs.Common.{◌≡◌, ℕ, zero, suc, ◌<◌, max, inl, inr, List, ◌++◌, arith}
+use Rattle.std.proofs.Common.{ℕ, zero, suc, ◌<◌, inl, inr, List, ◌++◌, arith}
 use Rattle.lois_base.specs.Atom.{Atom}
 use Rattle.lois_base.specs.Data.{TermD, var, tag, tup, coll, TermsD, no_terms, term, CompD, comp, CompsD, no_comps, more, depth, depth_of_parts, depth_of_comp, depth_of_items}
 use Rattle.lois_base.specs.Values.{PointValue, DeeperAt, SomePartDeeperAt, SomeMemberDeeperAt, OneDeeperAt, IsDeeper}

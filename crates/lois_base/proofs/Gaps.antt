@@ -1,10 +1,10 @@
 -- Among finitely many atoms there is always room for one more.
-use Rattle.std.proofs.Common.{◌≡◌, ℕ, Bool, true, false, ◌⊎◌, inl, inr, List, [], ◌∷◌, refl, sym, ◌∙◌, arith}
+use Rattle.std.proofs.Common.{◌≡◌, ◌⊎◌, inl, inr, List, [], ◌∷◌, arith}
 use Rattle.std.proofs.lemmas.List.Elements.{All-nil, All-cons, All-head, All-tail, All-weaker}
 use Rattle.std.specs.Bool.{IsTrue, IsFalse}
 use Rattle.std.specs.List.{All}
 use Rattle.lois_base.specs.Atom.{Atom, equal, below, whole}
-use Rattle.lois_base.proofs.Order.{test, below_asym, lower, higher, between, below_at_most, below_trans, at_most_below, equal_refl, below_respects}
+use Rattle.lois_base.proofs.Order.{test, below_asym, lower, higher, between, below_at_most, at_most_below, equal_refl, below_respects}
 
 -- a is below each of them; a differs from each of them
 abbrev pub IsBelow : List Atom → Atom → Type 0

@@ -9,7 +9,7 @@ use Rattle.lois_base.specs.Fits.{LitFits, ConstraintFits, Fits, PartsFit, CompFi
 use Rattle.lois_base.specs.FormulaData.{FormulaD, lit, all, any, neg, exists, forall, FormulasD, no_formulas, formula, FormulaFits, FormulasFit}
 use Rattle.lois_base.specs.FormulaTruth.{FormulaHolds, AllHold, AnyHolds}
 use Rattle.lois_base.specs.Patterns.{Keeps, IsAutomorphism}
-use Rattle.lois_base.specs.Truth.{atom_at, op_holds, holds}
+use Rattle.lois_base.specs.Truth.{atom_at, holds}
 use Rattle.lois_base.specs.Validity.{AdmitsLit, AdmitsConstraint, AdmitsFormula, AdmitsFormulas, AdmitsTerm, AdmitsParts, AdmitsComp, AdmitsItems}
 use Rattle.lois_base.specs.Values.{IsExtension, MemberAt, SameAt, SamePartsAt, AllInAt, EachInAt, InAt, SomeIsAt, OneIsAt}
 use Rattle.lois_base.specs.declared.guards.Lit.{Lit}

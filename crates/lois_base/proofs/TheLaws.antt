@@ -1,15 +1,15 @@
 -- The laws of specs/Laws.
-use Rattle.std.proofs.Common.{◌≡◌, ℕ, Bool, List, length, map, refl, ◌⊎◌, ◌↔◌, inl, inr, arith}
+use Rattle.std.proofs.Common.{Bool, List, length, map, refl, ◌↔◌, arith}
 use Rattle.std.specs.Bool.{IsTrue, IsFalse}
 use Rattle.lois_base.specs.Atom.{Atom, equal, below}
-use Rattle.lois_base.specs.Data.{coll, CompsD}
+use Rattle.lois_base.specs.Data.{coll}
 use Rattle.lois_base.specs.FormulaData.{FormulaD, FormulaFits}
 use Rattle.lois_base.specs.FormulaTruth.{FormulaHolds}
 use Rattle.lois_base.specs.Laws.{EqualIsEquivalence, IsDenseOrder, TruthRespectsEqual, SameIsEquivalence, SameIsRespected, SetsAreTheirMembers, OnlyItsLevelsCount, moved, MapsKeepMeaning, SmallNumbersSuffice}
 use Rattle.lois_base.specs.Patterns.{IsAutomorphism}
 use Rattle.lois_base.specs.Validity.{AdmitsFormula, AdmitsTerm}
 use Rattle.lois_base.specs.Values.{PointValue, point, IsProper, IsSame}
-use Rattle.lois_base.proofs.Order.{equal_refl, equal_sym, equal_trans, equal_out, below_respects, trichotomy, below_asym, below_trans, between, lower, higher}
+use Rattle.lois_base.proofs.Order.{equal_refl, equal_sym, equal_trans, below_respects, trichotomy, below_asym, below_trans, between, lower, higher}
 use Rattle.lois_base.proofs.Members.{same_refl, same_sym, same_trans, in_same, same_in, same_included, included_same, same_sets, deeper_same}
 use Rattle.lois_base.proofs.Truths.{holds_equal, formula_equal, holds_alike}
 use Rattle.lois_base.proofs.Levels.{holds_for, value_for}
