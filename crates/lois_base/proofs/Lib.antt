@@ -1,11 +1,17 @@
+pub mod Both
 pub mod Choices
+pub mod Depths
 pub mod FormulaViews
+pub mod Gaps
 pub mod Levels
 pub mod Members
+pub mod Moves
 pub mod Order
 pub mod Parts
+pub mod Raised
 pub mod Same
 pub mod Samples
 pub mod Shifted
 pub mod Validity
+pub mod TheLaws
 pub mod Truths

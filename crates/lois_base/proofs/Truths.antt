@@ -1,11 +1,9 @@
 -- Truth at two choices of atoms: literals that hold at both alike decide it, so equal atoms do, and atoms that stand alike.
-use Rattle.std.proofs.Common.{◌≡◌, ℕ, ◌-◌, ◌<◌, ◌≤◌, ◌⊎◌, inl, inr, not, List, [], ◌∷◌, ◌++◌, length, length-append, refl, sym, ap, subst, arith}
-use Rattle.std.proofs.lemmas.List.{get_or_past, get_or_append_left, get_or-append_right}
+use Rattle.std.proofs.Common.{◌≡◌, ℕ, inl, inr, not, List, [], ◌∷◌, ◌++◌, length, refl, ap, subst}
 use Rattle.std.proofs.lemmas.List.Elements.{All-head, All-tail, All-weaker}
-use Rattle.std.proofs.lemmas.Bool.{cases_lt}
 use Rattle.std.specs.Bool.{IsTrue}
 use Rattle.std.specs.List.{All}
-use Rattle.lois_base.specs.Atom.{Atom, equal, whole}
+use Rattle.lois_base.specs.Atom.{Atom, equal}
 use Rattle.lois_base.specs.Fits.{LitFits, CubeFits, ConstraintFits}
 use Rattle.lois_base.specs.FormulaData.{FormulaD, lit, all, any, neg, exists, forall, FormulasD, no_formulas, formula}
 use Rattle.lois_base.specs.FormulaTruth.{FormulaHolds, AllHold, AnyHolds}
@@ -15,7 +13,7 @@ use Rattle.lois_base.specs.declared.guards.Lit.{Lit}
 use Rattle.lois_base.specs.declared.guards.Op.{Op}
 use Rattle.lois_base.specs.declared.guards.Op.TheVariants.{Eq, Ne, Lt}
 use Rattle.lois_base.proofs.Choices.{equal_for_at, equal_for_sym, equal_for_longer}
-use Rattle.lois_base.proofs.Order.{equal_refl, equal_sym, equal_respects, below_respects}
+use Rattle.lois_base.proofs.Order.{equal_respects, below_respects}
 
 -- a literal holds at both choices, or at neither
 abbrev pub LitAgrees : List Atom → List Atom → Lit → Type 0

@@ -16,3 +16,4 @@ pub mod Shift
 pub mod Validity
 pub mod Theory
 pub mod Patterns
+pub mod Laws

@@ -1,7 +1,8 @@
--- Choices of atoms beside one another.
-use Rattle.std.specs.Prelude.{◌≡◌, ℕ, ◌<◌, List, length, IsTrue}
+-- Choices of atoms beside one another, and maps of atoms.
+use Rattle.std.specs.Prelude.{◌≡◌, ℕ, ◌<◌, Bool, List, length, IsTrue}
 use Rattle.lois_base.specs.Atom.{Atom, equal}
 use Rattle.lois_base.specs.Truth.{atom_at, op_holds}
+use Rattle.lois_base.specs.Validity.{is_admitted}
 use Rattle.lois_base.specs.declared.guards.Op.{Op}
 use Rattle.lois_base.specs.declared.guards.Op.TheVariants.{Eq, Lt}
 
@@ -24,3 +25,13 @@ pub record AreAlike (c d : List Atom) : Type 0 where
   pub count : length c ≡ length d
   pub equals : Agree Eq c d
   pub smaller : Agree Lt c d
+
+-- the map keeps equality of atoms, and their order where atoms are ordered
+abbrev pub Keeps : Bool → (Atom → Atom) → Type 0
+Keeps ordered f =
+    (op : Op) → IsTrue (is_admitted ordered op) → (a b : Atom) → op_holds op (f a) (f b) ≡ op_holds op a b
+
+-- the map f keeps what is admitted, and `back` finds what f takes to an atom
+pub record IsAutomorphism (ordered : Bool) (f back : Atom → Atom) : Type 0 where
+  pub keeps : Keeps ordered f
+  pub reaches : (a : Atom) → IsTrue (equal (f (back a)) a)

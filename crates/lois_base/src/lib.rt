@@ -3,6 +3,7 @@
 
 mod deciding;
 mod guards;
+pub mod laws;
 mod logic;
 mod memory;
 mod numbers;

@@ -1,0 +1,38 @@
+-- The constraint of two constraints holds where both do.
+use Rattle.std.proofs.Common.{◌≡◌, Bool, true, false, ◌&&◌, ◌||◌, List, [], ◌∷◌, ◌++◌, map, refl, sym}
+use Rattle.std.proofs.lemmas.List.Folds.{list_all-append, list_any-append}
+use Rattle.lois_base.specs.Atom.{Atom}
+use Rattle.lois_base.specs.Normal.{both}
+use Rattle.lois_base.specs.Truth.{lit_holds, cube_holds, holds}
+use Rattle.lois_base.specs.declared.guards.Lit.{Lit}
+
+and_or : (p q r : Bool) → ((p && q) || (p && r)) ≡ (p && (q || r))
+and_or true q r = refl
+and_or false q r = refl
+
+or_and : (p q r : Bool) → ((p && r) || (q && r)) ≡ ((p || q) && r)
+or_and true true true = refl
+or_and true true false = refl
+or_and true false true = refl
+or_and true false false = refl
+or_and false q r = refl
+
+and_false : (p : Bool) → (p && false) ≡ false
+and_false true = refl
+and_false false = refl
+
+module _ (c : List Atom) where
+  pub cubes_append : (k l : List Lit) → cube_holds c (k ++ l) ≡ (cube_holds c k && cube_holds c l)
+  cubes_append k l = list_all-append (lit_holds c) k l
+
+  pub holds_append : (u g : List (List Lit)) → holds c (u ++ g) ≡ (holds c u || holds c g)
+  holds_append u g = list_any-append (cube_holds c) u g
+
+  pub holds_each : (k : List Lit) (g : List (List Lit)) → holds c (map (λ l. k ++ l) g) ≡ (cube_holds c k && holds c g)
+  holds_each k [] = sym (and_false (cube_holds c k))
+  holds_each k (l ∷ g) = rw (cubes_append k l, holds_each k g) (and_or (cube_holds c k) (cube_holds c l) (holds c g))
+
+  pub holds_both : (u g : List (List Lit)) → holds c (both u g) ≡ (holds c u && holds c g)
+  holds_both [] g = refl
+  holds_both (k ∷ u) g =
+      rw (holds_append (map (λ l. k ++ l) g) (both u g), holds_each k g, holds_both u g) (or_and (cube_holds c k) (holds c u) (holds c g))
