@@ -116,7 +116,6 @@ automaton_same v w a b s h k word (p, is, acc) =
     let m = automaton_both v w a b s h k in
     (p, same_in p a.initial b.initial m.initial is, accepts_from_same a b word p p m (same_refl p) acc)
 
-
 product_to : (a b m n : Machine) → SameMachine m n → IsProductOf m a b → IsProductOf n a b
 product_to a b m n h p = record {
   states = set_of_to _ m.states n.states h.states p.states;
@@ -172,7 +171,6 @@ two_of a b [] s = elim s [ ]
 two_of a b (c ∷ []) s = elim s.1 [ ]
 two_of a b (c ∷ d ∷ []) s = (c, d, refl, s.0, s.1.0)
 two_of a b (c ∷ d ∷ e ∷ vs) s = elim s.1.1 [ ]
-
 
 minimal_from : (m n r : Machine) → SameMachine m n → IsMinimalOf r m → IsMinimalOf r n
 minimal_from m n r h p =
@@ -355,4 +353,3 @@ suits_fit Reach v w k s (a, au) u = u.1 (automaton_move v w a s au)
 suits_fit Product v w k s (a, au) u = u.1 (automaton_move v w a s au)
 suits_fit Complement v w k s h u = whole_fit v w k s h u
 suits_fit Minimise v w k s h u = whole_fit v w k s h u
-

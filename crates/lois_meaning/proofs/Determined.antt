@@ -116,4 +116,3 @@ mutual
   truths_same no_conds s l m p q = p ∙ sym q
   truths_same (cond c rest) s l m (a, more, e, p, ps) (b, also, f, q, qs) =
       e ∙ (ap (λ x. x ∷ more) (truth_same c s a b p q) ∙ (ap (λ x. b ∷ x) (truths_same rest s more also ps qs) ∙ sym f))
-

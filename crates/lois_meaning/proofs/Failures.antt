@@ -13,7 +13,7 @@ use Rattle.lois_meaning.proofs.Stores.{stored_in}
 deep_move : (e : ExprD) (s t : NamedValues) (at : ℕ) (k : FaultKind) → AreSameNamed s t → MakesTooDeep e s at k → MakesTooDeep e t at k
 deep_move e s t at k h (p, q, v, m, deep) = (p, q, v, makes_from e s t v h m, deep)
 
-operand_move : (row : PointValue → FaultKind → Type 0) (e : ExprD) (s t : NamedValues) (at : ℕ) (k : FaultKind) → AreSameNamed s t → OperandFails row e s at k → OperandFails row e t at k
+pub operand_move : (row : PointValue → FaultKind → Type 0) (e : ExprD) (s t : NamedValues) (at : ℕ) (k : FaultKind) → AreSameNamed s t → OperandFails row e s at k → OperandFails row e t at k
 operand_move row e s t at k h (p, v, g, r) = (p, v, gives_from e s t v h g, r)
 
 some_operand_move : (row : PointValue → FaultKind → Type 0) (es : ExprsD) (s t : NamedValues) (at : ℕ) (k : FaultKind) → AreSameNamed s t → SomeOperandFails row es s at k → SomeOperandFails row es t at k
@@ -95,4 +95,3 @@ mutual
 
 pub fails_move : (e : ExprD) (s t : NamedValues) (at : ℕ) (k : FaultKind) → AreSameNamed s t → Fails e s at k → Fails e t at k
 fails_move e s t at k h b = failed_move e s t at k h (breaks_move e s t at k h) b
-

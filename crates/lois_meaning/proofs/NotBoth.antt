@@ -125,4 +125,3 @@ mutual
 
 pub gives_fails : (e : ExprD) (s : NamedValues) (v : PointValue) (at : ℕ) (k : FaultKind) → Gives e s v → Fails e s at k → ⊥
 gives_fails e s v at k g bad = given_fails e s v at k g (makes_breaks e s v at k g.0) bad
-

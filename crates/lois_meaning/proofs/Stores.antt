@@ -1,8 +1,9 @@
 -- Stores that are the same name by name.
-use Rattle.std.proofs.Common.{◌≡◌, ℕ, zero, suc, Bool, true, false, List, [], ◌∷◌, ◌++◌, take, length, refl, sym, ap, ◌∙◌, subst, Option, Some, None, if◌then◌else◌, bytes_eq}
+use Rattle.std.proofs.Common.{◌≡◌, ℕ, zero, suc, Bool, true, false, List, [], ◌∷◌, ◌++◌, take, length, map, refl, sym, ap, ◌∙◌, subst, append-nil, Option, Some, None, if◌then◌else◌, bytes_eq}
+use Rattle.std.proofs.lemmas.Slice.Eq.{bytes_eq-Decides}
 use Rattle.lois_base.specs.Values.{PointValue, IsSame}
 use Rattle.lois_base.proofs.Members.{same_refl, same_sym, same_trans}
-use Rattle.lois_meaning.specs.Store.{NamedValue, named, NamedValues, looked_up, stored, AreSameNamed}
+use Rattle.lois_meaning.specs.Store.{named, name_of, NamedValues, looked_up, stored, AreSameNamed}
 
 pub named_refl : (s : NamedValues) → AreSameNamed s s
 named_refl [] = tt
@@ -81,3 +82,13 @@ split_same (x ∷ a) b _ h = absurd h
 pub none_same : (l : NamedValues) → AreSameNamed [] l → l ≡ []
 none_same [] h = refl
 none_same (x ∷ l) h = absurd h
+
+-- a name that is stored keeps its place, or comes last
+pub stored_names : (x : List ℕ) (v : PointValue) (s : NamedValues) → (made : List (List ℕ)) × (map name_of (stored x v s) ≡ map name_of s ++ made)
+stored_names x v [] = (x ∷ [], refl)
+stored_names x v (b ∷ s) = go (bytes_eq b.name x) refl (stored_names x v s)
+  where
+    go : (p : Bool) → bytes_eq b.name x ≡ p → (made : List (List ℕ)) × (map name_of (stored x v s) ≡ map name_of s ++ made) →
+        (made : List (List ℕ)) × (map name_of (if p then named x v ∷ s else (b ∷ stored x v s)) ≡ map name_of (b ∷ s) ++ made)
+    go true e later = ([], cc ((bytes_eq-Decides b.name x).0 e, append-nil (map name_of s)))
+    go false e later = (later.0, ap (λ z. b.name ∷ z) later.1)

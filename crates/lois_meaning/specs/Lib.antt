@@ -7,3 +7,4 @@ pub mod Expressions
 pub mod Faults
 pub mod Runs
 pub mod Scope
+pub mod Laws

@@ -1,0 +1,23 @@
+//! The laws of the meaning: each function does nothing, and its contract states a law that is proved.
+
+ghost use Rattle.lois_meaning.specs.Laws.{RunsAlike, IsDetermined, NeverBoth, KeepsNames};
+
+/// Stores that are the same give the same values, truths, failures and ends.
+pub fn same_stores_run_alike()
+    ensures alike { RunsAlike }
+{}
+
+/// What is given, what is true and what a run ends with and prints is determined up to `Same`.
+pub fn meaning_is_determined()
+    ensures determined { IsDetermined }
+{}
+
+/// Nothing both gives a value and fails, and no run both ends and fails.
+pub fn nothing_ends_and_fails()
+    ensures never_both { NeverBoth }
+{}
+
+/// A run keeps the names of its store, first and in order.
+pub fn runs_keep_names()
+    ensures names { KeepsNames }
+{}
