@@ -6,3 +6,6 @@ pub mod Automata
 pub mod Expressions
 pub mod Faults
 pub mod Runs
+pub mod ResultsData
+pub mod LineView
+pub mod CaseView
