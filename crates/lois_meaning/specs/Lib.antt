@@ -8,3 +8,6 @@ pub mod Faults
 pub mod Runs
 pub mod Scope
 pub mod Laws
+pub mod ResultsData
+pub mod LineView
+pub mod CaseView

@@ -3,9 +3,11 @@
 
 mod faults;
 pub mod laws;
+mod results;
 mod script;
 mod syntax;
 
-pub use faults::FaultKind;
+pub use faults::{Answer, Fault, FaultKind, Stop, Trace};
+pub use results::{Case, Cases, Line, Lines, Results};
 pub use script::{Param, Params, Script, Stmt, Stmts};
 pub use syntax::{Binding, Bindings, Cond, Conds, Expr, Exprs, Operation, Pos};
