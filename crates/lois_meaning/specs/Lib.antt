@@ -11,3 +11,7 @@ pub mod Laws
 pub mod ResultsData
 pub mod LineView
 pub mod CaseView
+pub mod TermText
+pub mod ResultsText
+pub mod TraceText
+pub mod Sound

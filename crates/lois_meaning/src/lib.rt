@@ -5,9 +5,11 @@ mod faults;
 pub mod laws;
 mod results;
 mod script;
+mod sound;
 mod syntax;
 
 pub use faults::{Answer, Fault, FaultKind, Stop, Trace};
 pub use results::{Case, Cases, Line, Lines, Results};
 pub use script::{Param, Params, Script, Stmt, Stmts};
+pub use sound::{is_sound_term, tags_are_names};
 pub use syntax::{Binding, Bindings, Cond, Conds, Expr, Exprs, Operation, Pos};
