@@ -8,3 +8,4 @@ pub mod Faults
 pub mod Runs
 pub mod Scope
 pub mod Laws
+pub mod Examples
