@@ -1,0 +1,4 @@
+pub mod Forms
+pub mod Longest
+pub mod Slices
+pub mod Gaps
