@@ -4,7 +4,7 @@ use Rattle.std.specs.Prelude.{Contains, codes, nat_le}
 use Rattle.std.specs.Str.{bytes_eq}
 use Rattle.std.specs.List.{All, AllPass, list_all, list_any}
 use Rattle.std.specs.Char.{is_ascii_alphabetic, is_ascii_digit}
-use Rattle.std.proofs.lemmas.Bool.{and_parts, and_from, cond-true, cond-false, eqb-true, leb-true, false≢true}
+use Rattle.std.proofs.lemmas.Bool.{and_parts, and_from, cond-true, cond-false, eqb-true, ne_eqb, leb-true, false≢true}
 use Rattle.std.proofs.lemmas.Bool.Decides.{nat_tests}
 use Rattle.std.proofs.lemmas.List.Sums.{AllPass-from_list_all, list_all-from_AllPass}
 use Rattle.std.proofs.lemmas.Map.Views.{Contains-from_any}
@@ -50,6 +50,11 @@ word_bytes (b ∷ bs) h = and_from (is_word_byte b) (list_all is_word_byte bs) (
 
 pub letter_class : (b : ℕ) → is_ascii_alphabetic b ≡ true → class_of b ≡ 0
 letter_class b h = cond-true (is_ascii_alphabetic b) 0 (cond (is_ascii_digit b) 1 (cond (b == 39) 2 3)) h
+
+pub other_class : (b : ℕ) → is_ascii_alphabetic b ≡ false → is_ascii_digit b ≡ false → (b ≡ 39 → ⊥) → class_of b ≡ 3
+other_class b no_letter no_digit no_quote =
+    cond-false (is_ascii_alphabetic b) 0 (cond (is_ascii_digit b) 1 (cond (b == 39) 2 3)) no_letter ∙
+    cond-false (is_ascii_digit b) 1 (cond (b == 39) 2 3) no_digit ∙ cond-false (b == 39) 2 3 (ne_eqb b 39 no_quote)
 
 pub class_of_first : (kind : TokenKind) (bytes : List ℕ) → HasForm kind bytes → class_of (get_or bytes 0 0) ≡ first_class kind
 unfolding symbols

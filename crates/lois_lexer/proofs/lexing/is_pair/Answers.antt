@@ -1,21 +1,25 @@
-use Rattle.std.proofs.Common.{rules, ◌≡◌, ◌≢◌, ℕ, ◌<◌, ◌≤◌, ◌⊎◌, ◌↔◌, List, [], ◌∷◌, length, ◌+◌, ◌^◌, take, slice_index, All, IfOk, IfErr, IfSome, IfNone, IsErrOf, IsTrue, IsFalse, Contains, ◌-◌, ◌*◌, ◌/◌, ◌%◌, Bool, true, false, nat_eq, nat_lt, ◌++◌, slice_index_or, slice_set, bit_and, bit_or, Fits, w8, w32, w64, Bor, MutBor}
-use Rattle.std.specs.List.{prefix_len}
-use Rattle.std.specs.Char.{is_ascii_alphabetic, is_ascii_digit}
-use Rattle.lois_lexer.specs.declared.TokenKind.{TokenKind}
-use Rattle.lois_lexer.specs.declared.Token.{Token}
-use Rattle.lois_lexer.specs.declared.LexError.{LexError}
-use Rattle.lois_lexer.specs.Bytes.{is_word_byte, is_blank, is_comment_byte}
+use Rattle.std.proofs.Common.{◌≡◌, ℕ, ◌∷◌, [], ◌||◌, ◌==◌, ◌⊎◌, ⊎_elim, inl, inr, subst, sym}
+use Rattle.std.specs.Prelude.{Contains}
+use Rattle.std.proofs.lemmas.Bool.{eqb-true, and_parts, or_cases, false≢true}
 use Rattle.lois_lexer.specs.Words.{symbols}
-use Rattle.lois_lexer.specs.Forms.{HasForm, is_within_limits}
-use Rattle.lois_lexer.specs.Tokens.{Longest, IsGap, HasTokens, IsTokenOf}
-use Rattle.lois_lexer.specs.Refusals.{IsWrongAt, Refuses, IsInside}
-use Rattle.lois_lexer.specs.Laws.{OneList, OneRefusal, NeverBoth, WrittenIsRead}
+use Rattle.lois_lexer.proofs.Forms.{is_pair, pair_from}
 use Rattle.lois_lexer.proofs.lexing.is_pair.Goals as goal
 
--- src/lexing.rt:104:9
-pub returns-then-first-ne33 : goal.returns-then-first-ne33
-returns-then-first-ne33 c = ?
+-- how a symbol of two bytes begins
+first_from : (first second : ℕ) → Contains symbols (first ∷ second ∷ []) → (first ≡ 58) ⊎ (first ≡ 33)
+first_from first second h =
+    ⊎_elim (λ e. inl (eqb-true first 58 e)) (λ e. inr (eqb-true first 33 e))
+    (or_cases (first == 58) (first == 33) (and_parts (first == 58 || first == 33) (second == 61) (pair_from first second h)).0)
 
--- src/lexing.rt:100:1
+pub returns-then-first-ne33 : goal.returns-then-first-ne33
+returns-then-first-ne33 c = (λ e. absurd (false≢true e), λ h. absurd (⊎_elim c.if-first-ne58.true c.if-first-ne33.true (first_from c.args.first c.args.second h)))
+
 pub returns : goal.returns
-returns c = ?
+returns c =
+    let first = c.args.first in
+    let second = c.args.second in
+    let either : (first ≡ 58) ⊎ (first ≡ 33) = ⊎_elim (λ e. inr e.1) (λ e. inl e) c.else-first-ne58.either in
+    (
+        λ e. subst (λ (s : ℕ). Contains symbols (first ∷ s ∷ [])) (sym (eqb-true second 61 e)) (is_pair first either),
+        λ h. (and_parts (first == 58 || first == 33) (second == 61) (pair_from first second h)).1,
+    )
