@@ -2,3 +2,5 @@ pub mod Forms
 pub mod Longest
 pub mod Slices
 pub mod Gaps
+pub mod Cutting
+pub mod Reading

@@ -200,6 +200,27 @@ fn token_at(at: usize, bytes: &[u8]) -> Result<(TokenKind, usize), LexError>
     }
 }
 
+/// Cuts the text from its start to its end.
+fn cut(alloc: Global, text: &[u8]) -> Result<Vec<Token>, LexError>
+    ensures tokens { IfOk result (λ tokens. HasTokens text.now tokens.items) }
+    ensures refused { IfErr result (λ error. error ≢ LexError.NoMemory → Refuses text.now error) }
+{
+    let mut tokens = Vec::new(alloc);
+    let mut from = 0;
+    while from < text.len() {
+        let rest = &text[from..];
+        match gap_at(from, rest)? {
+            Some(len) => from += len,
+            None => {
+                let (kind, len) = token_at(from, rest)?;
+                tokens.push(Token { kind, from, to: from + len })?;
+                from += len;
+            }
+        }
+    }
+    Ok(tokens)
+}
+
 /// The tokens of a text, in order. Between them stand blanks and comments.
 ///
 /// # Errors
@@ -218,20 +239,7 @@ pub fn lex(alloc: Global, text: &[u8]) -> Result<Vec<Token>, LexError>
     ensures forms { IfOk result (λ tokens. All (IsTokenOf text.now) tokens.items) }
     ensures inside { IfErr result (IsInside text.now) }
 {
-    let mut tokens = Vec::new(alloc);
-    let mut from = 0;
-    while from < text.len() {
-        let rest = &text[from..];
-        match gap_at(from, rest)? {
-            Some(len) => from += len,
-            None => {
-                let (kind, len) = token_at(from, rest)?;
-                tokens.push(Token { kind, from, to: from + len })?;
-                from += len;
-            }
-        }
-    }
-    Ok(tokens)
+    cut(alloc, text)
 }
 
 /// A text has at most one list of tokens, is refused in one way at most, and never both. It does nothing.

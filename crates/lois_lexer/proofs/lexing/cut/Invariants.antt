@@ -1,6 +1,6 @@
 use Rattle.std.proofs.Common.{◌-◌, ◌≤◌, length}
 use Rattle.lois_lexer.specs.Tokens.{IsCut}
-use Rattle.lois_lexer.proofs.lexing.lex.Given as goal
+use Rattle.lois_lexer.proofs.lexing.cut.Given as goal
 
 -- the text is cut up to here
 abbrev pub invariant-loop-from : goal.invariant-loop-from

@@ -1,0 +1,2 @@
+-- A text is read in one way at most.
+use Rattle.std.proofs.Common.{◌≡◌, ℕ}
