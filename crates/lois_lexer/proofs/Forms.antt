@@ -28,7 +28,7 @@ first_class Tag = 2
 first_class Symbol = 3
 
 -- what each symbol passes, a symbol passes
-passed_by_symbol : (p : List ℕ → Bool) → list_all p symbols ≡ true → (bytes : List ℕ) → Contains symbols bytes → p bytes ≡ true
+pub passed_by_symbol : (p : List ℕ → Bool) → list_all p symbols ≡ true → (bytes : List ℕ) → Contains symbols bytes → p bytes ≡ true
 passed_by_symbol p each bytes h = let P : List ℕ → Type 0 = λ xs. p xs ≡ true in subst P h.2 (AllPass-from_list_all p symbols each h.0 bytes h.1)
 
 pub digit_class : (b : ℕ) → is_ascii_digit b ≡ true → class_of b ≡ 1

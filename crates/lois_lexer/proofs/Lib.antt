@@ -3,4 +3,6 @@ pub mod Longest
 pub mod Slices
 pub mod Gaps
 pub mod Cutting
-pub mod Reading
+pub mod OnePiece
+pub mod OneReading
+pub mod Written

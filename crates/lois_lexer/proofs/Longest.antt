@@ -34,7 +34,7 @@ run_nonempty p bytes nonempty passes =
         absurd (both_ways (p (get_or bytes (prefix_len p bytes) 0)) (prefix_len_stops p bytes 0 (omega arith)) (ap (λ i. p (get_or bytes i 0)) is_zero ∙ passes)))
     (cases_lt 0 (prefix_len p bytes))
 
-first_of_front : (m : ℕ) (bytes : List ℕ) → 0 < length (take m bytes) → get_or (take m bytes) 0 0 ≡ get_or bytes 0 0
+pub first_of_front : (m : ℕ) (bytes : List ℕ) → 0 < length (take m bytes) → get_or (take m bytes) 0 0 ≡ get_or bytes 0 0
 first_of_front m bytes nonempty = get_or-take m bytes 0 0 (omega (arith, length-take m bytes))
 
 front_class : (kind : TokenKind) (m : ℕ) (bytes : List ℕ) → HasForm kind (take m bytes) → class_of (get_or (take m bytes) 0 0) ≡ class_of (get_or bytes 0 0)

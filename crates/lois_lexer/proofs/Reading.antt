@@ -1,2 +1,0 @@
--- A text is read in one way at most.
-use Rattle.std.proofs.Common.{◌≡◌, ℕ}
