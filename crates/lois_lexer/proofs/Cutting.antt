@@ -1,10 +1,10 @@
 -- A text that is cut up to a place, and what stands there.
-use Rattle.std.proofs.Common.{◌≡◌, ℕ, ◌+◌, ◌-◌, ◌<◌, ◌≤◌, List, [], ◌∷◌, ◌++◌, length, take, drop, subst, sym, ap, ◌∙◌, arith, length-take, length-drop}
+use Rattle.std.proofs.Common.{ℕ, ◌+◌, ◌-◌, ◌<◌, ◌≤◌, List, [], ◌∷◌, ◌++◌, length, take, drop, subst, arith, length-take, length-drop}
 use Rattle.std.specs.Prelude.{IsTrue}
 use Rattle.lois_lexer.specs.declared.TokenKind.{TokenKind}
 use Rattle.lois_lexer.specs.declared.Token.{Token}
 use Rattle.lois_lexer.specs.declared.LexError.{LexError}
-use Rattle.lois_lexer.specs.Forms.{HasForm, is_within_limits}
+use Rattle.lois_lexer.specs.Forms.{is_within_limits}
 use Rattle.lois_lexer.specs.Tokens.{Longest, IsGap, IsCut}
 use Rattle.lois_lexer.specs.Tokens.IsGap.{one_blank, one_comment}
 use Rattle.lois_lexer.specs.Tokens.IsCut.{past_gap, past_token}

@@ -1,9 +1,8 @@
 -- Blanks and comments, as the code finds them.
-use Rattle.std.proofs.Common.{◌≡◌, ℕ, ◌<◌, ◌≤◌, ◌⊎◌, true, false, List, [], ◌∷◌, length, get_or, take, inl, inr, ⊎_elim, ap, subst, ◌∙◌, sym, arith}
-use Rattle.std.specs.List.{list_all, prefix_len}
+use Rattle.std.proofs.Common.{◌≡◌, ℕ, ◌<◌, List, length, get_or, inl, inr, ⊎_elim, ap, arith}
+use Rattle.std.specs.List.{prefix_len}
 use Rattle.std.proofs.lemmas.Bool.{cases_lt}
 use Rattle.std.proofs.lemmas.List.Sums.{prefix_len-le-length, prefix_len_stops}
-use Rattle.lois_lexer.specs.declared.LexError.{LexError}
 use Rattle.lois_lexer.specs.Bytes.{is_comment_byte}
 use Rattle.lois_lexer.specs.Tokens.{IsComment}
 use Rattle.lois_lexer.specs.Refusals.{BreaksComment}

@@ -1,17 +1,17 @@
 -- Which token is the longest at the front of some bytes, by the first of them.
-use Rattle.std.proofs.Common.{◌≡◌, ℕ, zero, suc, ◌+◌, ◌<◌, ◌≤◌, ◌≢◌, Bool, true, false, ◌&&◌, List, [], ◌∷◌, length, get_or, take, drop, sym, refl, ap, subst, ◌∙◌, ⊎_elim, arith, length-take, get_or-take, take_all, lit<, ◌⊎◌, ◌||◌, ◌==◌}
-use Rattle.std.specs.Prelude.{Contains, codes}
-use Rattle.std.specs.List.{AllPass, list_all, list_any, prefix_len}
+use Rattle.std.proofs.Common.{◌≡◌, ℕ, zero, suc, ◌<◌, ◌≤◌, Bool, true, false, List, [], ◌∷◌, length, get_or, take, drop, sym, refl, ap, subst, ◌∙◌, ⊎_elim, arith, length-take, get_or-take, take_all}
+use Rattle.std.specs.Prelude.{Contains}
+use Rattle.std.specs.List.{list_all, prefix_len}
 use Rattle.std.specs.Char.{is_ascii_alphabetic, is_ascii_digit}
-use Rattle.std.proofs.lemmas.Bool.{and_from, and_parts, both_ways, cases_lt, false≢true, eqb-true, or_cases}
+use Rattle.std.proofs.lemmas.Bool.{and_from, and_parts, both_ways, cases_lt, false≢true}
 use Rattle.std.proofs.lemmas.List.Sums.{AllPass-from_list_all, list_all-from_AllPass, prefix_len-le-length, prefix_len_passes, prefix_len_stops}
 use Rattle.lois_lexer.specs.declared.TokenKind.{TokenKind}
 use Rattle.lois_lexer.specs.declared.TokenKind.TheVariants.{Name, Word, Tag, Number, Symbol}
 use Rattle.lois_lexer.specs.Bytes.{is_word_byte}
-use Rattle.lois_lexer.specs.Words.{reserved, symbols}
+use Rattle.lois_lexer.specs.Words.{symbols}
 use Rattle.lois_lexer.specs.Forms.{is_word_form, HasForm}
 use Rattle.lois_lexer.specs.Tokens.{Longest}
-use Rattle.lois_lexer.proofs.Forms.{class_of, first_class, class_of_first, form_nonempty, letter_first, letter_class, digit_class, word_bytes, word_bytes_after, symbol_only, symbol_short}
+use Rattle.lois_lexer.proofs.Forms.{class_of, first_class, class_of_first, form_nonempty, letter_first, letter_class, digit_class, word_bytes, symbol_only, symbol_short}
 
 -- a run that passes a test: it passes, no longer front does, and it is there where the first byte passes
 pub run_passes : (p : ℕ → Bool) (bytes : List ℕ) → list_all p (take (prefix_len p bytes) bytes) ≡ true
@@ -31,7 +31,7 @@ pub run_nonempty : (p : ℕ → Bool) (bytes : List ℕ) → 0 < length bytes �
 run_nonempty p bytes nonempty passes =
     ⊎_elim (λ positive. positive)
     (λ none. let is_zero : prefix_len p bytes ≡ 0 = omega arith in
-        absurd (both_ways (p (get_or bytes (prefix_len p bytes) 0)) (prefix_len_stops p bytes 0 (omega arith)) (ap (λ i. p (get_or bytes i 0)) is_zero ∙ passes)))
+    absurd (both_ways (p (get_or bytes (prefix_len p bytes) 0)) (prefix_len_stops p bytes 0 (omega arith)) (ap (λ i. p (get_or bytes i 0)) is_zero ∙ passes)))
     (cases_lt 0 (prefix_len p bytes))
 
 pub first_of_front : (m : ℕ) (bytes : List ℕ) → 0 < length (take m bytes) → get_or (take m bytes) 0 0 ≡ get_or bytes 0 0
@@ -105,9 +105,9 @@ tag_longest word nonempty letter = record {
   longest = longest;
 }
   where
-  longest : (other : TokenKind) (m : ℕ) → suc (prefix_len is_word_byte word) < m → m ≤ suc (length word) → HasForm other (take m (39 ∷ word)) → ⊥
-  longest other zero over within h = omega arith
-  longest other (suc m) over within h = run_is_longest is_word_byte word m (omega arith) (omega arith) (word_bytes (take m word) (tag_front other (39 ∷ take m word) refl h))
+    longest : (other : TokenKind) (m : ℕ) → suc (prefix_len is_word_byte word) < m → m ≤ suc (length word) → HasForm other (take m (39 ∷ word)) → ⊥
+    longest other zero over within h = omega arith
+    longest other (suc m) over within h = run_is_longest is_word_byte word m (omega arith) (omega arith) (word_bytes (take m word) (tag_front other (39 ∷ take m word) refl h))
 
 pub no_tag : (word : List ℕ) → (0 < length word → is_ascii_alphabetic (get_or word 0 0) ≡ false) → (kind : TokenKind) (n : ℕ) → HasForm kind (take n (39 ∷ word)) → ⊥
 no_tag word no_letter kind zero h = let k : 0 < 0 = form_nonempty kind [] h in omega arith

@@ -1,5 +1,5 @@
 -- At one place of a text stands one thing at most: a gap, a token within the limits, or what is wrong.
-use Rattle.std.proofs.Common.{◌≡◌, ℕ, ◌+◌, ◌-◌, ◌<◌, ◌≤◌, ◌≢◌, Bool, true, false, not, ◌||◌, ◌==◌, ◌⊎◌, List, [], ◌∷◌, ◌++◌, Result, Ok, Err, length, get_or, take, drop, inl, inr, subst, sym, refl, ap, ◌∙◌, ⊎_elim, arith, append_assoc, length-take, length-drop, get_or-take}
+use Rattle.std.proofs.Common.{◌≡◌, ℕ, ◌+◌, ◌<◌, ◌≤◌, Bool, true, false, not, ◌||◌, ◌==◌, List, [], ◌∷◌, length, get_or, take, subst, sym, refl, ap, ◌∙◌, ⊎_elim, arith, length-take, get_or-take}
 use Rattle.std.specs.Prelude.{IsTrue}
 use Rattle.std.specs.List.{list_all, prefix_len}
 use Rattle.std.specs.Char.{is_ascii_alphabetic, is_ascii_digit}
@@ -8,20 +8,19 @@ use Rattle.std.proofs.lemmas.Bool.Decides.{nat_tests}
 use Rattle.std.proofs.lemmas.List.Sums.{AllPass-from_list_all, prefix_len_is}
 use Rattle.lois_lexer.specs.declared.TokenKind.{TokenKind}
 use Rattle.lois_lexer.specs.declared.TokenKind.TheVariants.{Name, Word, Tag, Number, Symbol}
-use Rattle.lois_lexer.specs.declared.Token.{Token}
 use Rattle.lois_lexer.specs.declared.LexError.{LexError}
-use Rattle.lois_lexer.specs.declared.LexError.TheVariants.{BadByte, LongName, BadNumber}
+use Rattle.lois_lexer.specs.declared.LexError.TheVariants.{BadByte}
 use Rattle.lois_lexer.specs.Bytes.{is_blank, is_comment_byte}
 use Rattle.lois_lexer.specs.Words.{symbols}
 use Rattle.lois_lexer.specs.Forms.{HasForm, is_within_limits}
-use Rattle.lois_lexer.specs.Tokens.{Longest, IsComment, IsGap, IsCut, HasTokens}
+use Rattle.lois_lexer.specs.Tokens.{Longest, IsComment, IsGap}
 use Rattle.lois_lexer.specs.Tokens.IsGap.{one_blank, one_comment}
-use Rattle.lois_lexer.specs.Refusals.{BeginsNothing, BreaksComment, IsOverLimit, IsWrongAt, Refuses}
+use Rattle.lois_lexer.specs.Refusals.{BreaksComment, IsOverLimit, IsWrongAt}
 use Rattle.lois_lexer.specs.Refusals.IsWrongAt.{bad_byte, bad_comment, long_name, bad_number}
 use Rattle.lois_lexer.proofs.Forms.{passed_by_symbol, letter_first, one_kind}
 use Rattle.lois_lexer.proofs.Longest.{first_of_front}
 use Rattle.lois_lexer.proofs.Forms.{form_nonempty}
-use Rattle.lois_lexer.proofs.Cutting.{gap_positive, gap_within, token_positive}
+use Rattle.lois_lexer.proofs.Cutting.{token_positive}
 
 -- the first byte of a gap, which is none of a token
 abbrev begins_gap : ℕ → Bool

@@ -1,16 +1,15 @@
 -- A text is read in one way at most: it ends with one list of tokens, or with one refusal.
-use Rattle.std.proofs.Common.{◌≡◌, ℕ, ◌+◌, ◌-◌, ◌<◌, ◌≤◌, List, [], ◌∷◌, ◌++◌, Result, Ok, Err, length, get_or, take, drop, subst, sym, refl, ap, ◌∙◌, arith, append_assoc, append-nil, length-drop, length-take}
+use Rattle.std.proofs.Common.{◌≡◌, ℕ, ◌+◌, ◌-◌, List, [], ◌∷◌, ◌++◌, Result, Ok, Err, length, take, drop, subst, sym, refl, ap, ◌∙◌, arith, append_assoc, append-nil, length-drop}
 use Rattle.std.specs.Prelude.{IsTrue, slice_range, All}
 use Rattle.std.proofs.lemmas.List.Elements.{All-nil, All-push}
 use Rattle.lois_lexer.specs.declared.TokenKind.{TokenKind}
 use Rattle.lois_lexer.specs.declared.TokenKind.TheVariants.{Number}
 use Rattle.lois_lexer.specs.declared.Token.{Token}
 use Rattle.lois_lexer.specs.declared.LexError.{LexError}
-use Rattle.lois_lexer.specs.declared.LexError.TheVariants.{BadByte, LongName, BadNumber}
 use Rattle.lois_lexer.specs.Forms.{HasForm, is_within_limits}
 use Rattle.lois_lexer.specs.Tokens.{Longest, IsGap, IsCut, HasTokens, IsTokenOf}
 use Rattle.lois_lexer.specs.Tokens.IsCut.{at_start, past_gap, past_token}
-use Rattle.lois_lexer.specs.Refusals.{IsOverLimit, IsWrongAt, Refuses, IsInside}
+use Rattle.lois_lexer.specs.Refusals.{IsWrongAt, Refuses, IsInside}
 use Rattle.lois_lexer.specs.Refusals.IsWrongAt.{bad_byte, bad_comment, long_name, bad_number}
 use Rattle.lois_lexer.specs.Laws.{OneList, OneRefusal, NeverBoth}
 use Rattle.lois_lexer.proofs.Cutting.{gap_positive, gap_within, token_positive}
@@ -124,8 +123,8 @@ tokens_of_cut text at ts (past_token from n kind tokens cut t limits) = All-push
 pub refused_inside : (text : List ℕ) (error : LexError) → Refuses text error → IsInside text error
 refused_inside text error r = inside r.0 error r.3
   where
-  inside : (at : ℕ) (error : LexError) → IsWrongAt at (drop at text) error → IsInside text error
-  inside at error (bad_byte nothing) = omega (arith, nothing.nonempty, length-drop at text)
-  inside at error (bad_comment n broken) = omega (arith, broken.within, length-drop at text)
-  inside at error (long_name kind apart over) = omega (arith, over.1.within, token_positive (drop at text) kind over.0 over.1, length-drop at text)
-  inside at error (bad_number over) = omega (arith, over.1.within, token_positive (drop at text) Number over.0 over.1, length-drop at text)
+    inside : (at : ℕ) (error : LexError) → IsWrongAt at (drop at text) error → IsInside text error
+    inside at error (bad_byte nothing) = omega (arith, nothing.nonempty, length-drop at text)
+    inside at error (bad_comment n broken) = omega (arith, broken.within, length-drop at text)
+    inside at error (long_name kind apart over) = omega (arith, over.1.within, token_positive (drop at text) kind over.0 over.1, length-drop at text)
+    inside at error (bad_number over) = omega (arith, over.1.within, token_positive (drop at text) Number over.0 over.1, length-drop at text)

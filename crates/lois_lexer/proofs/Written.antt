@@ -1,11 +1,11 @@
 -- What is written token by token, with a blank behind each, is read again.
-use Rattle.std.proofs.Common.{◌≡◌, ℕ, ◌+◌, ◌-◌, ◌<◌, ◌≤◌, Bool, true, false, not, ◌&&◌, List, [], ◌∷◌, ◌++◌, length, get_or, take, drop, map, subst, sym, refl, ap, ◌∙◌, arith, append_assoc, append-nil, length-append, length-drop, length-take, get_or-take, take_all}
-use Rattle.std.specs.Prelude.{IsTrue, All, slice_range}
+use Rattle.std.proofs.Common.{◌≡◌, ℕ, ◌+◌, ◌-◌, ◌<◌, Bool, true, not, ◌&&◌, List, [], ◌∷◌, ◌++◌, length, get_or, take, drop, map, subst, sym, refl, ap, ◌∙◌, arith, append_assoc, append-nil, length-append, length-take, get_or-take, take_all}
+use Rattle.std.specs.Prelude.{IsTrue, All}
 use Rattle.std.specs.List.{flat_map, list_all}
-use Rattle.std.specs.Char.{is_ascii_alphabetic, is_ascii_digit}
-use Rattle.std.proofs.lemmas.Bool.{both_ways, and_parts, not-true, false≢true}
+use Rattle.std.specs.Char.{is_ascii_digit}
+use Rattle.std.proofs.lemmas.Bool.{both_ways, not-true}
 use Rattle.std.proofs.lemmas.Bool.Decides.{nat_tests}
-use Rattle.std.proofs.lemmas.List.{take-append-le, drop-append-le}
+use Rattle.std.proofs.lemmas.List.{take-append-le}
 use Rattle.std.proofs.lemmas.List.Elements.{All-head, All-tail}
 use Rattle.std.proofs.lemmas.List.Sums.{AllPass-from_list_all, list_all-from_AllPass}
 use Rattle.lois_lexer.specs.declared.TokenKind.{TokenKind}
@@ -14,7 +14,7 @@ use Rattle.lois_lexer.specs.declared.Token.{Token}
 use Rattle.lois_lexer.specs.Bytes.{is_blank, is_word_byte}
 use Rattle.lois_lexer.specs.Words.{symbols}
 use Rattle.lois_lexer.specs.Forms.{is_word_form, HasForm, is_within_limits}
-use Rattle.lois_lexer.specs.Tokens.{Longest, IsGap, IsCut, HasTokens, Spelled, spelled, bytes_of}
+use Rattle.lois_lexer.specs.Tokens.{Longest, IsGap, IsCut, spelled, bytes_of}
 use Rattle.lois_lexer.specs.Tokens.IsGap.{one_blank}
 use Rattle.lois_lexer.specs.Tokens.IsCut.{at_start, past_gap, past_token}
 use Rattle.lois_lexer.specs.Laws.{Written, IsWritten, text_of, WrittenIsRead}
@@ -113,11 +113,10 @@ read_from (w ∷ ws) text front tokens is_text written cut =
     let len : length front + length w.token.bytes + 1 ≡ length (front ++ text_of w) = omega (arith, length-append front (text_of w), length-append bytes (w.blank ∷ [])) in
     let cut' = subst (λ (k : ℕ). IsCut text k (tokens ++ t ∷ [])) len (one_more text front bytes rest w.token.kind w.blank is_split tokens each.form each.limits each.blank cut) in
     let further = read_from ws text front' (tokens ++ t ∷ []) is_text' (All-tail IsWritten w ws written) cut' in
-    let head : bytes_of text t ≡ w.token.bytes = this_bytes text front bytes rest w.token.kind w.blank is_split in
-    (
-        t ∷ further.0,
-        subst (λ l. IsCut text (length text) l) (append_assoc tokens (t ∷ []) further.0) further.1,
-        (λ i. record { kind = w.token.kind; bytes = head i } ∷ further.2 i),
+    let head : bytes_of text t ≡ w.token.bytes = this_bytes text front bytes rest w.token.kind w.blank is_split in (
+      t ∷ further.0,
+      subst (λ l. IsCut text (length text) l) (append_assoc tokens (t ∷ []) further.0) further.1,
+      (λ i. record { kind = w.token.kind; bytes = head i } ∷ further.2 i),
     )
 
 pub written_is_read : WrittenIsRead

@@ -213,7 +213,11 @@ fn cut(alloc: Global, text: &[u8]) -> Result<Vec<Token>, LexError>
             Some(len) => from += len,
             None => {
                 let (kind, len) = token_at(from, rest)?;
-                tokens.push(Token { kind, from, to: from + len })?;
+                tokens.push(Token {
+                    kind,
+                    from,
+                    to: from + len,
+                })?;
                 from += len;
             }
         }

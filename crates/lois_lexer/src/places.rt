@@ -15,7 +15,10 @@ pub fn place_of(text: &[u8], offset: usize) -> Place
 {
     let before = &text[..offset];
     let line = 1 + before.iter().filter(|b| **b == b'\n').count();
-    Place { line, column: 1 + last_line_len(before) }
+    Place {
+        line,
+        column: 1 + last_line_len(before),
+    }
 }
 
 /// How many bytes follow the last LF, or all of them where there is none.

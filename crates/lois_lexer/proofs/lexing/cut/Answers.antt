@@ -1,9 +1,8 @@
-use Rattle.std.proofs.Common.{◌≡◌, ◌+◌, ◌≤◌, [], ◌∷◌, ◌++◌, length, is_ok, subst, sym, ap, arith}
+use Rattle.std.proofs.Common.{◌+◌, is_ok, subst, sym, ap, arith}
 use Rattle.std.proofs.ResultArms.{chosen}
-use Rattle.lois_lexer.specs.declared.Token.{Token}
 use Rattle.lois_lexer.specs.Tokens.{IsCut}
 use Rattle.lois_lexer.specs.Tokens.IsCut.{at_start}
-use Rattle.lois_lexer.proofs.Cutting.{cut_gap, cut_token, token_positive, gap_positive, rest_of}
+use Rattle.lois_lexer.proofs.Cutting.{cut_gap, cut_token, token_positive, rest_of}
 use Rattle.lois_lexer.proofs.lexing.cut.Goals as goal
 
 pub loop-from-init : goal.loop-from-init

@@ -1,7 +1,7 @@
-use Rattle.std.proofs.Common.{◌≡◌, ℕ, ◌+◌, ◌<◌, List, length, get_or, subst, sym, ap, ◌∙◌, arith}
+use Rattle.std.proofs.Common.{◌≡◌, ℕ, ◌<◌, length, get_or, subst, sym, ap, ◌∙◌, arith}
 use Rattle.std.specs.List.{prefix_len}
 use Rattle.lois_lexer.specs.Bytes.{is_comment_byte}
-use Rattle.lois_lexer.specs.Tokens.{IsGap, IsComment}
+use Rattle.lois_lexer.specs.Tokens.{IsComment}
 use Rattle.lois_lexer.specs.Tokens.IsGap.{one_blank, one_comment}
 use Rattle.lois_lexer.specs.Refusals.{BreaksComment}
 use Rattle.lois_lexer.specs.Refusals.IsWrongAt.{bad_comment}
@@ -23,8 +23,8 @@ returns-clause-gap c =
     let bytes = c.args.bytes.now in
     let is_run = c.comment_len-len.ensures in
     let ends : prefix_len is_comment_byte c.args.bytes.now < length c.args.bytes.now → get_or c.args.bytes.now (prefix_len is_comment_byte c.args.bytes.now) 0 ≡ 10 = λ below.
-        elim c.else-len-bytes.branch [
-        | else-len-bytes-via-then-len-bytes+else-bytes-len-ne10 w ↦ ap (λ i. get_or bytes i 0) (sym is_run) ∙ w.if-bytes-len-ne10.false
-        | else-len-bytes-via-else-len-bytes w ↦ absurd (omega arith)
-        ] in
+    elim c.else-len-bytes.branch [
+      | else-len-bytes-via-then-len-bytes+else-bytes-len-ne10 w ↦ ap (λ i. get_or bytes i 0) (sym is_run) ∙ w.if-bytes-len-ne10.false
+      | else-len-bytes-via-else-len-bytes w ↦ absurd (omega arith)
+    ] in
     one_comment c.comment_len-len.result (subst (λ (n : ℕ). IsComment bytes n) (sym is_run) (comment_ends bytes c.if-bytes-ne35.false c.requires.nonempty ends))

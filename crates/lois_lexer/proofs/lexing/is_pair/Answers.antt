@@ -18,8 +18,7 @@ pub returns : goal.returns
 returns c =
     let first = c.args.first in
     let second = c.args.second in
-    let either : (first ≡ 58) ⊎ (first ≡ 33) = ⊎_elim (λ e. inr e.1) (λ e. inl e) c.else-first-ne58.either in
-    (
-        λ e. subst (λ (s : ℕ). Contains symbols (first ∷ s ∷ [])) (sym (eqb-true second 61 e)) (is_pair first either),
-        λ h. (and_parts (first == 58 || first == 33) (second == 61) (pair_from first second h)).1,
+    let either : (first ≡ 58) ⊎ (first ≡ 33) = ⊎_elim (λ e. inr e.1) (λ e. inl e) c.else-first-ne58.either in (
+      λ e. subst (λ (s : ℕ). Contains symbols (first ∷ s ∷ [])) (sym (eqb-true second 61 e)) (is_pair first either),
+      λ h. (and_parts (first == 58 || first == 33) (second == 61) (pair_from first second h)).1,
     )

@@ -1,4 +1,4 @@
-use Rattle.std.proofs.Common.{◌≡◌, ℕ, ◌<◌, [], ◌∷◌, length, get_or, take, subst, sym, ◌∙◌, arith}
+use Rattle.std.proofs.Common.{◌<◌, length, get_or, take, subst, sym, arith}
 use Rattle.std.specs.Prelude.{Contains}
 use Rattle.std.proofs.lemmas.Bool.{both_ways}
 use Rattle.lois_lexer.specs.Words.{symbols}
@@ -19,10 +19,10 @@ returns-then-is_symbol-clause-some c =
     let bytes = c.args.bytes.now in
     let class = other_class (get_or bytes 0 0) c.requires.no_letter c.requires.no_digit c.requires.no_quote in
     let no_pair : 1 < length c.args.bytes.now → Contains symbols (take 2 c.args.bytes.now) → ⊥ = λ two pair.
-        elim c.else-bytes-gt1.branch [
-        | else-bytes-gt1-via-then-bytes-gt1+else-is_pair w ↦ both_ways w.is_pair.result w.if-is_pair.false (w.is_pair.ensures.1 (subst (Contains symbols) (two_bytes bytes two) pair))
-        | else-bytes-gt1-via-else-bytes-gt1 w ↦ omega arith
-        ] in
+    elim c.else-bytes-gt1.branch [
+      | else-bytes-gt1-via-then-bytes-gt1+else-is_pair w ↦ both_ways w.is_pair.result w.if-is_pair.false (w.is_pair.ensures.1 (subst (Contains symbols) (two_bytes bytes two) pair))
+      | else-bytes-gt1-via-else-bytes-gt1 w ↦ omega arith
+    ] in
     single_longest bytes class c.requires.nonempty (subst (Contains symbols) (sym (one_byte bytes c.requires.nonempty)) (c.is_symbol.ensures.0 c.if-is_symbol.true)) no_pair
 
 pub returns-else-is_symbol-clause-none : goal.returns-else-is_symbol-clause-none
@@ -30,8 +30,8 @@ returns-else-is_symbol-clause-none c =
     let bytes = c.args.bytes.now in
     let class = other_class (get_or bytes 0 0) c.requires.no_letter c.requires.no_digit c.requires.no_quote in
     let no_pair : 1 < length c.args.bytes.now → Contains symbols (take 2 c.args.bytes.now) → ⊥ = λ two pair.
-        elim c.else-bytes-gt1.branch [
-        | else-bytes-gt1-via-then-bytes-gt1+else-is_pair w ↦ both_ways w.is_pair.result w.if-is_pair.false (w.is_pair.ensures.1 (subst (Contains symbols) (two_bytes bytes two) pair))
-        | else-bytes-gt1-via-else-bytes-gt1 w ↦ omega arith
-        ] in
+    elim c.else-bytes-gt1.branch [
+      | else-bytes-gt1-via-then-bytes-gt1+else-is_pair w ↦ both_ways w.is_pair.result w.if-is_pair.false (w.is_pair.ensures.1 (subst (Contains symbols) (two_bytes bytes two) pair))
+      | else-bytes-gt1-via-else-bytes-gt1 w ↦ omega arith
+    ] in
     no_symbol bytes class (λ single. both_ways c.is_symbol.result c.if-is_symbol.false (c.is_symbol.ensures.1 (subst (Contains symbols) (one_byte bytes c.requires.nonempty) single))) no_pair

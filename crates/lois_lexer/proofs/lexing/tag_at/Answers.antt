@@ -1,9 +1,8 @@
-use Rattle.std.proofs.Common.{◌≡◌, ℕ, ◌+◌, ◌-◌, ◌<◌, false, suc, List, [], ◌∷◌, length, get_or, take, drop, subst, sym, ap, ◌∙◌, ⊎_elim, arith, length-drop}
+use Rattle.std.proofs.Common.{◌≡◌, ℕ, ◌+◌, ◌-◌, ◌<◌, false, suc, List, [], ◌∷◌, length, get_or, take, drop, subst, sym, ap, ◌∙◌, arith}
 use Rattle.std.specs.List.{prefix_len}
 use Rattle.std.specs.Char.{is_ascii_alphabetic}
 use Rattle.std.proofs.lemmas.Bool.{eqb-true, eqb-false}
 use Rattle.std.proofs.lemmas.List.Sums.{prefix_len-le-length}
-use Rattle.lois_lexer.specs.declared.TokenKind.{TokenKind}
 use Rattle.lois_lexer.specs.declared.TokenKind.TheVariants.{Tag}
 use Rattle.lois_lexer.specs.Bytes.{is_word_byte}
 use Rattle.lois_lexer.specs.Forms.{HasForm}
@@ -28,10 +27,10 @@ pub returns-then-is_empty-clause-none : goal.returns-then-is_empty-clause-none
 returns-then-is_empty-clause-none c =
     let bytes = c.args.bytes.now in
     let no_letter : 0 < length (word_of c.args.bytes.now) → is_ascii_alphabetic (get_or (word_of c.args.bytes.now) 0 0) ≡ false = λ nonempty.
-        elim c.then-is_empty.branch [
-        | then-is_empty-via-then-is_empty w ↦ let none = eqb-true (length (word_of bytes)) 0 (sym c.is_empty.ensures ∙ w.if-is_empty.true) in absurd (omega arith)
-        | then-is_empty-via-else-is_empty+then-not-is_ascii_alphabetic w ↦ sym w.is_ascii_alphabetic.ensures.value ∙ w.if-not-is_ascii_alphabetic.true
-        ] in
+    elim c.then-is_empty.branch [
+      | then-is_empty-via-then-is_empty w ↦ let none = eqb-true (length (word_of bytes)) 0 (sym c.is_empty.ensures ∙ w.if-is_empty.true) in absurd (omega arith)
+      | then-is_empty-via-else-is_empty+then-not-is_ascii_alphabetic w ↦ sym w.is_ascii_alphabetic.ensures.value ∙ w.if-not-is_ascii_alphabetic.true
+    ] in
     λ kind n h. no_tag (word_of bytes) no_letter kind n (subst (λ (xs : List ℕ). HasForm kind (take n xs)) (is_quoted bytes c.requires.nonempty c.requires.quote) h)
 
 pub overflow_add-result : goal.overflow_add-result

@@ -1,8 +1,4 @@
-use Rattle.std.proofs.Common.{◌≡◌, ◌<◌, false, length, take, subst, sym, ◌∙◌}
-use Rattle.lois_lexer.specs.declared.TokenKind.{TokenKind}
-use Rattle.lois_lexer.specs.declared.TokenKind.TheVariants.{Number}
-use Rattle.lois_lexer.specs.Forms.{is_within_limits}
-use Rattle.lois_lexer.specs.Tokens.{Longest}
+use Rattle.std.proofs.Common.{take, subst, sym, ◌∙◌}
 use Rattle.lois_lexer.specs.Refusals.{IsOverLimit}
 use Rattle.lois_lexer.specs.Refusals.IsWrongAt.{bad_byte, long_name, bad_number}
 use Rattle.lois_lexer.proofs.Forms.{form_nonempty}

@@ -1,4 +1,4 @@
-use Rattle.std.proofs.Common.{◌≡◌, ℕ, List, take, subst, sym}
+use Rattle.std.proofs.Common.{ℕ, take, subst, sym}
 use Rattle.std.specs.Prelude.{Contains}
 use Rattle.std.specs.List.{prefix_len}
 use Rattle.std.proofs.lemmas.Bool.{both_ways}
@@ -23,5 +23,5 @@ returns-else-is_reserved c =
     let bytes = c.args.bytes.now in
     let is_run = c.word_len-len.ensures in
     let not_here : Contains reserved (take (prefix_len is_word_byte c.args.bytes.now) c.args.bytes.now) → ⊥ = λ h.
-        both_ways c.is_reserved.result c.if-is_reserved.false (c.is_reserved.ensures.1 (subst (λ (n : ℕ). Contains reserved (take n bytes)) (sym is_run) h)) in
+    both_ways c.is_reserved.result c.if-is_reserved.false (c.is_reserved.ensures.1 (subst (λ (n : ℕ). Contains reserved (take n bytes)) (sym is_run) h)) in
     subst (λ (n : ℕ). Longest bytes Name n) (sym is_run) (word_longest bytes c.requires.nonempty c.requires.letter Name (front_is_word bytes c.requires.nonempty c.requires.letter, not_here))

@@ -1,4 +1,4 @@
-use Rattle.std.proofs.Common.{ℕ, not, ◌==◌, length, take, length-take, arith}
+use Rattle.std.proofs.Common.{ℕ, not, ◌==◌, take, length-take, arith}
 use Rattle.std.proofs.lemmas.List.Sums.{suffix_len-le-length}
 use Rattle.lois_lexer.proofs.places.place_of.Goals as goal
 

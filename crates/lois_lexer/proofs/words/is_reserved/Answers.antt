@@ -11,8 +11,8 @@ use Rattle.lois_lexer.proofs.words.is_reserved.Goals as goal
 -- a list of texts contains what equals one of them
 found : (words : List (List ℕ)) (word : List ℕ) → (list_any (λ s. bytes_eq s word) words ≡ true) ↔ Contains words word
 found words word = (
-    λ e. Contains-from_any {eq = λ q s. bytes_eq s q} (λ x y h. sym ((bytes_eq-Decides y x).0 h)) word words e,
-    λ h. list_any_at (λ s. bytes_eq s word) words h.0 word h.1 ((bytes_eq-Decides (get_or words h.0 word) word).1 h.2),
+  λ e. Contains-from_any {eq = λ q s. bytes_eq s q} (λ x y h. sym ((bytes_eq-Decides y x).0 h)) word words e,
+  λ h. list_any_at (λ s. bytes_eq s word) words h.0 word h.1 ((bytes_eq-Decides (get_or words h.0 word) word).1 h.2),
 )
 
 pub returns : goal.returns
