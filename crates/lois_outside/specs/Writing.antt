@@ -1,5 +1,5 @@
 -- What writing has appended where it failed.
-use Rattle.std.specs.Prelude.{◌≡◌, ℕ, ◌<◌, List, length, take, Option, None}
+use Rattle.std.specs.Prelude.{ℕ, ◌<◌, List, length, take, Option, None}
 use Rattle.std.specs.Io.KnownBytes.{Appends}
 use Rattle.lois_outside.specs.Calls.{Writes}
 

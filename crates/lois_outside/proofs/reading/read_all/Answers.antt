@@ -1,4 +1,4 @@
-use Rattle.std.proofs.Common.{◌≡◌, ◌+◌, ◌≤◌, ◌++◌, length, take, drop, [], ap, sym, ◌∙◌, subst, arith, rules}
+use Rattle.std.proofs.Common.{◌≡◌, ◌+◌, ◌≤◌, ◌++◌, length, take, drop, sym, subst, arith, rules}
 use Rattle.std.proofs.lemmas.List.{length-take, take-append-le}
 use Rattle.lois_outside.proofs.Runs.{HasRead, HasRead-more, HasRead-nothing}
 use Rattle.lois_outside.proofs.reading.read_all.Goals as goal

@@ -1,4 +1,4 @@
-use Rattle.std.proofs.Common.{rules, sym, subst, drop}
+use Rattle.std.proofs.Common.{rules, sym, subst}
 use Rattle.std.proofs.lemmas.List.{take_rest}
 use Rattle.lois_outside.proofs.Runs.{on_err, HasWritten, HasWritten-failed, HasWritten-more, HasWritten-nothing}
 use Rattle.lois_outside.proofs.writing.write_all.Goals as goal
