@@ -66,6 +66,14 @@ atoms_at _ c _ d a h k = absurd (assumption (h, k))
 pub atoms_same : (v w : PointValue) (a : Atom) → IsAtomValue v a → IsAtomValue w a → IsSame v w
 atoms_same v w a h k = atoms_at v.term_of v.choice w.term_of w.choice a h k
 
+equal_at : (t : TermD) (c : List Atom) (a b : Atom) → IsTrue (equal a b) → IsAtomAt t c b → IsAtomAt t c a
+equal_at (var i) c a b h k = equal_trans (atom_at c i) b a k (equal_sym a b h)
+equal_at _ c a b h k = absurd k
+
+-- what is an atom is each atom that is equal
+pub atom_equal : (v : PointValue) (a b : Atom) → IsTrue (equal a b) → IsAtomValue v b → IsAtomValue v a
+atom_equal v a b h k = equal_at v.term_of v.choice a b h k
+
 tag_to : (t : TermD) (c : List Atom) (s : TermD) (d : List Atom) (n : List ℕ) → SameAt t c s d → IsTagTerm t n → IsTagTerm s n
 tag_to (tag k) c (tag l) d n h e = sym h ∙ e
 tag_to _ c _ d n h e = absurd (assumption (h, e))

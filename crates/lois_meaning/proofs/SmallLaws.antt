@@ -1,5 +1,5 @@
 -- The small expressions and scripts mean what is said of them.
-use Rattle.std.proofs.Common.{◌≡◌, ℕ, zero, suc, ◌<◌, Bool, true, false, List, [], ◌∷◌, ◌++◌, length, take, ◌⊎◌, refl, sym, ap, ◌∙◌, subst, Some, arith, append-nil, get_or, true≢false}
+use Rattle.std.proofs.Common.{◌≡◌, IsFalse, ℕ, zero, suc, ◌<◌, Bool, true, false, List, [], ◌∷◌, ◌++◌, length, take, ◌⊎◌, refl, sym, ap, ◌∙◌, subst, Some, arith, append-nil, get_or, true≢false}
 use mathlib.Core.Logic.{inl, inr}
 use Rattle.lois_base.specs.Atom.{Atom, equal}
 use Rattle.lois_base.specs.Data.{TermD, tup, term, no_terms}
@@ -8,15 +8,18 @@ use Rattle.lois_base.specs.Values.{PointValue, point, IsExtension, IsMember, IsS
 use Rattle.lois_base.proofs.Members.{same_refl, same_sym, same_trans, member_in, same_in}
 use Rattle.lois_base.proofs.Order.{equal_refl}
 use Rattle.lois_meaning.specs.Automata.{IsTriple, JoinsStates, HasStep, Accepts}
-use Rattle.lois_meaning.specs.Examples.{name_a, name_b, name_p, name_q, name_s, name_x, name_y, the, only_item, empty_set, all_atoms, atom_value, tag_value, AtomsAreAll, EachAtomIsAll, ParametersAreAtoms, add_alone, add_each_alone, CopiesArePrivate, IdleLoopsEnd, MakesTurns, TurnsAreExact, two_prints, PrintsTwoLines, AddsToSetsAlone, PathsNameElements, one_atom_machine, AcceptsOneAtom}
+use Rattle.lois_meaning.specs.Examples.{assert_alike, name_a, name_b, name_p, name_q, name_s, name_x, name_y, the, only_item, empty_set, all_atoms, atom_value, tag_value, AtomsAreAll, EachAtomIsAll, ParametersAreAtoms, add_alone, add_each_alone, CopiesArePrivate, IdleLoopsEnd, MakesTurns, TurnsAreExact, two_prints, PrintsTwoLines, AddsToSetsAlone, PathsNameElements, one_atom_machine, AcceptsOneAtom}
 use Rattle.lois_meaning.specs.Expressions.{Given, Makes, Reaches, Gives, HasTruth, IsTruthOf}
+use Rattle.lois_meaning.specs.Faults.{Fails}
 use Rattle.lois_meaning.specs.Kinds.{IsAtomAt, IsTagTerm, IsSetTerm, IsAtomValue, IsTagValue, HasParts, IsSet, IsSetOf, AreSame}
 use Rattle.lois_meaning.specs.Runs.{Ending, BlockEnds, TurnsEnd, IsGathered, AreGathered, StmtEnds, ListEnds, StmtFails, ScriptEnds}
 use Rattle.lois_meaning.specs.Store.{named, NamedValues, looked_up, stored, AreSameNamed, IsShallow, depth_limit}
-use Rattle.lois_meaning.specs.Tree.{ExprD, atoms, listed, no_exprs, binding, no_bindings, bind, CondD, truth, for, while, StmtsD, no_stmts}
-use Rattle.lois_meaning.specs.declared.faults.FaultKind.TheVariants.{TurnLimit}
-use Rattle.lois_meaning.proofs.Alike.{is_atom_same, atoms_same, set_of_shift, is_tag_same, parts_same, parts_both}
+use Rattle.lois_meaning.specs.Tree.{ExprD, atoms, listed, no_exprs, binding, no_bindings, bind, CondD, truth, same, for, while, assert, StmtsD, no_stmts, stmt}
+use Rattle.lois_meaning.specs.declared.faults.FaultKind.TheVariants.{Assertion, TurnLimit}
+use Rattle.lois_meaning.specs.declared.faults.FaultKind.{FaultKind}
+use Rattle.lois_meaning.proofs.Alike.{is_atom_same, atoms_same, atom_equal, set_of_shift, is_tag_same, parts_same, parts_both}
 use Rattle.lois_meaning.proofs.Determined.{given_same, truth_same}
+use Rattle.lois_meaning.proofs.NotBoth.{gives_fails, operand_set}
 use Rattle.lois_meaning.proofs.Runs.{list_same, stmt_fails}
 use Rattle.lois_meaning.proofs.Stores.{named_refl, looked_up_same, some_same, found_stored}
 
@@ -344,8 +347,8 @@ adds_to_sets_alone e p x s path at old here never (z, inr (inl (q, other, found,
 adds_to_sets_alone e p x s path at old here never (z, inr (inr (q, y, other, v, new, found, g, added, deep))) =
     absurd (never (subst IsSet (some_same other old (sym found ∙ here)) added.0))
 
-pub paths_name_elements : PathsNameElements
-paths_name_elements p c d h =
+path_fails : (p : ℕ) (c d : Atom) → IsFalse (equal c d) → StmtFails (assert_alike p) [] p Assertion (named name_x (atom_value c) ∷ named name_y (atom_value d) ∷ [])
+path_fails p c d h =
     inr (inr (inr (
       all_atoms,
       atom_value c,
@@ -376,6 +379,69 @@ paths_name_elements p c d h =
       )))),
       refl,
     )))
+
+atoms_never : (p : ℕ) (s : NamedValues) (at : ℕ) (k : FaultKind) → Fails (atoms p) s at k → ⊥
+atoms_never p s at k bad = gives_fails (atoms p) s all_atoms at k (atoms_give p s) bad
+
+-- an atom that isn't equal gives no value that is the same
+differs : (v w v' w' : PointValue) (c d : Atom) → IsSame v v' → IsSame w w' → IsAtomValue v' c → IsAtomValue w' d → (IsSame v w → ⊥) → IsFalse (equal c d)
+differs v w v' w' c d p q h k never = go (equal c d) refl
+  where
+    go : (b : Bool) → equal c d ≡ b → b ≡ false
+    go false e = refl
+    go true e =
+        let i : IsAtomValue w' c = atom_equal w' c d e k in
+        absurd (never (same_trans v v' w p (same_trans v' w' w (atoms_same v' w' c h i) (same_sym w w' q))))
+
+path_alone : (p at : ℕ) (k : FaultKind) (path : NamedValues) → StmtFails (assert_alike p) [] at k path →
+    (at ≡ p) × (k ≡ Assertion) × (v w : PointValue) × (c d : Atom) × (path ≡ named name_x v ∷ named name_y w ∷ []) × IsAtomValue v c × IsAtomValue w d × IsFalse (equal c d)
+path_alone p at k path (inl bad) = absurd (atoms_never 0 [] at k bad.0)
+path_alone p at k path (inr (inl bad)) = absurd (operand_set (atoms 0) [] all_atoms at k (atoms_give 0 []) tt bad.0)
+path_alone p at k path (inr (inr (inl (v, m, g, is, bad, e)))) = absurd bad
+path_alone p at k path (inr (inr (inr (v, m, inner, g, is, y, inr bad, e)))) = absurd bad.3
+path_alone p at k path (inr (inr (inr (v, m, inner, g, is, y, inl bad, e)))) = outer bad
+  where
+    x : (a : Atom) × IsAtomValue m a
+    x = given_atom 0 [] v m g is
+
+    outer : StmtFails (for (binding 0 name_y (atoms 0)) truth (stmt (assert p (same (the name_x) (the name_y))) no_stmts)) (named name_x m ∷ []) at k inner →
+        (at ≡ p) × (k ≡ Assertion) × (v w : PointValue) × (c d : Atom) × (path ≡ named name_x v ∷ named name_y w ∷ []) × IsAtomValue v c × IsAtomValue w d × IsFalse (equal c d)
+    outer (inl bad) = absurd (atoms_never 0 (named name_x m ∷ []) at k bad.0)
+    outer (inr (inl bad)) = absurd (operand_set (atoms 0) (named name_x m ∷ []) all_atoms at k (atoms_give 0 (named name_x m ∷ [])) tt bad.0)
+    outer (inr (inr (inl (w, n, h, it, bad, f)))) = absurd bad
+    outer (inr (inr (inr (w, n, none, h, it, z, inr bad, f)))) = absurd bad.3
+    outer (inr (inr (inr (w, n, none, h, it, z, inl bad, f)))) = last bad
+      where
+        other : (a : Atom) × IsAtomValue n a
+        other = given_atom 0 (named name_x m ∷ []) w n h it
+
+        gives_m : Gives (the name_x) (named name_x m ∷ named name_y n ∷ []) m
+        gives_m = held 0 name_x m (named name_x m ∷ named name_y n ∷ []) (atom_shallow m x.0 x.1) refl
+
+        gives_n : Gives (the name_y) (named name_x m ∷ named name_y n ∷ []) n
+        gives_n = held 0 name_y n (named name_x m ∷ named name_y n ∷ []) (atom_shallow n other.0 other.1) refl
+
+        last : StmtFails (assert p (same (the name_x) (the name_y))) (named name_x m ∷ named name_y n ∷ []) at k none →
+            (at ≡ p) × (k ≡ Assertion) × (v w : PointValue) × (c d : Atom) × (path ≡ named name_x v ∷ named name_y w ∷ []) × IsAtomValue v c × IsAtomValue w d × IsFalse (equal c d)
+        last (inl (inl bad, i)) = absurd (gives_fails (the name_x) (named name_x m ∷ named name_y n ∷ []) m at k gives_m bad)
+        last (inl (inr bad, i)) = absurd (gives_fails (the name_y) (named name_x m ∷ named name_y n ∷ []) n at k gives_n bad)
+        last (inr ((a, b, ga, gb, never), i, j, l)) = (
+          i,
+          j,
+          m,
+          n,
+          x.0,
+          other.0,
+          e ∙ (ap (λ r. named name_x m ∷ r) (f ∙ ap (λ r. named name_y n ∷ r) l)),
+          x.1,
+          other.1,
+          differs a b m n x.0 other.0
+              (given_same (the name_x) (named name_x m ∷ named name_y n ∷ []) a m ga gives_m)
+              (given_same (the name_y) (named name_x m ∷ named name_y n ∷ []) b n gb gives_n) x.1 other.1 never,
+        )
+
+pub paths_name_elements : PathsNameElements
+paths_name_elements = record { fails = path_fails; alone = path_alone }
 
 item_is : (t : TermD) (w : PointValue) → IsIn w (point (only_item t) []) → (c : List Atom) × IsSame w (point t c)
 item_is t w (u, inl (e, x, p, q), s) = (u.choice, subst (λ z. SameAt w.term_of w.choice z u.choice) p s)

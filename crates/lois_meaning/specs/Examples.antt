@@ -149,10 +149,13 @@ assert_alike p =
     for (binding 0 name_x (atoms 0)) truth
     (stmt (for (binding 0 name_y (atoms 0)) truth (stmt (assert p (same (the name_x) (the name_y))) no_stmts)) no_stmts)
 
--- It fails at `assert` for every two different atoms, and the path names them, the outer loop's first.
-abbrev pub PathsNameElements : Type 0
-PathsNameElements = (p : ℕ) (c d : Atom) → IsFalse (equal c d) →
-    StmtFails (assert_alike p) [] p Assertion (named name_x (atom_value c) ∷ named name_y (atom_value d) ∷ [])
+-- It fails at `assert` for every two different atoms, and the path names them, the outer loop's first. It fails in no other way.
+pub record PathsNameElements : Type 0 where
+  pub fails : (p : ℕ) (c d : Atom) → IsFalse (equal c d) →
+      StmtFails (assert_alike p) [] p Assertion (named name_x (atom_value c) ∷ named name_y (atom_value d) ∷ [])
+  pub alone : (p at : ℕ) (k : FaultKind) (path : NamedValues) → StmtFails (assert_alike p) [] at k path →
+      (at ≡ p) × (k ≡ Assertion) × (v w : PointValue) × (c d : Atom) × (path ≡ named name_x v ∷ named name_y w ∷ []) ×
+      IsAtomValue v c × IsAtomValue w d × IsFalse (equal c d)
 
 -- the automaton of the words of one atom: the states 'p and 'q, and a step ('p, a, 'q) for each atom a
 abbrev pub one_atom_machine : Machine
