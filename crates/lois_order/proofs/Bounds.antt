@@ -3,7 +3,7 @@ use Rattle.std.proofs.Common.{◌≡◌, ℕ, ◌+◌, ◌<◌, Bool, true, fals
 use Rattle.std.proofs.lemmas.Bool.{cases_Bool, and_from, and_parts, ne_eqb}
 use Rattle.std.proofs.lemmas.List.Elements.{recursion_from_All}
 use Rattle.std.specs.Bool.{IsTrue, IsFalse}
-use Rattle.std.specs.List.{AllByRecursion, filter, list_all, list_any}
+use Rattle.std.specs.List.{All, AllByRecursion, filter, list_all, list_any}
 use mathlib.Core.Logic.{◌⊎◌, inl, inr}
 use Rattle.lois_base.specs.Atom.{Atom, equal, below}
 use Rattle.lois_base.specs.Fits.{LitFits, CubeFits}
@@ -11,9 +11,9 @@ use Rattle.lois_base.specs.Truth.{atom_at, op_holds, lit_holds, cube_holds}
 use Rattle.lois_base.specs.declared.guards.Lit.{Lit}
 use Rattle.lois_base.specs.declared.guards.Op.{Op}
 use Rattle.lois_base.specs.declared.guards.Op.TheVariants.{Eq, Ne, Lt}
+use Rattle.lois_base.proofs.Gaps.{IsBelow, IsAbove, one_new_between}
 use Rattle.lois_base.proofs.Order.{equal_refl, equal_sym, below_trans}
 use Rattle.lois_order.specs.Literals.{is_eq, is_lt, is_absurd, equates, is_lower, is_upper, is_below, remains}
-use Rattle.lois_order.proofs.Between.{apart_between, AboveAll}
 use Rattle.lois_order.proofs.Choices.{Last, Earlier, place}
 use Rattle.lois_order.proofs.Each.{weaker, each_out, each_in, filtered_in, filtered_out}
 use Rattle.lois_order.proofs.Projects.{Projects}
@@ -41,7 +41,7 @@ or_parts false b h = (refl, h)
 record Meets (c : List Atom) (a : Atom) (x : ℕ) (l : Lit) : Type 0 where
   lower : is_lower x l ≡ true → below (atom_at c l.left) a ≡ true
   upper : is_upper x l ≡ true → below a (atom_at c l.right) ≡ true
-  apart : parts x l ≡ true → equal (atom_at c (other x l)) a ≡ false
+  apart : parts x l ≡ true → equal a (atom_at c (other x l)) ≡ false
   rest : ((l.left == x) || (l.right == x)) ≡ false → lit_holds c l ≡ true
 
 module _ (c : List Atom) (a : Atom) (x : ℕ) (size : length c ≡ x) where
@@ -82,8 +82,8 @@ module _ (c : List Atom) (a : Atom) (x : ℕ) (size : length c ≡ x) where
       go Eq (inl p) (inr q) na ne m = absurd (let n : (i == j) ≡ false = ne_eqb i j (omega arith) in let z = rw (n, p.1) at ne in cc)
       go Eq (inr p) (inl q) na ne m = absurd (let n : (i == j) ≡ false = ne_eqb i j (omega arith) in let z = rw (n, p.1, q.1) at ne in cc)
       go Ne (inl p) (inl q) na ne m = absurd (let n : (i == j) ≡ true = eq-eqb i j (omega arith) in let z = rw n at na in cc)
-      go Ne (inl p) (inr q) na ne m = rw (p.2, q.2) (not_equal a (atom_at c j) (rw p.1 at (m.apart (rw p.1 refl))))
-      go Ne (inr p) (inl q) na ne m = rw (p.2, q.2) (let n : equal (atom_at c i) a ≡ false = rw p.1 at (m.apart (rw (p.1, q.1) refl)) in rw n)
+      go Ne (inl p) (inr q) na ne m = rw (p.2, q.2) (let n : equal a (atom_at c j) ≡ false = rw p.1 at (m.apart (rw p.1 refl)) in rw n)
+      go Ne (inr p) (inl q) na ne m = rw (p.2, q.2) (not_equal (atom_at c i) a (rw p.1 at (m.apart (rw (p.1, q.1) refl))))
       go Lt (inl p) (inl q) na ne m = absurd (let n : (i == j) ≡ true = eq-eqb i j (omega arith) in let z = rw n at na in cc)
       go Lt (inl p) (inr q) na ne m = rw (p.2, q.2) (m.upper (rw (p.1, q.1) refl))
       go Lt (inr p) (inl q) na ne m = rw (p.2, q.2) (m.lower (rw (p.1, q.1) refl))
@@ -127,13 +127,14 @@ module _ (c : List Atom) (x : ℕ) (cube : List Lit) where
   abbrev others : List Atom
   others = map (λ l. atom_at c (other x l)) (filter (parts x) cube)
 
-  bounds_apart : AllByRecursion (λ l. remains c x cube l ≡ true) cube → AllByRecursion (AboveAll lows) ups
-  bounds_apart h =
-      filtered_in (is_upper x) (λ l. atom_at c l.right) (AboveAll lows) cube
+  -- each lower bound is below each upper one
+  bounds_apart : AllByRecursion (λ l. remains c x cube l ≡ true) cube → All (IsBelow ups) lows
+  bounds_apart h i d p j e q =
+      (filtered_in (is_upper x) (λ l. atom_at c l.right) (IsAbove lows) cube
       (weaker
       (λ u r up. filtered_in (is_lower x) (λ l. atom_at c l.left) (λ b. IsTrue (below b (atom_at c u.right))) cube
       (weaker (λ l s lo. rw lo at s) cube (each_out (is_below c x u.right) cube (rw up at r))))
-      cube h)
+      cube h)) j e q i d p
 
   kept : (l : Lit) → remains c x cube l ≡ true → ((l.left == x) || (l.right == x)) ≡ false → lit_holds c l ≡ true
   kept l r n = elim (cases_Bool (is_upper x l)) [
@@ -143,7 +144,7 @@ module _ (c : List Atom) (x : ℕ) (cube : List Lit) where
     | inr m ↦ rw (m, n) at r
   ]
 
-  meets : (a : Atom) (ls : List Lit) → AllByRecursion (λ l. remains c x cube l ≡ true) ls → AllByRecursion (λ l. is_lower x l ≡ true → IsTrue (below (atom_at c l.left) a)) ls → AllByRecursion (λ l. is_upper x l ≡ true → IsTrue (below a (atom_at c l.right))) ls → AllByRecursion (λ l. parts x l ≡ true → IsFalse (equal (atom_at c (other x l)) a)) ls → AllByRecursion (Meets c a x) ls
+  meets : (a : Atom) (ls : List Lit) → AllByRecursion (λ l. remains c x cube l ≡ true) ls → AllByRecursion (λ l. is_lower x l ≡ true → IsTrue (below (atom_at c l.left) a)) ls → AllByRecursion (λ l. is_upper x l ≡ true → IsTrue (below a (atom_at c l.right))) ls → AllByRecursion (λ l. parts x l ≡ true → IsFalse (equal a (atom_at c (other x l)))) ls → AllByRecursion (Meets c a x) ls
   meets a [] r lo up ap = tt
   meets a (l ∷ ls) r lo up ap = (record { lower = lo.0; upper = up.0; apart = ap.0; rest = kept l r.0 }, meets a ls r.1 lo.1 up.1 ap.1)
 
@@ -156,13 +157,13 @@ joined_projects x cube r fits na ne s c e = (some, back)
     some : IsTrue (cube_holds c r) → (a : Atom) × IsTrue (cube_holds (c ++ a ∷ []) cube)
     some h =
         let k = each_out (remains c x cube) cube (sym (s c) ∙ h) in
-        let p = apart_between (lows c x cube) (ups c x cube) (others c x cube) (bounds_apart c x cube k) in (
+        let p = one_new_between (others c x cube) (lows c x cube) (ups c x cube) (bounds_apart c x cube k) in (
           p.0,
           cube_met c p.0 x e cube f na ne
               (meets c x cube p.0 cube k
               (filtered_out (is_lower x) (λ l. atom_at c l.left) (λ b. IsTrue (below b p.0)) cube p.1)
               (filtered_out (is_upper x) (λ l. atom_at c l.right) (λ b. IsTrue (below p.0 b)) cube p.2)
-              (filtered_out (parts x) (λ l. atom_at c (other x l)) (λ b. IsFalse (equal b p.0)) cube p.3)),
+              (filtered_out (parts x) (λ l. atom_at c (other x l)) (λ b. IsFalse (equal p.0 b)) cube p.3)),
         )
 
     back : ((a : Atom) × IsTrue (cube_holds (c ++ a ∷ []) cube)) → IsTrue (cube_holds c r)

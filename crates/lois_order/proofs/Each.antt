@@ -1,7 +1,8 @@
 -- What holds of each element, and of each that passes a test.
 use Rattle.std.proofs.Common.{◌≡◌, Bool, true, List, [], ◌∷◌, map, refl}
 use Rattle.std.proofs.lemmas.Bool.{cases_Bool, and_parts, and_from}
-use Rattle.std.specs.List.{AllByRecursion, filter, list_all}
+use Rattle.std.proofs.lemmas.List.Elements.{All-nil, All-cons, All-head, All-tail}
+use Rattle.std.specs.List.{All, AllByRecursion, filter, list_all}
 use mathlib.Core.Logic.{inl, inr}
 
 module _ {X : Type 0} where
@@ -18,14 +19,19 @@ module _ {X : Type 0} where
   each_in p (x ∷ xs) h = and_from (p x) (list_all p xs) h.0 (each_in p xs h.1)
 
   module _ {Y : Type 0} where
-    pub filtered_in : (t : X → Bool) (f : X → Y) (P : Y → Type 0) (xs : List X) → AllByRecursion (λ x. t x ≡ true → P (f x)) xs → AllByRecursion P (map f (filter t xs))
-    filtered_in t f P [] h = tt
-    filtered_in t f P (x ∷ xs) h = elim (cases_Bool (t x)) [ inl y ↦ rw y (h.0 y, filtered_in t f P xs h.1) | inr n ↦ rw n (filtered_in t f P xs h.1) ]
+    pub filtered_in : (t : X → Bool) (f : X → Y) (P : Y → Type 0) (xs : List X) → AllByRecursion (λ x. t x ≡ true → P (f x)) xs → All P (map f (filter t xs))
+    filtered_in t f P [] h = All-nil P
+    filtered_in t f P (x ∷ xs) h =
+        elim (cases_Bool (t x)) [
+          | inl y ↦ rw y (All-cons P (f x) (map f (filter t xs)) (h.0 y) (filtered_in t f P xs h.1))
+          | inr n ↦ rw n (filtered_in t f P xs h.1)
+        ]
 
-    pub filtered_out : (t : X → Bool) (f : X → Y) (P : Y → Type 0) (xs : List X) → AllByRecursion P (map f (filter t xs)) → AllByRecursion (λ x. t x ≡ true → P (f x)) xs
+    pub filtered_out : (t : X → Bool) (f : X → Y) (P : Y → Type 0) (xs : List X) → All P (map f (filter t xs)) → AllByRecursion (λ x. t x ≡ true → P (f x)) xs
     filtered_out t f P [] h = tt
     filtered_out t f P (x ∷ xs) h =
         elim (cases_Bool (t x)) [
-          | inl y ↦ let k : P (f x) × AllByRecursion P (map f (filter t xs)) = rw y at h in (λ _. k.0, filtered_out t f P xs k.1)
-          | inr n ↦ let k : AllByRecursion P (map f (filter t xs)) = rw n at h in (λ y. absurd (cc), filtered_out t f P xs k)
+          | inl y ↦ let k : All P (f x ∷ map f (filter t xs)) = rw y at h in
+              (λ _. All-head P (f x) (map f (filter t xs)) k, filtered_out t f P xs (All-tail P (f x) (map f (filter t xs)) k))
+          | inr n ↦ let k : All P (map f (filter t xs)) = rw n at h in (λ y. absurd (cc), filtered_out t f P xs k)
         ]

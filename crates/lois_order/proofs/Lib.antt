@@ -1,4 +1,3 @@
-pub mod Between
 pub mod Bounds
 pub mod Choices
 pub mod Each

@@ -9,8 +9,9 @@ use Rattle.lois_base.specs.Truth.{atom_at, lit_holds, cube_holds}
 use Rattle.lois_base.specs.declared.guards.Lit.{Lit}
 use Rattle.lois_base.specs.declared.guards.Op.TheVariants.{Eq}
 use Rattle.lois_base.proofs.Order.{equal_refl, equal_sym}
+use Rattle.lois_base.proofs.Truths.{op_respects}
 use Rattle.lois_order.specs.Literals.{Equates, renamed_level, renamed}
-use Rattle.lois_order.proofs.Choices.{at_end, at_front, place, op_respects}
+use Rattle.lois_order.proofs.Choices.{at_end, at_front, place}
 use Rattle.lois_order.proofs.Projects.{Projects}
 use Rattle.lois_order.proofs.With.{contained_entails}
 
