@@ -15,3 +15,4 @@ pub mod TermText
 pub mod ResultsText
 pub mod TraceText
 pub mod Sound
+pub mod TextRows
