@@ -7,6 +7,7 @@ mod results;
 mod script;
 mod sound;
 mod syntax;
+pub mod texts;
 
 pub use faults::{Answer, Fault, FaultKind, Stop, Trace};
 pub use results::{Case, Cases, Line, Lines, Results};

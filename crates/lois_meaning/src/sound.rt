@@ -92,7 +92,7 @@ fn are_distinct(names: &[Name]) -> bool
 fn holds_name(names: &[Name], wanted: &Name) -> bool
     ensures exact { IsTrue result ↔ Contains names.now wanted.now }
 {
-    names.iter().any(|name| name.same(wanted))
+    names.iter().any(|name| name.bytes() == wanted.bytes())
 }
 
 fn are_sound_cases(cases: &Cases, ordered: bool, levels: usize) -> bool
