@@ -17,3 +17,5 @@ pub mod TraceText
 pub mod Sound
 pub mod Examples
 pub mod TextRows
+pub mod Grammar
+pub mod Limits
