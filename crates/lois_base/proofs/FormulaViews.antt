@@ -11,6 +11,7 @@ use Rattle.lois_base.specs.declared.logic.Formulas.{Formulas}
 pub views_is : (fs : Formulas) → views fs ≡ map view fs.items.items
 views_is fs = fold_out-Formulas FormulaD _ view_step views_step fs
 
+-- `view` computes at the other variants
 pub view_All : (fs : Formulas) → view (All fs) ≡ all (formulas_of (views fs))
 view_All fs =
     ap view (sym (rolls-All fs)) ∙ fold-roll-Formula FormulaD (List FormulaD) view_step views_step (Formula-F.All fs)

@@ -1,10 +1,10 @@
 -- Which levels and operators come from where.
-use Rattle.std.proofs.Common.{◌≡◌, ℕ, ◌<◌, Bool, true, false, List, ◌++◌, refl, subst, ◌⊎◌, inl, inr}
-use Rattle.std.proofs.lemmas.List.Elements.{All-contains, All-append, Contains-get_or, Contains-append_left, Contains-append_right}
-use Rattle.std.specs.List.{All, Any, Contains}
-use Rattle.lois_base.specs.Fits.{LitFits, CubeFits, ConstraintFits}
+use Rattle.std.proofs.Common.{◌≡◌, ℕ, ◌<◌, true, List, ◌++◌, refl, subst, inl, inr}
+use Rattle.std.proofs.lemmas.List.Elements.{All-contains, Contains-get_or, Contains-append_left, Contains-append_right}
+use Rattle.std.specs.List.{All, Contains}
+use Rattle.lois_base.specs.Fits.{ConstraintFits}
 use Rattle.lois_base.specs.Normal.{LitUses, GuardUses}
-use Rattle.lois_base.specs.Validity.{is_admitted, AdmitsLit, AdmitsCube, AdmitsConstraint, LitUsesOnly, CubeUsesOnly, UsesOnly}
+use Rattle.lois_base.specs.Validity.{is_admitted, AdmitsLit, AdmitsCube, AdmitsConstraint, UsesOnly}
 use Rattle.lois_base.specs.declared.guards.Lit.{Lit}
 use Rattle.lois_base.specs.declared.guards.Op.{Op}
 use Rattle.lois_base.specs.declared.guards.Op.TheVariants.{Eq, Ne, Lt}

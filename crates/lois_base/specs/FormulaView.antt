@@ -1,5 +1,5 @@
 -- The data that a formula stands for.
-use Rattle.std.specs.Prelude.{List, map}
+use Rattle.std.specs.Prelude.{List}
 use Rattle.lois_base.specs.FormulaData.{FormulaD, lit, all, any, neg, exists, forall, formulas_of}
 use Rattle.lois_base.specs.declared.logic.Formula.{Formula, fold-Formula, Formula-F}
 use Rattle.lois_base.specs.declared.logic.Formula.TheOpen.{Formulas-F}

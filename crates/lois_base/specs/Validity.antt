@@ -14,6 +14,7 @@ is_admitted ordered Eq = true
 is_admitted ordered Ne = true
 is_admitted ordered Lt = ordered
 
+-- only admitted operators occur
 abbrev pub AdmitsLit : Bool → Lit → Type 0
 AdmitsLit ordered l = IsTrue (is_admitted ordered l.op)
 
@@ -67,11 +68,11 @@ IsOrderFreeFormula = AdmitsFormula false
 abbrev pub IsOrderFreeTerm : TermD → Type 0
 IsOrderFreeTerm = AdmitsTerm false
 
--- each tuple has 2 to 8 parts
 abbrev pub count_of_parts : TermsD → ℕ
 count_of_parts no_terms = 0
 count_of_parts (term t ts) = suc (count_of_parts ts)
 
+-- each tuple has 2 to 8 parts
 abbrev mutual
   pub HasUsualWidths : TermD → Type 0
   HasUsualWidths (var i) = Unit {0}
@@ -90,13 +91,12 @@ abbrev mutual
   ItemsHaveUsualWidths no_comps = Unit {0}
   ItemsHaveUsualWidths (more c cs) = CompHasUsualWidths c × ItemsHaveUsualWidths cs
 
--- each level of the literal is used in the constraint g
+-- a literal, a cube, a constraint uses only levels that the constraint g uses
 abbrev pub LitUsesOnly : List (List Lit) → Lit → Type 0
 LitUsesOnly g l = GuardUses l.left g × GuardUses l.right g
 
 abbrev pub CubeUsesOnly : List (List Lit) → List Lit → Type 0
 CubeUsesOnly g = All (LitUsesOnly g)
 
--- a constraint uses only levels that the constraint g uses
 abbrev pub UsesOnly : List (List Lit) → List (List Lit) → Type 0
 UsesOnly g = All (CubeUsesOnly g)
