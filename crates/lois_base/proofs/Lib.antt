@@ -9,6 +9,7 @@ pub mod Moves
 pub mod Order
 pub mod Parts
 pub mod Raised
+pub mod Renamed
 pub mod Same
 pub mod Samples
 pub mod Shifted

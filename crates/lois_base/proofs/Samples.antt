@@ -100,12 +100,14 @@ ranks_alike c = record { count = sym (length-map (ranks c) whole ∙ length_rank
 -- what holds at some choice of n atoms holds at n numbers below n
 pub sample_of : (n : ℕ) (cube : List Lit) → CubeFits n cube → IsSatisfiable n cube → (s : List ℕ) × IsSampleOf n cube s
 sample_of n cube fits (c, count, h) =
-    let f : CubeFits (length c) cube = subst (λ m. CubeFits m cube) (sym count) fits in
-    (ranks c, record {
-      count = length_ranks c ∙ count;
-      small = subst (λ m. All (λ i. i < m) (ranks c)) count (ranks_small c);
-      met = sym (cube_ordered c (sampled (ranks c)) (ranks_alike c) cube f) ∙ h;
-    })
+    let f : CubeFits (length c) cube = subst (λ m. CubeFits m cube) (sym count) fits in (
+      ranks c,
+      record {
+        count = length_ranks c ∙ count;
+        small = subst (λ m. All (λ i. i < m) (ranks c)) count (ranks_small c);
+        met = sym (cube_ordered c (sampled (ranks c)) (ranks_alike c) cube f) ∙ h;
+      },
+    )
 
 pub satisfied_by : (n : ℕ) (cube : List Lit) (s : List ℕ) → IsSampleOf n cube s → IsSatisfiable n cube
 satisfied_by n cube s h = (sampled s, length-map s whole ∙ h.count, h.met)
