@@ -10,6 +10,7 @@ pub mod Order
 pub mod Parts
 pub mod Raised
 pub mod Renamed
+pub mod RenamedForm
 pub mod Same
 pub mod Samples
 pub mod Shifted

@@ -1,19 +1,20 @@
 -- A term and a constraint mean the same where their levels are renamed and the atoms stand at the new levels.
-use Rattle.std.proofs.Common.{◌≡◌, ℕ, ◌+◌, ◌-◌, ◌<◌, ◌≤◌, ◌⊎◌, inl, inr, List, [], ◌∷◌, ◌++◌, length, length-append, get_or, refl, sym, ap, ◌∙◌, subst, arith}
+use Rattle.std.proofs.Common.{◌≡◌, ℕ, ◌+◌, ◌-◌, ◌<◌, ◌≤◌, ◌⊎◌, inl, inr, List, [], ◌∷◌, ◌++◌, length, length-append, refl, sym, ap, ◌∙◌, subst, arith}
 use Rattle.std.proofs.lemmas.Bool.{cases_lt}
-use Rattle.std.proofs.lemmas.List.{get_or_past, get_or_append_left, get_or-append-add, get_or_default}
+use Rattle.std.proofs.lemmas.List.{get_or_past, get_or_append_left, get_or-append-add}
 use Rattle.std.proofs.lemmas.List.Elements.{All-head, All-tail}
 use Rattle.std.specs.Bool.{IsTrue}
 use Rattle.std.specs.List.{All}
 use Rattle.lois_base.specs.Atom.{Atom, equal, whole}
 use Rattle.lois_base.specs.Data.{TermD, var, tag, tup, coll, TermsD, no_terms, term, CompD, comp, CompsD, no_comps, more}
-use Rattle.lois_base.specs.Normal.{LitUses, GuardUses, Occurs, OccursInPart, OccursInComp, OccursInItem}
+use Rattle.lois_base.specs.Normal.{GuardUses, Occurs, OccursInPart, OccursInComp, OccursInItem}
 use Rattle.lois_base.specs.Rename.{rename, rename_parts, rename_comp, rename_items, rename_lit, rename_cube, rename_constraint}
 use Rattle.lois_base.specs.Truth.{atom_at, lit_holds, cube_holds, holds}
 use Rattle.lois_base.specs.Values.{IsExtension, MakesAt, MemberAt, SameAt, SamePartsAt, AllInAt, EachInAt, SomeIsAt, OneIsAt}
 use Rattle.lois_base.specs.declared.guards.Lit.{Lit}
 use Rattle.lois_base.proofs.Order.{equal_refl}
 use Rattle.lois_base.proofs.Truths.{op_respects}
+use Rattle.lois_base.proofs.Validity.{used_at}
 
 -- d has the atoms of c at the new names of the levels of which P holds, and the levels after c are those after d
 pub record Renames (name : ℕ → ℕ) (P : ℕ → Type 0) (c d : List Atom) : Type 0 where
@@ -74,19 +75,10 @@ module _ (name : ℕ → ℕ) where
   holds_renamed P c d h (k ∷ g) p =
       rw (cube_renamed P c d h k (All-head (All (λ l. P l.left × P l.right)) k g p), holds_renamed P c d h g (All-tail (All (λ l. P l.left × P l.right)) k g p))
 
-  lit_used : (b : ℕ) (g : List (List Lit)) (i : ℕ) (k : List Lit) (j : ℕ) (l : Lit) → i < length g → j < length (get_or g i k) → LitUses b (get_or (get_or g i k) j l) → GuardUses b g
-  lit_used b g i k j l p q u =
-      let cube : List Lit = get_or g i k in
-      let lit : Lit = get_or cube j l in
-      (i, cube, p, get_or_default g i cube k p, (j, lit, q, get_or_default cube j lit l q, u))
-
   -- only the levels that a guard uses count
   pub guard_renamed : (c d : List Atom) (g : List (List Lit)) → Renames name (λ b. GuardUses b g) c d → holds c g ≡ holds d (rename_constraint name g)
   guard_renamed c d g h =
-      holds_renamed (λ b. GuardUses b g) c d h g (λ i k p j l q. (
-        lit_used (get_or (get_or g i k) j l).left g i k j l p q (inl refl),
-        lit_used (get_or (get_or g i k) j l).right g i k j l p q (inr refl),
-      ))
+      holds_renamed (λ b. GuardUses b g) c d h g (used_at (λ b. GuardUses b g) g (λ i u. u))
 
   longer_guard : (c d e : List Atom) (m : ℕ) (g : List (List Lit)) (t : TermD) → Renames name (λ b. OccursInComp b (comp m g t)) c d → holds (c ++ e) g ≡ holds (d ++ e) (rename_constraint name g)
   longer_guard c d e m g t h =
