@@ -37,8 +37,5 @@ module _ (P : ℕ → Type 0) where
       go i p (inr l) =
           rw (get_or-append_right c e (length c) i (whole 0) refl l, get_or-append_right d e (length c) i (whole 0) (sym h.count) l) (equal_refl (atom_at e (i - length c)))
 
-pub equal_for_less : (P Q : ℕ → Type 0) (c d : List Atom) → ((i : ℕ) → Q i → P i) → AreEqualFor P c d → AreEqualFor Q c d
-equal_for_less P Q c d within h = record { count = h.count; atoms = λ i q l. h.atoms i (within i q) l }
-
 pub equal_choices_refl : (c : List Atom) → AreEqual c c
 equal_choices_refl c = record { count = refl; atoms = λ i p l. equal_refl (atom_at c i) }

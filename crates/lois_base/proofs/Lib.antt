@@ -9,6 +9,8 @@ pub mod Moves
 pub mod Order
 pub mod Parts
 pub mod Raised
+pub mod Renamed
+pub mod RenamedForm
 pub mod Same
 pub mod Samples
 pub mod Shifted

@@ -1,5 +1,5 @@
 -- For each choice of atoms a list of small numbers that stand alike: of each atom, how many positions of the choice have a smaller one.
-use Rattle.std.proofs.Common.{◌≡◌, ℕ, zero, suc, ◌+◌, ◌<◌, ◌≤◌, ◌⊎◌, inl, inr, Bool, true, false, not, cond, List, [], ◌∷◌, map, length, ltb, refl, sym, ap, ◌∙◌, arith}
+use Rattle.std.proofs.Common.{◌≡◌, ℕ, zero, suc, ◌+◌, ◌<◌, ◌≤◌, ◌⊎◌, inl, inr, Bool, true, false, not, cond, List, [], ◌∷◌, map, length, ltb, refl, sym, ap, ◌∙◌, subst, arith}
 use Rattle.std.proofs.lemmas.Bool.{lt-ltb, ltb-true}
 use Rattle.std.proofs.lemmas.Int.{ints}
 use Rattle.std.proofs.lemmas.List.{get_or-map, length-map}
@@ -8,10 +8,14 @@ use Rattle.std.specs.Bool.{IsTrue, IsFalse}
 use Rattle.std.specs.List.{All}
 use Rattle.lois_base.specs.Atom.{Atom, equal, below, whole}
 use Rattle.lois_base.specs.Patterns.{Agree, AreAlike}
+use Rattle.lois_base.specs.Fits.{CubeFits}
+use Rattle.lois_base.specs.Theory.{IsSatisfiable, IsSampleOf}
 use Rattle.lois_base.specs.Truth.{atom_at, sampled}
+use Rattle.lois_base.specs.declared.guards.Lit.{Lit}
 use Rattle.lois_base.specs.declared.guards.Op.{Op}
 use Rattle.lois_base.specs.declared.guards.Op.TheVariants.{Eq, Ne, Lt}
 use Rattle.lois_base.proofs.Order.{below_irrefl, below_asym, below_trans, below_at_most, equals_from, same_truth, test}
+use Rattle.lois_base.proofs.Truths.{cube_ordered}
 
 abbrev one_where : Bool → ℕ
 one_where b = cond b 1 0
@@ -92,3 +96,18 @@ ranks_alike c = record { count = sym (length-map (ranks c) whole ∙ length_rank
     go Eq = equal_ranks
     go Ne = λ i j l m. ap not (equal_ranks i j l m)
     go Lt = smaller_ranks c
+
+-- what holds at some choice of n atoms holds at n numbers below n
+pub sample_of : (n : ℕ) (cube : List Lit) → CubeFits n cube → IsSatisfiable n cube → (s : List ℕ) × IsSampleOf n cube s
+sample_of n cube fits (c, count, h) =
+    let f : CubeFits (length c) cube = subst (λ m. CubeFits m cube) (sym count) fits in (
+      ranks c,
+      record {
+        count = length_ranks c ∙ count;
+        small = subst (λ m. All (λ i. i < m) (ranks c)) count (ranks_small c);
+        met = sym (cube_ordered c (sampled (ranks c)) (ranks_alike c) cube f) ∙ h;
+      },
+    )
+
+pub satisfied_by : (n : ℕ) (cube : List Lit) (s : List ℕ) → IsSampleOf n cube s → IsSatisfiable n cube
+satisfied_by n cube s h = (sampled s, length-map s whole ∙ h.count, h.met)

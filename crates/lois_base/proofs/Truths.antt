@@ -9,11 +9,12 @@ use Rattle.lois_base.specs.FormulaData.{FormulaD, lit, all, any, neg, exists, fo
 use Rattle.lois_base.specs.FormulaTruth.{FormulaHolds, AllHold, AnyHolds}
 use Rattle.lois_base.specs.Patterns.{AreEqual, AreAlike}
 use Rattle.lois_base.specs.Truth.{atom_at, op_holds, lit_holds, cube_holds, holds}
-use Rattle.lois_base.specs.Validity.{is_admitted, AdmitsConstraint}
+use Rattle.lois_base.specs.Validity.{AdmitsConstraint}
 use Rattle.lois_base.specs.declared.guards.Lit.{Lit}
 use Rattle.lois_base.specs.declared.guards.Op.{Op}
 use Rattle.lois_base.specs.declared.guards.Op.TheVariants.{Eq, Ne, Lt}
 use Rattle.lois_base.proofs.Choices.{equal_for_at, equal_for_sym, equal_for_longer}
+use Rattle.lois_base.proofs.Validity.{cube_admitted, constraint_admitted}
 use Rattle.lois_base.proofs.Order.{equal_respects, below_respects}
 
 -- a literal holds at both choices, or at neither
@@ -71,11 +72,6 @@ mutual
   any_equal (formula f fs) c d h (inr g) = inr (any_equal fs c d h g)
 
 -- ---- atoms that stand alike
-all_admitted : (op : Op) → IsTrue (is_admitted true op)
-all_admitted Eq = refl
-all_admitted Ne = refl
-all_admitted Lt = refl
-
 pub holds_alike : (ordered : Bool) (c d : List Atom) → AreAlike ordered c d → (g : List (List Lit)) → ConstraintFits (length c) g → AdmitsConstraint ordered g → holds c g ≡ holds d g
 holds_alike ordered c d h g fits admits =
     holds_agree c d g (λ i k p j l q. let lit' : Lit = get_or (get_or g i k) j l in
@@ -84,9 +80,9 @@ holds_alike ordered c d h g fits admits =
 
 -- where atoms are ordered, every constraint is admitted
 pub holds_ordered : (c d : List Atom) → AreAlike true c d → (g : List (List Lit)) → ConstraintFits (length c) g → holds c g ≡ holds d g
-holds_ordered c d h g fits = holds_alike true c d h g fits (λ i k p j l q. all_admitted (get_or (get_or g i k) j l).op)
+holds_ordered c d h g fits = holds_alike true c d h g fits (constraint_admitted g)
 
 pub cube_ordered : (c d : List Atom) → AreAlike true c d → (k : List Lit) → CubeFits (length c) k → cube_holds c k ≡ cube_holds d k
 cube_ordered c d h k fits =
     cube_agrees c d k (λ j l q. let f : LitFits (length c) (get_or k j l) = fits j l q in
-    h.agree (get_or k j l).op (all_admitted (get_or k j l).op) (get_or k j l).left (get_or k j l).right f.0 f.1)
+    h.agree (get_or k j l).op (cube_admitted k j l q) (get_or k j l).left (get_or k j l).right f.0 f.1)

@@ -26,7 +26,7 @@ at_used P i g each u =
     elim u.4.4 [ inl e ↦ subst P e both.0 | inr e ↦ subst P e both.1 ]
 
 -- what holds of each level that is used holds of both levels of each literal
-used_at : (P : ℕ → Type 0) (g : List (List Lit)) → ((i : ℕ) → GuardUses i g → P i) → All (All (λ l. P l.left × P l.right)) g
+pub used_at : (P : ℕ → Type 0) (g : List (List Lit)) → ((i : ℕ) → GuardUses i g → P i) → All (All (λ l. P l.left × P l.right)) g
 used_at P g each =
     all_that_are (All (λ l. P l.left × P l.right)) g (λ q cube. all_that_are (λ l. P l.left × P l.right) q (λ l literal. (each l.left (uses_at l.left g q l cube literal (inl refl)), each l.right (uses_at l.right g q l cube literal (inr refl)))))
 

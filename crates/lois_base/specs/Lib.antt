@@ -12,6 +12,7 @@ pub mod Pairs
 pub mod Codes
 pub mod Values
 pub mod Normal
+pub mod Rename
 pub mod Shift
 pub mod Validity
 pub mod Theory

@@ -1,6 +1,7 @@
 -- Levels from `from` on rise by `by`.
 use Rattle.std.specs.Prelude.{ℕ, ◌+◌, max, List, [], ◌∷◌, map, nat_lt, if◌then◌else◌}
 use Rattle.lois_base.specs.declared.guards.Lit.{Lit}
+use Rattle.lois_base.specs.Rename.{rename, rename_parts, rename_comp, rename_items}
 use Rattle.lois_base.specs.Data.{TermD, var, tag, tup, coll, TermsD, no_terms, term, CompD, comp, CompsD, no_comps, more}
 
 abbrev pub shift_level : ℕ → ℕ → ℕ → ℕ
@@ -15,23 +16,17 @@ shift_cube from by = map (shift_lit from by)
 abbrev pub shift_constraint : ℕ → ℕ → List (List Lit) → List (List Lit)
 shift_constraint from by = map (shift_cube from by)
 
-abbrev mutual
-  pub shift : ℕ → ℕ → TermD → TermD
-  shift from by (var i) = var (shift_level from by i)
-  shift from by (tag t) = tag t
-  shift from by (tup ts) = tup (shift_parts from by ts)
-  shift from by (coll cs) = coll (shift_items from by cs)
+abbrev pub shift : ℕ → ℕ → TermD → TermD
+shift from by = rename (shift_level from by)
 
-  pub shift_parts : ℕ → ℕ → TermsD → TermsD
-  shift_parts from by no_terms = no_terms
-  shift_parts from by (term t ts) = term (shift from by t) (shift_parts from by ts)
+abbrev pub shift_parts : ℕ → ℕ → TermsD → TermsD
+shift_parts from by = rename_parts (shift_level from by)
 
-  pub shift_comp : ℕ → ℕ → CompD → CompD
-  shift_comp from by (comp m g t) = comp m (shift_constraint from by g) (shift from by t)
+abbrev pub shift_comp : ℕ → ℕ → CompD → CompD
+shift_comp from by = rename_comp (shift_level from by)
 
-  pub shift_items : ℕ → ℕ → CompsD → CompsD
-  shift_items from by no_comps = no_comps
-  shift_items from by (more c cs) = more (shift_comp from by c) (shift_items from by cs)
+abbrev pub shift_items : ℕ → ℕ → CompsD → CompsD
+shift_items from by = rename_items (shift_level from by)
 
 -- one more than the highest level that is used, and 0 where none is
 abbrev pub top_of_lits : List Lit → ℕ
