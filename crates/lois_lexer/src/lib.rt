@@ -3,10 +3,12 @@
 
 mod lexing;
 mod places;
+#[cfg(test)]
+mod tests;
 mod words;
 
 ghost use Rattle.lois_lexer.specs.declared.LexError.TheVariants.{NoMemory};
-ghost use Rattle.std.specs.Prelude.{◌≡◌};
+ghost use Rattle.std.specs.Prelude.{◌≡◌, ◌≤◌, length};
 
 pub use lexing::{lex, one_reading, written_is_read};
 pub use places::place_of;
@@ -30,6 +32,19 @@ pub struct Token {
     pub kind: TokenKind,
     pub from: usize,
     pub to: usize,
+}
+
+impl Token {
+    ghost use Rattle.lois_lexer.specs.Tokens.{bytes_of};
+
+    /// The bytes of the token in its text.
+    pub fn bytes<'a>(&self, text: &'a [u8]) -> &'a [u8]
+        requires forward { self.now.from ≤ self.now.to }
+        requires within { self.now.to ≤ length text.now }
+        ensures { result.now ≡ bytes_of text.now self.now }
+    {
+        &text[self.from..self.to]
+    }
 }
 
 /// A line and a column of a text, in bytes, both counted from 1.
