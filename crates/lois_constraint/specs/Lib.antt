@@ -1,0 +1,5 @@
+pub mod Substitution
+pub mod Alternatives
+pub mod Steps
+pub mod Rules
+pub mod Tight

@@ -1,0 +1,52 @@
+//! Negation, one cube after another, pruned after each.
+
+ghost use Rattle.std.specs.Prelude.{◌≡◌, ℕ, Bool, List, ◌∷◌, [], ◌++◌, not, map, IfOk, OnOk};
+ghost use Rattle.lois_base.specs.Atom.{Atom};
+ghost use Rattle.lois_base.specs.Fits.{ConstraintFits};
+ghost use Rattle.lois_base.specs.Truth.{holds};
+ghost use Rattle.lois_base.specs.Validity.{AdmitsConstraint, UsesOnly};
+ghost use Rattle.lois_constraint.specs.Alternatives.{alternatives, denials};
+
+use crate::conflicts::alternatives;
+use crate::pruning::meet;
+use lois_base::{Constraint, Cube, Lit, NoMemory};
+use std::alloc::Global;
+
+// each alternative of the literal as a cube
+fn deny(alloc: Global, denied: &mut Constraint, lit: Lit) -> Result<(), NoMemory>
+    ensures { OnOk result (denied.new ≡ denied.old ++ map (λ m. m ∷ []) (alternatives lit)) }
+{
+    let others = alternatives(alloc, lit)?;
+    for other in others.as_slice() {
+        let mut cube = Cube::new(alloc);
+        cube.push(*other)?;
+        denied.push(cube)?;
+    }
+    Ok(())
+}
+
+fn denied(alloc: Global, cube: &Cube) -> Result<Constraint, NoMemory>
+    ensures { IfOk result (λ r. r ≡ denials cube.now) }
+{
+    let mut denied = Constraint::new(alloc);
+    for lit in cube.as_slice() {
+        deny(alloc, &mut denied, *lit)?;
+    }
+    Ok(denied)
+}
+
+/// A constraint that holds exactly where the given one doesn't, pruned.
+pub fn negate(alloc: Global, c: &Constraint) -> Result<Constraint, NoMemory>
+    ensures truth { IfOk result (λ r. (e : List Atom) → holds e r ≡ not (holds e c.now)) }
+    ensures levels { IfOk result (UsesOnly c.now) }
+    ensures fits { IfOk result (λ r. (n : ℕ) → ConstraintFits n c.now → ConstraintFits n r) }
+    ensures operators { IfOk result (λ r. (o : Bool) → AdmitsConstraint o c.now → AdmitsConstraint o r) }
+{
+    let mut negated = Constraint::new(alloc);
+    negated.push(Cube::new(alloc))?;
+    for cube in c.as_slice() {
+        let refused = denied(alloc, cube)?;
+        negated = meet(alloc, &negated, &refused)?;
+    }
+    Ok(negated)
+}
