@@ -1,6 +1,6 @@
 -- Where no equation has a level, its bounds say that some atom meets the cube.
 use Rattle.std.proofs.Common.{◌≡◌, ℕ, ◌+◌, ◌<◌, Bool, true, false, not, ◌&&◌, ◌||◌, ◌==◌, if◌then◌else◌, List, [], ◌∷◌, ◌++◌, length, map, arith, refl, sym, ◌∙◌, eq-eqb}
-use Rattle.std.proofs.lemmas.Bool.{cases_Bool, and_from, and_parts, ne_eqb}
+use Rattle.std.proofs.lemmas.Bool.{cases_Bool, and_from, and_parts, ne_eqb, or_parts}
 use Rattle.std.proofs.lemmas.List.Elements.{recursion_from_All}
 use Rattle.std.specs.Bool.{IsTrue, IsFalse}
 use Rattle.std.specs.List.{All, AllByRecursion, filter, list_all, list_any}
@@ -32,10 +32,6 @@ other x l = if l.left == x then l.right else l.left
 
 not_equal : (a b : Atom) → equal b a ≡ false → not (equal a b) ≡ true
 not_equal a b n = elim (cases_Bool (equal a b)) [ inl y ↦ absurd (let e = equal_sym a b y in cc) | inr m ↦ rw m ]
-
-or_parts : (a b : Bool) → (a || b) ≡ false → (a ≡ false) × (b ≡ false)
-or_parts true b h = absurd (cc)
-or_parts false b h = (refl, h)
 
 -- a literal holds where the new atom meets its bounds
 record Meets (c : List Atom) (a : Atom) (x : ℕ) (l : Lit) : Type 0 where
