@@ -56,9 +56,21 @@ fn eliminates(
 #[test]
 fn levels_are_eliminated(rt: HostRuntime) -> Result<(), Fail> {
     let alloc = rt.alloc();
-    eliminates(&rt, alloc, &[equal(2, 0), apart(2, 1)], 2, Some(&[apart(0, 1)]))?;
+    eliminates(
+        &rt,
+        alloc,
+        &[equal(2, 0), apart(2, 1)],
+        2,
+        Some(&[apart(0, 1)]),
+    )?;
     eliminates(&rt, alloc, &[apart(2, 0), apart(1, 2)], 2, Some(&[]))?;
-    eliminates(&rt, alloc, &[equal(2, 0), equal(1, 2)], 2, Some(&[equal(1, 0)]))?;
+    eliminates(
+        &rt,
+        alloc,
+        &[equal(2, 0), equal(1, 2)],
+        2,
+        Some(&[equal(1, 0)]),
+    )?;
     eliminates(&rt, alloc, &[equal(1, 0), apart(0, 1)], 1, None)?;
     eliminates(&rt, alloc, &[apart(0, 1), apart(2, 2)], 2, None)?;
     eliminates(&rt, alloc, &[], 0, Some(&[]))?;
