@@ -1,9 +1,9 @@
 -- Where no equation has a level, its bounds say that some atom meets the cube.
 use Rattle.std.proofs.Common.{◌≡◌, ℕ, ◌+◌, ◌<◌, Bool, true, false, not, ◌&&◌, ◌||◌, ◌==◌, if◌then◌else◌, List, [], ◌∷◌, ◌++◌, length, map, arith, refl, sym, ◌∙◌, eq-eqb}
-use Rattle.std.proofs.lemmas.Bool.{cases_Bool, and_from, and_parts, ne_eqb}
+use Rattle.std.proofs.lemmas.Bool.{cases_Bool, and_from, and_parts, ne_eqb, or_parts}
 use Rattle.std.proofs.lemmas.List.Elements.{recursion_from_All}
 use Rattle.std.specs.Bool.{IsTrue, IsFalse}
-use Rattle.std.specs.List.{All, AllByRecursion, filter, list_all, list_any}
+use Rattle.std.specs.List.{All, AllByRecursion, filter, list_any}
 use mathlib.Core.Logic.{◌⊎◌, inl, inr}
 use Rattle.lois_base.specs.Atom.{Atom, equal, below}
 use Rattle.lois_base.specs.Fits.{LitFits, CubeFits}
@@ -13,7 +13,9 @@ use Rattle.lois_base.specs.declared.guards.Op.{Op}
 use Rattle.lois_base.specs.declared.guards.Op.TheVariants.{Eq, Ne, Lt}
 use Rattle.lois_base.proofs.Gaps.{IsBelow, IsAbove, one_new_between}
 use Rattle.lois_base.proofs.Order.{equal_refl, equal_sym, below_trans}
-use Rattle.lois_order.specs.Literals.{is_eq, is_lt, is_absurd, equates, is_lower, is_upper, is_below, remains}
+use Rattle.lois_order.specs.Bounds.{JoinsBounds, is_lt, is_lower, is_upper, is_below, remains}
+use Rattle.lois_order.specs.Cubes.{is_eq, is_absurd}
+use Rattle.lois_order.specs.Equations.{equates}
 use Rattle.lois_order.proofs.Choices.{Last, Earlier, place}
 use Rattle.lois_order.proofs.Each.{weaker, each_out, each_in, filtered_in, filtered_out}
 use Rattle.lois_order.proofs.Projects.{Projects}
@@ -32,10 +34,6 @@ other x l = if l.left == x then l.right else l.left
 
 not_equal : (a b : Atom) → equal b a ≡ false → not (equal a b) ≡ true
 not_equal a b n = elim (cases_Bool (equal a b)) [ inl y ↦ absurd (let e = equal_sym a b y in cc) | inr m ↦ rw m ]
-
-or_parts : (a b : Bool) → (a || b) ≡ false → (a ≡ false) × (b ≡ false)
-or_parts true b h = absurd (cc)
-or_parts false b h = (refl, h)
 
 -- a literal holds where the new atom meets its bounds
 record Meets (c : List Atom) (a : Atom) (x : ℕ) (l : Lit) : Type 0 where
@@ -148,7 +146,7 @@ module _ (c : List Atom) (x : ℕ) (cube : List Lit) where
   meets a [] r lo up ap = tt
   meets a (l ∷ ls) r lo up ap = (record { lower = lo.0; upper = up.0; apart = ap.0; rest = kept l r.0 }, meets a ls r.1 lo.1 up.1 ap.1)
 
-pub joined_projects : (x : ℕ) (cube r : List Lit) → CubeFits (x + 1) cube → list_any is_absurd cube ≡ false → list_any (equates x) cube ≡ false → ((c : List Atom) → cube_holds c r ≡ list_all (remains c x cube) cube) → Projects x cube r
+pub joined_projects : (x : ℕ) (cube r : List Lit) → CubeFits (x + 1) cube → list_any is_absurd cube ≡ false → list_any (equates x) cube ≡ false → JoinsBounds x cube r → Projects x cube r
 joined_projects x cube r fits na ne s c e = (some, back)
   where
     f : AllByRecursion (LitFits (x + 1)) cube

@@ -11,7 +11,7 @@ use Rattle.lois_base.specs.declared.guards.Lit.{Lit}
 use Rattle.lois_base.specs.declared.guards.Op.{Op}
 use Rattle.lois_base.specs.declared.guards.Op.TheVariants.{Eq, Ne, Lt}
 use Rattle.lois_base.proofs.Order.{equal_refl, below_irrefl}
-use Rattle.lois_order.specs.Literals.{is_eq, is_absurd}
+use Rattle.lois_order.specs.Cubes.{is_eq, is_absurd}
 
 abbrev pub Projects : ℕ → List Lit → List Lit → Type 0
 Projects x cube r =

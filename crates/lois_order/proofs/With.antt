@@ -11,7 +11,7 @@ use Rattle.lois_base.specs.Truth.{atom_at, lit_holds, cube_holds}
 use Rattle.lois_base.specs.declared.guards.Lit.{Lit}
 use Rattle.lois_base.specs.declared.guards.Op.TheVariants.{Eq}
 use Rattle.lois_base.proofs.Order.{equal_refl}
-use Rattle.lois_order.specs.Literals.{Entails, IsWith}
+use Rattle.lois_order.specs.Cubes.{Entails, IsWith}
 
 and_right : (a b : Bool) → (a ≡ true → b ≡ true) → a ≡ (a && b)
 and_right a b f = elim (cases_Bool a) [ inl y ↦ let e : b ≡ true = f y in cc | inr n ↦ cc ]

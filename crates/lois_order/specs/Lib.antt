@@ -1,1 +1,3 @@
-pub mod Literals
+pub mod Cubes
+pub mod Equations
+pub mod Bounds

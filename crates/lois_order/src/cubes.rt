@@ -2,7 +2,7 @@
 
 ghost use Rattle.std.specs.Prelude.{◌≡◌, OnOk};
 ghost use Rattle.std.specs.List.{list_any};
-ghost use Rattle.lois_order.specs.Literals.{is_absurd, IsWith};
+ghost use Rattle.lois_order.specs.Cubes.{is_absurd, IsWith};
 
 use lois_base::{Cube, Lit, NoMemory, Op};
 

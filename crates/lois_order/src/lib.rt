@@ -4,5 +4,7 @@
 mod atoms;
 mod cubes;
 mod rule;
+#[cfg(test)]
+mod tests;
 
 pub use atoms::OrderAtoms;

@@ -1,12 +1,11 @@
 //! How a level is eliminated from a cube.
 
-ghost use Rattle.std.specs.Prelude.{◌≡◌, ◌+◌, ◌<◌, ◌&&◌, false, List, map, IfOk, IfSome, IfNone, OnOk};
-ghost use Rattle.std.specs.List.{list_all, list_any};
-ghost use Rattle.lois_base.specs.Atom.{Atom};
+ghost use Rattle.std.specs.Prelude.{◌≡◌, ◌+◌, ◌<◌, false, map, IfOk, IfSome, IfNone, OnOk};
+ghost use Rattle.std.specs.List.{list_any};
 ghost use Rattle.lois_base.specs.Fits.{CubeFits};
-ghost use Rattle.lois_base.specs.Truth.{cube_holds};
 ghost use Rattle.lois_base.specs.Validity.{IsOrderFreeCube};
-ghost use Rattle.lois_order.specs.Literals.{renamed_level, renamed, is_lower, is_upper, equates, Equates, is_below, remains};
+ghost use Rattle.lois_order.specs.Bounds.{is_lower, is_upper, AddsLowerBounds, JoinsBounds};
+ghost use Rattle.lois_order.specs.Equations.{equates, Equates, renamed_level, renamed, AreEquivalent};
 
 use crate::cubes::add;
 use lois_base::{Cube, Lit, NoMemory, Op};
@@ -40,22 +39,18 @@ fn renamed_to(level: usize, from: usize, to: usize) -> usize
 pub fn substituted(alloc: Global, cube: &Cube, from: usize, to: usize) -> Result<Cube, NoMemory>
     requires other { to < from }
     requires levels { CubeFits (from + 1) cube.now }
-    ensures holds { IfOk result (λ r. (c : List Atom) → cube_holds c r ≡ cube_holds c (map (renamed from to) cube.now)) }
+    ensures holds { IfOk result (AreEquivalent (map (renamed from to) cube.now)) }
     ensures levels { IfOk result (CubeFits from) }
     ensures order { IfOk result (λ r. IsOrderFreeCube cube.now → IsOrderFreeCube r) }
 {
     let mut answer = Cube::new(alloc);
     for lit in cube.as_slice() {
-        let left = renamed_to(lit.left, from, to);
-        let right = renamed_to(lit.right, from, to);
-        add(
-            &mut answer,
-            Lit {
-                op: lit.op,
-                left,
-                right,
-            },
-        )?;
+        let renamed = Lit {
+            op: lit.op,
+            left: renamed_to(lit.left, from, to),
+            right: renamed_to(lit.right, from, to),
+        };
+        add(&mut answer, renamed)?;
     }
     Ok(answer)
 }
@@ -72,11 +67,11 @@ fn bounds_above(lit: &Lit, level: usize) -> bool
     lit.op == Op::Lt && lit.left == level && lit.right != level
 }
 
-/// The cube without the level, where no equation has it: the literals that don't speak of it,
-/// and that each lower bound of it is below each upper bound.
+/// What a cube says without the level, where no equation has it: the literals that don't speak
+/// of it, and that each lower bound of it is below each upper bound.
 pub fn joined(alloc: Global, cube: &Cube, level: usize) -> Result<Cube, NoMemory>
     requires { CubeFits (level + 1) cube.now }
-    ensures holds { IfOk result (λ r. (c : List Atom) → cube_holds c r ≡ list_all (remains c level cube.now) cube.now) }
+    ensures holds { IfOk result (JoinsBounds level cube.now) }
     ensures levels { IfOk result (CubeFits level) }
     ensures order { IfOk result (λ r. IsOrderFreeCube cube.now → IsOrderFreeCube r) }
 {
@@ -101,21 +96,17 @@ fn add_lower_bounds(
     requires other { upper < level }
     requires levels { CubeFits (level + 1) cube.now }
     requires answer { CubeFits level answer.old }
-    ensures holds { OnOk result
-        ((c : List Atom) →
-        cube_holds c answer.new ≡ (cube_holds c answer.old && list_all (is_below c level upper) cube.now)) }
+    ensures holds { OnOk result (AddsLowerBounds level upper cube.now answer.old answer.new) }
     ensures levels { OnOk result (CubeFits level answer.new) }
 {
     for lit in cube.as_slice() {
         if bounds_below(lit, level) {
-            add(
-                answer,
-                Lit {
-                    op: Op::Lt,
-                    left: lit.left,
-                    right: upper,
-                },
-            )?;
+            let bound = Lit {
+                op: Op::Lt,
+                left: lit.left,
+                right: upper,
+            };
+            add(answer, bound)?;
         }
     }
     Ok(())

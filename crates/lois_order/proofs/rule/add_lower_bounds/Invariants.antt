@@ -3,7 +3,7 @@ use Rattle.std.specs.List.{list_all}
 use Rattle.lois_base.specs.Atom.{Atom}
 use Rattle.lois_base.specs.Fits.{CubeFits}
 use Rattle.lois_base.specs.Truth.{cube_holds}
-use Rattle.lois_order.specs.Literals.{is_below}
+use Rattle.lois_order.specs.Bounds.{is_below}
 use Rattle.lois_order.proofs.rule.add_lower_bounds.Given as goal
 
 abbrev pub invariant-loop-lit : goal.invariant-loop-lit

@@ -1,6 +1,6 @@
 use Rattle.std.proofs.Common.{◌≡◌, drop}
 use Rattle.std.specs.List.{list_any}
-use Rattle.lois_order.specs.Literals.{equates}
+use Rattle.lois_order.specs.Equations.{equates}
 use Rattle.lois_order.proofs.rule.equated.Given as goal
 
 abbrev pub invariant-loop-lit : goal.invariant-loop-lit

@@ -4,7 +4,7 @@ use Rattle.lois_base.specs.Atom.{Atom}
 use Rattle.lois_base.specs.Fits.{CubeFits}
 use Rattle.lois_base.specs.Truth.{cube_holds}
 use Rattle.lois_base.specs.Validity.{IsOrderFreeCube}
-use Rattle.lois_order.specs.Literals.{remains}
+use Rattle.lois_order.specs.Bounds.{remains}
 use Rattle.lois_order.proofs.rule.joined.Given as goal
 
 abbrev pub invariant-loop-lit : goal.invariant-loop-lit

@@ -3,7 +3,7 @@ use Rattle.lois_base.specs.Atom.{Atom}
 use Rattle.lois_base.specs.Fits.{CubeFits}
 use Rattle.lois_base.specs.Truth.{cube_holds}
 use Rattle.lois_base.specs.Validity.{IsOrderFreeCube}
-use Rattle.lois_order.specs.Literals.{renamed}
+use Rattle.lois_order.specs.Equations.{renamed}
 use Rattle.lois_order.proofs.rule.substituted.Given as goal
 
 abbrev pub invariant-loop-lit : goal.invariant-loop-lit

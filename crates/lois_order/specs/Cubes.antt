@@ -1,0 +1,24 @@
+-- Literals that say nothing new, and literals that can't hold.
+use Rattle.std.specs.Prelude.{◌≡◌, ◌⊎◌, Bool, true, false, not, ◌&&◌, ◌==◌, List, [], ◌∷◌, ◌++◌, IsTrue}
+use Rattle.lois_base.specs.Atom.{Atom}
+use Rattle.lois_base.specs.Truth.{lit_holds, cube_holds}
+use Rattle.lois_base.specs.declared.guards.Lit.{Lit}
+use Rattle.lois_base.specs.declared.guards.Op.{Op}
+use Rattle.lois_base.specs.declared.guards.Op.TheVariants.{Eq, Ne, Lt}
+
+abbrev pub is_eq : Op → Bool
+is_eq Eq = true
+is_eq Ne = false
+is_eq Lt = false
+
+-- a level below itself, or apart from itself
+abbrev pub is_absurd : Lit → Bool
+is_absurd l = (l.left == l.right) && not (is_eq l.op)
+
+-- the literal holds wherever the cube does
+abbrev pub Entails : List Lit → Lit → Type 0
+Entails cube l = (c : List Atom) → IsTrue (cube_holds c cube) → IsTrue (lit_holds c l)
+
+-- the cube with one more literal, or as it was where it entails that one
+abbrev pub IsWith : List Lit → List Lit → Lit → Type 0
+IsWith old new l = (new ≡ old ++ l ∷ []) ⊎ ((new ≡ old) × Entails old l)
