@@ -1,20 +1,22 @@
 -- The small expressions and scripts mean what is said of them.
-use Rattle.std.proofs.Common.{◌≡◌, IsFalse, ℕ, zero, suc, ◌<◌, Bool, true, false, List, [], ◌∷◌, ◌++◌, length, take, ◌⊎◌, refl, sym, ap, ◌∙◌, subst, Some, arith, append-nil, get_or, true≢false}
+use Rattle.std.proofs.Common.{◌≡◌, IsFalse, ℕ, zero, suc, ◌+◌, ◌<◌, ◌≤◌, map, All, bytes_eq, Bool, true, false, List, [], ◌∷◌, ◌++◌, length, take, ◌⊎◌, refl, sym, ap, ◌∙◌, subst, Some, arith, append-nil, get_or, true≢false}
 use mathlib.Core.Logic.{inl, inr}
+use Rattle.std.specs.List.{IsDistinct}
+use Rattle.std.proofs.lemmas.List.Elements.{All-nil, All-cons}
 use Rattle.lois_base.specs.Atom.{Atom, equal}
 use Rattle.lois_base.specs.Data.{TermD, tup, term, no_terms}
 use Rattle.lois_base.specs.Truth.{atom_at}
-use Rattle.lois_base.specs.Values.{PointValue, point, IsExtension, IsMember, IsSame, IsIn, SameAt, DeeperAt}
+use Rattle.lois_base.specs.Values.{PointValue, point, IsProper, IsExtension, IsMember, IsSame, IsIn, SameAt, DeeperAt}
 use Rattle.lois_base.proofs.Members.{same_refl, same_sym, same_trans, member_in, same_in}
 use Rattle.lois_base.proofs.Order.{equal_refl}
 use Rattle.lois_meaning.specs.Automata.{IsTriple, JoinsStates, HasStep, Accepts}
-use Rattle.lois_meaning.specs.Examples.{assert_alike, name_a, name_b, name_p, name_q, name_s, name_x, name_y, the, only_item, empty_set, all_atoms, atom_value, tag_value, AtomsAreAll, EachAtomIsAll, ParametersAreAtoms, add_alone, add_each_alone, CopiesArePrivate, IdleLoopsEnd, MakesTurns, TurnsAreExact, two_prints, PrintsTwoLines, AddsToSetsAlone, PathsNameElements, one_atom_machine, AcceptsOneAtom}
+use Rattle.lois_meaning.specs.Examples.{nested, nested_term, DepthIsExact, OpensStores, parameter_name, assert_alike, name_a, name_b, name_p, name_q, name_s, name_x, name_y, the, only_item, empty_set, all_atoms, atom_value, tag_value, AtomsAreAll, EachAtomIsAll, ParametersAreAtoms, add_alone, add_each_alone, CopiesArePrivate, IdleLoopsEnd, MakesTurns, TurnsAreExact, two_prints, PrintsTwoLines, AddsToSetsAlone, PathsNameElements, one_atom_machine, AcceptsOneAtom}
 use Rattle.lois_meaning.specs.Expressions.{Given, Makes, Reaches, Gives, HasTruth, IsTruthOf}
 use Rattle.lois_meaning.specs.Faults.{Fails}
 use Rattle.lois_meaning.specs.Kinds.{IsAtomAt, IsTagTerm, IsSetTerm, IsAtomValue, IsTagValue, HasParts, IsSet, IsSetOf, AreSame}
 use Rattle.lois_meaning.specs.Runs.{Ending, BlockEnds, TurnsEnd, IsGathered, AreGathered, StmtEnds, ListEnds, StmtFails, ScriptEnds}
-use Rattle.lois_meaning.specs.Store.{named, NamedValues, looked_up, stored, AreSameNamed, IsShallow, depth_limit}
-use Rattle.lois_meaning.specs.Tree.{ExprD, atoms, listed, no_exprs, binding, no_bindings, bind, CondD, truth, same, for, while, assert, StmtsD, no_stmts, stmt}
+use Rattle.lois_meaning.specs.Store.{named, NamedValues, looked_up, stored, AreSameNamed, IsShallow, depth_limit, name_of, opening_from}
+use Rattle.lois_meaning.specs.Tree.{ExprD, atoms, listed, no_exprs, binding, no_bindings, bind, CondD, truth, same, for, while, assert, StmtsD, no_stmts, stmt, ParamD}
 use Rattle.lois_meaning.specs.declared.faults.FaultKind.TheVariants.{Assertion, TurnLimit}
 use Rattle.lois_meaning.specs.declared.faults.FaultKind.{FaultKind}
 use Rattle.lois_meaning.proofs.Alike.{is_atom_same, atoms_same, atom_equal, set_of_shift, is_tag_same, parts_same, parts_both}
@@ -133,6 +135,48 @@ singleton_is m = (tt, λ w. (to w, from w))
 singleton_shallow : (m : PointValue) (a : Atom) → IsAtomValue m a → IsShallow (singleton m)
 singleton_shallow m a h (inl (e, x, deep)) = flat m.term_of m.choice (m.choice ++ e) a 63 h deep
 singleton_shallow m a h (inr q) = q
+
+not_deeper : (k n : ℕ) (c : List Atom) → k < n → DeeperAt (nested_term k) c n → ⊥
+not_deeper k zero c l deep = absurd (omega (arith, l))
+not_deeper zero (suc n) c l deep = deep
+not_deeper (suc k) (suc n) c l (inl (e, x, deep)) = not_deeper k n (c ++ e) (omega (arith, l)) deep
+not_deeper (suc k) (suc n) c l (inr q) = q
+
+deeper : (k n : ℕ) (c : List Atom) → n ≤ k → DeeperAt (nested_term k) c n
+deeper zero zero c l = tt
+deeper (suc k) zero c l = tt
+deeper zero (suc n) c l = absurd (omega (arith, l))
+deeper (suc k) (suc n) c l = inl ([], holds_always c [], deeper k n (c ++ []) (omega (arith, l)))
+
+nested_makes : (k : ℕ) (s : NamedValues) → k ≤ depth_limit → Makes (nested k) s (point (nested_term k) [])
+nested_makes zero s l = ([], refl, (tt, λ w. ((λ i. i.1), (λ q. absurd q))))
+nested_makes (suc k) s l =
+    let inner : PointValue = point (nested_term k) [] in (
+      inner ∷ [],
+      (inner, [], refl, (nested_makes k s (omega (arith, l)), λ deep. not_deeper k depth_limit [] (omega (arith, l)) deep), refl),
+      set_of_shift (λ w. IsSame w inner) _ (singleton inner) (λ w q. inl q) (λ w q. elim q [ inl h ↦ h | inr h ↦ absurd h ]) (singleton_is inner),
+    )
+
+pub depth_is_exact : DepthIsExact
+depth_is_exact = record {
+  given = λ k s l. (nested_makes k s (omega (arith, l)), λ deep. not_deeper k depth_limit [] l deep);
+  fails = λ p k s e. inr (refl, refl, point (nested_term (suc k)) [], nested_makes (suc k) s (omega (arith, e)), deeper (suc k) depth_limit [] (omega (arith, e)));
+}
+
+opening_names : (ps : List ParamD) (c : List Atom) (i : ℕ) → map parameter_name ps ≡ map name_of (opening_from ps c i)
+opening_names [] c i = refl
+opening_names (p ∷ ps) c i = ap (λ z. p.name ∷ z) (opening_names ps c (i + 1))
+
+opening_proper : (ps : List ParamD) (c : List Atom) (i : ℕ) → i + length ps ≤ length c → All (λ b. IsProper b.holds) (opening_from ps c i)
+opening_proper [] c i l = All-nil (λ b. IsProper b.holds)
+opening_proper (p ∷ ps) c i l =
+    All-cons (λ b. IsProper b.holds) (named p.name (point (TermD.var i) c)) (opening_from ps c (i + 1)) (omega (arith, l)) (opening_proper ps c (i + 1) (omega (arith, l)))
+
+pub opens_stores : OpensStores
+opens_stores ps c h e = record {
+  distinct = subst (λ z. IsDistinct bytes_eq z) (opening_names ps c 0) h;
+  proper = opening_proper ps c 0 (omega (arith, e));
+}
 
 abbrev during : PointValue → NamedValues
 during m = named name_s empty_set ∷ named name_x m ∷ []

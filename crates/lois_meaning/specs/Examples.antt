@@ -1,6 +1,7 @@
 -- Small expressions and scripts, and what they mean. Each fact here is proved of the definitions, and shows that they mean
 -- what they should. Places are 0 where nothing is said of them.
-use Rattle.std.specs.Prelude.{◌≡◌, ℕ, ◌<◌, ◌≤◌, false, List, [], ◌∷◌, ◌↔◌, Some, IsFalse}
+use Rattle.std.specs.Prelude.{◌≡◌, ℕ, zero, suc, ◌+◌, ◌<◌, ◌≤◌, false, List, [], ◌∷◌, length, map, bytes_eq, ◌↔◌, Some, IsFalse}
+use Rattle.std.specs.List.{IsDistinct}
 use Rattle.lois_base.specs.Atom.{Atom, equal}
 use Rattle.lois_base.specs.Data.{TermD, tag, tup, coll, no_terms, term, comp, no_comps, more}
 use Rattle.lois_base.specs.Values.{PointValue, point, IsMember, IsSame, IsIn}
@@ -9,8 +10,8 @@ use Rattle.lois_meaning.specs.Expressions.{Gives, HasTruth}
 use Rattle.lois_meaning.specs.Faults.{Fails}
 use Rattle.lois_meaning.specs.Kinds.{IsAtomValue, IsSet}
 use Rattle.lois_meaning.specs.Runs.{BlockEnds, TurnsEnd, StmtEnds, ListEnds, StmtFails, ScriptEnds}
-use Rattle.lois_meaning.specs.Store.{named, NamedValues, looked_up, stored, AreSameNamed, opening}
-use Rattle.lois_meaning.specs.Tree.{ExprD, atoms, listed, each, no_exprs, expr, binding, no_bindings, bind, CondD, truth, same, StmtD, «let», add, for, while, assert, print, StmtsD, no_stmts, stmt, ScriptD}
+use Rattle.lois_meaning.specs.Store.{named, NamedValues, looked_up, stored, AreSameNamed, IsStore, opening, depth_limit}
+use Rattle.lois_meaning.specs.Tree.{ExprD, atoms, listed, each, no_exprs, expr, binding, no_bindings, bind, CondD, truth, same, StmtD, «let», add, for, while, assert, print, StmtsD, no_stmts, stmt, ParamD, ScriptD}
 use Rattle.lois_meaning.specs.declared.faults.FaultKind.{FaultKind}
 use Rattle.lois_meaning.specs.declared.faults.FaultKind.TheVariants.{Assertion, TurnLimit, DepthLimit}
 
@@ -39,6 +40,9 @@ name_y = 121 ∷ []
 -- a name as an expression
 abbrev pub the : List ℕ → ExprD
 the x = ExprD.var 0 x
+
+abbrev pub parameter_name : ParamD → List ℕ
+parameter_name p = p.name
 
 -- the set of one item, whatever the atoms are; of its items for all atoms; the empty set; all atoms; one atom; a tag
 abbrev pub only_item : TermD → TermD
@@ -75,6 +79,26 @@ abbrev pub ParametersAreAtoms : Type 0
 ParametersAreAtoms = (c d : Atom) →
     HasTruth (same (the name_a) (the name_b))
     (opening (record { place = 0; name = name_a } ∷ record { place = 0; name = name_b } ∷ []) (c ∷ d ∷ [])) (equal c d)
+
+-- `{}` within k pairs of braces
+abbrev pub nested : ℕ → ExprD
+nested zero = listed 0 no_exprs
+nested (suc k) = listed 0 (expr (nested k) no_exprs)
+
+abbrev pub nested_term : ℕ → TermD
+nested_term zero = coll no_comps
+nested_term (suc k) = only_item (nested_term k)
+
+-- A value that is as deep as the limit is given; one more pair of braces fails for depth, at its own place.
+pub record DepthIsExact : Type 0 where
+  pub given : (k : ℕ) (s : NamedValues) → k < depth_limit → Gives (nested k) s (point (nested_term k) [])
+  pub fails : (p k : ℕ) (s : NamedValues) → k + 1 ≡ depth_limit →
+      Fails (listed p (expr (nested k) no_exprs)) s p DepthLimit
+
+-- The opening store is one, where the parameters are distinct and the choice has an atom for each.
+abbrev pub OpensStores : Type 0
+OpensStores = (ps : List ParamD) (c : List Atom) →
+    IsDistinct bytes_eq (map parameter_name ps) → length c ≡ length ps → IsStore (opening ps c)
 
 -- for x in atoms { add x to s; assert s = {x}; }
 abbrev pub add_alone : StmtsD

@@ -1,6 +1,6 @@
 //! The laws of the meaning: each function does nothing, and its contract states a law that is proved.
 
-ghost use Rattle.lois_meaning.specs.Examples.{AtomsAreAll, EachAtomIsAll, ParametersAreAtoms, CopiesArePrivate, IdleLoopsEnd, TurnsAreExact, PrintsTwoLines, AddsToSetsAlone, PathsNameElements, AcceptsOneAtom};
+ghost use Rattle.lois_meaning.specs.Examples.{AtomsAreAll, EachAtomIsAll, ParametersAreAtoms, DepthIsExact, OpensStores, CopiesArePrivate, IdleLoopsEnd, TurnsAreExact, PrintsTwoLines, AddsToSetsAlone, PathsNameElements, AcceptsOneAtom};
 ghost use Rattle.lois_meaning.specs.Laws.{RunsAlike, IsDetermined, NeverBoth, KeepsNames};
 
 /// Stores that are the same give the same values, truths, failures and ends.
@@ -28,6 +28,8 @@ pub fn examples_mean_what_they_should()
     ensures atoms { AtomsAreAll }
     ensures each_atom { EachAtomIsAll }
     ensures parameters { ParametersAreAtoms }
+    ensures depth { DepthIsExact }
+    ensures opening_stores { OpensStores }
     ensures private_copies { CopiesArePrivate }
     ensures idle_loops { IdleLoopsEnd }
     ensures turns { TurnsAreExact }

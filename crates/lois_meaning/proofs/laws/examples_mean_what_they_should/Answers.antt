@@ -1,4 +1,4 @@
-use Rattle.lois_meaning.proofs.SmallLaws.{atoms_are_all, each_atom_is_all, parameters_are_atoms, copies_are_private, idle_loops_end, turns_are_exact, prints_two_lines, adds_to_sets_alone, paths_name_elements, accepts_one_atom}
+use Rattle.lois_meaning.proofs.SmallLaws.{atoms_are_all, each_atom_is_all, parameters_are_atoms, depth_is_exact, opens_stores, copies_are_private, idle_loops_end, turns_are_exact, prints_two_lines, adds_to_sets_alone, paths_name_elements, accepts_one_atom}
 use Rattle.lois_meaning.proofs.laws.examples_mean_what_they_should.Goals as goal
 
 pub returns-clause-atoms : goal.returns-clause-atoms
@@ -30,3 +30,9 @@ returns-clause-paths c = paths_name_elements
 
 pub returns-clause-automaton : goal.returns-clause-automaton
 returns-clause-automaton c = accepts_one_atom
+
+pub returns-clause-depth : goal.returns-clause-depth
+returns-clause-depth c = depth_is_exact
+
+pub returns-clause-opening_stores : goal.returns-clause-opening_stores
+returns-clause-opening_stores c = opens_stores
