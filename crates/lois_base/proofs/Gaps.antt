@@ -23,9 +23,6 @@ module _ (a b : Atom) where
   above_higher : (ls : List Atom) → IsFalse (below b a) → IsAbove ls a → IsAbove ls b
   above_higher ls h = All-weaker (λ l. IsTrue (below l a)) (λ l. IsTrue (below l b)) (λ l k. below_at_most l a b k h) ls
 
-not_above : (a b : Atom) → IsTrue (below a b) → IsFalse (below b a)
-not_above a b h = grind (arith, below_asym)
-
 pub one_below : (us : List Atom) → (m : Atom) × IsBelow us m
 one_below [] = (whole 0, All-nil (λ u. IsTrue (below (whole 0) u)))
 one_below (u ∷ us) = go (one_below us)
@@ -37,7 +34,7 @@ one_below (u ∷ us) = go (one_below us)
         pick (inl y) = (m, All-cons (λ u. IsTrue (below m u)) u us y h)
         pick (inr n) =
             let b = lower u in
-            (b.0, All-cons (λ u. IsTrue (below b.0 u)) u us b.1 (below_lower b.0 m us (not_above b.0 m (below_at_most b.0 u m b.1 n)) h))
+            (b.0, All-cons (λ u. IsTrue (below b.0 u)) u us b.1 (below_lower b.0 m us (below_asym b.0 m (below_at_most b.0 u m b.1 n)) h))
 
 pub one_above_below : (l : Atom) (us : List Atom) → IsBelow us l → (m : Atom) × IsTrue (below l m) × IsBelow us m
 one_above_below l [] h =
@@ -51,7 +48,7 @@ one_above_below l (u ∷ us) h = go (one_above_below l us (All-tail (λ u. IsTru
         pick (inl y) = (m, k, All-cons (λ u. IsTrue (below m u)) u us y j)
         pick (inr n) =
             let b = between l u (All-head (λ u. IsTrue (below l u)) u us h) in
-            (b.0, b.1, All-cons (λ u. IsTrue (below b.0 u)) u us b.2 (below_lower b.0 m us (not_above b.0 m (below_at_most b.0 u m b.2 n)) j))
+            (b.0, b.1, All-cons (λ u. IsTrue (below b.0 u)) u us b.2 (below_lower b.0 m us (below_asym b.0 m (below_at_most b.0 u m b.2 n)) j))
 
 -- above all of ls and below all of us
 pub one_between : (ls us : List Atom) → All (IsBelow us) ls → (m : Atom) × IsAbove ls m × IsBelow us m
@@ -65,7 +62,7 @@ one_between (l ∷ ls) us h = go (one_between ls us (All-tail (IsBelow us) l ls 
         pick (inl y) = (m, All-cons (λ l. IsTrue (below l m)) l ls y k, j)
         pick (inr n) =
             let b = one_above_below l us (All-head (IsBelow us) l ls h) in
-            (b.0, All-cons (λ l. IsTrue (below l b.0)) l ls b.1 (above_higher m b.0 ls (not_above m b.0 (at_most_below m l b.0 n b.1)) k), b.2)
+            (b.0, All-cons (λ l. IsTrue (below l b.0)) l ls b.1 (above_higher m b.0 ls (below_asym m b.0 (at_most_below m l b.0 n b.1)) k), b.2)
 
 below_all : (a : Atom) (us : List Atom) → IsBelow us a ⊎ ((u : Atom) × IsFalse (below a u) × ((m : Atom) → IsBelow us m → IsTrue (below m u)))
 below_all a [] = inl (All-nil (λ u. IsTrue (below a u)))

@@ -15,3 +15,4 @@ pub mod Shifted
 pub mod Validity
 pub mod TheLaws
 pub mod Truths
+pub mod Twins

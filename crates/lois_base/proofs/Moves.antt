@@ -1,174 +1,203 @@
--- Truth and sameness of values are kept by every map of atoms that keeps equality, and order where `<` is admitted.
-use Rattle.std.proofs.Common.{◌≡◌, ℕ, zero, suc, ◌+◌, add-one, ◌-◌, ◌<◌, ◌≤◌, ◌⊎◌, inl, inr, Bool, List, [], ◌∷◌, ◌++◌, map, length, length-append, get_or, refl, sym, ◌∙◌, subst, arith}
-use Rattle.std.proofs.lemmas.Bool.{cases_lt}
-use Rattle.std.proofs.lemmas.List.{get_or-map, length-map, get_or_append_left, get_or-append_right}
+-- Truth and sameness of values depend on nothing but how the atoms of the choices stand to one another.
+use Rattle.std.proofs.Common.{◌≡◌, ℕ, suc, ◌+◌, ◌<◌, inl, inr, Bool, List, [], ◌∷◌, ◌++◌, map, length, length-append, get_or, refl, sym, ap, ◌∙◌, subst, arith}
+use Rattle.std.proofs.lemmas.List.{get_or-map, length-map, map-append, get_or_append_left, get_or-append-add}
 use Rattle.std.specs.Bool.{IsTrue}
-use Rattle.lois_base.specs.Atom.{Atom, equal, whole}
+use Rattle.lois_base.specs.Atom.{Atom, whole}
 use Rattle.lois_base.specs.Data.{TermD, var, tag, tup, coll, TermsD, no_terms, term, CompD, comp, CompsD, no_comps, more}
 use Rattle.lois_base.specs.Fits.{LitFits, ConstraintFits, Fits, PartsFit, CompFits, ItemsFit}
 use Rattle.lois_base.specs.FormulaData.{FormulaD, lit, all, any, neg, exists, forall, FormulasD, no_formulas, formula, FormulaFits, FormulasFit}
 use Rattle.lois_base.specs.FormulaTruth.{FormulaHolds, AllHold, AnyHolds}
-use Rattle.lois_base.specs.Patterns.{Keeps, IsAutomorphism}
+use Rattle.lois_base.specs.Patterns.{AreAlike, Keeps}
 use Rattle.lois_base.specs.Truth.{atom_at, holds}
 use Rattle.lois_base.specs.Validity.{AdmitsLit, AdmitsConstraint, AdmitsFormula, AdmitsFormulas, AdmitsTerm, AdmitsParts, AdmitsComp, AdmitsItems}
 use Rattle.lois_base.specs.Values.{IsExtension, MemberAt, SameAt, SamePartsAt, AllInAt, EachInAt, InAt, SomeIsAt, OneIsAt}
 use Rattle.lois_base.specs.declared.guards.Lit.{Lit}
 use Rattle.lois_base.specs.declared.guards.Op.TheVariants.{Eq}
-use Rattle.lois_base.proofs.Order.{equal_refl, equal_sym, equal_trans}
-use Rattle.lois_base.proofs.Truths.{LitAgrees, holds_agree, op_respects}
+use Rattle.lois_base.proofs.Truths.{LitAgrees, holds_agree}
+use Rattle.lois_base.proofs.Twins.{Twins, twins, Has, Within, IsPattern, add, swapped, pattern_swap, within_back, IsCarried, carried_more, carried_swap, carried_longer, carried_push, extend, zipped, has_zipped, pattern_zipped}
 
--- the map takes each of the n atoms of c to that of d
-pub record AreMoved (f : Atom → Atom) (n : ℕ) (c d : List Atom) : Type 0 where
-  pub left : length c ≡ n
-  pub right : length d ≡ n
-  pub atoms : (i : ℕ) → i < n → IsTrue (equal (f (atom_at c i)) (atom_at d i))
+module _ (ordered : Bool) (ps : List Twins) (pattern : IsPattern ordered ps) where
+  lit_carried : (n : ℕ) (c d : List Atom) → IsCarried ps n c d → (l : Lit) → LitFits n l → AdmitsLit ordered l → LitAgrees c d l
+  lit_carried n c d h l fits admits =
+      pattern.alike (twins (atom_at c l.left) (atom_at d l.left)) (twins (atom_at c l.right) (atom_at d l.right)) (h.atoms l.left fits.0) (h.atoms l.right fits.1) l.op admits
 
-module _ (f : Atom → Atom) where
-  pub moved_longer : (n m : ℕ) (c d e e' : List Atom) → AreMoved f n c d → AreMoved f m e e' → AreMoved f (n + m) (c ++ e) (d ++ e')
-  moved_longer n m c d e e' h k = record {
-    left = omega (arith, h.left, k.left, length-append c e);
-    right = omega (arith, h.right, k.right, length-append d e');
-    atoms = λ i l. go i l (cases_lt i n);
-  }
-    where
-      go : (i : ℕ) → i < n + m → i < n ⊎ n ≤ i → IsTrue (equal (f (atom_at (c ++ e) i)) (atom_at (d ++ e') i))
-      go i l (inl p) =
-          let q : i < length c = omega (arith, h.left) in
-          let r : i < length d = omega (arith, h.right) in
-          rw (get_or_append_left c e (whole 0) i q, get_or_append_left d e' (whole 0) i r) (h.atoms i p)
-      go i l (inr p) =
-          rw (get_or-append_right c e n i (whole 0) h.left p, get_or-append_right d e' n i (whole 0) h.right p) (k.atoms (i - n) (omega arith))
+  holds_carried : (n : ℕ) (c d : List Atom) → IsCarried ps n c d → (g : List (List Lit)) → ConstraintFits n g → AdmitsConstraint ordered g → holds c g ≡ holds d g
+  holds_carried n c d h g fits admits =
+      holds_agree c d g (λ i k p j l q. lit_carried n c d h (get_or (get_or g i k) j l) (fits i k p j l q) (admits i k p j l q))
 
-  pub moved_map : (e : List Atom) → AreMoved f (length e) e (map f e)
-  moved_map e = record {
-    left = refl;
-    right = length-map e f;
-    atoms = λ i l. rw (get_or-map f e i (whole 0) (whole 0) l) (equal_refl (f (atom_at e i)));
-  }
+  guard_carried : (n m : ℕ) (c d e f : List Atom) (g : List (List Lit)) → IsCarried ps n c d → IsCarried ps m e f → ConstraintFits (n + m) g → AdmitsConstraint ordered g → holds (c ++ e) g ≡ holds (d ++ f) g
+  guard_carried n m c d e f g h k fits admits =
+      holds_carried (n + m) (c ++ e) (d ++ f) (carried_longer ps n m c d e f h k) g fits admits
 
-  pub moved_one : (a b : Atom) → IsTrue (equal (f a) b) → AreMoved f 1 (a ∷ []) (b ∷ [])
-  moved_one a b h = record { left = refl; right = refl; atoms = λ i l. go i l }
-    where
-      go : (i : ℕ) → i < 1 → IsTrue (equal (f (atom_at (a ∷ []) i)) (atom_at (b ∷ []) i))
-      go zero l = h
-      go (suc i) l = absurd (omega arith)
+-- the member of a set at another choice, with more pairs
+record Partner (ordered : Bool) (ps : List Twins) (w : TermD) (y : List Atom) (ss : CompsD) (d : List Atom) : Type 0 where
+  pairs : List Twins
+  pattern : IsPattern ordered pairs
+  within : Within ps pairs
+  size : ℕ
+  image : List Atom
+  member : MemberAt w image ss d
+  carried : IsCarried pairs size y image
+  fits : Fits size w
+  admits : AdmitsTerm ordered w
 
-  pub moved_push : (n : ℕ) (c d : List Atom) (a b : Atom) → AreMoved f n c d → IsTrue (equal (f a) b) → AreMoved f (suc n) (c ++ a ∷ []) (d ++ b ∷ [])
-  moved_push n c d a b h k = rw add-one at (moved_longer n 1 c d (a ∷ []) (b ∷ []) h (moved_one a b k))
+partner_first : (ordered : Bool) (ps : List Twins) (w : TermD) (y : List Atom) (m : ℕ) (g : List (List Lit)) (t : TermD) (ss : CompsD) (n : ℕ) (d d' e : List Atom) → IsPattern ordered ps → IsCarried ps n d d' → CompFits n (comp m g t) → AdmitsComp ordered (comp m g t) → IsExtension d m g e → w ≡ t → y ≡ d ++ e → Partner ordered ps w y (more (comp m g t) ss) d'
+partner_first ordered ps w y m g t ss n d d' e pattern h p a x is_t is_y =
+    let long = extend ordered ps pattern e in
+    let old : IsCarried long.pairs n d d' = carried_more ps long.pairs n d d' long.within h in
+    let new : IsCarried long.pairs m e long.image = subst (λ z. IsCarried long.pairs z e long.image) x.count long.carried in
+    let truth : holds (d ++ e) g ≡ holds (d' ++ long.image) g = guard_carried ordered long.pairs long.pattern n m d d' e long.image g old new p.1 a.0 in
+    record {
+      pairs = long.pairs;
+      pattern = long.pattern;
+      within = long.within;
+      size = n + m;
+      image = d' ++ long.image;
+      member = inl (long.image, record { count = new.right; guard = subst IsTrue truth x.guard }, is_t, refl);
+      carried = subst (λ z. IsCarried long.pairs (n + m) z (d' ++ long.image)) (sym is_y) (carried_longer long.pairs n m d d' e long.image old new);
+      fits = subst (λ z. Fits (n + m) z) (sym is_t) p.2;
+      admits = subst (λ z. AdmitsTerm ordered z) (sym is_t) a.1;
+    }
 
-keeps_equal : (ordered : Bool) (f : Atom → Atom) → Keeps ordered f → (a b : Atom) → equal (f a) (f b) ≡ equal a b
-keeps_equal ordered f k a b = k Eq refl a b
+partner : (ss : CompsD) (ordered : Bool) (ps : List Twins) → IsPattern ordered ps → (n : ℕ) (d d' : List Atom) → IsCarried ps n d d' → ItemsFit n ss → AdmitsItems ordered ss → (w : TermD) (y : List Atom) → MemberAt w y ss d → Partner ordered ps w y ss d'
+partner no_comps ordered ps pattern n d d' h p a w y m = absurd m
+partner (more (comp b g t) ss) ordered ps pattern n d d' h p a w y (inl m) =
+    partner_first ordered ps w y b g t ss n d d' m.0 pattern h p.0 a.0 m.1 m.2 m.3
+partner (more k ss) ordered ps pattern n d d' h p a w y (inr m) =
+    let i = partner ss ordered ps pattern n d d' h p.1 a.1 w y m in
+    record {
+      pairs = i.pairs;
+      pattern = i.pattern;
+      within = i.within;
+      size = i.size;
+      image = i.image;
+      member = inr i.member;
+      carried = i.carried;
+      fits = i.fits;
+      admits = i.admits;
+    }
 
--- the map back is one as well
-pub back_is : (ordered : Bool) (f back : Atom → Atom) → IsAutomorphism ordered f back → IsAutomorphism ordered back f
-back_is ordered f back h = record {
-  keeps = λ op p a b. sym (h.keeps op p (back a) (back b)) ∙ op_respects op (f (back a)) a (f (back b)) b (h.reaches a) (h.reaches b);
-  reaches = λ a. sym (keeps_equal ordered f h.keeps (back (f a)) a) ∙ h.reaches (f a);
-}
-
-pub moved_back : (ordered : Bool) (f back : Atom → Atom) → IsAutomorphism ordered f back → (n : ℕ) (c d : List Atom) → AreMoved f n c d → AreMoved back n d c
-moved_back ordered f back h n c d k = record {
-  left = k.right;
-  right = k.left;
-  atoms = λ i l. sym (keeps_equal ordered f h.keeps (back (atom_at d i)) (atom_at c i)) ∙ equal_trans (f (back (atom_at d i))) (atom_at d i) (f (atom_at c i)) (h.reaches (atom_at d i)) (equal_sym (f (atom_at c i)) (atom_at d i) (k.atoms i l));
-}
-
-module _ (ordered : Bool) (f : Atom → Atom) (keeps : Keeps ordered f) where
-  pub lit_moved : (n : ℕ) (c d : List Atom) → AreMoved f n c d → (l : Lit) → LitFits n l → AdmitsLit ordered l → LitAgrees c d l
-  lit_moved n c d h l fits admits =
-      sym (keeps l.op admits (atom_at c l.left) (atom_at c l.right)) ∙ op_respects l.op (f (atom_at c l.left)) (atom_at d l.left) (f (atom_at c l.right)) (atom_at d l.right) (h.atoms l.left fits.0) (h.atoms l.right fits.1)
-
-  pub holds_moved : (n : ℕ) (c d : List Atom) → AreMoved f n c d → (g : List (List Lit)) → ConstraintFits n g → AdmitsConstraint ordered g → holds c g ≡ holds d g
-  holds_moved n c d h g fits admits =
-      holds_agree c d g (λ i k p j l q. lit_moved n c d h (get_or (get_or g i k) j l) (fits i k p j l q) (admits i k p j l q))
-
-  extension_moved : (n m : ℕ) (c d e e' : List Atom) (g : List (List Lit)) → AreMoved f n c d → AreMoved f m e e' → ConstraintFits (n + m) g → AdmitsConstraint ordered g → IsExtension c m g e → IsExtension d m g e'
-  extension_moved n m c d e e' g h k fits admits x =
-      record { count = k.right; guard = subst IsTrue (holds_moved (n + m) (c ++ e) (d ++ e') (moved_longer f n m c d e e' h k) g fits admits) x.guard }
-
-  -- a member's atoms are moved with those of its set
-  member_moved : (ss : CompsD) (n : ℕ) (d d' : List Atom) → AreMoved f n d d' → ItemsFit n ss → AdmitsItems ordered ss → (w : TermD) (y : List Atom) → MemberAt w y ss d → (k : ℕ) × (y' : List Atom) × MemberAt w y' ss d' × AreMoved f k y y' × Fits k w × AdmitsTerm ordered w
-  member_moved no_comps n d d' h fits admits w y m = absurd m
-  member_moved (more (comp m g t) ss) n d d' h fits admits w y (inl (e, x, p, q)) =
-      let k : AreMoved f m e (map f e) = subst (λ z. AreMoved f z e (map f e)) x.count (moved_map f e) in
-      let long : AreMoved f (n + m) (d ++ e) (d' ++ map f e) = moved_longer f n m d d' e (map f e) h k in (
-        n + m,
-        d' ++ map f e,
-        inl (map f e, extension_moved n m d d' e (map f e) g h k (fits.0).1 (admits.0).0 x, p, refl),
-        subst (λ z. AreMoved f (n + m) z (d' ++ map f e)) (sym q) long,
-        subst (λ z. Fits (n + m) z) (sym p) (fits.0).2,
-        subst (λ z. AdmitsTerm ordered z) (sym p) (admits.0).1,
-      )
-  member_moved (more k ss) n d d' h fits admits w y (inr m) =
-      let i = member_moved ss n d d' h fits.1 admits.1 w y m in
-      (i.0, i.1, inr i.2, i.3, i.4, i.5)
-
-module _ (ordered : Bool) (f back : Atom → Atom) (auto : IsAutomorphism ordered f back) where
+module _ (ordered : Bool) where
   mutual
-    pub same_moved : (t : TermD) (n : ℕ) (c c' : List Atom) → AreMoved f n c c' → Fits n t → AdmitsTerm ordered t → (s : TermD) (k : ℕ) (d d' : List Atom) → AreMoved f k d d' → Fits k s → AdmitsTerm ordered s → SameAt t c s d → SameAt t c' s d'
-    same_moved (var i) n c c' h p a (var j) k d d' h' p' a' s =
-        sym (op_respects Eq (f (atom_at c i)) (atom_at c' i) (f (atom_at d j)) (atom_at d' j) (h.atoms i p) (h'.atoms j p')) ∙ keeps_equal ordered f auto.keeps (atom_at c i) (atom_at d j) ∙ s
-    same_moved (tag name) n c c' h p a (tag other) k d d' h' p' a' s = s
-    same_moved (tup ts) n c c' h p a (tup ss) k d d' h' p' a' s = parts_moved ts n c c' h p a ss k d d' h' p' a' s
-    same_moved (coll cs) n c c' h p a (coll ss) k d d' h' p' a' s = (
-      all_moved cs n c c' h p a ss k d d' h' p' a' s.0,
+    pub same_carried : (t : TermD) (ps : List Twins) → IsPattern ordered ps → (n : ℕ) (c c' : List Atom) → IsCarried ps n c c' → Fits n t → AdmitsTerm ordered t → (s : TermD) (k : ℕ) (d d' : List Atom) → IsCarried ps k d d' → Fits k s → AdmitsTerm ordered s → SameAt t c s d → SameAt t c' s d'
+    same_carried (var i) ps pattern n c c' h p a (var j) k d d' h' p' a' s =
+        sym (pattern.alike (twins (atom_at c i) (atom_at c' i)) (twins (atom_at d j) (atom_at d' j)) (h.atoms i p) (h'.atoms j p') Eq refl) ∙ s
+    same_carried (tag name) ps pattern n c c' h p a (tag other) k d d' h' p' a' s = s
+    same_carried (tup ts) ps pattern n c c' h p a (tup ss) k d d' h' p' a' s = parts_carried ts ps pattern n c c' h p a ss k d d' h' p' a' s
+    same_carried (coll cs) ps pattern n c c' h p a (coll ss) k d d' h' p' a' s = (
+      all_carried cs ps pattern n c c' h p a ss k d d' h' p' a' s.0,
       λ w x' m.
-          let back_auto = back_is ordered f back auto in
-          let i = member_moved ordered back back_auto.keeps ss k d' d (moved_back ordered f back auto k d d' h') p' a' w x' m in
-          some_moved cs n c c' h p a w i.0 i.1 x' (moved_back ordered back f back_auto i.0 x' i.1 i.3) i.4 i.5 (s.1 w i.1 i.2),
+          let i = partner ss ordered (swapped ps) (pattern_swap ordered ps pattern) k d' d (carried_swap ps k d d' h') p' a' w x' m in
+          let qs : List Twins = swapped i.pairs in
+          some_carried cs qs (pattern_swap ordered i.pairs i.pattern) n c c' (carried_more ps qs n c c' (within_back ps i.pairs i.within) h) p a w i.size i.image x' (carried_swap i.pairs i.size x' i.image i.carried) i.fits i.admits (s.1 w i.image i.member),
     )
-    same_moved _ n c c' h p a _ k d d' h' p' a' s = absurd s
+    same_carried _ ps pattern n c c' h p a _ k d d' h' p' a' s = absurd s
 
-    parts_moved : (ts : TermsD) (n : ℕ) (c c' : List Atom) → AreMoved f n c c' → PartsFit n ts → AdmitsParts ordered ts → (ss : TermsD) (k : ℕ) (d d' : List Atom) → AreMoved f k d d' → PartsFit k ss → AdmitsParts ordered ss → SamePartsAt ts c ss d → SamePartsAt ts c' ss d'
-    parts_moved no_terms n c c' h p a no_terms k d d' h' p' a' s = tt
-    parts_moved (term t ts) n c c' h p a (term u us) k d d' h' p' a' s =
-        (same_moved t n c c' h p.0 a.0 u k d d' h' p'.0 a'.0 s.0, parts_moved ts n c c' h p.1 a.1 us k d d' h' p'.1 a'.1 s.1)
-    parts_moved _ n c c' h p a _ k d d' h' p' a' s = absurd s
+    parts_carried : (ts : TermsD) (ps : List Twins) → IsPattern ordered ps → (n : ℕ) (c c' : List Atom) → IsCarried ps n c c' → PartsFit n ts → AdmitsParts ordered ts → (ss : TermsD) (k : ℕ) (d d' : List Atom) → IsCarried ps k d d' → PartsFit k ss → AdmitsParts ordered ss → SamePartsAt ts c ss d → SamePartsAt ts c' ss d'
+    parts_carried no_terms ps pattern n c c' h p a no_terms k d d' h' p' a' s = tt
+    parts_carried (term t ts) ps pattern n c c' h p a (term u us) k d d' h' p' a' s =
+        (same_carried t ps pattern n c c' h p.0 a.0 u k d d' h' p'.0 a'.0 s.0, parts_carried ts ps pattern n c c' h p.1 a.1 us k d d' h' p'.1 a'.1 s.1)
+    parts_carried _ ps pattern n c c' h p a _ k d d' h' p' a' s = absurd s
 
-    all_moved : (ks : CompsD) (n : ℕ) (c c' : List Atom) → AreMoved f n c c' → ItemsFit n ks → AdmitsItems ordered ks → (ss : CompsD) (k : ℕ) (d d' : List Atom) → AreMoved f k d d' → ItemsFit k ss → AdmitsItems ordered ss → AllInAt ks c ss d → AllInAt ks c' ss d'
-    all_moved no_comps n c c' h p a ss k d d' h' p' a' s = tt
-    all_moved (more x ks) n c c' h p a ss k d d' h' p' a' s =
-        (each_moved x n c c' h p.0 a.0 ss k d d' h' p' a' s.0, all_moved ks n c c' h p.1 a.1 ss k d d' h' p' a' s.1)
+    all_carried : (ks : CompsD) (ps : List Twins) → IsPattern ordered ps → (n : ℕ) (c c' : List Atom) → IsCarried ps n c c' → ItemsFit n ks → AdmitsItems ordered ks → (ss : CompsD) (k : ℕ) (d d' : List Atom) → IsCarried ps k d d' → ItemsFit k ss → AdmitsItems ordered ss → AllInAt ks c ss d → AllInAt ks c' ss d'
+    all_carried no_comps ps pattern n c c' h p a ss k d d' h' p' a' s = tt
+    all_carried (more x ks) ps pattern n c c' h p a ss k d d' h' p' a' s =
+        (each_carried x ps pattern n c c' h p.0 a.0 ss k d d' h' p' a' s.0, all_carried ks ps pattern n c c' h p.1 a.1 ss k d d' h' p' a' s.1)
 
-    each_moved : (x : CompD) (n : ℕ) (c c' : List Atom) → AreMoved f n c c' → CompFits n x → AdmitsComp ordered x → (ss : CompsD) (k : ℕ) (d d' : List Atom) → AreMoved f k d d' → ItemsFit k ss → AdmitsItems ordered ss → EachInAt x c ss d → EachInAt x c' ss d'
-    each_moved (comp m g t) n c c' h p a ss k d d' h' p' a' s = λ e' x'.
-        let back_auto = back_is ordered f back auto in
-        let e : List Atom = map back e' in
-        let there : AreMoved back m e' e = subst (λ z. AreMoved back z e' e) x'.count (moved_map back e') in
-        let here : AreMoved f m e e' = moved_back ordered back f back_auto m e' e there in
-        let x : IsExtension c m g e = extension_moved ordered back back_auto.keeps n m c' c e' e g (moved_back ordered f back auto n c c' h) there p.1 a.0 x' in
-        let i : InAt t (c ++ e) ss d = s e x in
-        let j = member_moved ordered f auto.keeps ss k d d' h' p' a' i.0 i.1 i.2 in
-        (i.0, j.1, j.2, same_moved t (n + m) (c ++ e) (c' ++ e') (moved_longer f n m c c' e e' h here) p.2 a.1 i.0 j.0 i.1 j.1 j.3 j.4 j.5 i.3)
+    each_carried : (x : CompD) (ps : List Twins) → IsPattern ordered ps → (n : ℕ) (c c' : List Atom) → IsCarried ps n c c' → CompFits n x → AdmitsComp ordered x → (ss : CompsD) (k : ℕ) (d d' : List Atom) → IsCarried ps k d d' → ItemsFit k ss → AdmitsItems ordered ss → EachInAt x c ss d → EachInAt x c' ss d'
+    each_carried (comp m g t) ps pattern n c c' h p a ss k d d' h' p' a' s = λ e' x'.
+        let back = extend ordered (swapped ps) (pattern_swap ordered ps pattern) e' in
+        let qs : List Twins = swapped back.pairs in
+        let e : List Atom = back.image in
+        let good : IsPattern ordered qs = pattern_swap ordered back.pairs back.pattern in
+        let wider : Within ps qs = within_back ps back.pairs back.within in
+        let old : IsCarried qs n c c' = carried_more ps qs n c c' wider h in
+        let new : IsCarried qs m e e' = carried_swap back.pairs m e' e (subst (λ z. IsCarried back.pairs z e' e) x'.count back.carried) in
+        let truth : holds (c ++ e) g ≡ holds (c' ++ e') g = guard_carried ordered qs good n m c c' e e' g old new p.1 a.0 in
+        let i : InAt t (c ++ e) ss d = s e (record { count = new.left; guard = subst IsTrue (sym truth) x'.guard }) in
+        let j = partner ss ordered qs good k d d' (carried_more ps qs k d d' wider h') p' a' i.0 i.1 i.2 in
+        (i.0, j.image, j.member, same_carried t j.pairs j.pattern (n + m) (c ++ e) (c' ++ e') (carried_more qs j.pairs (n + m) (c ++ e) (c' ++ e') j.within (carried_longer qs n m c c' e e' old new)) p.2 a.1 i.0 j.size i.1 j.image j.carried j.fits j.admits i.3)
 
-    some_moved : (ks : CompsD) (n : ℕ) (c c' : List Atom) → AreMoved f n c c' → ItemsFit n ks → AdmitsItems ordered ks → (w : TermD) (k : ℕ) (x x' : List Atom) → AreMoved f k x x' → Fits k w → AdmitsTerm ordered w → SomeIsAt ks c w x → SomeIsAt ks c' w x'
-    some_moved no_comps n c c' h p a w k x x' h' p' a' s = s
-    some_moved (more y ks) n c c' h p a w k x x' h' p' a' (inl s) = inl (one_moved y n c c' h p.0 a.0 w k x x' h' p' a' s)
-    some_moved (more y ks) n c c' h p a w k x x' h' p' a' (inr s) = inr (some_moved ks n c c' h p.1 a.1 w k x x' h' p' a' s)
+    some_carried : (ks : CompsD) (ps : List Twins) → IsPattern ordered ps → (n : ℕ) (c c' : List Atom) → IsCarried ps n c c' → ItemsFit n ks → AdmitsItems ordered ks → (w : TermD) (k : ℕ) (x x' : List Atom) → IsCarried ps k x x' → Fits k w → AdmitsTerm ordered w → SomeIsAt ks c w x → SomeIsAt ks c' w x'
+    some_carried no_comps ps pattern n c c' h p a w k x x' h' p' a' s = s
+    some_carried (more y ks) ps pattern n c c' h p a w k x x' h' p' a' (inl s) = inl (one_carried y ps pattern n c c' h p.0 a.0 w k x x' h' p' a' s)
+    some_carried (more y ks) ps pattern n c c' h p a w k x x' h' p' a' (inr s) = inr (some_carried ks ps pattern n c c' h p.1 a.1 w k x x' h' p' a' s)
 
-    one_moved : (y : CompD) (n : ℕ) (c c' : List Atom) → AreMoved f n c c' → CompFits n y → AdmitsComp ordered y → (w : TermD) (k : ℕ) (x x' : List Atom) → AreMoved f k x x' → Fits k w → AdmitsTerm ordered w → OneIsAt y c w x → OneIsAt y c' w x'
-    one_moved (comp m g t) n c c' h p a w k x x' h' p' a' (e, ext, s) =
-        let here : AreMoved f m e (map f e) = subst (λ z. AreMoved f z e (map f e)) ext.count (moved_map f e) in
-        (map f e, extension_moved ordered f auto.keeps n m c c' e (map f e) g h here p.1 a.0 ext, same_moved t (n + m) (c ++ e) (c' ++ map f e) (moved_longer f n m c c' e (map f e) h here) p.2 a.1 w k x x' h' p' a' s)
+    one_carried : (y : CompD) (ps : List Twins) → IsPattern ordered ps → (n : ℕ) (c c' : List Atom) → IsCarried ps n c c' → CompFits n y → AdmitsComp ordered y → (w : TermD) (k : ℕ) (x x' : List Atom) → IsCarried ps k x x' → Fits k w → AdmitsTerm ordered w → OneIsAt y c w x → OneIsAt y c' w x'
+    one_carried (comp m g t) ps pattern n c c' h p a w k x x' h' p' a' (e, ext, s) =
+        let long = extend ordered ps pattern e in
+        let qs : List Twins = long.pairs in
+        let old : IsCarried qs n c c' = carried_more ps qs n c c' long.within h in
+        let new : IsCarried qs m e long.image = subst (λ z. IsCarried qs z e long.image) ext.count long.carried in
+        let truth : holds (c ++ e) g ≡ holds (c' ++ long.image) g = guard_carried ordered qs long.pattern n m c c' e long.image g old new p.1 a.0 in
+        (long.image, record { count = new.right; guard = subst IsTrue truth ext.guard }, same_carried t qs long.pattern (n + m) (c ++ e) (c' ++ long.image) (carried_longer qs n m c c' e long.image old new) p.2 a.1 w k x x' (carried_more ps qs k x x' long.within h') p' a' s)
 
-mutual
-  pub formula_moved : (g : FormulaD) (ordered : Bool) (f back : Atom → Atom) → IsAutomorphism ordered f back → (n : ℕ) (c d : List Atom) → AreMoved f n c d → FormulaFits n g → AdmitsFormula ordered g → FormulaHolds c g → FormulaHolds d g
-  formula_moved (lit l) ordered f back auto n c d h p a x = subst IsTrue (lit_moved ordered f auto.keeps n c d h l p a) x
-  formula_moved (all gs) ordered f back auto n c d h p a x = all_hold_moved gs ordered f back auto n c d h p a x
-  formula_moved (any gs) ordered f back auto n c d h p a x = any_holds_moved gs ordered f back auto n c d h p a x
-  formula_moved (neg g) ordered f back auto n c d h p a x = λ y.
-      x (formula_moved g ordered back f (back_is ordered f back auto) n d c (moved_back ordered f back auto n c d h) p a y)
-  formula_moved (exists g) ordered f back auto n c d h p a (b, x) =
-      (f b, formula_moved g ordered f back auto (suc n) (c ++ b ∷ []) (d ++ f b ∷ []) (moved_push f n c d b (f b) h (equal_refl (f b))) p a x)
-  formula_moved (forall g) ordered f back auto n c d h p a x = λ b.
-      formula_moved g ordered f back auto (suc n) (c ++ back b ∷ []) (d ++ b ∷ []) (moved_push f n c d (back b) b h (auto.reaches b)) p a (x (back b))
+  mutual
+    pub formula_carried : (g : FormulaD) (ps : List Twins) → IsPattern ordered ps → (n : ℕ) (c d : List Atom) → IsCarried ps n c d → FormulaFits n g → AdmitsFormula ordered g → FormulaHolds c g → FormulaHolds d g
+    formula_carried (lit l) ps pattern n c d h p a x = subst IsTrue (lit_carried ordered ps pattern n c d h l p a) x
+    formula_carried (all gs) ps pattern n c d h p a x = all_hold_carried gs ps pattern n c d h p a x
+    formula_carried (any gs) ps pattern n c d h p a x = any_holds_carried gs ps pattern n c d h p a x
+    formula_carried (neg g) ps pattern n c d h p a x = λ y.
+        x (formula_carried g (swapped ps) (pattern_swap ordered ps pattern) n d c (carried_swap ps n c d h) p a y)
+    formula_carried (exists g) ps pattern n c d h p a (u, x) =
+        let v = add ordered ps pattern u in
+        (v.0, formula_carried g (twins u v.0 ∷ ps) v.1 (suc n) (c ++ u ∷ []) (d ++ v.0 ∷ []) (carried_push ps n c d u v.0 h) p a x)
+    formula_carried (forall g) ps pattern n c d h p a x = λ v.
+        let u = add ordered (swapped ps) (pattern_swap ordered ps pattern) v in
+        let new : IsCarried (twins v u.0 ∷ swapped ps) (suc n) (d ++ v ∷ []) (c ++ u.0 ∷ []) = carried_push (swapped ps) n d c v u.0 (carried_swap ps n c d h) in
+        formula_carried g (swapped (twins v u.0 ∷ swapped ps)) (pattern_swap ordered (twins v u.0 ∷ swapped ps) u.1) (suc n) (c ++ u.0 ∷ []) (d ++ v ∷ []) (carried_swap (twins v u.0 ∷ swapped ps) (suc n) (d ++ v ∷ []) (c ++ u.0 ∷ []) new) p a (x u.0)
 
-  all_hold_moved : (gs : FormulasD) (ordered : Bool) (f back : Atom → Atom) → IsAutomorphism ordered f back → (n : ℕ) (c d : List Atom) → AreMoved f n c d → FormulasFit n gs → AdmitsFormulas ordered gs → AllHold c gs → AllHold d gs
-  all_hold_moved no_formulas ordered f back auto n c d h p a x = tt
-  all_hold_moved (formula g gs) ordered f back auto n c d h p a x =
-      (formula_moved g ordered f back auto n c d h p.0 a.0 x.0, all_hold_moved gs ordered f back auto n c d h p.1 a.1 x.1)
+    all_hold_carried : (gs : FormulasD) (ps : List Twins) → IsPattern ordered ps → (n : ℕ) (c d : List Atom) → IsCarried ps n c d → FormulasFit n gs → AdmitsFormulas ordered gs → AllHold c gs → AllHold d gs
+    all_hold_carried no_formulas ps pattern n c d h p a x = tt
+    all_hold_carried (formula g gs) ps pattern n c d h p a x =
+        (formula_carried g ps pattern n c d h p.0 a.0 x.0, all_hold_carried gs ps pattern n c d h p.1 a.1 x.1)
 
-  any_holds_moved : (gs : FormulasD) (ordered : Bool) (f back : Atom → Atom) → IsAutomorphism ordered f back → (n : ℕ) (c d : List Atom) → AreMoved f n c d → FormulasFit n gs → AdmitsFormulas ordered gs → AnyHolds c gs → AnyHolds d gs
-  any_holds_moved no_formulas ordered f back auto n c d h p a x = x
-  any_holds_moved (formula g gs) ordered f back auto n c d h p a (inl x) = inl (formula_moved g ordered f back auto n c d h p.0 a.0 x)
-  any_holds_moved (formula g gs) ordered f back auto n c d h p a (inr x) = inr (any_holds_moved gs ordered f back auto n c d h p.1 a.1 x)
+    any_holds_carried : (gs : FormulasD) (ps : List Twins) → IsPattern ordered ps → (n : ℕ) (c d : List Atom) → IsCarried ps n c d → FormulasFit n gs → AdmitsFormulas ordered gs → AnyHolds c gs → AnyHolds d gs
+    any_holds_carried no_formulas ps pattern n c d h p a x = x
+    any_holds_carried (formula g gs) ps pattern n c d h p a (inl x) = inl (formula_carried g ps pattern n c d h p.0 a.0 x)
+    any_holds_carried (formula g gs) ps pattern n c d h p a (inr x) = inr (any_holds_carried gs ps pattern n c d h p.1 a.1 x)
+
+-- ---- choices that stand alike
+module _ (ordered : Bool) where
+  pub alike_sym : (c d : List Atom) → AreAlike ordered c d → AreAlike ordered d c
+  alike_sym c d h =
+      record { count = sym h.count; agree = λ op k i j l m. sym (h.agree op k i j (omega (arith, h.count)) (omega (arith, h.count))) }
+
+  pub formula_alike : (g : FormulaD) (c d : List Atom) → AreAlike ordered c d → FormulaFits (length c) g → AdmitsFormula ordered g → FormulaHolds c g → FormulaHolds d g
+  formula_alike g c d h p a x =
+      let all_of : IsCarried (zipped c d) (length c) c d = record { left = refl; right = sym h.count; atoms = λ i l. has_zipped c d i l (omega (arith, h.count)) } in
+      formula_carried ordered g (zipped c d) (pattern_zipped ordered c d h) (length c) c d all_of p a x
+
+  carried_left : (c d c' d' : List Atom) → length c ≡ length c' → length d ≡ length d' → IsCarried (zipped (c ++ d) (c' ++ d')) (length c) c c'
+  carried_left c d c' d' h k = record { left = refl; right = sym h; atoms = each }
+    where
+      each : (i : ℕ) → i < length c → Has (zipped (c ++ d) (c' ++ d')) (twins (atom_at c i) (atom_at c' i))
+      each i l =
+          let m : i < length c' = omega (arith, h) in
+          let both = has_zipped (c ++ d) (c' ++ d') i (omega (arith, length-append c d)) (omega (arith, length-append c' d')) in
+          subst (λ z. Has (zipped (c ++ d) (c' ++ d')) (twins z (atom_at c' i))) (get_or_append_left c d (whole 0) i l) (subst (λ z. Has (zipped (c ++ d) (c' ++ d')) (twins (atom_at (c ++ d) i) z)) (get_or_append_left c' d' (whole 0) i m) both)
+
+  carried_right : (c d c' d' : List Atom) → length c ≡ length c' → length d ≡ length d' → IsCarried (zipped (c ++ d) (c' ++ d')) (length d) d d'
+  carried_right c d c' d' h k = record { left = refl; right = sym k; atoms = each }
+    where
+      each : (i : ℕ) → i < length d → Has (zipped (c ++ d) (c' ++ d')) (twins (atom_at d i) (atom_at d' i))
+      each i l =
+          let both = has_zipped (c ++ d) (c' ++ d') (length c + i) (omega (arith, length-append c d)) (omega (arith, length-append c' d', h, k)) in
+          let there : atom_at (c' ++ d') (length c + i) ≡ atom_at d' i = ap (λ z. get_or (c' ++ d') (z + i) (whole 0)) h ∙ get_or-append-add c' d' i (whole 0) in
+          subst (λ z. Has (zipped (c ++ d) (c' ++ d')) (twins z (atom_at d' i))) (get_or-append-add c d i (whole 0)) (subst (λ z. Has (zipped (c ++ d) (c' ++ d')) (twins (atom_at (c ++ d) (length c + i)) z)) there both)
+
+  pub same_alike : (t s : TermD) (c d c' d' : List Atom) → length c ≡ length c' → AreAlike ordered (c ++ d) (c' ++ d') → Fits (length c) t → Fits (length d) s → AdmitsTerm ordered t → AdmitsTerm ordered s → SameAt t c s d → SameAt t c' s d'
+  same_alike t s c d c' d' h k p q a b x =
+      let rest : length d ≡ length d' = omega (arith, k.count, length-append c d, length-append c' d') in
+      same_carried ordered t (zipped (c ++ d) (c' ++ d')) (pattern_zipped ordered (c ++ d) (c' ++ d') k) (length c) c c' (carried_left c d c' d' h rest) p a s (length d) d d' (carried_right c d c' d' h rest) q b x
+
+-- ---- maps of atoms
+module _ (ordered : Bool) (f : Atom → Atom) (keeps : Keeps ordered f) where
+  pub alike_map : (c : List Atom) → AreAlike ordered c (map f c)
+  alike_map c = record {
+    count = sym (length-map c f);
+    agree = λ op k i j l m. rw (get_or-map f c i (whole 0) (whole 0) l, get_or-map f c j (whole 0) (whole 0) m) (sym (keeps op k (atom_at c i) (atom_at c j)));
+  }
+
+  pub alike_maps : (c d : List Atom) → AreAlike ordered (c ++ d) (map f c ++ map f d)
+  alike_maps c d = subst (λ z. AreAlike ordered (c ++ d) z) (map-append f c d) (alike_map (c ++ d))

@@ -1,5 +1,5 @@
 -- Atoms are a dense total order without ends.
-use Rattle.std.proofs.Common.{◌≡◌, ℕ, ◌+◌, ◌*◌, ◌<◌, ◌≤◌, Bool, true, false, not, ◌&&◌, pos, negsuc, ◌+ℤ◌, arith, refl, sym, ap}
+use Rattle.std.proofs.Common.{◌≡◌, ℕ, ◌+◌, ◌*◌, ◌<◌, ◌≤◌, Bool, true, false, not, ◌&&◌, pos, negsuc, ◌+ℤ◌, arith, refl, sym, ap, ◌∙◌}
 use Rattle.std.proofs.lemmas.Int.{ints}
 use Rattle.std.proofs.Math.Nat.{mul-le-mul_right, le_of_mul-le-mul_right}
 use Rattle.std.specs.Bool.{IsTrue, IsFalse}
@@ -148,3 +148,10 @@ below_moves a b c d h k l =
 pub below_respects : (a b c d : Atom) → IsTrue (equal a b) → IsTrue (equal c d) → below a c ≡ below b d
 below_respects a b c d h k =
     same_truth (below a c) (below b d) (below_moves a b c d h k) (below_moves b a d c (equal_sym a b h) (equal_sym c d k))
+
+-- the order decides equality
+pub equals_from : (a b x y : Atom) → below a b ≡ below x y → below b a ≡ below y x → equal a b ≡ equal x y
+equals_from a b x y h k = equal_is_neither a b ∙ both (below a b) (below b a) (below x y) (below y x) h k ∙ sym (equal_is_neither x y)
+  where
+    both : (p q r s : Bool) → p ≡ r → q ≡ s → (not p && not q) ≡ (not r && not s)
+    both p q r s e f = rw (e, f)

@@ -1,5 +1,5 @@
 -- For each choice of atoms a list of small numbers that stand alike: of each atom, how many positions of the choice have a smaller one.
-use Rattle.std.proofs.Common.{◌≡◌, ℕ, zero, suc, ◌+◌, ◌<◌, ◌≤◌, ◌⊎◌, inl, inr, Bool, true, false, not, ◌&&◌, cond, List, [], ◌∷◌, map, length, ltb, refl, sym, ap, ◌∙◌, arith}
+use Rattle.std.proofs.Common.{◌≡◌, ℕ, zero, suc, ◌+◌, ◌<◌, ◌≤◌, ◌⊎◌, inl, inr, Bool, true, false, not, cond, List, [], ◌∷◌, map, length, ltb, refl, sym, ap, ◌∙◌, arith}
 use Rattle.std.proofs.lemmas.Bool.{lt-ltb, ltb-true}
 use Rattle.std.proofs.lemmas.Int.{ints}
 use Rattle.std.proofs.lemmas.List.{get_or-map, length-map}
@@ -7,9 +7,11 @@ use Rattle.std.proofs.lemmas.List.Elements.{All-from_get_or}
 use Rattle.std.specs.Bool.{IsTrue, IsFalse}
 use Rattle.std.specs.List.{All}
 use Rattle.lois_base.specs.Atom.{Atom, equal, below, whole}
-use Rattle.lois_base.specs.Patterns.{AreAlike}
+use Rattle.lois_base.specs.Patterns.{Agree, AreAlike}
 use Rattle.lois_base.specs.Truth.{atom_at, sampled}
-use Rattle.lois_base.proofs.Order.{below_irrefl, below_asym, below_trans, below_at_most, equal_is_neither, same_truth, test}
+use Rattle.lois_base.specs.declared.guards.Op.{Op}
+use Rattle.lois_base.specs.declared.guards.Op.TheVariants.{Eq, Ne, Lt}
+use Rattle.lois_base.proofs.Order.{below_irrefl, below_asym, below_trans, below_at_most, equals_from, same_truth, test}
 
 abbrev one_where : Bool → ℕ
 one_where b = cond b 1 0
@@ -78,16 +80,15 @@ ranks_below c i j l m =
 smaller_ranks : (c : List Atom) (i j : ℕ) → i < length c → j < length c → below (atom_at c i) (atom_at c j) ≡ below (atom_at (sampled (ranks c)) i) (atom_at (sampled (ranks c)) j)
 smaller_ranks c i j l m = rw (rank_at c i l, rank_at c j m) (ranks_below c i j l m)
 
-equals_from : (a b x y : Atom) → below a b ≡ below x y → below b a ≡ below y x → equal a b ≡ equal x y
-equals_from a b x y h k = equal_is_neither a b ∙ both (below a b) (below b a) (below x y) (below y x) h k ∙ sym (equal_is_neither x y)
-  where
-    both : (p q r s : Bool) → p ≡ r → q ≡ s → (not p && not q) ≡ (not r && not s)
-    both p q r s e f = rw (e, f)
-
 -- the ranks stand as the atoms do
-pub ranks_alike : (c : List Atom) → AreAlike c (sampled (ranks c))
-ranks_alike c = record {
-  count = sym (length-map (ranks c) whole ∙ length_ranks c);
-  equals = λ i j l m. equals_from (atom_at c i) (atom_at c j) (atom_at (sampled (ranks c)) i) (atom_at (sampled (ranks c)) j) (smaller_ranks c i j l m) (smaller_ranks c j i m l);
-  smaller = smaller_ranks c;
-}
+pub ranks_alike : (c : List Atom) → AreAlike true c (sampled (ranks c))
+ranks_alike c = record { count = sym (length-map (ranks c) whole ∙ length_ranks c); agree = λ op h. go op }
+  where
+    equal_ranks : (i j : ℕ) → i < length c → j < length c → equal (atom_at c i) (atom_at c j) ≡ equal (atom_at (sampled (ranks c)) i) (atom_at (sampled (ranks c)) j)
+    equal_ranks i j l m =
+        equals_from (atom_at c i) (atom_at c j) (atom_at (sampled (ranks c)) i) (atom_at (sampled (ranks c)) j) (smaller_ranks c i j l m) (smaller_ranks c j i m l)
+
+    go : (op : Op) → Agree op c (sampled (ranks c))
+    go Eq = equal_ranks
+    go Ne = λ i j l m. ap not (equal_ranks i j l m)
+    go Lt = smaller_ranks c

@@ -1,19 +1,22 @@
 -- The laws of specs/Laws.
-use Rattle.std.proofs.Common.{Bool, List, length, map, refl, ◌↔◌, arith}
+use Rattle.std.proofs.Common.{◌≡◌, Bool, List, ◌++◌, length, map, refl, sym, subst, ◌↔◌, arith}
+use Rattle.std.proofs.lemmas.List.{length-map}
 use Rattle.std.specs.Bool.{IsTrue, IsFalse}
 use Rattle.lois_base.specs.Atom.{Atom, equal, below}
 use Rattle.lois_base.specs.Data.{coll}
 use Rattle.lois_base.specs.FormulaData.{FormulaD, FormulaFits}
 use Rattle.lois_base.specs.FormulaTruth.{FormulaHolds}
-use Rattle.lois_base.specs.Laws.{EqualIsEquivalence, IsDenseOrder, TruthRespectsEqual, SameIsEquivalence, SameIsRespected, SetsAreTheirMembers, OnlyItsLevelsCount, moved, MapsKeepMeaning, SmallNumbersSuffice}
-use Rattle.lois_base.specs.Patterns.{IsAutomorphism}
+use Rattle.lois_base.specs.Laws.{EqualIsEquivalence, IsDenseOrder, TruthRespectsEqual, SameIsEquivalence, SameIsRespected, SetsAreTheirMembers, OnlyItsLevelsCount, OnlyThePatternCounts, moved, MapsKeepMeaning, SmallNumbersSuffice}
+use Rattle.lois_base.specs.Patterns.{AreAlike, Keeps}
+use Rattle.lois_base.specs.Fits.{Fits}
+use Rattle.lois_base.specs.Truth.{sampled}
 use Rattle.lois_base.specs.Validity.{AdmitsFormula, AdmitsTerm}
 use Rattle.lois_base.specs.Values.{PointValue, point, IsProper, IsSame}
 use Rattle.lois_base.proofs.Order.{equal_refl, equal_sym, equal_trans, below_respects, trichotomy, below_asym, below_trans, between, lower, higher}
 use Rattle.lois_base.proofs.Members.{same_refl, same_sym, same_trans, in_same, same_in, same_included, included_same, same_sets, deeper_same}
-use Rattle.lois_base.proofs.Truths.{holds_equal, formula_equal, holds_alike}
+use Rattle.lois_base.proofs.Truths.{holds_equal, formula_equal, holds_alike, holds_ordered}
 use Rattle.lois_base.proofs.Levels.{holds_for, value_for}
-use Rattle.lois_base.proofs.Moves.{moved_map, moved_back, back_is, holds_moved, same_moved, formula_moved}
+use Rattle.lois_base.proofs.Moves.{alike_sym, formula_alike, same_alike, alike_map, alike_maps}
 use Rattle.lois_base.proofs.Samples.{ranks, length_ranks, ranks_small, ranks_alike}
 
 pub equality : EqualIsEquivalence
@@ -60,30 +63,42 @@ sets ks ls c d = (
 pub levels : OnlyItsLevelsCount
 levels = record { truth = λ g c d h. holds_for c d g h; values = value_for }
 
-formulas_kept : (ordered : Bool) (f back : Atom → Atom) → IsAutomorphism ordered f back → (g : FormulaD) (c : List Atom) → FormulaFits (length c) g → AdmitsFormula ordered g → FormulaHolds c g ↔ FormulaHolds (map f c) g
-formulas_kept ordered f back auto g c p a =
-    let there = moved_map f c in
-    let home = moved_back ordered f back auto (length c) c (map f c) there in (
-      (λ h. formula_moved g ordered f back auto (length c) c (map f c) there p a h),
-      (λ h. formula_moved g ordered back f (back_is ordered f back auto) (length c) (map f c) c home p a h),
+pub pattern : OnlyThePatternCounts
+pattern = record {
+  constraints = λ ordered g c d h p a. holds_alike ordered c d h g p a;
+  formulas = formula_alike;
+  values = same_alike;
+}
+
+formulas_kept : (ordered : Bool) (f : Atom → Atom) → Keeps ordered f → (g : FormulaD) (c : List Atom) → FormulaFits (length c) g → AdmitsFormula ordered g → FormulaHolds c g ↔ FormulaHolds (map f c) g
+formulas_kept ordered f keeps g c p a =
+    let there : AreAlike ordered c (map f c) = alike_map ordered f keeps c in
+    let q : FormulaFits (length (map f c)) g = subst (λ n. FormulaFits n g) there.count p in (
+      (λ h. formula_alike ordered g c (map f c) there p a h),
+      (λ h. formula_alike ordered g (map f c) c (alike_sym ordered c (map f c) there) q a h),
     )
 
-values_kept : (ordered : Bool) (f back : Atom → Atom) → IsAutomorphism ordered f back → (v w : PointValue) → IsProper v → IsProper w → AdmitsTerm ordered v.term_of → AdmitsTerm ordered w.term_of → IsSame v w ↔ IsSame (moved f v) (moved f w)
-values_kept ordered f back auto v w p q a b =
-    let there = moved_map f v.choice in
-    let there' = moved_map f w.choice in
-    let home = moved_back ordered f back auto (length v.choice) v.choice (map f v.choice) there in
-    let home' = moved_back ordered f back auto (length w.choice) w.choice (map f w.choice) there' in (
-      (λ h. same_moved ordered f back auto v.term_of (length v.choice) v.choice (map f v.choice) there p a w.term_of (length w.choice) w.choice (map f w.choice) there' q b h),
-      (λ h. same_moved ordered back f (back_is ordered f back auto) v.term_of (length v.choice) (map f v.choice) v.choice home p a w.term_of (length w.choice) (map f w.choice) w.choice home' q b h),
+values_kept : (ordered : Bool) (f : Atom → Atom) → Keeps ordered f → (v w : PointValue) → IsProper v → IsProper w → AdmitsTerm ordered v.term_of → AdmitsTerm ordered w.term_of → IsSame v w ↔ IsSame (moved f v) (moved f w)
+values_kept ordered f keeps v w p q a b =
+    let there : AreAlike ordered (v.choice ++ w.choice) (map f v.choice ++ map f w.choice) = alike_maps ordered f keeps v.choice w.choice in
+    let home = alike_sym ordered (v.choice ++ w.choice) (map f v.choice ++ map f w.choice) there in
+    let left : length v.choice ≡ length (map f v.choice) = sym (length-map v.choice f) in
+    let right : length w.choice ≡ length (map f w.choice) = sym (length-map w.choice f) in
+    let p' : Fits (length (map f v.choice)) v.term_of = subst (λ n. Fits n v.term_of) left p in
+    let q' : Fits (length (map f w.choice)) w.term_of = subst (λ n. Fits n w.term_of) right q in (
+      (λ h. same_alike ordered v.term_of w.term_of v.choice w.choice (map f v.choice) (map f w.choice) left there p q a b h),
+      (λ h. same_alike ordered v.term_of w.term_of (map f v.choice) (map f w.choice) v.choice w.choice (sym left) home p' q' a b h),
     )
 
 pub maps : MapsKeepMeaning
 maps = record {
-  constraints = λ ordered f keeps g c p a. holds_moved ordered f keeps (length c) c (map f c) (moved_map f c) g p a;
+  constraints = λ ordered f keeps g c p a. holds_alike ordered c (map f c) (alike_map ordered f keeps c) g p a;
   formulas = formulas_kept;
   values = values_kept;
 }
 
 pub numbers : SmallNumbersSuffice
-numbers = record { numbers = λ c. (ranks c, length_ranks c, ranks_small c, ranks_alike c); truth = holds_alike }
+numbers = record {
+  numbers = λ c. (ranks c, length_ranks c, ranks_small c, ranks_alike c);
+  truth = λ c s h g p. holds_ordered c (sampled s) h g p;
+}

@@ -1,14 +1,15 @@
 -- Truth at two choices of atoms: literals that hold at both alike decide it, so equal atoms do, and atoms that stand alike.
-use Rattle.std.proofs.Common.{◌≡◌, ℕ, inl, inr, not, List, [], ◌∷◌, ◌++◌, length, refl, ap, subst}
-use Rattle.std.proofs.lemmas.List.Elements.{All-head, All-tail, All-weaker}
+use Rattle.std.proofs.Common.{◌≡◌, ℕ, inl, inr, Bool, true, not, List, [], ◌∷◌, ◌++◌, length, get_or, refl, ap, subst}
+use Rattle.std.proofs.lemmas.List.Elements.{All-head, All-tail}
 use Rattle.std.specs.Bool.{IsTrue}
 use Rattle.std.specs.List.{All}
 use Rattle.lois_base.specs.Atom.{Atom, equal}
 use Rattle.lois_base.specs.Fits.{LitFits, CubeFits, ConstraintFits}
 use Rattle.lois_base.specs.FormulaData.{FormulaD, lit, all, any, neg, exists, forall, FormulasD, no_formulas, formula}
 use Rattle.lois_base.specs.FormulaTruth.{FormulaHolds, AllHold, AnyHolds}
-use Rattle.lois_base.specs.Patterns.{AreEqual, Agree, AreAlike}
+use Rattle.lois_base.specs.Patterns.{AreEqual, AreAlike}
 use Rattle.lois_base.specs.Truth.{atom_at, op_holds, lit_holds, cube_holds, holds}
+use Rattle.lois_base.specs.Validity.{is_admitted, AdmitsConstraint}
 use Rattle.lois_base.specs.declared.guards.Lit.{Lit}
 use Rattle.lois_base.specs.declared.guards.Op.{Op}
 use Rattle.lois_base.specs.declared.guards.Op.TheVariants.{Eq, Ne, Lt}
@@ -70,17 +71,22 @@ mutual
   any_equal (formula f fs) c d h (inr g) = inr (any_equal fs c d h g)
 
 -- ---- atoms that stand alike
-pub op_alike : (op : Op) (c d : List Atom) → AreAlike c d → Agree op c d
-op_alike Eq c d h = h.equals
-op_alike Ne c d h = λ i j l m. ap not (h.equals i j l m)
-op_alike Lt c d h = h.smaller
+all_admitted : (op : Op) → IsTrue (is_admitted true op)
+all_admitted Eq = refl
+all_admitted Ne = refl
+all_admitted Lt = refl
 
-pub lit_alike : (c d : List Atom) → AreAlike c d → (l : Lit) → LitFits (length c) l → LitAgrees c d l
-lit_alike c d h l fits = op_alike l.op c d h l.left l.right fits.0 fits.1
+pub holds_alike : (ordered : Bool) (c d : List Atom) → AreAlike ordered c d → (g : List (List Lit)) → ConstraintFits (length c) g → AdmitsConstraint ordered g → holds c g ≡ holds d g
+holds_alike ordered c d h g fits admits =
+    holds_agree c d g (λ i k p j l q. let lit' : Lit = get_or (get_or g i k) j l in
+    let f : LitFits (length c) lit' = fits i k p j l q in
+    h.agree lit'.op (admits i k p j l q) lit'.left lit'.right f.0 f.1)
 
-pub cube_alike : (c d : List Atom) → AreAlike c d → (k : List Lit) → CubeFits (length c) k → cube_holds c k ≡ cube_holds d k
-cube_alike c d h k fits = cube_agrees c d k (All-weaker (LitFits (length c)) (LitAgrees c d) (lit_alike c d h) k fits)
+-- where atoms are ordered, every constraint is admitted
+pub holds_ordered : (c d : List Atom) → AreAlike true c d → (g : List (List Lit)) → ConstraintFits (length c) g → holds c g ≡ holds d g
+holds_ordered c d h g fits = holds_alike true c d h g fits (λ i k p j l q. all_admitted (get_or (get_or g i k) j l).op)
 
-pub holds_alike : (c d : List Atom) → AreAlike c d → (g : List (List Lit)) → ConstraintFits (length c) g → holds c g ≡ holds d g
-holds_alike c d h g fits =
-    holds_agree c d g (All-weaker (CubeFits (length c)) (All (LitAgrees c d)) (λ k. All-weaker (LitFits (length c)) (LitAgrees c d) (lit_alike c d h) k) g fits)
+pub cube_ordered : (c d : List Atom) → AreAlike true c d → (k : List Lit) → CubeFits (length c) k → cube_holds c k ≡ cube_holds d k
+cube_ordered c d h k fits =
+    cube_agrees c d k (λ j l q. let f : LitFits (length c) (get_or k j l) = fits j l q in
+    h.agree (get_or k j l).op (all_admitted (get_or k j l).op) (get_or k j l).left (get_or k j l).right f.0 f.1)

@@ -1,13 +1,13 @@
 -- What holds of atoms, truth and values by their definitions alone.
-use Rattle.std.specs.Prelude.{◌≡◌, ℕ, ◌<◌, Bool, List, length, map, IsTrue, IsFalse, ◌⊎◌, ◌↔◌}
+use Rattle.std.specs.Prelude.{◌≡◌, ℕ, ◌<◌, Bool, true, List, ◌++◌, length, map, IsTrue, IsFalse, ◌⊎◌, ◌↔◌}
 use Rattle.std.specs.List.{All}
 use Rattle.lois_base.specs.Atom.{Atom, equal, below}
 use Rattle.lois_base.specs.Data.{TermD, coll, CompsD}
-use Rattle.lois_base.specs.Fits.{ConstraintFits}
+use Rattle.lois_base.specs.Fits.{ConstraintFits, Fits}
 use Rattle.lois_base.specs.FormulaData.{FormulaD, FormulaFits}
 use Rattle.lois_base.specs.FormulaTruth.{FormulaHolds}
 use Rattle.lois_base.specs.Normal.{GuardUses, Occurs}
-use Rattle.lois_base.specs.Patterns.{AreEqualFor, AreEqual, AreAlike, Keeps, IsAutomorphism}
+use Rattle.lois_base.specs.Patterns.{AreEqualFor, AreEqual, AreAlike, Keeps}
 use Rattle.lois_base.specs.Truth.{holds, sampled}
 use Rattle.lois_base.specs.Validity.{AdmitsConstraint, AdmitsFormula, AdmitsTerm}
 use Rattle.lois_base.specs.Values.{PointValue, point, IsProper, IsSame, IsIn, IsIncluded, IsDeeper}
@@ -57,17 +57,23 @@ pub record OnlyItsLevelsCount : Type 0 where
   pub truth : (g : List (List Lit)) (c d : List Atom) → AreEqualFor (λ b. GuardUses b g) c d → holds c g ≡ holds d g
   pub values : (t : TermD) (c d : List Atom) → AreEqualFor (λ b. Occurs b t) c d → IsSame (point t c) (point t d)
 
+-- Nothing counts but how the atoms stand to one another: which are equal and, where `<` occurs, which are smaller.
+pub record OnlyThePatternCounts : Type 0 where
+  pub constraints : (ordered : Bool) (g : List (List Lit)) (c d : List Atom) → AreAlike ordered c d → ConstraintFits (length c) g → AdmitsConstraint ordered g → holds c g ≡ holds d g
+  pub formulas : (ordered : Bool) (f : FormulaD) (c d : List Atom) → AreAlike ordered c d → FormulaFits (length c) f → AdmitsFormula ordered f → FormulaHolds c f → FormulaHolds d f
+  pub values : (ordered : Bool) (t s : TermD) (c d c' d' : List Atom) → length c ≡ length c' → AreAlike ordered (c ++ d) (c' ++ d') → Fits (length c) t → Fits (length d) s → AdmitsTerm ordered t → AdmitsTerm ordered s → IsSame (point t c) (point s d) → IsSame (point t c') (point s d')
+
 -- the value of the same term where a map has moved the atoms
 abbrev pub moved : (Atom → Atom) → PointValue → PointValue
 moved f v = point v.term_of (map f v.choice)
 
--- no map tells the atoms apart that keeps equality, and order where `<` occurs; formulas and values ask for a map with one back
+-- so every map of atoms that keeps equality, and order where `<` occurs, keeps truth and sameness
 pub record MapsKeepMeaning : Type 0 where
   pub constraints : (ordered : Bool) (f : Atom → Atom) → Keeps ordered f → (g : List (List Lit)) (c : List Atom) → ConstraintFits (length c) g → AdmitsConstraint ordered g → holds c g ≡ holds (map f c) g
-  pub formulas : (ordered : Bool) (f back : Atom → Atom) → IsAutomorphism ordered f back → (g : FormulaD) (c : List Atom) → FormulaFits (length c) g → AdmitsFormula ordered g → FormulaHolds c g ↔ FormulaHolds (map f c) g
-  pub values : (ordered : Bool) (f back : Atom → Atom) → IsAutomorphism ordered f back → (v w : PointValue) → IsProper v → IsProper w → AdmitsTerm ordered v.term_of → AdmitsTerm ordered w.term_of → IsSame v w ↔ IsSame (moved f v) (moved f w)
+  pub formulas : (ordered : Bool) (f : Atom → Atom) → Keeps ordered f → (g : FormulaD) (c : List Atom) → FormulaFits (length c) g → AdmitsFormula ordered g → FormulaHolds c g ↔ FormulaHolds (map f c) g
+  pub values : (ordered : Bool) (f : Atom → Atom) → Keeps ordered f → (v w : PointValue) → IsProper v → IsProper w → AdmitsTerm ordered v.term_of → AdmitsTerm ordered w.term_of → IsSame v w ↔ IsSame (moved f v) (moved f w)
 
--- each choice of k atoms has k numbers below k that stand alike, and what stands alike makes the same constraints true
+-- each choice of k atoms has k numbers below k that stand alike, at which each constraint over k levels has the same truth
 pub record SmallNumbersSuffice : Type 0 where
-  pub numbers : (c : List Atom) → (s : List ℕ) × (length s ≡ length c) × All (λ n. n < length c) s × AreAlike c (sampled s)
-  pub truth : (c d : List Atom) → AreAlike c d → (g : List (List Lit)) → ConstraintFits (length c) g → holds c g ≡ holds d g
+  pub numbers : (c : List Atom) → (s : List ℕ) × (length s ≡ length c) × All (λ n. n < length c) s × AreAlike true c (sampled s)
+  pub truth : (c : List Atom) (s : List ℕ) → AreAlike true c (sampled s) → (g : List (List Lit)) → ConstraintFits (length c) g → holds c g ≡ holds (sampled s) g

@@ -4,7 +4,6 @@ use Rattle.lois_base.specs.Atom.{Atom, equal}
 use Rattle.lois_base.specs.Truth.{atom_at, op_holds}
 use Rattle.lois_base.specs.Validity.{is_admitted}
 use Rattle.lois_base.specs.declared.guards.Op.{Op}
-use Rattle.lois_base.specs.declared.guards.Op.TheVariants.{Eq, Lt}
 
 -- equal atoms at each level of which P holds
 pub record AreEqualFor (P : ℕ → Type 0) (c d : List Atom) : Type 0 where
@@ -20,18 +19,12 @@ abbrev pub Agree : Op → List Atom → List Atom → Type 0
 Agree op c d =
     (i j : ℕ) → i < length c → j < length c → op_holds op (atom_at c i) (atom_at c j) ≡ op_holds op (atom_at d i) (atom_at d j)
 
--- equal and smaller atoms stand at exactly the same pairs of positions
-pub record AreAlike (c d : List Atom) : Type 0 where
+-- Equal atoms stand at exactly the same pairs of positions, and so do smaller ones where atoms are ordered.
+pub record AreAlike (ordered : Bool) (c d : List Atom) : Type 0 where
   pub count : length c ≡ length d
-  pub equals : Agree Eq c d
-  pub smaller : Agree Lt c d
+  pub agree : (op : Op) → IsTrue (is_admitted ordered op) → Agree op c d
 
 -- the map keeps equality of atoms, and their order where atoms are ordered
 abbrev pub Keeps : Bool → (Atom → Atom) → Type 0
 Keeps ordered f =
     (op : Op) → IsTrue (is_admitted ordered op) → (a b : Atom) → op_holds op (f a) (f b) ≡ op_holds op a b
-
--- the map f keeps what is admitted, and `back` finds what f takes to an atom
-pub record IsAutomorphism (ordered : Bool) (f back : Atom → Atom) : Type 0 where
-  pub keeps : Keeps ordered f
-  pub reaches : (a : Atom) → IsTrue (equal (f (back a)) a)

@@ -1,7 +1,7 @@
 //! Laws of atoms, truth and values. They hold by the definitions alone, so each function here does nothing: its contract is
 //! the law.
 
-ghost use Rattle.lois_base.specs.Laws.{EqualIsEquivalence, IsDenseOrder, TruthRespectsEqual, SameIsEquivalence, SameIsRespected, SetsAreTheirMembers, OnlyItsLevelsCount, MapsKeepMeaning, SmallNumbersSuffice};
+ghost use Rattle.lois_base.specs.Laws.{EqualIsEquivalence, IsDenseOrder, TruthRespectsEqual, SameIsEquivalence, SameIsRespected, SetsAreTheirMembers, OnlyItsLevelsCount, OnlyThePatternCounts, MapsKeepMeaning, SmallNumbersSuffice};
 
 /// Atoms are a dense total order without ends, and equal atoms may stand in place of one another.
 pub fn atoms_are_ordered()
@@ -27,9 +27,11 @@ pub fn only_its_levels_count()
     ensures { OnlyItsLevelsCount }
 {}
 
-/// Truth, and whether values are the same, is kept by every map of atoms that keeps equality, and order where `<` occurs.
+/// The truth of constraints and formulas, and whether values are the same, depend only on which atoms are equal and, where `<`
+/// occurs, which are smaller. So every map of atoms that keeps these keeps truth and sameness.
 pub fn maps_keep_meaning()
-    ensures { MapsKeepMeaning }
+    ensures pattern { OnlyThePatternCounts }
+    ensures maps { MapsKeepMeaning }
 {}
 
 /// For each choice of k atoms there are k whole numbers below k that are equal and smaller at exactly the same pairs of

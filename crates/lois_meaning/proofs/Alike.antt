@@ -4,7 +4,7 @@ use Rattle.std.specs.Bool.{IsTrue}
 use Rattle.lois_base.specs.Atom.{Atom, equal}
 use Rattle.lois_base.specs.Data.{TermD, var, tag, tup, coll, TermsD, no_terms, term, CompsD}
 use Rattle.lois_base.specs.Truth.{atom_at}
-use Rattle.lois_base.specs.Values.{PointValue, IsSame, IsIn, IsIncluded, SameAt, SamePartsAt}
+use Rattle.lois_base.specs.Values.{PointValue, IsSame, IsIncluded, SameAt, SamePartsAt}
 use Rattle.lois_base.proofs.Members.{same_refl, same_sym, same_trans, member_in, same_in, same_sets}
 use Rattle.lois_base.proofs.Order.{equal_sym, equal_trans}
 use Rattle.lois_meaning.specs.Kinds.{IsAtomAt, IsTagTerm, IsSetTerm, parts_at, HasPartsAt, IsAtomValue, IsTagValue, HasParts, IsSet, IsSetOf, AreSame}

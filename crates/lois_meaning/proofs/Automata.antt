@@ -6,7 +6,7 @@ use Rattle.lois_base.proofs.Members.{same_refl, same_sym, same_trans, same_in, s
 use Rattle.lois_meaning.specs.Automata.{Machine, IsPair, IsTriple, JoinsStates, IsAutomatonOf, HasStep, Reads, AcceptsFrom, Accepts, IsReachable, IsDeterministic, IsComplete, HaveSameWords, IsClassOf, IsMinimalOf, IsProductOf, IsComplementOf}
 use Rattle.lois_meaning.specs.Expressions.{IsFitFor, IsResultOf}
 use Rattle.lois_meaning.specs.Faults.{IsNoAutomaton, IsNotWhole, IsUnfitFor}
-use Rattle.lois_meaning.specs.Kinds.{IsSetOf, HasParts, AreSame}
+use Rattle.lois_meaning.specs.Kinds.{HasParts, AreSame}
 use Rattle.lois_meaning.specs.declared.faults.FaultKind.{FaultKind}
 use Rattle.lois_meaning.specs.declared.syntax.Operation.{Operation}
 use Rattle.lois_meaning.specs.declared.syntax.Operation.TheVariants.{Union, Inter, Minus, Flatten, Reach, Product, Complement, Minimise}

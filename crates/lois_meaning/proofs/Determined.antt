@@ -2,9 +2,8 @@
 use Rattle.std.proofs.Common.{◌≡◌, ℕ, zero, suc, Bool, true, false, not as opposite, List, [], ◌∷◌, refl, sym, ap, ◌∙◌, subst}
 use mathlib.Core.Logic.{inl, inr}
 use Rattle.std.specs.List.{list_all, list_any}
-use Rattle.lois_base.specs.Atom.{below as is_below}
-use Rattle.lois_base.specs.Values.{PointValue, IsMember, IsSame, IsIn, IsIncluded}
-use Rattle.lois_base.proofs.Members.{same_refl, same_sym, same_trans, in_same, same_in, same_included, included_same}
+use Rattle.lois_base.specs.Values.{PointValue, IsMember, IsSame, IsIn}
+use Rattle.lois_base.proofs.Members.{same_sym, same_trans, in_same, same_in, same_included, included_same}
 use Rattle.lois_base.proofs.Order.{below_respects}
 use Rattle.lois_meaning.specs.Expressions.{IsPartOf, IsTruthOf, Makes, GiveAll, HasTruth, HaveTruths, Gives}
 use Rattle.lois_meaning.specs.Kinds.{AreSame, IsOneOf}

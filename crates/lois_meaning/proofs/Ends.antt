@@ -1,5 +1,5 @@
 -- From stores that are the same a run ends in stores that are the same, with the same lines.
-use Rattle.std.proofs.Common.{◌≡◌, ℕ, zero, suc, true, false, List, [], ◌∷◌, ◌++◌, length, take, refl, sym, ap, subst, Some}
+use Rattle.std.proofs.Common.{◌≡◌, ℕ, zero, suc, true, false, List, [], ◌∷◌, length, take, sym, ap, subst, Some}
 use mathlib.Core.Logic.{inl, inr}
 use Rattle.lois_base.specs.Values.{PointValue, IsSame}
 use Rattle.lois_base.proofs.Members.{same_refl, same_sym, same_trans}

@@ -3,7 +3,6 @@ use Rattle.std.proofs.Common.{◌≡◌, [], ◌∷◌, ◌⊎◌, sym, ◌∙�
 use mathlib.Core.Logic.{inl, inr}
 use Rattle.lois_base.specs.Values.{PointValue, IsSame, IsIn}
 use Rattle.lois_base.proofs.Members.{same_sym, same_trans, same_in}
-use Rattle.lois_meaning.specs.Kinds.{IsSetOf}
 use Rattle.lois_meaning.specs.Runs.{IsSetWith, IsGathered, AreGathered}
 use Rattle.lois_meaning.specs.Store.{NamedValue, NamedValues, looked_up, AreSameNamed}
 use Rattle.lois_meaning.proofs.Alike.{is_set_same, set_of_same, set_of_shift, set_of_to}

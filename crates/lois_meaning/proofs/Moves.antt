@@ -1,6 +1,6 @@
 -- Stores that are the same give the same values and truths, and what is given is closed under `IsSame`.
-use Rattle.std.proofs.Common.{◌≡◌, ℕ, zero, suc, Bool, true, false, not as opposite, List, [], ◌∷◌, refl, subst, Some}
-use Rattle.lois_base.specs.Values.{PointValue, IsMember, IsSame}
+use Rattle.std.proofs.Common.{◌≡◌, ℕ, zero, suc, Bool, true, false, not as opposite, List, ◌∷◌, refl, subst, Some}
+use Rattle.lois_base.specs.Values.{PointValue, IsSame}
 use Rattle.lois_base.proofs.Members.{deeper_same, same_sym, same_trans}
 use Rattle.lois_meaning.specs.Expressions.{IsPartOf, IsTruthOf, Given, Makes, GiveAll, HaveSets, Reaches, HasTruth, HaveTruths, Gives}
 use Rattle.lois_meaning.specs.Kinds.{HasParts, AreSame}

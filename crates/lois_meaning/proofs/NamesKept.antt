@@ -1,5 +1,5 @@
 -- A run keeps the names of its store, first and in order.
-use Rattle.std.proofs.Common.{◌≡◌, ℕ, zero, suc, Bool, true, false, List, [], ◌∷◌, ◌++◌, length, take, map, refl, sym, ap, ◌∙◌, subst, append_assoc, append-nil}
+use Rattle.std.proofs.Common.{◌≡◌, ℕ, zero, suc, List, [], ◌∷◌, ◌++◌, length, take, map, refl, sym, ap, ◌∙◌, append_assoc, append-nil}
 use mathlib.Core.Logic.{inl, inr}
 use Rattle.lois_base.specs.Values.{PointValue}
 use Rattle.lois_meaning.specs.Expressions.{HasTruth}

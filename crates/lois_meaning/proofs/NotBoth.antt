@@ -1,5 +1,5 @@
 -- No expression both gives a value and fails, and no condition both has a truth and fails.
-use Rattle.std.proofs.Common.{◌≡◌, ℕ, zero, suc, ◌<◌, Bool, not as opposite, List, [], ◌∷◌, length, ◌⊎◌, subst, arith}
+use Rattle.std.proofs.Common.{◌≡◌, ℕ, zero, suc, ◌<◌, Bool, not as opposite, List, ◌∷◌, length, ◌⊎◌, subst, arith}
 use mathlib.Core.Logic.{inl, inr}
 use Rattle.lois_base.specs.Atom.{Atom}
 use Rattle.lois_base.specs.Values.{PointValue, IsMember, IsSame}

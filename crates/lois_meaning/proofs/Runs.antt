@@ -1,14 +1,14 @@
 -- What a run ends with is determined; stores that are the same fail alike; no run both ends and fails.
-use Rattle.std.proofs.Common.{◌≡◌, ℕ, zero, suc, ◌<◌, true, false, true≢false, List, [], ◌∷◌, ◌++◌, length, take, ◌⊎◌, refl, sym, ◌∙◌, subst, Some, arith}
+use Rattle.std.proofs.Common.{◌≡◌, ℕ, zero, suc, ◌<◌, true, false, true≢false, [], ◌∷◌, ◌++◌, length, take, ◌⊎◌, refl, sym, ◌∙◌, subst, Some, arith}
 use mathlib.Core.Logic.{inl, inr}
 use Rattle.lois_base.specs.Values.{PointValue, IsMember, IsSame}
 use Rattle.lois_base.proofs.Members.{same_refl, same_sym, same_trans, same_included, deeper_same}
-use Rattle.lois_meaning.specs.Expressions.{Gives, HasTruth}
-use Rattle.lois_meaning.specs.Faults.{IsNoSet, OperandFails}
+use Rattle.lois_meaning.specs.Expressions.{HasTruth}
+use Rattle.lois_meaning.specs.Faults.{IsNoSet}
 use Rattle.lois_meaning.specs.Kinds.{IsSet}
 use Rattle.lois_meaning.specs.Runs.{Ending, BlockEnds, TurnsEnd, StmtEnds, ListEnds, StmtFails, ListFails}
 use Rattle.lois_meaning.specs.Store.{named, NamedValues, looked_up, stored, AreSameNamed, depth_limit}
-use Rattle.lois_meaning.specs.Tree.{ExprD, binding, CondD, StmtD, «let», assign, add, for, if, while, assert, print, StmtsD, no_stmts, stmt}
+use Rattle.lois_meaning.specs.Tree.{binding, CondD, StmtD, «let», assign, add, for, if, while, assert, print, StmtsD, no_stmts, stmt}
 use Rattle.lois_meaning.specs.declared.faults.FaultKind.{FaultKind}
 use Rattle.lois_meaning.proofs.Alike.{is_set_same}
 use Rattle.lois_meaning.proofs.Determined.{given_same, truth_same}
@@ -17,7 +17,7 @@ use Rattle.lois_meaning.proofs.Failures.{cond_fails_move, fails_move, operand_mo
 use Rattle.lois_meaning.proofs.Gathered.{set_with_move, set_with_same, all_gathered_move, all_gathered_same}
 use Rattle.lois_meaning.proofs.Moves.{truth_from, gives_from}
 use Rattle.lois_meaning.proofs.NotBoth.{gives_fails, truth_fails, operand_set}
-use Rattle.lois_meaning.proofs.Stores.{named_refl, named_sym, named_trans, looked_up_same, stored_same, stored_in, stored_other, take_same, append_same, some_same}
+use Rattle.lois_meaning.proofs.Stores.{named_refl, named_sym, named_trans, looked_up_same, stored_in, stored_other, take_same, append_same, some_same}
 
 no_lines : (l m : NamedValues) → l ≡ [] → m ≡ [] → AreSameNamed l m
 no_lines l m e f = subst (λ x. AreSameNamed x m) (sym e) (subst (λ x. AreSameNamed [] x) (sym f) tt)

@@ -1,5 +1,5 @@
 -- Stores that are the same name by name.
-use Rattle.std.proofs.Common.{◌≡◌, ℕ, zero, suc, Bool, true, false, List, [], ◌∷◌, ◌++◌, take, length, map, refl, sym, ap, ◌∙◌, subst, append-nil, Option, Some, None, if◌then◌else◌, bytes_eq}
+use Rattle.std.proofs.Common.{◌≡◌, ℕ, zero, suc, Bool, true, false, List, [], ◌∷◌, ◌++◌, take, length, map, refl, sym, ap, ◌∙◌, subst, append-nil, Some, None, if◌then◌else◌, bytes_eq}
 use Rattle.std.proofs.lemmas.Slice.Eq.{bytes_eq-Decides}
 use Rattle.lois_base.specs.Values.{PointValue, IsSame}
 use Rattle.lois_base.proofs.Members.{same_refl, same_sym, same_trans}
@@ -92,3 +92,12 @@ stored_names x v (b ∷ s) = go (bytes_eq b.name x) refl (stored_names x v s)
         (made : List (List ℕ)) × (map name_of (if p then named x v ∷ s else (b ∷ stored x v s)) ≡ map name_of (b ∷ s) ++ made)
     go true e later = ([], cc ((bytes_eq-Decides b.name x).0 e, append-nil (map name_of s)))
     go false e later = (later.0, ap (λ z. b.name ∷ z) later.1)
+
+-- what was stored is found
+pub found_stored : (x : List ℕ) (v : PointValue) (s : NamedValues) → looked_up x (stored x v s) ≡ Some v
+found_stored x v [] = ap (λ p. if p then Some v else None) ((bytes_eq-Decides x x).1 refl)
+found_stored x v (b ∷ s) = go (bytes_eq b.name x) refl (found_stored x v s)
+  where
+    go : (p : Bool) → bytes_eq b.name x ≡ p → looked_up x (stored x v s) ≡ Some v → looked_up x (if p then named x v ∷ s else (b ∷ stored x v s)) ≡ Some v
+    go true e later = ap (λ p. if p then Some v else looked_up x s) ((bytes_eq-Decides x x).1 refl)
+    go false e later = ap (λ p. if p then Some b.holds else looked_up x (stored x v s)) e ∙ later

@@ -16,3 +16,4 @@ pub mod ResultsText
 pub mod TraceText
 pub mod Sound
 pub mod TextRows
+pub mod Examples

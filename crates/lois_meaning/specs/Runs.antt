@@ -14,11 +14,14 @@ use Rattle.lois_meaning.specs.declared.faults.FaultKind.TheVariants.{Assertion, 
 abbrev pub IsSetWith : PointValue → PointValue → PointValue → Type 0
 IsSetWith new old v = IsSet old × IsSetOf new (λ w. IsIn w old ⊎ IsSame w v)
 
--- After a loop a variable that holds a set has its old members and those that it has at some end; others are as before.
+-- w is in what the name x holds at some end
+abbrev pub IsInAtSomeEnd : PointValue → List ℕ → (NamedValues → Type 0) → Type 0
+IsInAtSomeEnd w x AtEnd = (t : NamedValues) × (v : PointValue) × AtEnd t × (looked_up x t ≡ Some v) × IsIn w v
+
+-- After a loop a variable that holds a set has its old members and those that it has at some end; each other one is as before.
 abbrev pub IsGathered : PointValue → NamedValue → (NamedValues → Type 0) → Type 0
 IsGathered new b AtEnd =
-    (IsSet b.holds × IsSetOf new (λ w. IsIn w b.holds ⊎
-    ((t : NamedValues) × (v : PointValue) × AtEnd t × (looked_up b.name t ≡ Some v) × IsIn w v))) ⊎
+    (IsSet b.holds × IsSetOf new (λ w. IsIn w b.holds ⊎ IsInAtSomeEnd w b.name AtEnd)) ⊎
     ((IsSet b.holds → ⊥) × IsSame new b.holds)
 
 -- t is the store after a loop from s whose bodies end as said
@@ -30,6 +33,11 @@ AreGathered _ _ AtEnd = ⊥
 -- A statement, a list of statements and a block relate the store before, the store after and the lines that are printed.
 abbrev pub Ending : Type 1
 Ending = NamedValues → NamedValues → NamedValues → Type 0
+
+-- u is an end of a loop's body: some member of v, as x, passes the condition, and the body ends there from the store s with x
+abbrev pub IsEndOf : NamedValues → (NamedValues → Bool → Type 0) → Ending → List ℕ → PointValue → NamedValues → Type 0
+IsEndOf u decides body x v s =
+    (m : PointValue) × (lines : NamedValues) × IsMember m v × decides (stored x m s) true × body (stored x m s) u lines
 
 -- a block ends where its list does, and the names made in it are removed: names are only added, at the end
 abbrev pub BlockEnds : Ending → Ending
@@ -55,9 +63,7 @@ abbrev mutual
       ((m : PointValue) → IsMember m v → (b : Bool) × HasTruth c (stored x m s) b) ×
       ((m : PointValue) → IsMember m v → HasTruth c (stored x m s) true →
       (u : NamedValues) × (ls : NamedValues) × ListEnds body (stored x m s) u ls) ×
-      AreGathered t s (λ u. (m : PointValue) × (ls : NamedValues) × IsMember m v ×
-      HasTruth c (stored x m s) true × ListEnds body (stored x m s) u ls) ×
-      (lines ≡ [])
+      AreGathered t s (λ u. IsEndOf u (HasTruth c) (ListEnds body) x v s) × (lines ≡ [])
   StmtEnds (if c yes_block no_block) s t lines =
       (HasTruth c s true × BlockEnds (ListEnds yes_block) s t lines) ⊎
       (HasTruth c s false × BlockEnds (ListEnds no_block) s t lines)

@@ -1,5 +1,6 @@
 //! The laws of the meaning: each function does nothing, and its contract states a law that is proved.
 
+ghost use Rattle.lois_meaning.specs.Examples.{AtomsAreAll, EachAtomIsAll, ParametersAreAtoms, CopiesArePrivate, IdleLoopsEnd, TurnsAreExact, PrintsTwoLines, AddsToSetsAlone, PathsNameElements, AcceptsOneAtom};
 ghost use Rattle.lois_meaning.specs.Laws.{RunsAlike, IsDetermined, NeverBoth, KeepsNames};
 
 /// Stores that are the same give the same values, truths, failures and ends.
@@ -20,4 +21,18 @@ pub fn nothing_ends_and_fails()
 /// A run keeps the names of its store, first and in order.
 pub fn runs_keep_names()
     ensures names { KeepsNames }
+{}
+
+/// What small expressions and scripts mean.
+pub fn examples_mean_what_they_should()
+    ensures atoms { AtomsAreAll }
+    ensures each_atom { EachAtomIsAll }
+    ensures parameters { ParametersAreAtoms }
+    ensures private_copies { CopiesArePrivate }
+    ensures idle_loops { IdleLoopsEnd }
+    ensures turns { TurnsAreExact }
+    ensures two_prints { PrintsTwoLines }
+    ensures additions { AddsToSetsAlone }
+    ensures paths { PathsNameElements }
+    ensures automaton { AcceptsOneAtom }
 {}

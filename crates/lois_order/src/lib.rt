@@ -1,0 +1,8 @@
+//! Atoms with an order: the fractions.
+#![tactic(auto)]
+
+mod atoms;
+mod cubes;
+mod rule;
+
+pub use atoms::OrderAtoms;
