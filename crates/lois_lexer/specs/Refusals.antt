@@ -1,5 +1,5 @@
 -- Where a text is refused. Before the place the text is cut whole, so it is the first such place.
-use Rattle.std.specs.Prelude.{◌≡◌, ℕ, ◌+◌, ◌<◌, ◌≢◌, ◌⊎◌, List, length, take, drop, slice_index, IsTrue, IsFalse}
+use Rattle.std.specs.Prelude.{◌≡◌, ℕ, ◌+◌, ◌<◌, ◌≢◌, List, length, take, drop, slice_index, IsTrue, IsFalse}
 use Rattle.std.specs.List.{list_all}
 use Rattle.lois_lexer.specs.declared.TokenKind.{TokenKind}
 use Rattle.lois_lexer.specs.declared.TokenKind.TheVariants.{Number}
@@ -29,15 +29,16 @@ pub record BreaksComment (bytes : List ℕ) (n : ℕ) : Type 0 where
 abbrev pub IsOverLimit : List ℕ → TokenKind → Type 0
 IsOverLimit bytes kind = (n : ℕ) × Longest bytes kind n × IsFalse (is_within_limits kind (take n bytes))
 
--- what is wrong at a place up to which the text is cut
-pub data IsWrongAt (text : List ℕ) (at : ℕ) : LexError → Type 0 where
-  bad_byte : BeginsNothing (drop at text) → IsWrongAt text at (BadByte at)
-  bad_comment : (n : ℕ) → BreaksComment (drop at text) n → IsWrongAt text at (BadByte (at + n))
-  long_name : (kind : TokenKind) → kind ≢ Number → IsOverLimit (drop at text) kind → IsWrongAt text at (LongName at)
-  bad_number : IsOverLimit (drop at text) Number → IsWrongAt text at (BadNumber at)
+-- What is wrong where the text goes on with the bytes from a place on.
+pub data IsWrongAt (at : ℕ) (bytes : List ℕ) : LexError → Type 0 where
+  bad_byte : BeginsNothing bytes → IsWrongAt at bytes (BadByte at)
+  bad_comment : (n : ℕ) → BreaksComment bytes n → IsWrongAt at bytes (BadByte (at + n))
+  long_name : (kind : TokenKind) → kind ≢ Number → IsOverLimit bytes kind → IsWrongAt at bytes (LongName at)
+  bad_number : IsOverLimit bytes Number → IsWrongAt at bytes (BadNumber at)
 
+-- The text is refused so.
 abbrev pub Refuses : List ℕ → LexError → Type 0
-Refuses text error = (at : ℕ) × (tokens : List Token) × IsCut text at tokens × IsWrongAt text at error
+Refuses text error = (at : ℕ) × (tokens : List Token) × IsCut text at tokens × IsWrongAt at (drop at text) error
 
 -- the place of a refusal is a byte of the text
 abbrev pub IsInside : List ℕ → LexError → Type 0

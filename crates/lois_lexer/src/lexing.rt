@@ -1,12 +1,13 @@
 //! From bytes to tokens.
 
-ghost use Rattle.std.specs.Prelude.{◌≡◌, ◌≢◌, ℕ, ◌<◌, ◌≤◌, ◌⊎◌, true, List, length, drop, take, slice_index, All, IfOk, IfErr, IfSome, IfNone, IsErrOf, IsTrue, IsFalse};
+ghost use Rattle.std.specs.Prelude.{◌≡◌, ◌≢◌, ℕ, ◌<◌, ◌≤◌, ◌⊎◌, ◌↔◌, List, [], ◌∷◌, length, ◌+◌, ◌^◌, take, slice_index, All, IfOk, IfErr, IfSome, IfNone, IsErrOf, IsTrue, IsFalse, Contains};
 ghost use Rattle.std.specs.List.{prefix_len};
 ghost use Rattle.std.specs.Char.{is_ascii_alphabetic, is_ascii_digit};
 ghost use Rattle.lois_lexer.specs.declared.TokenKind.{TokenKind};
 ghost use Rattle.lois_lexer.specs.declared.Token.{Token};
 ghost use Rattle.lois_lexer.specs.declared.LexError.{LexError};
 ghost use Rattle.lois_lexer.specs.Bytes.{is_word_byte, is_blank, is_comment_byte};
+ghost use Rattle.lois_lexer.specs.Words.{symbols};
 ghost use Rattle.lois_lexer.specs.Forms.{HasForm, is_within_limits};
 ghost use Rattle.lois_lexer.specs.Tokens.{Longest, IsGap, HasTokens, IsTokenOf};
 ghost use Rattle.lois_lexer.specs.Refusals.{IsWrongAt, Refuses, IsInside};
@@ -15,6 +16,13 @@ ghost use Rattle.lois_lexer.specs.Laws.{OneList, OneRefusal, NeverBoth, WrittenI
 use crate::words::is_reserved;
 use crate::{LexError, Token, TokenKind};
 use std::alloc::Global;
+
+/// Whether the byte is a space, a tab, LF or CR.
+fn is_blank(byte: u8) -> bool
+    ensures { result ≡ is_blank byte }
+{
+    matches!(byte, b' ' | b'\t' | b'\n' | b'\r')
+}
 
 /// How many bytes at the front may stand in a word.
 fn word_len(bytes: &[u8]) -> usize
@@ -81,6 +89,23 @@ fn number_at(bytes: &[u8]) -> (TokenKind, usize)
     (TokenKind::Number, digits_len(bytes))
 }
 
+/// Whether the byte alone is a symbol.
+fn is_symbol(byte: u8) -> bool
+    ensures { IsTrue result ↔ Contains symbols (byte ∷ []) }
+{
+    b";,()[]{}:=<".contains(&byte)
+}
+
+/// Whether the two bytes are a symbol.
+fn is_pair(first: u8, second: u8) -> bool
+    ensures { IsTrue result ↔ Contains symbols (first ∷ second ∷ []) }
+{
+    if first != b':' && first != b'!' {
+        return false;
+    }
+    second == b'='
+}
+
 /// The symbol at the front, which begins with neither letter, digit nor quote.
 fn symbol_at(bytes: &[u8]) -> Option<(TokenKind, usize)>
     requires nonempty { 0 < length bytes.now }
@@ -90,13 +115,12 @@ fn symbol_at(bytes: &[u8]) -> Option<(TokenKind, usize)>
     ensures some { IfSome result (λ token. Longest bytes.now token.0 token.1) }
     ensures none { IfNone result ((kind : TokenKind) (n : ℕ) → HasForm kind (take n bytes.now) → ⊥) }
 {
-    let has_equals = bytes.len() > 1 && bytes[1] == b'=';
-    match bytes[0] {
-        b':' | b'!' if has_equals => Some((TokenKind::Symbol, 2)),
-        b';' | b',' | b'(' | b')' | b'[' | b']' | b'{' | b'}' | b':' | b'=' | b'<' => {
-            Some((TokenKind::Symbol, 1))
-        }
-        _ => None,
+    if bytes.len() > 1 && is_pair(bytes[0], bytes[1]) {
+        Some((TokenKind::Symbol, 2))
+    } else if is_symbol(bytes[0]) {
+        Some((TokenKind::Symbol, 1))
+    } else {
+        None
     }
 }
 
@@ -131,48 +155,74 @@ fn is_within_limits(kind: TokenKind, bytes: &[u8]) -> bool
     }
 }
 
-/// How many bytes the blank or the comment at a place has, or `None` where another byte stands there.
-fn gap_at(text: &[u8], at: usize) -> Result<Option<usize>, LexError>
-    requires { at < length text.now }
-    ensures gap { IfOk result (λ found. IfSome found (IsGap (drop at text.now))) }
-    ensures no_blank { IfOk result (λ found. IfNone found (IsFalse (is_blank (slice_index (drop at text.now) 0)))) }
-    ensures no_comment { IfOk result (λ found. IfNone found (slice_index (drop at text.now) 0 ≢ 35)) }
-    ensures wrong { IfErr result (IsWrongAt text.now at) }
+/// How many bytes the blank or the comment at the front has, or `None` where another byte stands there.
+/// The bytes are those of a text from `at` on.
+fn gap_at(at: usize, bytes: &[u8]) -> Result<Option<usize>, LexError>
+    requires nonempty { 0 < length bytes.now }
+    requires in_text { at + length bytes.now < 2 ^ 64 }
+    ensures gap { IfOk result (λ found. IfSome found (IsGap bytes.now)) }
+    ensures no_blank { IfOk result (λ found. IfNone found (IsFalse (is_blank (slice_index bytes.now 0)))) }
+    ensures no_comment { IfOk result (λ found. IfNone found (slice_index bytes.now 0 ≢ 35)) }
+    ensures wrong { IfErr result (IsWrongAt at bytes.now) }
 {
-    let rest = &text[at..];
-    match rest[0] {
-        b' ' | b'\t' | b'\n' | b'\r' => Ok(Some(1)),
-        b'#' => {
-            let len = comment_len(rest);
-            if len < rest.len() && rest[len] != b'\n' {
-                return Err(LexError::BadByte(at + len));
-            }
-            Ok(Some(len))
-        }
-        _ => Ok(None),
+    if is_blank(bytes[0]) {
+        return Ok(Some(1));
     }
+    if bytes[0] != b'#' {
+        return Ok(None);
+    }
+    let len = comment_len(bytes);
+    if len < bytes.len() && bytes[len] != b'\n' {
+        return Err(LexError::BadByte(at + len));
+    }
+    Ok(Some(len))
 }
 
-/// The kind and the length of the token at a place where no blank or comment stands.
-fn token_at(text: &[u8], at: usize) -> Result<(TokenKind, usize), LexError>
-    requires within { at < length text.now }
-    requires no_blank { IsFalse (is_blank (slice_index (drop at text.now) 0)) }
-    requires no_comment { slice_index (drop at text.now) 0 ≢ 35 }
-    ensures longest { IfOk result (λ token. Longest (drop at text.now) token.0 token.1) }
-    ensures limits { IfOk result (λ token. IsTrue (is_within_limits token.0 (take token.1 (drop at text.now)))) }
-    ensures wrong { IfErr result (IsWrongAt text.now at) }
+/// The kind and the length of the token at the front, where no blank or comment stands.
+/// The bytes are those of a text from `at` on.
+fn token_at(at: usize, bytes: &[u8]) -> Result<(TokenKind, usize), LexError>
+    requires nonempty { 0 < length bytes.now }
+    requires no_blank { IsFalse (is_blank (slice_index bytes.now 0)) }
+    requires no_comment { slice_index bytes.now 0 ≢ 35 }
+    ensures longest { IfOk result (λ token. Longest bytes.now token.0 token.1) }
+    ensures limits { IfOk result (λ token. IsTrue (is_within_limits token.0 (take token.1 bytes.now))) }
+    ensures wrong { IfErr result (IsWrongAt at bytes.now) }
 {
-    let rest = &text[at..];
-    let Some((kind, len)) = longest_token(rest) else {
+    let Some((kind, len)) = longest_token(bytes) else {
         return Err(LexError::BadByte(at));
     };
-    if is_within_limits(kind, &rest[..len]) {
+    if is_within_limits(kind, &bytes[..len]) {
         return Ok((kind, len));
     }
     match kind {
         TokenKind::Number => Err(LexError::BadNumber(at)),
         _ => Err(LexError::LongName(at)),
     }
+}
+
+/// Cuts the text from its start to its end.
+fn cut(alloc: Global, text: &[u8]) -> Result<Vec<Token>, LexError>
+    ensures tokens { IfOk result (λ tokens. HasTokens text.now tokens.items) }
+    ensures refused { IfErr result (λ error. error ≢ LexError.NoMemory → Refuses text.now error) }
+{
+    let mut tokens = Vec::new(alloc);
+    let mut from = 0;
+    while from < text.len() {
+        let rest = &text[from..];
+        match gap_at(from, rest)? {
+            Some(len) => from += len,
+            None => {
+                let (kind, len) = token_at(from, rest)?;
+                tokens.push(Token {
+                    kind,
+                    from,
+                    to: from + len,
+                })?;
+                from += len;
+            }
+        }
+    }
+    Ok(tokens)
 }
 
 /// The tokens of a text, in order. Between them stand blanks and comments.
@@ -193,23 +243,7 @@ pub fn lex(alloc: Global, text: &[u8]) -> Result<Vec<Token>, LexError>
     ensures forms { IfOk result (λ tokens. All (IsTokenOf text.now) tokens.items) }
     ensures inside { IfErr result (IsInside text.now) }
 {
-    let mut tokens = Vec::new(alloc);
-    let mut from = 0;
-    while from < text.len() {
-        match gap_at(text, from)? {
-            Some(len) => from += len,
-            None => {
-                let (kind, len) = token_at(text, from)?;
-                tokens.push(Token {
-                    kind,
-                    from,
-                    to: from + len,
-                })?;
-                from += len;
-            }
-        }
-    }
-    Ok(tokens)
+    cut(alloc, text)
 }
 
 /// A text has at most one list of tokens, is refused in one way at most, and never both. It does nothing.

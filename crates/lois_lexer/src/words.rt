@@ -47,5 +47,5 @@ pub const RESERVED: [&[u8]; 36] = [
 pub fn is_reserved(word: &[u8]) -> bool
     ensures { IsTrue result ↔ Contains reserved word.now }
 {
-    RESERVED.iter().any(|reserved| *reserved == word)
+    RESERVED.contains(&word)
 }
