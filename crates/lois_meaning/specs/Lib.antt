@@ -15,7 +15,7 @@ pub mod TermText
 pub mod ResultsText
 pub mod TraceText
 pub mod Sound
-pub mod Examples
 pub mod TextRows
 pub mod Grammar
 pub mod Limits
+pub mod Examples

@@ -7,6 +7,8 @@ mod results;
 mod script;
 mod sound;
 mod syntax;
+#[cfg(test)]
+mod tests;
 pub mod texts;
 
 pub use faults::{Answer, Fault, FaultKind, Stop, Trace};
