@@ -1,13 +1,15 @@
 -- A text is read in one way at most: it ends with one list of tokens, or with one refusal.
-use Rattle.std.proofs.Common.{◌≡◌, ℕ, ◌+◌, ◌-◌, List, [], ◌∷◌, ◌++◌, Result, Ok, Err, length, take, drop, subst, sym, refl, ap, ◌∙◌, arith, append_assoc, append-nil, length-drop}
+use Rattle.std.proofs.Common.{◌≡◌, ℕ, ◌+◌, ◌-◌, ◌≤◌, List, [], ◌∷◌, ◌++◌, Result, Ok, Err, length, take, drop, subst, sym, refl, ap, ◌∙◌, arith, append_assoc, append-nil, length-drop, get_or, length-append, add-zero, ⊎_elim}
 use Rattle.std.specs.Prelude.{IsTrue, slice_range, All}
-use Rattle.std.proofs.lemmas.List.Elements.{All-nil, All-push}
+use Rattle.std.proofs.lemmas.Bool.{cases_lt}
+use Rattle.std.proofs.lemmas.List.{get_or_append_left, get_or-append-add}
+use Rattle.std.proofs.lemmas.List.Elements.{All-nil, All-push, All-weaker}
 use Rattle.lois_lexer.specs.declared.TokenKind.{TokenKind}
 use Rattle.lois_lexer.specs.declared.TokenKind.TheVariants.{Number}
 use Rattle.lois_lexer.specs.declared.Token.{Token}
 use Rattle.lois_lexer.specs.declared.LexError.{LexError}
 use Rattle.lois_lexer.specs.Forms.{HasForm, is_within_limits}
-use Rattle.lois_lexer.specs.Tokens.{Longest, IsGap, IsCut, HasTokens, IsTokenOf}
+use Rattle.lois_lexer.specs.Tokens.{Longest, IsGap, IsCut, HasTokens, IsTokenOf, AreInOrder}
 use Rattle.lois_lexer.specs.Tokens.IsCut.{at_start, past_gap, past_token}
 use Rattle.lois_lexer.specs.Refusals.{IsWrongAt, Refuses, IsInside}
 use Rattle.lois_lexer.specs.Refusals.IsWrongAt.{bad_byte, bad_comment, long_name, bad_number}
@@ -118,6 +120,30 @@ pub tokens_of_cut : (text : List ℕ) (at : ℕ) (ts : List Token) → IsCut tex
 tokens_of_cut text at ts at_start = All-nil (IsTokenOf text)
 tokens_of_cut text at ts (past_gap from n tokens cut g) = tokens_of_cut text from tokens cut
 tokens_of_cut text at ts (past_token from n kind tokens cut t limits) = All-push (IsTokenOf text) tokens (token_at kind from n) (tokens_of_cut text from tokens cut) (token_of text from n kind t limits)
+
+-- the tokens end before the place, and each before the next begins
+ends_before : (text : List ℕ) (at : ℕ) (ts : List Token) → IsCut text at ts → All (λ (t : Token). t.to ≤ at) ts
+ends_before text at ts at_start = All-nil (λ (t : Token). t.to ≤ 0)
+ends_before text at ts (past_gap from n tokens cut g) = All-weaker (λ (t : Token). t.to ≤ from) (λ (t : Token). t.to ≤ from + n) (λ t h. omega arith) tokens (ends_before text from tokens cut)
+ends_before text at ts (past_token from n kind tokens cut t limits) =
+    All-push (λ (u : Token). u.to ≤ from + n) tokens (token_at kind from n)
+    (All-weaker (λ (u : Token). u.to ≤ from) (λ (u : Token). u.to ≤ from + n) (λ u h. omega arith) tokens (ends_before text from tokens cut))
+    (omega arith)
+
+pub cut_in_order : (text : List ℕ) (at : ℕ) (ts : List Token) → IsCut text at ts → AreInOrder ts
+cut_in_order text at ts at_start = λ k d below. absurd (omega arith)
+cut_in_order text at ts (past_gap from n tokens cut g) = cut_in_order text from tokens cut
+cut_in_order text at ts (past_token from n kind tokens cut t limits) = λ k d below.
+    let new = token_at kind from n in
+    let len = length-append tokens (new ∷ []) in
+    let here = ap (λ (u : Token). u.to) (get_or_append_left tokens (new ∷ []) d k (omega arith)) in
+    ⊎_elim
+    (λ inner. omega (arith, cut_in_order text from tokens cut k d inner, ap (λ (u : Token). u.from) (get_or_append_left tokens (new ∷ []) d (k + 1) inner)))
+    (λ last.
+    let is_last : k + 1 ≡ length tokens = omega arith in
+    let next : get_or (tokens ++ new ∷ []) (k + 1) d ≡ new = ap (λ i. get_or (tokens ++ new ∷ []) i d) is_last ∙ ap (λ i. get_or (tokens ++ new ∷ []) i d) (sym (add-zero (length tokens))) ∙ get_or-append-add tokens (new ∷ []) 0 d in
+    omega (arith, ends_before text from tokens cut k d (omega arith), ap (λ (u : Token). u.from) next))
+    (cases_lt (k + 1) (length tokens))
 
 -- the place of a refusal is a byte of the text
 pub refused_inside : (text : List ℕ) (error : LexError) → Refuses text error → IsInside text error

@@ -1,6 +1,6 @@
 -- Which tokens a text has.
 use Rattle.std.specs.Prelude.{◌≡◌, ℕ, ◌+◌, ◌<◌, ◌≤◌, ◌⊎◌, List, [], ◌∷◌, ◌++◌, length, take, drop, map, slice_index, slice_range, IsTrue}
-use Rattle.std.specs.List.{list_all}
+use Rattle.std.specs.List.{list_all, AllAdjacentBelow}
 use Rattle.lois_lexer.specs.declared.TokenKind.{TokenKind}
 use Rattle.lois_lexer.specs.declared.Token.{Token}
 use Rattle.lois_lexer.specs.Bytes.{is_blank, is_comment_byte}
@@ -46,6 +46,7 @@ pub record Spelled : Type 0 where
   pub kind : TokenKind
   pub bytes : List ℕ
 
+-- the tokens of a text without their places
 abbrev pub spelled : List ℕ → List Token → List Spelled
 spelled text tokens = map (λ (t : Token). record { kind = t.kind; bytes = bytes_of text t }) tokens
 
@@ -55,3 +56,7 @@ pub record IsTokenOf (text : List ℕ) (token : Token) : Type 0 where
   pub within : token.to ≤ length text
   pub form : HasForm token.kind (bytes_of text token)
   pub limits : IsTrue (is_within_limits token.kind (bytes_of text token))
+
+-- each token ends before the next begins
+abbrev pub AreInOrder : List Token → Type 0
+AreInOrder tokens = AllAdjacentBelow (λ (t : Token) (u : Token). t.to ≤ u.from) tokens (length tokens)

@@ -9,7 +9,7 @@ ghost use Rattle.lois_lexer.specs.declared.LexError.{LexError};
 ghost use Rattle.lois_lexer.specs.Bytes.{is_word_byte, is_blank, is_comment_byte};
 ghost use Rattle.lois_lexer.specs.Words.{symbols};
 ghost use Rattle.lois_lexer.specs.Forms.{HasForm, is_within_limits};
-ghost use Rattle.lois_lexer.specs.Tokens.{Longest, IsGap, HasTokens, IsTokenOf};
+ghost use Rattle.lois_lexer.specs.Tokens.{Longest, IsGap, HasTokens, IsTokenOf, AreInOrder};
 ghost use Rattle.lois_lexer.specs.Refusals.{IsWrongAt, Refuses, IsInside};
 ghost use Rattle.lois_lexer.specs.Laws.{OneList, OneRefusal, NeverBoth, WrittenIsRead};
 
@@ -239,8 +239,11 @@ pub fn lex(alloc: Global, text: &[u8]) -> Result<Vec<Token>, LexError>
     ensures refused { IfErr result (λ error. error ≢ LexError.NoMemory → Refuses text.now error) }
     ensures refuses { (error : LexError) → Refuses text.now error → IsErrOf result error ⊎ IsErrOf result LexError.NoMemory }
 
-    // Each token lies in the text and has the form of its kind. A refusal's place is a byte of the text.
+    // Each token lies in the text, has the form of its kind, and ends before the next begins.
     ensures forms { IfOk result (λ tokens. All (IsTokenOf text.now) tokens.items) }
+    ensures in_order { IfOk result (λ tokens. AreInOrder tokens.items) }
+
+    // A refusal's place is a byte of the text.
     ensures inside { IfErr result (IsInside text.now) }
 {
     cut(alloc, text)

@@ -3,9 +3,9 @@ use Rattle.std.specs.Prelude.{IfOk, IfErr, IsErrOf, All}
 use Rattle.lois_lexer.specs.declared.Token.{Token}
 use Rattle.lois_lexer.specs.declared.LexError.{LexError}
 use Rattle.lois_lexer.specs.declared.LexError.TheVariants.{BadByte, LongName, BadNumber, NoMemory}
-use Rattle.lois_lexer.specs.Tokens.{HasTokens, IsTokenOf}
+use Rattle.lois_lexer.specs.Tokens.{HasTokens, IsTokenOf, AreInOrder}
 use Rattle.lois_lexer.specs.Refusals.{Refuses, IsInside}
-use Rattle.lois_lexer.proofs.OneReading.{one_list, one_refusal, never_both, tokens_of_cut, refused_inside}
+use Rattle.lois_lexer.proofs.OneReading.{one_list, one_refusal, never_both, tokens_of_cut, cut_in_order, refused_inside}
 use Rattle.lois_lexer.proofs.lexing.lex.Goals as goal
 
 -- an error is want of memory, or it isn't
@@ -34,6 +34,10 @@ forms : {V : Type 0} (items : V → List Token) (text : List ℕ) (r : Result V 
 forms items text (Ok v) has = tokens_of_cut text (length text) (items v) has
 forms items text (Err e) has = tt
 
+in_order : {V : Type 0} (items : V → List Token) (text : List ℕ) (r : Result V LexError) → IfOk r (λ v. HasTokens text (items v)) → IfOk r (λ v. AreInOrder (items v))
+in_order items text (Ok v) has = cut_in_order text (length text) (items v) has
+in_order items text (Err e) has = tt
+
 inside : {V : Type 0} (text : List ℕ) (r : Result V LexError) → IfErr r (λ e. e ≢ NoMemory → Refuses text e) → IfErr r (IsInside text)
 inside text (Ok v) wrong = tt
 inside text (Err NoMemory) wrong = tt
@@ -55,3 +59,6 @@ returns-clause-forms c = forms (λ v. v.items) c.args.text.now c.cut.result c.cu
 
 pub returns-clause-inside : goal.returns-clause-inside
 returns-clause-inside c = inside c.args.text.now c.cut.result c.cut.ensures.refused
+
+pub returns-clause-in_order : goal.returns-clause-in_order
+returns-clause-in_order c = in_order (λ v. v.items) c.args.text.now c.cut.result c.cut.ensures.tokens
