@@ -1,7 +1,10 @@
 //! How a run fails.
 
+ghost use Rattle.std.specs.Prelude.{◌≡◌};
+ghost use Rattle.lois_meaning.specs.declared.faults.Stop.TheVariants.{NoMemory};
+
 use crate::{Lines, Pos, Results};
-use lois_base::{Names, Numbers};
+use lois_base::{Names, NoMemory, Numbers};
 
 /// The kinds of failure of a run.
 #[derive(Clone, Copy, PartialEq, Eq, Debug)]
@@ -33,6 +36,14 @@ pub struct Fault {
 pub enum Stop {
     Fault(Fault),
     NoMemory,
+}
+
+impl From<NoMemory> for Stop {
+    ghost from_gives = { λ _ s. s ≡ NoMemory };
+
+    fn from(_: NoMemory) -> Stop {
+        Stop::NoMemory
+    }
 }
 
 /// What a failed run gives: whether the atoms are ordered, the parameters, the line and the column of the failure,

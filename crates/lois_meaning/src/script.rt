@@ -119,7 +119,7 @@ impl Params {
     pub fn get(&self, index: usize) -> Option<&Param>
         ensures item { option_map (λ p. param_tree p.now) result ≡ slice_get (params_list self.now) index }
     {
-        self.items.get(index)
+        self.as_slice().get(index)
     }
 
     /// The parameters, first to last.

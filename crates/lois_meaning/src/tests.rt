@@ -25,31 +25,41 @@ fn at(offset: usize) -> Pos {
     Pos { offset }
 }
 
+fn offset_of(expr: Expr) -> usize {
+    expr.pos().offset
+}
+
 #[test]
 fn expressions_begin_at_their_first_token(rt: HostRuntime) -> Result<(), Fail> {
     let alloc = rt.alloc();
-    let word = name(&rt, alloc, b"x")?;
-    let tag = name(&rt, alloc, b"eq")?;
-    let boxed = Box::new(alloc, Expr::Atoms(at(4)))?;
+    assert_eq!(rt; offset_of(Expr::Atoms(at(1))), 1);
+    assert_eq!(rt; offset_of(Expr::Tuple(at(5), Exprs::new(alloc))), 5);
+    assert_eq!(rt; offset_of(Expr::Listed(at(6), Exprs::new(alloc))), 6);
+    assert_eq!(rt;
+        offset_of(Expr::Apply(at(10), Operation::Flatten, Exprs::new(alloc))),
+        10
+    );
+    Ok(())
+}
+
+#[test]
+fn names_begin_at_their_first_byte(rt: HostRuntime) -> Result<(), Fail> {
+    let alloc = rt.alloc();
+    assert_eq!(rt; offset_of(Expr::Var(at(2), name(&rt, alloc, b"x")?)), 2);
+    assert_eq!(rt; offset_of(Expr::Tag(at(3), name(&rt, alloc, b"eq")?)), 3);
+    Ok(())
+}
+
+#[test]
+fn parts_and_comprehensions_begin_at_their_first_token(rt: HostRuntime) -> Result<(), Fail> {
+    let alloc = rt.alloc();
+    let whole = Box::new(alloc, Expr::Atoms(at(4)))?;
+    assert_eq!(rt; offset_of(Expr::Part(at(9), whole, 1)), 9);
     let item = Box::new(alloc, Expr::Atoms(at(7)))?;
     let always = Box::new(alloc, Cond::True)?;
-    assert_eq!(rt; Expr::Atoms(at(1)).pos().offset, 1);
-    assert_eq!(rt; Expr::Var(at(2), word).pos().offset, 2);
-    assert_eq!(rt; Expr::Tag(at(3), tag).pos().offset, 3);
-    assert_eq!(rt; Expr::Tuple(at(5), Exprs::new(alloc)).pos().offset, 5);
-    assert_eq!(rt; Expr::Listed(at(6), Exprs::new(alloc)).pos().offset, 6);
     assert_eq!(rt;
-        Expr::Each(at(8), item, Bindings::new(alloc), always)
-            .pos()
-            .offset,
+        offset_of(Expr::Each(at(8), item, Bindings::new(alloc), always)),
         8
-    );
-    assert_eq!(rt; Expr::Part(at(9), boxed, 1).pos().offset, 9);
-    assert_eq!(rt;
-        Expr::Apply(at(10), Operation::Flatten, Exprs::new(alloc))
-            .pos()
-            .offset,
-        10
     );
     Ok(())
 }
@@ -66,6 +76,12 @@ fn lists_of_expressions_keep_their_items(rt: HostRuntime) -> Result<(), Fail> {
     assert_eq!(rt; exprs.get(1).map(|expr| expr.pos().offset), Some(9));
     assert!(rt; exprs.get(2).is_none());
 
+    Ok(())
+}
+
+#[test]
+fn lists_of_bindings_keep_their_items(rt: HostRuntime) -> Result<(), Fail> {
+    let alloc = rt.alloc();
     let mut bindings = Bindings::new(alloc);
     let word = name(&rt, alloc, b"x")?;
     bindings.push(Binding {
@@ -81,6 +97,12 @@ fn lists_of_expressions_keep_their_items(rt: HostRuntime) -> Result<(), Fail> {
     );
     assert!(rt; bindings.get(1).is_none());
 
+    Ok(())
+}
+
+#[test]
+fn lists_of_conditions_keep_their_items(rt: HostRuntime) -> Result<(), Fail> {
+    let alloc = rt.alloc();
     let mut conds = Conds::new(alloc);
     conds.push(Cond::Empty(Expr::Atoms(at(2))))?;
     assert_eq!(rt; conds.len(), 1);
@@ -100,6 +122,12 @@ fn lists_of_statements_keep_their_items(rt: HostRuntime) -> Result<(), Fail> {
     assert!(rt; matches!(stmts.get(0), Some(Stmt::Assert(_, _))));
     assert!(rt; stmts.get(1).is_none());
 
+    Ok(())
+}
+
+#[test]
+fn lists_of_parameters_keep_their_items(rt: HostRuntime) -> Result<(), Fail> {
+    let alloc = rt.alloc();
     let mut params = Params::new(alloc);
     let word = name(&rt, alloc, b"a")?;
     params.push(Param {
@@ -141,9 +169,18 @@ fn tuple(alloc: Global, levels: &[usize]) -> Result<Term, NoMemory> {
     Ok(Term::Tup(parts))
 }
 
+// `{($0, $1) for $0 $1 if ..}`
+fn pairs(alloc: Global, literals: &[Lit]) -> Result<Term, NoMemory> {
+    set(alloc, 2, literals, tuple(alloc, &[0, 1])?)
+}
+
+fn empty(alloc: Global) -> Term {
+    Term::Coll(Comps::new(alloc))
+}
+
 // `{{ .. {} .. }}`, with so many brackets open at the innermost place
 fn nested(alloc: Global, brackets: usize) -> Result<Term, NoMemory> {
-    let mut term = Term::Coll(Comps::new(alloc));
+    let mut term = empty(alloc);
     for _ in 1..brackets {
         term = set(alloc, 0, &[], term)?;
     }
@@ -159,40 +196,66 @@ fn lines(rt: &impl Abort, alloc: Global, word: &[u8], term: Term) -> Result<Line
     Ok(lines)
 }
 
-fn results(
-    rt: &impl Abort,
-    alloc: Global,
-    order: bool,
-    parameters: &[&[u8]],
-    when: Constraint,
-    lines: Lines,
-) -> Result<Results, NoMemory> {
-    let mut cases = Cases::new(alloc);
-    cases.push(Case { when, lines })?;
-    Ok(Results {
-        order,
-        parameters: names(rt, alloc, parameters)?,
-        cases,
-    })
-}
-
 fn lit(op: Op, left: usize, right: usize) -> Lit {
     Lit { op, left, right }
 }
 
-// whether results with one case and one line are sound
+// what stands in results with one case and one line, but for the line's term
+#[derive(Drop)]
+struct Frame<'a> {
+    order: bool,
+    parameters: &'a [&'a [u8]],
+    when: &'a [Lit],
+    word: &'a [u8],
+}
+
+fn around<'a>(order: bool, parameters: &'a [&'a [u8]]) -> Frame<'a> {
+    Frame {
+        order,
+        parameters,
+        when: &[],
+        word: b"s",
+    }
+}
+
 fn is_sound(
     rt: &impl Abort,
     alloc: Global,
-    order: bool,
-    parameters: &[&[u8]],
-    when: &[Lit],
-    word: &[u8],
+    frame: Frame<'_>,
     term: Term,
 ) -> Result<bool, NoMemory> {
-    let when = guard(alloc, when)?;
-    let lines = lines(rt, alloc, word, term)?;
-    Ok(results(rt, alloc, order, parameters, when, lines)?.sound())
+    let mut cases = Cases::new(alloc);
+    cases.push(Case {
+        when: guard(alloc, frame.when)?,
+        lines: lines(rt, alloc, frame.word, term)?,
+    })?;
+    let results = Results {
+        order: frame.order,
+        parameters: names(rt, alloc, frame.parameters)?,
+        cases,
+    };
+    Ok(results.sound())
+}
+
+#[test]
+fn terms_within_the_limits_are_sound(rt: HostRuntime) -> Result<(), Fail> {
+    let alloc = rt.alloc();
+    let tag = Term::Tag(name(&rt, alloc, b"end")?);
+    assert!(rt;
+        is_sound(&rt, alloc, around(false, &[]), tag)?,
+        "a tag may be a word"
+    );
+    let eight = tuple(alloc, &[0, 0, 0, 0, 0, 0, 0, 0])?;
+    assert!(rt;
+        is_sound(&rt, alloc, around(false, &[b"a"]), eight)?,
+        "8 parts"
+    );
+    let deep = nested(alloc, 64)?;
+    assert!(rt;
+        is_sound(&rt, alloc, around(false, &[]), deep)?,
+        "64 brackets"
+    );
+    Ok(())
 }
 
 #[test]
@@ -200,162 +263,182 @@ fn worked_results_are_sound(rt: HostRuntime) -> Result<(), Fail> {
     let alloc = rt.alloc();
     let atoms = set(alloc, 1, &[], Term::Var(0))?;
     assert!(rt;
-        is_sound(&rt, alloc, false, &[], &[], b"a", atoms)?,
+        is_sound(&rt, alloc, around(false, &[]), atoms)?,
         "all atoms"
     );
-    let between = [lit(Op::Lt, 0, 2), lit(Op::Lt, 2, 1)];
-    let interval = set(alloc, 1, &between, Term::Var(2))?;
+    let interval = set(
+        alloc,
+        1,
+        &[lit(Op::Lt, 0, 2), lit(Op::Lt, 2, 1)],
+        Term::Var(2),
+    )?;
     assert!(rt;
-        is_sound(&rt, alloc, true, &[b"a", b"b"], &[], b"i", interval)?,
+        is_sound(&rt, alloc, around(true, &[b"a", b"b"]), interval)?,
         "an interval"
     );
-    let tag = set(alloc, 0, &[], Term::Tag(name(&rt, alloc, b"end")?))?;
-    let equal = [lit(Op::Eq, 0, 1)];
+    let different = pairs(alloc, &[lit(Op::Ne, 0, 1)])?;
     assert!(rt;
-        is_sound(&rt, alloc, false, &[b"a", b"b"], &equal, b"s", tag)?,
-        "a tag may be a word"
-    );
-    let pairs = set(alloc, 2, &[lit(Op::Ne, 0, 1)], tuple(alloc, &[0, 1])?)?;
-    assert!(rt;
-        is_sound(&rt, alloc, false, &[], &[], b"s", pairs)?,
+        is_sound(&rt, alloc, around(false, &[]), different)?,
         "pairs"
-    );
-    let eight = tuple(alloc, &[0, 0, 0, 0, 0, 0, 0, 0])?;
-    assert!(rt;
-        is_sound(&rt, alloc, false, &[b"a"], &[], b"t", eight)?,
-        "8 parts"
-    );
-    assert!(rt;
-        is_sound(&rt, alloc, false, &[], &[], b"n", nested(alloc, 64)?)?,
-        "64 brackets"
     );
     Ok(())
 }
 
 #[test]
-fn results_that_break_a_rule_are_not_sound(rt: HostRuntime) -> Result<(), Fail> {
+fn terms_past_a_limit_are_not_sound(rt: HostRuntime) -> Result<(), Fail> {
     let alloc = rt.alloc();
-    let empty = Term::Coll(Comps::new(alloc));
+    let nine = tuple(alloc, &[0, 0, 0, 0, 0, 0, 0, 0, 0])?;
     assert!(rt;
-        !is_sound(&rt, alloc, false, &[b"a", b"b", b"a"], &[], b"s", empty)?,
-        "a parameter twice"
-    );
-    let empty = Term::Coll(Comps::new(alloc));
-    assert!(rt;
-        !is_sound(&rt, alloc, false, &[b"turns"], &[], b"s", empty)?,
-        "a word as a parameter"
-    );
-    let empty = Term::Coll(Comps::new(alloc));
-    assert!(rt;
-        !is_sound(&rt, alloc, false, &[], &[], b"for", empty)?,
-        "a word as a line's name"
-    );
-    assert!(rt;
-        !is_sound(&rt, alloc, false, &[b"a"], &[], b"s", Term::Var(1))?,
-        "a level past its place"
-    );
-    let far = set(alloc, 1, &[lit(Op::Eq, 0, 2)], Term::Var(0))?;
-    assert!(rt;
-        !is_sound(&rt, alloc, false, &[b"a"], &[], b"s", far)?,
-        "a level past its place in a guard"
-    );
-    let empty = Term::Coll(Comps::new(alloc));
-    let one = [lit(Op::Ne, 0, 1)];
-    assert!(rt;
-        !is_sound(&rt, alloc, false, &[b"a"], &one, b"s", empty)?,
-        "no parameter in a case"
-    );
-    let empty = Term::Coll(Comps::new(alloc));
-    let less = [lit(Op::Lt, 0, 1)];
-    assert!(rt;
-        !is_sound(&rt, alloc, false, &[b"a", b"b"], &less, b"s", empty)?,
-        "an order of parameters"
-    );
-    let below = set(alloc, 2, &[lit(Op::Lt, 0, 1)], Term::Var(0))?;
-    assert!(rt;
-        !is_sound(&rt, alloc, false, &[], &[], b"s", below)?,
-        "an order in a guard"
+        !is_sound(&rt, alloc, around(false, &[b"a"]), nine)?,
+        "9 parts"
     );
     let one = tuple(alloc, &[0])?;
     assert!(rt;
-        !is_sound(&rt, alloc, false, &[b"a"], &[], b"s", one)?,
+        !is_sound(&rt, alloc, around(false, &[b"a"]), one)?,
         "1 part"
     );
-    let nine = tuple(alloc, &[0, 0, 0, 0, 0, 0, 0, 0, 0])?;
+    let deep = nested(alloc, 65)?;
     assert!(rt;
-        !is_sound(&rt, alloc, false, &[b"a"], &[], b"s", nine)?,
-        "9 parts"
-    );
-    assert!(rt;
-        !is_sound(&rt, alloc, false, &[], &[], b"n", nested(alloc, 65)?)?,
+        !is_sound(&rt, alloc, around(false, &[]), deep)?,
         "65 brackets"
     );
     Ok(())
 }
 
-fn trace(
+#[test]
+fn levels_and_orders_out_of_place_are_not_sound(rt: HostRuntime) -> Result<(), Fail> {
+    let alloc = rt.alloc();
+    let level = Term::Var(1);
+    assert!(rt;
+        !is_sound(&rt, alloc, around(false, &[b"a"]), level)?,
+        "a level past its place"
+    );
+    let far = set(alloc, 1, &[lit(Op::Eq, 0, 2)], Term::Var(0))?;
+    assert!(rt;
+        !is_sound(&rt, alloc, around(false, &[b"a"]), far)?,
+        "a guard's level past its place"
+    );
+    let less = pairs(alloc, &[lit(Op::Lt, 0, 1)])?;
+    assert!(rt;
+        !is_sound(&rt, alloc, around(false, &[]), less)?,
+        "an order among unordered atoms"
+    );
+    Ok(())
+}
+
+#[test]
+fn names_out_of_place_are_not_sound(rt: HostRuntime) -> Result<(), Fail> {
+    let alloc = rt.alloc();
+    let twice = around(false, &[b"a", b"b", b"a"]);
+    assert!(rt;
+        !is_sound(&rt, alloc, twice, empty(alloc))?,
+        "a parameter twice"
+    );
+    let word = around(false, &[b"turns"]);
+    assert!(rt;
+        !is_sound(&rt, alloc, word, empty(alloc))?,
+        "a word as a parameter"
+    );
+    let mut line = around(false, &[]);
+    line.word = b"for";
+    assert!(rt;
+        !is_sound(&rt, alloc, line, empty(alloc))?,
+        "a word as a line's name"
+    );
+    Ok(())
+}
+
+#[test]
+fn cases_out_of_place_are_not_sound(rt: HostRuntime) -> Result<(), Fail> {
+    let alloc = rt.alloc();
+    let far = [lit(Op::Ne, 0, 1)];
+    let mut case = around(false, &[b"a"]);
+    case.when = &far;
+    assert!(rt;
+        !is_sound(&rt, alloc, case, empty(alloc))?,
+        "no such parameter"
+    );
+    let less = [lit(Op::Lt, 0, 1)];
+    let mut case = around(false, &[b"a", b"b"]);
+    case.when = &less;
+    assert!(rt;
+        !is_sound(&rt, alloc, case, empty(alloc))?,
+        "an order among unordered atoms"
+    );
+    Ok(())
+}
+
+// whether a trace with one element, which is the atom at a level, is sound
+fn is_sound_trace(
     rt: &impl Abort,
     alloc: Global,
     parameters: &[&[u8]],
     place: (usize, usize),
     sample: &[u64],
-    element: usize,
-) -> Result<Trace, NoMemory> {
+    level: usize,
+) -> Result<bool, NoMemory> {
     let mut numbers = Numbers::new(alloc);
     for number in sample {
         numbers.push(*number)?;
     }
-    Ok(Trace {
+    let trace = Trace {
         order: false,
         parameters: names(rt, alloc, parameters)?,
         line: place.0,
         column: place.1,
         kind: FaultKind::Assertion,
         sample: numbers,
-        elements: lines(rt, alloc, b"x", Term::Var(element))?,
-    })
+        elements: lines(rt, alloc, b"x", Term::Var(level))?,
+    };
+    Ok(trace.sound())
 }
 
 #[test]
-fn traces_are_sound_where_they_have_a_text(rt: HostRuntime) -> Result<(), Fail> {
+fn traces_within_the_limits_are_sound(rt: HostRuntime) -> Result<(), Fail> {
     let alloc = rt.alloc();
     let last = 1_048_577;
     assert!(rt;
-        trace(&rt, alloc, &[], (1, 51), &[0, 1], 1)?.sound(),
+        is_sound_trace(&rt, alloc, &[], (1, 51), &[0, 1], 1)?,
         "an element of two"
     );
     assert!(rt;
-        trace(&rt, alloc, &[b"a"], (last, last), &[7], 0)?.sound(),
+        is_sound_trace(&rt, alloc, &[b"a"], (last, last), &[7], 0)?,
         "the last place"
     );
     assert!(rt;
-        !trace(&rt, alloc, &[b"a", b"b"], (1, 30), &[0], 0)?.sound(),
-        "too few numbers"
-    );
-    assert!(rt;
-        !trace(&rt, alloc, &[b"a", b"a"], (1, 30), &[0, 0], 0)?.sound(),
-        "a parameter twice"
-    );
-    assert!(rt;
-        !trace(&rt, alloc, &[], (0, 30), &[0], 0)?.sound(),
+        !is_sound_trace(&rt, alloc, &[], (0, 30), &[0], 0)?,
         "no line"
     );
     assert!(rt;
-        !trace(&rt, alloc, &[], (1, last + 1), &[0], 0)?.sound(),
+        !is_sound_trace(&rt, alloc, &[], (1, last + 1), &[0], 0)?,
         "past the last place"
     );
+    Ok(())
+}
+
+#[test]
+fn choices_are_long_enough(rt: HostRuntime) -> Result<(), Fail> {
+    let alloc = rt.alloc();
+    let place = (1, 30);
     assert!(rt;
-        !trace(&rt, alloc, &[], (1, 30), &[0], 1)?.sound(),
+        !is_sound_trace(&rt, alloc, &[b"a", b"b"], place, &[0], 0)?,
+        "too few numbers"
+    );
+    assert!(rt;
+        !is_sound_trace(&rt, alloc, &[b"a", b"a"], place, &[0, 0], 0)?,
+        "a parameter twice"
+    );
+    assert!(rt;
+        !is_sound_trace(&rt, alloc, &[], place, &[0], 1)?,
         "an element past the choice"
     );
     Ok(())
 }
 
 #[test]
-fn lines_and_cases_keep_their_items(rt: HostRuntime) -> Result<(), Fail> {
+fn lines_keep_their_items(rt: HostRuntime) -> Result<(), Fail> {
     let alloc = rt.alloc();
-    let first = lines(&rt, alloc, b"s", Term::Var(3))?;
-    let copy = first.copy(alloc)?;
+    let copy = lines(&rt, alloc, b"s", Term::Var(3))?.copy(alloc)?;
     assert_eq!(rt; copy.len(), 1);
     assert_eq!(rt; copy.as_slice().len(), 1);
     let line = copy.get(0).ok_or("a line")?.copy(alloc)?;
@@ -363,10 +446,16 @@ fn lines_and_cases_keep_their_items(rt: HostRuntime) -> Result<(), Fail> {
     assert!(rt; matches!(line.term, Term::Var(3)));
     assert!(rt; copy.get(1).is_none());
 
+    Ok(())
+}
+
+#[test]
+fn cases_keep_their_items(rt: HostRuntime) -> Result<(), Fail> {
+    let alloc = rt.alloc();
     let mut cases = Cases::new(alloc);
     cases.push(Case {
         when: guard(alloc, &[])?,
-        lines: first,
+        lines: lines(&rt, alloc, b"s", Term::Var(3))?,
     })?;
     assert_eq!(rt; cases.len(), 1);
     assert_eq!(rt; cases.as_slice().len(), 1);
@@ -378,9 +467,9 @@ fn lines_and_cases_keep_their_items(rt: HostRuntime) -> Result<(), Fail> {
 #[test]
 fn terms_are_sound_by_themselves(rt: HostRuntime) -> Result<(), Fail> {
     let alloc = rt.alloc();
-    let pairs = set(alloc, 2, &[lit(Op::Lt, 0, 1)], tuple(alloc, &[0, 1])?)?;
-    tags_are_names(&pairs);
-    assert!(rt; is_sound_term(&pairs, true, 0));
-    assert!(rt; !is_sound_term(&pairs, false, 0));
+    let less = pairs(alloc, &[lit(Op::Lt, 0, 1)])?;
+    tags_are_names(&less);
+    assert!(rt; is_sound_term(&less, true, 0));
+    assert!(rt; !is_sound_term(&less, false, 0));
     Ok(())
 }
