@@ -103,7 +103,7 @@ are_same_trans [] [] [] h k = tt
 are_same_trans (u ∷ us) (v ∷ vs) (w ∷ ws) h k = (same_trans u v w h.0 k.0, are_same_trans us vs ws h.1 k.1)
 are_same_trans _ _ _ h k = absurd (assumption (h, k))
 
-parts_parts : (ts : TermsD) (c : List Atom) (ss : TermsD) (d : List Atom) → SamePartsAt ts c ss d → AreSame (parts_at ts c) (parts_at ss d)
+pub parts_parts : (ts : TermsD) (c : List Atom) (ss : TermsD) (d : List Atom) → SamePartsAt ts c ss d → AreSame (parts_at ts c) (parts_at ss d)
 parts_parts no_terms c no_terms d h = tt
 parts_parts (term t ts) c (term s ss) d h = (h.0, parts_parts ts c ss d h.1)
 parts_parts _ c _ d h = absurd h

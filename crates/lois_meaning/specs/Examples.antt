@@ -44,13 +44,15 @@ the x = ExprD.var 0 x
 abbrev pub parameter_name : ParamD → List ℕ
 parameter_name p = p.name
 
--- the set of one item, whatever the atoms are; of its items for all atoms; the empty set; all atoms; one atom; a tag
+-- the set of one item
 abbrev pub only_item : TermD → TermD
 only_item t = coll (more (comp 0 ([] ∷ []) t) no_comps)
 
+-- the set of an item for every atom
 abbrev pub for_all_atoms : TermD → TermD
 for_all_atoms t = coll (more (comp 1 ([] ∷ []) t) no_comps)
 
+-- some values: the empty set, the set of all atoms, an atom, a tag
 abbrev pub empty_set : PointValue
 empty_set = point (coll no_comps) []
 

@@ -8,6 +8,7 @@ pub mod Faults
 pub mod Runs
 pub mod Scope
 pub mod Laws
+pub mod Operations
 pub mod ResultsData
 pub mod LineView
 pub mod CaseView

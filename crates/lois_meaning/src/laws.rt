@@ -2,6 +2,7 @@
 
 ghost use Rattle.lois_meaning.specs.Examples.{AtomsAreAll, EachAtomIsAll, ParametersAreAtoms, DepthIsExact, OpensStores, CopiesArePrivate, IdleLoopsEnd, TurnsAreExact, PrintsTwoLines, AddsToSetsAlone, PathsNameElements, AcceptsOneAtom};
 ghost use Rattle.lois_meaning.specs.Laws.{RunsAlike, IsDetermined, NeverBoth, KeepsNames};
+ghost use Rattle.lois_meaning.specs.Operations.{TuplesExist, AcceptsByReach, ProductsAcceptBoth, ComplementsAcceptOthers, MinimalIsMinimal};
 
 /// Stores that are the same give the same values, truths, failures and ends.
 pub fn same_stores_run_alike()
@@ -21,6 +22,15 @@ pub fn nothing_ends_and_fails()
 /// A run keeps the names of its store, first and in order.
 pub fn runs_keep_names()
     ensures names { KeepsNames }
+{}
+
+/// Which words the automata accept that the operations make.
+pub fn operations_accept_what_they_should()
+    ensures tuples { TuplesExist }
+    ensures reach { AcceptsByReach }
+    ensures product { ProductsAcceptBoth }
+    ensures complement { ComplementsAcceptOthers }
+    ensures minimal { MinimalIsMinimal }
 {}
 
 /// What small expressions and scripts mean.
