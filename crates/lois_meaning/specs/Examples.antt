@@ -144,7 +144,7 @@ pub record TurnsAreExact : Type 0 where
   pub too_few : (p n k : ℕ) (c : CondD) (body : StmtsD) (s t lines : NamedValues) →
       MakesTurns k c body s t lines → n < k → StmtFails (while p c n body) s p TurnLimit []
   pub too_few_ends_nowhere : (p n k : ℕ) (c : CondD) (body : StmtsD) (s t lines : NamedValues) →
-      MakesTurns k c body s t lines → n < k → (u more : NamedValues) → StmtEnds (while p c n body) s u more → ⊥
+      MakesTurns k c body s t lines → n < k → (u printed : NamedValues) → StmtEnds (while p c n body) s u printed → ⊥
   -- while true turns n { }
   pub endless : (p n : ℕ) (s : NamedValues) → StmtFails (while p truth n no_stmts) s p TurnLimit []
 
