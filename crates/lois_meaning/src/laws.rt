@@ -9,7 +9,7 @@ pub fn same_stores_run_alike()
     ensures alike { RunsAlike }
 {}
 
-/// What is given, what is true and what a run ends with and prints is determined up to `Same`.
+/// What is given, what is true and what a run ends with and prints is determined, up to values that are the same.
 pub fn meaning_is_determined()
     ensures determined { IsDetermined }
 {}
