@@ -5,7 +5,7 @@ use Rattle.std.specs.Prelude.{◌≡◌, ℕ, zero, suc, ◌+◌, ◌-◌, ◌*�
 use Rattle.lois_lexer.specs.declared.TokenKind.{TokenKind}
 use Rattle.lois_lexer.specs.declared.TokenKind.TheVariants.{Name, Word, Tag, Number, Symbol}
 use Rattle.lois_lexer.specs.declared.Token.{Token}
-use Rattle.lois_lexer.specs.Tokens.{HasTokens, bytes_of}
+use Rattle.lois_lexer.specs.Tokens.{bytes_of}
 use Rattle.lois_meaning.specs.declared.syntax.Operation.{Operation}
 use Rattle.lois_meaning.specs.declared.syntax.Operation.TheVariants.{Union, Inter, Minus, Flatten, Reach, Product, Complement, Minimise}
 use Rattle.lois_meaning.specs.Tree.{ExprD, atoms, var, tag, tuple, listed, each, part, apply, ExprsD, no_exprs, expr, BindingD, binding, BindingsD, no_bindings, bind, CondD, truth, falsity, same, differ, below, member, included, empty, not, all, any, exists, every, CondsD, no_conds, cond, StmtD, «let», assign, add, for, if, while, assert, print, StmtsD, no_stmts, stmt, ParamD, ScriptD}

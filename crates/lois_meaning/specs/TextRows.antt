@@ -4,7 +4,7 @@ use Rattle.std.specs.List.{flat_map}
 use Rattle.lois_base.specs.Data.{TermD, var, tag, tup, coll, terms_of, comp, comps_of}
 use Rattle.lois_base.specs.declared.guards.Lit.{Lit}
 use Rattle.lois_base.specs.declared.guards.Op.TheVariants.{Eq, Ne, Lt}
-use Rattle.lois_meaning.specs.ResultsData.{LineD, CaseD}
+use Rattle.lois_meaning.specs.ResultsData.{LineD}
 use Rattle.lois_meaning.specs.ResultsText.{lined, results_text}
 use Rattle.lois_meaning.specs.TraceText.{trace_text}
 use Rattle.lois_meaning.specs.declared.faults.FaultKind.TheVariants.{Assertion, NotASet}
