@@ -5,3 +5,7 @@ pub mod Rounds
 pub mod Shifting
 pub mod Uses
 pub mod Tightened
+pub mod Inserted
+pub mod Ordered
+pub mod Normals
+pub mod Sides

@@ -3,3 +3,4 @@ pub mod Alternatives
 pub mod Steps
 pub mod Rules
 pub mod Tight
+pub mod Normalised

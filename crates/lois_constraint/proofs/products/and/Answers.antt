@@ -1,10 +1,11 @@
 use Rattle.std.proofs.Common.{◌≡◌, ◌++◌, sym, ap, ◌∙◌, subst, arith}
 use Rattle.std.proofs.lemmas.Grind.{common_steps}
+use Rattle.lois_base.proofs.Both.{holds_both}
 use Rattle.lois_base.specs.Fits.{LitFits, ConstraintFits}
 use Rattle.lois_base.specs.Normal.{both}
 use Rattle.lois_base.specs.Truth.{holds}
 use Rattle.lois_base.specs.Validity.{AdmitsLit, AdmitsConstraint, UsesOnly}
-use Rattle.lois_constraint.proofs.Both.{holds_both, both_levels, All-both, and_step}
+use Rattle.lois_constraint.proofs.Both.{both_levels, All-both, and_step}
 use Rattle.lois_constraint.proofs.products.and.Goals as goal
 
 pub loop-cube-preserved : goal.loop-cube-preserved

@@ -1,6 +1,6 @@
 use Rattle.std.proofs.Common.{◌++◌, ◌∙◌}
 use Rattle.std.proofs.lemmas.Result.{IfOk-weaker}
-use Rattle.lois_constraint.proofs.Uses.{uses_trans}
+use Rattle.lois_base.proofs.Validity.{uses_only-trans}
 use Rattle.lois_constraint.proofs.pruning.meet.Goals as goal
 
 pub returns-clause-truth : goal.returns-clause-truth
@@ -9,7 +9,7 @@ returns-clause-truth c =
 
 pub returns-clause-levels : goal.returns-clause-levels
 returns-clause-levels c =
-    IfOk-weaker c.prune.result _ _ (λ r u. uses_trans (c.args.a.now ++ c.args.b.now) c.in_ok-product.product r c.in_ok-product.ensures.levels u) c.prune.ensures.levels
+    IfOk-weaker c.prune.result _ _ (λ r u. uses_only-trans (c.args.a.now ++ c.args.b.now) c.in_ok-product.product r c.in_ok-product.ensures.levels u) c.prune.ensures.levels
 
 pub returns-clause-fits : goal.returns-clause-fits
 returns-clause-fits c =

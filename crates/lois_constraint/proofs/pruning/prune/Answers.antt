@@ -3,7 +3,8 @@ use Rattle.std.proofs.lemmas.Grind.{common_steps}
 use Rattle.lois_base.specs.Truth.{holds}
 use Rattle.lois_constraint.specs.Rules.{uses, fits, admits}
 use Rattle.lois_constraint.proofs.Tightened.{constraint_grows}
-use Rattle.lois_constraint.proofs.Uses.{item_obeys, own_levels}
+use Rattle.lois_base.proofs.Validity.{uses_only-refl}
+use Rattle.lois_constraint.proofs.Uses.{item_obeys}
 use Rattle.lois_constraint.proofs.pruning.prune.Goals as goal
 
 pub loop-cube-preserved : goal.loop-cube-preserved
@@ -18,7 +19,7 @@ returns-clause-truth c =
     λ e. c.loop-cube.invariant.truth e ∙ ap (holds e) k
 
 pub returns-clause-levels : goal.returns-clause-levels
-returns-clause-levels c = c.loop-cube.invariant.rules (uses c.args.c.now) (own_levels c.args.c.now)
+returns-clause-levels c = c.loop-cube.invariant.rules (uses c.args.c.now) (uses_only-refl c.args.c.now)
 
 pub returns-clause-fits : goal.returns-clause-fits
 returns-clause-fits c = λ n. c.loop-cube.invariant.rules (fits n)

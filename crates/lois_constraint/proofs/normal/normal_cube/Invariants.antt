@@ -1,0 +1,13 @@
+use Rattle.std.proofs.Common.{◌≡◌, List, take}
+use Rattle.lois_base.specs.Atom.{Atom}
+use Rattle.lois_base.specs.Truth.{cube_holds}
+use Rattle.lois_constraint.specs.Normalised.{IsNormalCube}
+use Rattle.lois_constraint.specs.Rules.{Rule, CubeObeys}
+use Rattle.lois_constraint.proofs.normal.normal_cube.Given as goal
+
+abbrev pub invariant-loop-lit : goal.invariant-loop-lit
+invariant-loop-lit l = record {
+  truth : (c : List Atom) → cube_holds c l.normal ≡ cube_holds c (take l.lit-index l.lit-items);
+  normal : IsNormalCube l.normal;
+  rules : (rule : Rule) → CubeObeys rule l.cube → CubeObeys rule l.normal;
+}

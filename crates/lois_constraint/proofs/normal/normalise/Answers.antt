@@ -1,0 +1,32 @@
+use Rattle.std.proofs.Common.{◌≡◌, take, refl, sym, ap, ◌∙◌, subst, arith}
+use Rattle.std.proofs.lemmas.Grind.{common_steps}
+use Rattle.lois_base.specs.Truth.{holds}
+use Rattle.lois_constraint.specs.Rules.{uses, fits, admits, ConstraintObeys}
+use Rattle.lois_constraint.proofs.Normals.{empty_is_normalised}
+use Rattle.lois_constraint.proofs.Tightened.{constraint_grows}
+use Rattle.lois_constraint.proofs.Uses.{item_obeys}
+use Rattle.lois_constraint.proofs.normal.normalise.Goals as goal
+
+pub loop-cube-preserved : goal.loop-cube-preserved
+loop-cube-preserved c = record {
+  truth = λ e. constraint_grows e c.loop-cube.normal c.in_ok-normal.normal c.as_slice-cube-items.result.now c.cube-item.result c.loop-cube.cube-index (omega arith) c.cube-item.is (c.loop-cube.invariant.truth e) (c.in_ok-normal.ensures.truth e);
+  normal = c.in_ok-normal.ensures.normalised c.loop-cube.invariant.normal;
+  rules = λ rule h. c.in_ok-normal.ensures.rules rule (c.loop-cube.invariant.rules rule h) (item_obeys rule c.as_slice-cube-items.result.now c.as_slice-cube-items.result.now c.loop-cube.cube-index c.cube-item.result refl (omega arith) c.cube-item.is h);
+}
+
+pub returns-clause-truth : goal.returns-clause-truth
+returns-clause-truth c =
+    let k : take c.loop-cube.cube-index c.as_slice-cube-items.result.now ≡ c.in_ok-pruned.pruned = grind (arith, common_steps) in
+    λ e. c.loop-cube.invariant.truth e ∙ (ap (holds e) k ∙ c.in_ok-pruned.ensures.truth e)
+
+pub returns-clause-levels : goal.returns-clause-levels
+returns-clause-levels c =
+    c.loop-cube.invariant.rules (uses c.args.c.now) (subst (ConstraintObeys (uses c.args.c.now)) (sym c.as_slice-cube-items.ensures) c.in_ok-pruned.ensures.levels)
+
+pub returns-clause-fits : goal.returns-clause-fits
+returns-clause-fits c = λ n h.
+    c.loop-cube.invariant.rules (fits n) (subst (ConstraintObeys (fits n)) (sym c.as_slice-cube-items.ensures) (c.in_ok-pruned.ensures.fits n h))
+
+pub returns-clause-operators : goal.returns-clause-operators
+returns-clause-operators c = λ o h.
+    c.loop-cube.invariant.rules (admits o) (subst (ConstraintObeys (admits o)) (sym c.as_slice-cube-items.ensures) (c.in_ok-pruned.ensures.operators o h))

@@ -1,0 +1,13 @@
+use Rattle.std.proofs.Common.{◌≡◌, List, take}
+use Rattle.lois_base.specs.Atom.{Atom}
+use Rattle.lois_base.specs.Truth.{holds}
+use Rattle.lois_constraint.specs.Normalised.{IsNormalised}
+use Rattle.lois_constraint.specs.Rules.{Rule, ConstraintObeys}
+use Rattle.lois_constraint.proofs.normal.normalise.Given as goal
+
+abbrev pub invariant-loop-cube : goal.invariant-loop-cube
+invariant-loop-cube l = record {
+  truth : (e : List Atom) → holds e l.normal ≡ holds e (take l.cube-index l.cube-items);
+  normal : IsNormalised l.normal;
+  rules : (rule : Rule) → ConstraintObeys rule l.cube-items → ConstraintObeys rule l.normal;
+}
