@@ -1,0 +1,238 @@
+-- What holds as a loop goes over the cubes of a constraint, or over the parts of a formula.
+use Rattle.std.proofs.Common.{◌≡◌, ℕ, suc, ◌+◌, ◌<◌, ◌≤◌, Bool, true, false, ◌&&◌, ◌||◌, ◌⊎◌, inl, inr, ◌↔◌, List, [], ◌∷◌, ◌++◌, length, get_or, drop, map, refl, sym, ap, subst, ◌∙◌, drop-cons, arith}
+use Rattle.std.specs.Bool.{IsTrue}
+use Rattle.std.specs.List.{All}
+use Rattle.std.proofs.lemmas.Bool.{false≢true}
+use Rattle.std.proofs.lemmas.List.{drop_all}
+use Rattle.std.proofs.lemmas.List.Elements.{All-head, All-tail, All-nil, All-append}
+use Rattle.std.proofs.lemmas.List.Folds.{list_any-append}
+use Rattle.lois_base.specs.Atom.{Atom}
+use Rattle.lois_base.specs.Fits.{CubeFits, ConstraintFits}
+use Rattle.lois_base.specs.FormulaData.{FormulaD, all, any, FormulasD, no_formulas, formula, formulas_of, FormulaFits, FormulasFit}
+use Rattle.lois_base.specs.FormulaTruth.{AllHold, AnyHolds}
+use Rattle.lois_base.specs.FormulaView.{view}
+use Rattle.lois_base.specs.Theory.{Eliminates}
+use Rattle.lois_base.specs.Truth.{cube_holds, holds}
+use Rattle.lois_base.specs.Validity.{AdmitsCube, AdmitsConstraint, AdmitsFormula, AdmitsFormulas, IsOrderFreeCube, IsOrderFree}
+use Rattle.lois_base.specs.declared.guards.Lit.{Lit}
+use Rattle.lois_base.specs.declared.logic.Formula.{Formula}
+use Rattle.lois_base.proofs.Validity.{constraint_admitted}
+use Rattle.lois_elim.specs.Bound.{AgreesWith, HoldsForSome}
+use Rattle.lois_elim.proofs.Truth.{both_true, either_true}
+
+-- what is left of a list at an item
+rest_is : {X : Type 0} (xs : List X) (i : ℕ) (x : X) → i < length xs → x ≡ get_or xs i x → drop i xs ≡ x ∷ drop (i + 1) xs
+rest_is xs i x l is =
+    let next : suc i ≡ i + 1 = omega arith in
+    drop-cons xs i x l ∙ ap (λ y. y ∷ drop (suc i) xs) (sym is) ∙ ap (λ j. x ∷ drop j xs) next
+
+appended : (c : List Atom) (found part r : List (List Lit)) → r ≡ found ++ part → holds c r ≡ (holds c found || holds c part)
+appended c found part r e = ap (holds c) e ∙ list_any-append (cube_holds c) found part
+
+-- ---- the cubes of a constraint
+
+-- some atom makes the constraint hold
+abbrev pub SomeAtom : List Atom → List (List Lit) → Type 0
+SomeAtom c g = (a : Atom) × IsTrue (holds (c ++ a ∷ []) g)
+
+-- `found` stands for the cubes of g before `rest`
+pub record CubesSoFar (n : ℕ) (g rest found : List (List Lit)) : Type 0 where
+  pub truth : (c : List Atom) → length c ≡ n → (IsTrue (holds c found) ⊎ SomeAtom c rest) ↔ SomeAtom c g
+  pub levels : ConstraintFits n found
+  pub rest_fits : ConstraintFits (n + 1) rest
+  pub operators : (o : Bool) → AdmitsConstraint o g → AdmitsConstraint o found × AdmitsConstraint o rest
+
+pub cubes_begin : (n : ℕ) (g : List (List Lit)) → ConstraintFits (n + 1) g → CubesSoFar n g g []
+cubes_begin n g fits = record {
+  truth = λ c k. (λ h. elim h [ inl e ↦ absurd (false≢true e) | inr s ↦ s ], λ s. inr s);
+  levels = All-nil (CubeFits n);
+  rest_fits = fits;
+  operators = λ o h. (All-nil (AdmitsCube o), h);
+}
+
+-- a cube before others
+split_atom : (c : List Atom) (k : List Lit) (rest : List (List Lit)) → SomeAtom c (k ∷ rest) → ((a : Atom) × IsTrue (cube_holds (c ++ a ∷ []) k)) ⊎ SomeAtom c rest
+split_atom c k rest s =
+    elim ((either_true (cube_holds (c ++ s.0 ∷ []) k) (holds (c ++ s.0 ∷ []) rest)).0 s.1) [ inl q ↦ inl (s.0, q) | inr q ↦ inr (s.0, q) ]
+
+at_first : (c : List Atom) (k : List Lit) (rest : List (List Lit)) → ((a : Atom) × IsTrue (cube_holds (c ++ a ∷ []) k)) → SomeAtom c (k ∷ rest)
+at_first c k rest s =
+    (s.0, (either_true (cube_holds (c ++ s.0 ∷ []) k) (holds (c ++ s.0 ∷ []) rest)).1 (inl s.1))
+
+at_later : (c : List Atom) (k : List Lit) (rest : List (List Lit)) → SomeAtom c rest → SomeAtom c (k ∷ rest)
+at_later c k rest s =
+    (s.0, (either_true (cube_holds (c ++ s.0 ∷ []) k) (holds (c ++ s.0 ∷ []) rest)).1 (inr s.1))
+
+module _ (n : ℕ) (g : List (List Lit)) (k : List Lit) (rest found part r : List (List Lit)) where
+  more_found : CubesSoFar n g (k ∷ rest) found → Eliminates n k part → r ≡ found ++ part → (c : List Atom) → length c ≡ n → IsTrue (holds c r) ⊎ SomeAtom c rest → SomeAtom c g
+  more_found so_far eliminates e c count (inl p) =
+      elim ((either_true (holds c found) (holds c part)).0 (sym (appended c found part r e) ∙ p)) [
+        | inl q ↦ (so_far.truth c count).0 (inl q)
+        | inr q ↦ (so_far.truth c count).0 (inr (at_first c k rest ((eliminates c count).0 q)))
+      ]
+  more_found so_far eliminates e c count (inr s) = (so_far.truth c count).0 (inr (at_later c k rest s))
+
+  found_now : Eliminates n k part → r ≡ found ++ part → (c : List Atom) → length c ≡ n → IsTrue (holds c found) ⊎ SomeAtom c (k ∷ rest) → IsTrue (holds c r) ⊎ SomeAtom c rest
+  found_now eliminates e c count (inl p) =
+      inl (appended c found part r e ∙ (either_true (holds c found) (holds c part)).1 (inl p))
+  found_now eliminates e c count (inr s) =
+      elim (split_atom c k rest s) [
+        | inl q ↦ inl (appended c found part r e ∙ (either_true (holds c found) (holds c part)).1 (inr ((eliminates c count).1 q)))
+        | inr q ↦ inr q
+      ]
+
+-- with an order every operator is admitted, and without one the answer has no `<` where the cube has none
+admits_each : (k : List Lit) (part : List (List Lit)) → (IsOrderFreeCube k → IsOrderFree part) → (o : Bool) → AdmitsCube o k → AdmitsConstraint o part
+admits_each k part order true h = constraint_admitted part
+admits_each k part order false h = order h
+
+one_more_cube : (n : ℕ) (g : List (List Lit)) (k : List Lit) (rest found part r : List (List Lit)) → CubesSoFar n g (k ∷ rest) found → Eliminates n k part → ConstraintFits n part → (IsOrderFreeCube k → IsOrderFree part) → r ≡ found ++ part → CubesSoFar n g rest r
+one_more_cube n g k rest found part r so_far eliminates levels order e = record {
+  truth = λ c count. (more_found n g k rest found part r so_far eliminates e c count, λ s. found_now n g k rest found part r eliminates e c count ((so_far.truth c count).1 s));
+  levels = subst (ConstraintFits n) (sym e) (All-append (CubeFits n) found part so_far.levels levels);
+  rest_fits = All-tail (CubeFits (n + 1)) k rest so_far.rest_fits;
+  operators = λ o h. let both = so_far.operators o h in
+      (subst (AdmitsConstraint o) (sym e) (All-append (AdmitsCube o) found part both.0 (admits_each k part order o (All-head (AdmitsCube o) k rest both.1))), All-tail (AdmitsCube o) k rest both.1);
+}
+
+module _ (n : ℕ) (g xs found : List (List Lit)) (i : ℕ) (k : List Lit) (l : i < length xs) (is : k ≡ get_or xs i k) (so_far : CubesSoFar n g (drop i xs) found) where
+  here : CubesSoFar n g (k ∷ drop (i + 1) xs) found
+  here = subst (λ rest. CubesSoFar n g rest found) (rest_is xs i k l is) so_far
+
+  pub cube_fits : CubeFits (n + 1) k
+  cube_fits = All-head (CubeFits (n + 1)) k (drop (i + 1) xs) here.rest_fits
+
+  pub cube_admitted : (o : Bool) → AdmitsConstraint o g → AdmitsCube o k
+  cube_admitted o h = All-head (AdmitsCube o) k (drop (i + 1) xs) (here.operators o h).1
+
+  pub cubes_go_on : (part r : List (List Lit)) → Eliminates n k part → ConstraintFits n part → (IsOrderFreeCube k → IsOrderFree part) → r ≡ found ++ part → CubesSoFar n g (drop (i + 1) xs) r
+  cubes_go_on part r eliminates levels order e =
+      one_more_cube n g k (drop (i + 1) xs) found part r here eliminates levels order e
+
+only_found : (c : List Atom) (found : List (List Lit)) → IsTrue (holds c found) ⊎ SomeAtom c [] → IsTrue (holds c found)
+only_found c found (inl p) = p
+only_found c found (inr s) = absurd (false≢true s.1)
+
+pub cubes_end : (n : ℕ) (g xs found r : List (List Lit)) (i : ℕ) → length xs ≤ i → CubesSoFar n g (drop i xs) found → ((c : List Atom) → holds c r ≡ holds c found) → HoldsForSome n g r
+cubes_end n g xs found r i l so_far same c k =
+    let done : CubesSoFar n g [] found = subst (λ rest. CubesSoFar n g rest found) (drop_all i xs l) so_far in
+    (λ p. (done.truth c k).0 (inl (sym (same c) ∙ p)), λ s. same c ∙ only_found c found ((done.truth c k).1 s))
+
+-- ---- the parts of a formula
+
+-- `rest` are the parts that are left of `whole`, and r stands for those before
+pub record PartsSoFar (n : ℕ) (whole rest : FormulasD) (r : List (List Lit)) : Type 0 where
+  pub rest_fits : FormulasFit n rest
+  pub levels : ConstraintFits n r
+  pub operators : (o : Bool) → AdmitsFormulas o whole → AdmitsConstraint o r × AdmitsFormulas o rest
+
+-- the parts before `rest` all hold exactly where r does
+abbrev pub AllSoFar : ℕ → FormulasD → FormulasD → List (List Lit) → Type 0
+AllSoFar n whole rest r =
+    (c : List Atom) → length c ≡ n → (IsTrue (holds c r) × AllHold c rest) ↔ AllHold c whole
+
+-- one of the parts before `rest` holds exactly where r does
+abbrev pub AnySoFar : ℕ → FormulasD → FormulasD → List (List Lit) → Type 0
+AnySoFar n whole rest r =
+    (c : List Atom) → length c ≡ n → (IsTrue (holds c r) ⊎ AnyHolds c rest) ↔ AnyHolds c whole
+
+-- the parts of a list from an index on
+abbrev pub parts_from : List Formula → ℕ → FormulasD
+parts_from items i = formulas_of (map view (drop i items))
+
+pub parts_are : (items : List Formula) (i : ℕ) (f : Formula) → i < length items → f ≡ get_or items i f → parts_from items i ≡ formula (view f) (parts_from items (i + 1))
+parts_are items i f l is = ap (λ xs. formulas_of (map view xs)) (rest_is items i f l is)
+
+pub no_parts : (items : List Formula) (i : ℕ) → length items ≤ i → parts_from items i ≡ no_formulas
+no_parts items i l = ap (λ xs. formulas_of (map view xs)) (drop_all i items l)
+
+pub parts_begin : (n : ℕ) (whole : FormulasD) (r : List (List Lit)) → FormulasFit n whole → ConstraintFits n r → ((o : Bool) → AdmitsConstraint o r) → PartsSoFar n whole whole r
+parts_begin n whole r fits levels operators = record {
+  rest_fits = fits;
+  levels = levels;
+  operators = λ o h. (operators o, h);
+}
+
+pub one_more_part : (n : ℕ) (whole rest : FormulasD) (f : FormulaD) (before part r : List (List Lit)) → PartsSoFar n whole (formula f rest) before → ((o : Bool) → AdmitsFormula o f → AdmitsConstraint o part) → ConstraintFits n r → ((o : Bool) → AdmitsConstraint o before → AdmitsConstraint o part → AdmitsConstraint o r) → PartsSoFar n whole rest r
+one_more_part n whole rest f before part r so_far admits levels operators = record {
+  rest_fits = so_far.rest_fits.1;
+  levels = levels;
+  operators = λ o h. let both = so_far.operators o h in (operators o both.0 (admits o both.1.0), both.1.1);
+}
+
+pub all_begin : (n : ℕ) (whole : FormulasD) → AllSoFar n whole whole ([] ∷ [])
+all_begin n whole c k = (λ h. h.1, λ h. (refl, h))
+
+pub all_one_more : (n : ℕ) (whole rest : FormulasD) (f : FormulaD) (before part r : List (List Lit)) → AllSoFar n whole (formula f rest) before → AgreesWith n f part → ((c : List Atom) → holds c r ≡ (holds c before && holds c part)) → AllSoFar n whole rest r
+all_one_more n whole rest f before part r so_far agrees met c k = (
+  λ h. let both = (both_true (holds c before) (holds c part)).0 (sym (met c) ∙ h.0) in
+      (so_far c k).0 (both.0, ((agrees c k).0 both.1, h.1)),
+  λ h. let each = (so_far c k).1 h in
+      (met c ∙ (both_true (holds c before) (holds c part)).1 (each.0, (agrees c k).1 each.1.0), each.1.1),
+)
+
+pub all_end : (n : ℕ) (whole : FormulasD) (r : List (List Lit)) → AllSoFar n whole no_formulas r → AgreesWith n (all whole) r
+all_end n whole r so_far c k = (λ p. (so_far c k).0 (p, tt), λ h. ((so_far c k).1 h).0)
+
+-- where a part is false, so are all together
+pub all_refuted : (n : ℕ) (whole rest : FormulasD) (r : List (List Lit)) → AllSoFar n whole rest r → length r ≡ 0 → AgreesWith n (all whole) r
+all_refuted n whole rest [] so_far e c k = (λ p. absurd (false≢true p), λ h. ((so_far c k).1 h).0)
+all_refuted n whole rest (q ∷ r) so_far e c k = absurd (omega (arith, e))
+
+pub any_begin : (n : ℕ) (whole : FormulasD) → AnySoFar n whole whole []
+any_begin n whole c k = (λ h. elim h [ inl e ↦ absurd (false≢true e) | inr s ↦ s ], λ s. inr s)
+
+module _ (n : ℕ) (whole rest : FormulasD) (f : FormulaD) (before part r : List (List Lit)) where
+  any_holds : AnySoFar n whole (formula f rest) before → AgreesWith n f part → r ≡ before ++ part → (c : List Atom) → length c ≡ n → IsTrue (holds c r) ⊎ AnyHolds c rest → AnyHolds c whole
+  any_holds so_far agrees e c k (inl p) =
+      elim ((either_true (holds c before) (holds c part)).0 (sym (appended c before part r e) ∙ p)) [
+        | inl q ↦ (so_far c k).0 (inl q)
+        | inr q ↦ (so_far c k).0 (inr (inl ((agrees c k).0 q)))
+      ]
+  any_holds so_far agrees e c k (inr s) = (so_far c k).0 (inr (inr s))
+
+  any_now : AgreesWith n f part → r ≡ before ++ part → (c : List Atom) → length c ≡ n → IsTrue (holds c before) ⊎ AnyHolds c (formula f rest) → IsTrue (holds c r) ⊎ AnyHolds c rest
+  any_now agrees e c k (inl p) =
+      inl (appended c before part r e ∙ (either_true (holds c before) (holds c part)).1 (inl p))
+  any_now agrees e c k (inr (inl s)) =
+      inl (appended c before part r e ∙ (either_true (holds c before) (holds c part)).1 (inr ((agrees c k).1 s)))
+  any_now agrees e c k (inr (inr s)) = inr s
+
+  pub any_one_more : AnySoFar n whole (formula f rest) before → AgreesWith n f part → r ≡ before ++ part → AnySoFar n whole rest r
+  any_one_more so_far agrees e c k =
+      (any_holds so_far agrees e c k, λ h. any_now agrees e c k ((so_far c k).1 h))
+
+no_more : (c : List Atom) (r : List (List Lit)) → IsTrue (holds c r) ⊎ AnyHolds c no_formulas → IsTrue (holds c r)
+no_more c r (inl p) = p
+no_more c r (inr s) = absurd s
+
+pub any_end : (n : ℕ) (whole : FormulasD) (before r : List (List Lit)) → AnySoFar n whole no_formulas before → ((c : List Atom) → holds c r ≡ holds c before) → AgreesWith n (any whole) r
+any_end n whole before r so_far same c k =
+    (λ p. (so_far c k).0 (inl (sym (same c) ∙ p)), λ h. same c ∙ no_more c before ((so_far c k).1 h))
+
+-- ---- from one part of a list to the next
+module _ (n : ℕ) (whole : FormulasD) (items : List Formula) (i : ℕ) (f : Formula) (l : i < length items) (is : f ≡ get_or items i f) (before : List (List Lit)) where
+  parts_here : PartsSoFar n whole (parts_from items i) before → PartsSoFar n whole (formula (view f) (parts_from items (i + 1))) before
+  parts_here = subst (λ rest. PartsSoFar n whole rest before) (parts_are items i f l is)
+
+  pub part_fits : PartsSoFar n whole (parts_from items i) before → FormulaFits n (view f)
+  part_fits so_far = (parts_here so_far).rest_fits.0
+
+  pub part_admitted : PartsSoFar n whole (parts_from items i) before → (o : Bool) → AdmitsFormulas o whole → AdmitsFormula o (view f)
+  part_admitted so_far o h = ((parts_here so_far).operators o h).1.0
+
+  pub parts_go_on : (part r : List (List Lit)) → PartsSoFar n whole (parts_from items i) before → ((o : Bool) → AdmitsFormula o (view f) → AdmitsConstraint o part) → ConstraintFits n r → ((o : Bool) → AdmitsConstraint o before → AdmitsConstraint o part → AdmitsConstraint o r) → PartsSoFar n whole (parts_from items (i + 1)) r
+  parts_go_on part r so_far =
+      one_more_part n whole (parts_from items (i + 1)) (view f) before part r (parts_here so_far)
+
+  pub all_go_on : (part r : List (List Lit)) → AllSoFar n whole (parts_from items i) before → AgreesWith n (view f) part → ((c : List Atom) → holds c r ≡ (holds c before && holds c part)) → AllSoFar n whole (parts_from items (i + 1)) r
+  all_go_on part r so_far =
+      all_one_more n whole (parts_from items (i + 1)) (view f) before part r (subst (λ rest. AllSoFar n whole rest before) (parts_are items i f l is) so_far)
+
+  pub any_go_on : (part r : List (List Lit)) → AnySoFar n whole (parts_from items i) before → AgreesWith n (view f) part → r ≡ before ++ part → AnySoFar n whole (parts_from items (i + 1)) r
+  any_go_on part r so_far =
+      any_one_more n whole (parts_from items (i + 1)) (view f) before part r (subst (λ rest. AnySoFar n whole rest before) (parts_are items i f l is) so_far)
+
+-- what both obey, the one with the other behind it obeys
+pub appended_obeys : (P : List Lit → Type 0) (before part r : List (List Lit)) → r ≡ before ++ part → All P before → All P part → All P r
+appended_obeys P before part r e h k = subst (All P) (sym e) (All-append P before part h k)

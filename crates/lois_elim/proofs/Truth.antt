@@ -1,0 +1,60 @@
+-- What the answer for each kind of formula says.
+use Rattle.std.proofs.Common.{◌≡◌, ℕ, suc, Bool, true, false, not, ◌&&◌, ◌||◌, ◌⊎◌, inl, inr, ◌↔◌, List, [], ◌∷◌, ◌++◌, length, length-append, refl, sym, ◌∙◌, arith}
+use Rattle.std.specs.Bool.{IsTrue}
+use Rattle.std.proofs.lemmas.Bool.{false≢true}
+use Rattle.lois_base.specs.Atom.{Atom}
+use Rattle.lois_base.specs.FormulaData.{FormulaD, lit, neg, exists, forall}
+use Rattle.lois_base.specs.Truth.{lit_holds, holds}
+use Rattle.lois_base.specs.declared.guards.Lit.{Lit}
+use Rattle.lois_elim.specs.Bound.{AgreesWith, HoldsForSome, HoldsForEach}
+
+pub both_true : (a b : Bool) → IsTrue (a && b) ↔ (IsTrue a × IsTrue b)
+both_true true b = (λ h. (refl, h), λ h. h.1)
+both_true false b = (λ h. absurd (false≢true h), λ h. h.0)
+
+pub either_true : (a b : Bool) → IsTrue (a || b) ↔ (IsTrue a ⊎ IsTrue b)
+either_true true b = (λ h. inl refl, λ h. refl)
+either_true false b = (λ h. inr h, λ h. elim h [ inl e ↦ absurd (false≢true e) | inr e ↦ e ])
+
+not_true : (a : Bool) → IsTrue (not a) ↔ (IsTrue a → ⊥)
+not_true true = (λ h. absurd (false≢true h), λ h. absurd (h refl))
+not_true false = (λ h k. false≢true k, λ h. refl)
+
+not_refuted : (a : Bool) → (IsTrue (not a) → ⊥) → IsTrue a
+not_refuted true h = refl
+not_refuted false h = absurd (h refl)
+
+alone : (a : Bool) → ((a && true) || false) ≡ a
+alone true = refl
+alone false = refl
+
+longer : (n : ℕ) (c : List Atom) (a : Atom) → length c ≡ n → length (c ++ a ∷ []) ≡ suc n
+longer n c a k = omega (arith, length-append c (a ∷ []))
+
+pub lit_agrees : (n : ℕ) (l : Lit) → AgreesWith n (lit l) ((l ∷ []) ∷ [])
+lit_agrees n l c k = (λ h. sym (alone (lit_holds c l)) ∙ h, λ h. alone (lit_holds c l) ∙ h)
+
+pub neg_agrees : (n : ℕ) (f : FormulaD) (g r : List (List Lit)) → AgreesWith n f g → ((c : List Atom) → holds c r ≡ not (holds c g)) → AgreesWith n (neg f) r
+neg_agrees n f g r agrees negated c k = (
+  λ p q. (not_true (holds c g)).0 (sym (negated c) ∙ p) ((agrees c k).1 q),
+  λ p. negated c ∙ (not_true (holds c g)).1 (λ q. p ((agrees c k).0 q)),
+)
+
+pub exists_agrees : (n : ℕ) (f : FormulaD) (g r : List (List Lit)) → AgreesWith (suc n) f g → HoldsForSome n g r → AgreesWith n (exists f) r
+exists_agrees n f g r agrees some c k = (
+  λ p. let x = (some c k).0 p in (x.0, (agrees (c ++ x.0 ∷ []) (longer n c x.0 k)).0 x.1),
+  λ p. (some c k).1 (p.0, (agrees (c ++ p.0 ∷ []) (longer n c p.0 k)).1 p.1),
+)
+
+pub forall_agrees : (n : ℕ) (f : FormulaD) (g r : List (List Lit)) → AgreesWith (suc n) f g → HoldsForEach n g r → AgreesWith n (forall f) r
+forall_agrees n f g r agrees each c k = (
+  λ p a. (agrees (c ++ a ∷ []) (longer n c a k)).0 ((each c k).0 p a),
+  λ p. (each c k).1 (λ a. (agrees (c ++ a ∷ []) (longer n c a k)).1 (p a)),
+)
+
+-- no atom refutes it exactly where it holds for each
+pub each_of_some : (n : ℕ) (g refutes found r : List (List Lit)) → ((c : List Atom) → holds c refutes ≡ not (holds c g)) → HoldsForSome n refutes found → ((c : List Atom) → holds c r ≡ not (holds c found)) → HoldsForEach n g r
+each_of_some n g refutes found r denied some negated c k = (
+  λ p a. not_refuted (holds (c ++ a ∷ []) g) (λ q. (not_true (holds c found)).0 (sym (negated c) ∙ p) ((some c k).1 (a, denied (c ++ a ∷ []) ∙ q))),
+  λ p. negated c ∙ (not_true (holds c found)).1 (λ q. let x = (some c k).0 q in (not_true (holds (c ++ x.0 ∷ []) g)).0 (sym (denied (c ++ x.0 ∷ [])) ∙ x.1) (p x.0)),
+)

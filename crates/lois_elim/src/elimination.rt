@@ -1,0 +1,110 @@
+//! Elimination of the quantifiers of a formula, from the inside out.
+
+ghost use Rattle.std.specs.Prelude.{◌≡◌, ℕ, ◌+◌, Bool, List, [], ◌∷◌, IfOk, suc};
+ghost use Rattle.lois_base.specs.Fits.{ConstraintFits};
+ghost use Rattle.lois_base.specs.FormulaData.{FormulaFits, FormulasFit, all, any, formulas_of};
+ghost use Rattle.lois_base.specs.FormulaView.{view, views};
+ghost use Rattle.lois_base.specs.Validity.{AdmitsConstraint, AdmitsFormula, AdmitsFormulas};
+ghost use Rattle.lois_elim.specs.Bound.{AgreesWith};
+
+use crate::levels::{append, for_each, for_some};
+use lois_base::{Constraint, Cube, Formula, Formulas, Lit, NoMemory, Structure};
+use lois_constraint::{meet, negate, prune};
+use std::alloc::Global;
+
+fn of_literal(alloc: Global, lit: Lit) -> Result<Constraint, NoMemory>
+    ensures { IfOk result (λ r. r ≡ (lit ∷ []) ∷ []) }
+{
+    let mut cube = Cube::new(alloc);
+    cube.push(lit)?;
+    let mut constraint = Constraint::new(alloc);
+    constraint.push(cube)?;
+    Ok(constraint)
+}
+
+// One cube without literals.
+fn always(alloc: Global) -> Result<Constraint, NoMemory>
+    ensures { IfOk result (λ r. r ≡ [] ∷ []) }
+{
+    let mut constraint = Constraint::new(alloc);
+    constraint.push(Cube::new(alloc))?;
+    Ok(constraint)
+}
+
+// The number of levels below a quantifier. No memory holds a choice of more atoms than the greatest usize.
+fn with_one_more(size: usize) -> Result<usize, NoMemory>
+    ensures { IfOk result (λ n. n ≡ suc size) }
+{
+    size.checked_add(1).ok_or(NoMemory)
+}
+
+/// A constraint that holds at each choice of `size` atoms exactly where the formula does. It uses levels
+/// below `size` and operators of the formula alone, so `<` only where the formula has it. Errors: `NoMemory`.
+#[cycle(elimination)]
+pub fn quantifier_free<T: Structure>(
+    alloc: Global,
+    f: &Formula,
+    size: usize,
+) -> Result<Constraint, NoMemory>
+    requires levels { FormulaFits size (view f.now) }
+    requires operators { AdmitsFormula T.ordered (view f.now) }
+    ensures truth { IfOk result (AgreesWith size (view f.now)) }
+    ensures levels { IfOk result (ConstraintFits size) }
+    ensures operators { IfOk result (λ r. (o : Bool) → AdmitsFormula o (view f.now) → AdmitsConstraint o r) }
+{
+    match f {
+        Formula::Lit(lit) => of_literal(alloc, *lit),
+        Formula::All(parts) => all_of::<T>(alloc, parts, size),
+        Formula::Any(parts) => any_of::<T>(alloc, parts, size),
+        Formula::Not(body) => negate(alloc, &quantifier_free::<T>(alloc, body, size)?),
+        Formula::Exists(body) => {
+            let inner = quantifier_free::<T>(alloc, body, with_one_more(size)?)?;
+            for_some::<T>(alloc, &inner, size)
+        }
+        Formula::Forall(body) => {
+            let inner = quantifier_free::<T>(alloc, body, with_one_more(size)?)?;
+            for_each::<T>(alloc, &inner, size)
+        }
+    }
+}
+
+#[cycle(elimination)]
+fn all_of<T: Structure>(
+    alloc: Global,
+    parts: &Formulas,
+    size: usize,
+) -> Result<Constraint, NoMemory>
+    requires levels { FormulasFit size (formulas_of (views parts.now)) }
+    requires operators { AdmitsFormulas T.ordered (formulas_of (views parts.now)) }
+    ensures truth { IfOk result (AgreesWith size (all (formulas_of (views parts.now)))) }
+    ensures levels { IfOk result (ConstraintFits size) }
+    ensures operators { IfOk result (λ r. (o : Bool) → AdmitsFormulas o (formulas_of (views parts.now)) → AdmitsConstraint o r) }
+{
+    let mut met = always(alloc)?;
+    for part in parts.as_slice() {
+        met = meet(alloc, &met, &quantifier_free::<T>(alloc, part, size)?)?;
+        if met.len() == 0 {
+            return Ok(met);
+        }
+    }
+    Ok(met)
+}
+
+#[cycle(elimination)]
+fn any_of<T: Structure>(
+    alloc: Global,
+    parts: &Formulas,
+    size: usize,
+) -> Result<Constraint, NoMemory>
+    requires levels { FormulasFit size (formulas_of (views parts.now)) }
+    requires operators { AdmitsFormulas T.ordered (formulas_of (views parts.now)) }
+    ensures truth { IfOk result (AgreesWith size (any (formulas_of (views parts.now)))) }
+    ensures levels { IfOk result (ConstraintFits size) }
+    ensures operators { IfOk result (λ r. (o : Bool) → AdmitsFormulas o (formulas_of (views parts.now)) → AdmitsConstraint o r) }
+{
+    let mut found = Constraint::new(alloc);
+    for part in parts.as_slice() {
+        append(&mut found, quantifier_free::<T>(alloc, part, size)?)?;
+    }
+    prune(alloc, &found)
+}

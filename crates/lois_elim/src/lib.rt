@@ -1,0 +1,7 @@
+//! Elimination of quantifiers: each formula has an equivalent constraint.
+#![tactic(auto)]
+
+mod elimination;
+mod levels;
+
+pub use elimination::quantifier_free;
