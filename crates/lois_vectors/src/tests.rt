@@ -1,0 +1,225 @@
+// Tables of scripts and of failing sources and sinks.
+ghost use Rattle.std.specs.Prelude.{◌≤◌};
+
+use lois_outside::{MemorySink, MemorySource};
+use lois_run::lois;
+use std::alloc::{AllocError, Global};
+use std::test::Fail;
+
+// A script of 39 bytes, and its output of 76.
+const SCRIPT: &[u8] = b"atoms equality; let a = atoms; print a;";
+
+const OUTPUT: &[u8] =
+    b"lois results 1\natoms equality\nparameters\ncase when true\na = {$0 for $0}\nend\n";
+
+const USAGE: &[u8] = b"usage: lois run|check|reread|make N [--decider plain|graph|memo]\n";
+
+// A source and a sink over memory: how many bytes a call moves, and which calls fail.
+struct Edge<'a> {
+    step: usize,
+    failing: &'a [u64],
+}
+
+// What the call answered, and what the sink holds.
+struct Told {
+    status: u8,
+    held: Vec<u8>,
+}
+
+fn words_of(alloc: Global, words: &[&str]) -> Result<Vec<String>, AllocError> {
+    let mut owned = Vec::new(alloc);
+    for word in words {
+        owned.push(String::from_str(alloc, word)?)?;
+    }
+    Ok(owned)
+}
+
+fn told(
+    alloc: Global,
+    words: &[&str],
+    text: &[u8],
+    from: Edge,
+    room: usize,
+    to: Edge,
+) -> Result<Told, Fail>
+    requires from { 1 ≤ from.step }
+    requires to { 1 ≤ to.step }
+{
+    let words = words_of(alloc, words)?;
+    let mut source = MemorySource::new(text.to_vec(alloc)?, from.step, from.failing.to_vec(alloc)?);
+    let mut sink = MemorySink::new(alloc, room, to.step, to.failing.to_vec(alloc)?)?;
+    let status = lois(alloc, &words, &mut source, &mut sink, Vec::new(alloc));
+    Ok(Told {
+        status,
+        held: sink.held().to_vec(alloc)?,
+    })
+}
+
+// With a source and a sink that never fail.
+fn run(alloc: Global, text: &[u8]) -> Result<Told, Fail> {
+    told(
+        alloc,
+        &["run"],
+        text,
+        Edge { step: 4096, failing: &[] },
+        4096,
+        Edge { step: 4096, failing: &[] },
+    )
+}
+
+#[test]
+fn scripts_complete(rt: HostRuntime) -> Result<(), Fail> {
+    let alloc = rt.alloc();
+    let rows: [(&str, &[u8], &[u8]); 6] = [
+        ("all_atoms", SCRIPT, OUTPUT),
+        (
+            "empty_set",
+            b"atoms equality; let e = {}; print e;",
+            b"lois results 1\natoms equality\nparameters\ncase when true\ne = {}\nend\n",
+        ),
+        (
+            "no_statement",
+            b"atoms order;",
+            b"lois results 1\natoms order\nparameters\ncase when true\nend\n",
+        ),
+        (
+            "name_of_a_name",
+            b"atoms equality; let a = atoms; let b = a; print b; print a;",
+            b"lois results 1\natoms equality\nparameters\ncase when true\nb = {$0 for $0}\na = {$0 for $0}\nend\n",
+        ),
+        (
+            "printed_twice",
+            b"atoms order; let e = {}; print e; print e;",
+            b"lois results 1\natoms order\nparameters\ncase when true\ne = {}\ne = {}\nend\n",
+        ),
+        (
+            "blanks_and_comments",
+            b"# all atoms\natoms\tequality;\r\n let a=atoms;# a set\nprint a;\n",
+            OUTPUT,
+        ),
+    ];
+    for (name, text, output) in rows {
+        let told = run(alloc, text)?;
+        assert_eq!(rt; told.status, 0, "{name}");
+        assert_eq!(rt; told.held.as_slice(), output, "{name}");
+    }
+    Ok(())
+}
+
+#[test]
+fn words_that_are_not_taken_are_usage(rt: HostRuntime) -> Result<(), Fail> {
+    let alloc = rt.alloc();
+    let rows: [&[&str]; 5] = [&[], &["run", "x"], &["Run"], &["check"], &["make", "0"]];
+    for words in rows {
+        let told = told(
+            alloc,
+            words,
+            SCRIPT,
+            Edge { step: 1, failing: &[0] },
+            4096,
+            Edge { step: 4096, failing: &[] },
+        )?;
+        assert_eq!(rt; told.status, 9);
+        assert_eq!(rt; told.held.as_slice(), USAGE);
+    }
+    Ok(())
+}
+
+#[test]
+fn a_text_over_the_limit_is_too_long(rt: HostRuntime) -> Result<(), Fail> {
+    let alloc = rt.alloc();
+    let spaces = vec![in alloc; b' '; 1_048_577]?;
+    let told = run(alloc, &spaces)?;
+    assert_eq!(rt; told.status, 5);
+    assert_eq!(rt; told.held.as_slice(), b"refused: input over 1048576 bytes\n");
+    Ok(())
+}
+
+// Each call of the source fails in turn: the fifth and later ones with step 8 find 39 bytes taken or the end.
+#[test]
+fn a_fault_of_the_source_is_told(rt: HostRuntime) -> Result<(), Fail> {
+    let alloc = rt.alloc();
+    for (step, calls) in [(1, 40), (8, 6), (4096, 2)] {
+        for failing in 0..calls {
+            let told = told(
+                alloc,
+                &["run"],
+                SCRIPT,
+                Edge { step, failing: &[failing] },
+                4096,
+                Edge { step: 4096, failing: &[] },
+            )?;
+            assert_eq!(rt; told.status, 6, "step {step}, call {failing}");
+            assert_eq!(rt; told.held.len(), 0, "step {step}, call {failing}");
+        }
+        let told = told(
+            alloc,
+            &["run"],
+            SCRIPT,
+            Edge { step, failing: &[calls] },
+            4096,
+            Edge { step: 4096, failing: &[] },
+        )?;
+        assert_eq!(rt; told.status, 0, "step {step}");
+    }
+    Ok(())
+}
+
+// A call of the sink that fails leaves what the calls before it took.
+#[test]
+fn a_fault_of_the_sink_is_told(rt: HostRuntime) -> Result<(), Fail> {
+    let alloc = rt.alloc();
+    for (step, failing, room, held) in [
+        (10, 1, 4096, 10),
+        (10, 0, 4096, 0),
+        (10, 7, 4096, 70),
+        (1, 75, 4096, 75),
+        (4096, 9, 70, 70),
+        (7, 99, 70, 70),
+        (4096, 9, 0, 0),
+    ] {
+        let told = told(
+            alloc,
+            &["run"],
+            SCRIPT,
+            Edge { step: 4096, failing: &[] },
+            room,
+            Edge { step, failing: &[failing] },
+        )?;
+        assert_eq!(rt; told.status, 7, "step {step}, call {failing}, room {room}");
+        assert_eq!(rt; told.held.as_slice(), &OUTPUT[..held], "step {step}, call {failing}, room {room}");
+    }
+    for step in [1, 7, 10, 75, 76, 4096] {
+        let told = told(
+            alloc,
+            &["run"],
+            SCRIPT,
+            Edge { step: 4096, failing: &[] },
+            76,
+            Edge { step, failing: &[76] },
+        )?;
+        assert_eq!(rt; told.status, 0, "step {step}");
+        assert_eq!(rt; told.held.as_slice(), OUTPUT, "step {step}");
+    }
+    Ok(())
+}
+
+#[test]
+fn other_texts_are_not_built(rt: HostRuntime) -> Result<(), Fail> {
+    let alloc = rt.alloc();
+    for text in [
+        "",
+        "atoms equality",
+        "atoms equality; let a = atoms",
+        "atoms equality; let a = {atoms}; print a;",
+        "atoms equality; print a;",
+        "atoms equality; let a = atoms; let a = atoms;",
+        "atoms equality; parameter a; print a;",
+        "atoms equality; let a = @;",
+    ] {
+        let told = run(alloc, text.as_bytes())?;
+        assert_eq!(rt; told.status, 5, "{text}");
+        assert_eq!(rt; told.held.as_slice(), b"refused: not built yet\n", "{text}");
+    }
+    Ok(())
+}
