@@ -1,0 +1,4 @@
+pub mod Following
+pub mod Labelled
+pub mod Ranked
+pub mod Satisfied

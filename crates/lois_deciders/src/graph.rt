@@ -1,0 +1,72 @@
+//! The decider by identified and ordered levels.
+
+ghost use Rattle.std.specs.Prelude.{◌≡◌, IfOk, IfSome, IfNone};
+ghost use Rattle.lois_base.specs.Fits.{CubeFits};
+ghost use Rattle.lois_base.specs.Theory.{IsSampleOf};
+ghost use Rattle.lois_base.specs.declared.deciding.Kind.{Kind};
+ghost use Rattle.lois_deciders.specs.Labels.{IsUnmet};
+
+use crate::labels::{labelled, parts_a_label};
+use crate::ranks::ranked;
+use lois_base::{Cube, Decider, Kind, NoMemory};
+use std::alloc::Global;
+
+/// Identifies the levels that are equal, and orders the rest by `<`. A cube is met unless a `!=` stands between
+/// identified levels, or the `<` go round.
+#[derive(Drop)]
+pub struct GraphDecider {
+    asked: u64,
+}
+
+impl GraphDecider {
+    /// A decider that was asked nothing yet.
+    pub fn new() -> Self
+        ensures { result.asked ≡ 0 }
+    {
+        GraphDecider { asked: 0 }
+    }
+}
+
+// The rank of each level's label.
+fn sample(alloc: Global, cube: &Cube, size: usize) -> Result<Option<Vec<u64>>, NoMemory>
+    requires { CubeFits size cube.now }
+    ensures found { IfOk result (λ o. IfSome o (λ s. IsSampleOf size cube.now s.items)) }
+    ensures none { IfOk result (λ o. IfNone o (IsUnmet size cube.now)) }
+{
+    let labels = labelled(alloc, cube, size)?;
+    if parts_a_label(cube, &labels) {
+        return Ok(None);
+    }
+    let Some(ranks) = ranked(alloc, cube, &labels)? else {
+        return Ok(None);
+    };
+    let mut sample = Vec::with_capacity(alloc, size)?;
+    for label in &labels {
+        sample.push(ranks[*label])?;
+    }
+    Ok(Some(sample))
+}
+
+impl Decider for GraphDecider {
+    ghost kind_of = { λ _. Kind.Graph };
+
+    ghost questions = { λ d. d.asked };
+
+    fn name(&self) -> Kind {
+        Kind::Graph
+    }
+
+    fn satisfiable(
+        &mut self,
+        alloc: Global,
+        cube: &Cube,
+        size: usize,
+    ) -> Result<Option<Vec<u64>>, NoMemory> {
+        self.asked = self.asked.saturating_add(1);
+        sample(alloc, cube, size)
+    }
+
+    fn asked(&self) -> u64 {
+        self.asked
+    }
+}
