@@ -1,12 +1,10 @@
 -- Cubes and constraints stay normal as one more comes in.
 use Rattle.std.proofs.Common.{◌≡◌, ◌≢◌, ℕ, ◌<◌, Bool, true, false, cond, not, ◌&&◌, ◌||◌, List, [], ◌∷◌, ◌++◌, length, get_or, take, ◌+◌, refl, sym, ap, ◌∙◌, subst, arith}
 use Rattle.std.specs.Bool.{IsTrue, IsFalse}
-use Rattle.std.specs.List.{All, AllPairs, Any, filter, list_all, list_any}
-use Rattle.std.proofs.lemmas.Bool.{eqb-true}
-use Rattle.std.proofs.lemmas.Bool.Decides.{nat_tests}
-use Rattle.std.proofs.lemmas.List.Elements.{All-nil, All-cons, All-head, All-tail, All-append, All-weaker, All-filter, filter_passes}
-use Rattle.std.proofs.lemmas.List.Folds.{Any-from_list_any, list_any-append, list_all_more}
-use Rattle.std.proofs.lemmas.List.Kept.{AllPairs-cons, AllPairs-filter}
+use Rattle.std.specs.List.{All, filter, list_any}
+use Rattle.std.proofs.lemmas.List.Elements.{All-nil, All-cons, All-append, All-filter, filter_passes}
+use Rattle.std.proofs.lemmas.List.Folds.{Any-from_list_any, list_all_more}
+use Rattle.std.proofs.lemmas.List.Kept.{AllPairs-filter}
 use Rattle.std.proofs.lemmas.List.Sums.{AllPass-from_list_all}
 use denote.Enum.Bare.{sameb}
 use Rattle.lois_base.proofs.Order.{equal_refl}
@@ -16,11 +14,10 @@ use Rattle.lois_base.specs.declared.guards.Op.TheVariants.{Eq, Ne, Lt}
 use Rattle.lois_base.specs.Atom.{Atom, equal}
 use Rattle.lois_base.specs.Truth.{atom_at, op_holds, lit_holds, cube_holds, holds}
 use Rattle.lois_base.specs.declared.guards.Lit.{Lit}
-use Rattle.lois_constraint.specs.Normalised.{lit_before, lit_same, cube_before, is_part, op_rank, IsTurned, IsNormalCube, IsNormalised}
-use Rattle.lois_constraint.specs.Rules.{Rule, Obeys, CubeObeys, ConstraintObeys}
+use Rattle.lois_constraint.specs.Normalised.{lit_before, lit_same, cube_before, is_part, IsTurned, IsNormalCube, IsNormalised}
 use Rattle.lois_constraint.proofs.Inserted.{in_order, all_inserted, any_inserted, apart_inserted}
 use Rattle.lois_constraint.proofs.Ordered.{lit_before_trans, lit_equal, lit_from_same, cube_before_trans, cube_before_irrefl, cube_equal, or_first, or_second}
-use Rattle.lois_constraint.proofs.Rounds.{filter_keeps, first_of_and, second_of_and, not_true}
+use Rattle.lois_constraint.proofs.Rounds.{filter_keeps, first_of_and, second_of_and}
 
 abbrev lower : Lit → Lit → Bool
 lower x k = lit_before k x

@@ -32,6 +32,14 @@ fn is(c: &Constraint, cubes: &[&[Lit]]) -> bool {
     true
 }
 
+// The levels 1 and 2 raised by 5.
+fn raised(alloc: Global, c: &Constraint) -> Result<Constraint, NoMemory> {
+    if c.fits(3) {
+        return shift(alloc, c, 1, 5);
+    }
+    Err(NoMemory)
+}
+
 #[test]
 fn every_call_answers_on_one_constraint(rt: HostRuntime) -> Result<(), Fail> {
     let alloc = rt.alloc();
@@ -40,8 +48,28 @@ fn every_call_answers_on_one_constraint(rt: HostRuntime) -> Result<(), Fail> {
     let above = lit(Op::Lt, 2, 1);
     let whole: &[Lit] = &[below, above];
     let refused = negate(alloc, &c)?;
-    assert!(rt; is(&refused, &[&[lit(Op::Eq, 0, 2)], &[lit(Op::Lt, 2, 0)], &[lit(Op::Eq, 2, 1)], &[lit(Op::Lt, 1, 2)]]));
-    assert!(rt; is(&normalise(alloc, &refused)?, &[&[lit(Op::Eq, 0, 2)], &[lit(Op::Eq, 1, 2)], &[lit(Op::Lt, 1, 2)], &[lit(Op::Lt, 2, 0)]]));
+    assert!(rt;
+        is(
+            &refused,
+            &[
+                &[lit(Op::Eq, 0, 2)],
+                &[lit(Op::Lt, 2, 0)],
+                &[lit(Op::Eq, 2, 1)],
+                &[lit(Op::Lt, 1, 2)]
+            ]
+        )
+    );
+    assert!(rt;
+        is(
+            &normalise(alloc, &refused)?,
+            &[
+                &[lit(Op::Eq, 0, 2)],
+                &[lit(Op::Eq, 1, 2)],
+                &[lit(Op::Lt, 1, 2)],
+                &[lit(Op::Lt, 2, 0)]
+            ]
+        )
+    );
     assert!(rt; is(&normalise(alloc, &negate(alloc, &refused)?)?, &[whole]));
     assert!(rt; is(&or(alloc, &c, &c)?, &[whole, whole]));
     assert!(rt; is(&prune(alloc, &or(alloc, &c, &c)?)?, &[whole]));
@@ -49,8 +77,18 @@ fn every_call_answers_on_one_constraint(rt: HostRuntime) -> Result<(), Fail> {
     assert!(rt; is(&meet(alloc, &c, &c)?, &[whole]));
     assert_eq!(rt; and(alloc, &c, &refused)?.len(), 4);
     assert!(rt; is(&meet(alloc, &c, &refused)?, &[]));
-    assert!(rt; is(&shift(alloc, &c, 1, 5)?, &[&[lit(Op::Lt, 0, 7), lit(Op::Lt, 7, 6)]]));
-    assert!(rt; is(&substitute(alloc, &c, 2, 1)?, &[&[lit(Op::Lt, 0, 1), lit(Op::Lt, 1, 1)]]));
+    assert!(rt;
+        is(
+            &raised(alloc, &c)?,
+            &[&[lit(Op::Lt, 0, 7), lit(Op::Lt, 7, 6)]]
+        )
+    );
+    assert!(rt;
+        is(
+            &substitute(alloc, &c, 2, 1)?,
+            &[&[lit(Op::Lt, 0, 1), lit(Op::Lt, 1, 1)]]
+        )
+    );
     assert!(rt; is(&normalise(alloc, &substitute(alloc, &c, 2, 1)?)?, &[]));
     Ok(())
 }
@@ -144,9 +182,18 @@ fn answers_stay_small(rt: HostRuntime) -> Result<(), Fail> {
         let a = made(alloc, &mut dice, levels, count)?;
         let b = made(alloc, &mut dice, levels, 2)?;
         assert!(rt; is_small(alloc, &prune(alloc, &a)?, most)?, "prune {round}");
-        assert!(rt; is_small(alloc, &meet(alloc, &a, &b)?, most)?, "meet {round}");
-        assert!(rt; is_small(alloc, &negate(alloc, &a)?, most)?, "negate {round}");
-        assert!(rt; is_small(alloc, &normalise(alloc, &a)?, most)?, "normalise {round}");
+        assert!(rt;
+            is_small(alloc, &meet(alloc, &a, &b)?, most)?,
+            "meet {round}"
+        );
+        assert!(rt;
+            is_small(alloc, &negate(alloc, &a)?, most)?,
+            "negate {round}"
+        );
+        assert!(rt;
+            is_small(alloc, &normalise(alloc, &a)?, most)?,
+            "normalise {round}"
+        );
     }
     Ok(())
 }
@@ -155,8 +202,8 @@ fn answers_stay_small(rt: HostRuntime) -> Result<(), Fail> {
 fn next(sample: &mut [u64]) -> bool {
     let sides = sample.len() as u64;
     for number in sample.iter_mut() {
-        if *number + 1 < sides {
-            *number += 1;
+        *number = number.saturating_add(1);
+        if *number < sides {
             return true;
         }
         *number = 0;

@@ -1,4 +1,4 @@
-use Rattle.std.proofs.Common.{◌≡◌, length, sym, ap, ◌∙◌, arith}
+use Rattle.std.proofs.Common.{◌≡◌, length, sym, ap, arith}
 use Rattle.lois_base.specs.declared.guards.Op.TheVariants.{Eq}
 use Rattle.lois_constraint.proofs.Sides.{ends_first, is_first, is_second, goes_on, at_end, within_next}
 use Rattle.lois_constraint.proofs.normal.goes_before.Goals as goal

@@ -2,7 +2,6 @@ use Rattle.std.proofs.Common.{◌≡◌, take, refl, sym, ap, ◌∙◌, subst, 
 use Rattle.std.proofs.lemmas.Grind.{common_steps}
 use Rattle.lois_base.specs.Truth.{holds}
 use Rattle.lois_constraint.specs.Rules.{uses, fits, admits, ConstraintObeys}
-use Rattle.lois_constraint.proofs.Normals.{empty_is_normalised}
 use Rattle.lois_constraint.proofs.Tightened.{constraint_grows}
 use Rattle.lois_constraint.proofs.Uses.{item_obeys}
 use Rattle.lois_constraint.proofs.normal.normalise.Goals as goal
