@@ -12,15 +12,21 @@ const SCRIPT: &[u8] = b"atoms equality; let a = atoms; print a;";
 const OUTPUT: &[u8] =
     b"lois results 1\natoms equality\nparameters\ncase when true\na = {$0 for $0}\nend\n";
 
+const TOO_LONG: &[u8] = b"refused: input over 1048576 bytes\n";
+
+const NOT_BUILT: &[u8] = b"refused: not built yet\n";
+
 const USAGE: &[u8] = b"usage: lois run|check|reread|make N [--decider plain|graph|memo]\n";
 
 // A source and a sink over memory: how many bytes a call moves, and which calls fail.
+#[derive(Clone, Copy)]
 struct Edge<'a> {
     step: usize,
     failing: &'a [u64],
 }
 
 // What the call answered, and what the sink holds.
+#[derive(Drop)]
 struct Told {
     status: u8,
     held: Vec<u8>,
@@ -34,7 +40,7 @@ fn words_of(alloc: Global, words: &[&str]) -> Result<Vec<String>, AllocError> {
     Ok(owned)
 }
 
-fn told(
+fn call(
     alloc: Global,
     words: &[&str],
     text: &[u8],
@@ -57,13 +63,19 @@ fn told(
 
 // With a source and a sink that never fail.
 fn run(alloc: Global, text: &[u8]) -> Result<Told, Fail> {
-    told(
+    call(
         alloc,
         &["run"],
         text,
-        Edge { step: 4096, failing: &[] },
+        Edge {
+            step: 4096,
+            failing: &[],
+        },
         4096,
-        Edge { step: 4096, failing: &[] },
+        Edge {
+            step: 4096,
+            failing: &[],
+        },
     )
 }
 
@@ -111,13 +123,19 @@ fn words_that_are_not_taken_are_usage(rt: HostRuntime) -> Result<(), Fail> {
     let alloc = rt.alloc();
     let rows: [&[&str]; 5] = [&[], &["run", "x"], &["Run"], &["check"], &["make", "0"]];
     for words in rows {
-        let told = told(
+        let told = call(
             alloc,
             words,
             SCRIPT,
-            Edge { step: 1, failing: &[0] },
+            Edge {
+                step: 1,
+                failing: &[0],
+            },
             4096,
-            Edge { step: 4096, failing: &[] },
+            Edge {
+                step: 4096,
+                failing: &[],
+            },
         )?;
         assert_eq!(rt; told.status, 9);
         assert_eq!(rt; told.held.as_slice(), USAGE);
@@ -131,34 +149,46 @@ fn a_text_over_the_limit_is_too_long(rt: HostRuntime) -> Result<(), Fail> {
     let spaces = vec![in alloc; b' '; 1_048_577]?;
     let told = run(alloc, &spaces)?;
     assert_eq!(rt; told.status, 5);
-    assert_eq!(rt; told.held.as_slice(), b"refused: input over 1048576 bytes\n");
+    assert_eq!(rt; told.held.as_slice(), TOO_LONG);
     Ok(())
 }
 
-// Each call of the source fails in turn: the fifth and later ones with step 8 find 39 bytes taken or the end.
+// Each call of the source fails in turn, the one that would find the end among them.
 #[test]
 fn a_fault_of_the_source_is_told(rt: HostRuntime) -> Result<(), Fail> {
     let alloc = rt.alloc();
     for (step, calls) in [(1, 40), (8, 6), (4096, 2)] {
         for failing in 0..calls {
-            let told = told(
+            let told = call(
                 alloc,
                 &["run"],
                 SCRIPT,
-                Edge { step, failing: &[failing] },
+                Edge {
+                    step,
+                    failing: &[failing],
+                },
                 4096,
-                Edge { step: 4096, failing: &[] },
+                Edge {
+                    step: 4096,
+                    failing: &[],
+                },
             )?;
             assert_eq!(rt; told.status, 6, "step {step}, call {failing}");
             assert_eq!(rt; told.held.len(), 0, "step {step}, call {failing}");
         }
-        let told = told(
+        let told = call(
             alloc,
             &["run"],
             SCRIPT,
-            Edge { step, failing: &[calls] },
+            Edge {
+                step,
+                failing: &[calls],
+            },
             4096,
-            Edge { step: 4096, failing: &[] },
+            Edge {
+                step: 4096,
+                failing: &[],
+            },
         )?;
         assert_eq!(rt; told.status, 0, "step {step}");
     }
@@ -178,25 +208,41 @@ fn a_fault_of_the_sink_is_told(rt: HostRuntime) -> Result<(), Fail> {
         (7, 99, 70, 70),
         (4096, 9, 0, 0),
     ] {
-        let told = told(
+        let told = call(
             alloc,
             &["run"],
             SCRIPT,
-            Edge { step: 4096, failing: &[] },
+            Edge {
+                step: 4096,
+                failing: &[],
+            },
             room,
-            Edge { step, failing: &[failing] },
+            Edge {
+                step,
+                failing: &[failing],
+            },
         )?;
         assert_eq!(rt; told.status, 7, "step {step}, call {failing}, room {room}");
-        assert_eq!(rt; told.held.as_slice(), &OUTPUT[..held], "step {step}, call {failing}, room {room}");
+        assert_eq!(rt;
+            told.held.as_slice(),
+            &OUTPUT[..held],
+            "step {step}, call {failing}, room {room}"
+        );
     }
     for step in [1, 7, 10, 75, 76, 4096] {
-        let told = told(
+        let told = call(
             alloc,
             &["run"],
             SCRIPT,
-            Edge { step: 4096, failing: &[] },
+            Edge {
+                step: 4096,
+                failing: &[],
+            },
             76,
-            Edge { step, failing: &[76] },
+            Edge {
+                step,
+                failing: &[76],
+            },
         )?;
         assert_eq!(rt; told.status, 0, "step {step}");
         assert_eq!(rt; told.held.as_slice(), OUTPUT, "step {step}");
@@ -219,7 +265,7 @@ fn other_texts_are_not_built(rt: HostRuntime) -> Result<(), Fail> {
     ] {
         let told = run(alloc, text.as_bytes())?;
         assert_eq!(rt; told.status, 5, "{text}");
-        assert_eq!(rt; told.held.as_slice(), b"refused: not built yet\n", "{text}");
+        assert_eq!(rt; told.held.as_slice(), NOT_BUILT, "{text}");
     }
     Ok(())
 }
