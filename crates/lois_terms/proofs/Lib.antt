@@ -1,0 +1,5 @@
+pub mod Tops
+pub mod ShiftedFits
+pub mod MoreAtoms
+pub mod UnderGuard
+pub mod Heights

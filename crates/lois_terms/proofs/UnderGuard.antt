@@ -1,0 +1,147 @@
+-- What a set is under a further guard.
+use Rattle.std.proofs.Common.{◌≡◌, ℕ, suc, ◌+◌, ◌<◌, Bool, true, false, ◌&&◌, List, [], ◌∷◌, ◌++◌, length, get_or, map, take, append-nil, refl, ap, ◌∙◌, sym, subst, inl, inr, arith}
+use Rattle.std.specs.List.{All}
+use Rattle.std.specs.Bool.{IsTrue, IsFalse}
+use Rattle.std.proofs.lemmas.List.{get_or_append_left, take_more}
+use Rattle.std.proofs.lemmas.List.Elements.{All-nil, All-head, All-tail, All-append, All-map, All-weaker}
+use Rattle.std.proofs.lemmas.Grind.{flat_map-append}
+use Rattle.lois_base.specs.Atom.{Atom, whole}
+use Rattle.lois_base.specs.Data.{TermD, var, tag, tup, coll, CompD, comp, CompsD, no_comps, more, comps_of, depth, depth_of_items}
+use Rattle.lois_base.specs.Fits.{LitFits, CubeFits, ConstraintFits, Fits, ItemsFit}
+use Rattle.lois_base.specs.Normal.{both}
+use Rattle.lois_base.specs.Truth.{lit_holds, cube_holds, holds}
+use Rattle.lois_base.specs.Validity.{AdmitsLit, AdmitsConstraint, AdmitsTerm, AdmitsItems, HasUsualWidths, ItemsHaveUsualWidths}
+use Rattle.lois_base.specs.Values.{MemberAt, SameAt}
+use Rattle.lois_base.specs.declared.guards.Lit.{Lit}
+use Rattle.lois_base.proofs.Both.{holds_both}
+use Rattle.lois_base.proofs.Same.{same_at_refl, is_all_in, is_some_is}
+use Rattle.lois_terms.specs.Guarded.{IsSet, KeepsWhere, IsEmptyElsewhere, guarded_comp, guarded_items, guarded}
+
+pub guarded_items_of : (c : List (List Lit)) (cs : List CompD) → comps_of (map (guarded_comp c) cs) ≡ guarded_items c (comps_of cs)
+guarded_items_of c [] = refl
+guarded_items_of c (k ∷ cs) = ap (more (guarded_comp c k)) (guarded_items_of c cs)
+
+-- a further cube of the first
+both_more : (a b : List (List Lit)) (i : ℕ) (d : List Lit) → i < length a → both (take (i + 1) a) b ≡ both (take i a) b ++ map (λ e. get_or a i d ++ e) b
+both_more a b i d l = rw (take_more a i d l) (simp (flat_map-append, append-nil))
+
+pub both_step : (a b p r : List (List Lit)) (i : ℕ) (x : List Lit) → p ≡ both (take i a) b → x ≡ get_or a i x → i < length a → r ≡ p ++ map (λ e. x ++ e) b → r ≡ both (take (i + 1) a) b
+both_step a b p r i x e is l f =
+    rw (both_more a b i x l) (subst (λ (y : List Lit). r ≡ both (take i a) b ++ map (λ e. y ++ e) b) is (subst (λ (q : List (List Lit)). r ≡ q ++ map (λ e. x ++ e) b) e f))
+
+-- what is true of all literals of two constraints is true of those of both
+all_both : (P : Lit → Type 0) (a b : List (List Lit)) → All (All P) a → All (All P) b → All (All P) (both a b)
+all_both P [] b h k = All-nil (All P)
+all_both P (x ∷ a) b h k =
+    All-append (All P) (map (λ d. x ++ d) b) (both a b)
+    (All-map (All P) (λ d. x ++ d) b (λ i d l. All-append P x (get_or b i d) (All-head (All P) x a h) (k i d l)))
+    (all_both P a b (All-tail (All P) x a h) k)
+
+pub fits_longer : (n m : ℕ) (c : List (List Lit)) → ConstraintFits n c → ConstraintFits (n + m) c
+fits_longer n m c f =
+    All-weaker (CubeFits n) (CubeFits (n + m)) (λ k h. All-weaker (LitFits n) (LitFits (n + m)) (λ l p. (omega (arith, p.0), omega (arith, p.1))) k h) c f
+
+-- further atoms don't count
+module _ (d e : List Atom) where
+  lit_longer : (l : Lit) → LitFits (length d) l → lit_holds (d ++ e) l ≡ lit_holds d l
+  lit_longer l f =
+      rw (get_or_append_left d e (whole 0) l.left f.0, get_or_append_left d e (whole 0) l.right f.1) refl
+
+  cube_longer : (k : List Lit) → CubeFits (length d) k → cube_holds (d ++ e) k ≡ cube_holds d k
+  cube_longer [] f = refl
+  cube_longer (l ∷ k) f =
+      rw (lit_longer l (All-head (LitFits (length d)) l k f), cube_longer k (All-tail (LitFits (length d)) l k f))
+
+  holds_longer : (c : List (List Lit)) → ConstraintFits (length d) c → holds (d ++ e) c ≡ holds d c
+  holds_longer [] f = refl
+  holds_longer (k ∷ c) f =
+      rw (cube_longer k (All-head (CubeFits (length d)) k c f), holds_longer c (All-tail (CubeFits (length d)) k c f))
+
+module _ (c : List (List Lit)) (d : List Atom) (fits : ConstraintFits (length d) c) where
+  guard_at : (e : List Atom) (g : List (List Lit)) → holds (d ++ e) (both c g) ≡ (holds d c && holds (d ++ e) g)
+  guard_at e g = holds_both (d ++ e) c g ∙ ap (λ z. z && holds (d ++ e) g) (holds_longer d e c fits)
+
+  guard_kept : IsTrue (holds d c) → (e : List Atom) (g : List (List Lit)) → holds (d ++ e) (both c g) ≡ holds (d ++ e) g
+  guard_kept h e g = guard_at e g ∙ ap (λ z. z && holds (d ++ e) g) h
+
+  guard_lost : IsFalse (holds d c) → (e : List Atom) (g : List (List Lit)) → holds (d ++ e) (both c g) ≡ false
+  guard_lost h e g = guard_at e g ∙ ap (λ z. z && holds (d ++ e) g) h
+
+  member_kept : IsTrue (holds d c) → (ks : CompsD) (w : TermD) (x : List Atom) → MemberAt w x (guarded_items c ks) d → MemberAt w x ks d
+  member_kept h no_comps w x m = m
+  member_kept h (more (comp n g t) ks) w x (inl (e, y, p, q)) =
+      inl (e, record { count = y.count; guard = subst IsTrue (guard_kept h e g) y.guard }, p, q)
+  member_kept h (more k ks) w x (inr m) = inr (member_kept h ks w x m)
+
+  member_stays : IsTrue (holds d c) → (ks : CompsD) (w : TermD) (x : List Atom) → MemberAt w x ks d → MemberAt w x (guarded_items c ks) d
+  member_stays h no_comps w x m = m
+  member_stays h (more (comp n g t) ks) w x (inl (e, y, p, q)) =
+      inl (e, record { count = y.count; guard = subst IsTrue (sym (guard_kept h e g)) y.guard }, p, q)
+  member_stays h (more k ks) w x (inr m) = inr (member_stays h ks w x m)
+
+  same_items : IsTrue (holds d c) → (ks : CompsD) → SameAt (coll (guarded_items c ks)) d (coll ks) d
+  same_items h ks = (
+    is_all_in (guarded_items c ks) d ks d (λ w x m. (w, x, member_kept h ks w x m, same_at_refl w x)),
+    λ w x m. is_some_is (guarded_items c ks) d w x w x (member_stays h ks w x m) (same_at_refl w x),
+  )
+
+  no_member : IsFalse (holds d c) → (ks : CompsD) (w : TermD) (x : List Atom) → MemberAt w x (guarded_items c ks) d → ⊥
+  no_member h no_comps w x m = m
+  no_member h (more (comp n g t) ks) w x (inl (e, y, p, q)) =
+      let lost : false ≡ true = sym (guard_lost h e g) ∙ y.guard in absurd (cc)
+  no_member h (more k ks) w x (inr m) = no_member h ks w x m
+
+  same_where : IsTrue (holds d c) → (t : TermD) → SameAt (guarded c t) d t d
+  same_where h (coll ks) = same_items h ks
+  same_where h (var i) = same_at_refl (var i) d
+  same_where h (tag n) = same_at_refl (tag n) d
+  same_where h (tup ts) = same_at_refl (tup ts) d
+
+pub keeps_where : (c : List (List Lit)) (t : TermD) → KeepsWhere c t (guarded c t)
+keeps_where c t = λ d fits h. same_where c d fits h t
+
+pub is_empty_elsewhere : (c : List (List Lit)) (t : TermD) → IsSet t → IsEmptyElsewhere c (guarded c t)
+is_empty_elsewhere c (coll ks) s = λ d fits h u m. no_member c d fits h ks u.term_of u.choice m
+is_empty_elsewhere c _ (ks, e) = absurd (cc)
+
+pub is_set_guarded : (c : List (List Lit)) (t : TermD) → IsSet t → IsSet (guarded c t)
+is_set_guarded c (coll ks) s = (guarded_items c ks, refl)
+is_set_guarded c _ (ks, e) = absurd (cc)
+
+items_fit : (c : List (List Lit)) (n : ℕ) → ConstraintFits n c → (ks : CompsD) → ItemsFit n ks → ItemsFit n (guarded_items c ks)
+items_fit c n h no_comps f = f
+items_fit c n h (more (comp m g t) ks) f = (
+  (f.0.0, all_both (LitFits (n + m)) c g (fits_longer n m c h) f.0.1, f.0.2),
+  items_fit c n h ks f.1,
+)
+
+pub fits_guarded : (c : List (List Lit)) (t : TermD) (n : ℕ) → Fits n t → ConstraintFits n c → Fits n (guarded c t)
+fits_guarded c (coll ks) n f h = items_fit c n h ks f
+fits_guarded c _ n f h = f
+
+items_admit : (c : List (List Lit)) (ordered : Bool) → AdmitsConstraint ordered c → (ks : CompsD) → AdmitsItems ordered ks → AdmitsItems ordered (guarded_items c ks)
+items_admit c ordered h no_comps f = f
+items_admit c ordered h (more (comp m g t) ks) f =
+    ((all_both (AdmitsLit ordered) c g h f.0.0, f.0.1), items_admit c ordered h ks f.1)
+
+pub admits_guarded : (c : List (List Lit)) (t : TermD) (ordered : Bool) → AdmitsTerm ordered t → AdmitsConstraint ordered c → AdmitsTerm ordered (guarded c t)
+admits_guarded c (coll ks) ordered f h = items_admit c ordered h ks f
+admits_guarded c _ ordered f h = f
+
+items_have_widths : (c : List (List Lit)) (ks : CompsD) → ItemsHaveUsualWidths ks → ItemsHaveUsualWidths (guarded_items c ks)
+items_have_widths c no_comps f = f
+items_have_widths c (more (comp m g t) ks) f = (f.0, items_have_widths c ks f.1)
+
+pub widths_guarded : (c : List (List Lit)) (t : TermD) → HasUsualWidths t → HasUsualWidths (guarded c t)
+widths_guarded c (coll ks) f = items_have_widths c ks f
+widths_guarded c _ f = f
+
+depth_items : (c : List (List Lit)) (ks : CompsD) → depth_of_items (guarded_items c ks) ≡ depth_of_items ks
+depth_items c no_comps = refl
+depth_items c (more (comp m g t) ks) = rw (depth_items c ks)
+
+pub depth_guarded : (c : List (List Lit)) (t : TermD) → depth (guarded c t) ≡ depth t
+depth_guarded c (coll ks) = ap suc (depth_items c ks)
+depth_guarded c (var i) = refl
+depth_guarded c (tag n) = refl
+depth_guarded c (tup ts) = refl
