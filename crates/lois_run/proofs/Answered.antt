@@ -1,6 +1,6 @@
 -- The answer to a text: completed results are those of the script, and only other forms and badly scoped scripts are refused.
-use Rattle.std.proofs.Common.{◌≡◌, ℕ, Bool, true, false, List, [], ◌∷◌, ◌++◌, length, map, refl, sym, ap, ◌∙◌, subst, ◌⊎◌, inl, inr, Option, Some, None, arith}
-use Rattle.std.specs.Prelude.{IsTrue, IfSome, IfOk, Result, Ok, Err}
+use Rattle.std.proofs.Common.{◌≡◌, ℕ, Bool, false, List, [], ◌∷◌, ◌++◌, length, map, refl, sym, ap, ◌∙◌, subst, inl, inr, Option, Some, None, arith}
+use Rattle.std.specs.Prelude.{IfSome, IfOk, Result, Ok, Err}
 use Rattle.std.specs.List.{All}
 use Rattle.std.proofs.lemmas.List.Elements.{All-nil, All-cons, All-push}
 use Rattle.lois_base.specs.Atom.{Atom}
@@ -12,14 +12,13 @@ use Rattle.lois_meaning.specs.Grammar.{PlacedToken, placed, SpellsScript}
 use Rattle.lois_meaning.specs.Limits.{Spells}
 use Rattle.lois_meaning.specs.ResultsData.{LineD, CaseD}
 use Rattle.lois_meaning.specs.Runs.{ListEnds}
-use Rattle.lois_meaning.specs.Scope.{RuleD, IsWellScoped, ParametersBreak, StmtsBreak, opening_scope, with_parameters}
+use Rattle.lois_meaning.specs.Scope.{IsWellScoped, StmtsBreak, opening_scope, with_parameters}
 use Rattle.lois_meaning.specs.Sound.{IsSound, IsSoundCase, IsSoundLine, IsFreeName}
 use Rattle.lois_meaning.specs.Store.{NamedValues, AreSameNamed, opening}
-use Rattle.lois_meaning.specs.Tree.{ScriptD, ParamD, StmtsD}
-use Rattle.lois_meaning.specs.declared.results.Results.{Results}
+use Rattle.lois_meaning.specs.Tree.{ScriptD}
 use Rattle.lois_meaning.proofs.Stores.{named_refl}
 use Rattle.lois_run.specs.FirstForms.{IsFirstScript}
-use Rattle.lois_run.specs.Headline.{IsAnswer, IsRightAt, PrintsAt, HoldsAt, HoldsSomewhere, IsChoiceOf, line_values, parameter_name, Headline}
+use Rattle.lois_run.specs.Headline.{IsAnswer, IsRightAt, HoldsAt, HoldsSomewhere, line_values, parameter_name, Headline}
 use Rattle.lois_run.specs.Reading.{Machine, machine, read_from}
 use Rattle.lois_run.specs.Outcomes.{first_results, outcome_of_run, HasText}
 use Rattle.lois_run.specs.Causes.{IsOfText}
@@ -32,11 +31,10 @@ use Rattle.lois_run.specs.declared.outcomes.Outcome.{Outcome}
 use Rattle.lois_run.specs.declared.outcomes.Outcome.TheVariants.{Refused}
 use Rattle.lois_run.specs.declared.outcomes.Refusal.TheVariants.{NotBuilt}
 use Rattle.lois_base.specs.declared.memory.NoMemory.{NoMemory}
-use Rattle.lois_run.specs.declared.first_reader.State.{State}
 use Rattle.lois_run.specs.declared.first_reader.State.TheVariants.{Begin, Between, Wrong}
 use Rattle.lois_run.specs.declared.first_reader.Statement.{Statement}
-use Rattle.lois_run.proofs.FreeNames.{NamesAreFree, names_are_free}
-use Rattle.lois_run.proofs.Read.{IsRead, script_is_read, Follows, PrintFree}
+use Rattle.lois_run.proofs.FreeNames.{names_are_free}
+use Rattle.lois_run.proofs.Read.{IsRead, script_is_read}
 use Rattle.lois_run.proofs.Ran.{BodyRuns, body_runs, always_all}
 
 abbrev pub one_case : List LineD → CaseD

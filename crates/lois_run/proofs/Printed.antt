@@ -1,5 +1,5 @@
 -- How the lines of the first forms are written.
-use Rattle.std.proofs.Common.{◌≡◌, ℕ, suc, ◌+◌, ◌<◌, arith, Bool, true, false, List, [], ◌∷◌, ◌++◌, length, map, drop, get_or, slice_get, Some, Option, codes, refl, sym, ap, ◌∙◌, subst, inl, inr, append_assoc, append-nil, nat_eq}
+use Rattle.std.proofs.Common.{◌≡◌, ℕ, suc, ◌+◌, ◌<◌, arith, Bool, true, false, List, [], ◌∷◌, ◌++◌, length, map, drop, get_or, slice_get, Some, codes, refl, sym, ap, ◌∙◌, subst, inl, inr, append_assoc, append-nil, nat_eq}
 use Rattle.std.specs.List.{All, flat_map}
 use Rattle.std.proofs.lemmas.Bool.{false≢true}
 use Rattle.std.proofs.lemmas.Bool.Decides.{nat_tests}
@@ -7,9 +7,7 @@ use Rattle.std.proofs.lemmas.List.{drop_more}
 use Rattle.lois_base.specs.Data.{CompD, coll, comps_of}
 use Rattle.lois_base.specs.Tree.{tree}
 use Rattle.lois_meaning.specs.LineView.{line_of}
-use Rattle.lois_meaning.specs.CaseView.{case_of}
 use Rattle.lois_meaning.specs.declared.results.Line.{Line}
-use Rattle.lois_meaning.specs.declared.results.Case.{Case}
 use Rattle.lois_meaning.specs.declared.results.Results.{Results}
 use Rattle.lois_meaning.proofs.Lists.{all_step}
 use Rattle.lois_run.specs.Outcomes.{AreFirstCases, AreFirstResults}

@@ -1,27 +1,26 @@
 -- What the small run prints is what the script prints.
-use Rattle.std.proofs.Common.{◌≡◌, ℕ, zero, suc, ◌<◌, ◌≤◌, ◌^◌, Bool, true, false, List, [], ◌∷◌, ◌++◌, length, map, refl, sym, ap, ◌∙◌, subst, append_assoc, append-nil, ◌⊎◌, inl, inr, Option, Some, None, option_map, arith, if◌then◌else◌, bytes_eq, lit≤, lit<}
-use Rattle.std.specs.Prelude.{IsTrue}
+use Rattle.std.proofs.Common.{◌≡◌, ℕ, Bool, true, false, List, [], ◌∷◌, ◌++◌, length, refl, sym, ap, ◌∙◌, subst, append_assoc, append-nil, ◌⊎◌, inl, inr, Option, Some, None, option_map, arith, if◌then◌else◌, bytes_eq, lit≤, lit<}
 use Rattle.std.specs.List.{All}
 use Rattle.std.proofs.lemmas.List.Elements.{All-nil, All-cons}
-use Rattle.lois_base.specs.Atom.{Atom, equal}
-use Rattle.lois_base.specs.Data.{TermD, var, tag, tup, coll, comp, no_comps, more}
+use Rattle.lois_base.specs.Atom.{Atom}
+use Rattle.lois_base.specs.Data.{TermD, var, tag, tup, coll}
 use Rattle.lois_base.specs.Fits.{LitFits, CubeFits}
 use Rattle.lois_base.specs.Truth.{atom_at}
 use Rattle.lois_base.specs.Validity.{AdmitsLit, AdmitsCube}
 use Rattle.lois_base.specs.declared.guards.Lit.{Lit}
-use Rattle.lois_base.specs.Values.{PointValue, point, IsIn, IsSame, IsExtension}
+use Rattle.lois_base.specs.Values.{PointValue, point, IsIn, IsSame}
 use Rattle.lois_base.proofs.Members.{same_refl}
 use Rattle.lois_meaning.specs.Expressions.{Gives}
 use Rattle.lois_meaning.specs.Kinds.{IsAtomAt, IsAtomValue, IsSetOf, IsOneOf}
 use Rattle.lois_meaning.specs.ResultsData.{LineD}
-use Rattle.lois_meaning.specs.Runs.{StmtEnds, ListEnds}
-use Rattle.lois_meaning.specs.Scope.{RuleD, unknown, again, RoleD, inner, DeclaredD, ScopeD, role_of, ExprBreaks, StmtBreaks, StmtsBreak}
+use Rattle.lois_meaning.specs.Runs.{ListEnds}
+use Rattle.lois_meaning.specs.Scope.{RuleD, unknown, again, inner, DeclaredD, ScopeD, role_of, ExprBreaks, StmtsBreak}
 use Rattle.lois_meaning.specs.Sound.{IsFreeName, IsSoundLine, IsSoundTerm}
-use Rattle.lois_meaning.specs.Store.{NamedValue, NamedValues, named, looked_up, stored, AreSameNamed, IsShallow}
-use Rattle.lois_meaning.specs.Tree.{ExprD, atoms, var as use_of, listed, no_exprs, StmtD, «let», print, StmtsD, no_stmts, stmt}
+use Rattle.lois_meaning.specs.Store.{NamedValues, named, looked_up, stored, AreSameNamed, IsShallow}
+use Rattle.lois_meaning.specs.Tree.{ExprD, atoms, var as use_of, listed, no_exprs, «let», print, StmtsD, no_stmts, stmt}
 use Rattle.lois_meaning.proofs.Stores.{named_refl}
 use Rattle.lois_run.specs.Headline.{line_values}
-use Rattle.lois_run.specs.Running.{held, given_value, term_of, Running, running, after_let, after_print, run_step, run_on, IsFirstLine}
+use Rattle.lois_run.specs.Running.{held, given_value, term_of, running, after_let, after_print, run_on}
 use Rattle.lois_run.specs.declared.first_reader.Statement.{Statement}
 use Rattle.lois_run.specs.declared.first_reader.Statement.TheVariants.{Let, Print}
 use Rattle.lois_run.specs.declared.first_reader.Given.{Given}
@@ -30,7 +29,7 @@ use Rattle.lois_run.specs.declared.first_run.Value.{Value}
 use Rattle.lois_run.specs.declared.first_run.Value.TheVariants.{Atoms, Nothing}
 use Rattle.lois_run.specs.declared.first_run.Binding.{Binding}
 use Rattle.lois_run.proofs.Stopped.{run_none}
-use Rattle.lois_run.proofs.Read.{FollowsExpr, FollowsStmt, Follows, PrintsFree, PrintFree}
+use Rattle.lois_run.proofs.Read.{FollowsExpr, Follows, PrintFree}
 
 abbrev value_at : Value → PointValue
 value_at v = point (term_of v) []

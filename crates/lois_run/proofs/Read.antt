@@ -1,18 +1,16 @@
 -- What the small reader makes of the tokens of a script: its statements where they are of the first forms, and none where not.
-use Rattle.std.proofs.Common.{◌≡◌, ℕ, zero, suc, Bool, true, false, List, [], ◌∷◌, ◌++◌, codes, map, refl, sym, ap, ◌∙◌, subst, append_assoc, append-nil, ◌⊎◌, inl, inr}
-use Rattle.lois_lexer.specs.declared.TokenKind.{TokenKind}
-use Rattle.lois_lexer.specs.declared.TokenKind.TheVariants.{Name, Word, Tag, Number, Symbol}
+use Rattle.std.proofs.Common.{◌≡◌, ℕ, Bool, true, false, List, [], ◌∷◌, ◌++◌, codes, refl, sym, ap, ◌∙◌, subst, append_assoc, append-nil, ◌⊎◌, inl, inr}
+use Rattle.lois_lexer.specs.declared.TokenKind.TheVariants.{Name, Word, Symbol}
 use Rattle.lois_meaning.specs.Grammar.{PlacedToken, SpellsExpr, SpellsStmt, SpellsStmts, SpellsScript, SpellsParameters, operation_word, structure_word}
 use Rattle.lois_meaning.specs.Sound.{IsFreeName}
-use Rattle.lois_meaning.specs.Tree.{ExprD, atoms, var, tag, tuple, listed, each, part, apply, ExprsD, no_exprs, expr, StmtD, «let», assign, add, for, if, while, assert, print, StmtsD, no_stmts, stmt, ParamD, ScriptD}
+use Rattle.lois_meaning.specs.Tree.{ExprD, atoms, var, tag, tuple, listed, each, part, apply, no_exprs, expr, StmtD, «let», assign, add, for, if, while, assert, print, StmtsD, no_stmts, stmt, ParamD, ScriptD}
 use Rattle.lois_meaning.specs.declared.syntax.Operation.{Operation}
 use Rattle.lois_meaning.specs.declared.syntax.Operation.TheVariants.{Union, Inter, Minus, Flatten, Reach, Product, Complement, Minimise}
 use Rattle.lois_run.specs.FirstForms.{IsFirstExpr, IsFirstStmt, AreFirst, IsFirstScript}
-use Rattle.lois_run.specs.Reading.{is_word, is_symbol, goes, value_step, step_of, Machine, machine, after, read_from}
+use Rattle.lois_run.specs.Reading.{step_of, Machine, machine, after, read_from}
 use Rattle.lois_run.specs.declared.first_reader.State.{State}
 use Rattle.lois_run.specs.declared.first_reader.State.TheVariants.{Begin, SawAtoms, SawStructure, Between, SawLet, SawName, SawEquals, SawBrace, SawValue, SawPrint, SawPrinted, Wrong}
-use Rattle.lois_run.specs.declared.first_reader.Step.{Step}
-use Rattle.lois_run.specs.declared.first_reader.Step.TheVariants.{Goes, Opens, Ends}
+use Rattle.lois_run.specs.declared.first_reader.Step.TheVariants.{Goes}
 use Rattle.lois_run.specs.declared.first_reader.Statement.{Statement}
 use Rattle.lois_run.specs.declared.first_reader.Statement.TheVariants.{Let, Print}
 use Rattle.lois_run.specs.declared.first_reader.Given.{Given}

@@ -1,16 +1,12 @@
 -- The outcome of a call, by what became of the reading.
-use Rattle.std.proofs.Common.{◌≡◌, ℕ, ◌+◌, ◌≤◌, List, [], ◌++◌, length, refl, sym, ap, ◌∙◌, subst, ◌⊎◌, inl, inr, Option, Some, None, arith, length-append, append-nil}
+use Rattle.std.proofs.Common.{◌≡◌, ℕ, ◌≤◌, List, ◌++◌, length, refl, sym, ap, ◌∙◌, subst, ◌⊎◌, inl, inr, Option, Some, None, arith, length-append, append-nil}
 use Rattle.std.specs.Prelude.{IfSome, IfOk, Result, Ok, Err}
 use Rattle.lois_base.specs.declared.memory.NoMemory.{NoMemory}
 use Rattle.std.specs.Io.KnownBytes.{Consumes, IsAtEnd}
 use Rattle.lois_outside.specs.Faults.{Rose}
 use Rattle.lois_outside.specs.Reading.{TookAtMost, TookExactly}
-use Rattle.lois_meaning.specs.Limits.{Spells}
-use Rattle.lois_meaning.specs.Scope.{IsWellScoped}
-use Rattle.lois_meaning.specs.Tree.{ScriptD}
 use Rattle.lois_run.specs.Causes.{HasTaken, IsOutcomeOf, IsOfText}
-use Rattle.lois_run.specs.FirstForms.{IsFirstScript}
-use Rattle.lois_run.specs.Headline.{Headline, IsCompleted, IsRight, longest_text}
+use Rattle.lois_run.specs.Headline.{Headline, IsCompleted, longest_text}
 use Rattle.lois_run.specs.Words.{AreAccepted}
 use Rattle.lois_run.specs.declared.outcomes.Outcome.{Outcome}
 use Rattle.lois_run.specs.declared.outcomes.Outcome.TheVariants.{Completed, Refused, ReadFault, Usage}

@@ -14,7 +14,7 @@ use Rattle.lois_meaning.specs.Tree.{ParamD, ScriptD}
 use Rattle.lois_meaning.specs.declared.results.Results.{Results}
 use Rattle.lois_run.specs.FirstForms.{IsFirstScript}
 use Rattle.lois_run.specs.declared.outcomes.Outcome.{Outcome}
-use Rattle.lois_run.specs.declared.outcomes.Outcome.TheVariants.{Completed, Refused, ReadFault, Usage}
+use Rattle.lois_run.specs.declared.outcomes.Outcome.TheVariants.{Completed, ReadFault}
 
 -- a script has at most so many bytes
 abbrev pub longest_text : ℕ

@@ -1,7 +1,7 @@
 -- How the small reader goes on at each token.
 use Rattle.std.specs.Prelude.{◌≡◌, ℕ, Bool, true, false, List, [], ◌∷◌, ◌++◌, codes, if◌then◌else◌, bytes_eq}
 use Rattle.lois_lexer.specs.declared.TokenKind.{TokenKind}
-use Rattle.lois_lexer.specs.declared.TokenKind.TheVariants.{Name, Word, Tag, Number, Symbol}
+use Rattle.lois_lexer.specs.declared.TokenKind.TheVariants.{Name, Word, Symbol}
 use Rattle.lois_meaning.specs.Grammar.{PlacedToken}
 use Rattle.lois_run.specs.declared.first_reader.State.{State}
 use Rattle.lois_run.specs.declared.first_reader.State.TheVariants.{Begin, SawAtoms, SawStructure, Between, SawLet, SawName, SawEquals, SawBrace, SawValue, SawPrint, SawPrinted, Wrong}

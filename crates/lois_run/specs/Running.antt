@@ -1,6 +1,5 @@
 -- How the small run goes on at each statement.
 use Rattle.std.specs.Prelude.{◌≡◌, ℕ, List, [], ◌∷◌, ◌++◌, Option, Some, None, if◌then◌else◌, bytes_eq, ◌⊎◌, codes}
-use Rattle.std.specs.List.{All}
 use Rattle.lois_base.specs.Data.{TermD, var, coll, comp, no_comps, more}
 use Rattle.lois_meaning.specs.ResultsData.{LineD}
 use Rattle.lois_run.specs.declared.first_reader.Statement.{Statement}

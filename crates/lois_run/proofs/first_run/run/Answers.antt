@@ -1,6 +1,6 @@
-use Rattle.std.proofs.Common.{◌≡◌, true, Some, None, [], refl, sym, ◌∙◌, ap}
+use Rattle.std.proofs.Common.{◌≡◌, sym, ◌∙◌, ap}
 use Rattle.std.specs.Option.{is_some}
-use Rattle.lois_run.specs.Running.{held, given_value, running}
+use Rattle.lois_run.specs.Running.{held, running}
 use Rattle.lois_run.proofs.Stopped.{stops_again, stops_without, stops_unknown}
 use Rattle.lois_run.proofs.first_run.run.Goals as goal
 

@@ -1,4 +1,3 @@
-use Rattle.std.proofs.Common.{◌≡◌, Some, None, refl, sym}
 use Rattle.lois_run.proofs.Answered.{ran_headline, ran_kind, ran_written, unread_headline, script_read}
 use Rattle.lois_run.proofs.top.answer.Goals as goal
 

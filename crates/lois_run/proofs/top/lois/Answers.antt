@@ -1,4 +1,4 @@
-use Rattle.std.proofs.Common.{◌≡◌, refl, subst, ◌∙◌, inr}
+use Rattle.std.proofs.Common.{◌≡◌, refl, subst, inr}
 use Rattle.lois_outside.specs.Writing.{AppendsProperPrefix}
 use Rattle.lois_run.specs.Outcomes.{outcome_text}
 use Rattle.lois_run.proofs.top.lois.Goals as goal
