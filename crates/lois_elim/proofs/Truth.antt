@@ -1,6 +1,8 @@
 -- What the answer for each kind of formula says.
-use Rattle.std.proofs.Common.{◌≡◌, ℕ, suc, Bool, true, false, not, ◌&&◌, ◌||◌, ◌⊎◌, inl, inr, ◌↔◌, List, [], ◌∷◌, ◌++◌, length, length-append, refl, sym, ◌∙◌, arith}
+use Rattle.std.proofs.Common.{◌≡◌, ℕ, suc, Bool, true, false, not, ◌&&◌, ◌||◌, ◌⊎◌, inl, inr, ◌↔◌, List, [], ◌∷◌, ◌++◌, length, length-append, refl, sym, subst, ◌∙◌, arith}
 use Rattle.std.specs.Bool.{IsTrue}
+use Rattle.std.specs.List.{All}
+use Rattle.std.proofs.lemmas.List.Elements.{All-nil, All-cons}
 use Rattle.std.proofs.lemmas.Bool.{false≢true}
 use Rattle.lois_base.specs.Atom.{Atom}
 use Rattle.lois_base.specs.FormulaData.{FormulaD, lit, neg, exists, forall}
@@ -24,15 +26,19 @@ not_refuted : (a : Bool) → (IsTrue (not a) → ⊥) → IsTrue a
 not_refuted true h = refl
 not_refuted false h = absurd (h refl)
 
-alone : (a : Bool) → ((a && true) || false) ≡ a
+pub alone : (a : Bool) → ((a && true) || false) ≡ a
 alone true = refl
 alone false = refl
 
-longer : (n : ℕ) (c : List Atom) (a : Atom) → length c ≡ n → length (c ++ a ∷ []) ≡ suc n
-longer n c a k = omega (arith, length-append c (a ∷ []))
+-- what a literal obeys, a constraint of it alone obeys
+pub alone_obeys : (P : Lit → Type 0) (l : Lit) (r : List (List Lit)) → r ≡ (l ∷ []) ∷ [] → P l → All (All P) r
+alone_obeys P l r e h = subst (All (All P)) (sym e) (All-cons (All P) (l ∷ []) [] (All-cons P l [] h (All-nil P)) (All-nil (All P)))
 
-pub lit_agrees : (n : ℕ) (l : Lit) → AgreesWith n (lit l) ((l ∷ []) ∷ [])
-lit_agrees n l c k = (λ h. sym (alone (lit_holds c l)) ∙ h, λ h. alone (lit_holds c l) ∙ h)
+longer : (n m : ℕ) (c : List Atom) (a : Atom) → m ≡ suc n → length c ≡ n → length (c ++ a ∷ []) ≡ m
+longer n m c a e k = omega (arith, length-append c (a ∷ []))
+
+pub lit_agrees : (n : ℕ) (l : Lit) (r : List (List Lit)) → ((c : List Atom) → holds c r ≡ lit_holds c l) → AgreesWith n (lit l) r
+lit_agrees n l r same c k = (λ h. sym (same c) ∙ h, λ h. same c ∙ h)
 
 pub neg_agrees : (n : ℕ) (f : FormulaD) (g r : List (List Lit)) → AgreesWith n f g → ((c : List Atom) → holds c r ≡ not (holds c g)) → AgreesWith n (neg f) r
 neg_agrees n f g r agrees negated c k = (
@@ -40,16 +46,16 @@ neg_agrees n f g r agrees negated c k = (
   λ p. negated c ∙ (not_true (holds c g)).1 (λ q. p ((agrees c k).0 q)),
 )
 
-pub exists_agrees : (n : ℕ) (f : FormulaD) (g r : List (List Lit)) → AgreesWith (suc n) f g → HoldsForSome n g r → AgreesWith n (exists f) r
-exists_agrees n f g r agrees some c k = (
-  λ p. let x = (some c k).0 p in (x.0, (agrees (c ++ x.0 ∷ []) (longer n c x.0 k)).0 x.1),
-  λ p. (some c k).1 (p.0, (agrees (c ++ p.0 ∷ []) (longer n c p.0 k)).1 p.1),
+pub exists_agrees : (n m : ℕ) (f : FormulaD) (g r : List (List Lit)) → m ≡ suc n → AgreesWith m f g → HoldsForSome n g r → AgreesWith n (exists f) r
+exists_agrees n m f g r e agrees some c k = (
+  λ p. let x = (some c k).0 p in (x.0, (agrees (c ++ x.0 ∷ []) (longer n m c x.0 e k)).0 x.1),
+  λ p. (some c k).1 (p.0, (agrees (c ++ p.0 ∷ []) (longer n m c p.0 e k)).1 p.1),
 )
 
-pub forall_agrees : (n : ℕ) (f : FormulaD) (g r : List (List Lit)) → AgreesWith (suc n) f g → HoldsForEach n g r → AgreesWith n (forall f) r
-forall_agrees n f g r agrees each c k = (
-  λ p a. (agrees (c ++ a ∷ []) (longer n c a k)).0 ((each c k).0 p a),
-  λ p. (each c k).1 (λ a. (agrees (c ++ a ∷ []) (longer n c a k)).1 (p a)),
+pub forall_agrees : (n m : ℕ) (f : FormulaD) (g r : List (List Lit)) → m ≡ suc n → AgreesWith m f g → HoldsForEach n g r → AgreesWith n (forall f) r
+forall_agrees n m f g r e agrees each c k = (
+  λ p a. (agrees (c ++ a ∷ []) (longer n m c a e k)).0 ((each c k).0 p a),
+  λ p. (each c k).1 (λ a. (agrees (c ++ a ∷ []) (longer n m c a e k)).1 (p a)),
 )
 
 -- no atom refutes it exactly where it holds for each

@@ -1,10 +1,12 @@
 //! Elimination of the quantifiers of a formula, from the inside out.
 
 ghost use Rattle.std.specs.Prelude.{◌≡◌, ℕ, ◌+◌, Bool, List, [], ◌∷◌, IfOk, suc};
-ghost use Rattle.lois_base.specs.Fits.{ConstraintFits};
+ghost use Rattle.lois_base.specs.Atom.{Atom};
+ghost use Rattle.lois_base.specs.Fits.{LitFits, ConstraintFits};
 ghost use Rattle.lois_base.specs.FormulaData.{FormulaFits, FormulasFit, all, any, formulas_of};
 ghost use Rattle.lois_base.specs.FormulaView.{view, views};
-ghost use Rattle.lois_base.specs.Validity.{AdmitsConstraint, AdmitsFormula, AdmitsFormulas};
+ghost use Rattle.lois_base.specs.Truth.{lit_holds, holds};
+ghost use Rattle.lois_base.specs.Validity.{AdmitsLit, AdmitsConstraint, AdmitsFormula, AdmitsFormulas};
 ghost use Rattle.lois_elim.specs.Bound.{AgreesWith};
 
 use crate::levels::{append, for_each, for_some};
@@ -12,7 +14,7 @@ use lois_base::{Constraint, Cube, Formula, Formulas, Lit, NoMemory, Structure};
 use lois_constraint::{meet, negate, prune};
 use std::alloc::Global;
 
-fn of_literal(alloc: Global, lit: Lit) -> Result<Constraint, NoMemory>
+fn with_literal(alloc: Global, lit: Lit) -> Result<Constraint, NoMemory>
     ensures { IfOk result (λ r. r ≡ (lit ∷ []) ∷ []) }
 {
     let mut cube = Cube::new(alloc);
@@ -20,6 +22,16 @@ fn of_literal(alloc: Global, lit: Lit) -> Result<Constraint, NoMemory>
     let mut constraint = Constraint::new(alloc);
     constraint.push(cube)?;
     Ok(constraint)
+}
+
+// A literal may be true or false everywhere, so that it is pruned too.
+fn of_literal(alloc: Global, lit: Lit) -> Result<Constraint, NoMemory>
+    ensures truth { IfOk result (λ r. (c : List Atom) → holds c r ≡ lit_holds c lit) }
+    ensures levels { IfOk result (λ r. (n : ℕ) → LitFits n lit → ConstraintFits n r) }
+    ensures operators { IfOk result (λ r. (o : Bool) → AdmitsLit o lit → AdmitsConstraint o r) }
+{
+    let constraint = with_literal(alloc, lit)?;
+    prune(alloc, &constraint)
 }
 
 // One cube without literals.
@@ -32,7 +44,7 @@ fn always(alloc: Global) -> Result<Constraint, NoMemory>
 }
 
 // The number of levels below a quantifier. No memory holds a choice of more atoms than the greatest usize.
-fn with_one_more(size: usize) -> Result<usize, NoMemory>
+pub fn with_one_more(size: usize) -> Result<usize, NoMemory>
     ensures { IfOk result (λ n. n ≡ suc size) }
 {
     size.checked_add(1).ok_or(NoMemory)

@@ -3,5 +3,7 @@
 
 mod elimination;
 mod levels;
+#[cfg(test)]
+mod tests;
 
 pub use elimination::quantifier_free;

@@ -1,17 +1,24 @@
-use Rattle.std.proofs.Common.{◌≡◌, ℕ, suc, ◌+◌, ◌<◌, not, List, length, subst, sym, arith}
+use Rattle.std.proofs.Common.{◌≡◌, ℕ, ◌+◌, ◌<◌, not, List, length, subst, sym, arith}
 use Rattle.std.proofs.lemmas.Result.{IfOk-weaker}
 use Rattle.lois_base.specs.Atom.{Atom}
-use Rattle.lois_base.specs.Fits.{CubeFits, ConstraintFits}
-use Rattle.lois_base.specs.FormulaData.{FormulaD, any, neg, exists, forall, no_formulas, formulas_of}
+use Rattle.lois_base.specs.Fits.{LitFits, CubeFits, ConstraintFits}
+use Rattle.lois_base.specs.FormulaData.{FormulaD, FormulaFits, any, neg, exists, forall, no_formulas, formulas_of}
 use Rattle.lois_base.specs.FormulaView.{view, views}
 use Rattle.lois_base.specs.Truth.{holds}
 use Rattle.lois_base.specs.Validity.{AdmitsCube}
+use Rattle.lois_base.specs.declared.guards.Lit.{Lit}
 use Rattle.lois_base.proofs.FormulaViews.{formula_within}
 use Rattle.lois_elim.specs.Bound.{AgreesWith, HoldsForSome, HoldsForEach}
 use Rattle.lois_elim.proofs.Steps.{AnySoFar, parts_from, no_parts, part_fits, part_admitted, parts_go_on, all_go_on, all_refuted, any_go_on, any_end, appended_obeys}
 use Rattle.lois_elim.proofs.Truth.{neg_agrees, exists_agrees, forall_agrees}
-use Rattle.lois_elim.proofs.Views.{view_Not, view_Exists, view_Forall}
+use Rattle.lois_elim.proofs.Views.{view_Lit, view_Not, view_Exists, view_Forall}
 use Rattle.lois_elim.proofs.elimination.+elimination.Goals as goal
+
+pub quantifier_free-returns-in-Lit-clause-levels : goal.quantifier_free-returns-in-Lit-clause-levels
+quantifier_free-returns-in-Lit-clause-levels g t c =
+    let lit : Lit = c.in-Lit.lit in
+    let fits : LitFits c.args.size lit = subst (FormulaFits c.args.size) (view_Lit c.args.f.now lit c.in-Lit.is) c.requires.levels in
+    IfOk-weaker c.of_literal.result (λ r. (n : ℕ) → LitFits n lit → ConstraintFits n r) (ConstraintFits c.args.size) (λ r levels. levels c.args.size fits) c.of_literal.ensures.levels
 
 pub quantifier_free-returns-in_ok-quantifier_free-in-Not-clause-truth :
     goal.quantifier_free-returns-in_ok-quantifier_free-in-Not-clause-truth
@@ -31,18 +38,14 @@ pub quantifier_free-returns-in_ok-inner-in-Exists-clause-truth :
 quantifier_free-returns-in_ok-inner-in-Exists-clause-truth g t c =
     let f : FormulaD = view c.deref-in-Exists.result.now in
     let e : view c.args.f.now ≡ exists f = view_Exists c.args.f.now c.in-Exists.body c.deref-in-Exists.result.now c.in-Exists.is c.deref-in-Exists.ensures in
-    let inner : List (List _) = c.in_ok-inner-in-Exists.inner in
-    let agrees : AgreesWith (suc c.args.size) f inner = subst (λ n. AgreesWith n f inner) c.in_ok-with_one_more-in-Exists.ensures c.in_ok-inner-in-Exists.ensures.truth in
-    IfOk-weaker c.for_some.result (HoldsForSome c.args.size inner) (AgreesWith c.args.size (view c.args.f.now)) (λ r some. subst (λ h. AgreesWith c.args.size h r) (sym e) (exists_agrees c.args.size f inner r agrees some)) c.for_some.ensures.truth
+    IfOk-weaker c.for_some.result (HoldsForSome c.args.size c.in_ok-inner-in-Exists.inner) (AgreesWith c.args.size (view c.args.f.now)) (λ r some. subst (λ h. AgreesWith c.args.size h r) (sym e) (exists_agrees c.args.size c.in_ok-with_one_more-in-Exists.field-0 f c.in_ok-inner-in-Exists.inner r c.in_ok-with_one_more-in-Exists.ensures c.in_ok-inner-in-Exists.ensures.truth some)) c.for_some.ensures.truth
 
 pub quantifier_free-returns-in_ok-inner-in-Forall-clause-truth :
     goal.quantifier_free-returns-in_ok-inner-in-Forall-clause-truth
 quantifier_free-returns-in_ok-inner-in-Forall-clause-truth g t c =
     let f : FormulaD = view c.deref-in-Forall.result.now in
     let e : view c.args.f.now ≡ forall f = view_Forall c.args.f.now c.in-Forall.body c.deref-in-Forall.result.now c.in-Forall.is c.deref-in-Forall.ensures in
-    let inner : List (List _) = c.in_ok-inner-in-Forall.inner in
-    let agrees : AgreesWith (suc c.args.size) f inner = subst (λ n. AgreesWith n f inner) c.in_ok-with_one_more-in-Forall.ensures c.in_ok-inner-in-Forall.ensures.truth in
-    IfOk-weaker c.for_each.result (HoldsForEach c.args.size inner) (AgreesWith c.args.size (view c.args.f.now)) (λ r each. subst (λ h. AgreesWith c.args.size h r) (sym e) (forall_agrees c.args.size f inner r agrees each)) c.for_each.ensures.truth
+    IfOk-weaker c.for_each.result (HoldsForEach c.args.size c.in_ok-inner-in-Forall.inner) (AgreesWith c.args.size (view c.args.f.now)) (λ r each. subst (λ h. AgreesWith c.args.size h r) (sym e) (forall_agrees c.args.size c.in_ok-with_one_more-in-Forall.field-0 f c.in_ok-inner-in-Forall.inner r c.in_ok-with_one_more-in-Forall.ensures c.in_ok-inner-in-Forall.ensures.truth each)) c.for_each.ensures.truth
 
 pub all_of-quantifier_free-requires : goal.all_of-quantifier_free-requires
 all_of-quantifier_free-requires g t c =
