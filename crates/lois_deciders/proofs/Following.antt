@@ -1,14 +1,13 @@
 -- What follows from a cube.
-use Rattle.std.proofs.Common.{◌≡◌, ℕ, ◌+◌, ◌<◌, ◌≤◌, ◌⊎◌, inl, inr, Bool, true, false, not, List, length, get_or, refl, sym, ap, ◌∙◌, subst, arith}
+use Rattle.std.proofs.Common.{◌≡◌, ℕ, ◌+◌, ◌<◌, ◌≤◌, ◌⊎◌, inl, inr, Bool, true, false, not, List, length, get_or, refl, subst, arith}
 use Rattle.std.proofs.lemmas.Bool.{cases_lt}
 use Rattle.std.proofs.lemmas.List.Sums.{AllPass-from_list_all}
 use Rattle.std.specs.Bool.{IsTrue}
 use Rattle.lois_base.proofs.Order.{equal_refl, equal_sym, equal_trans, below_respects}
-use Rattle.lois_base.specs.Atom.{Atom, equal, below}
-use Rattle.lois_base.specs.Truth.{atom_at, op_holds, lit_holds, cube_holds}
+use Rattle.lois_base.specs.Truth.{atom_at, op_holds, lit_holds}
 use Rattle.lois_base.specs.declared.guards.Lit.{Lit}
 use Rattle.lois_base.specs.declared.guards.Op.{Op}
-use Rattle.lois_base.specs.declared.guards.Op.TheVariants.{Eq, Ne, Lt}
+use Rattle.lois_base.specs.declared.guards.Op.TheVariants.{Eq, Lt}
 use Rattle.lois_deciders.specs.Labels.{Follows}
 
 -- what holds below k and at k holds below k + 1

@@ -3,7 +3,6 @@ use Rattle.std.proofs.Common.{◌≡◌, ℕ, ◌+◌, ◌<◌, Bool, true, fals
 use Rattle.std.proofs.lemmas.Bool.{eqb-true}
 use Rattle.std.proofs.lemmas.List.{get_or-map, length-map, get_or_default}
 use Rattle.lois_base.specs.Fits.{CubeFits}
-use Rattle.lois_base.specs.Truth.{atom_at}
 use Rattle.lois_base.specs.declared.guards.Lit.{Lit}
 use Rattle.lois_base.specs.declared.guards.Op.TheVariants.{Eq, Ne}
 use Rattle.lois_constraint.specs.Substitution.{put_level}

@@ -2,3 +2,5 @@ pub mod Following
 pub mod Labelled
 pub mod Ranked
 pub mod Satisfied
+pub mod Asking
+pub mod Choosing

@@ -1,5 +1,5 @@
 -- How labels are ranked.
-use Rattle.std.proofs.Common.{◌≡◌, ℕ, zero, suc, ◌+◌, ◌<◌, ◌≢◌, ◌⊎◌, inl, inr, Bool, true, false, List, [], ◌∷◌, length, map, get_or, set, refl, sym, ap, ◌∙◌, subst, arith}
+use Rattle.std.proofs.Common.{◌≡◌, ℕ, zero, suc, ◌+◌, ◌<◌, ◌≢◌, ◌⊎◌, inl, inr, Bool, true, false, List, [], ◌∷◌, length, get_or, set, refl, sym, ap, ◌∙◌, subst, arith}
 use Rattle.std.proofs.lemmas.Bool.{cases_eq}
 use Rattle.std.proofs.lemmas.Int.{ints}
 use Rattle.std.proofs.lemmas.List.{length-set, get_or_default, get_or-set_same, get_or-set_other}
@@ -12,10 +12,10 @@ use Rattle.lois_base.specs.Atom.{Atom, below, whole}
 use Rattle.lois_base.specs.Fits.{CubeFits}
 use Rattle.lois_base.specs.Truth.{atom_at, sampled}
 use Rattle.lois_base.specs.declared.guards.Lit.{Lit}
-use Rattle.lois_base.specs.declared.guards.Op.TheVariants.{Eq, Ne, Lt}
+use Rattle.lois_base.specs.declared.guards.Op.TheVariants.{Lt}
 use Rattle.lois_base.proofs.Samples.{sample_of}
-use Rattle.lois_deciders.specs.Labels.{IsLabelling, IsUnmet, Follows}
-use Rattle.lois_deciders.specs.Ranks.{Waits, IsPlaced, IsFree, WaitsOnAnother, IsHeldBack, IsLowest, IsAbovePlaced, EachWaitsOnAnother, one_where, IsOrdered, IsRanking}
+use Rattle.lois_deciders.specs.Labels.{IsLabelling, IsUnmet}
+use Rattle.lois_deciders.specs.Ranks.{Waits, IsPlaced, IsFree, WaitsOnAnother, IsHeldBack, IsLowest, EachWaitsOnAnother, one_where, IsRanking}
 use Rattle.lois_deciders.proofs.Following.{up_to, literal_follows, follows_below, not_true}
 
 -- ---- labels that are held back

@@ -1,2 +1,4 @@
 pub mod Labels
 pub mod Ranks
+pub mod Asked
+pub mod Choice

@@ -2,7 +2,7 @@
 use Rattle.std.specs.Prelude.{◌≡◌, ℕ, ◌+◌, ◌<◌, Bool, true, false, List, length, get_or, cond}
 use Rattle.std.specs.List.{All, sum_by}
 use Rattle.lois_base.specs.declared.guards.Lit.{Lit}
-use Rattle.lois_base.specs.declared.guards.Op.TheVariants.{Eq, Ne, Lt}
+use Rattle.lois_base.specs.declared.guards.Op.TheVariants.{Lt}
 use Rattle.lois_deciders.specs.Labels.{Follows}
 
 abbrev pub Waits : List Bool → ℕ → Type 0

@@ -1,8 +1,10 @@
 //! Deciders: whether some choice of atoms meets a cube, with a sample where one does.
 #![tactic(auto)]
 
+mod chosen;
 mod graph;
 mod labels;
 mod ranks;
 
+pub use chosen::Chosen;
 pub use graph::GraphDecider;

@@ -1,4 +1,4 @@
-use Rattle.std.proofs.Common.{rules, ◌≡◌, length, refl, arith}
+use Rattle.std.proofs.Common.{rules, arith}
 use Rattle.std.proofs.lemmas.Grind.{common_steps}
 use Rattle.lois_deciders.proofs.Satisfied.{ranks_meet}
 use Rattle.lois_deciders.proofs.graph.sample.Goals as goal

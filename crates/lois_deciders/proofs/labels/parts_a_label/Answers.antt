@@ -1,4 +1,4 @@
-use Rattle.std.proofs.Common.{rules, ◌≡◌, length, arith}
+use Rattle.std.proofs.Common.{rules, length}
 use Rattle.lois_base.specs.declared.guards.Lit.{Lit}
 use Rattle.lois_base.specs.declared.guards.Op.TheVariants.{Eq}
 use Rattle.lois_deciders.proofs.Labelled.{parted}

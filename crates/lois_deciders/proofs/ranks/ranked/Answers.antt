@@ -1,4 +1,4 @@
-use Rattle.std.proofs.Common.{rules, ◌≡◌, length, subst}
+use Rattle.std.proofs.Common.{rules, length, subst}
 use Rattle.lois_deciders.specs.Ranks.{EachWaitsOnAnother}
 use Rattle.lois_deciders.proofs.Ranked.{goes_round, one_more}
 use Rattle.lois_deciders.proofs.ranks.ranked.Goals as goal

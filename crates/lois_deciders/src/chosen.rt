@@ -1,0 +1,130 @@
+//! Several deciders, of which one is asked.
+
+ghost use Rattle.std.specs.Prelude.{◌≡◌, ◌<◌, ◌↔◌, length, map, vec_len, IfOk, OnOk, IfSome, IsNone, IsTrue};
+ghost use Rattle.std.specs.List.{All, HoldsAt};
+ghost use Rattle.lois_base.specs.Fits.{CubeFits, ConstraintFits};
+ghost use Rattle.lois_base.specs.Theory.{IsSatisfiable, IsSampleOf, risen};
+ghost use Rattle.lois_deciders.specs.Asked.{Meets, CanBeMet, Parts, IsEntailed, HasRisen};
+ghost use Rattle.lois_deciders.specs.Choice.{IsWanted, IsUnwanted, IsFirstWanted};
+
+use lois_base::{Constraint, Cube, Decider, Kind, NoMemory};
+use lois_constraint::{and, meet, negate};
+use std::alloc::Global;
+
+/// Deciders, and which of them is asked.
+#[derive(Drop)]
+pub struct Chosen {
+    deciders: Vec<Box<dyn Decider>>,
+    position: usize,
+    ghost in_list: { position < vec_len deciders },
+}
+
+fn is_wanted(kind: Option<Kind>, decider: &Box<dyn Decider>) -> bool
+    ensures { IsTrue result ↔ IsWanted kind (kind_of decider.now) }
+{
+    match kind {
+        None => true,
+        Some(kind) => kind == decider.name(),
+    }
+}
+
+fn put_cube(
+    decider: &mut Box<dyn Decider>,
+    alloc: Global,
+    cube: &Cube,
+    size: usize,
+) -> Result<Option<Vec<u64>>, NoMemory>
+    requires { CubeFits size cube.now }
+    ensures sample { IfOk result (λ o. IfSome o (λ s. IsSampleOf size cube.now s.items)) }
+    ensures none { IfOk result (λ o. IsNone o ↔ (IsSatisfiable size cube.now → ⊥)) }
+    ensures asked { questions decider.new ≡ risen (questions decider.old) }
+{
+    decider.satisfiable(alloc, cube, size)
+}
+
+// A sample of the first cube that has one.
+fn put(
+    decider: &mut Box<dyn Decider>,
+    alloc: Global,
+    c: &Constraint,
+    size: usize,
+) -> Result<Option<Vec<u64>>, NoMemory>
+    requires { ConstraintFits size c.now }
+    ensures sample { IfOk result (λ o. IfSome o (λ s. Meets size c.now s.items)) }
+    ensures none { IfOk result (λ o. IsNone o ↔ (CanBeMet size c.now → ⊥)) }
+    ensures asked { OnOk result (0 < length c.now → HasRisen (questions decider.old) (questions decider.new)) }
+{
+    for cube in c.as_slice() {
+        if let Some(sample) = put_cube(decider, alloc, cube, size)? {
+            return Ok(Some(sample));
+        }
+    }
+    Ok(None)
+}
+
+impl Chosen {
+    /// The first of the deciders that is of the kind, or where no kind is named the first of all. `None` where there
+    /// is no such decider, and then all are dropped.
+    pub fn choose(deciders: Vec<Box<dyn Decider>>, kind: Option<Kind>) -> Option<Chosen>
+        ensures chosen { IfSome result (λ c. IsFirstWanted kind (map (λ b. kind_of b) deciders.items) c.position) }
+        ensures kept { IfSome result (λ c. c.deciders.items ≡ deciders.items) }
+        ensures none { IsNone result ↔ All (IsUnwanted kind) (map (λ b. kind_of b) deciders.items) }
+    {
+        for position in 0..deciders.len() {
+            if is_wanted(kind, &deciders[position]) {
+                return Some(Chosen { deciders, position });
+            }
+        }
+        None
+    }
+
+    /// `size` numbers below `size` at which the constraint holds, or `None` where it holds at no choice of atoms.
+    /// Errors: `NoMemory`.
+    pub fn ask(
+        &mut self,
+        alloc: Global,
+        c: &Constraint,
+        size: usize,
+    ) -> Result<Option<Vec<u64>>, NoMemory>
+        requires { ConstraintFits size c.now }
+        ensures sample { IfOk result (λ o. IfSome o (λ s. Meets size c.now s.items)) }
+        ensures none { IfOk result (λ o. IsNone o ↔ (CanBeMet size c.now → ⊥)) }
+        ensures asked { OnOk result (0 < length c.now → HoldsAt (λ b. HoldsAt (λ a. HasRisen ((⟦<dyn Decider as Decider>⟧ b.vtable).questions b.value) ((⟦<dyn Decider as Decider>⟧ a.vtable).questions a.value)) self.new.deciders.items self.new.position) self.old.deciders.items self.old.position) }
+        ensures position { self.new.position ≡ self.old.position }
+    {
+        put(&mut self.deciders[self.position], alloc, c, size)
+    }
+
+    /// `size` numbers below `size` at which `c` holds and `d` doesn't, or `None` where `d` holds at every choice of atoms at
+    /// which `c` does. Errors: `NoMemory`.
+    pub fn entails(
+        &mut self,
+        alloc: Global,
+        c: &Constraint,
+        d: &Constraint,
+        size: usize,
+    ) -> Result<Option<Vec<u64>>, NoMemory>
+        requires first { ConstraintFits size c.now }
+        requires second { ConstraintFits size d.now }
+        ensures sample { IfOk result (λ o. IfSome o (λ s. Parts size c.now d.now s.items)) }
+        ensures none { IfOk result (λ o. IsNone o ↔ IsEntailed size c.now d.now) }
+        ensures position { self.new.position ≡ self.old.position }
+    {
+        let denied = negate(alloc, d)?;
+        let pruned = meet(alloc, c, &denied)?;
+        if pruned.len() > 0 {
+            return self.ask(alloc, &pruned, size);
+        }
+
+        // a cube that contradicts itself is for the decider to refuse
+        let product = and(alloc, c, &denied)?;
+        self.ask(alloc, &product, size)
+    }
+
+    /// How many questions the chosen decider was asked, or the greatest u64 where there were more.
+    pub fn asked(&self) -> u64
+        ensures { HoldsAt (λ b. result ≡ (⟦<dyn Decider as Decider>⟧ b.vtable).questions b.value) self.now.deciders.items self.now.position }
+    {
+        self.deciders[self.position].asked()
+    }
+}
