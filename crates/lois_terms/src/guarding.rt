@@ -13,8 +13,7 @@ use std::alloc::Global;
 
 /// The set that has the members of the set `t` where `c` holds, and none elsewhere.
 pub fn with_guard(alloc: Global, t: &Term, c: &Constraint) -> Result<Term, NoMemory>
-    requires set { IsSet (tree t.now) }
-    requires levels { (n : ℕ) × Fits n (tree t.now) × ConstraintFits n c.now }
+    requires { IsSet (tree t.now) }
     ensures conjoined { IfOk result (λ r. tree r ≡ guarded c.now (tree t.now)) }
     ensures kept { IfOk result (λ r. KeepsWhere c.now (tree t.now) (tree r)) }
     ensures empty { IfOk result (λ r. IsEmptyElsewhere c.now (tree r)) }

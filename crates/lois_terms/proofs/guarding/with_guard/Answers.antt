@@ -14,11 +14,11 @@ returns-clause-kept c =
 
 pub returns-clause-empty : goal.returns-clause-empty
 returns-clause-empty c =
-    IfOk-weaker c.guarded_set.result _ _ (λ r e. subst (IsEmptyElsewhere c.args.c.now) (sym e) (is_empty_elsewhere c.args.c.now (tree c.args.t.now) c.requires.set)) c.guarded_set.ensures
+    IfOk-weaker c.guarded_set.result _ _ (λ r e. subst (IsEmptyElsewhere c.args.c.now) (sym e) (is_empty_elsewhere c.args.c.now (tree c.args.t.now) c.requires)) c.guarded_set.ensures
 
 pub returns-clause-set : goal.returns-clause-set
 returns-clause-set c =
-    IfOk-weaker c.guarded_set.result _ _ (λ r e. subst IsSet (sym e) (is_set_guarded c.args.c.now (tree c.args.t.now) c.requires.set)) c.guarded_set.ensures
+    IfOk-weaker c.guarded_set.result _ _ (λ r e. subst IsSet (sym e) (is_set_guarded c.args.c.now (tree c.args.t.now) c.requires)) c.guarded_set.ensures
 
 pub returns-clause-levels : goal.returns-clause-levels
 returns-clause-levels c =
