@@ -51,7 +51,8 @@ pub fn with_one_more(size: usize) -> Result<usize, NoMemory>
 }
 
 /// A constraint that holds at each choice of `size` atoms exactly where the formula does. It uses levels
-/// below `size` and operators of the formula alone, so `<` only where the formula has it. Errors: `NoMemory`.
+/// below `size` and operators of the formula alone, so `<` only where the formula has it. Errors: `NoMemory`, also
+/// where a quantifier would bind the greatest level that a usize names.
 #[cycle(elimination)]
 pub fn quantifier_free<T: Structure>(
     alloc: Global,
