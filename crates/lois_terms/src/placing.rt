@@ -1,6 +1,6 @@
 //! The item of a comprehension with its binders at chosen levels.
 
-ghost use Rattle.std.specs.Prelude.{◌≡◌, ℕ, ◌+◌, ◌-◌, ◌≤◌, IfOk, Bool};
+ghost use Rattle.std.specs.Prelude.{◌≡◌, ◌+◌, ◌-◌, ◌≤◌, IfOk, Bool};
 ghost use Rattle.lois_base.specs.Fits.{ConstraintFits, Fits, CompFits};
 ghost use Rattle.lois_base.specs.Shift.{shift, shift_constraint};
 ghost use Rattle.lois_base.specs.Tree.{tree, comp_of};
