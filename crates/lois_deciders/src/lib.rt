@@ -5,6 +5,8 @@ mod chosen;
 mod graph;
 mod labels;
 mod ranks;
+#[cfg(test)]
+mod tests;
 
 pub use chosen::Chosen;
 pub use graph::GraphDecider;

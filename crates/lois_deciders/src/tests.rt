@@ -1,0 +1,161 @@
+//! The deciders on worked cubes, and which of them is asked.
+
+ghost use Rattle.std.specs.Prelude.{◌<◌};
+
+use crate::*;
+use lois_base::{Constraint, Cube, Decider, Kind, Lit, NoMemory, Op};
+use std::alloc::Global;
+use std::process::Abort;
+use std::test::Fail;
+
+fn lit(op: Op, left: usize, right: usize) -> Lit {
+    Lit { op, left, right }
+}
+
+fn cube_of(alloc: Global, literals: &[Lit]) -> Result<Cube, NoMemory> {
+    let mut cube = Cube::new(alloc);
+    for lit in literals {
+        cube.push(*lit)?;
+    }
+    Ok(cube)
+}
+
+// Each of the first levels stands in the relation to the next one, and at last one literal more.
+fn chain(alloc: Global, op: Op, steps: usize, last: Lit) -> Result<Cube, NoMemory>
+    requires { steps < 1000 }
+{
+    let mut cube = Cube::new(alloc);
+    for left in 0..steps {
+        cube.push(lit(op, left, left + 1))?;
+    }
+    cube.push(last)?;
+    Ok(cube)
+}
+
+// Whether a graph decider finds a sample, at which the cube then holds.
+fn is_met(rt: &impl Abort, alloc: Global, cube: &Cube, size: usize) -> Result<bool, NoMemory> {
+    assert!(rt; cube.fits(size));
+    let mut graph = GraphDecider::new();
+    let found = graph.satisfiable(alloc, cube, size)?;
+    assert_eq!(rt; graph.asked(), 1);
+    let Some(sample) = found else {
+        return Ok(false);
+    };
+    assert_eq!(rt; sample.len(), size);
+    assert!(rt; cube.at(&sample));
+    Ok(true)
+}
+
+#[test]
+fn short_cubes_are_decided(rt: HostRuntime) -> Result<(), Fail> {
+    let alloc = rt.alloc();
+    let met = cube_of(
+        alloc,
+        &[lit(Op::Lt, 0, 1), lit(Op::Lt, 1, 2), lit(Op::Ne, 0, 3)],
+    )?;
+    assert!(rt; is_met(&rt, alloc, &met, 4)?);
+    let round = cube_of(
+        alloc,
+        &[lit(Op::Lt, 0, 1), lit(Op::Eq, 1, 2), lit(Op::Lt, 2, 0)],
+    )?;
+    assert!(rt; !is_met(&rt, alloc, &round, 3)?);
+    let apart = cube_of(alloc, &[lit(Op::Eq, 0, 1), lit(Op::Ne, 1, 0)])?;
+    assert!(rt; !is_met(&rt, alloc, &apart, 2)?);
+    assert!(rt; is_met(&rt, alloc, &Cube::new(alloc), 0)?);
+    Ok(())
+}
+
+#[test]
+fn long_chains_are_decided(rt: HostRuntime) -> Result<(), Fail> {
+    let alloc = rt.alloc();
+    let up = chain(alloc, Op::Lt, 199, lit(Op::Ne, 0, 199))?;
+    assert!(rt; is_met(&rt, alloc, &up, 200)?);
+    let round = chain(alloc, Op::Lt, 199, lit(Op::Lt, 199, 0))?;
+    assert!(rt; !is_met(&rt, alloc, &round, 200)?);
+    let equal = chain(alloc, Op::Eq, 199, lit(Op::Eq, 199, 0))?;
+    assert!(rt; is_met(&rt, alloc, &equal, 200)?);
+
+    // the one fault: the first of the equal levels is apart from the last
+    let apart = chain(alloc, Op::Eq, 199, lit(Op::Ne, 0, 199))?;
+    assert!(rt; !is_met(&rt, alloc, &apart, 200)?);
+    Ok(())
+}
+
+#[test]
+fn many_literals_are_decided(rt: HostRuntime) -> Result<(), Fail> {
+    let alloc = rt.alloc();
+    let mut apart = Cube::new(alloc);
+    for right in 0..60 {
+        for left in 0..right {
+            apart.push(lit(Op::Ne, left, right))?;
+        }
+    }
+    assert!(rt; is_met(&rt, alloc, &apart, 60)?);
+    let mut wide = chain(alloc, Op::Lt, 499, lit(Op::Ne, 0, 499))?;
+    for left in 0..1500 {
+        wide.push(lit(Op::Lt, left / 4, 499))?;
+    }
+    assert_eq!(rt; wide.len(), 2000);
+    assert!(rt; is_met(&rt, alloc, &wide, 500)?);
+    Ok(())
+}
+
+fn chosen_of(
+    alloc: Global,
+    graph: Box<dyn Decider>,
+    kind: Option<Kind>,
+) -> Result<Option<Chosen>, NoMemory> {
+    let mut deciders = Vec::new(alloc);
+    deciders.push(graph)?;
+    Ok(Chosen::choose(deciders, kind))
+}
+
+#[test]
+fn one_is_chosen(rt: HostRuntime) -> Result<(), Fail> {
+    let alloc = rt.alloc();
+    assert!(rt; Chosen::choose(Vec::new(alloc), None).is_none());
+    let rows = [
+        (Some(Kind::Memo), false),
+        (Some(Kind::Graph), true),
+        (None, true),
+    ];
+    for (kind, found) in rows {
+        let graph: Box<dyn Decider> = Box::new(alloc, GraphDecider::new())?;
+        assert_eq!(rt; graph.name(), Kind::Graph);
+        assert_eq!(rt; chosen_of(alloc, graph, kind)?.is_some(), found, "{kind:?}");
+    }
+    Ok(())
+}
+
+#[test]
+fn the_chosen_one_is_asked(rt: HostRuntime) -> Result<(), Fail> {
+    let alloc = rt.alloc();
+    let graph: Box<dyn Decider> = Box::new(alloc, GraphDecider::new())?;
+    let mut chosen = chosen_of(alloc, graph, None)?.ok_or("no decider")?;
+
+    // the first cube can't be met, the second can
+    let mut either = Constraint::new(alloc);
+    either.push(chain(alloc, Op::Lt, 1, lit(Op::Lt, 1, 0))?)?;
+    either.push(cube_of(alloc, &[lit(Op::Lt, 1, 0)])?)?;
+    assert!(rt; either.fits(2));
+    let sample = chosen.ask(alloc, &either, 2)?.ok_or("no sample")?;
+    assert_eq!(rt; sample.as_slice(), [1, 0].as_slice());
+    assert_eq!(rt; chosen.asked(), 2);
+    Ok(())
+}
+
+#[test]
+fn one_constraint_entails_another(rt: HostRuntime) -> Result<(), Fail> {
+    let alloc = rt.alloc();
+    let graph: Box<dyn Decider> = Box::new(alloc, GraphDecider::new())?;
+    let mut chosen = chosen_of(alloc, graph, None)?.ok_or("no decider")?;
+    let mut below = Constraint::new(alloc);
+    below.push(cube_of(alloc, &[lit(Op::Lt, 0, 1)])?)?;
+    let mut apart = Constraint::new(alloc);
+    apart.push(cube_of(alloc, &[lit(Op::Ne, 0, 1)])?)?;
+    assert!(rt; below.fits(2) && apart.fits(2));
+    assert!(rt; chosen.entails(alloc, &below, &apart, 2)?.is_none());
+    assert_eq!(rt; chosen.asked(), 1);
+    assert!(rt; chosen.entails(alloc, &apart, &below, 2)?.is_some());
+    Ok(())
+}
