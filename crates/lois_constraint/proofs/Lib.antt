@@ -2,6 +2,8 @@ pub mod Both
 pub mod Denied
 pub mod Exchange
 pub mod Rounds
+pub mod Numbered
+pub mod Pruned
 pub mod Shifting
 pub mod Uses
 pub mod Tightened

@@ -81,10 +81,10 @@ met c x (k ∷ g) h t = met_at c x k g (is_part k x) refl h t (λ r. met c x g r
 pub part_is_met : (c : List Atom) (x : List Lit) (g : List (List Lit)) → list_any (λ k. is_part k x) g ≡ true → holds c g ≡ (holds c g || cube_holds c x)
 part_is_met c x g h = implied_or (holds c g) (cube_holds c x) (met c x g h)
 
-abbrev earlier : List Lit → List Lit → Bool
+abbrev pub earlier : List Lit → List Lit → Bool
 earlier x k = cube_before k x && not (is_part x k)
 
-abbrev later : List Lit → List Lit → Bool
+abbrev pub later : List Lit → List Lit → Bool
 later x k = cube_before x k && not (is_part x k)
 
 abbrev pub cubes_with : List Lit → List (List Lit) → List (List Lit)
@@ -118,7 +118,7 @@ cubes_with_hold c x g =
 abbrev Unlike : List Lit → List Lit → Type 0
 Unlike a b = IsFalse (is_part a b) × IsFalse (is_part b a)
 
-not_both : (x k : List Lit) → earlier x k ≡ true → later x k ≡ true → ⊥
+pub not_both : (x k : List Lit) → earlier x k ≡ true → later x k ≡ true → ⊥
 not_both x k h j =
     let round : cube_before k k ≡ true = cube_before_trans k x k (first_of_and (cube_before k x) (not (is_part x k)) h) (first_of_and (cube_before x k) (not (is_part x k)) j) in
     let never : cube_before k k ≡ false = cube_before_irrefl k in

@@ -1,16 +1,19 @@
 -- Cubes without the literals that follow.
-use Rattle.std.proofs.Common.{◌≡◌, ℕ, ◌+◌, ◌<◌, Bool, true, false, not, ◌&&◌, ◌||◌, List, [], ◌∷◌, ◌++◌, length, get_or, take, refl, sym, ap, ◌∙◌, subst, eqb, rules}
+use Rattle.std.proofs.Common.{◌≡◌, ℕ, ◌+◌, ◌<◌, Bool, true, false, not, ◌&&◌, ◌||◌, ◌⊎◌, inl, inr, List, [], ◌∷◌, ◌++◌, length, get_or, take, refl, sym, ap, ◌∙◌, subst, eqb, rules}
 use Rattle.std.specs.Bool.{IsTrue, IsFalse}
 use Rattle.std.specs.List.{list_all, list_any}
 use Rattle.std.proofs.lemmas.Bool.{eqb-true}
 use Rattle.std.proofs.lemmas.List.Elements.{All-take}
-use Rattle.std.proofs.lemmas.List.Folds.{list_all-append, list_all_more, list_any_more}
+use Rattle.std.proofs.lemmas.List.Folds.{list_all-append, list_all_more, list_any_more, list_any_at}
 use Rattle.std.proofs.lemmas.List.Sums.{AllPass-from_list_all, list_all-from_AllPass}
 use denote.Enum.Bare.{sameb, same_true}
 use Rattle.lois_base.specs.contracts.guards.Op.{the_type}
 use Rattle.lois_base.specs.Atom.{Atom}
 use Rattle.lois_base.specs.Truth.{lit_holds, cube_holds, holds}
+use Rattle.lois_base.proofs.Order.{test}
 use Rattle.lois_base.specs.declared.guards.Lit.{Lit}
+use Rattle.lois_constraint.specs.Alternatives.{alternatives}
+use Rattle.lois_constraint.proofs.Denied.{alternatives_hold}
 use Rattle.lois_constraint.proofs.Rounds.{first_of_and, second_of_and, not_true}
 
 -- two literals that the code calls equal
@@ -42,6 +45,30 @@ ruled_out c k start denied ms i d b same e fails h rest =
     let whole : (cube_holds c k && (lit_holds c (get_or ms i d) && true)) ≡ false = sym (list_all-append (lit_holds c) k (get_or ms i d ∷ [])) ∙ (sym (ap (cube_holds c) (e ∙ ap (λ x. x ++ get_or ms i d ∷ []) same)) ∙ fails) in
     let here : lit_holds c (get_or ms i d) ≡ false = last_fails (cube_holds c k) (lit_holds c (get_or ms i d)) whole h in
     list_any_more (lit_holds c) ms i d b ∙ rw (rest, here)
+
+holds_or_fails : (c : List Atom) (k : List Lit) (l m : Lit) (b : Bool) → cube_holds c k ≡ b → lit_holds c m ≡ false ⊎ (lit_holds c l ≡ false) → (IsTrue (cube_holds c k) → IsTrue (lit_holds c l)) → (b && (lit_holds c m && true)) ≡ false
+holds_or_fails c k l m true e (inl h) f = rw h refl
+holds_or_fails c k l m true e (inr h) f = let yes : lit_holds c l ≡ true = f e in absurd (cc)
+holds_or_fails c k l m false e h f = refl
+
+not_not : (b : Bool) → not b ≡ true → b ≡ false
+not_not true h = absurd (cc)
+not_not false h = refl
+
+one_fails : (c : List Atom) (l : Lit) (ms : List Lit) (i : ℕ) (d : Lit) → i < length ms → ms ≡ alternatives l → lit_holds c (get_or ms i d) ≡ false ⊎ (lit_holds c l ≡ false)
+one_fails c l ms i d b e = go (test (lit_holds c (get_or ms i d)))
+  where
+    go : IsTrue (lit_holds c (get_or ms i d)) ⊎ IsFalse (lit_holds c (get_or ms i d)) → lit_holds c (get_or ms i d) ≡ false ⊎ (lit_holds c l ≡ false)
+    go (inr h) = inl h
+    go (inl h) =
+        let some : list_any (lit_holds c) ms ≡ true = list_any_at (lit_holds c) ms i d b h in
+        let no : not (lit_holds c l) ≡ true = sym (alternatives_hold c l) ∙ (sym (ap (list_any (lit_holds c)) e) ∙ some) in
+        inr (not_not (lit_holds c l) no)
+
+-- with an alternative of what follows from it the cube fails
+pub alternative_fails : (c : List Atom) (k start denied ms : List Lit) (i : ℕ) (d l : Lit) → i < length ms → ms ≡ alternatives l → start ≡ k → denied ≡ start ++ get_or ms i d ∷ [] → (IsTrue (cube_holds c k) → IsTrue (lit_holds c l)) → IsFalse (cube_holds c denied)
+alternative_fails c k start denied ms i d l b e same is f =
+    ap (cube_holds c) (is ∙ ap (λ x. x ++ get_or ms i d ∷ []) same) ∙ (list_all-append (lit_holds c) k (get_or ms i d ∷ []) ∙ holds_or_fails c k l (get_or ms i d) (cube_holds c k) refl (one_fails c l ms i d b e) f)
 
 part_fails : (p : Lit → Bool) (xs : List Lit) (n : ℕ) → list_all p (take n xs) ≡ false → list_all p xs ≡ false
 part_fails p xs n fails =

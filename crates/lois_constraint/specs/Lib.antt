@@ -1,5 +1,6 @@
 pub mod Substitution
 pub mod Alternatives
+pub mod Met
 pub mod Steps
 pub mod Rules
 pub mod Tight

@@ -1,12 +1,13 @@
-//! Cubes that can't be met, and what follows from a cube. Each of these tests may say no where yes would
-//! be true as well: nothing rests on its no.
+//! Cubes that can't be met, and what follows from a cube.
 
-ghost use Rattle.std.specs.Prelude.{◌≡◌, Bool, List, filter, ◌==◌, IfOk, IsTrue, IsFalse};
-ghost use Rattle.std.specs.List.{list_any};
+ghost use Rattle.std.specs.Prelude.{◌≡◌, ℕ, Bool, List, filter, ◌==◌, IfOk, IsTrue, IsFalse, ◌↔◌};
+ghost use Rattle.std.specs.List.{All, list_any};
 ghost use Rattle.lois_base.specs.Atom.{Atom};
+ghost use Rattle.lois_base.specs.Fits.{CubeFits};
 ghost use Rattle.lois_base.specs.Truth.{lit_holds, cube_holds};
 ghost use Rattle.lois_constraint.specs.Alternatives.{alternatives};
-ghost use Rattle.lois_constraint.specs.Steps.{is_later_step};
+ghost use Rattle.lois_constraint.specs.Met.{CanBeMet, IsJoined, IsProper};
+ghost use Rattle.lois_constraint.specs.Steps.{is_later_step, CanBeNumbered};
 
 use crate::levels::substitute_cube;
 use lois_base::{Cube, Lit, NoMemory, Op};
@@ -15,7 +16,9 @@ use std::alloc::Global;
 
 // The cube with one level for each two that it calls equal.
 fn with_equals_joined(alloc: Global, cube: &Cube) -> Result<Cube, NoMemory>
-    ensures { IfOk result (λ r. (c : List Atom) → IsTrue (cube_holds c cube.now) → IsTrue (cube_holds c r)) }
+    ensures follows { IfOk result (λ r. (c : List Atom) → IsTrue (cube_holds c cube.now) → IsTrue (cube_holds c r)) }
+    ensures met { IfOk result (λ r. CanBeMet r → CanBeMet cube.now) }
+    ensures joined { IfOk result (All IsJoined) }
 {
     let mut joined = cube.copy(alloc)?;
     for index in 0..cube.len() {
@@ -29,7 +32,8 @@ fn with_equals_joined(alloc: Global, cube: &Cube) -> Result<Cube, NoMemory>
 
 // Some literal sets a level apart from itself.
 fn denies_itself(cube: &Cube) -> bool
-    ensures { IsTrue result → (c : List Atom) → IsFalse (cube_holds c cube.now) }
+    ensures unmet { IsTrue result → (c : List Atom) → IsFalse (cube_holds c cube.now) }
+    ensures proper { IsFalse result → All IsProper cube.now }
 {
     for lit in cube.as_slice() {
         if lit.op != Op::Eq && lit.left == lit.right {
@@ -60,7 +64,8 @@ fn later_steps(alloc: Global, cube: &Cube) -> Result<Cube, NoMemory>
 
 // Of finitely many steps upward, some lowest one begins where none ends, unless they go round.
 fn goes_round(alloc: Global, cube: Cube) -> Result<bool, NoMemory>
-    ensures { IfOk result (λ r. IsTrue r → (c : List Atom) → IsFalse (cube_holds c cube)) }
+    ensures unmet { IfOk result (λ r. IsTrue r → (c : List Atom) → IsFalse (cube_holds c cube)) }
+    ensures numbered { IfOk result (λ r. IsFalse r → (n : ℕ) → CubeFits n cube → CanBeNumbered n cube) }
 {
     let mut rest = cube;
     'rounds: while rest.len() > 0 {
@@ -73,9 +78,10 @@ fn goes_round(alloc: Global, cube: Cube) -> Result<bool, NoMemory>
     Ok(false)
 }
 
-/// Whether the cube contradicts itself. Yes is said only where it holds at no choice of atoms.
+/// Whether the cube contradicts itself: it holds at no choice of atoms.
 pub fn conflict(alloc: Global, cube: &Cube) -> Result<bool, NoMemory>
-    ensures { IfOk result (λ r. IsTrue r → (c : List Atom) → IsFalse (cube_holds c cube.now)) }
+    ensures unmet { IfOk result (λ r. IsTrue r ↔ ((c : List Atom) → IsFalse (cube_holds c cube.now))) }
+    ensures met { IfOk result (λ r. IsFalse r → CanBeMet cube.now) }
 {
     let joined = with_equals_joined(alloc, cube)?;
     if denies_itself(&joined) {
@@ -117,9 +123,9 @@ pub fn alternatives(alloc: Global, lit: Lit) -> Result<SmallVec<Lit, 2>, NoMemor
     Ok(found)
 }
 
-/// Whether the literal follows from the cube. Yes is said only where it holds wherever the cube does.
+/// Whether the literal follows from the cube: it holds wherever the cube does.
 pub fn implies(alloc: Global, cube: &Cube, lit: Lit) -> Result<bool, NoMemory>
-    ensures { IfOk result (λ r. IsTrue r → (c : List Atom) → IsTrue (cube_holds c cube.now) → IsTrue (lit_holds c lit)) }
+    ensures { IfOk result (λ r. IsTrue r ↔ ((c : List Atom) → IsTrue (cube_holds c cube.now) → IsTrue (lit_holds c lit))) }
 {
     if cube.as_slice().contains(&lit) {
         return Ok(true);
@@ -135,9 +141,9 @@ pub fn implies(alloc: Global, cube: &Cube, lit: Lit) -> Result<bool, NoMemory>
     Ok(true)
 }
 
-/// Whether one cube lies within another. Yes is said only where `b` holds wherever `a` does.
+/// Whether one cube lies within another: `b` holds wherever `a` does.
 pub fn within(alloc: Global, a: &Cube, b: &Cube) -> Result<bool, NoMemory>
-    ensures { IfOk result (λ r. IsTrue r → (c : List Atom) → IsTrue (cube_holds c a.now) → IsTrue (cube_holds c b.now)) }
+    ensures { IfOk result (λ r. IsTrue r ↔ ((c : List Atom) → IsTrue (cube_holds c a.now) → IsTrue (cube_holds c b.now))) }
 {
     for lit in b.as_slice() {
         if !implies(alloc, a, *lit)? {

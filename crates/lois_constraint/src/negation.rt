@@ -6,6 +6,7 @@ ghost use Rattle.lois_base.specs.Fits.{ConstraintFits};
 ghost use Rattle.lois_base.specs.Truth.{holds};
 ghost use Rattle.lois_base.specs.Validity.{AdmitsConstraint, UsesOnly};
 ghost use Rattle.lois_constraint.specs.Alternatives.{alternatives, denials};
+ghost use Rattle.lois_constraint.specs.Met.{IsPruned};
 
 use crate::conflicts::alternatives;
 use crate::pruning::meet;
@@ -38,6 +39,7 @@ fn denied(alloc: Global, cube: &Cube) -> Result<Constraint, NoMemory>
 /// A constraint that holds exactly where the given one doesn't, pruned.
 pub fn negate(alloc: Global, c: &Constraint) -> Result<Constraint, NoMemory>
     ensures truth { IfOk result (λ r. (e : List Atom) → holds e r ≡ not (holds e c.now)) }
+    ensures pruned { IfOk result IsPruned }
     ensures levels { IfOk result (UsesOnly c.now) }
     ensures fits { IfOk result (λ r. (n : ℕ) → ConstraintFits n c.now → ConstraintFits n r) }
     ensures operators { IfOk result (λ r. (o : Bool) → AdmitsConstraint o c.now → AdmitsConstraint o r) }

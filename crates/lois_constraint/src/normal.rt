@@ -1,11 +1,12 @@
 //! Normalised constraints: turned, sorted, and without what is superfluous.
 
 ghost use Rattle.std.specs.Prelude.{◌≡◌, ℕ, Bool, List, ◌∷◌, ◌++◌, filter, ◌&&◌, ◌||◌, not, IfOk, IfSome, OnOk};
-ghost use Rattle.std.specs.List.{list_any};
+ghost use Rattle.std.specs.List.{All, list_any};
 ghost use Rattle.lois_base.specs.Atom.{Atom};
 ghost use Rattle.lois_base.specs.Fits.{ConstraintFits};
 ghost use Rattle.lois_base.specs.Truth.{lit_holds, cube_holds, holds};
 ghost use Rattle.lois_base.specs.Validity.{AdmitsConstraint, UsesOnly};
+ghost use Rattle.lois_constraint.specs.Met.{CanBeMet, AreApart, IsPruned};
 ghost use Rattle.lois_constraint.specs.Normalised.{lit_before, lit_same, cube_before, is_part, op_rank, IsTurned, IsNormalCube, IsNormalised};
 ghost use Rattle.lois_constraint.specs.Rules.{Rule, Obeys, CubeObeys, ConstraintObeys};
 ghost use Rattle.lois_constraint.specs.Steps.{is_step};
@@ -200,6 +201,8 @@ fn placed(alloc: Global, cubes: &Constraint, cube: &Cube) -> Result<Constraint, 
 fn with_cube(alloc: Global, cubes: Constraint, cube: &Cube) -> Result<Constraint, NoMemory>
     ensures truth { IfOk result (λ r. (c : List Atom) → holds c r ≡ (holds c cubes || cube_holds c cube.now)) }
     ensures normalised { IfOk result (λ r. IsNormalised cubes → IsNormalCube cube.now → IsNormalised r) }
+    ensures pruned { IfOk result (λ r. IsPruned cubes → CanBeMet cube.now → All (λ k. AreApart k cube.now) cubes → IsPruned r) }
+    ensures apart { IfOk result (λ r. (z : List Lit) → All (λ k. AreApart k z) cubes → AreApart cube.now z → All (λ k. AreApart k z) r) }
     ensures rules { IfOk result (λ r. (rule : Rule) → ConstraintObeys rule cubes → CubeObeys rule cube.now → ConstraintObeys rule r) }
 {
     if has_part(&cubes, cube) {
@@ -249,6 +252,8 @@ fn thinned(alloc: Global, cube: &Cube) -> Result<Cube, NoMemory>
 fn with_normal(alloc: Global, cubes: Constraint, cube: &Cube) -> Result<Constraint, NoMemory>
     ensures truth { IfOk result (λ r. (c : List Atom) → holds c r ≡ (holds c cubes || cube_holds c cube.now)) }
     ensures normalised { IfOk result (λ r. IsNormalised cubes → IsNormalised r) }
+    ensures pruned { IfOk result (λ r. IsPruned cubes → CanBeMet cube.now → All (λ k. AreApart k cube.now) cubes → IsPruned r) }
+    ensures apart { IfOk result (λ r. (z : List Lit) → All (λ k. AreApart k z) cubes → AreApart cube.now z → All (λ k. AreApart k z) r) }
     ensures rules { IfOk result (λ r. (rule : Rule) → ConstraintObeys rule cubes → CubeObeys rule cube.now → ConstraintObeys rule r) }
 {
     let thin = thinned(alloc, cube)?;
@@ -263,6 +268,7 @@ fn with_normal(alloc: Global, cubes: Constraint, cube: &Cube) -> Result<Constrai
 pub fn normalise(alloc: Global, c: &Constraint) -> Result<Constraint, NoMemory>
     ensures truth { IfOk result (λ r. (e : List Atom) → holds e r ≡ holds e c.now) }
     ensures normalised { IfOk result IsNormalised }
+    ensures pruned { IfOk result IsPruned }
     ensures levels { IfOk result (UsesOnly c.now) }
     ensures fits { IfOk result (λ r. (n : ℕ) → ConstraintFits n c.now → ConstraintFits n r) }
     ensures operators { IfOk result (λ r. (o : Bool) → AdmitsConstraint o c.now → AdmitsConstraint o r) }

@@ -25,6 +25,7 @@ loop-cube-preserved c =
     let refused_obeys : (rule : Rule) → ConstraintObeys rule g → ConstraintObeys rule c.in_ok-refused.refused = λ rule h. subst (ConstraintObeys rule) (sym c.in_ok-refused.ensures) (denials_obey rule c.cube-item.result (item_obeys rule g c.as_slice-cube-items.result.now c.loop-cube.cube-index c.cube-item.result c.as_slice-cube-items.ensures (omega arith) c.cube-item.is h)) in
     record {
       truth = λ e. negation_grows e c.loop-cube.negated c.in_ok-negated.negated c.as_slice-cube-items.result.now c.cube-item.result c.in_ok-refused.refused c.loop-cube.cube-index (omega arith) c.cube-item.is (c.loop-cube.invariant.truth e) (ap (holds e) c.in_ok-refused.ensures ∙ denials_hold e c.cube-item.result) (c.in_ok-negated.ensures.truth e);
+      pruned = c.in_ok-negated.ensures.pruned;
       levels = uses_only-trans g (c.loop-cube.negated ++ c.in_ok-refused.refused) c.in_ok-negated.negated (All-append (CubeUsesOnly g) c.loop-cube.negated c.in_ok-refused.refused c.loop-cube.invariant.levels (refused_obeys (uses g) (uses_only-refl g))) c.in_ok-negated.ensures.levels;
       operators = λ o h. c.in_ok-negated.ensures.operators o (c.loop-cube.invariant.operators o h) (refused_obeys (admits o) h);
     }

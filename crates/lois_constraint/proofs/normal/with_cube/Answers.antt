@@ -1,8 +1,11 @@
 use Rattle.std.proofs.Common.{sym, ap, ◌∙◌, subst}
+use Rattle.std.specs.List.{All}
 use Rattle.lois_base.specs.Truth.{holds}
+use Rattle.lois_constraint.specs.Met.{AreApart, IsPruned}
 use Rattle.lois_constraint.specs.Normalised.{IsNormalised}
 use Rattle.lois_constraint.specs.Rules.{CubeObeys, ConstraintObeys}
 use Rattle.lois_constraint.proofs.Normals.{part_is_met, cubes_with_hold, cubes_with_all, cubes_with_normal}
+use Rattle.lois_constraint.proofs.Pruned.{cubes_with_pruned}
 use Rattle.lois_constraint.proofs.normal.with_cube.Goals as goal
 
 pub returns-then-has_part-clause-truth : goal.returns-then-has_part-clause-truth
@@ -18,3 +21,11 @@ returns-clause-normalised c = λ n k.
 pub returns-clause-rules : goal.returns-clause-rules
 returns-clause-rules c = λ rule h k.
     subst (ConstraintObeys rule) (sym c.in_ok-placed.ensures) (cubes_with_all (CubeObeys rule) c.args.cube.now c.args.cubes k h)
+
+pub returns-clause-pruned : goal.returns-clause-pruned
+returns-clause-pruned c = λ p met h.
+    subst IsPruned (sym c.in_ok-placed.ensures) (cubes_with_pruned c.args.cube.now c.args.cubes p met h)
+
+pub returns-clause-apart : goal.returns-clause-apart
+returns-clause-apart c = λ z h k.
+    subst (All (λ x. AreApart x z)) (sym c.in_ok-placed.ensures) (cubes_with_all (λ x. AreApart x z) c.args.cube.now c.args.cubes k h)

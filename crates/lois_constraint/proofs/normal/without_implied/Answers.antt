@@ -7,7 +7,7 @@ use Rattle.lois_constraint.proofs.normal.without_implied.Goals as goal
 
 pub returns-then-branch-clause-truth : goal.returns-then-branch-clause-truth
 returns-then-branch-clause-truth c = λ e.
-    thinner e c.args.lit c.args.cube c.in_ok-rest.rest c.in_ok-rest.ensures (c.in_ok-implies.ensures c.if-branch.true e)
+    thinner e c.args.lit c.args.cube c.in_ok-rest.rest c.in_ok-rest.ensures (c.in_ok-implies.ensures.0 c.if-branch.true e)
 
 pub returns-then-branch-clause-rules : goal.returns-then-branch-clause-rules
 returns-then-branch-clause-rules c = λ rule h.

@@ -10,6 +10,7 @@ use Rattle.lois_constraint.proofs.pruning.prune.Goals as goal
 pub loop-cube-preserved : goal.loop-cube-preserved
 loop-cube-preserved c = record {
   truth = λ e. constraint_grows e c.loop-cube.pruned c.in_ok-pruned.pruned c.as_slice-cube-items.result.now c.cube-item.result c.loop-cube.cube-index (omega arith) c.cube-item.is (c.loop-cube.invariant.truth e) (c.in_ok-pruned.ensures.truth e);
+  pruned = c.in_ok-pruned.ensures.pruned c.loop-cube.invariant.pruned;
   rules = λ rule h. c.in_ok-pruned.ensures.rules rule (c.loop-cube.invariant.rules rule h) (item_obeys rule c.args.c.now c.as_slice-cube-items.result.now c.loop-cube.cube-index c.cube-item.result c.as_slice-cube-items.ensures (omega arith) c.cube-item.is h);
 }
 
