@@ -4,3 +4,5 @@ pub mod Ranked
 pub mod Satisfied
 pub mod Asking
 pub mod Choosing
+pub mod Placed
+pub mod Staged

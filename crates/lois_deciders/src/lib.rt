@@ -4,9 +4,13 @@
 mod chosen;
 mod graph;
 mod labels;
+mod places;
+mod plain;
 mod ranks;
+mod stages;
 #[cfg(test)]
 mod tests;
 
 pub use chosen::Chosen;
 pub use graph::GraphDecider;
+pub use plain::PlainDecider;
