@@ -6,3 +6,4 @@ pub mod Asking
 pub mod Choosing
 pub mod Placed
 pub mod Staged
+pub mod Remembered

@@ -4,3 +4,4 @@ pub mod Asked
 pub mod Choice
 pub mod Stages
 pub mod Places
+pub mod Kept

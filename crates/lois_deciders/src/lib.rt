@@ -4,8 +4,10 @@
 mod chosen;
 mod graph;
 mod labels;
+mod memo;
 mod places;
 mod plain;
+mod questions;
 mod ranks;
 mod stages;
 #[cfg(test)]
@@ -13,4 +15,5 @@ mod tests;
 
 pub use chosen::Chosen;
 pub use graph::GraphDecider;
+pub use memo::MemoDecider;
 pub use plain::PlainDecider;
