@@ -32,18 +32,46 @@ fn chain(alloc: Global, op: Op, steps: usize, last: Lit) -> Result<Cube, NoMemor
     Ok(cube)
 }
 
-// Whether a graph decider finds a sample, at which the cube then holds.
-fn is_met(rt: &impl Abort, alloc: Global, cube: &Cube, size: usize) -> Result<bool, NoMemory> {
+// Whether the decider finds a sample, at which the cube then holds.
+fn is_met<D: Decider>(
+    rt: &impl Abort,
+    alloc: Global,
+    decider: &mut D,
+    cube: &Cube,
+    size: usize,
+) -> Result<bool, NoMemory> {
     assert!(rt; cube.fits(size));
-    let mut graph = GraphDecider::new();
-    let found = graph.satisfiable(alloc, cube, size)?;
-    assert_eq!(rt; graph.asked(), 1);
+    let before = decider.asked();
+    let found = decider.satisfiable(alloc, cube, size)?;
+    assert_eq!(rt; decider.asked(), before.saturating_add(1));
     let Some(sample) = found else {
         return Ok(false);
     };
     assert_eq!(rt; sample.len(), size);
     assert!(rt; cube.at(&sample));
     Ok(true)
+}
+
+// Each decider says so, and the memo decider twice.
+fn all_say(
+    rt: &impl Abort,
+    alloc: Global,
+    cube: &Cube,
+    size: usize,
+    met: bool,
+) -> Result<(), NoMemory> {
+    let mut memo = MemoDecider::new(alloc, 2)?;
+    assert_eq!(rt; is_met(rt, alloc, &mut memo, cube, size)?, met);
+    assert_eq!(rt; is_met(rt, alloc, &mut memo, cube, size)?, met);
+    assert_eq!(rt;
+        is_met(rt, alloc, &mut GraphDecider::new(), cube, size)?,
+        met
+    );
+    assert_eq!(rt;
+        is_met(rt, alloc, &mut PlainDecider::new(), cube, size)?,
+        met
+    );
+    Ok(())
 }
 
 #[test]
@@ -53,15 +81,15 @@ fn short_cubes_are_decided(rt: HostRuntime) -> Result<(), Fail> {
         alloc,
         &[lit(Op::Lt, 0, 1), lit(Op::Lt, 1, 2), lit(Op::Ne, 0, 3)],
     )?;
-    assert!(rt; is_met(&rt, alloc, &met, 4)?);
+    all_say(&rt, alloc, &met, 4, true)?;
     let round = cube_of(
         alloc,
         &[lit(Op::Lt, 0, 1), lit(Op::Eq, 1, 2), lit(Op::Lt, 2, 0)],
     )?;
-    assert!(rt; !is_met(&rt, alloc, &round, 3)?);
+    all_say(&rt, alloc, &round, 3, false)?;
     let apart = cube_of(alloc, &[lit(Op::Eq, 0, 1), lit(Op::Ne, 1, 0)])?;
-    assert!(rt; !is_met(&rt, alloc, &apart, 2)?);
-    assert!(rt; is_met(&rt, alloc, &Cube::new(alloc), 0)?);
+    all_say(&rt, alloc, &apart, 2, false)?;
+    all_say(&rt, alloc, &Cube::new(alloc), 0, true)?;
     Ok(())
 }
 
@@ -69,15 +97,15 @@ fn short_cubes_are_decided(rt: HostRuntime) -> Result<(), Fail> {
 fn long_chains_are_decided(rt: HostRuntime) -> Result<(), Fail> {
     let alloc = rt.alloc();
     let up = chain(alloc, Op::Lt, 199, lit(Op::Ne, 0, 199))?;
-    assert!(rt; is_met(&rt, alloc, &up, 200)?);
+    all_say(&rt, alloc, &up, 200, true)?;
     let round = chain(alloc, Op::Lt, 199, lit(Op::Lt, 199, 0))?;
-    assert!(rt; !is_met(&rt, alloc, &round, 200)?);
+    all_say(&rt, alloc, &round, 200, false)?;
     let equal = chain(alloc, Op::Eq, 199, lit(Op::Eq, 199, 0))?;
-    assert!(rt; is_met(&rt, alloc, &equal, 200)?);
+    all_say(&rt, alloc, &equal, 200, true)?;
 
     // the one fault: the first of the equal levels is apart from the last
     let apart = chain(alloc, Op::Eq, 199, lit(Op::Ne, 0, 199))?;
-    assert!(rt; !is_met(&rt, alloc, &apart, 200)?);
+    all_say(&rt, alloc, &apart, 200, false)?;
     Ok(())
 }
 
@@ -90,13 +118,34 @@ fn many_literals_are_decided(rt: HostRuntime) -> Result<(), Fail> {
             apart.push(lit(Op::Ne, left, right))?;
         }
     }
-    assert!(rt; is_met(&rt, alloc, &apart, 60)?);
+    all_say(&rt, alloc, &apart, 60, true)?;
     let mut wide = chain(alloc, Op::Lt, 499, lit(Op::Ne, 0, 499))?;
     for left in 0..1500 {
         wide.push(lit(Op::Lt, left / 4, 499))?;
     }
     assert_eq!(rt; wide.len(), 2000);
-    assert!(rt; is_met(&rt, alloc, &wide, 500)?);
+    let mut memo = MemoDecider::new(alloc, 1)?;
+    assert!(rt; is_met(&rt, alloc, &mut memo, &wide, 500)?);
+    assert!(rt; is_met(&rt, alloc, &mut memo, &wide, 500)?);
+    Ok(())
+}
+
+// Two questions, of which the memo decider can keep one.
+#[test]
+fn kept_answers_are_those_of_the_graph_decider(rt: HostRuntime) -> Result<(), Fail> {
+    let alloc = rt.alloc();
+    let up = cube_of(alloc, &[lit(Op::Lt, 0, 1), lit(Op::Ne, 2, 1)])?;
+    let round = cube_of(alloc, &[lit(Op::Lt, 0, 1), lit(Op::Lt, 1, 0)])?;
+    assert!(rt; up.fits(3) && round.fits(3));
+    let mut memo = MemoDecider::new(alloc, 1)?;
+    let mut graph = GraphDecider::new();
+    for _ in 0..3 {
+        for cube in [&up, &round] {
+            let kept = memo.satisfiable(alloc, cube, 3)?;
+            assert_eq!(rt; kept, graph.satisfiable(alloc, cube, 3)?);
+        }
+    }
+    assert_eq!(rt; memo.asked(), 6);
     Ok(())
 }
 

@@ -15,5 +15,5 @@ loop-index-preserved c =
     elim c.if-index-eq0.branch [
       | then-index-eq0+in_ok-push w ↦ (λ e. tight_grows e c.loop-index.distinct.items xs i d c.loop-index-test.true (c.loop-index.invariant e) c.if-index-eq0.distinct.items (ap (λ v. v.items) w.distinct-is ∙ w.in_ok-push.ensures.items))
       | else-index-eq0+else-ne w ↦ (let same : get_or xs i d ≡ get_or xs (i - 1) d = lits_same (get_or xs i d) (get_or xs (i - 1) d) (is_not _ w.if-ne.ensures) in
-      λ e. ap (λ v. cube_holds e v.items) w.distinct-is ∙ tight_stays e c.loop-index.distinct.items xs i d c.loop-index-test.true (c.loop-index.invariant e) (λ h. stands_before e xs i d (omega (arith, w.if-index-eq0.false)) c.loop-index-test.true same (sym (c.loop-index.invariant e) ∙ h)))
+          λ e. ap (λ v. cube_holds e v.items) w.distinct-is ∙ tight_stays e c.loop-index.distinct.items xs i d c.loop-index-test.true (c.loop-index.invariant e) (λ h. stands_before e xs i d (omega (arith, w.if-index-eq0.false)) c.loop-index-test.true same (sym (c.loop-index.invariant e) ∙ h)))
     ]
