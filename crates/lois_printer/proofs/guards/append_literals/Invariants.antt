@@ -1,0 +1,7 @@
+use Rattle.std.proofs.Common.{◌≡◌, ◌++◌, map, take, codes}
+use Rattle.lois_meaning.specs.TermText.{literal_text, joined}
+use Rattle.lois_printer.proofs.guards.append_literals.Given as goal
+
+abbrev pub invariant-loop-index : goal.invariant-loop-index
+invariant-loop-index l =
+    l.text.items ≡ l.initial.text.items ++ joined (codes " and ") (map (literal_text l.parameters) (take l.index l.literals))
