@@ -1,0 +1,3 @@
+pub mod Relations
+pub mod Named
+pub mod Built

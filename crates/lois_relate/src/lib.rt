@@ -1,0 +1,8 @@
+//! Equality, membership and inclusion of the values of terms, as formulas.
+#![tactic(auto)]
+
+mod building;
+mod naming;
+mod relating;
+
+pub use relating::{equal_formula, included_formula, member_formula};
