@@ -7,3 +7,4 @@ pub mod Sets
 pub mod Binders
 pub mod Steps
 pub mod Own
+pub mod AlikeSame

@@ -88,7 +88,7 @@ entered_none names n =
     sym (append-nil names) ∙ ap (λ z. names ++ levels_from n z) (sym k)
 
 -- ---- literals
-atom_chosen : (names : List ℕ) (c : List Atom) (i : ℕ) → i < length names → atom_at (chosen names c) i ≡ atom_at c (get_or names i 0)
+pub atom_chosen : (names : List ℕ) (c : List Atom) (i : ℕ) → i < length names → atom_at (chosen names c) i ≡ atom_at c (get_or names i 0)
 atom_chosen names c i l = get_or-map (λ j. atom_at c j) names i 0 (whole 0) l
 
 pub lit_named : (names : List ℕ) (c : List Atom) (l : Lit) → LitFits (length names) l → lit_holds c (named_lit names l) ≡ lit_holds (chosen names c) l

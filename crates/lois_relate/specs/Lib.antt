@@ -1,3 +1,4 @@
 pub mod Relations
 pub mod Named
 pub mod Built
+pub mod Alike

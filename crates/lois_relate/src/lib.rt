@@ -2,6 +2,7 @@
 #![tactic(auto)]
 
 mod building;
+mod matching;
 mod naming;
 mod relating;
 

@@ -16,6 +16,7 @@ ghost use Rattle.lois_relate.specs.Named.{chosen, AreBelow};
 ghost use Rattle.lois_relate.specs.Relations.{HoldsWhereSame, HoldsWhereIn, HoldsWhereIncluded};
 
 use crate::building::{always, both, either, for_some, is_always, is_never, negated, never};
+use crate::matching::{is_listed, sets_match};
 use crate::naming::{entered, guard_formula, inner_size};
 use lois_base::{Comp, Comps, Formula, Lit, NoMemory, Op, Term, Terms};
 use std::alloc::Global;
@@ -181,6 +182,9 @@ fn same_sets(
     requires right_names { AreBelow size t_names.now }
     ensures { IfOk result (λ f. Says size (λ c. SameAt (coll (comps_of comps.now)) (chosen s_names.now c) (coll (comps_of others.now)) (chosen t_names.now c)) (λ o. AdmitsItems o (comps_of comps.now) × AdmitsItems o (comps_of others.now)) (view f)) }
 {
+    if sets_match(comps, s_names, others, t_names) {
+        return Ok(always(alloc));
+    }
     let there = included(alloc, comps, s_names, others, t_names, size)?;
     if is_never(&there) {
         return Ok(there);
@@ -232,6 +236,9 @@ fn each_in(
     requires right_names { AreBelow size t_names.now }
     ensures { IfOk result (λ f. Says size (λ c. EachInAt (comp_of comp.now) (chosen s_names.now c) (comps_of others.now) (chosen t_names.now c)) (λ o. AdmitsComp o (comp_of comp.now) × AdmitsItems o (comps_of others.now)) (view f)) }
 {
+    if is_listed(comp, s_names, others, t_names) {
+        return Ok(always(alloc));
+    }
     let inner = inner_size(size, comp.binders)?;
     let longer = entered(alloc, s_names, size, comp.binders)?;
     let names = longer.as_slice();

@@ -9,6 +9,7 @@ use Rattle.lois_base.specs.Validity.{AdmitsTerm, AdmitsParts, AdmitsComp, Admits
 use Rattle.lois_base.specs.Values.{SameAt, SamePartsAt, AllInAt, EachInAt, SomeIsAt, OneIsAt}
 use Rattle.lois_relate.specs.Built.{Says, IsBoth, IsNegation, IsForSome}
 use Rattle.lois_relate.specs.Named.{chosen, AreBelow, levels_from}
+use Rattle.lois_relate.proofs.AlikeSame.{always_says, listed_each, sets_alike}
 use Rattle.lois_relate.proofs.Binders.{one_says, each_says}
 use Rattle.lois_relate.proofs.Loops.{AllSoFar, AnySoFar, all_go_on, all_end, all_cut, any_go_on, any_end, any_cut}
 use Rattle.lois_relate.proofs.Parts.{terms_from, terms_are, comps_from, comps_are, is_part_of, is_comp_of, IsPartOf, IsCompOf}
@@ -124,3 +125,11 @@ same_parts-loop-i-preserved t c =
 pub same_sets-returns : goal.same_sets-returns
 same_sets-returns t c =
     IfOk-weaker c.both.result (λ r. IsBoth (view c.in_ok-there.there) (view c.in_ok-back.back) (view r)) _ (λ r both. sets_say c.args.size c.args.s_names.now c.args.t_names.now (comps_of c.args.comps.now) (comps_of c.args.others.now) (view c.in_ok-there.there) (view c.in_ok-back.back) (view r) c.in_ok-there.ensures c.in_ok-back.ensures both) c.both.ensures
+
+pub each_in-returns-then-is_listed : goal.each_in-returns-then-is_listed
+each_in-returns-then-is_listed t c =
+    always_says c.args.size _ _ (view c.always.result) c.always.ensures (λ a. listed_each c.args.s_names.now c.args.t_names.now a (comp_of c.args.comp.now) (comps_of c.args.others.now) (c.is_listed.ensures.0 c.if-is_listed.true))
+
+pub same_sets-returns-then-sets_match : goal.same_sets-returns-then-sets_match
+same_sets-returns-then-sets_match t c =
+    always_says c.args.size _ _ (view c.always.result) c.always.ensures (λ a. sets_alike c.args.s_names.now c.args.t_names.now a (comps_of c.args.comps.now) (comps_of c.args.others.now) (c.sets_match.ensures.0 c.if-sets_match.true))
