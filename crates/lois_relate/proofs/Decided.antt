@@ -136,7 +136,6 @@ alike_more c a =
     new i l m =
         let k : i ≡ length c = omega (arith, length-append c (a ∷ [])) in
         ap (λ z. atom_at (c ++ a ∷ []) z) k ∙ get_or-append_right c (a ∷ []) (length c) (length c) (whole 0) refl (omega arith) ∙ first (length c)
-
       where
         first : (n : ℕ) → atom_at (a ∷ []) (n - n) ≡ a
         first n = let e : n - n ≡ 0 = omega arith in ap (λ z. atom_at (a ∷ []) z) e

@@ -13,7 +13,7 @@ use Rattle.lois_base.specs.declared.logic.Formula.{Formula}
 use Rattle.lois_base.specs.declared.logic.Formula.TheFolds.{fold-roll-Formula}
 use Rattle.lois_base.specs.declared.logic.Formula.TheOpen.{Formula-F}
 use Rattle.lois_base.specs.declared.logic.Formula.TheVariants.{Lit as at_literal, Exists, rolls-Lit, rolls-Exists}
-use Rattle.lois_relate.specs.Built.{IsBoth, IsEither, IsNegation, IsForSome}
+use Rattle.lois_relate.specs.Built.{IsBoth, IsEither, IsNegation, IsImplied, IsForSome}
 
 -- ---- what a formula stands for that is a literal or a quantifier
 pub view_Lit : (l : Lit) → view (at_literal l) ≡ lit l
@@ -180,6 +180,16 @@ negation_is f r k = subst (IsNegation f) (sym k) (record {
   levels = λ n h. h;
   operators = λ o h. h;
 })
+
+pub is_implied : (f g d r : FormulaD) → IsNegation f d → IsEither d g r → IsImplied f g r
+is_implied f g d r negation either = record {
+  truth = λ c. (
+    λ h. elim ((either.truth c).0 h) [ inl p ↦ inl ((negation.truth c).0 p) | inr p ↦ inr p ],
+    λ h. (either.truth c).1 (elim h [ inl p ↦ inl ((negation.truth c).1 p) | inr p ↦ inr p ]),
+  );
+  levels = λ n p q. either.levels n (negation.levels n p) q;
+  operators = λ o p q. either.operators o (negation.operators o p) q;
+}
 
 -- ---- some atoms
 zeros : ℕ → List Atom

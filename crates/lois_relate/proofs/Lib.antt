@@ -8,3 +8,4 @@ pub mod Binders
 pub mod Steps
 pub mod Own
 pub mod AlikeSame
+pub mod Single

@@ -9,9 +9,12 @@ use Rattle.lois_base.proofs.Same.{same_at_sym, all_in_is, is_all_in, some_is_is,
 pub sets_same : (cs : CompsD) (c : List Atom) (ss : CompsD) (d : List Atom) → SameAt (coll cs) c (coll ss) d ↔ (AllInAt cs c ss d × AllInAt ss d cs c)
 sets_same cs c ss d = (
   λ h. (h.0, (same_at_sym (coll cs) c (coll ss) d h).0),
-  λ h. (h.0, λ w x m.
-      let i : InAt w x cs c = all_in_is ss d cs c h.1 w x m in
-      is_some_is cs c w x i.0 i.1 i.2 (same_at_sym w x i.0 i.1 i.3)),
+  λ h. (
+    h.0,
+    λ w x m.
+        let i : InAt w x cs c = all_in_is ss d cs c h.1 w x m in
+        is_some_is cs c w x i.0 i.1 i.2 (same_at_sym w x i.0 i.1 i.3),
+  ),
 )
 
 pub some_is_in : (t : TermD) (c : List Atom) (ss : CompsD) (d : List Atom) → SomeIsAt ss d t c ↔ InAt t c ss d

@@ -29,6 +29,12 @@ pub record IsNegation (f r : FormulaD) : Type 0 where
   pub levels : (n : ℕ) → FormulaFits n f → FormulaFits n r
   pub operators : (o : Bool) → AdmitsFormula o f → AdmitsFormula o r
 
+-- r holds where f doesn't or g does
+pub record IsImplied (f g r : FormulaD) : Type 0 where
+  pub truth : (c : List Atom) → FormulaHolds c r ↔ ((FormulaHolds c f → ⊥) ⊎ FormulaHolds c g)
+  pub levels : (n : ℕ) → FormulaFits n f → FormulaFits n g → FormulaFits n r
+  pub operators : (o : Bool) → AdmitsFormula o f → AdmitsFormula o g → AdmitsFormula o r
+
 -- r holds where f does for some m further atoms
 pub record IsForSome (m : ℕ) (f r : FormulaD) : Type 0 where
   pub truth : (c : List Atom) → FormulaHolds c r ↔ ((e : List Atom) × (length e ≡ m) × FormulaHolds (c ++ e) f)

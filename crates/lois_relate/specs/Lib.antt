@@ -2,3 +2,4 @@ pub mod Relations
 pub mod Named
 pub mod Built
 pub mod Alike
+pub mod Singles

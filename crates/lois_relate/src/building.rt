@@ -3,7 +3,7 @@
 ghost use Rattle.std.specs.Prelude.{◌≡◌, IfOk, IsTrue, ◌↔◌, [], ◌∷◌};
 ghost use Rattle.lois_base.specs.FormulaData.{all, any, no_formulas};
 ghost use Rattle.lois_base.specs.FormulaView.{view, views};
-ghost use Rattle.lois_relate.specs.Built.{IsBoth, IsEither, IsNegation, IsForSome};
+ghost use Rattle.lois_relate.specs.Built.{IsBoth, IsEither, IsNegation, IsImplied, IsForSome};
 
 use lois_base::{Formula, Formulas, NoMemory};
 use std::alloc::Global;
@@ -119,6 +119,14 @@ pub fn negated(alloc: Global, f: Formula) -> Result<Formula, NoMemory>
         return Ok(never(alloc));
     }
     Ok(Formula::Not(f.boxed(alloc)?))
+}
+
+// Where the first holds, so does the second.
+pub fn implied(alloc: Global, f: Formula, g: Formula) -> Result<Formula, NoMemory>
+    ensures { IfOk result (λ r. IsImplied (view f) (view g) (view r)) }
+{
+    let absent = negated(alloc, f)?;
+    either(alloc, absent, g)
 }
 
 // For some atoms at the `count` highest levels.

@@ -5,5 +5,7 @@ mod building;
 mod matching;
 mod naming;
 mod relating;
+#[cfg(test)]
+mod tests;
 
 pub use relating::{equal_formula, included_formula, member_formula};

@@ -1,8 +1,8 @@
 //! Equality, membership and inclusion, by recursion on both terms.
 
-ghost use Rattle.std.specs.Prelude.{◌≡◌, ℕ, ◌+◌, ◌<◌, Bool, List, length, IfOk, IsTrue};
+ghost use Rattle.std.specs.Prelude.{◌≡◌, ℕ, ◌+◌, ◌<◌, Bool, List, [], ◌∷◌, length, IfOk, IfSome, IfNone, IsTrue};
 ghost use Rattle.lois_base.specs.Atom.{Atom, equal};
-ghost use Rattle.lois_base.specs.Data.{coll, terms_of, comps_of};
+ghost use Rattle.lois_base.specs.Data.{coll, more, no_comps, terms_of, comps_of};
 ghost use Rattle.lois_base.specs.Fits.{Fits, PartsFit, CompFits, ItemsFit};
 ghost use Rattle.lois_base.specs.FormulaData.{FormulaFits};
 ghost use Rattle.lois_base.specs.FormulaView.{view};
@@ -13,21 +13,19 @@ ghost use Rattle.lois_base.specs.Values.{SameAt, SamePartsAt, AllInAt, EachInAt,
 ghost use Rattle.lois_terms.specs.Guarded.{IsSet};
 ghost use Rattle.lois_relate.specs.Built.{Says};
 ghost use Rattle.lois_relate.specs.Named.{chosen, AreBelow};
+ghost use Rattle.lois_relate.specs.Singles.{IsSingle};
 ghost use Rattle.lois_relate.specs.Relations.{HoldsWhereSame, HoldsWhereIn, HoldsWhereIncluded};
 
-use crate::building::{always, both, either, for_some, is_always, is_never, negated, never};
+use crate::building::{
+    always, both, either, for_some, implied, is_always, is_never, negated, never,
+};
 use crate::matching::{is_listed, sets_match};
 use crate::naming::{entered, guard_formula, inner_size};
 use lois_base::{Comp, Comps, Formula, Lit, NoMemory, Op, Term, Terms};
 use std::alloc::Global;
 
 /// A formula that holds at each choice of `size` atoms exactly where the two terms have the same value. It has `<` only where a term has it. Errors: `NoMemory`, also where a level would pass the greatest usize.
-pub fn equal_formula(
-    alloc: Global,
-    s: &Term,
-    t: &Term,
-    size: usize,
-) -> Result<Formula, NoMemory>
+pub fn equal_formula(alloc: Global, s: &Term, t: &Term, size: usize) -> Result<Formula, NoMemory>
     requires left { Fits size (tree s.now) }
     requires right { Fits size (tree t.now) }
     ensures truth { IfOk result (λ f. HoldsWhereSame size (tree s.now) (tree t.now) (view f)) }
@@ -40,12 +38,7 @@ pub fn equal_formula(
 }
 
 /// A formula that holds at each choice of `size` atoms exactly where the value of `s` is in the set `t`. It has `<` only where a term has it. Errors: `NoMemory`, also where a level would pass the greatest usize.
-pub fn member_formula(
-    alloc: Global,
-    s: &Term,
-    t: &Term,
-    size: usize,
-) -> Result<Formula, NoMemory>
+pub fn member_formula(alloc: Global, s: &Term, t: &Term, size: usize) -> Result<Formula, NoMemory>
     requires element { Fits size (tree s.now) }
     requires levels { Fits size (tree t.now) }
     requires set { IsSet (tree t.now) }
@@ -62,12 +55,7 @@ pub fn member_formula(
 }
 
 /// A formula that holds at each choice of `size` atoms exactly where each member of the set `s` is in the set `t`. It has `<` only where a term has it. Errors: `NoMemory`, also where a level would pass the greatest usize.
-pub fn included_formula(
-    alloc: Global,
-    s: &Term,
-    t: &Term,
-    size: usize,
-) -> Result<Formula, NoMemory>
+pub fn included_formula(alloc: Global, s: &Term, t: &Term, size: usize) -> Result<Formula, NoMemory>
     requires left { Fits size (tree s.now) }
     requires left_set { IsSet (tree s.now) }
     requires right { Fits size (tree t.now) }
@@ -185,12 +173,57 @@ fn same_sets(
     if sets_match(comps, s_names, others, t_names) {
         return Ok(always(alloc));
     }
+    if let Some(one) = single(comps) {
+        if let Some(other) = single(others) {
+            return same_singles(alloc, one, s_names, other, t_names, size);
+        }
+    }
     let there = included(alloc, comps, s_names, others, t_names, size)?;
     if is_never(&there) {
         return Ok(there);
     }
     let back = included(alloc, others, t_names, comps, s_names, size)?;
     both(alloc, there, back)
+}
+
+// The comprehension of a set that has no other, and no binders.
+fn single(comps: &Comps) -> Option<&Comp>
+    ensures some { IfSome result (λ k. (comps.now ≡ comp_of k.now ∷ []) × (k.now.binders ≡ 0)) }
+    ensures none { IfNone result (¬ IsSingle (comps_of comps.now)) }
+{
+    let items = comps.as_slice();
+    if items.len() != 1 {
+        return None;
+    }
+    let comp = &items[0];
+    if comp.binders == 0 { Some(comp) } else { None }
+}
+
+// Sets of at most one member, whose items are compared once: where the one is there, so is the other, and it is the same; and the other way round. Two inclusions would compare the items twice, at each depth.
+#[cycle(relating)]
+fn same_singles(
+    alloc: Global,
+    one: &Comp,
+    s_names: &[usize],
+    other: &Comp,
+    t_names: &[usize],
+    size: usize,
+) -> Result<Formula, NoMemory>
+    requires left { CompFits (length s_names.now) (comp_of one.now) }
+    requires left_names { AreBelow size s_names.now }
+    requires left_binders { one.now.binders ≡ 0 }
+    requires right { CompFits (length t_names.now) (comp_of other.now) }
+    requires right_names { AreBelow size t_names.now }
+    requires right_binders { other.now.binders ≡ 0 }
+    ensures { IfOk result (λ f. Says size (λ c. SameAt (coll (more (comp_of one.now) no_comps)) (chosen s_names.now c) (coll (more (comp_of other.now) no_comps)) (chosen t_names.now c)) (λ o. AdmitsComp o (comp_of one.now) × AdmitsComp o (comp_of other.now)) (view f)) }
+{
+    let equal = same(alloc, &one.item, s_names, &other.item, t_names, size)?;
+    let one_there = guard_formula(alloc, &one.guard, s_names)?;
+    let other_there = guard_formula(alloc, &other.guard, t_names)?;
+    let back = implied(alloc, other_there.copy(alloc)?, one_there.copy(alloc)?)?;
+    let partner = both(alloc, other_there, equal)?;
+    let forth = implied(alloc, one_there, partner)?;
+    both(alloc, forth, back)
 }
 
 // Where each member of the one set is in the other.

@@ -1,7 +1,7 @@
 use Rattle.std.proofs.Common.{◌≡◌, ℕ, ◌+◌, ◌<◌, Bool, List, ◌++◌, length, sym, subst, refl, ap, ◌∙◌, arith}
 use Rattle.std.proofs.lemmas.Result.{IfOk-weaker}
 use Rattle.lois_base.specs.Atom.{Atom}
-use Rattle.lois_base.specs.Data.{terms_of, comps_of, coll}
+use Rattle.lois_base.specs.Data.{terms_of, comps_of, coll, more, no_comps}
 use Rattle.lois_base.specs.Fits.{Fits}
 use Rattle.lois_base.specs.FormulaView.{view}
 use Rattle.lois_base.specs.Tree.{tree, comp_of}
@@ -13,6 +13,7 @@ use Rattle.lois_relate.proofs.AlikeSame.{always_says, listed_each, sets_alike}
 use Rattle.lois_relate.proofs.Binders.{one_says, each_says}
 use Rattle.lois_relate.proofs.Loops.{AllSoFar, AnySoFar, all_go_on, all_end, all_cut, any_go_on, any_end, any_cut}
 use Rattle.lois_relate.proofs.Parts.{terms_from, terms_are, comps_from, comps_are, is_part_of, is_comp_of, IsPartOf, IsCompOf}
+use Rattle.lois_relate.proofs.Single.{singles_say, singles_sets, bare_say}
 use Rattle.lois_relate.proofs.Sets.{parts_as_many}
 use Rattle.lois_relate.proofs.Steps.{all_in_split, some_is_split, parts_split, names_below, item_fits, guard_fits, own_below_more, parts_apart, atoms_say, sets_say}
 use Rattle.lois_relate.proofs.relating.+relating.Goals as goal
@@ -133,3 +134,17 @@ each_in-returns-then-is_listed t c =
 pub same_sets-returns-then-sets_match : goal.same_sets-returns-then-sets_match
 same_sets-returns-then-sets_match t c =
     always_says c.args.size _ _ (view c.always.result) c.always.ensures (λ a. sets_alike c.args.s_names.now c.args.t_names.now a (comps_of c.args.comps.now) (comps_of c.args.others.now) (c.sets_match.ensures.0 c.if-sets_match.true))
+
+pub same_sets-returns-in-Some-single : goal.same_sets-returns-in-Some-single
+same_sets-returns-in-Some-single t c =
+    IfOk-weaker c.same_singles.result (λ r. Says c.args.size (λ a. SameAt (coll (more (comp_of c.in-Some.one.now) no_comps)) (chosen c.args.s_names.now a) (coll (more (comp_of c.in-Some-single.other.now) no_comps)) (chosen c.args.t_names.now a)) (λ o. AdmitsComp o (comp_of c.in-Some.one.now) × AdmitsComp o (comp_of c.in-Some-single.other.now)) (view r)) _ (λ r says. singles_sets c.args.size c.args.s_names.now c.args.t_names.now c.args.comps.now c.args.others.now (comp_of c.in-Some.one.now) (comp_of c.in-Some-single.other.now) (view r) c.in-Some.ensures.some.0 c.in-Some-single.ensures.some.0 says) c.same_singles.ensures
+
+pub same_singles-returns : goal.same_singles-returns
+same_singles-returns t c =
+    let one = c.args.one.now in
+    let other = c.args.other.now in
+    let sn = c.args.s_names.now in
+    let tn = c.args.t_names.now in
+    let own = c.in_ok-one_there.ensures c.args.size c.requires.left_names in
+    let else_there = c.in_ok-other_there.ensures c.args.size c.requires.right_names in
+    IfOk-weaker c.both-2.result (λ r. IsBoth (view c.in_ok-forth.forth) (view c.in_ok-back.back) (view r)) _ (λ r all. bare_say c.args.size sn tn one.binders other.binders one.guard other.guard (tree one.item) (tree other.item) (view r) c.requires.left_binders c.requires.right_binders (singles_say c.args.size sn tn one.guard other.guard (tree one.item) (tree other.item) (view c.in_ok-equal.equal) (view c.in_ok-one_there.one_there) (view c.in_ok-other_there.other_there) (view c.in_ok-copy-2.field-0) (view c.in_ok-copy.field-0) (view c.in_ok-partner.partner) (view c.in_ok-forth.forth) (view c.in_ok-back.back) (view r) c.in_ok-equal.ensures own else_there c.in_ok-copy-2.ensures c.in_ok-copy.ensures c.in_ok-partner.ensures c.in_ok-forth.ensures c.in_ok-back.ensures all)) c.both-2.ensures

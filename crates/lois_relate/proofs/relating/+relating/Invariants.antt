@@ -19,6 +19,9 @@ decreases-same_parts l = 8 * (depth_of_terms l.terms.now + depth_of_terms l.othe
 abbrev pub decreases-same_sets : goal.decreases-same_sets
 decreases-same_sets l = 8 * (depth_of_comps l.comps.now + depth_of_comps l.others.now) + 5
 
+abbrev pub decreases-same_singles : goal.decreases-same_singles
+decreases-same_singles l = 8 * (depth (tree l.one.now.item) + depth (tree l.other.now.item)) + 1
+
 abbrev pub decreases-included : goal.decreases-included
 decreases-included l = 8 * (depth_of_comps l.comps.now + depth_of_comps l.others.now) + 4
 
