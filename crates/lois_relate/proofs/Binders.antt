@@ -1,0 +1,89 @@
+-- What a comprehension says of the atoms at its binders, and of each or some of them.
+use Rattle.std.proofs.Common.{◌≡◌, ℕ, ◌+◌, Bool, ◌⊎◌, inl, inr, ◌↔◌, List, ◌++◌, length, length-append, refl, sym, ap, subst, ◌∙◌, arith}
+use Rattle.std.specs.Bool.{IsTrue}
+use Rattle.lois_base.specs.Atom.{Atom}
+use Rattle.lois_base.specs.Data.{TermD, comp, CompsD}
+use Rattle.lois_base.specs.FormulaData.{FormulaD, FormulaFits}
+use Rattle.lois_base.specs.FormulaTruth.{FormulaHolds}
+use Rattle.lois_base.specs.Truth.{holds}
+use Rattle.lois_base.specs.Validity.{AdmitsConstraint, AdmitsTerm, AdmitsComp, AdmitsItems}
+use Rattle.lois_base.specs.Values.{IsExtension, SameAt, EachInAt, InAt, SomeIsAt, OneIsAt}
+use Rattle.lois_base.specs.declared.guards.Lit.{Lit}
+use Rattle.lois_relate.specs.Built.{Says, IsBoth, IsNegation, IsForSome}
+use Rattle.lois_relate.specs.Named.{chosen, AreBelow, levels_from}
+use Rattle.lois_relate.proofs.Decided.{formula_decided}
+use Rattle.lois_relate.proofs.Names.{chosen_longer, chosen_entered}
+use Rattle.lois_relate.proofs.Sets.{some_is_in}
+
+-- a term with the names `own`, and a comprehension with the names `outer` and its binders at the levels from n on
+module _ (n m inner : ℕ) (sum : inner ≡ n + m) (own outer names : List ℕ) (entered : names ≡ outer ++ levels_from n m) (own_below : AreBelow n own) (outer_below : AreBelow n outer) where
+  longer : (c e : List Atom) → length c ≡ n → length e ≡ m → length (c ++ e) ≡ inner
+  longer c e k l = omega (arith, length-append c e)
+
+  comp_names : (c e : List Atom) → length c ≡ n → length e ≡ m → chosen names (c ++ e) ≡ chosen outer c ++ e
+  comp_names c e k l =
+      subst (λ z. chosen z (c ++ e) ≡ chosen outer c ++ e) (sym entered) (chosen_entered outer n m c e k l outer_below)
+
+  own_names : (c e : List Atom) → length c ≡ n → chosen own (c ++ e) ≡ chosen own c
+  own_names c e k = chosen_longer own c e (subst (λ j. AreBelow j own) (sym k) own_below)
+
+  guard_there : (g : List (List Lit)) (c e : List Atom) → length c ≡ n → length e ≡ m → IsTrue (holds (chosen names (c ++ e)) g) → IsTrue (holds (chosen outer c ++ e) g)
+  guard_there g c e k l h = subst (λ z. IsTrue (holds z g)) (comp_names c e k l) h
+
+  guard_back : (g : List (List Lit)) (c e : List Atom) → length c ≡ n → length e ≡ m → IsTrue (holds (chosen outer c ++ e) g) → IsTrue (holds (chosen names (c ++ e)) g)
+  guard_back g c e k l h = subst (λ z. IsTrue (holds z g)) (sym (comp_names c e k l)) h
+
+  module _ (g : List (List Lit)) (t s : TermD) (e h b r : FormulaD) where
+    -- the item is the same as s for some atoms that the guard admits
+    pub one_says : Says inner (λ c. SameAt t (chosen names c) s (chosen own c)) (λ o. AdmitsTerm o t × AdmitsTerm o s) e → Says inner (λ c. IsTrue (holds (chosen names c) g)) (λ o. AdmitsConstraint o g) h → IsBoth e h b → IsForSome m b r → Says n (λ c. OneIsAt (comp m g t) (chosen outer c) s (chosen own c)) (λ o. AdmitsComp o (comp m g t) × AdmitsTerm o s) r
+    one_says equal guard both some = record {
+      truth = λ c k. (λ x. there c k ((some.truth c).0 x), λ x. back c k x);
+      levels = some.levels n (subst (λ j. FormulaFits j b) sum (both.levels inner equal.levels guard.levels));
+      operators = λ o a. some.operators o (both.operators o (equal.operators o (a.0.1, a.1)) (guard.operators o a.0.0));
+    }
+      where
+        there : (c : List Atom) → length c ≡ n → ((x : List Atom) × (length x ≡ m) × FormulaHolds (c ++ x) b) → OneIsAt (comp m g t) (chosen outer c) s (chosen own c)
+        there c k (x, l, p) =
+            let q = (both.truth (c ++ x)).0 p in
+            let i : SameAt t (chosen names (c ++ x)) s (chosen own (c ++ x)) = (equal.truth (c ++ x) (longer c x k l)).0 q.0 in
+            let j : IsTrue (holds (chosen names (c ++ x)) g) = (guard.truth (c ++ x) (longer c x k l)).0 q.1 in
+            (x, record { count = l; guard = guard_there g c x k l j }, subst (λ z. SameAt t z s (chosen own c)) (comp_names c x k l) (subst (λ z. SameAt t (chosen names (c ++ x)) s z) (own_names c x k) i))
+
+        back : (c : List Atom) → length c ≡ n → OneIsAt (comp m g t) (chosen outer c) s (chosen own c) → FormulaHolds c r
+        back c k (x, y, i) =
+            let l = y.count in
+            let u : SameAt t (chosen names (c ++ x)) s (chosen own (c ++ x)) = subst (λ z. SameAt t (chosen names (c ++ x)) s z) (sym (own_names c x k)) (subst (λ z. SameAt t z s (chosen own c)) (sym (comp_names c x k l)) i) in
+            (some.truth c).1 (x, l, (both.truth (c ++ x)).1 ((equal.truth (c ++ x) (longer c x k l)).1 u, (guard.truth (c ++ x) (longer c x k l)).1 (guard_back g c x k l y.guard)))
+
+  module _ (g : List (List Lit)) (t : TermD) (ss : CompsD) (f d h b x r : FormulaD) where
+    -- no item that the guard admits is missing in the set
+    pub each_says : Says inner (λ c. SomeIsAt ss (chosen own c) t (chosen names c)) (λ o. AdmitsItems o ss × AdmitsTerm o t) f → IsNegation f d → Says inner (λ c. IsTrue (holds (chosen names c) g)) (λ o. AdmitsConstraint o g) h → IsBoth h d b → IsForSome m b x → IsNegation x r → Says n (λ c. EachInAt (comp m g t) (chosen outer c) ss (chosen own c)) (λ o. AdmitsComp o (comp m g t) × AdmitsItems o ss) r
+    each_says found absent guard both some none = record {
+      truth = λ c k. (λ p. there c k ((none.truth c).0 p), λ p. (none.truth c).1 (λ q. back c k p ((some.truth c).0 q)));
+      levels = none.levels n (some.levels n (subst (λ j. FormulaFits j b) sum (both.levels inner guard.levels (absent.levels inner found.levels))));
+      operators = λ o a. none.operators o (some.operators o (both.operators o (guard.operators o a.0.0) (absent.operators o (found.operators o (a.1, a.0.1)))));
+    }
+      where
+        is_in : (c e : List Atom) → length c ≡ n → length e ≡ m → FormulaHolds (c ++ e) f → InAt t (chosen outer c ++ e) ss (chosen own c)
+        is_in c e k l p =
+            let i : SomeIsAt ss (chosen own (c ++ e)) t (chosen names (c ++ e)) = (found.truth (c ++ e) (longer c e k l)).0 p in
+            (some_is_in t (chosen outer c ++ e) ss (chosen own c)).0 (subst (λ z. SomeIsAt ss (chosen own c) t z) (comp_names c e k l) (subst (λ z. SomeIsAt ss z t (chosen names (c ++ e))) (own_names c e k) i))
+
+        is_found : (c e : List Atom) → length c ≡ n → length e ≡ m → InAt t (chosen outer c ++ e) ss (chosen own c) → FormulaHolds (c ++ e) f
+        is_found c e k l p =
+            let i : SomeIsAt ss (chosen own c) t (chosen outer c ++ e) = (some_is_in t (chosen outer c ++ e) ss (chosen own c)).1 p in
+            (found.truth (c ++ e) (longer c e k l)).1 (subst (λ z. SomeIsAt ss z t (chosen names (c ++ e))) (sym (own_names c e k)) (subst (λ z. SomeIsAt ss (chosen own c) t z) (sym (comp_names c e k l)) i))
+
+        there : (c : List Atom) → length c ≡ n → (FormulaHolds c x → ⊥) → (e : List Atom) → IsExtension (chosen outer c) m g e → InAt t (chosen outer c ++ e) ss (chosen own c)
+        there c k refuted e y = pick (formula_decided f (c ++ e) (subst (λ j. FormulaFits j f) (sym (longer c e k y.count)) found.levels))
+          where
+            pick : FormulaHolds (c ++ e) f ⊎ (FormulaHolds (c ++ e) f → ⊥) → InAt t (chosen outer c ++ e) ss (chosen own c)
+            pick (inl p) = is_in c e k y.count p
+            pick (inr p) =
+                absurd (refuted ((some.truth c).1 (e, y.count, (both.truth (c ++ e)).1 ((guard.truth (c ++ e) (longer c e k y.count)).1 (guard_back g c e k y.count y.guard), (absent.truth (c ++ e)).1 p))))
+
+        back : (c : List Atom) → length c ≡ n → ((e : List Atom) → IsExtension (chosen outer c) m g e → InAt t (chosen outer c ++ e) ss (chosen own c)) → ((e : List Atom) × (length e ≡ m) × FormulaHolds (c ++ e) b) → ⊥
+        back c k each (e, l, p) =
+            let q = (both.truth (c ++ e)).0 p in
+            let i : IsTrue (holds (chosen names (c ++ e)) g) = (guard.truth (c ++ e) (longer c e k l)).0 q.0 in
+            (absent.truth (c ++ e)).0 q.1 (is_found c e k l (each e (record { count = l; guard = guard_there g c e k l i })))

@@ -1,0 +1,11 @@
+pub mod Decided
+pub mod Names
+pub mod Forms
+pub mod Loops
+pub mod Parts
+pub mod Sets
+pub mod Binders
+pub mod Steps
+pub mod Own
+pub mod AlikeSame
+pub mod Single

@@ -1,0 +1,120 @@
+-- What holds as a loop goes over parts that are all to hold, or of which one is to hold.
+use Rattle.std.proofs.Common.{◌≡◌, ℕ, suc, ◌+◌, ◌<◌, ◌≤◌, Bool, true, false, ◌&&◌, ◌||◌, ◌⊎◌, inl, inr, ◌↔◌, List, [], ◌∷◌, ◌++◌, length, get_or, drop, refl, sym, ap, subst, ◌∙◌, drop-cons, arith}
+use Rattle.std.proofs.lemmas.Bool.{false≢true}
+use Rattle.std.proofs.lemmas.List.{drop_all}
+use Rattle.std.specs.Bool.{IsTrue}
+use Rattle.lois_base.specs.Atom.{Atom}
+use Rattle.lois_base.specs.FormulaData.{FormulaD, all, any, no_formulas, FormulaFits}
+use Rattle.lois_base.specs.FormulaTruth.{FormulaHolds}
+use Rattle.lois_base.specs.Validity.{AdmitsFormula}
+use Rattle.lois_relate.specs.Built.{Says, IsBoth, IsEither}
+
+-- what is left of a list at an item
+pub rest_is : {X : Type 0} (xs : List X) (i : ℕ) (x : X) → i < length xs → x ≡ get_or xs i x → drop i xs ≡ x ∷ drop (i + 1) xs
+rest_is xs i x l is =
+    let next : suc i ≡ i + 1 = omega arith in
+    drop-cons xs i x l ∙ ap (λ y. y ∷ drop (suc i) xs) (sym is) ∙ ap (λ j. x ∷ drop j xs) next
+
+pub rest_at : {X : Type 0} (xs : List X) (i : ℕ) (d : X) → i < length xs → drop i xs ≡ get_or xs i d ∷ drop (i + 1) xs
+rest_at xs i d l =
+    let next : suc i ≡ i + 1 = omega arith in
+    drop-cons xs i d l ∙ ap (λ j. get_or xs i d ∷ drop j xs) next
+
+pub both_true : (a b : Bool) → IsTrue (a && b) ↔ (IsTrue a × IsTrue b)
+both_true true b = (λ h. (refl, h), λ h. h.1)
+both_true false b = (λ h. absurd (false≢true h), λ h. h.0)
+
+pub either_true : (a b : Bool) → IsTrue (a || b) ↔ (IsTrue a ⊎ IsTrue b)
+either_true true b = (λ h. inl refl, λ h. refl)
+either_true false b = (λ h. inr h, λ h. elim h [ inl e ↦ absurd (false≢true e) | inr e ↦ e ])
+
+-- f says what the parts before the rest say
+pub record AllSoFar (n : ℕ) (Rest Whole : List Atom → Type 0) (A : Bool → Type 0) (f : FormulaD) : Type 0 where
+  pub truth : (c : List Atom) → length c ≡ n → (FormulaHolds c f × Rest c) ↔ Whole c
+  pub levels : FormulaFits n f
+  pub operators : (o : Bool) → A o → AdmitsFormula o f
+
+pub record AnySoFar (n : ℕ) (Rest Whole : List Atom → Type 0) (A : Bool → Type 0) (f : FormulaD) : Type 0 where
+  pub truth : (c : List Atom) → length c ≡ n → (FormulaHolds c f ⊎ Rest c) ↔ Whole c
+  pub levels : FormulaFits n f
+  pub operators : (o : Bool) → A o → AdmitsFormula o f
+
+module _ (n : ℕ) (Rest Whole : List Atom → Type 0) (A : Bool → Type 0) where
+  pub all_begin : (f : FormulaD) → f ≡ all no_formulas → ((c : List Atom) → Rest c ↔ Whole c) → AllSoFar n Rest Whole A f
+  all_begin f e same = subst (AllSoFar n Rest Whole A) (sym e) (record {
+    truth = λ c k. (λ h. (same c).0 h.1, λ h. (tt, (same c).1 h));
+    levels = tt;
+    operators = λ o h. tt;
+  })
+
+  pub all_go_on : (Q Rest' : List Atom → Type 0) (A' : Bool → Type 0) (f g r : FormulaD) → AllSoFar n Rest Whole A f → ((c : List Atom) → Rest c ↔ (Q c × Rest' c)) → Says n Q A' g → ((o : Bool) → A o → A' o) → IsBoth f g r → AllSoFar n Rest' Whole A r
+  all_go_on Q Rest' A' f g r so_far split says admits both = record {
+    truth = λ c k. (
+      λ h. let x = (both.truth c).0 h.0 in (so_far.truth c k).0 (x.0, (split c).1 ((says.truth c k).0 x.1, h.1)),
+      λ h. let x = (so_far.truth c k).1 h in
+          let y = (split c).0 x.1 in ((both.truth c).1 (x.0, (says.truth c k).1 y.0), y.1),
+    );
+    levels = both.levels n so_far.levels says.levels;
+    operators = λ o h. both.operators o (so_far.operators o h) (says.operators o (admits o h));
+  }
+
+  pub all_end : (f : FormulaD) → ((c : List Atom) → Rest c) → AllSoFar n Rest Whole A f → Says n Whole A f
+  all_end f rest so_far = record {
+    truth = λ c k. (λ h. (so_far.truth c k).0 (h, rest c), λ h. ((so_far.truth c k).1 h).0);
+    levels = so_far.levels;
+    operators = so_far.operators;
+  }
+
+  -- what is false already stays false
+  pub all_cut : (f : FormulaD) → f ≡ any no_formulas → AllSoFar n Rest Whole A f → Says n Whole A f
+  all_cut f e so_far = record {
+    truth = λ c k. (λ h. absurd (subst (FormulaHolds c) e h), λ h. ((so_far.truth c k).1 h).0);
+    levels = so_far.levels;
+    operators = so_far.operators;
+  }
+
+  pub any_begin : (f : FormulaD) → f ≡ any no_formulas → ((c : List Atom) → Rest c ↔ Whole c) → AnySoFar n Rest Whole A f
+  any_begin f e same = subst (AnySoFar n Rest Whole A) (sym e) (record {
+    truth = λ c k. (λ h. elim h [ inl p ↦ absurd p | inr p ↦ (same c).0 p ], λ h. inr ((same c).1 h));
+    levels = tt;
+    operators = λ o h. tt;
+  })
+
+  pub any_go_on : (Q Rest' : List Atom → Type 0) (A' : Bool → Type 0) (f g r : FormulaD) → AnySoFar n Rest Whole A f → ((c : List Atom) → Rest c ↔ (Q c ⊎ Rest' c)) → Says n Q A' g → ((o : Bool) → A o → A' o) → IsEither f g r → AnySoFar n Rest' Whole A r
+  any_go_on Q Rest' A' f g r so_far split says admits either = record {
+    truth = λ c k. (there c k, λ h. back c k ((so_far.truth c k).1 h));
+    levels = either.levels n so_far.levels says.levels;
+    operators = λ o h. either.operators o (so_far.operators o h) (says.operators o (admits o h));
+  }
+    where
+      there : (c : List Atom) → length c ≡ n → FormulaHolds c r ⊎ Rest' c → Whole c
+      there c k (inl h) = elim ((either.truth c).0 h) [
+        | inl p ↦ (so_far.truth c k).0 (inl p)
+        | inr p ↦ (so_far.truth c k).0 (inr ((split c).1 (inl ((says.truth c k).0 p))))
+      ]
+      there c k (inr h) = (so_far.truth c k).0 (inr ((split c).1 (inr h)))
+
+      back : (c : List Atom) → length c ≡ n → FormulaHolds c f ⊎ Rest c → FormulaHolds c r ⊎ Rest' c
+      back c k (inl h) = inl ((either.truth c).1 (inl h))
+      back c k (inr h) = elim ((split c).0 h) [
+        | inl p ↦ inl ((either.truth c).1 (inr ((says.truth c k).1 p)))
+        | inr p ↦ inr p
+      ]
+
+  pub any_end : (f : FormulaD) → ((c : List Atom) → Rest c → ⊥) → AnySoFar n Rest Whole A f → Says n Whole A f
+  any_end f rest so_far = record {
+    truth = λ c k. (
+      λ h. (so_far.truth c k).0 (inl h),
+      λ h. elim ((so_far.truth c k).1 h) [ inl p ↦ p | inr p ↦ absurd (rest c p) ],
+    );
+    levels = so_far.levels;
+    operators = so_far.operators;
+  }
+
+  -- what is true already stays true
+  pub any_cut : (f : FormulaD) → f ≡ all no_formulas → AnySoFar n Rest Whole A f → Says n Whole A f
+  any_cut f e so_far = record {
+    truth = λ c k. (λ h. (so_far.truth c k).0 (inl h), λ h. subst (FormulaHolds c) (sym e) tt);
+    levels = so_far.levels;
+    operators = so_far.operators;
+  }

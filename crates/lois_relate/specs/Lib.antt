@@ -1,0 +1,5 @@
+pub mod Relations
+pub mod Named
+pub mod Built
+pub mod Alike
+pub mod Singles

@@ -1,0 +1,8 @@
+-- Sets of at most one member.
+use Rattle.lois_base.specs.Data.{CompD, comp, CompsD, no_comps, more}
+use Rattle.std.specs.Prelude.{◌≡◌}
+
+-- one comprehension, without binders
+abbrev pub IsSingle : CompsD → Type 0
+IsSingle (more (comp m g t) no_comps) = m ≡ 0
+IsSingle _ = ⊥

@@ -1,0 +1,147 @@
+//! Formulas put together from smaller ones. What is true or false everywhere is absorbed.
+
+ghost use Rattle.std.specs.Prelude.{◌≡◌, IfOk, IsTrue, ◌↔◌, [], ◌∷◌};
+ghost use Rattle.lois_base.specs.FormulaData.{all, any, no_formulas};
+ghost use Rattle.lois_base.specs.FormulaView.{view, views};
+ghost use Rattle.lois_relate.specs.Built.{IsBoth, IsEither, IsNegation, IsImplied, IsForSome};
+
+use lois_base::{Formula, Formulas, NoMemory};
+use std::alloc::Global;
+
+// True at each choice.
+pub fn always(alloc: Global) -> Formula
+    ensures { view result ≡ all no_formulas }
+{
+    Formula::All(Formulas::new(alloc))
+}
+
+// False at each choice.
+pub fn never(alloc: Global) -> Formula
+    ensures { view result ≡ any no_formulas }
+{
+    Formula::Any(Formulas::new(alloc))
+}
+
+pub fn is_always(f: &Formula) -> bool
+    ensures { IsTrue result ↔ (view f.now ≡ all no_formulas) }
+{
+    match f {
+        Formula::All(parts) => parts.len() == 0,
+        _ => false,
+    }
+}
+
+pub fn is_never(f: &Formula) -> bool
+    ensures { IsTrue result ↔ (view f.now ≡ any no_formulas) }
+{
+    match f {
+        Formula::Any(parts) => parts.len() == 0,
+        _ => false,
+    }
+}
+
+pub fn both(alloc: Global, f: Formula, g: Formula) -> Result<Formula, NoMemory>
+    ensures { IfOk result (λ r. IsBoth (view f) (view g) (view r)) }
+{
+    if is_never(&f) {
+        return Ok(f);
+    }
+    if is_never(&g) {
+        return Ok(g);
+    }
+    if is_always(&f) {
+        return Ok(g);
+    }
+    if is_always(&g) {
+        return Ok(f);
+    }
+    joined_by_all(alloc, f, g)
+}
+
+fn joined_by_all(alloc: Global, f: Formula, g: Formula) -> Result<Formula, NoMemory>
+    ensures { IfOk result (λ r. IsBoth (view f) (view g) (view r)) }
+{
+    match f {
+        Formula::All(mut parts) => {
+            parts.push(g)?;
+            Ok(Formula::All(parts))
+        }
+        other => Ok(Formula::All(pair(alloc, other, g)?)),
+    }
+}
+
+pub fn either(alloc: Global, f: Formula, g: Formula) -> Result<Formula, NoMemory>
+    ensures { IfOk result (λ r. IsEither (view f) (view g) (view r)) }
+{
+    if is_always(&f) {
+        return Ok(f);
+    }
+    if is_always(&g) {
+        return Ok(g);
+    }
+    if is_never(&f) {
+        return Ok(g);
+    }
+    if is_never(&g) {
+        return Ok(f);
+    }
+    joined_by_any(alloc, f, g)
+}
+
+fn joined_by_any(alloc: Global, f: Formula, g: Formula) -> Result<Formula, NoMemory>
+    ensures { IfOk result (λ r. IsEither (view f) (view g) (view r)) }
+{
+    match f {
+        Formula::Any(mut parts) => {
+            parts.push(g)?;
+            Ok(Formula::Any(parts))
+        }
+        other => Ok(Formula::Any(pair(alloc, other, g)?)),
+    }
+}
+
+fn pair(alloc: Global, f: Formula, g: Formula) -> Result<Formulas, NoMemory>
+    ensures { IfOk result (λ r. views r ≡ view f ∷ view g ∷ []) }
+{
+    let mut parts = Formulas::new(alloc);
+    parts.push(f)?;
+    parts.push(g)?;
+    Ok(parts)
+}
+
+pub fn negated(alloc: Global, f: Formula) -> Result<Formula, NoMemory>
+    ensures { IfOk result (λ r. IsNegation (view f) (view r)) }
+{
+    if is_never(&f) {
+        return Ok(always(alloc));
+    }
+    if is_always(&f) {
+        return Ok(never(alloc));
+    }
+    Ok(Formula::Not(f.boxed(alloc)?))
+}
+
+// Where the first holds, so does the second.
+pub fn implied(alloc: Global, f: Formula, g: Formula) -> Result<Formula, NoMemory>
+    ensures { IfOk result (λ r. IsImplied (view f) (view g) (view r)) }
+{
+    let absent = negated(alloc, f)?;
+    either(alloc, absent, g)
+}
+
+// For some atoms at the `count` highest levels.
+pub fn for_some(alloc: Global, f: Formula, count: usize) -> Result<Formula, NoMemory>
+    ensures { IfOk result (λ r. IsForSome count (view f) (view r)) }
+{
+    if is_never(&f) {
+        return Ok(f);
+    }
+    if is_always(&f) {
+        return Ok(f);
+    }
+    let mut bound = f;
+    for _ in 0..count {
+        bound = Formula::Exists(bound.boxed(alloc)?);
+    }
+    Ok(bound)
+}

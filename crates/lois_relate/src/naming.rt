@@ -1,0 +1,78 @@
+//! Names for the levels of a term, and guards under names.
+
+ghost use Rattle.std.specs.Prelude.{◌≡◌, ℕ, ◌+◌, ◌<◌, ◌^◌, ◌++◌, List, length, IfOk, IsTrue};
+ghost use Rattle.lois_base.specs.Atom.{Atom};
+ghost use Rattle.lois_base.specs.Fits.{LitFits, CubeFits, ConstraintFits};
+ghost use Rattle.lois_base.specs.FormulaView.{view};
+ghost use Rattle.lois_base.specs.Truth.{cube_holds, holds};
+ghost use Rattle.lois_base.specs.Validity.{AdmitsCube, AdmitsConstraint};
+ghost use Rattle.lois_relate.specs.Built.{Says};
+ghost use Rattle.lois_relate.specs.Named.{chosen, AreBelow, levels_from, named_lit};
+
+use crate::building::{always, both, either, never};
+use lois_base::{Constraint, Cube, Formula, Lit, NoMemory};
+use std::alloc::Global;
+
+// The number of levels inside of a comprehension. No memory holds a choice of more atoms than the greatest usize.
+pub fn inner_size(size: usize, binders: usize) -> Result<usize, NoMemory>
+    ensures { IfOk result (λ n. n ≡ size + binders) }
+{
+    size.checked_add(binders).ok_or(NoMemory)
+}
+
+// The names, and then those of `binders` further levels of the term, which are the levels from `size` on.
+pub fn entered(
+    alloc: Global,
+    names: &[usize],
+    size: usize,
+    binders: usize,
+) -> Result<Vec<usize>, NoMemory>
+    requires { size + binders < 2 ^ 64 }
+    ensures { IfOk result (λ r. r.items ≡ names.now ++ levels_from size binders) }
+{
+    let mut longer = Vec::from_slice(alloc, names)?;
+    for level in size..size + binders {
+        longer.push(level)?;
+    }
+    Ok(longer)
+}
+
+fn named_literal(lit: Lit, names: &[usize]) -> Lit
+    requires { LitFits (length names.now) lit }
+    ensures { result ≡ named_lit names.now lit }
+{
+    Lit {
+        op: lit.op,
+        left: names[lit.left],
+        right: names[lit.right],
+    }
+}
+
+fn cube_formula(alloc: Global, cube: &Cube, names: &[usize]) -> Result<Formula, NoMemory>
+    requires { CubeFits (length names.now) cube.now }
+    ensures { IfOk result (λ f. (n : ℕ) → AreBelow n names.now → Says n (λ c. IsTrue (cube_holds (chosen names.now c) cube.now)) (λ o. AdmitsCube o cube.now) (view f)) }
+{
+    let mut met = always(alloc);
+    for lit in cube.as_slice() {
+        let literal = Formula::Lit(named_literal(*lit, names));
+        met = both(alloc, met, literal)?;
+    }
+    Ok(met)
+}
+
+// The guard of a comprehension whose levels have these names.
+pub fn guard_formula(
+    alloc: Global,
+    guard: &Constraint,
+    names: &[usize],
+) -> Result<Formula, NoMemory>
+    requires { ConstraintFits (length names.now) guard.now }
+    ensures { IfOk result (λ f. (n : ℕ) → AreBelow n names.now → Says n (λ c. IsTrue (holds (chosen names.now c) guard.now)) (λ o. AdmitsConstraint o guard.now) (view f)) }
+{
+    let mut found = never(alloc);
+    for cube in guard.as_slice() {
+        let one = cube_formula(alloc, cube, names)?;
+        found = either(alloc, found, one)?;
+    }
+    Ok(found)
+}
