@@ -1,13 +1,11 @@
 -- Labels that wait for those below them, by the number of steps to them.
-use Rattle.std.proofs.Common.{◌≡◌, ℕ, zero, suc, ◌+◌, ◌-◌, ◌<◌, ◌≤◌, ◌≢◌, ◌⊎◌, inl, inr, Bool, true, false, ◌&&◌, ◌==◌, cond, List, [], ◌∷◌, ◌++◌, length, get_or, set, map, take, replicate, refl, sym, ap, ◌∙◌, subst, arith, eq-eqb, length-append, length-take}
+use Rattle.std.proofs.Common.{◌≡◌, ℕ, zero, suc, ◌+◌, ◌-◌, ◌<◌, ◌≤◌, ◌⊎◌, inl, inr, Bool, true, false, ◌&&◌, ◌==◌, cond, List, [], ◌∷◌, ◌++◌, length, get_or, set, map, take, replicate, refl, sym, ap, ◌∙◌, subst, arith, eq-eqb, length-append, length-take}
 use Rattle.std.proofs.lemmas.Bool.{cases_eq, cases_lt, eqb-true}
-use Rattle.std.proofs.lemmas.Bool.Decides.{nat_tests}
-use Rattle.std.proofs.lemmas.List.{length-set, length-replicate, get_or-replicate, get_or_default, get_or-set_same, get_or-set_other, get_or_past, get_or_push, get_or_append_left}
-use Rattle.std.proofs.lemmas.List.Elements.{All-nil, All-cons, All-push, All-head, All-tail, All-weaker, Contains-push, Contains-append_left, Contains-push_cases, Contains-get_or, All-contains}
+use Rattle.std.proofs.lemmas.List.{length-replicate, get_or-replicate, get_or_default, get_or-set_same, get_or-set_other, get_or_past, get_or_push, get_or_append_left}
+use Rattle.std.proofs.lemmas.List.Elements.{All-nil, All-cons, All-push, Contains-push, Contains-append_left, Contains-push_cases, Contains-get_or, All-contains}
 use Rattle.std.proofs.lemmas.List.Quantifiers.{all_pairs_push}
 use Rattle.std.proofs.lemmas.List.Sums.{sum_by-cons, count_by_more_yes, count_by_more_no, count_by-le-length, sum_by-set}
 use Rattle.std.proofs.lemmas.List.Folds.{sum_by-replicate}
-use Rattle.std.specs.Global.{Vec}
 use Rattle.std.specs.List.{All, AllPairs, Contains, count_by, filter}
 use Rattle.lois_base.specs.Fits.{CubeFits}
 use Rattle.lois_base.specs.declared.guards.Lit.{Lit}
@@ -15,10 +13,10 @@ use Rattle.lois_base.specs.declared.guards.Op.{Op}
 use Rattle.lois_base.specs.declared.guards.Op.TheVariants.{Eq, Ne, Lt}
 use Rattle.lois_constraint.specs.Steps.{is_step}
 use Rattle.lois_deciders.specs.Labels.{Follows, IsLabelling, IsUnmet}
-use Rattle.lois_deciders.specs.Ranks.{is_step_to, is_step_from, occurrences, AreAbove, AreUnheld, IsReleasedLabel, IsReleased, IsFullRanking}
+use Rattle.lois_deciders.specs.Ranks.{is_step_to, is_step_from, occurrences, AreUnheld, IsReleasedLabel, IsReleased, IsFullRanking}
 use Rattle.lois_deciders.proofs.Ranking.{Waits, IsPlaced, WaitsOnAnother, IsLowest, one_where, IsRanking}
 use Rattle.lois_deciders.proofs.Following.{literal_follows, follows_below}
-use Rattle.lois_deciders.proofs.Ranked.{placed_same, placed_other, stays_placed, placed_differs, one_more, goes_round}
+use Rattle.lois_deciders.proofs.Ranked.{placed_same, one_more, goes_round}
 
 -- ---- counts
 module _ {X : Type 0} (p : X → Bool) where

@@ -12,11 +12,10 @@ use Rattle.lois_base.specs.Atom.{Atom, below, whole}
 use Rattle.lois_base.specs.Fits.{CubeFits}
 use Rattle.lois_base.specs.Truth.{atom_at, sampled}
 use Rattle.lois_base.specs.declared.guards.Lit.{Lit}
-use Rattle.lois_base.specs.declared.guards.Op.TheVariants.{Lt}
 use Rattle.lois_base.proofs.Samples.{sample_of}
 use Rattle.lois_deciders.specs.Labels.{IsLabelling, IsUnmet}
 use Rattle.lois_deciders.proofs.Ranking.{Waits, IsPlaced, IsLowest, EachWaitsOnAnother, one_where, IsRanking}
-use Rattle.lois_deciders.proofs.Following.{up_to, literal_follows, follows_below, not_true}
+use Rattle.lois_deciders.proofs.Following.{not_true}
 
 -- ---- the `<` go round
 below_numbers : (m n : ℕ) → IsTrue (below (whole m) (whole n)) → m < n

@@ -1,4 +1,4 @@
-use Rattle.std.proofs.Common.{◌≡◌, ℕ, ◌+◌, ◌-◌, ◌<◌, List, [], ◌∷◌, ◌++◌, length, get_or, set, take, refl, ap, ◌∙◌, subst, sym, arith}
+use Rattle.std.proofs.Common.{◌≡◌, ℕ, ◌+◌, ◌-◌, List, [], ◌∷◌, ◌++◌, get_or, set, take, refl, ap, ◌∙◌, subst, sym, arith}
 use Rattle.lois_deciders.specs.Ranks.{occurrences, IsReleased}
 use Rattle.lois_deciders.proofs.Queued.{some_left, within, lower_here, lower_steps, released_more, released_same, nothing_released, read_at}
 use Rattle.lois_deciders.proofs.ranks.release.Goals as goal
