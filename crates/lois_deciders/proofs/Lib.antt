@@ -1,5 +1,6 @@
 pub mod Following
 pub mod Labelled
+pub mod Ranking
 pub mod Ranked
 pub mod Satisfied
 pub mod Asking
@@ -7,3 +8,4 @@ pub mod Choosing
 pub mod Placed
 pub mod Staged
 pub mod Remembered
+pub mod Queued

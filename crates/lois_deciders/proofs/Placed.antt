@@ -1,24 +1,23 @@
 -- One more atom beside numbers.
-use Rattle.std.proofs.Common.{◌≡◌, ℕ, zero, suc, ◌+◌, ◌<◌, ◌≤◌, ◌⊎◌, inl, inr, Bool, true, false, not, cond, List, [], ◌∷◌, ◌++◌, map, length, get_or, ltb, refl, sym, ap, ◌∙◌, subst, arith, length-append}
+use Rattle.std.proofs.Common.{◌≡◌, ℕ, zero, suc, ◌+◌, ◌<◌, ◌≤◌, ◌⊎◌, inl, inr, not, List, [], ◌∷◌, ◌++◌, map, length, get_or, ltb, refl, sym, ap, ◌∙◌, subst, arith, length-append}
 use Rattle.std.proofs.lemmas.Bool.{lt-ltb, ltb-true, cases_lt}
 use Rattle.std.proofs.lemmas.Bool.Decides.{nat_tests}
 use Rattle.std.proofs.lemmas.Int.{ints}
 use Rattle.std.proofs.lemmas.List.{get_or-map, get_or_append_left, get_or_push, length-map, map-id}
-use Rattle.std.proofs.lemmas.List.Elements.{All-from_get_or, All-append, All-cons, All-nil, All-map, All-weaker}
+use Rattle.std.proofs.lemmas.List.Elements.{All-append, All-cons, All-nil, All-map, All-weaker}
 use Rattle.std.specs.Bool.{IsTrue, IsFalse}
 use Rattle.std.specs.List.{All}
 use Rattle.lois_base.specs.Atom.{Atom, equal, below, whole}
 use Rattle.lois_base.specs.Fits.{ConstraintFits}
-use Rattle.lois_base.specs.Patterns.{Agree, AreAlike}
+use Rattle.lois_base.specs.Patterns.{Agree}
 use Rattle.lois_base.specs.Truth.{atom_at, holds, sampled}
 use Rattle.lois_base.specs.declared.guards.Lit.{Lit}
 use Rattle.lois_base.specs.declared.guards.Op.{Op}
 use Rattle.lois_base.specs.declared.guards.Op.TheVariants.{Eq, Ne, Lt}
 use Rattle.lois_base.proofs.Order.{below_irrefl, below_asym, below_trans, below_respects, equal_refl, equals_from, same_truth, trichotomy}
 use Rattle.lois_base.proofs.Truths.{holds_ordered}
-use Rattle.lois_deciders.specs.Asked.{IsSmall, Meets}
+use Rattle.lois_deciders.specs.Asked.{IsSmall}
 use Rattle.lois_deciders.specs.Places.{raised_from}
-use Rattle.lois_deciders.proofs.Following.{not_true}
 
 whole_below : (m n : ℕ) → below (whole m) (whole n) ≡ ltb m n
 whole_below m n = same_truth (below (whole m) (whole n)) (ltb m n) (λ h. lt-ltb m n (grind (arith, ints))) (λ h. let l : m < n = ltb-true m n h in grind (arith, ints))

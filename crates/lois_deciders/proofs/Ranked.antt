@@ -12,83 +12,10 @@ use Rattle.lois_base.specs.Atom.{Atom, below, whole}
 use Rattle.lois_base.specs.Fits.{CubeFits}
 use Rattle.lois_base.specs.Truth.{atom_at, sampled}
 use Rattle.lois_base.specs.declared.guards.Lit.{Lit}
-use Rattle.lois_base.specs.declared.guards.Op.TheVariants.{Lt}
 use Rattle.lois_base.proofs.Samples.{sample_of}
 use Rattle.lois_deciders.specs.Labels.{IsLabelling, IsUnmet}
-use Rattle.lois_deciders.specs.Ranks.{Waits, IsPlaced, IsFree, WaitsOnAnother, IsHeldBack, IsLowest, EachWaitsOnAnother, one_where, IsRanking}
-use Rattle.lois_deciders.proofs.Following.{up_to, literal_follows, follows_below, not_true}
-
--- ---- labels that are held back
--- the next literal holds nothing back
-pub held_same : (xs cube : List Lit) (labels : List ℕ) (waiting : List Bool) (k : ℕ) (held : List Bool) (d : Lit) → xs ≡ cube → k < length xs → IsFree labels waiting held (get_or xs k d) → IsHeldBack cube labels waiting k held → IsHeldBack cube labels waiting (k + 1) held
-held_same xs cube labels waiting k held d e b at =
-    subst (λ (ys : List Lit). IsHeldBack ys labels waiting k held → IsHeldBack ys labels waiting (k + 1) held) e (λ h. record {
-      count = h.count;
-      free = λ j c. up_to (λ j. IsFree labels waiting held (get_or xs j c)) k (λ i l. h.free i c l) (subst (IsFree labels waiting held) (get_or_default xs k d c b) at) j;
-      held_back = h.held_back;
-    })
-
--- the lower label of the next literal is read
-pub placed_read : (xs cube : List Lit) (labels : List ℕ) (waiting : List Bool) (k first : ℕ) (d : Lit) → xs ≡ cube → k < length xs → length waiting ≡ length labels → CubeFits (length labels) cube → IsLabelling (length labels) cube first labels → get_or waiting (get_or labels (get_or xs k d).left 0) false ≡ false → IsPlaced waiting (get_or labels (get_or xs k d).left 0)
-placed_read xs cube labels waiting k first d e b as_many fits labelling p =
-    let f : CubeFits (length labels) xs = subst (CubeFits (length labels)) (sym e) fits in
-    let s = labelling.small (get_or xs k d).left (f k d b).0 in
-    let t : get_or labels (get_or xs k d).left 0 < length waiting = omega (arith, s, as_many) in
-    get_or_default waiting (get_or labels (get_or xs k d).left 0) true false t ∙ p
-
--- a mark is set
-module _ (held : List Bool) (u : ℕ) (l : u < length held) where
-  pub unmarked : (i : ℕ) → get_or (set held u true) i false ≡ false → (get_or held i false ≡ false) × (i ≢ u)
-  unmarked i h = go (cases_eq i u)
-    where
-      go : (i ≡ u) ⊎ (i ≡ u → ⊥) → (get_or held i false ≡ false) × (i ≢ u)
-      go (inl e) =
-          let t : get_or (set held u true) i false ≡ true = subst (λ j. get_or (set held u true) j false ≡ true) (sym e) (get_or-set_same held u true false l) in
-          absurd (cc)
-      go (inr ne) = (sym (get_or-set_other held u i true false ne) ∙ h, ne)
-
-  pub marked : (i : ℕ) → get_or (set held u true) i false ≡ true → (get_or held i false ≡ true) ⊎ (i ≡ u)
-  marked i h = go (cases_eq i u)
-    where
-      go : (i ≡ u) ⊎ (i ≡ u → ⊥) → (get_or held i false ≡ true) ⊎ (i ≡ u)
-      go (inl e) = inr e
-      go (inr ne) = inl (sym (get_or-set_other held u i true false ne) ∙ h)
-
-module _ (xs : List Lit) (labels : List ℕ) (waiting : List Bool) (k first : ℕ) (held : List Bool) (d : Lit) (b : k < length xs) (e : (get_or xs k d).op ≡ Lt) (as_many : length waiting ≡ length labels) (w : Waits waiting (get_or labels (get_or xs k d).left 0)) (fits : CubeFits (length labels) xs) (labelling : IsLabelling (length labels) xs first labels) (h : IsHeldBack xs labels waiting k held) where
-  abbrev lower : ℕ
-  lower = get_or labels (get_or xs k d).left 0
-
-  abbrev upper : ℕ
-  upper = get_or labels (get_or xs k d).right 0
-
-  upper_small : upper < length held
-  upper_small = let s = labelling.small (get_or xs k d).right (fits k d b).1 in omega (arith, s, h.count)
-
-  upper_waits : WaitsOnAnother xs waiting upper
-  upper_waits =
-      let s = labelling.small (get_or xs k d).left (fits k d b).0 in
-      let t : lower < length waiting = omega (arith, s, as_many) in
-      (lower, t, w, follows_below xs (get_or xs k d).left lower (get_or xs k d).right upper (labelling.equal (get_or xs k d).left (fits k d b).0) (labelling.equal (get_or xs k d).right (fits k d b).1) (literal_follows xs k d Lt b e))
-
-  at_next : (c : Lit) → IsFree labels waiting (set held upper true) (get_or xs k c)
-  at_next c =
-      subst (IsFree labels waiting (set held upper true)) (get_or_default xs k d c b) (λ q f. absurd ((unmarked held upper upper_small upper f).1 refl))
-
-  waits_still : (i : ℕ) → (get_or held i false ≡ true) ⊎ (i ≡ upper) → WaitsOnAnother xs waiting i
-  waits_still i (inl m) = h.held_back i m
-  waits_still i (inr m) = subst (WaitsOnAnother xs waiting) (sym m) upper_waits
-
-  holding : IsHeldBack xs labels waiting (k + 1) (set held upper true)
-  holding = record {
-    count = length-set held upper true ∙ h.count;
-    free = λ j c. up_to (λ j. IsFree labels waiting (set held upper true) (get_or xs j c)) k (λ i l q f. h.free i c l q (unmarked held upper upper_small _ f).0) (at_next c) j;
-    held_back = λ i m. waits_still i (marked held upper upper_small i m);
-  }
-
--- the next literal sets a label above a waiting one
-pub held_more : (xs cube : List Lit) (labels : List ℕ) (waiting : List Bool) (k first : ℕ) (held : List Bool) (d : Lit) → xs ≡ cube → k < length xs → (get_or xs k d).op ≡ Lt → length waiting ≡ length labels → Waits waiting (get_or labels (get_or xs k d).left 0) → CubeFits (length labels) cube → IsLabelling (length labels) cube first labels → IsHeldBack cube labels waiting k held → IsHeldBack cube labels waiting (k + 1) (set held (get_or labels (get_or xs k d).right 0) true)
-held_more xs cube labels waiting k first held d e b q as_many w =
-    subst (λ (ys : List Lit). CubeFits (length labels) ys → IsLabelling (length labels) ys first labels → IsHeldBack ys labels waiting k held → IsHeldBack ys labels waiting (k + 1) (set held (get_or labels (get_or xs k d).right 0) true)) e (holding xs labels waiting k first held d b q as_many w)
+use Rattle.lois_deciders.proofs.Ranking.{Waits, IsPlaced, IsLowest, EachWaitsOnAnother, one_where, IsRanking}
+use Rattle.lois_deciders.proofs.Following.{not_true}
 
 -- ---- the `<` go round
 below_numbers : (m n : ℕ) → IsTrue (below (whole m) (whole n)) → m < n

@@ -1,8 +1,8 @@
 -- Answers that are right for questions that are equal.
-use Rattle.std.proofs.Common.{◌≡◌, ℕ, ◌-◌, ◌+◌, ◌<◌, ◌⊎◌, inl, inr, Bool, true, false, not, ◌&&◌, List, [], ◌∷◌, length, get_or, take, eqb, Option, Some, None, Result, Ok, Err, OnOk, OnErr, IfSome, IsNone, ◌↔◌, refl, sym, ap, ◌∙◌, subst, arith, rules, length-take}
+use Rattle.std.proofs.Common.{◌≡◌, ℕ, ◌-◌, ◌<◌, ◌⊎◌, inl, inr, Bool, true, false, not, ◌&&◌, List, [], ◌∷◌, length, get_or, take, eqb, Option, Some, None, Result, Ok, Err, OnOk, OnErr, IfSome, IsNone, ◌↔◌, refl, sym, ◌∙◌, subst, arith, rules, length-take}
 use Rattle.std.proofs.lemmas.Bool.{eqb-true}
 use Rattle.std.proofs.lemmas.List.{get_or-take}
-use Rattle.std.proofs.lemmas.List.Elements.{All-contains, Contains-get_or, All-take}
+use Rattle.std.proofs.lemmas.List.Elements.{All-contains, Contains-get_or}
 use Rattle.std.proofs.lemmas.List.Sorted.{All-permutation, IsPermutation-sym}
 use Rattle.std.proofs.lemmas.List.Sums.{AllPass-from_list_all, list_all-from_AllPass}
 use Rattle.std.specs.Bool.{IsTrue}
@@ -15,7 +15,7 @@ use Rattle.std.specs.Option.{option_map}
 use denote.Enum.Bare.{sameb, same_true}
 use Rattle.lois_base.specs.contracts.guards.Op.{the_type}
 use Rattle.lois_base.specs.Atom.{Atom}
-use Rattle.lois_base.specs.Theory.{IsSatisfiable, IsSampleOf}
+use Rattle.lois_base.specs.Theory.{IsSampleOf}
 use Rattle.lois_base.specs.Truth.{lit_holds, cube_holds, sampled}
 use Rattle.lois_base.specs.declared.guards.Lit.{Lit}
 use Rattle.lois_base.specs.declared.guards.Op.{Op}

@@ -1,18 +1,15 @@
 -- Levels eliminated one after another.
-use Rattle.std.proofs.Common.{◌≡◌, ℕ, zero, suc, ◌+◌, ◌-◌, ◌<◌, ◌≤◌, ◌⊎◌, inl, inr, Bool, true, false, ◌||◌, ◌↔◌, List, [], ◌∷◌, ◌++◌, length, get_or, take, refl, sym, ap, ◌∙◌, subst, arith, length-append}
+use Rattle.std.proofs.Common.{◌≡◌, ℕ, zero, suc, ◌+◌, ◌-◌, ◌<◌, ◌≤◌, ◌⊎◌, inl, inr, Bool, true, false, ◌||◌, List, [], ◌∷◌, ◌++◌, length, get_or, take, refl, sym, ap, ◌∙◌, subst, arith, length-append}
 use Rattle.std.proofs.lemmas.List.{get_or_append_left, get_or_push, get_or_default}
 use Rattle.std.proofs.lemmas.Bool.{cases_lt}
-use Rattle.std.proofs.lemmas.List.Elements.{All-append}
-use Rattle.std.proofs.lemmas.List.Folds.{list_any-append, list_any_more}
+use Rattle.std.proofs.lemmas.List.Folds.{list_any_more}
 use Rattle.std.specs.Bool.{IsTrue, IsFalse}
-use Rattle.std.specs.List.{All}
 use Rattle.lois_base.specs.Atom.{Atom}
-use Rattle.lois_base.specs.Fits.{CubeFits, ConstraintFits}
-use Rattle.lois_base.specs.Theory.{Eliminates, IsSatisfiable, IsSampleOf}
+use Rattle.lois_base.specs.Fits.{ConstraintFits}
+use Rattle.lois_base.specs.Theory.{Eliminates, IsSatisfiable}
 use Rattle.lois_base.specs.Truth.{cube_holds, holds, sampled}
 use Rattle.lois_base.specs.declared.guards.Lit.{Lit}
 use Rattle.lois_deciders.specs.Asked.{CanBeMet}
-use Rattle.lois_deciders.specs.Labels.{IsUnmet}
 use Rattle.lois_deciders.specs.Stages.{SomeAtomMeets, HoldsForSome, AreStages}
 
 either : (p q : Bool) → IsTrue (p || q) → IsTrue p ⊎ IsTrue q

@@ -1,5 +1,5 @@
 -- Answers that are kept.
-use Rattle.std.specs.Prelude.{ℕ, List, Option}
+use Rattle.std.specs.Prelude.{ℕ, Option}
 use Rattle.std.specs.Global.{Vec}
 use Rattle.std.specs.Option.{ForSome, ForNone}
 use Rattle.lois_base.specs.Theory.{IsSampleOf}

@@ -1,62 +1,42 @@
 -- Numbers for the labels of levels.
-use Rattle.std.specs.Prelude.{◌≡◌, ℕ, ◌+◌, ◌<◌, Bool, true, false, List, length, get_or, cond}
-use Rattle.std.specs.List.{All, sum_by}
+use Rattle.std.specs.Prelude.{◌≡◌, ℕ, ◌<◌, ◌⊎◌, Bool, ◌&&◌, ◌==◌, List, length, get_or, map, Contains}
+use Rattle.std.specs.Global.{Vec}
+use Rattle.std.specs.List.{All, AllPairs, count_by, filter}
 use Rattle.lois_base.specs.declared.guards.Lit.{Lit}
 use Rattle.lois_base.specs.declared.guards.Op.TheVariants.{Lt}
-use Rattle.lois_deciders.specs.Labels.{Follows}
+use Rattle.lois_constraint.specs.Steps.{is_step}
 
-abbrev pub Waits : List Bool → ℕ → Type 0
-Waits waiting i = get_or waiting i true ≡ true
+-- the literal sets a label below the label y
+abbrev pub is_step_to : List ℕ → ℕ → Lit → Bool
+is_step_to labels y l = is_step l.op && get_or labels l.right 0 == y
 
-abbrev pub IsPlaced : List Bool → ℕ → Type 0
-IsPlaced waiting i = get_or waiting i true ≡ false
+abbrev pub is_step_from : List ℕ → ℕ → Lit → Bool
+is_step_from labels x l = is_step l.op && get_or labels l.left 0 == x
 
--- where the literal sets labels below a label that isn't held back, the lower one is placed
-abbrev pub IsFree : List ℕ → List Bool → List Bool → Lit → Type 0
-IsFree labels waiting held l =
-    l.op ≡ Lt → get_or held (get_or labels l.right 0) false ≡ false → IsPlaced waiting (get_or labels l.left 0)
+-- for each label the upper labels of the `<` that begin there
+pub record AreAbove (labels : List ℕ) (cube : List Lit) (above : List (Vec ℕ)) : Type 0 where
+  pub count : length above ≡ length labels
+  pub uppers : (x : ℕ) (d : Vec ℕ) → x < length labels → (get_or above x d).items ≡ map (λ l. get_or labels l.right 0) (filter (is_step_from labels x) cube)
 
--- some level below i waits
-abbrev pub WaitsOnAnother : List Lit → List Bool → ℕ → Type 0
-WaitsOnAnother cube waiting i =
-    (j : ℕ) × (j < length waiting) × Waits waiting j × Follows cube Lt j i
+abbrev pub occurrences : ℕ → List ℕ → ℕ
+occurrences y = count_by (λ x. x == y)
 
--- by the first literals, the labels that are held back
-pub record IsHeldBack (cube : List Lit) (labels : List ℕ) (waiting : List Bool) (first : ℕ) (held : List Bool) : Type 0 where
-  pub count : length held ≡ length labels
-  pub free : (k : ℕ) (d : Lit) → k < first → IsFree labels waiting held (get_or cube k d)
-  pub held_back : (i : ℕ) → get_or held i false ≡ true → WaitsOnAnother cube waiting i
+-- the labels to which no step leads, each once
+pub record AreUnheld (steps : List ℕ) (unheld : List ℕ) : Type 0 where
+  pub free : All (λ z. (z < length steps) × (get_or steps z 0 ≡ 0)) unheld
+  pub found : (z : ℕ) → z < length steps → get_or steps z 0 ≡ 0 → Contains unheld z
+  pub distinct : AllPairs (λ y z. y ≡ z → ⊥) unheld
 
--- what sets a label below the level is placed
-abbrev pub IsAbovePlaced : List ℕ → List Bool → ℕ → Lit → Type 0
-IsAbovePlaced labels waiting i l =
-    l.op ≡ Lt → get_or labels l.right 0 ≡ i → IsPlaced waiting (get_or labels l.left 0)
+-- the last step to the label has gone
+abbrev pub IsReleasedLabel : List ℕ → List ℕ → ℕ → Type 0
+IsReleasedLabel old new z = (0 < get_or old z 0) × (get_or new z 0 ≡ 0)
 
-pub record IsLowest (cube : List Lit) (labels : List ℕ) (waiting : List Bool) (i : ℕ) : Type 0 where
-  pub level : i < length labels
-  pub waits : Waits waiting i
-  pub lowest : All (IsAbovePlaced labels waiting i) cube
-
-abbrev pub EachWaitsOnAnother : List Lit → List Bool → Type 0
-EachWaitsOnAnother cube waiting =
-    (i : ℕ) → i < length waiting → Waits waiting i → WaitsOnAnother cube waiting i
-
-abbrev pub one_where : Bool → ℕ
-one_where b = cond b 1 0
-
--- where the upper label of a `<` is placed the lower is placed before it
-abbrev pub IsOrdered : List ℕ → List Bool → List ℕ → Lit → Type 0
-IsOrdered labels waiting ranks l =
-    l.op ≡ Lt → IsPlaced waiting (get_or labels l.right 0) → IsPlaced waiting (get_or labels l.left 0) × (get_or ranks (get_or labels l.left 0) 0 < get_or ranks (get_or labels l.right 0) 0)
-
--- the placed levels have different ranks below `next`, in the order of the cube
-pub record IsRanking (cube : List Lit) (labels : List ℕ) (waiting : List Bool) (ranks : List ℕ) (next : ℕ) : Type 0 where
-  pub rank_count : length ranks ≡ length labels
-  pub waiting_count : length waiting ≡ length labels
-  pub small : (i : ℕ) → i < length labels → IsPlaced waiting i → get_or ranks i 0 < next
-  pub apart : (i j : ℕ) → i < length labels → j < length labels → IsPlaced waiting i → IsPlaced waiting j → get_or ranks i 0 ≡ get_or ranks j 0 → i ≡ j
-  pub ordered : All (IsOrdered labels waiting ranks) cube
-  pub left : sum_by one_where waiting + next ≡ length labels
+-- the labels whose last step has gone are put to the others, each once
+pub record IsReleased (old new unheld next : List ℕ) : Type 0 where
+  pub keeps : All (Contains next) unheld
+  pub added : All (λ z. Contains unheld z ⊎ IsReleasedLabel old new z) next
+  pub found : (z : ℕ) → IsReleasedLabel old new z → Contains next z
+  pub distinct : AllPairs (λ y z. y ≡ z → ⊥) unheld → All (λ z. get_or old z 0 ≡ 0) unheld → AllPairs (λ y z. y ≡ z → ⊥) next
 
 -- the upper label of a `<` has the greater rank
 abbrev pub IsRankedUp : List ℕ → List ℕ → Lit → Type 0

@@ -1,10 +1,9 @@
-use Rattle.std.proofs.Common.{◌≡◌, ◌+◌, ◌-◌, List, [], ◌∷◌, ◌++◌, length, get_or, sym, ap, ◌∙◌, subst, arith}
+use Rattle.std.proofs.Common.{◌≡◌, ◌+◌, ◌-◌, [], ◌∷◌, ◌++◌, length, get_or, sym, ap, ◌∙◌, subst, arith}
 use Rattle.std.proofs.lemmas.List.{length-map}
-use Rattle.std.specs.Bool.{IsTrue, IsFalse}
-use Rattle.lois_base.specs.Atom.{Atom, whole}
+use Rattle.std.specs.Bool.{IsFalse}
+use Rattle.lois_base.specs.Atom.{whole}
 use Rattle.lois_base.specs.Fits.{ConstraintFits}
 use Rattle.lois_base.specs.Truth.{holds, sampled}
-use Rattle.lois_base.specs.declared.guards.Lit.{Lit}
 use Rattle.lois_deciders.proofs.Staged.{never_met, no_atom_is_absurd, stage_read, one_cube_met}
 use Rattle.lois_deciders.proofs.plain.sample.Goals as goal
 

@@ -1,5 +1,6 @@
-use Rattle.lois_deciders.specs.Ranks.{IsRanking}
+use Rattle.std.proofs.Common.{Bool, List}
+use Rattle.lois_deciders.proofs.Queued.{IsQueue}
 use Rattle.lois_deciders.proofs.ranks.ranked.Given as goal
 
 abbrev pub invariant-loop-rank : goal.invariant-loop-rank
-invariant-loop-rank l = IsRanking l.cube l.labels l.waiting.items l.ranks.items l.rank
+invariant-loop-rank l = (waiting : List Bool) × IsQueue l.cube l.labels l.steps.items l.unheld.items l.ranks.items l.rank waiting

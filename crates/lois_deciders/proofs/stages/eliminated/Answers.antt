@@ -1,6 +1,5 @@
-use Rattle.std.proofs.Common.{◌≡◌, ◌+◌, ◌-◌, List, [], ◌∷◌, get_or, sym, subst, arith}
+use Rattle.std.proofs.Common.{◌≡◌, ◌+◌, ◌-◌, [], ◌∷◌, get_or, sym, subst, arith}
 use Rattle.lois_base.specs.Fits.{ConstraintFits}
-use Rattle.lois_base.specs.declared.guards.Lit.{Lit}
 use Rattle.lois_deciders.specs.Stages.{HoldsForSome, AreStages}
 use Rattle.lois_deciders.proofs.Staged.{one_stage_more, stage_read}
 use Rattle.lois_deciders.proofs.stages.eliminated.Goals as goal
