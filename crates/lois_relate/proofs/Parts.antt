@@ -4,7 +4,7 @@ use Rattle.std.proofs.lemmas.List.{drop_all}
 use Rattle.lois_base.specs.Data.{TermD, TermsD, no_terms, term, terms_of, CompD, CompsD, no_comps, more, comps_of, depth, depth_of_terms, depth_of_comps}
 use Rattle.lois_base.specs.Fits.{Fits, PartsFit, CompFits, ItemsFit}
 use Rattle.lois_base.specs.Tree.{tree, comp_of}
-use Rattle.lois_base.specs.Validity.{AdmitsTerm, AdmitsParts, AdmitsComp, AdmitsItems}
+use Rattle.lois_base.specs.Validity.{AdmitsTerm, AdmitsParts, AdmitsComp, AdmitsItems, HasUsualWidths, PartsHaveUsualWidths, CompHasUsualWidths, ItemsHaveUsualWidths}
 use Rattle.lois_base.specs.declared.values.Comp.{Comp}
 use Rattle.lois_base.specs.declared.values.Term.{Term}
 use Rattle.lois_relate.proofs.Loops.{rest_is}
@@ -35,7 +35,7 @@ module _ (P : TermD → Type 0) (Each : TermsD → Type 0) (split : (t : TermD) 
   part_at (t ∷ ts) zero d l h = (split (tree t) (terms_of (map tree ts)) h).0
   part_at (t ∷ ts) (suc i) d l h = part_at ts i d (omega arith) (split (tree t) (terms_of (map tree ts)) h).1
 
-  part_has : (ts : List Term) (vs : List TermD) (i : ℕ) (t : Term) → map tree ts ≡ vs → i < length ts → t ≡ get_or ts i t → Each (terms_of vs) → P (tree t)
+  pub part_has : (ts : List Term) (vs : List TermD) (i : ℕ) (t : Term) → map tree ts ≡ vs → i < length ts → t ≡ get_or ts i t → Each (terms_of vs) → P (tree t)
   part_has ts vs i t m l e h =
       subst (λ u. P (tree u)) (sym e) (part_at ts i t l (subst (λ v. Each (terms_of v)) (sym m) h))
 
@@ -45,7 +45,7 @@ module _ (P : CompD → Type 0) (Each : CompsD → Type 0) (split : (k : CompD) 
   comp_at (k ∷ ks) zero d l h = (split (comp_of k) (comps_of (map comp_of ks)) h).0
   comp_at (k ∷ ks) (suc i) d l h = comp_at ks i d (omega arith) (split (comp_of k) (comps_of (map comp_of ks)) h).1
 
-  comp_has : (ks : List Comp) (vs : List CompD) (i : ℕ) (k : Comp) → map comp_of ks ≡ vs → i < length ks → k ≡ get_or ks i k → Each (comps_of vs) → P (comp_of k)
+  pub comp_has : (ks : List Comp) (vs : List CompD) (i : ℕ) (k : Comp) → map comp_of ks ≡ vs → i < length ks → k ≡ get_or ks i k → Each (comps_of vs) → P (comp_of k)
   comp_has ks vs i k m l e h =
       subst (λ u. P (comp_of u)) (sym e) (comp_at ks i k l (subst (λ v. Each (comps_of v)) (sym m) h))
 
@@ -54,11 +54,13 @@ pub record IsPartOf (vs : List TermD) (t : Term) : Type 0 where
   pub depth : depth (tree t) ≤ depth_of_terms vs
   pub fits : (n : ℕ) → PartsFit n (terms_of vs) → Fits n (tree t)
   pub admits : (o : Bool) → AdmitsParts o (terms_of vs) → AdmitsTerm o (tree t)
+  pub widths : PartsHaveUsualWidths (terms_of vs) → HasUsualWidths (tree t)
 
 pub record IsCompOf (vs : List CompD) (k : Comp) : Type 0 where
   pub depth : depth (tree k.item) ≤ depth_of_comps vs
   pub fits : (n : ℕ) → ItemsFit n (comps_of vs) → CompFits n (comp_of k)
   pub admits : (o : Bool) → AdmitsItems o (comps_of vs) → AdmitsComp o (comp_of k)
+  pub widths : ItemsHaveUsualWidths (comps_of vs) → CompHasUsualWidths (comp_of k)
 
 depth_at : (ts : List Term) (i : ℕ) (d : Term) → i < length ts → depth (tree (get_or ts i d)) ≤ depth_of_terms (map tree ts)
 depth_at [] i d l = omega arith
@@ -75,6 +77,7 @@ is_part_of ts vs i t m l e = record {
   depth = subst (λ v. depth (tree t) ≤ depth_of_terms v) m (subst (λ u. depth (tree u) ≤ depth_of_terms (map tree ts)) (sym e) (depth_at ts i t l));
   fits = λ n h. part_has (λ x. Fits n x) (λ x. PartsFit n x) (λ x xs p. p) ts vs i t m l e h;
   admits = λ o h. part_has (λ x. AdmitsTerm o x) (λ x. AdmitsParts o x) (λ x xs p. p) ts vs i t m l e h;
+  widths = λ h. part_has HasUsualWidths PartsHaveUsualWidths (λ x xs p. p) ts vs i t m l e h;
 }
 
 pub is_comp_of : (ks : List Comp) (vs : List CompD) (i : ℕ) (k : Comp) → map comp_of ks ≡ vs → i < length ks → k ≡ get_or ks i k → IsCompOf vs k
@@ -82,6 +85,7 @@ is_comp_of ks vs i k m l e = record {
   depth = subst (λ v. depth (tree k.item) ≤ depth_of_comps v) m (subst (λ u. depth (tree u.item) ≤ depth_of_comps (map comp_of ks)) (sym e) (item_depth_at ks i k l));
   fits = λ n h. comp_has (λ x. CompFits n x) (λ x. ItemsFit n x) (λ x xs p. p) ks vs i k m l e h;
   admits = λ o h. comp_has (λ x. AdmitsComp o x) (λ x. AdmitsItems o x) (λ x xs p. p) ks vs i k m l e h;
+  widths = λ h. comp_has CompHasUsualWidths ItemsHaveUsualWidths (λ x xs p. p) ks vs i k m l e h;
 }
 
 pub as_many_items : (ts us : List Term) (vs ws : List TermD) → map tree ts ≡ vs → map tree us ≡ ws → length vs ≡ length ws → length ts ≡ length us

@@ -1,4 +1,4 @@
-//! Formulas put together from smaller ones. What is true or false everywhere is absorbed.
+//! Formulas put together from smaller ones. What is seen to be true or false everywhere is absorbed.
 
 ghost use Rattle.std.specs.Prelude.{◌≡◌, IfOk, IsTrue, ◌↔◌, [], ◌∷◌};
 ghost use Rattle.lois_base.specs.FormulaData.{all, any, no_formulas};
@@ -8,20 +8,21 @@ ghost use Rattle.lois_relate.specs.Built.{IsBoth, IsEither, IsNegation, IsImplie
 use lois_base::{Formula, Formulas, NoMemory};
 use std::alloc::Global;
 
-// True at each choice.
+/// True at each choice.
 pub fn always(alloc: Global) -> Formula
     ensures { view result ≡ all no_formulas }
 {
     Formula::All(Formulas::new(alloc))
 }
 
-// False at each choice.
+/// False at each choice.
 pub fn never(alloc: Global) -> Formula
     ensures { view result ≡ any no_formulas }
 {
     Formula::Any(Formulas::new(alloc))
 }
 
+/// Whether the formula is written as `always` is.
 pub fn is_always(f: &Formula) -> bool
     ensures { IsTrue result ↔ (view f.now ≡ all no_formulas) }
 {
@@ -31,6 +32,7 @@ pub fn is_always(f: &Formula) -> bool
     }
 }
 
+/// Whether the formula is written as `never` is.
 pub fn is_never(f: &Formula) -> bool
     ensures { IsTrue result ↔ (view f.now ≡ any no_formulas) }
 {
@@ -40,6 +42,7 @@ pub fn is_never(f: &Formula) -> bool
     }
 }
 
+/// Where both hold.
 pub fn both(alloc: Global, f: Formula, g: Formula) -> Result<Formula, NoMemory>
     ensures { IfOk result (λ r. IsBoth (view f) (view g) (view r)) }
 {
@@ -70,6 +73,7 @@ fn joined_by_all(alloc: Global, f: Formula, g: Formula) -> Result<Formula, NoMem
     }
 }
 
+/// Where one of them holds.
 pub fn either(alloc: Global, f: Formula, g: Formula) -> Result<Formula, NoMemory>
     ensures { IfOk result (λ r. IsEither (view f) (view g) (view r)) }
 {
@@ -109,6 +113,7 @@ fn pair(alloc: Global, f: Formula, g: Formula) -> Result<Formulas, NoMemory>
     Ok(parts)
 }
 
+/// Where the formula doesn't hold.
 pub fn negated(alloc: Global, f: Formula) -> Result<Formula, NoMemory>
     ensures { IfOk result (λ r. IsNegation (view f) (view r)) }
 {
@@ -121,7 +126,7 @@ pub fn negated(alloc: Global, f: Formula) -> Result<Formula, NoMemory>
     Ok(Formula::Not(f.boxed(alloc)?))
 }
 
-// Where the first holds, so does the second.
+/// Where the second holds, or the first doesn't.
 pub fn implied(alloc: Global, f: Formula, g: Formula) -> Result<Formula, NoMemory>
     ensures { IfOk result (λ r. IsImplied (view f) (view g) (view r)) }
 {
@@ -129,7 +134,7 @@ pub fn implied(alloc: Global, f: Formula, g: Formula) -> Result<Formula, NoMemor
     either(alloc, absent, g)
 }
 
-// For some atoms at the `count` highest levels.
+/// For some atoms at the `count` highest levels.
 pub fn for_some(alloc: Global, f: Formula, count: usize) -> Result<Formula, NoMemory>
     ensures { IfOk result (λ r. IsForSome count (view f) (view r)) }
 {

@@ -1,7 +1,7 @@
 //! Equality, membership and inclusion of the values of terms, as formulas.
 #![tactic(auto)]
 
-mod building;
+pub mod building;
 mod matching;
 mod naming;
 mod relating;

@@ -2,7 +2,7 @@
 
 use crate::{equal_formula, included_formula, member_formula};
 use lois_base::{
-    Comp, Comps, Constraint, Cube, Formula, Lit, Name, NoMemory, Op, Term, Terms, is_name,
+    Comp, Comps, Constraint, Cube, Formula, Formulas, Lit, Name, NoMemory, Op, Term, Terms, is_name,
 };
 use std::alloc::Global;
 use std::process::Abort;
@@ -23,38 +23,43 @@ fn literal_holds(lit: Lit, choice: &[u64]) -> bool {
 }
 
 #[cycle(trying)]
-fn holds(f: &Formula, choice: &mut Vec<u64>) -> Result<bool, NoMemory> {
+fn holds(f: &Formula, choice: &[u64], alloc: Global) -> Result<bool, NoMemory> {
     match f {
         Formula::Lit(lit) => Ok(literal_holds(*lit, choice)),
-        Formula::All(parts) => {
-            for part in parts.as_slice() {
-                if !holds(part, choice)? {
-                    return Ok(false);
-                }
-            }
-            Ok(true)
-        }
-        Formula::Any(parts) => {
-            for part in parts.as_slice() {
-                if holds(part, choice)? {
-                    return Ok(true);
-                }
-            }
-            Ok(false)
-        }
-        Formula::Not(body) => Ok(!holds(body, choice)?),
-        Formula::Exists(body) => holds_for_some(body, choice, true),
-        Formula::Forall(body) => Ok(!holds_for_some(body, choice, false)?),
+        Formula::All(parts) => Ok(!some_is(parts, choice, alloc, false)?),
+        Formula::Any(parts) => some_is(parts, choice, alloc, true),
+        Formula::Not(body) => Ok(!holds(body, choice, alloc)?),
+        Formula::Exists(body) => is_for_some(body, choice, alloc, true),
+        Formula::Forall(body) => Ok(!is_for_some(body, choice, alloc, false)?),
     }
 }
 
 #[cycle(trying)]
-fn holds_for_some(body: &Formula, choice: &mut Vec<u64>, wanted: bool) -> Result<bool, NoMemory> {
+fn some_is(
+    parts: &Formulas,
+    choice: &[u64],
+    alloc: Global,
+    wanted: bool,
+) -> Result<bool, NoMemory> {
+    for part in parts.as_slice() {
+        if holds(part, choice, alloc)? == wanted {
+            return Ok(true);
+        }
+    }
+    Ok(false)
+}
+
+#[cycle(trying)]
+fn is_for_some(
+    body: &Formula,
+    choice: &[u64],
+    alloc: Global,
+    wanted: bool,
+) -> Result<bool, NoMemory> {
     for atom in 0..ATOMS {
-        choice.push(atom)?;
-        let found = holds(body, choice)?;
-        let _ = choice.pop();
-        if found == wanted {
+        let mut longer = Vec::from_slice(alloc, choice)?;
+        longer.push(atom)?;
+        if holds(body, longer.as_slice(), alloc)? == wanted {
             return Ok(true);
         }
     }
@@ -154,9 +159,9 @@ fn pair(alloc: Global, first: Term, second: Term) -> Result<Term, NoMemory> {
 // Where the formula holds: `$0` below, at and above `$1`.
 fn truths(alloc: Global, f: &Formula) -> Result<[bool; 3], NoMemory> {
     Ok([
-        holds(f, &mut Vec::from_slice(alloc, &[8, 16])?)?,
-        holds(f, &mut Vec::from_slice(alloc, &[8, 8])?)?,
-        holds(f, &mut Vec::from_slice(alloc, &[16, 8])?)?,
+        holds(f, &[8, 16], alloc)?,
+        holds(f, &[8, 8], alloc)?,
+        holds(f, &[16, 8], alloc)?,
     ])
 }
 
