@@ -1,0 +1,9 @@
+pub mod Lookup
+pub mod Kept
+pub mod Alike
+pub mod Walked
+pub mod Declared
+pub mod Lists
+pub mod Nodes
+pub mod Loops
+pub mod First

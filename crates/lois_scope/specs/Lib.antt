@@ -1,0 +1,4 @@
+pub mod InScope
+pub mod Breaks
+pub mod Walks
+pub mod Refusals

@@ -1,0 +1,24 @@
+-- What a refusal says of a script.
+use Rattle.std.specs.Prelude.{◌≡◌, ℕ}
+use Rattle.lois_meaning.specs.Scope.{RuleD, unknown, again, outer_assign, print_in_loop, order_in_equality, BreaksFirst}
+use Rattle.lois_meaning.specs.Tree.{ScriptD}
+use Rattle.lois_scope.specs.declared.checking.ScopeError.{ScopeError}
+use Rattle.lois_scope.specs.declared.checking.ScopeError.TheVariants.{Unknown, Again, OuterAssign, PrintInLoop, OrderInEquality, NoMemory}
+
+-- the refusal names this rule and this place, or there was no memory
+abbrev pub RefusesFor : RuleD → ℕ → ScopeError → Type 0
+RefusesFor rule at (Unknown p) = (rule ≡ unknown) × (at ≡ p.offset)
+RefusesFor rule at (Again p) = (rule ≡ again) × (at ≡ p.offset)
+RefusesFor rule at (OuterAssign p) = (rule ≡ outer_assign) × (at ≡ p.offset)
+RefusesFor rule at (PrintInLoop p) = (rule ≡ print_in_loop) × (at ≡ p.offset)
+RefusesFor rule at (OrderInEquality p) = (rule ≡ order_in_equality) × (at ≡ p.offset)
+RefusesFor rule at NoMemory = Unit {0}
+
+-- the rule that the refusal names is broken first, at its place
+abbrev pub Refuses : ScriptD → ScopeError → Type 0
+Refuses script (Unknown p) = BreaksFirst script unknown p.offset
+Refuses script (Again p) = BreaksFirst script again p.offset
+Refuses script (OuterAssign p) = BreaksFirst script outer_assign p.offset
+Refuses script (PrintInLoop p) = BreaksFirst script print_in_loop p.offset
+Refuses script (OrderInEquality p) = BreaksFirst script order_in_equality p.offset
+Refuses script NoMemory = Unit {0}
