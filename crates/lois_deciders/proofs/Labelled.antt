@@ -1,12 +1,12 @@
 -- How the levels of a cube are labelled.
-use Rattle.std.proofs.Common.{◌≡◌, ℕ, ◌+◌, ◌<◌, Bool, true, false, List, length, map, get_or, if◌then◌else◌, nat_eq, refl, sym, ap, ◌∙◌, subst, arith}
+use Rattle.std.proofs.Common.{◌≡◌, ℕ, ◌+◌, ◌<◌, inl, inr, Bool, true, false, List, length, map, get_or, if◌then◌else◌, nat_eq, refl, sym, ap, ◌∙◌, subst, arith}
 use Rattle.std.proofs.lemmas.Bool.{eqb-true}
 use Rattle.std.proofs.lemmas.List.{get_or-map, length-map, get_or_default}
 use Rattle.lois_base.specs.Fits.{CubeFits}
 use Rattle.lois_base.specs.declared.guards.Lit.{Lit}
 use Rattle.lois_base.specs.declared.guards.Op.TheVariants.{Eq, Ne}
 use Rattle.lois_constraint.specs.Substitution.{put_level}
-use Rattle.lois_deciders.specs.Labels.{IsLabelling, IsJoined, IsUnmet, Follows}
+use Rattle.lois_deciders.specs.Labels.{IsLabelling, IsJoined, IsUnmet, Follows, Joins}
 use Rattle.lois_deciders.proofs.Following.{up_to, literal_follows, follows_refl, follows_sym, follows_trans, no_both}
 
 pub own_labelling : (n : ℕ) (cube : List Lit) (labels : List ℕ) → length labels ≡ n → ((i : ℕ) → i < n → get_or labels i 0 ≡ i) → IsLabelling n cube 0 labels
@@ -52,30 +52,13 @@ module _ (x y : ℕ) where
   put_old : put_level x y x ≡ y
   put_old = grind arith
 
--- the next literal is an equation, and the label of its left level is put for that of its right level
-module _ (n : ℕ) (xs : List Lit) (k : ℕ) (labels : List ℕ) (d : Lit) (b : k < length xs) (e : (get_or xs k d).op ≡ Eq) (fits : CubeFits n xs) (h : IsLabelling n xs k labels) where
-  abbrev old : ℕ
-  old = get_or labels (get_or xs k d).right 0
-
-  abbrev new : ℕ
-  new = get_or labels (get_or xs k d).left 0
-
+-- the next literal is an equation, and the label of one of its levels is put for that of the other
+module _ (n : ℕ) (xs : List Lit) (k : ℕ) (labels : List ℕ) (d : Lit) (b : k < length xs) (fits : CubeFits n xs) (h : IsLabelling n xs k labels) (old new : ℕ) (new_small : new < n) (old_is_new : Follows xs Eq old new) (at_next : put_level old new (get_or labels (get_or xs k d).left 0) ≡ put_level old new (get_or labels (get_or xs k d).right 0)) where
   abbrev relabelled : List ℕ
   relabelled = map (put_level old new) labels
 
   label_put : (i : ℕ) → i < n → get_or relabelled i 0 ≡ put_level old new (get_or labels i 0)
   label_put i l = let m : i < length labels = omega (arith, h.count) in get_or-map (put_level old new) labels i 0 0 m
-
-  old_is_new : Follows xs Eq old new
-  old_is_new =
-      let l : Lit = get_or xs k d in
-      let left_new = h.equal l.left (fits k d b).0 in
-      let right_old = h.equal l.right (fits k d b).1 in
-      follows_trans xs old l.right new (follows_sym xs l.right old right_old) (follows_trans xs l.right l.left new (follows_sym xs l.left l.right (literal_follows xs k d Eq b e)) left_new)
-
-  at_next : get_or relabelled (get_or xs k d).left 0 ≡ get_or relabelled (get_or xs k d).right 0
-  at_next =
-      label_put (get_or xs k d).left (fits k d b).0 ∙ (put_new old new ∙ sym (label_put (get_or xs k d).right (fits k d b).1 ∙ put_old old new))
 
   before : (i : ℕ) (c : Lit) → i < k → IsJoined relabelled (get_or xs i c)
   before i c l = λ q.
@@ -83,33 +66,39 @@ module _ (n : ℕ) (xs : List Lit) (k : ℕ) (labels : List ℕ) (d : Lit) (b : 
       let s : i < length xs = omega (arith, l, b) in
       label_put m.left (fits i c s).0 ∙ (ap (put_level old new) (h.joined i c l q) ∙ sym (label_put m.right (fits i c s).1))
 
+  joined_now : get_or relabelled (get_or xs k d).left 0 ≡ get_or relabelled (get_or xs k d).right 0
+  joined_now =
+      label_put (get_or xs k d).left (fits k d b).0 ∙ (at_next ∙ sym (label_put (get_or xs k d).right (fits k d b).1))
+
   joined_labelling : IsLabelling n xs (k + 1) relabelled
   joined_labelling = record {
     count = length-map labels (put_level old new) ∙ h.count;
-    small = λ i l. let s : put_level old new (get_or labels i 0) < n = put_small old new n (get_or labels i 0) (h.small (get_or xs k d).left (fits k d b).0) (h.small i l) in subst (λ x. x < n) (sym (label_put i l)) s;
+    small = λ i l. let s : put_level old new (get_or labels i 0) < n = put_small old new n (get_or labels i 0) new_small (h.small i l) in subst (λ x. x < n) (sym (label_put i l)) s;
     equal = λ i l. subst (Follows xs Eq i) (sym (label_put i l)) (follows_trans xs i (get_or labels i 0) (put_level old new (get_or labels i 0)) (h.equal i l) (put_equal old new xs (get_or labels i 0) old_is_new));
-    joined = λ j c. up_to (λ j. IsJoined relabelled (get_or xs j c)) k (λ i l. before i c l) (subst (IsJoined relabelled) (get_or_default xs k d c b) (λ q. at_next)) j;
+    joined = λ j c. up_to (λ j. IsJoined relabelled (get_or xs j c)) k (λ i l. before i c l) (subst (IsJoined relabelled) (get_or_default xs k d c b) (λ q. joined_now)) j;
   }
 
--- what reading a label gives, in the way of the definitions
-read : (n : ℕ) (labels : List ℕ) (i x : ℕ) → i < n → length labels ≡ n → x ≡ get_or labels i x → x ≡ get_or labels i 0
-read n labels i x l e r = let m : i < length labels = omega (arith, l, e) in r ∙ get_or_default labels i x 0 m
+module _ (n : ℕ) (xs : List Lit) (k : ℕ) (labels : List ℕ) (d : Lit) (b : k < length xs) (e : (get_or xs k d).op ≡ Eq) (fits : CubeFits n xs) (h : IsLabelling n xs k labels) where
+  abbrev left : ℕ
+  left = get_or labels (get_or xs k d).left 0
 
-module _ (n : ℕ) (xs cube : List Lit) (k : ℕ) (labels : List ℕ) (old new : ℕ) (d : Lit) (e : xs ≡ cube) (b : k < length xs) (reads_old : old ≡ get_or labels (get_or xs k d).right old) (reads_new : new ≡ get_or labels (get_or xs k d).left new) where
-  pub labelling_joined : (next : List ℕ) → (get_or xs k d).op ≡ Eq → next ≡ map (put_level old new) labels → CubeFits n cube → IsLabelling n cube k labels → IsLabelling n cube (k + 1) next
-  labelling_joined next q p =
-      subst (λ (ys : List Lit). CubeFits n ys → IsLabelling n ys k labels → IsLabelling n ys (k + 1) next) e (λ fits h. let l : Lit = get_or xs k d in
-      let old_is = read n labels l.right old (fits k d b).1 h.count reads_old in
-      let new_is = read n labels l.left new (fits k d b).0 h.count reads_new in
-      let made : next ≡ map (put_level (get_or labels l.right 0) (get_or labels l.left 0)) labels = p ∙ (ap (λ x. map (put_level x new) labels) old_is ∙ ap (λ x. map (put_level (get_or labels l.right 0) x) labels) new_is) in
-      subst (IsLabelling n xs (k + 1)) (sym made) (joined_labelling n xs k labels d b q fits h))
+  abbrev right : ℕ
+  right = get_or labels (get_or xs k d).right 0
 
-  pub labelling_kept : old ≡ new → CubeFits n cube → IsLabelling n cube k labels → IsLabelling n cube (k + 1) labels
-  labelling_kept same fits h =
-      let fits' : CubeFits n xs = subst (CubeFits n) (sym e) fits in
-      let old_is = read n labels (get_or xs k d).right old (fits' k d b).1 h.count reads_old in
-      let new_is = read n labels (get_or xs k d).left new (fits' k d b).0 h.count reads_new in
-      labelling_same n xs cube k labels d e b (λ q. sym new_is ∙ (sym same ∙ old_is)) h
+  left_is_right : Follows xs Eq left right
+  left_is_right =
+      let l : Lit = get_or xs k d in
+      follows_trans xs left l.left right (follows_sym xs l.left left (h.equal l.left (fits k d b).0)) (follows_trans xs l.left l.right right (literal_follows xs k d Eq b e) (h.equal l.right (fits k d b).1))
+
+  either_way : (next : List ℕ) → Joins (get_or xs k d).left (get_or xs k d).right labels next → IsLabelling n xs (k + 1) next
+  either_way next (inl is) =
+      subst (IsLabelling n xs (k + 1)) (sym is) (joined_labelling n xs k labels d b fits h left right (h.small (get_or xs k d).right (fits k d b).1) left_is_right (put_old left right ∙ sym (put_new left right)))
+  either_way next (inr is) =
+      subst (IsLabelling n xs (k + 1)) (sym is) (joined_labelling n xs k labels d b fits h right left (h.small (get_or xs k d).left (fits k d b).0) (follows_sym xs left right left_is_right) (put_new right left ∙ sym (put_old right left)))
+
+pub labelling_joined : (n : ℕ) (xs cube : List Lit) (k : ℕ) (labels next : List ℕ) (d : Lit) → xs ≡ cube → k < length xs → (get_or xs k d).op ≡ Eq → Joins (get_or xs k d).left (get_or xs k d).right labels next → CubeFits n cube → IsLabelling n cube k labels → IsLabelling n cube (k + 1) next
+labelling_joined n xs cube k labels next d e b q j =
+    subst (λ (ys : List Lit). CubeFits n ys → IsLabelling n ys k labels → IsLabelling n ys (k + 1) next) e (λ fits h. either_way n xs k labels d b q fits h next j)
 
 -- a `!=` between levels of one label
 pub parted : (n first : ℕ) (xs cube : List Lit) (k : ℕ) (labels : List ℕ) (d : Lit) → xs ≡ cube → k < length xs → (get_or xs k d).op ≡ Ne → get_or labels (get_or xs k d).left 0 ≡ get_or labels (get_or xs k d).right 0 → CubeFits n cube → IsLabelling n cube first labels → IsUnmet n cube

@@ -1,5 +1,6 @@
 pub mod Following
 pub mod Labelled
+pub mod Classes
 pub mod Ranking
 pub mod Ranked
 pub mod Satisfied

@@ -1,14 +1,16 @@
 //! Levels that a cube's equations identify.
 
-ghost use Rattle.std.specs.Prelude.{◌≡◌, ℕ, ◌<◌, map, length, IfOk, IsTrue, IsFalse, slice_index};
+ghost use Rattle.std.specs.Prelude.{◌≡◌, ℕ, ◌<◌, [], ◌∷◌, map, length, get_or, IfOk, OnOk, IsTrue, IsFalse, slice_index};
+ghost use Rattle.std.specs.Global.{Vec};
 ghost use Rattle.std.specs.List.{All};
 ghost use Rattle.lois_base.specs.Fits.{CubeFits};
 ghost use Rattle.lois_base.specs.declared.guards.Op.TheVariants.{Ne};
 ghost use Rattle.lois_constraint.specs.Substitution.{put_level};
-ghost use Rattle.lois_deciders.specs.Labels.{IsLabelling, IsUnmet, IsKeptApart};
+ghost use Rattle.lois_deciders.specs.Labels.{IsLabelling, IsUnmet, IsKeptApart, AreClasses, Joins};
 
 use lois_base::{Cube, NoMemory, Op};
 use std::alloc::Global;
+use std::mem;
 
 fn own_labels(alloc: Global, size: usize) -> Result<Vec<usize>, NoMemory>
     ensures count { IfOk result (λ r. length r.items ≡ size) }
@@ -21,19 +23,67 @@ fn own_labels(alloc: Global, size: usize) -> Result<Vec<usize>, NoMemory>
     Ok(labels)
 }
 
-fn relabelled(
+// Each level in a class of its own.
+fn own_classes(alloc: Global, size: usize) -> Result<Vec<Vec<usize>>, NoMemory>
+    ensures count { IfOk result (λ r. length r.items ≡ size) }
+    ensures own { IfOk result (λ r. (i : ℕ) (d : Vec ℕ) → i < size → (get_or r.items i d).items ≡ i ∷ []) }
+{
+    let mut classes = Vec::with_capacity(alloc, size)?;
+    for level in 0..size {
+        let class = vec![in alloc; level]?;
+        classes.push(class)?;
+    }
+    Ok(classes)
+}
+
+// The levels labelled `old` get the label `new`.
+fn move_class(
     alloc: Global,
-    labels: &[usize],
+    labels: &mut Vec<usize>,
+    classes: &mut Vec<Vec<usize>>,
     old: usize,
     new: usize,
-) -> Result<Vec<usize>, NoMemory>
-    ensures { IfOk result (λ r. r.items ≡ map (put_level old new) labels.now) }
+) -> Result<(), NoMemory>
+    requires classes { AreClasses labels.old.items classes.old.items }
+    requires old { old < length labels.old.items }
+    requires new { new < length labels.old.items }
+    requires apart { old ≡ new → ⊥ }
+    ensures labels { OnOk result (labels.new.items ≡ map (put_level old new) labels.old.items) }
+    ensures classes { OnOk result (AreClasses labels.new.items classes.new.items) }
 {
-    let relabelled = labels
-        .iter()
-        .map(|label| if *label == old { new } else { *label })
-        .collect(alloc)?;
-    Ok(relabelled)
+    let levels = mem::replace(&mut classes[old], Vec::new(alloc));
+    for level in &levels {
+        labels[*level] = new;
+    }
+    classes[new].extend_from_slice(&levels)?;
+    Ok(())
+}
+
+// One label for both levels, which is that of the larger class.
+fn join(
+    alloc: Global,
+    labels: &mut Vec<usize>,
+    classes: &mut Vec<Vec<usize>>,
+    left: usize,
+    right: usize,
+) -> Result<(), NoMemory>
+    requires classes { AreClasses labels.old.items classes.old.items }
+    requires left { left < length labels.old.items }
+    requires right { right < length labels.old.items }
+    ensures joined { OnOk result (Joins left right labels.old.items labels.new.items) }
+    ensures classes { OnOk result (AreClasses labels.new.items classes.new.items) }
+{
+    let first = labels[left];
+    let second = labels[right];
+    if first == second {
+        return Ok(());
+    }
+    if classes[first].len() < classes[second].len() {
+        move_class(alloc, labels, classes, first, second)?;
+    } else {
+        move_class(alloc, labels, classes, second, first)?;
+    }
+    Ok(())
 }
 
 /// One of the levels for each level, the same for those that the cube's equations identify.
@@ -42,13 +92,10 @@ pub fn labelled(alloc: Global, cube: &Cube, size: usize) -> Result<Vec<usize>, N
     ensures { IfOk result (λ r. IsLabelling size cube.now (length cube.now) r.items) }
 {
     let mut labels = own_labels(alloc, size)?;
+    let mut classes = own_classes(alloc, size)?;
     for lit in cube.as_slice() {
         if lit.op == Op::Eq {
-            let old = labels[lit.right];
-            let new = labels[lit.left];
-            if old != new {
-                labels = relabelled(alloc, &labels, old, new)?;
-            }
+            join(alloc, &mut labels, &mut classes, lit.left, lit.right)?;
         }
     }
     Ok(labels)
