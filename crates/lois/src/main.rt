@@ -1,18 +1,36 @@
 //! The program `lois`: it runs the script on standard input, and writes what it comes to on standard output.
 #![tactic(auto)]
 
+use lois_base::{Decider, NoMemory};
+use lois_deciders::{GraphDecider, MemoDecider, PlainDecider};
 use lois_outside::{StdSink, StdSource};
 use lois_run::lois;
+use std::alloc::Global;
 use std::process::ExitCode;
 use std::{env, io};
 
 const NO_MEMORY: u8 = 8;
+
+/// How many answers the decider that keeps them may keep.
+const KEPT_ANSWERS: usize = 4096;
 
 // The words after the program's name.
 fn words(rt: &HostRuntime) -> io::Result<Vec<String>> {
     let mut words = env::args(rt)?;
     let _ = words.next();
     Ok(words.collect(rt.alloc())?)
+}
+
+// The first is asked where no kind is named.
+fn deciders(alloc: Global) -> Result<Vec<Box<dyn Decider>>, NoMemory> {
+    let graph: Box<dyn Decider> = Box::new(alloc, GraphDecider::new())?;
+    let plain: Box<dyn Decider> = Box::new(alloc, PlainDecider::new())?;
+    let memo: Box<dyn Decider> = Box::new(alloc, MemoDecider::new(alloc, KEPT_ANSWERS)?)?;
+    let mut deciders = Vec::new(alloc);
+    deciders.push(graph)?;
+    deciders.push(plain)?;
+    deciders.push(memo)?;
+    Ok(deciders)
 }
 
 fn main(rt: HostRuntime) -> ExitCode {
@@ -26,6 +44,8 @@ fn main(rt: HostRuntime) -> ExitCode {
     };
     let mut source = StdSource::new(rt.reader());
     let mut sink = StdSink::new(io::writer(&rt));
-    let deciders = Vec::new(rt.alloc());
+    let Ok(deciders) = deciders(rt.alloc()) else {
+        return ExitCode::from(NO_MEMORY);
+    };
     ExitCode::from(lois(rt.alloc(), &words, &mut source, &mut sink, deciders))
 }

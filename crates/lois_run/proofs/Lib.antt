@@ -5,4 +5,3 @@ pub mod Printed
 pub mod Answered
 pub mod Told
 pub mod Stopped
-pub mod Worded

@@ -1,12 +1,13 @@
 -- When each outcome comes, and what the sink is told.
 use Rattle.std.specs.Prelude.{◌≡◌, ◌⊎◌, ◌↔◌, ℕ, List, Option, IfSome}
 use Rattle.std.specs.Io.KnownBytes.{Appends, IsAtEnd}
+use Rattle.lois_base.specs.declared.deciding.Kind.{Kind}
 use Rattle.lois_outside.specs.Faults.{Rose}
 use Rattle.lois_outside.specs.Reading.{TookAtMost, TookExactly}
 use Rattle.lois_outside.specs.Writing.{AppendsProperPrefix}
 use Rattle.lois_run.specs.Headline.{Headline, longest_text}
 use Rattle.lois_run.specs.Outcomes.{status_of, outcome_text}
-use Rattle.lois_run.specs.Words.{AreAccepted}
+use Rattle.lois_run.specs.Words.{IsUsage}
 use Rattle.lois_run.specs.declared.outcomes.Outcome.{Outcome}
 use Rattle.lois_run.specs.declared.outcomes.Outcome.TheVariants.{Completed, Refused, ReadFault, Usage}
 use Rattle.lois_run.specs.declared.outcomes.Refusal.TheVariants.{TooLong, NotBuilt}
@@ -23,14 +24,15 @@ HasTaken before after (Refused NotBuilt) = TookAll before after
 HasTaken before after ReadFault = TookAtMost longest_text before after
 HasTaken before after Usage = before ≡ after
 
--- The outcome of a call with these words: of what the source had left and has left, and of its count of faults.
-pub record IsOutcomeOf (words : List (List ℕ)) (before after : Option (List ℕ)) (faults_before faults_after : ℕ) (o : Outcome) : Type 0 where
-  -- usage comes exactly where the words aren't taken, and then the source was asked nothing
-  pub usage : (o ≡ Usage) ↔ (AreAccepted words → ⊥)
+-- The outcome of a call with these words and deciders of these kinds: of what the source had left and has left, and of its
+-- count of faults.
+pub record IsOutcomeOf (words : List (List ℕ)) (kinds : List Kind) (before after : Option (List ℕ)) (faults_before faults_after : ℕ) (o : Outcome) : Type 0 where
+  -- usage comes exactly where the words aren't taken or lack their decider, and then the source was asked nothing
+  pub usage : (o ≡ Usage) ↔ IsUsage words kinds
   pub usage_asks_nothing : o ≡ Usage → faults_after ≡ faults_before
   pub read_fault : o ≡ ReadFault → Rose faults_before faults_after
   pub taken : HasTaken before after o
-  pub headline : AreAccepted words → IfSome before (λ text. Headline text (Rose faults_before faults_after) o)
+  pub headline : (IsUsage words kinds → ⊥) → IfSome before (λ text. Headline text (Rose faults_before faults_after) o)
 
 -- The status is the outcome's, and the sink has its text whole; or it is 7, the sink's count of faults rose, and the sink
 -- has a first part of the text, but not all of it.

@@ -1,6 +1,8 @@
 // Tables of scripts and of failing sources and sinks.
 ghost use Rattle.std.specs.Prelude.{◌≤◌};
 
+use lois_base::Decider;
+use lois_deciders::{GraphDecider, PlainDecider};
 use lois_outside::{MemorySink, MemorySource};
 use lois_run::lois;
 use std::alloc::{AllocError, Global};
@@ -40,6 +42,16 @@ fn words_of(alloc: Global, words: &[&str]) -> Result<Vec<String>, AllocError> {
     Ok(owned)
 }
 
+// No decider that keeps answers is handed in.
+fn graph_and_plain(alloc: Global) -> Result<Vec<Box<dyn Decider>>, AllocError> {
+    let graph: Box<dyn Decider> = Box::new(alloc, GraphDecider::new())?;
+    let plain: Box<dyn Decider> = Box::new(alloc, PlainDecider::new())?;
+    let mut deciders = Vec::new(alloc);
+    deciders.push(graph)?;
+    deciders.push(plain)?;
+    Ok(deciders)
+}
+
 fn call(
     alloc: Global,
     words: &[&str],
@@ -54,7 +66,13 @@ fn call(
     let words = words_of(alloc, words)?;
     let mut source = MemorySource::new(text.to_vec(alloc)?, from.step, from.failing.to_vec(alloc)?);
     let mut sink = MemorySink::new(alloc, room, to.step, to.failing.to_vec(alloc)?)?;
-    let status = lois(alloc, &words, &mut source, &mut sink, Vec::new(alloc));
+    let status = lois(
+        alloc,
+        &words,
+        &mut source,
+        &mut sink,
+        graph_and_plain(alloc)?,
+    );
     Ok(Told {
         status,
         held: sink.held().to_vec(alloc)?,
@@ -121,7 +139,21 @@ fn scripts_complete(rt: HostRuntime) -> Result<(), Fail> {
 #[test]
 fn words_that_are_not_taken_are_usage(rt: HostRuntime) -> Result<(), Fail> {
     let alloc = rt.alloc();
-    let rows: [&[&str]; 5] = [&[], &["run", "x"], &["Run"], &["check"], &["make", "0"]];
+    let rows: [&[&str]; 13] = [
+        &[],
+        &["run", "x"],
+        &["Run"],
+        &["check"],
+        &["check", "--decider", "plain"],
+        &["make", "0"],
+        &["make", "10001"],
+        &["make", "007"],
+        &["run", "--decider"],
+        &["run", "--decider", "other"],
+        &["run", "--decider", "plain", "--decider=plain"],
+        &["run", "--decider", "memo"],
+        &["run", "--decider=memo"],
+    ];
     for words in rows {
         let told = call(
             alloc,
@@ -140,6 +172,34 @@ fn words_that_are_not_taken_are_usage(rt: HostRuntime) -> Result<(), Fail> {
         assert_eq!(rt; told.status, 9);
         assert_eq!(rt; told.held.as_slice(), USAGE);
     }
+    Ok(())
+}
+
+// With no decider at all `run` is usage too, and a decider that is there is taken in both spellings.
+#[test]
+fn a_decider_is_named(rt: HostRuntime) -> Result<(), Fail> {
+    let alloc = rt.alloc();
+    let sure = Edge {
+        step: 4096,
+        failing: &[],
+    };
+    let rows: [&[&str]; 4] = [
+        &["run", "--decider", "plain"],
+        &["run", "--decider=plain"],
+        &["run", "--decider", "graph"],
+        &["run", "--decider=graph"],
+    ];
+    for words in rows {
+        let told = call(alloc, words, SCRIPT, sure, 4096, sure)?;
+        assert_eq!(rt; told.status, 0);
+        assert_eq!(rt; told.held.as_slice(), OUTPUT);
+    }
+    let words = words_of(alloc, &["run"])?;
+    let mut source = MemorySource::new(SCRIPT.to_vec(alloc)?, 1, Vec::new(alloc));
+    let mut sink = MemorySink::new(alloc, 4096, 4096, Vec::new(alloc))?;
+    let status = lois(alloc, &words, &mut source, &mut sink, Vec::new(alloc));
+    assert_eq!(rt; status, 9);
+    assert_eq!(rt; sink.held(), USAGE);
     Ok(())
 }
 
