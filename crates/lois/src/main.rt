@@ -5,7 +5,6 @@ use lois_base::{Decider, NoMemory};
 use lois_deciders::{GraphDecider, MemoDecider, PlainDecider};
 use lois_outside::{StdSink, StdSource};
 use lois_run::lois;
-use std::alloc::Global;
 use std::process::ExitCode;
 use std::{env, io};
 
@@ -21,8 +20,9 @@ fn words(rt: &HostRuntime) -> io::Result<Vec<String>> {
     Ok(words.collect(rt.alloc())?)
 }
 
-// The first is asked where no kind is named.
-fn deciders(alloc: Global) -> Result<Vec<Box<dyn Decider>>, NoMemory> {
+// Over the standard streams. The first decider is asked where no kind is named.
+fn run(rt: &HostRuntime, words: &[String]) -> Result<u8, NoMemory> {
+    let alloc = rt.alloc();
     let graph: Box<dyn Decider> = Box::new(alloc, GraphDecider::new())?;
     let plain: Box<dyn Decider> = Box::new(alloc, PlainDecider::new())?;
     let memo: Box<dyn Decider> = Box::new(alloc, MemoDecider::new(alloc, KEPT_ANSWERS)?)?;
@@ -30,7 +30,9 @@ fn deciders(alloc: Global) -> Result<Vec<Box<dyn Decider>>, NoMemory> {
     deciders.push(graph)?;
     deciders.push(plain)?;
     deciders.push(memo)?;
-    Ok(deciders)
+    let mut source = StdSource::new(rt.reader());
+    let mut sink = StdSink::new(io::writer(rt));
+    Ok(lois(alloc, words, &mut source, &mut sink, deciders))
 }
 
 fn main(rt: HostRuntime) -> ExitCode {
@@ -42,10 +44,8 @@ fn main(rt: HostRuntime) -> ExitCode {
         // A word that isn't UTF-8 is none that the program takes, and neither is no word.
         Err(_) => Vec::new(rt.alloc()),
     };
-    let mut source = StdSource::new(rt.reader());
-    let mut sink = StdSink::new(io::writer(&rt));
-    let Ok(deciders) = deciders(rt.alloc()) else {
-        return ExitCode::from(NO_MEMORY);
-    };
-    ExitCode::from(lois(rt.alloc(), &words, &mut source, &mut sink, deciders))
+    match run(&rt, &words) {
+        Ok(status) => ExitCode::from(status),
+        Err(NoMemory) => ExitCode::from(NO_MEMORY),
+    }
 }
