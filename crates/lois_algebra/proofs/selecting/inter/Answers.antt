@@ -1,0 +1,18 @@
+use Rattle.std.proofs.Common.{true, subst, ap}
+use Rattle.lois_base.specs.Data.{coll, comps_of}
+use Rattle.lois_base.specs.Fits.{Fits}
+use Rattle.lois_base.specs.Tree.{tree}
+use Rattle.lois_base.specs.Validity.{AdmitsTerm}
+use Rattle.lois_algebra.proofs.Selections.{selection_of}
+use Rattle.lois_algebra.proofs.selecting.inter.Goals as goal
+
+pub selected-requires-clause-left : goal.selected-requires-clause-left
+selected-requires-clause-left g c = subst (λ z. Fits c.args.size (tree z)) c.in-Coll.is c.requires.left
+
+pub selected-requires-clause-left_operators : goal.selected-requires-clause-left_operators
+selected-requires-clause-left_operators g c =
+    subst (λ z. AdmitsTerm g.T.Structure.ordered (tree z)) c.in-Coll.is c.requires.left_operators
+
+pub returns-clause-members : goal.returns-clause-members
+returns-clause-members g c =
+    selection_of c.args.size true (tree c.args.s.now) (tree c.args.t.now) (coll (comps_of c.in_ok-selected-in-Coll.field-0)) (comps_of c.in-Coll.comps) (ap tree c.in-Coll.is) c.in_ok-selected-in-Coll.ensures.members

@@ -1,0 +1,138 @@
+//! The members of one set that are, or aren't, in another.
+
+ghost use Rattle.std.specs.Prelude.{◌≡◌, ℕ, ◌+◌, Bool, true, false, IfOk};
+ghost use Rattle.lois_base.specs.Data.{coll, comps_of};
+ghost use Rattle.lois_base.specs.Fits.{ConstraintFits, Fits, CompFits, ItemsFit};
+ghost use Rattle.lois_base.specs.Tree.{tree, comp_of};
+ghost use Rattle.lois_base.specs.Validity.{AdmitsConstraint, AdmitsTerm, AdmitsComp, AdmitsItems, HasUsualWidths, ItemsHaveUsualWidths};
+ghost use Rattle.lois_terms.specs.Guarded.{IsSet};
+ghost use Rattle.lois_algebra.specs.Selected.{IsSelection, IsSelectedGuard, IsNarrowed};
+ghost use Rattle.lois_algebra.specs.Sets.{IsIntersection, IsDifference};
+
+use crate::putting::put;
+use lois_base::{Comp, Comps, Constraint, NoMemory, Structure, Term};
+use lois_constraint::{meet, negate};
+use lois_elim::quantifier_free;
+use lois_relate::member_formula;
+use lois_terms::shift_term;
+use std::alloc::Global;
+
+/// The set that has the members that both sets have. Errors: `NoMemory`, also where a level would pass the greatest usize.
+pub fn inter<T: Structure>(alloc: Global, s: &Term, t: &Term, size: usize) -> Result<Term, NoMemory>
+    requires left { Fits size (tree s.now) }
+    requires left_set { IsSet (tree s.now) }
+    requires left_operators { AdmitsTerm T.ordered (tree s.now) }
+    requires right { Fits size (tree t.now) }
+    requires right_set { IsSet (tree t.now) }
+    requires right_operators { AdmitsTerm T.ordered (tree t.now) }
+    ensures members { IfOk result (λ r. IsIntersection size (tree s.now) (tree t.now) (tree r)) }
+    ensures set { IfOk result (λ r. IsSet (tree r)) }
+    ensures levels { IfOk result (λ r. Fits size (tree r)) }
+    ensures operators { IfOk result (λ r. (ordered : Bool) → AdmitsTerm ordered (tree s.now) → AdmitsTerm ordered (tree t.now) → AdmitsTerm ordered (tree r)) }
+    ensures widths { IfOk result (λ r. HasUsualWidths (tree s.now) → HasUsualWidths (tree r)) }
+{
+    match s {
+        Term::Coll(comps) => Ok(Term::Coll(selected::<T>(alloc, comps, t, size, true)?)),
+        _ => unreachable!(),
+    }
+}
+
+/// The set that has the members of `s` that aren't in `t`. Errors: `NoMemory`, also where a level would pass the greatest usize.
+pub fn minus<T: Structure>(alloc: Global, s: &Term, t: &Term, size: usize) -> Result<Term, NoMemory>
+    requires left { Fits size (tree s.now) }
+    requires left_set { IsSet (tree s.now) }
+    requires left_operators { AdmitsTerm T.ordered (tree s.now) }
+    requires right { Fits size (tree t.now) }
+    requires right_set { IsSet (tree t.now) }
+    requires right_operators { AdmitsTerm T.ordered (tree t.now) }
+    ensures members { IfOk result (λ r. IsDifference size (tree s.now) (tree t.now) (tree r)) }
+    ensures set { IfOk result (λ r. IsSet (tree r)) }
+    ensures levels { IfOk result (λ r. Fits size (tree r)) }
+    ensures operators { IfOk result (λ r. (ordered : Bool) → AdmitsTerm ordered (tree s.now) → AdmitsTerm ordered (tree t.now) → AdmitsTerm ordered (tree r)) }
+    ensures widths { IfOk result (λ r. HasUsualWidths (tree s.now) → HasUsualWidths (tree r)) }
+{
+    match s {
+        Term::Coll(comps) => Ok(Term::Coll(selected::<T>(alloc, comps, t, size, false)?)),
+        _ => unreachable!(),
+    }
+}
+
+// Each comprehension under what is left of its guard.
+fn selected<T: Structure>(
+    alloc: Global,
+    comps: &Comps,
+    t: &Term,
+    size: usize,
+    wanted: bool,
+) -> Result<Comps, NoMemory>
+    requires left { ItemsFit size (comps_of comps.now) }
+    requires left_operators { AdmitsItems T.ordered (comps_of comps.now) }
+    requires right { Fits size (tree t.now) }
+    requires right_set { IsSet (tree t.now) }
+    requires right_operators { AdmitsTerm T.ordered (tree t.now) }
+    ensures members { IfOk result (λ r. IsSelection size wanted (coll (comps_of comps.now)) (tree t.now) (coll (comps_of r))) }
+    ensures levels { IfOk result (λ r. ItemsFit size (comps_of r)) }
+    ensures operators { IfOk result (λ r. (ordered : Bool) → AdmitsItems ordered (comps_of comps.now) → AdmitsTerm ordered (tree t.now) → AdmitsItems ordered (comps_of r)) }
+    ensures widths { IfOk result (λ r. ItemsHaveUsualWidths (comps_of comps.now) → ItemsHaveUsualWidths (comps_of r)) }
+{
+    let mut kept = Comps::new(alloc);
+    for comp in comps.as_slice() {
+        let guard = selected_guard::<T>(alloc, comp, t, size, wanted)?;
+        let item = comp.item.copy(alloc)?;
+        put(
+            &mut kept,
+            Comp {
+                binders: comp.binders,
+                guard,
+                item,
+            },
+        )?;
+    }
+    Ok(kept)
+}
+
+// The guard of a comprehension, and that its item is in the set `t`, or isn't.
+fn selected_guard<T: Structure>(
+    alloc: Global,
+    comp: &Comp,
+    t: &Term,
+    size: usize,
+    wanted: bool,
+) -> Result<Constraint, NoMemory>
+    requires left { CompFits size (comp_of comp.now) }
+    requires left_operators { AdmitsComp T.ordered (comp_of comp.now) }
+    requires right { Fits size (tree t.now) }
+    requires right_set { IsSet (tree t.now) }
+    requires right_operators { AdmitsTerm T.ordered (tree t.now) }
+    ensures truth { IfOk result (IsSelectedGuard size comp.now.binders wanted comp.now.guard (tree comp.now.item) (tree t.now)) }
+    ensures levels { IfOk result (ConstraintFits (size + comp.now.binders)) }
+    ensures operators { IfOk result (λ r. (ordered : Bool) → AdmitsComp ordered (comp_of comp.now) → AdmitsTerm ordered (tree t.now) → AdmitsConstraint ordered r) }
+{
+    let inner = size + comp.binders;
+    let movable = t.fits(inner);
+    if !movable {
+        return Err(NoMemory);
+    }
+    let raised = shift_term(alloc, t, size, comp.binders)?;
+    let formula = member_formula(alloc, &comp.item, &raised, inner)?;
+    let found = quantifier_free::<T>(alloc, &formula, inner)?;
+    narrowed(alloc, &comp.guard, &found, wanted)
+}
+
+// Where the guard holds and the other constraint does too, or doesn't.
+fn narrowed(
+    alloc: Global,
+    guard: &Constraint,
+    found: &Constraint,
+    wanted: bool,
+) -> Result<Constraint, NoMemory>
+    ensures truth { IfOk result (IsNarrowed wanted guard.now found.now) }
+    ensures fits { IfOk result (λ r. (n : ℕ) → ConstraintFits n guard.now → ConstraintFits n found.now → ConstraintFits n r) }
+    ensures operators { IfOk result (λ r. (ordered : Bool) → AdmitsConstraint ordered guard.now → AdmitsConstraint ordered found.now → AdmitsConstraint ordered r) }
+{
+    if wanted {
+        return meet(alloc, guard, found);
+    }
+    let absent = negate(alloc, found)?;
+    meet(alloc, guard, &absent)
+}
