@@ -1,0 +1,11 @@
+pub mod Draft
+pub mod Pieces
+pub mod Shape
+pub mod Refusal
+pub mod Reading
+pub mod Ends
+pub mod AnswerEnds
+pub mod Values
+pub mod TermValues
+pub mod AnswerValues
+pub mod Laws

@@ -1,0 +1,39 @@
+-- Reading from left to right, with the first fault that is met: how many bytes are left there.
+use Rattle.std.specs.Prelude.{◌≡◌, ℕ, Bool, false, ◌==◌, List, [], ◌∷◌, Option, Some, None, Result, Ok, Err}
+use Rattle.lois_reader.specs.declared.halt.Halt.{Halt}
+use Rattle.lois_reader.specs.declared.halt.Halt.TheVariants.{Left, NoMemory}
+
+infixl 10 ◌>>=◌
+abbrev pub ◌>>=◌ : {A B : Type 0} → Result A ℕ → (A → Result B ℕ) → Result B ℕ
+(Ok x) >>= f = f x
+(Err e) >>= f = Err e
+
+-- What a function returned, seen by view, is what reading gives, unless memory ran out.
+abbrev pub Fails : {Y : Type 0} → Halt → Result Y ℕ → Type 0
+Fails NoMemory read = Unit {0}
+Fails (Left left) read = read ≡ Err left
+
+-- it isn't want of memory
+abbrev pub IsLeft : Halt → Type 0
+IsLeft NoMemory = ⊥
+IsLeft (Left left) = Unit {0}
+
+abbrev pub Gives : {X Y : Type 0} → (X → Y) → Result X Halt → Result Y ℕ → Type 0
+Gives view (Ok x) read = read ≡ Ok (view x)
+Gives view (Err e) read = Fails e read
+
+-- the bytes after a part
+abbrev pub End : Type 0
+End = Result (List ℕ) ℕ
+
+-- the first byte, if there is one, and a test of it
+abbrev pub first : List ℕ → Option ℕ
+first [] = None
+first (b ∷ bs) = Some b
+
+abbrev pub passes : (ℕ → Bool) → Option ℕ → Bool
+passes p None = false
+passes p (Some b) = p b
+
+abbrev pub begins : ℕ → List ℕ → Bool
+begins b s = passes (λ c. c == b) (first s)
