@@ -1,0 +1,47 @@
+-- What the descent over all tokens says of the text.
+use Rattle.std.proofs.Common.{◌≡◌, ◌≢◌, ℕ, List, length, Ok, Err, refl, subst}
+use Rattle.std.proofs.lemmas.List.{length-map}
+use Rattle.lois_lexer.specs.declared.Token.{Token}
+use Rattle.lois_lexer.specs.Tokens.{HasTokens}
+use Rattle.lois_meaning.specs.Grammar.{placed}
+use Rattle.lois_meaning.specs.Limits.{Spells}
+use Rattle.lois_meaning.specs.Tree.{ScriptD}
+use Rattle.lois_syntax.specs.Descent as descent
+use Rattle.lois_syntax.specs.Reading.{Stops, error_of}
+use Rattle.lois_syntax.specs.Refusals.{Refuses, tokens_in}
+use Rattle.lois_syntax.specs.declared.SyntaxError.TheVariants as errors
+use Rattle.lois_syntax.specs.declared.halt.Halt.{Halt}
+use Rattle.lois_syntax.specs.declared.halt.Halt.TheVariants.{NoScript, TooNested, WideTuple, TurnsTooMany, NoMemory}
+use Rattle.lois_syntax.proofs.DescendsScript.{Judged, script_reads}
+use Rattle.lois_syntax.proofs.Refusing.{never_both}
+
+module _ (text : List ℕ) (tokens : List Token) (cut : HasTokens text tokens) where
+  pub spells : (s : ScriptD) → descent.script (tokens_in text tokens) ≡ Ok s → Spells text s
+  spells s e =
+      let found : Judged (tokens_in text tokens) (Ok s) = subst (Judged (tokens_in text tokens)) e (script_reads (tokens_in text tokens)) in
+      record { tokens = tokens; cut = cut; script = found.0; nesting = found.1; forms = found.2 }
+
+  count : length (tokens_in text tokens) ≡ length tokens
+  count = length-map tokens (placed text)
+
+  refused_by : (h : Halt) → descent.script (tokens_in text tokens) ≡ Err h → Refuses (tokens_in text tokens) (error_of (length tokens) h)
+  refused_by h e =
+      let found : Judged (tokens_in text tokens) (Err h) = subst (Judged (tokens_in text tokens)) e (script_reads (tokens_in text tokens)) in
+      subst (λ n. Refuses (tokens_in text tokens) (error_of n h)) count found.1
+
+  pub refuses : (h : Halt) → Stops h (descent.script (tokens_in text tokens)) → error_of (length tokens) h ≢ errors.NoMemory → Refuses (tokens_in text tokens) (error_of (length tokens) h)
+  refuses (NoScript left) e some = refused_by (NoScript left) e
+  refuses (TooNested left) e some = refused_by (TooNested left) e
+  refuses (WideTuple left) e some = refused_by (WideTuple left) e
+  refuses (TurnsTooMany left) e some = refused_by (TurnsTooMany left) e
+  refuses NoMemory e some = absurd (some refl)
+
+  never : (h : Halt) → descent.script (tokens_in text tokens) ≡ Err h → (s : ScriptD) → Spells text s → ⊥
+  never h e s spelled = never_both text tokens s (error_of (length tokens) h) cut spelled (refused_by h e)
+
+  pub accepts : (h : Halt) → Stops h (descent.script (tokens_in text tokens)) → (s : ScriptD) → Spells text s → error_of (length tokens) h ≡ errors.NoMemory
+  accepts (NoScript left) e s spelled = absurd (never (NoScript left) e s spelled)
+  accepts (TooNested left) e s spelled = absurd (never (TooNested left) e s spelled)
+  accepts (WideTuple left) e s spelled = absurd (never (WideTuple left) e s spelled)
+  accepts (TurnsTooMany left) e s spelled = absurd (never (TurnsTooMany left) e s spelled)
+  accepts NoMemory e s spelled = refl

@@ -1,0 +1,15 @@
+//! Laws of the grammar: each function does nothing, and its contract states a law that is proved.
+
+ghost use Rattle.lois_syntax.specs.Laws.{OneScript, OneScriptOfText, OneRefusal, NeverBoth};
+
+/// Tokens, and a text, spell at most one script.
+pub fn one_script()
+    ensures tokens { OneScript }
+    ensures text { OneScriptOfText }
+{}
+
+/// Tokens are refused in one way at most, and the tokens of a text that spells a script within the limits in none.
+pub fn one_refusal()
+    ensures refusal { OneRefusal }
+    ensures never_both { NeverBoth }
+{}
