@@ -1,4 +1,4 @@
-//! The program `lois`: it runs the script on standard input, and writes what it comes to on standard output.
+//! The program `lois`: it runs or checks the script on standard input, and writes what it comes to on standard output.
 #![tactic(auto)]
 
 use lois_base::{Decider, NoMemory};
@@ -10,7 +10,7 @@ use std::{env, io};
 
 const NO_MEMORY: u8 = 8;
 
-/// How many answers the decider that keeps them may keep.
+/// How many answers the decider with a memory keeps.
 const KEPT_ANSWERS: usize = 4096;
 
 // The words after the program's name.
@@ -20,8 +20,8 @@ fn words(rt: &HostRuntime) -> io::Result<Vec<String>> {
     Ok(words.collect(rt.alloc())?)
 }
 
-// Over the standard streams. The first decider is asked where no kind is named.
-fn run(rt: &HostRuntime, words: &[String]) -> Result<u8, NoMemory> {
+// Hands in the deciders, and gives the exit status.
+fn answered(rt: &HostRuntime, words: &[String]) -> Result<u8, NoMemory> {
     let alloc = rt.alloc();
     let graph: Box<dyn Decider> = Box::new(alloc, GraphDecider::new())?;
     let plain: Box<dyn Decider> = Box::new(alloc, PlainDecider::new())?;
@@ -44,7 +44,7 @@ fn main(rt: HostRuntime) -> ExitCode {
         // A word that isn't UTF-8 is none that the program takes, and neither is no word.
         Err(_) => Vec::new(rt.alloc()),
     };
-    match run(&rt, &words) {
+    match answered(&rt, &words) {
         Ok(status) => ExitCode::from(status),
         Err(NoMemory) => ExitCode::from(NO_MEMORY),
     }

@@ -1,7 +1,6 @@
-pub mod FreeNames
-pub mod Read
-pub mod Ran
-pub mod Printed
-pub mod Answered
 pub mod Told
-pub mod Stopped
+pub mod Lookup
+pub mod Made
+pub mod Bodies
+pub mod Fit
+pub mod Answered

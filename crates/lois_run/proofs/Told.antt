@@ -6,13 +6,14 @@ use Rattle.lois_base.specs.declared.memory.NoMemory.{NoMemory}
 use Rattle.std.specs.Io.KnownBytes.{Consumes, IsAtEnd}
 use Rattle.lois_outside.specs.Faults.{Rose}
 use Rattle.lois_outside.specs.Reading.{TookAtMost, TookExactly}
-use Rattle.lois_run.specs.Causes.{HasTaken, IsOutcomeOf, IsOfText}
-use Rattle.lois_run.specs.Headline.{Headline, IsCompleted, longest_text}
-use Rattle.lois_run.specs.Words.{command_of, Asks, Lacks, IsUsage}
-use Rattle.lois_run.specs.declared.words.Command.{Command}
+use Rattle.lois_run.specs.Causes.{HasTaken, HasCause, Promises, IsOutcomeOf, IsOfText, AnswersText}
+use Rattle.lois_run.specs.Headline.{longest_text}
+use Rattle.lois_run.specs.Words.{Asks, Lacks, IsUsage}
 use Rattle.lois_run.specs.declared.outcomes.Outcome.{Outcome}
-use Rattle.lois_run.specs.declared.outcomes.Outcome.TheVariants.{Completed, Refused, ReadFault, Usage}
-use Rattle.lois_run.specs.declared.outcomes.Refusal.TheVariants.{TooLong, NotBuilt}
+use Rattle.lois_run.specs.declared.outcomes.Outcome.TheVariants.{Refused, ReadFault, Usage}
+use Rattle.lois_run.specs.declared.outcomes.Refusal.TheVariants.{TooLong}
+use Rattle.lois_run.specs.declared.words.Command.{Command}
+use Rattle.lois_run.specs.declared.words.Command.TheVariants.{Run, Check}
 
 refused_is_not_usage : Refused TooLong ≡ Usage → ⊥
 refused_is_not_usage e = cc e
@@ -26,107 +27,123 @@ refused_is_not_fault e = cc e
 usage_is_not_fault : Usage ≡ ReadFault → ⊥
 usage_is_not_fault e = cc e
 
--- no command is asked for
-pub nothing_asked : (words : List (List ℕ)) (kinds : List Kind) → None ≡ command_of words → IsUsage words kinds
-nothing_asked words kinds none command asks = absurd (differ (none ∙ asks))
+one_command : (c d : Command) (words : List (List ℕ)) → Asks c words → Asks d words → c ≡ d
+one_command c d words a b = some_is (sym a ∙ b)
   where
-    differ : None ≡ Some command → ⊥
-    differ e = cc e
-
--- the command that is asked for lacks its decider, or doesn't
-pub lacking_is_usage : (words : List (List ℕ)) (kinds : List Kind) (command : Command) → Some command ≡ command_of words → Lacks command kinds → IsUsage words kinds
-lacking_is_usage words kinds command is lacks other asks = subst (λ c. Lacks c kinds) (same (is ∙ asks)) lacks
-  where
-    same : Some command ≡ Some other → command ≡ other
-    same e = cc e
-
-pub served_is_no_usage : (words : List (List ℕ)) (kinds : List Kind) (command : Command) → Some command ≡ command_of words → (Lacks command kinds → ⊥) → IsUsage words kinds → ⊥
-served_is_no_usage words kinds command is served usage = served (usage command (sym is))
+    some_is : Some c ≡ Some d → c ≡ d
+    some_is e = cc e
 
 module _ (words : List (List ℕ)) (kinds : List Kind) (before after : Option (List ℕ)) (faults_before faults_after : ℕ) where
   pub usage_is_told : IsUsage words kinds → before ≡ after → faults_after ≡ faults_before → IsOutcomeOf words kinds before after faults_before faults_after Usage
-  usage_is_told refused same count = record {
-    usage = (λ e. refused, λ n. refl);
+  usage_is_told lacking same count = record {
+    usage = (λ e. lacking, λ n. refl);
     usage_asks_nothing = λ e. count;
     read_fault = λ e. absurd (usage_is_not_fault e);
     taken = same;
-    headline = λ accepted. absurd (accepted refused);
+    cause = λ c asks. usage_cause c before;
+    promise = λ c asks served. absurd (served lacking);
   }
+    where
+      usage_cause : (c : Command) (at : Option (List ℕ)) → IfSome at (λ text. HasCause c text Usage)
+      usage_cause (Run kind) None = tt
+      usage_cause (Run kind) (Some text) = tt
+      usage_cause Check None = tt
+      usage_cause Check (Some text) = tt
 
-  fault_headline : Rose faults_before faults_after → (at : Option (List ℕ)) → IfSome at (λ text. Headline text (Rose faults_before faults_after) ReadFault)
-  fault_headline rose None = tt
-  fault_headline rose (Some text) = record { completes = λ l s h w k. inr (refl, rose); right = tt }
+  module _ (command : Command) (asks : Asks command words) (has : Lacks command kinds → ⊥) where
+    no_usage : IsUsage words kinds → ⊥
+    no_usage lacking = has (lacking command asks)
 
-  fault_is_told : (IsUsage words kinds → ⊥) → TookAtMost longest_text before after → Rose faults_before faults_after → IsOutcomeOf words kinds before after faults_before faults_after ReadFault
-  fault_is_told accepted took rose = record {
-    usage = (λ e. absurd (fault_is_not_usage e), λ refused. absurd (accepted refused));
-    usage_asks_nothing = λ e. absurd (fault_is_not_usage e);
-    read_fault = λ e. rose;
-    taken = took;
-    headline = λ y. fault_headline rose before;
-  }
+    for_command : (P : Command → Type 0) → P command → (c : Command) → Asks c words → P c
+    for_command P p c a = subst P (one_command command c words asks a) p
 
-  pub fault_is_told_to : (command : Command) → Some command ≡ command_of words → (Lacks command kinds → ⊥) → TookAtMost longest_text before after → Rose faults_before faults_after → IsOutcomeOf words kinds before after faults_before faults_after ReadFault
-  fault_is_told_to command is served took rose = fault_is_told (served_is_no_usage words kinds command is served) took rose
+    fault_promise : Rose faults_before faults_after → (c : Command) (text : List ℕ) → Promises c text (Rose faults_before faults_after) ReadFault
+    fault_promise rose (Run kind) text = record { completes = λ l s h w k. inr (refl, rose); right = tt }
+    fault_promise rose Check text = λ l s h w. inr (refl, rose)
 
-  long_text : (text : List ℕ) (at : Option (List ℕ)) → TookExactly 1048577 (Some text) at → length text ≤ longest_text → ⊥
-  long_text text None (bytes, took, count) l = took
-  long_text text (Some rest) (bytes, took, count) l = omega (arith, l, count, ap length took, length-append bytes rest)
+    fault_cause : (c : Command) (text : List ℕ) → HasCause c text ReadFault
+    fault_cause (Run kind) text = tt
+    fault_cause Check text = tt
 
-  long_headline : (from : Option (List ℕ)) → TookExactly 1048577 from after → IfSome from (λ text. Headline text (Rose faults_before faults_after) (Refused TooLong))
-  long_headline None took = tt
-  long_headline (Some text) took = record { completes = λ l s h w k. absurd (long_text text after took l); right = tt }
+    known : (P : List ℕ → Type 0) → ((text : List ℕ) → P text) → (at : Option (List ℕ)) → IfSome at P
+    known P p None = tt
+    known P p (Some text) = p text
 
-  exact_is_told : (IsUsage words kinds → ⊥) → TookExactly 1048577 before after → IsOutcomeOf words kinds before after faults_before faults_after (Refused TooLong)
-  exact_is_told accepted took = record {
-    usage = (λ e. absurd (refused_is_not_usage e), λ refused. absurd (accepted refused));
-    usage_asks_nothing = λ e. absurd (refused_is_not_usage e);
-    read_fault = λ e. absurd (refused_is_not_fault e);
-    taken = took;
-    headline = λ y. long_headline before took;
-  }
+    pub fault_is_told : TookAtMost longest_text before after → Rose faults_before faults_after → IsOutcomeOf words kinds before after faults_before faults_after ReadFault
+    fault_is_told took rose = record {
+      usage = (λ e. absurd (fault_is_not_usage e), λ lacking. absurd (no_usage lacking));
+      usage_asks_nothing = λ e. absurd (fault_is_not_usage e);
+      read_fault = λ e. rose;
+      taken = took;
+      cause = λ c a. known (λ text. HasCause c text ReadFault) (fault_cause c) before;
+      promise = λ c a served. known (λ text. Promises c text (Rose faults_before faults_after) ReadFault) (fault_promise rose c) before;
+    }
 
-  long_count : (n : ℕ) → (n ≡ 1048577) × TookExactly n before after → TookExactly 1048577 before after
-  long_count n (e, took) = subst (λ k. TookExactly k before after) e took
+    long_text : (text : List ℕ) (at : Option (List ℕ)) → TookExactly 1048577 (Some text) at → length text ≤ longest_text → ⊥
+    long_text text None (bytes, took, count) l = took
+    long_text text (Some rest) (bytes, took, count) l = omega (arith, l, count, ap length took, length-append bytes rest)
 
-  pub long_is_told : (IsUsage words kinds → ⊥) → (n : ℕ) → (n ≡ 1048577) × TookExactly n before after → IsOutcomeOf words kinds before after faults_before faults_after (Refused TooLong)
-  long_is_told accepted n found = exact_is_told accepted (long_count n found)
+    long_cause : (c : Command) (text : List ℕ) → HasCause c text (Refused TooLong)
+    long_cause (Run kind) text = tt
+    long_cause Check text = tt
 
-  text_is_not_usage : (o : Outcome) → IsOfText o → o ≡ Usage → ⊥
-  text_is_not_usage o h e = subst IsOfText e h
+    long_promise : (c : Command) (from : Option (List ℕ)) → TookExactly 1048577 from after → IfSome from (λ text. Promises c text (Rose faults_before faults_after) (Refused TooLong))
+    long_promise c None took = tt
+    long_promise (Run kind) (Some text) took = record { completes = λ l s h w k. absurd (long_text text after took l); right = tt }
+    long_promise Check (Some text) took = λ l s h w. absurd (long_text text after took l)
 
-  text_is_not_fault : (o : Outcome) → IsOfText o → o ≡ ReadFault → ⊥
-  text_is_not_fault o h e = subst IsOfText e h
+    exact_is_told : TookExactly 1048577 before after → IsOutcomeOf words kinds before after faults_before faults_after (Refused TooLong)
+    exact_is_told took = record {
+      usage = (λ e. absurd (refused_is_not_usage e), λ lacking. absurd (no_usage lacking));
+      usage_asks_nothing = λ e. absurd (refused_is_not_usage e);
+      read_fault = λ e. absurd (refused_is_not_fault e);
+      taken = took;
+      cause = λ c a. known (λ text. HasCause c text (Refused TooLong)) (long_cause c) before;
+      promise = λ c a served. long_promise c before took;
+    }
 
-  text_taken : (o : Outcome) → IsOfText o → TookAtMost longest_text before after → IsAtEnd after → HasTaken before after o
-  text_taken (Completed r) h took end = (took, end)
-  text_taken (Refused NotBuilt) h took end = (took, end)
-  text_taken _ h took end = absurd h
+    pub long_is_told : (n : ℕ) → (n ≡ 1048577) × TookExactly n before after → IsOutcomeOf words kinds before after faults_before faults_after (Refused TooLong)
+    long_is_told n (e, took) = exact_is_told (subst (λ k. TookExactly k before after) e took)
 
-  all_text : (text bytes : List ℕ) (at : Option (List ℕ)) → Consumes (Some text) at bytes → IsAtEnd at → text ≡ bytes
-  all_text text bytes None took end = absurd took
-  all_text text bytes (Some rest) took end = took ∙ ap (λ l. bytes ++ l) end ∙ append-nil bytes
+    text_is_not_usage : (o : Outcome) → IsOfText o → o ≡ Usage → ⊥
+    text_is_not_usage o h e = subst IsOfText e h
 
-  no_fault : (o : Outcome) → IsCompleted o ⊎ ((o ≡ ReadFault) × ⊥) → IsCompleted o ⊎ ((o ≡ ReadFault) × Rose faults_before faults_after)
-  no_fault o (inl h) = inl h
-  no_fault o (inr (e, none)) = absurd none
+    text_is_not_fault : (o : Outcome) → IsOfText o → o ≡ ReadFault → ⊥
+    text_is_not_fault o h e = subst IsOfText e h
 
-  text_headline : (from : Option (List ℕ)) (bytes : List ℕ) (o : Outcome) → Consumes from after bytes → IsAtEnd after → Headline bytes ⊥ o → IfSome from (λ text. Headline text (Rose faults_before faults_after) o)
-  text_headline None bytes o took end h = tt
-  text_headline (Some text) bytes o took end h =
-      let same : bytes ≡ text = sym (all_text text bytes after took end) in
-      let there : Headline text ⊥ o = subst (λ b. Headline b ⊥ o) same h in
-      record { completes = λ l s sp w k. no_fault o (there.completes l s sp w k); right = there.right }
+    text_taken : (o : Outcome) → IsOfText o → TookAtMost longest_text before after → IsAtEnd after → HasTaken before after o
+    text_taken (Refused TooLong) h took end = absurd h
+    text_taken ReadFault h took end = absurd h
+    text_taken Usage h took end = absurd h
+    text_taken _ h took end = (took, end)
 
-  pub text_is_told : (bytes : List ℕ) (o : Outcome) → (IsUsage words kinds → ⊥) → Consumes before after bytes → IsAtEnd after → length bytes ≤ longest_text → IsOfText o → Headline bytes ⊥ o → IsOutcomeOf words kinds before after faults_before faults_after o
-  text_is_told bytes o accepted took end fits kind h = record {
-    usage = (λ e. absurd (text_is_not_usage o kind e), λ refused. absurd (accepted refused));
-    usage_asks_nothing = λ e. absurd (text_is_not_usage o kind e);
-    read_fault = λ e. absurd (text_is_not_fault o kind e);
-    taken = text_taken o kind (bytes, took, fits) end;
-    headline = λ y. text_headline before bytes o took end h;
-  }
+    all_text : (text bytes : List ℕ) (at : Option (List ℕ)) → Consumes (Some text) at bytes → IsAtEnd at → text ≡ bytes
+    all_text text bytes None took end = absurd took
+    all_text text bytes (Some rest) took end = took ∙ ap (λ l. bytes ++ l) end ∙ append-nil bytes
 
-  pub answered_is_told : (bytes : List ℕ) (r : Result Outcome NoMemory) → (IsUsage words kinds → ⊥) → Consumes before after bytes → IsAtEnd after → length bytes ≤ longest_text → IfOk r IsOfText → IfOk r (Headline bytes ⊥) → IfOk r (IsOutcomeOf words kinds before after faults_before faults_after)
-  answered_is_told bytes (Ok o) accepted took end fits kind h = text_is_told bytes o accepted took end fits kind h
-  answered_is_told bytes (Err e) accepted took end fits kind h = tt
+    no_fault : {P : Type 0} (o : Outcome) → P ⊎ ((o ≡ ReadFault) × ⊥) → P ⊎ ((o ≡ ReadFault) × Rose faults_before faults_after)
+    no_fault o (inl h) = inl h
+    no_fault o (inr (e, none)) = absurd none
+
+    text_promise : (c : Command) (text : List ℕ) (o : Outcome) → Promises c text ⊥ o → Promises c text (Rose faults_before faults_after) o
+    text_promise (Run kind) text o h = record { completes = λ l s sp w k. no_fault o (h.completes l s sp w k); right = h.right }
+    text_promise Check text o h = λ l s sp w. no_fault o (h l s sp w)
+
+    of_text : (P : List ℕ → Type 0) (from : Option (List ℕ)) (bytes : List ℕ) → Consumes from after bytes → IsAtEnd after → P bytes → IfSome from P
+    of_text P None bytes took end h = tt
+    of_text P (Some text) bytes took end h = subst P (sym (all_text text bytes after took end)) h
+
+    pub text_is_told : (bytes : List ℕ) (o : Outcome) → Consumes before after bytes → IsAtEnd after → length bytes ≤ longest_text → AnswersText command bytes o → IsOutcomeOf words kinds before after faults_before faults_after o
+    text_is_told bytes o took end fits h = record {
+      usage = (λ e. absurd (text_is_not_usage o h.kind e), λ lacking. absurd (no_usage lacking));
+      usage_asks_nothing = λ e. absurd (text_is_not_usage o h.kind e);
+      read_fault = λ e. absurd (text_is_not_fault o h.kind e);
+      taken = text_taken o h.kind (bytes, took, fits) end;
+      cause = λ c a. for_command (λ d. IfSome before (λ text. HasCause d text o)) (of_text (λ text. HasCause command text o) before bytes took end h.cause) c a;
+      promise = λ c a served. for_command (λ d. IfSome before (λ text. Promises d text (Rose faults_before faults_after) o))
+          (of_text (λ text. Promises command text (Rose faults_before faults_after) o) before bytes took end (text_promise command bytes o h.promise)) c a;
+    }
+
+    pub answered_is_told : (bytes : List ℕ) (r : Result Outcome NoMemory) → Consumes before after bytes → IsAtEnd after → length bytes ≤ longest_text → IfOk r (AnswersText command bytes) → IfOk r (IsOutcomeOf words kinds before after faults_before faults_after)
+    answered_is_told bytes (Ok o) took end fits h = text_is_told bytes o took end fits h
+    answered_is_told bytes (Err e) took end fits h = tt

@@ -12,7 +12,7 @@ use Rattle.lois_meaning.specs.Sound.{IsSound}
 use Rattle.lois_meaning.specs.Store.{NamedValues, named, AreSameNamed}
 use Rattle.lois_meaning.specs.Tree.{ParamD, ScriptD}
 use Rattle.lois_meaning.specs.declared.results.Results.{Results}
-use Rattle.lois_run.specs.FirstForms.{IsFirstScript}
+use Rattle.lois_run.specs.BuiltForms.{IsBuilt}
 use Rattle.lois_run.specs.declared.outcomes.Outcome.{Outcome}
 use Rattle.lois_run.specs.declared.outcomes.Outcome.TheVariants.{Completed, ReadFault}
 
@@ -73,5 +73,5 @@ IsRight text _ = Unit {0}
 
 -- For a text that was to be read. A fault is that the source's count of faults rose.
 pub record Headline (text : List ℕ) (fault : Type 0) (o : Outcome) : Type 0 where
-  pub completes : length text ≤ longest_text → (s : ScriptD) → Spells text s → IsWellScoped s → IsFirstScript s → IsCompleted o ⊎ ((o ≡ ReadFault) × fault)
+  pub completes : length text ≤ longest_text → (s : ScriptD) → Spells text s → IsWellScoped s → IsBuilt s → IsCompleted o ⊎ ((o ≡ ReadFault) × fault)
   pub right : IsRight text o

@@ -1,7 +1,11 @@
 pub mod Words
-pub mod FirstForms
-pub mod Reading
-pub mod Running
+pub mod BuiltForms
+pub mod Values
+pub mod Held
+pub mod Fitting
+pub mod Texts
+pub mod Refusals
+pub mod Read
 pub mod Outcomes
 pub mod Headline
 pub mod Causes

@@ -1,12 +1,12 @@
--- The words that the program takes, each the list of its bytes: `run`, alone or with the option `--decider plain`,
--- `--decider=plain` or the like.
+-- The words that the program takes, each the list of its bytes: `run`, `check`, and `run` with the option
+-- `--decider plain`, `--decider=plain` or the like.
 use Rattle.std.specs.Prelude.{◌≡◌, ◌&&◌, List, [], ◌∷◌, Option, Some, None, option_map, codes, if◌then◌else◌, bytes_eq, ℕ}
 use Rattle.std.specs.List.{All}
 use Rattle.lois_base.specs.declared.deciding.Kind.{Kind}
 use Rattle.lois_base.specs.declared.deciding.Kind.TheVariants.{Plain, Graph, Memo}
 use Rattle.lois_deciders.specs.Choice.{IsUnwanted}
 use Rattle.lois_run.specs.declared.words.Command.{Command}
-use Rattle.lois_run.specs.declared.words.Command.TheVariants.{Run}
+use Rattle.lois_run.specs.declared.words.Command.TheVariants.{Run, Check}
 
 abbrev pub kind_named : List ℕ → Option Kind
 kind_named word =
@@ -22,7 +22,8 @@ kind_chosen option =
 
 abbrev pub command_alone : List ℕ → Option Command
 command_alone word =
-    if (bytes_eq word (codes "run")) then (Some (Run None)) else None
+    if (bytes_eq word (codes "run")) then (Some (Run None)) else
+    (if (bytes_eq word (codes "check")) then (Some Check) else None)
 
 abbrev pub command_with_option : List ℕ → List ℕ → Option Command
 command_with_option word option =
@@ -45,7 +46,12 @@ Asks command words = command_of words ≡ Some command
 -- `run` has no decider of the named kind, or none at all
 abbrev pub Lacks : Command → List Kind → Type 0
 Lacks (Run kind) kinds = All (IsUnwanted kind) kinds
+Lacks Check kinds = ⊥
 
 -- The words ask for nothing, or for something that lacks its decider. They ask for one thing at most.
 abbrev pub IsUsage : List (List ℕ) → List Kind → Type 0
 IsUsage words kinds = (command : Command) → Asks command words → Lacks command kinds
+
+abbrev pub IsRun : Command → Type 0
+IsRun (Run kind) = Unit {0}
+IsRun Check = ⊥

@@ -1,11 +1,12 @@
 //! The top call: from words and bytes to the answer, its text and the status.
 #![tactic(auto)]
 
-mod first_reader;
-mod first_run;
 mod outcomes;
-mod printing;
+mod reading;
+mod running;
+mod texts;
 mod top;
+mod values;
 mod words;
 
 pub use outcomes::{Outcome, Refusal};

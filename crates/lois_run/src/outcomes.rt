@@ -1,26 +1,40 @@
 //! What the top call comes to.
 
 ghost use Rattle.std.specs.Prelude.{◌≡◌, IfOk};
-ghost use Rattle.lois_run.specs.Outcomes.{status_of, outcome_text, HasText};
+ghost use Rattle.lois_run.specs.Outcomes.{status_of, refusal_text, outcome_text, HasText};
+ghost use Rattle.lois_meaning.specs.ResultsText.{lined};
 
-use crate::printing::{results_text, text_line};
+use crate::texts::{lexical_text, refused_line, scope_text, syntax_text, text_line};
 use lois_base::NoMemory;
-use lois_meaning::Results;
+use lois_lexer::Place;
+use lois_meaning::{Results, Script};
+use lois_printer::print_results;
+use lois_syntax::print_script;
 use std::alloc::Global;
 
-/// Why a text is refused.
+/// Why a text is refused. The number is that of the cause, counted from 1 in the order in which the errors of `lex`,
+/// `read_script` and `check` are declared.
 #[derive(Clone, Copy, PartialEq, Eq, Debug)]
 pub enum Refusal {
     /// The input has more than 1,048,576 bytes.
     TooLong,
-    /// The text is no script of the forms that run so far.
+    /// A place of the text has no token: 1 to 3.
+    Lexical(u8, Place),
+    /// The tokens are no script: 1 to 4.
+    Syntax(u8, Place),
+    /// The script is not well scoped: 1 to 5.
+    Scope(u8, Place),
+    /// The script has a form that doesn't run yet.
     NotBuilt,
 }
 
 /// What the top call comes to.
 #[derive(Drop)]
 pub enum Outcome {
+    /// What the script printed.
     Completed(Results),
+    /// A well-scoped script.
+    Checked(Script),
     Refused(Refusal),
     /// A call of the source failed.
     ReadFault,
@@ -29,13 +43,14 @@ pub enum Outcome {
 }
 
 impl Outcome {
-    /// The exit status: 0 where the script has completed, 5 where the text is refused, 6 after a read
+    /// The exit status: 0 where the script has completed or was checked, 5 where the text is refused, 6 after a read
     /// fault, and 9 where the words are none that the program takes.
     pub fn status(&self) -> u8
         ensures { result ≡ status_of self.now }
     {
         match self {
             Outcome::Completed(_) => 0,
+            Outcome::Checked(_) => 0,
             Outcome::Refused(_) => 5,
             Outcome::ReadFault => 6,
             Outcome::Usage => 9,
@@ -48,16 +63,28 @@ impl Outcome {
         ensures { IfOk result (λ text. text.items ≡ outcome_text self.now) }
     {
         match self {
-            Outcome::Completed(results) => results_text(alloc, results),
-            Outcome::Refused(Refusal::TooLong) => {
-                text_line(alloc, b"refused: input over 1048576 bytes")
-            }
-            Outcome::Refused(Refusal::NotBuilt) => text_line(alloc, b"refused: not built yet"),
+            Outcome::Completed(results) => print_results(alloc, results),
+            Outcome::Checked(script) => print_script(alloc, script),
+            Outcome::Refused(refusal) => refusal.text(alloc),
             Outcome::ReadFault => Ok(Vec::new(alloc)),
             Outcome::Usage => text_line(
                 alloc,
                 b"usage: lois run|check|reread|make N [--decider plain|graph|memo]",
             ),
+        }
+    }
+}
+
+impl Refusal {
+    fn text(&self, alloc: Global) -> Result<Vec<u8>, NoMemory>
+        ensures { IfOk result (λ text. text.items ≡ lined (refusal_text self.now)) }
+    {
+        match self {
+            Refusal::TooLong => text_line(alloc, b"refused: input over 1048576 bytes"),
+            Refusal::Lexical(number, place) => refused_line(alloc, *place, lexical_text(*number)),
+            Refusal::Syntax(number, place) => refused_line(alloc, *place, syntax_text(*number)),
+            Refusal::Scope(number, place) => refused_line(alloc, *place, scope_text(*number)),
+            Refusal::NotBuilt => text_line(alloc, b"refused: not built yet"),
         }
     }
 }

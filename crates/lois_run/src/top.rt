@@ -1,22 +1,22 @@
 //! The top call.
 
-ghost use Rattle.std.specs.Prelude.{◌≡◌, ◌≤◌, ◌⊎◌, ◌↔◌, [], IfOk, IsTrue, Ok, Some, map, string_bytes};
+ghost use Rattle.std.specs.Prelude.{◌≡◌, ◌≤◌, ◌⊎◌, ◌↔◌, IfOk, IsTrue, Ok, map, string_bytes};
 ghost use Rattle.lois_outside.specs.Faults.{Rose};
-ghost use Rattle.lois_run.specs.Causes.{IsOfText, IsOutcomeOf, IsTold};
-ghost use Rattle.lois_run.specs.Headline.{Headline};
-ghost use Rattle.lois_run.specs.Outcomes.{HasText, outcome_of_run};
-ghost use Rattle.lois_run.specs.Running.{run_on, running};
-ghost use Rattle.lois_run.specs.Words.{IsUsage, Lacks};
+ghost use Rattle.lois_run.specs.Causes.{AnswersText, IsOutcomeOf, IsTold};
+ghost use Rattle.lois_run.specs.Outcomes.{HasText};
+ghost use Rattle.lois_run.specs.Read.{IsReadOf};
+ghost use Rattle.lois_run.specs.Words.{IsRun, IsUsage, Lacks};
 ghost use Rattle.lois_run.specs.declared.outcomes.Outcome.{Outcome};
+ghost use Rattle.lois_run.specs.declared.reading.Read.TheVariants.{Script};
 
-use crate::first_reader::{FirstScript, read_first};
-use crate::first_run::{made_results, run};
+use crate::reading::{Read, read_text};
+use crate::running::{made_results, run};
 use crate::words::{Command, asked};
 use crate::{Outcome, Refusal};
 use lois_base::{Decider, NoMemory};
 use lois_deciders::Chosen;
-use lois_lexer::{LexError, lex};
 use lois_outside::{ReadError, Sink, Source, read_all, write_all};
+use lois_scope::Scoped;
 use std::alloc::Global;
 
 /// A script has at most so many bytes.
@@ -26,48 +26,56 @@ const WRITE_FAULT: u8 = 7;
 
 const NO_MEMORY: u8 = 8;
 
-// Whether no decider may be asked.
+// Whether a script is to be run and no decider may be asked.
 fn lacks_decider(command: Command, deciders: Vec<Box<dyn Decider>>) -> bool
     ensures { IsTrue result ↔ Lacks command (map (λ b. kind_of b) deciders.items) }
 {
-    let Command::Run(kind) = command;
-    Chosen::choose(deciders, kind).is_none()
+    match command {
+        Command::Run(kind) => Chosen::choose(deciders, kind).is_none(),
+        Command::Check => false,
+    }
 }
 
-// What the script comes to.
-fn run_script(alloc: Global, script: FirstScript) -> Result<Outcome, NoMemory>
-    ensures { IfOk result (λ o. o ≡ outcome_of_run script.order (run_on script.statements.items (Some (running [] [])))) }
+// What a script comes to that is run.
+fn run_script(
+    alloc: Global,
+    text: &[u8],
+    scoped: &Scoped,
+    command: Command,
+) -> Result<Outcome, NoMemory>
+    requires read { IsReadOf text.now (Script scoped.now) }
+    requires runs { IsRun command }
+    ensures answer { IfOk result (AnswersText command text.now) }
+    ensures written { IfOk result HasText }
 {
-    match run(alloc, &script.statements)? {
+    let script = scoped.script();
+    match run(alloc, script)? {
         Some(lines) => Ok(Outcome::Completed(made_results(alloc, script.order, lines)?)),
         None => Ok(Outcome::Refused(Refusal::NotBuilt)),
     }
 }
 
 // What the text comes to, once it is read.
-fn answer(alloc: Global, text: &[u8]) -> Result<Outcome, NoMemory>
-    ensures headline { IfOk result (Headline text.now ⊥) }
-    ensures kinds { IfOk result IsOfText }
+fn answer(alloc: Global, command: Command, text: &[u8]) -> Result<Outcome, NoMemory>
+    ensures answer { IfOk result (AnswersText command text.now) }
     ensures written { IfOk result HasText }
 {
-    let tokens = match lex(alloc, text) {
-        Ok(tokens) => tokens,
-        Err(LexError::NoMemory) => return Err(NoMemory),
-        Err(_) => return Ok(Outcome::Refused(Refusal::NotBuilt)),
-    };
-    match read_first(alloc, text, &tokens)? {
-        Some(script) => run_script(alloc, script),
-        None => Ok(Outcome::Refused(Refusal::NotBuilt)),
+    match read_text(alloc, text)? {
+        Read::Refused(refusal) => Ok(Outcome::Refused(refusal)),
+        Read::Script(scoped) => match command {
+            Command::Run(_) => run_script(alloc, text, &scoped, command),
+            Command::Check => Ok(Outcome::Checked(scoped.into_script())),
+        },
     }
 }
 
 /// What the words ask for, of the script that the source has left; `NoMemory` where memory ran out.
 /// The words are those after the program's name. `run` runs the script with the first decider, or with the first of the
-/// kind that the option `--decider` names. No decider is asked yet.
+/// kind that the option `--decider` names; `check` only reads it. No decider is asked yet.
 ///
-/// A script of at most 1,048,576 bytes is read. Until the whole language runs, scripts of other forms than
-/// `let` and `print` over `atoms`, `{}` and names are refused as not built.
-#[tactic(auto, using(crate::proofs::Told::nothing_asked, crate::proofs::Told::lacking_is_usage, crate::proofs::Told::served_is_no_usage, crate::proofs::Told::usage_is_told, crate::proofs::Told::long_is_told, crate::proofs::Told::answered_is_told))]
+/// A script of at most 1,048,576 bytes is read. Until the whole language runs, scripts of other forms than `let` and
+/// `print` over `atoms`, names, tags, tuples and listed sets are refused by `run` as not built.
+#[tactic(auto, using(crate::proofs::Told::usage_is_told, crate::proofs::Told::fault_is_told, crate::proofs::Told::long_is_told, crate::proofs::Told::answered_is_told))]
 pub fn outcome<S: Source>(
     alloc: Global,
     words: &[String],
@@ -90,7 +98,7 @@ pub fn outcome<S: Source>(
         return Ok(Outcome::Usage);
     }
     match read_all(alloc, source, LONGEST_TEXT) {
-        Ok(text) => answer(alloc, &text),
+        Ok(text) => answer(alloc, command, &text),
         Err(ReadError::ReadFault) => Ok(Outcome::ReadFault),
         Err(ReadError::TooLong(_)) => Ok(Outcome::Refused(Refusal::TooLong)),
         Err(ReadError::NoMemory) => Err(NoMemory),

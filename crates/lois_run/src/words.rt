@@ -10,6 +10,8 @@ use lois_base::Kind;
 pub(crate) enum Command {
     /// To run a script, with the first decider or the first of a kind.
     Run(Option<Kind>),
+    /// To read a script and to write its printed form.
+    Check,
 }
 
 /// What these words ask for; `None` where they are none that the program takes.
@@ -29,6 +31,8 @@ fn command_alone(word: &str) -> Option<Command>
 {
     if word == "run" {
         Some(Command::Run(None))
+    } else if word == "check" {
+        Some(Command::Check)
     } else {
         None
     }

@@ -80,10 +80,10 @@ fn call(
 }
 
 // With a source and a sink that never fail.
-fn run(alloc: Global, text: &[u8]) -> Result<Told, Fail> {
+fn asked(alloc: Global, words: &[&str], text: &[u8]) -> Result<Told, Fail> {
     call(
         alloc,
-        &["run"],
+        words,
         text,
         Edge {
             step: 4096,
@@ -97,10 +97,30 @@ fn run(alloc: Global, text: &[u8]) -> Result<Told, Fail> {
     )
 }
 
+fn run(alloc: Global, text: &[u8]) -> Result<Told, Fail> {
+    asked(alloc, &["run"], text)
+}
+
+// The front, so many pieces, and the back.
+fn repeated(
+    alloc: Global,
+    front: &[u8],
+    piece: &[u8],
+    times: usize,
+    back: &[u8],
+) -> Result<Vec<u8>, AllocError> {
+    let mut text = front.to_vec(alloc)?;
+    for _ in 0..times {
+        text.extend_from_slice(piece)?;
+    }
+    text.extend_from_slice(back)?;
+    Ok(text)
+}
+
 #[test]
 fn scripts_complete(rt: HostRuntime) -> Result<(), Fail> {
     let alloc = rt.alloc();
-    let rows: [(&str, &[u8], &[u8]); 6] = [
+    let rows: [(&str, &[u8], &[u8]); 8] = [
         ("all_atoms", SCRIPT, OUTPUT),
         (
             "empty_set",
@@ -127,6 +147,16 @@ fn scripts_complete(rt: HostRuntime) -> Result<(), Fail> {
             b"# all atoms\natoms\tequality;\r\n let a=atoms;# a set\nprint a;\n",
             OUTPUT,
         ),
+        (
+            "listed_set",
+            b"atoms equality; let s = {'a, ('b, {})}; print s;",
+            b"lois results 1\natoms equality\nparameters\ncase when true\ns = {'a, ('b, {})}\nend\n",
+        ),
+        (
+            "names_in_a_tuple",
+            b"atoms order; let a = atoms; let t = (a, 'end, {a, {}}); print t;",
+            b"lois results 1\natoms order\nparameters\ncase when true\nt = ({$0 for $0}, 'end, {{$0 for $0}, {}})\nend\n",
+        ),
     ];
     for (name, text, output) in rows {
         let told = run(alloc, text)?;
@@ -143,7 +173,7 @@ fn words_that_are_not_taken_are_usage(rt: HostRuntime) -> Result<(), Fail> {
         &[],
         &["run", "x"],
         &["Run"],
-        &["check"],
+        &["--decider", "graph", "run"],
         &["check", "--decider", "plain"],
         &["make", "0"],
         &["make", "10001"],
@@ -310,22 +340,122 @@ fn a_fault_of_the_sink_is_told(rt: HostRuntime) -> Result<(), Fail> {
     Ok(())
 }
 
+// Each text after `atoms equality; `, with the place in its line and the cause.
 #[test]
-fn other_texts_are_not_built(rt: HostRuntime) -> Result<(), Fail> {
+fn texts_are_refused(rt: HostRuntime) -> Result<(), Fail> {
     let alloc = rt.alloc();
-    for text in [
-        "",
-        "atoms equality",
-        "atoms equality; let a = atoms",
-        "atoms equality; let a = {atoms}; print a;",
-        "atoms equality; print a;",
-        "atoms equality; let a = atoms; let a = atoms;",
-        "atoms equality; parameter a; print a;",
-        "atoms equality; let a = @;",
-    ] {
+    let rows: [(&str, usize, &str); 15] = [
+        ("let a = @;", 25, "bad byte"),
+        ("while true turns 007 { }", 34, "bad number"),
+        ("let a = ;", 25, "not a script"),
+        (
+            "let a = ('t, 't, 't, 't, 't, 't, 't, 't, 't);",
+            56,
+            "tuple over 8",
+        ),
+        ("while true turns 1000001 { }", 34, "turns over 1000000"),
+        ("print b;", 23, "unknown name"),
+        ("let a = {}; let a = {};", 33, "name declared again"),
+        ("for x in atoms { print x; }", 34, "print in a loop"),
+        ("assert 'a < 'b;", 27, "order in an equality script"),
+        (
+            "let s = {}; for x in atoms { s := {x}; }",
+            46,
+            "assignment to outer variable",
+        ),
+        ("let a = atoms", 30, "not a script"),
+        ("print a b;", 25, "not a script"),
+        ("parameter a; parameter b;", 30, "not a script"),
+        ("let a = ; while true turns 1000001 { }", 25, "not a script"),
+        ("while true turns 1000001 { } ;", 34, "turns over 1000000"),
+    ];
+    for (rest, column, cause) in rows {
+        let text = format!(in alloc; "atoms equality; {rest}")?;
+        let line = format!(in alloc; "refused at 1:{column}: {cause}\n")?;
+        for word in ["run", "check"] {
+            let told = asked(alloc, &[word], text.as_bytes())?;
+            assert_eq!(rt; told.status, 5, "{word}: {rest}");
+            assert_eq!(rt; told.held.as_slice(), line.as_bytes(), "{word}: {rest}");
+        }
+    }
+    Ok(())
+}
+
+#[test]
+fn long_texts_are_refused(rt: HostRuntime) -> Result<(), Fail> {
+    let alloc = rt.alloc();
+    let name = repeated(alloc, b"atoms equality; let ", b"a", 65, b"")?;
+    let nested = repeated(alloc, b"atoms equality; let a = ", b"{", 65, b"")?;
+    let spaces = vec![in alloc; b' '; 1_048_576]?;
+    let rows: [(&[u8], &[u8]); 4] = [
+        (&name, b"refused at 1:21: long name\n"),
+        (&nested, b"refused at 1:89: nesting over 64\n"),
+        (&spaces, b"refused at 1:1048577: not a script\n"),
+        (b"", b"refused at 1:1: not a script\n"),
+    ];
+    for (text, line) in rows {
+        let told = run(alloc, text)?;
+        assert_eq!(rt; told.status, 5);
+        assert_eq!(rt; told.held.as_slice(), line);
+    }
+    Ok(())
+}
+
+#[test]
+fn scripts_of_other_forms_are_not_built(rt: HostRuntime) -> Result<(), Fail> {
+    let alloc = rt.alloc();
+    let rows: [(&str, &str); 3] = [
+        (
+            "atoms equality; parameter a; print a;",
+            "atoms equality ;\nparameter a ;\nprint a ;\n",
+        ),
+        (
+            "atoms equality; # one\nlet a = {x for x in atoms where true};",
+            "atoms equality ;\nlet a = { x for x in atoms } ;\n",
+        ),
+        (
+            "atoms order; assert not [true];",
+            "atoms order ;\nassert not true ;\n",
+        ),
+    ];
+    for (text, printed) in rows {
         let told = run(alloc, text.as_bytes())?;
         assert_eq!(rt; told.status, 5, "{text}");
         assert_eq!(rt; told.held.as_slice(), NOT_BUILT, "{text}");
+        let told = asked(alloc, &["check"], text.as_bytes())?;
+        assert_eq!(rt; told.status, 0, "{text}");
+        assert_eq!(rt; told.held.as_slice(), printed.as_bytes(), "{text}");
+    }
+    Ok(())
+}
+
+// 64 brackets at one place run, and so do 20,000 statements; a 65th set around a value doesn't yet.
+#[test]
+fn deep_and_long_scripts_run(rt: HostRuntime) -> Result<(), Fail> {
+    let alloc = rt.alloc();
+    let front = repeated(alloc, b"atoms equality; let a = ", b"{", 64, b"")?;
+    let mut deep = repeated(alloc, &front, b"}", 64, b"; ")?;
+    assert_eq!(rt; run(alloc, &deep)?.status, 0);
+    deep.extend_from_slice(b"let b = {a};")?;
+    assert_eq!(rt; run(alloc, &deep)?.held.as_slice(), NOT_BUILT);
+    let mut long = b"atoms order;".to_vec(alloc)?;
+    for index in 0..20_000u32 {
+        let line = format!(in alloc; "let n{index} = {{}};")?;
+        long.extend_from_slice(line.as_bytes())?;
+    }
+    assert_eq!(rt; run(alloc, &long)?.status, 0);
+    Ok(())
+}
+
+// The first bytes of the script, up to each length.
+#[test]
+fn truncated_scripts(rt: HostRuntime) -> Result<(), Fail> {
+    let alloc = rt.alloc();
+    let whole = [15, 16, 30, 31, 39];
+    for len in 0..=SCRIPT.len() {
+        let told = run(alloc, &SCRIPT[..len])?;
+        let status = if whole.contains(&len) { 0 } else { 5 };
+        assert_eq!(rt; told.status, status, "{len}");
     }
     Ok(())
 }

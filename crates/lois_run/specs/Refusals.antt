@@ -1,0 +1,75 @@
+-- Why a text is refused: each refusal with the fact that it comes for.
+use Rattle.std.specs.Prelude.{◌≡◌, ℕ, ◌+◌, ◌==◌, List, length, take, not, count_by, slice_get, option_map, unwrap_or}
+use Rattle.std.specs.List.{suffix_len}
+use Rattle.lois_lexer.specs.Refusals.{Refuses as LexRefuses}
+use Rattle.lois_lexer.specs.Tokens.{HasTokens}
+use Rattle.lois_lexer.specs.declared.LexError.{LexError}
+use Rattle.lois_lexer.specs.declared.LexError.TheVariants.{BadByte, LongName, BadNumber}
+use Rattle.lois_lexer.specs.declared.Place.{Place}
+use Rattle.lois_lexer.specs.declared.Token.{Token}
+use Rattle.lois_meaning.specs.Limits.{Spells}
+use Rattle.lois_meaning.specs.Scope.{IsWellScoped}
+use Rattle.lois_meaning.specs.Tree.{ScriptD}
+use Rattle.lois_scope.specs.Refusals.{Refuses as ScopeRefuses}
+use Rattle.lois_scope.specs.declared.checking.ScopeError.{ScopeError}
+use Rattle.lois_scope.specs.declared.checking.ScopeError.TheVariants.{Unknown, Again, OuterAssign, PrintInLoop, OrderInEquality}
+use Rattle.lois_syntax.specs.Refusals.{tokens_in, Refuses as SyntaxRefuses}
+use Rattle.lois_syntax.specs.declared.SyntaxError.{SyntaxError}
+use Rattle.lois_syntax.specs.declared.SyntaxError.TheVariants.{NoScript, TooNested, WideTuple, TurnsTooMany}
+use Rattle.lois_run.specs.BuiltForms.{IsBuilt}
+use Rattle.lois_run.specs.declared.outcomes.Refusal.{Refusal}
+use Rattle.lois_run.specs.declared.outcomes.Refusal.TheVariants.{TooLong, Lexical, Syntax, Scope, NotBuilt}
+
+-- the line is one more than the LFs (10) before the offset, and the column one more than the bytes since the last of them
+pub record IsPlaceOf (text : List ℕ) (offset : ℕ) (place : Place) : Type 0 where
+  pub line : place.line ≡ 1 + count_by (λ b. b == 10) (take offset text)
+  pub column : place.column ≡ 1 + suffix_len (λ b. not (b == 10)) (take offset text)
+
+-- the offset of the token's first byte, or the end of the text where there is no such token
+abbrev pub token_place : List ℕ → List Token → ℕ → ℕ
+token_place text tokens index = unwrap_or (option_map (λ t. t.from) (slice_get tokens index)) (length text)
+
+abbrev pub IsLexical : List ℕ → ℕ → ℕ → Refusal → Type 0
+IsLexical text number at (Lexical n place) = (n ≡ number) × IsPlaceOf text at place
+IsLexical text number at _ = ⊥
+
+-- the refusal tells the error
+abbrev pub LexicalTells : List ℕ → LexError → Refusal → Type 0
+LexicalTells text (BadByte at) refusal = IsLexical text 1 at refusal
+LexicalTells text (LongName at) refusal = IsLexical text 2 at refusal
+LexicalTells text (BadNumber at) refusal = IsLexical text 3 at refusal
+LexicalTells text _ refusal = ⊥
+
+abbrev pub IsSyntax : List ℕ → List Token → ℕ → ℕ → Refusal → Type 0
+IsSyntax text tokens number index (Syntax n place) = (n ≡ number) × IsPlaceOf text (token_place text tokens index) place
+IsSyntax text tokens number index _ = ⊥
+
+abbrev pub SyntaxTells : List ℕ → List Token → SyntaxError → Refusal → Type 0
+SyntaxTells text tokens (NoScript k) refusal = IsSyntax text tokens 1 k refusal
+SyntaxTells text tokens (TooNested k) refusal = IsSyntax text tokens 2 k refusal
+SyntaxTells text tokens (WideTuple k) refusal = IsSyntax text tokens 3 k refusal
+SyntaxTells text tokens (TurnsTooMany k) refusal = IsSyntax text tokens 4 k refusal
+SyntaxTells text tokens _ refusal = ⊥
+
+abbrev pub IsScope : List ℕ → ℕ → ℕ → Refusal → Type 0
+IsScope text number at (Scope n place) = (n ≡ number) × IsPlaceOf text at place
+IsScope text number at _ = ⊥
+
+abbrev pub ScopeTells : List ℕ → ScopeError → Refusal → Type 0
+ScopeTells text (Unknown p) refusal = IsScope text 1 p.offset refusal
+ScopeTells text (Again p) refusal = IsScope text 2 p.offset refusal
+ScopeTells text (OuterAssign p) refusal = IsScope text 3 p.offset refusal
+ScopeTells text (PrintInLoop p) refusal = IsScope text 4 p.offset refusal
+ScopeTells text (OrderInEquality p) refusal = IsScope text 5 p.offset refusal
+ScopeTells text _ refusal = ⊥
+
+-- The text is refused so: at its first place without a token, at the least token at fault, at the first break of a rule of
+-- scope, or as a well-scoped script of other forms than those that run. A text that is too long isn't looked at.
+abbrev pub IsRefusedAs : List ℕ → Refusal → Type 0
+IsRefusedAs text TooLong = ⊥
+IsRefusedAs text (Lexical n place) = (error : LexError) × LexRefuses text error × LexicalTells text error (Lexical n place)
+IsRefusedAs text (Syntax n place) =
+    (tokens : List Token) × (error : SyntaxError) × HasTokens text tokens × SyntaxRefuses (tokens_in text tokens) error × SyntaxTells text tokens error (Syntax n place)
+IsRefusedAs text (Scope n place) =
+    (s : ScriptD) × (error : ScopeError) × Spells text s × ScopeRefuses s error × ScopeTells text error (Scope n place)
+IsRefusedAs text NotBuilt = (s : ScriptD) × Spells text s × IsWellScoped s × (IsBuilt s → ⊥)

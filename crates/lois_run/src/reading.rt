@@ -1,0 +1,103 @@
+//! From a text to its script, or to the first thing that is wrong with it.
+
+ghost use Rattle.std.specs.Prelude.{◌≡◌, ◌≤◌, IfOk, MatchResult, length, map};
+ghost use Rattle.lois_lexer.specs.declared.LexError.{LexError};
+ghost use Rattle.lois_scope.specs.declared.checking.ScopeError.{ScopeError};
+ghost use Rattle.lois_syntax.specs.declared.SyntaxError.{SyntaxError};
+ghost use Rattle.lois_run.specs.Refusals.{IsPlaceOf, token_place, LexicalTells, SyntaxTells, ScopeTells};
+ghost use Rattle.lois_run.specs.Read.{IsReadOf};
+
+use crate::Refusal;
+use lois_base::NoMemory;
+use lois_lexer::{LexError, Place, Token, lex, place_of};
+use lois_scope::{ScopeError, Scoped, check};
+use lois_syntax::{SyntaxError, read_script};
+use std::alloc::Global;
+
+/// What a text is.
+#[derive(Drop)]
+pub(crate) enum Read {
+    /// A well-scoped script.
+    Script(Scoped),
+    /// None, and why.
+    Refused(Refusal),
+}
+
+/// The script that the text spells, if it is well scoped; else the first refusal.
+pub(crate) fn read_text(alloc: Global, text: &[u8]) -> Result<Read, NoMemory>
+    ensures { IfOk result (IsReadOf text.now) }
+{
+    let tokens = match lex(alloc, text) {
+        Ok(tokens) => tokens,
+        Err(error) => return Ok(Read::Refused(lexical_refusal(text, error)?)),
+    };
+    let script = match read_script(alloc, &tokens, text) {
+        Ok(script) => script,
+        Err(error) => return Ok(Read::Refused(syntax_refusal(text, &tokens, error)?)),
+    };
+    match check(alloc, script) {
+        Ok(scoped) => Ok(Read::Script(scoped)),
+        Err(error) => Ok(Read::Refused(scope_refusal(text, error)?)),
+    }
+}
+
+// An offset behind the end stands for the end.
+fn place_at(text: &[u8], offset: usize) -> Place
+    ensures { IsPlaceOf text.now offset result }
+{
+    place_of(text, offset.min(text.len()))
+}
+
+// The place of a token's first byte, or the end of the text where there is no such token.
+fn place_of_token(text: &[u8], tokens: &[Token], index: usize) -> Place
+    ensures { IsPlaceOf text.now (token_place text.now tokens.now index) result }
+{
+    match tokens.get(index) {
+        Some(token) => place_at(text, token.from),
+        None => place_at(text, text.len()),
+    }
+}
+
+fn lexical_refusal(text: &[u8], error: LexError) -> Result<Refusal, NoMemory>
+    ensures { MatchResult result (LexicalTells text.now error) (λ e. error ≡ LexError.NoMemory) }
+{
+    match error {
+        LexError::BadByte(at) => Ok(Refusal::Lexical(1, place_at(text, at))),
+        LexError::LongName(at) => Ok(Refusal::Lexical(2, place_at(text, at))),
+        LexError::BadNumber(at) => Ok(Refusal::Lexical(3, place_at(text, at))),
+        LexError::NoMemory => Err(NoMemory),
+    }
+}
+
+fn syntax_refusal(text: &[u8], tokens: &[Token], error: SyntaxError) -> Result<Refusal, NoMemory>
+    ensures { MatchResult result (SyntaxTells text.now tokens.now error) (λ e. error ≡ SyntaxError.NoMemory) }
+{
+    match error {
+        SyntaxError::NoScript(index) => {
+            Ok(Refusal::Syntax(1, place_of_token(text, tokens, index)))
+        }
+        SyntaxError::TooNested(index) => {
+            Ok(Refusal::Syntax(2, place_of_token(text, tokens, index)))
+        }
+        SyntaxError::WideTuple(index) => {
+            Ok(Refusal::Syntax(3, place_of_token(text, tokens, index)))
+        }
+        SyntaxError::TurnsTooMany(index) => {
+            Ok(Refusal::Syntax(4, place_of_token(text, tokens, index)))
+        }
+        SyntaxError::NoMemory => Err(NoMemory),
+    }
+}
+
+fn scope_refusal(text: &[u8], error: ScopeError) -> Result<Refusal, NoMemory>
+    ensures { MatchResult result (ScopeTells text.now error) (λ e. error ≡ ScopeError.NoMemory) }
+{
+    match error {
+        ScopeError::Unknown(pos) => Ok(Refusal::Scope(1, place_at(text, pos.offset))),
+        ScopeError::Again(pos) => Ok(Refusal::Scope(2, place_at(text, pos.offset))),
+        ScopeError::OuterAssign(pos) => Ok(Refusal::Scope(3, place_at(text, pos.offset))),
+        ScopeError::PrintInLoop(pos) => Ok(Refusal::Scope(4, place_at(text, pos.offset))),
+        ScopeError::OrderInEquality(pos) => Ok(Refusal::Scope(5, place_at(text, pos.offset))),
+        ScopeError::NoMemory => Err(NoMemory),
+    }
+}

@@ -1,0 +1,81 @@
+//! The lines that the outcomes are told by.
+
+ghost use Rattle.std.specs.Prelude.{◌≡◌, ◌≤◌, ◌++◌, IfOk, OnOk};
+ghost use Rattle.std.specs.Fmt.{decimal};
+ghost use Rattle.lois_meaning.specs.ResultsText.{lined};
+ghost use Rattle.lois_run.specs.Texts.{lexical_text, syntax_text, scope_text, placed_text};
+
+use lois_base::NoMemory;
+use lois_lexer::Place;
+use std::alloc::Global;
+
+fn append(text: &mut Vec<u8>, piece: &[u8]) -> Result<(), NoMemory>
+    ensures { OnOk result (text.new.items ≡ text.old.items ++ piece.now) }
+{
+    text.extend_from_slice(piece).map_err(|_| NoMemory)
+}
+
+fn append_number(alloc: Global, text: &mut Vec<u8>, number: usize) -> Result<(), NoMemory>
+    ensures { OnOk result (text.new.items ≡ text.old.items ++ decimal number) }
+{
+    let digits = format!(in alloc; "{number}")?;
+    append(text, digits.as_bytes())
+}
+
+/// The words with the end of their line.
+pub(crate) fn text_line(alloc: Global, words: &[u8]) -> Result<Vec<u8>, NoMemory>
+    ensures { IfOk result (λ text. text.items ≡ lined words.now) }
+{
+    let mut text = Vec::new(alloc);
+    append(&mut text, words)?;
+    append(&mut text, b"\n")?;
+    Ok(text)
+}
+
+/// The line of a refusal at a place.
+pub(crate) fn refused_line(alloc: Global, place: Place, cause: &[u8]) -> Result<Vec<u8>, NoMemory>
+    ensures { IfOk result (λ text. text.items ≡ lined (placed_text place cause.now)) }
+{
+    let mut text = Vec::new(alloc);
+    append(&mut text, b"refused at ")?;
+    append_number(alloc, &mut text, place.line)?;
+    append(&mut text, b":")?;
+    append_number(alloc, &mut text, place.column)?;
+    append(&mut text, b": ")?;
+    append(&mut text, cause)?;
+    append(&mut text, b"\n")?;
+    Ok(text)
+}
+
+pub(crate) fn lexical_text(number: u8) -> &'static [u8]
+    ensures { result.now ≡ lexical_text number }
+{
+    match number {
+        1 => b"bad byte",
+        2 => b"long name",
+        _ => b"bad number",
+    }
+}
+
+pub(crate) fn syntax_text(number: u8) -> &'static [u8]
+    ensures { result.now ≡ syntax_text number }
+{
+    match number {
+        1 => b"not a script",
+        2 => b"nesting over 64",
+        3 => b"tuple over 8",
+        _ => b"turns over 1000000",
+    }
+}
+
+pub(crate) fn scope_text(number: u8) -> &'static [u8]
+    ensures { result.now ≡ scope_text number }
+{
+    match number {
+        1 => b"unknown name",
+        2 => b"name declared again",
+        3 => b"assignment to outer variable",
+        4 => b"print in a loop",
+        _ => b"order in an equality script",
+    }
+}
