@@ -1,0 +1,12 @@
+pub mod Asked
+pub mod Beside
+pub mod Inserted
+pub mod Kept
+pub mod Members
+pub mod OneRound
+pub mod Pass
+pub mod Renaming
+pub mod Single
+pub mod Tuples
+pub mod Under
+pub mod Written

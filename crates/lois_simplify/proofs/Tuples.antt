@@ -1,0 +1,125 @@
+-- Tuples part by part, and sets comprehension by comprehension.
+use Rattle.std.proofs.Common.{◌≡◌, ℕ, suc, ◌≤◌, List, [], ◌∷◌, ◌++◌, length, refl, ap, subst, append-nil, arith}
+use Rattle.std.specs.Prelude.{Bool}
+use Rattle.std.specs.Bool.{IsTrue}
+use Rattle.std.specs.List.{All, Contains}
+use Rattle.std.proofs.lemmas.List.Elements.{All-nil, All-push, All-weaker, All-contains, All-contains_itself}
+use Rattle.lois_base.specs.Atom.{Atom}
+use Rattle.lois_base.specs.Data.{TermD, tup, terms_of, CompD, depth_of_parts}
+use Rattle.lois_base.specs.Fits.{PartsFit}
+use Rattle.lois_base.specs.Normal.{IsNormal, PartsAreNormal}
+use Rattle.lois_base.specs.Truth.{holds}
+use Rattle.lois_base.specs.Validity.{AdmitsParts, count_of_parts, PartsHaveUsualWidths}
+use Rattle.lois_base.specs.Values.{SamePartsAt}
+use Rattle.lois_base.specs.declared.guards.Lit.{Lit}
+use Rattle.lois_simplify.specs.Kept.{IsKept, set_of}
+use Rattle.lois_simplify.specs.Lean.{HasNormalGuards, PartsHaveNormalGuards, IsLeanComp}
+use Rattle.lois_simplify.proofs.Kept.{kept_refl, kept_trans, alike_kept, kept-append}
+
+-- s stands for t, and is normal
+pub record IsSimplified (u : List (List Lit)) (n : ℕ) (t s : TermD) : Type 0 where
+  pub kept : IsKept u n t s
+  pub normal : IsNormal s u n
+  pub guards : HasNormalGuards s
+
+module _ (u : List (List Lit)) (n : ℕ) where
+  abbrev pub PartsSimplified : List TermD → List TermD → Type 0
+  PartsSimplified [] [] = Unit {0}
+  PartsSimplified (t ∷ ts) (s ∷ ss) = IsSimplified u n t s × PartsSimplified ts ss
+  PartsSimplified _ _ = ⊥
+
+  pub part_behind : (ts ss : List TermD) (t s : TermD) → PartsSimplified ts ss → IsSimplified u n t s → PartsSimplified (ts ++ t ∷ []) (ss ++ s ∷ [])
+  part_behind [] [] t s h p = (p, tt)
+  part_behind [] (r ∷ ss) t s h p = absurd h
+  part_behind (q ∷ ts) [] t s h p = absurd h
+  part_behind (q ∷ ts) (r ∷ ss) t s h p = (h.0, part_behind ts ss t s h.1 p)
+
+  same_parts : (ts ss : List TermD) → PartsSimplified ts ss → (c : List Atom) → length c ≡ n → IsTrue (holds c u) → SamePartsAt (terms_of ts) c (terms_of ss) c
+  same_parts [] [] h c l o = tt
+  same_parts [] (s ∷ ss) h c l o = absurd h
+  same_parts (t ∷ ts) [] h c l o = absurd h
+  same_parts (t ∷ ts) (s ∷ ss) h c l o = ((h.0).kept.value c l o, same_parts ts ss h.1 c l o)
+
+  parts_levels : (ts ss : List TermD) → PartsSimplified ts ss → PartsFit n (terms_of ts) → PartsFit n (terms_of ss)
+  parts_levels [] [] h f = f
+  parts_levels [] (s ∷ ss) h f = absurd h
+  parts_levels (t ∷ ts) [] h f = absurd h
+  parts_levels (t ∷ ts) (s ∷ ss) h f = ((h.0).kept.levels f.0, parts_levels ts ss h.1 f.1)
+
+  parts_operators : (ts ss : List TermD) → PartsSimplified ts ss → (o : Bool) → AdmitsParts o (terms_of ts) → AdmitsParts o (terms_of ss)
+  parts_operators [] [] h o f = f
+  parts_operators [] (s ∷ ss) h o f = absurd h
+  parts_operators (t ∷ ts) [] h o f = absurd h
+  parts_operators (t ∷ ts) (s ∷ ss) h o f =
+      ((h.0).kept.operators o f.0, parts_operators ts ss h.1 o f.1)
+
+  parts_count : (ts ss : List TermD) → PartsSimplified ts ss → count_of_parts (terms_of ts) ≡ count_of_parts (terms_of ss)
+  parts_count [] [] h = refl
+  parts_count [] (s ∷ ss) h = absurd h
+  parts_count (t ∷ ts) [] h = absurd h
+  parts_count (t ∷ ts) (s ∷ ss) h = ap suc (parts_count ts ss h.1)
+
+  parts_widths : (ts ss : List TermD) → PartsSimplified ts ss → PartsHaveUsualWidths (terms_of ts) → PartsHaveUsualWidths (terms_of ss)
+  parts_widths [] [] h f = f
+  parts_widths [] (s ∷ ss) h f = absurd h
+  parts_widths (t ∷ ts) [] h f = absurd h
+  parts_widths (t ∷ ts) (s ∷ ss) h f = ((h.0).kept.widths f.0, parts_widths ts ss h.1 f.1)
+
+  parts_depth : (ts ss : List TermD) → PartsSimplified ts ss → depth_of_parts (terms_of ss) ≤ depth_of_parts (terms_of ts)
+  parts_depth [] [] h = omega arith
+  parts_depth [] (s ∷ ss) h = absurd h
+  parts_depth (t ∷ ts) [] h = absurd h
+  parts_depth (t ∷ ts) (s ∷ ss) h = omega (arith, (h.0).kept.depth, parts_depth ts ss h.1)
+
+  pub tuple_kept : (ts ss : List TermD) → PartsSimplified ts ss → IsKept u n (tup (terms_of ts)) (tup (terms_of ss))
+  tuple_kept ts ss h = record {
+    value = same_parts ts ss h;
+    levels = parts_levels ts ss h;
+    operators = parts_operators ts ss h;
+    widths = λ f. (subst (λ k. 2 ≤ k) (parts_count ts ss h) f.0, subst (λ k. k ≤ 8) (parts_count ts ss h) f.1, parts_widths ts ss h f.2);
+    depth = omega (arith, parts_depth ts ss h);
+  }
+
+  pub parts_normal : (ts ss : List TermD) → PartsSimplified ts ss → PartsAreNormal (terms_of ss) u n
+  parts_normal [] [] h = tt
+  parts_normal [] (s ∷ ss) h = absurd h
+  parts_normal (t ∷ ts) [] h = absurd h
+  parts_normal (t ∷ ts) (s ∷ ss) h = ((h.0).normal, parts_normal ts ss h.1)
+
+  pub parts_guards : (ts ss : List TermD) → PartsSimplified ts ss → PartsHaveNormalGuards (terms_of ss)
+  parts_guards [] [] h = tt
+  parts_guards [] (s ∷ ss) h = absurd h
+  parts_guards (t ∷ ts) [] h = absurd h
+  parts_guards (t ∷ ts) (s ∷ ss) h = ((h.0).guards, parts_guards ts ss h.1)
+
+-- ---- the comprehensions `done` are made lean one by one
+pub record LeanSoFar (u : List (List Lit)) (n : ℕ) (done found : List CompD) : Type 0 where
+  pub kept : IsKept u n (set_of done) (set_of found)
+  pub lean : All (IsLeanComp u n) found
+
+module _ (u : List (List Lit)) (n : ℕ) where
+  pub lean_begin : LeanSoFar u n [] []
+  lean_begin =
+      record { kept = kept_refl u n (set_of []); lean = All-nil (IsLeanComp u n) }
+
+  pub lean_found : (done found : List CompD) (k r : CompD) → LeanSoFar u n done found → IsKept u n (set_of (k ∷ [])) (set_of (r ∷ [])) → IsLeanComp u n r → LeanSoFar u n (done ++ k ∷ []) (found ++ r ∷ [])
+  lean_found done found k r so_far kept lean = record {
+    kept = kept-append u n done found (k ∷ []) (r ∷ []) so_far.kept kept;
+    lean = All-push (IsLeanComp u n) found r so_far.lean lean;
+  }
+
+  pub lean_none : (done found : List CompD) (k : CompD) → LeanSoFar u n done found → IsKept u n (set_of (k ∷ [])) (set_of []) → LeanSoFar u n (done ++ k ∷ []) found
+  lean_none done found k so_far kept = record {
+    kept = subst (λ z. IsKept u n (set_of (done ++ k ∷ [])) (set_of z)) (append-nil found) (kept-append u n done found (k ∷ []) [] so_far.kept kept);
+    lean = so_far.lean;
+  }
+
+  -- equal ones are cut before and after
+  pub lean_kept : (whole several found rest : List CompD) → ((k : CompD) → Contains whole k → Contains several k) → ((k : CompD) → Contains several k → Contains whole k) → LeanSoFar u n several found → ((k : CompD) → Contains found k → Contains rest k) → ((k : CompD) → Contains rest k → Contains found k) → IsKept u n (set_of whole) (set_of rest)
+  lean_kept whole several found rest all only so_far all' only' =
+      kept_trans u n (set_of whole) (set_of several) (set_of rest) (alike_kept u n whole several all only)
+      (kept_trans u n (set_of several) (set_of found) (set_of rest) so_far.kept (alike_kept u n found rest all' only'))
+
+  pub fewer_lean : (found rest : List CompD) → All (IsLeanComp u n) found → ((k : CompD) → Contains rest k → Contains found k) → All (IsLeanComp u n) rest
+  fewer_lean found rest lean only =
+      All-weaker (Contains rest) (IsLeanComp u n) (λ k h. All-contains (IsLeanComp u n) found k lean (only k h)) rest (All-contains_itself rest)

@@ -1,0 +1,8 @@
+use Rattle.std.proofs.Common.{drop, map}
+use Rattle.lois_base.specs.Tree.{comp_of}
+use Rattle.lois_simplify.proofs.Pass.{UncoveredSoFar}
+use Rattle.lois_simplify.proofs.covering.uncovered.Given as goal
+
+abbrev pub invariant-loop-index : goal.invariant-loop-index
+invariant-loop-index g l =
+    UncoveredSoFar l.under l.size l.comps l.kept (map comp_of (drop l.index l.items))

@@ -1,0 +1,146 @@
+//! Binders that a comprehension can do without: those that are fixed to an earlier level, and those that don't occur.
+
+ghost use Rattle.std.specs.Prelude.{◌≡◌, ℕ, ◌+◌, ◌<◌, ◌≤◌, Bool, List, [], ◌∷◌, length, ◌&&◌, IfOk, IfSome, IsNone, IsTrue, IsFalse};
+ghost use Rattle.lois_base.specs.Atom.{Atom};
+ghost use Rattle.lois_base.specs.Fits.{ConstraintFits};
+ghost use Rattle.lois_base.specs.Normal.{Occurs};
+ghost use Rattle.lois_base.specs.Tree.{tree};
+ghost use Rattle.lois_base.specs.Truth.{holds};
+ghost use Rattle.lois_deciders.specs.Asked.{Meets, CanBeMet};
+ghost use Rattle.lois_simplify.specs.Fixed.{IsFixed, CanBeApart};
+
+use crate::answering::Answers;
+use lois_base::{Constraint, Cube, Lit, NoMemory, Op, Term};
+use lois_constraint::{and, meet};
+use lois_terms::occurs;
+use std::alloc::Global;
+
+/// A binder, and an earlier level that has the same atom throughout.
+#[derive(Clone, Copy, PartialEq, Eq, Debug)]
+pub(crate) struct Fixed {
+    pub(crate) binder: usize,
+    pub(crate) level: usize,
+}
+
+/// `size` numbers at which both constraints hold, where `here` is both. A contradiction that `here` has lost is for the
+/// decider to refuse.
+pub(crate) fn ask_both<D: Answers>(
+    alloc: Global,
+    under: &Constraint,
+    guard: &Constraint,
+    here: &Constraint,
+    size: usize,
+    decider: &mut D,
+) -> Result<Option<Vec<u64>>, NoMemory>
+    requires under { ConstraintFits size under.now }
+    requires guard { ConstraintFits size guard.now }
+    requires here { ConstraintFits size here.now }
+    requires both { (c : List Atom) → holds c here.now ≡ (holds c under.now && holds c guard.now) }
+    ensures sample { IfOk result (λ o. IfSome o (λ s. Meets size here.now s.items)) }
+    ensures none { IfOk result (λ o. IsNone o → CanBeMet size here.now → ⊥) }
+{
+    if here.len() > 0 {
+        return decider.sample(alloc, here, size);
+    }
+    let product = and(alloc, under, guard)?;
+    decider.sample(alloc, &product, size)
+}
+
+fn apart(alloc: Global, left: usize, right: usize) -> Result<Constraint, NoMemory>
+    ensures { IfOk result (λ r. r ≡ (record { op = Op.Ne; left = left; right = right } ∷ []) ∷ []) }
+{
+    let mut cube = Cube::new(alloc);
+    cube.push(Lit {
+        op: Op::Ne,
+        left,
+        right,
+    })?;
+    let mut constraint = Constraint::new(alloc);
+    constraint.push(cube)?;
+    Ok(constraint)
+}
+
+// Whether the binder has the atom of the level wherever the constraint holds. The sample tells of most pairs that they can
+// differ.
+fn is_fixed<D: Answers>(
+    alloc: Global,
+    here: &Constraint,
+    size: usize,
+    binder: usize,
+    level: usize,
+    sample: &[u64],
+    decider: &mut D,
+) -> Result<bool, NoMemory>
+    requires here { ConstraintFits size here.now }
+    requires binder { binder < size }
+    requires level { level < size }
+    requires sample { Meets size here.now sample.now }
+    ensures fixed { IfOk result (λ b. IsTrue b → IsFixed size here.now binder level) }
+    ensures free { IfOk result (λ b. IsFalse b → CanBeApart size here.now binder level) }
+{
+    if sample[level] != sample[binder] {
+        return Ok(false);
+    }
+    let different = meet(alloc, here, &apart(alloc, binder, level)?)?;
+    let other = decider.sample(alloc, &different, size)?;
+    Ok(other.is_none())
+}
+
+fn fixed_level<D: Answers>(
+    alloc: Global,
+    here: &Constraint,
+    size: usize,
+    binder: usize,
+    sample: &[u64],
+    decider: &mut D,
+) -> Result<Option<usize>, NoMemory>
+    requires here { ConstraintFits size here.now }
+    requires binder { binder < size }
+    requires sample { Meets size here.now sample.now }
+    ensures some { IfOk result (λ o. IfSome o (λ a. (a < binder) × IsFixed size here.now binder a)) }
+    ensures none { IfOk result (λ o. IsNone o → (a : ℕ) → a < binder → CanBeApart size here.now binder a) }
+{
+    for level in 0..binder {
+        if is_fixed(alloc, here, size, binder, level, sample, decider)? {
+            return Ok(Some(level));
+        }
+    }
+    Ok(None)
+}
+
+/// The first binder from `from` on that is fixed to an earlier level wherever the constraint holds, with that level.
+pub(crate) fn fixed_binder<D: Answers>(
+    alloc: Global,
+    here: &Constraint,
+    from: usize,
+    size: usize,
+    sample: &[u64],
+    decider: &mut D,
+) -> Result<Option<Fixed>, NoMemory>
+    requires here { ConstraintFits size here.now }
+    requires sample { Meets size here.now sample.now }
+    ensures range { IfOk result (λ o. IfSome o (λ f. (from ≤ f.binder) × (f.binder < size) × (f.level < f.binder))) }
+    ensures some { IfOk result (λ o. IfSome o (λ f. IsFixed size here.now f.binder f.level)) }
+    ensures none { IfOk result (λ o. IsNone o → (b : ℕ) → from ≤ b → b < size → (a : ℕ) → a < b → CanBeApart size here.now b a) }
+{
+    for binder in from..size {
+        if let Some(level) = fixed_level(alloc, here, size, binder, sample, decider)? {
+            return Ok(Some(Fixed { binder, level }));
+        }
+    }
+    Ok(None)
+}
+
+/// The first binder from `from` on that doesn't occur in the item.
+pub(crate) fn unused_binder(item: &Term, from: usize, size: usize) -> Option<usize>
+    ensures range { IfSome result (λ b. (from ≤ b) × (b < size)) }
+    ensures some { IfSome result (λ b. Occurs b (tree item.now) → ⊥) }
+    ensures none { IsNone result → (b : ℕ) → from ≤ b → b < size → Occurs b (tree item.now) }
+{
+    for binder in from..size {
+        if !occurs(binder, item) {
+            return Some(binder);
+        }
+    }
+    None
+}

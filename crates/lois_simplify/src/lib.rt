@@ -1,0 +1,15 @@
+//! Normal terms: the same values with as few comprehensions and binders as they need.
+#![tactic(auto)]
+
+mod answering;
+mod binding;
+mod covering;
+mod distinct;
+mod fixing;
+mod moving;
+mod rounds;
+mod simplifying;
+#[cfg(test)]
+mod tests;
+
+pub use simplifying::simplify;

@@ -1,0 +1,99 @@
+//! One round of making a comprehension lean: what is seen of it before its item is simplified, and after.
+
+ghost use Rattle.std.specs.Prelude.{◌+◌, ◌≤◌, IfOk};
+ghost use Rattle.lois_base.specs.Fits.{ConstraintFits, CompFits};
+ghost use Rattle.lois_base.specs.Tree.{comp_of};
+ghost use Rattle.lois_base.specs.Validity.{AdmitsComp};
+ghost use Rattle.lois_simplify.specs.Rounds.{IsOpeningOf, IsClosingOf, IsKeptEverywhere};
+
+use crate::answering::Answers;
+use crate::fixing::{ask_both, fixed_binder, unused_binder};
+use crate::moving::without_binder;
+use lois_base::{Comp, Constraint, NoMemory, Structure};
+use lois_constraint::{meet, normalise};
+use std::alloc::Global;
+
+/// What one round makes of a comprehension. One that is shorter has a binder less.
+#[derive(Drop)]
+pub(crate) enum Round {
+    Lean(Comp),
+    Empty,
+    Shorter(Comp),
+}
+
+/// A comprehension with members, a normalised guard and no fixed binder, and what holds in it.
+#[derive(Drop)]
+pub(crate) struct Open {
+    pub(crate) comp: Comp,
+    pub(crate) here: Constraint,
+}
+
+/// A round that is over before the item is looked at, or one that needs the item.
+#[derive(Drop)]
+pub(crate) enum Opening {
+    Over(Round),
+    Open(Open),
+}
+
+// The comprehension without the binders that its item doesn't use.
+fn with_used_binders<T: Structure>(alloc: Global, comp: Comp, size: usize) -> Result<Comp, NoMemory>
+    requires levels { CompFits size (comp_of comp) }
+    requires operators { AdmitsComp T.ordered (comp_of comp) }
+    ensures kept { IfOk result (λ r. IsKeptEverywhere size (comp_of comp) (comp_of r)) }
+    ensures binders { IfOk result (λ r. r.binders ≤ comp.binders) }
+{
+    let mut current = comp;
+    while let Some(binder) = unused_binder(&current.item, size, size + current.binders) {
+        current = without_binder::<T>(alloc, &current, size, binder, 0)?;
+    }
+    Ok(current)
+}
+
+/// Drops a comprehension without members, and leaves out the first binder that is fixed. Binders that the item doesn't use go
+/// before any decider is asked.
+pub(crate) fn open_round<T: Structure, D: Answers>(
+    alloc: Global,
+    comp: Comp,
+    under: &Constraint,
+    size: usize,
+    decider: &mut D,
+) -> Result<Opening, NoMemory>
+    requires levels { CompFits size (comp_of comp) }
+    requires under_levels { ConstraintFits size under.now }
+    requires operators { AdmitsComp T.ordered (comp_of comp) }
+    ensures { IfOk result (IsOpeningOf under.now size comp) }
+{
+    let comp = with_used_binders::<T>(alloc, comp, size)?;
+    let inner = size + comp.binders;
+    let comp = Comp {
+        binders: comp.binders,
+        guard: normalise(alloc, &comp.guard)?,
+        item: comp.item,
+    };
+    let here = meet(alloc, under, &comp.guard)?;
+    let Some(sample) = ask_both(alloc, under, &comp.guard, &here, inner, decider)? else {
+        return Ok(Opening::Over(Round::Empty));
+    };
+    let Some(fixed) = fixed_binder(alloc, &here, size, inner, &sample, decider)? else {
+        return Ok(Opening::Open(Open { comp, here }));
+    };
+    let shorter = without_binder::<T>(alloc, &comp, size, fixed.binder, fixed.level)?;
+    Ok(Opening::Over(Round::Shorter(shorter)))
+}
+
+/// Leaves out the first binder that the item doesn't use. Where each is used, the comprehension is lean.
+pub(crate) fn close_round<T: Structure>(
+    alloc: Global,
+    comp: Comp,
+    size: usize,
+) -> Result<Round, NoMemory>
+    requires levels { CompFits size (comp_of comp) }
+    requires operators { AdmitsComp T.ordered (comp_of comp) }
+    ensures { IfOk result (IsClosingOf size comp) }
+{
+    let inner = size + comp.binders;
+    match unused_binder(&comp.item, size, inner) {
+        Some(binder) => Ok(Round::Shorter(without_binder::<T>(alloc, &comp, size, binder, 0)?)),
+        None => Ok(Round::Lean(comp)),
+    }
+}

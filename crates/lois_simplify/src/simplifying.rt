@@ -1,0 +1,183 @@
+//! Normal terms.
+
+ghost use Rattle.std.specs.Prelude.{◌≡◌, ℕ, ◌+◌, ◌<◌, ◌≤◌, Bool, List, [], ◌∷◌, ◌&&◌, IfOk, IfSome};
+ghost use Rattle.std.specs.List.{All};
+ghost use Rattle.lois_base.specs.Atom.{Atom};
+ghost use Rattle.lois_base.specs.Data.{depth, tup, terms_of, comps_of};
+ghost use Rattle.lois_base.specs.Fits.{ConstraintFits, Fits, PartsFit, CompFits, ItemsFit};
+ghost use Rattle.lois_base.specs.Normal.{IsNormal, PartsAreNormal};
+ghost use Rattle.lois_base.specs.Tree.{tree, comp_of};
+ghost use Rattle.lois_base.specs.Validity.{AdmitsConstraint, AdmitsTerm, AdmitsParts, AdmitsComp, AdmitsItems, HasUsualWidths};
+ghost use Rattle.lois_base.specs.Truth.{holds};
+ghost use Rattle.lois_constraint.specs.Normalised.{IsNormalised};
+ghost use Rattle.lois_deciders.specs.Asked.{CanBeMet};
+ghost use Rattle.lois_simplify.specs.Fixed.{CanBeApart};
+ghost use Rattle.lois_simplify.specs.Kept.{IsKept, IsSameWhere, set_of};
+ghost use Rattle.lois_simplify.specs.Lean.{HasNormalGuards, PartsHaveNormalGuards, IsLeanComp};
+ghost use Rattle.lois_simplify.specs.Rounds.{only, listed, IsRoundOf};
+
+use crate::answering::Answers;
+use crate::covering::uncovered;
+use crate::distinct::distinct;
+use crate::rounds::{Open, Opening, Round, close_round, open_round};
+use lois_base::{Comp, Comps, Constraint, NoMemory, Structure, Term, Terms};
+use lois_deciders::Chosen;
+use std::alloc::Global;
+
+/// A normal term with the value of the given one at each choice of `size` atoms at which `under` holds. Its guards are
+/// normalised, and it has no operator that the term hasn't. The decider is asked whatever turns on a choice of atoms.
+/// Errors: `NoMemory`.
+pub fn simplify<T: Structure>(
+    alloc: Global,
+    term: &Term,
+    under: &Constraint,
+    size: usize,
+    chosen: &mut Chosen,
+) -> Result<Term, NoMemory>
+    requires levels { Fits size (tree term.now) }
+    requires under_levels { ConstraintFits size under.now }
+    requires operators { AdmitsTerm T.ordered (tree term.now) }
+    requires under_operators { AdmitsConstraint T.ordered under.now }
+    ensures value { IfOk result (λ r. IsSameWhere under.now size (tree term.now) (tree r)) }
+    ensures normal { IfOk result (λ r. IsNormal (tree r) under.now size) }
+    ensures guards { IfOk result (λ r. HasNormalGuards (tree r)) }
+    ensures levels { IfOk result (λ r. Fits size (tree r)) }
+    ensures operators { IfOk result (λ r. (ordered : Bool) → AdmitsTerm ordered (tree term.now) → AdmitsTerm ordered (tree r)) }
+    ensures widths { IfOk result (λ r. HasUsualWidths (tree term.now) → HasUsualWidths (tree r)) }
+    ensures depth { IfOk result (λ r. depth (tree r) ≤ depth (tree term.now)) }
+{
+    simplified::<T, Chosen>(alloc, term, under, size, chosen)
+}
+
+#[cycle(simplifying)]
+fn simplified<T: Structure, D: Answers>(
+    alloc: Global,
+    term: &Term,
+    under: &Constraint,
+    size: usize,
+    decider: &mut D,
+) -> Result<Term, NoMemory>
+    requires levels { Fits size (tree term.now) }
+    requires under_levels { ConstraintFits size under.now }
+    requires operators { AdmitsTerm T.ordered (tree term.now) }
+    requires under_operators { AdmitsConstraint T.ordered under.now }
+    ensures kept { IfOk result (λ r. IsKept under.now size (tree term.now) (tree r)) }
+    ensures normal { IfOk result (λ r. IsNormal (tree r) under.now size) }
+    ensures guards { IfOk result (λ r. HasNormalGuards (tree r)) }
+{
+    match term {
+        Term::Var(level) => Ok(Term::Var(*level)),
+        Term::Tag(name) => Ok(Term::Tag(name.copy(alloc)?)),
+        Term::Tup(parts) => Ok(Term::Tup(simplified_parts::<T, D>(
+            alloc, parts, under, size, decider,
+        )?)),
+        Term::Coll(comps) => {
+            let lean = lean_comps::<T, D>(alloc, comps, under, size, decider)?;
+            Ok(Term::Coll(uncovered::<T, D>(alloc, &lean, under, size, decider)?))
+        }
+    }
+}
+
+#[cycle(simplifying)]
+fn simplified_parts<T: Structure, D: Answers>(
+    alloc: Global,
+    parts: &Terms,
+    under: &Constraint,
+    size: usize,
+    decider: &mut D,
+) -> Result<Terms, NoMemory>
+    requires levels { PartsFit size (terms_of parts.now) }
+    requires under_levels { ConstraintFits size under.now }
+    requires operators { AdmitsParts T.ordered (terms_of parts.now) }
+    requires under_operators { AdmitsConstraint T.ordered under.now }
+    ensures kept { IfOk result (λ r. IsKept under.now size (tup (terms_of parts.now)) (tup (terms_of r))) }
+    ensures normal { IfOk result (λ r. PartsAreNormal (terms_of r) under.now size) }
+    ensures guards { IfOk result (λ r. PartsHaveNormalGuards (terms_of r)) }
+{
+    let mut simple = Terms::new(alloc);
+    for part in parts.as_slice() {
+        simple.push(simplified::<T, D>(alloc, part, under, size, decider)?)?;
+    }
+    Ok(simple)
+}
+
+// Each comprehension made lean by itself. Those that are written alike are cut first, before a decider is asked, and again
+// at the end.
+#[cycle(simplifying)]
+fn lean_comps<T: Structure, D: Answers>(
+    alloc: Global,
+    comps: &Comps,
+    under: &Constraint,
+    size: usize,
+    decider: &mut D,
+) -> Result<Comps, NoMemory>
+    requires levels { ItemsFit size (comps_of comps.now) }
+    requires under_levels { ConstraintFits size under.now }
+    requires operators { AdmitsItems T.ordered (comps_of comps.now) }
+    requires under_operators { AdmitsConstraint T.ordered under.now }
+    ensures kept { IfOk result (λ r. IsKept under.now size (set_of comps.now) (set_of r)) }
+    ensures lean { IfOk result (All (IsLeanComp under.now size)) }
+{
+    let several = distinct(alloc, comps)?;
+    let mut found = Comps::new(alloc);
+    for comp in several.as_slice() {
+        if let Some(simple) = lean_comp::<T, D>(alloc, comp, under, size, decider)? {
+            found.push(simple)?;
+        }
+    }
+    distinct(alloc, &found)
+}
+
+// The comprehension made lean by itself, or `None` where it has no members.
+#[cycle(simplifying)]
+fn lean_comp<T: Structure, D: Answers>(
+    alloc: Global,
+    comp: &Comp,
+    under: &Constraint,
+    size: usize,
+    decider: &mut D,
+) -> Result<Option<Comp>, NoMemory>
+    requires levels { CompFits size (comp_of comp.now) }
+    requires under_levels { ConstraintFits size under.now }
+    requires operators { AdmitsComp T.ordered (comp_of comp.now) }
+    requires under_operators { AdmitsConstraint T.ordered under.now }
+    ensures kept { IfOk result (λ o. IsKept under.now size (set_of (only (comp_of comp.now))) (set_of (listed o))) }
+    ensures lean { IfOk result (λ o. IfSome o (λ k. IsLeanComp under.now size (comp_of k))) }
+{
+    let mut current = comp.copy(alloc)?;
+    'rounds: loop {
+        match one_round::<T, D>(alloc, current, under, size, decider)? {
+            Round::Lean(simple) => return Ok(Some(simple)),
+            Round::Empty => return Ok(None),
+            Round::Shorter(shorter) => current = shorter,
+        }
+    }
+}
+
+// Whatever a round has changed is looked at afresh in the next one.
+#[cycle(simplifying)]
+fn one_round<T: Structure, D: Answers>(
+    alloc: Global,
+    comp: Comp,
+    under: &Constraint,
+    size: usize,
+    decider: &mut D,
+) -> Result<Round, NoMemory>
+    requires levels { CompFits size (comp_of comp) }
+    requires under_levels { ConstraintFits size under.now }
+    requires operators { AdmitsComp T.ordered (comp_of comp) }
+    requires under_operators { AdmitsConstraint T.ordered under.now }
+    ensures { IfOk result (IsRoundOf under.now size comp) }
+{
+    let Open { comp, here } = match open_round::<T, D>(alloc, comp, under, size, decider)? {
+        Opening::Over(round) => return Ok(round),
+        Opening::Open(open) => open,
+    };
+    let inner = size + comp.binders;
+    let comp = Comp {
+        binders: comp.binders,
+        guard: comp.guard,
+        item: simplified::<T, D>(alloc, &comp.item, &here, inner, decider)?,
+    };
+    close_round::<T>(alloc, comp, size)
+}
