@@ -19,16 +19,37 @@ fn texts_are_refused_at_their_first_fault(rt: HostRuntime) -> Result<(), Fail> {
         (b"atoms equality; let a = ;", Some(NoScript(6))),
         (b"atoms equality; let a = atoms", Some(NoScript(7))),
         (b"atoms equality; print a b;", Some(NoScript(5))),
-        (b"atoms equality; parameter a; parameter b;", Some(NoScript(6))),
+        (
+            b"atoms equality; parameter a; parameter b;",
+            Some(NoScript(6)),
+        ),
         (b"atoms equality; let a = ('t);", Some(NoScript(8))),
-        (b"atoms equality; if a = b { } else { } else { }", Some(NoScript(12))),
-        (b"atoms order; let a = ('t, 't, 't, 't, 't, 't, 't, 't);", None),
-        (b"atoms order; let a = ('t, 't, 't, 't, 't, 't, 't, 't, 't);", Some(WideTuple(22))),
+        (
+            b"atoms equality; if a = b { } else { } else { }",
+            Some(NoScript(12)),
+        ),
+        (
+            b"atoms order; let a = ('t, 't, 't, 't, 't, 't, 't, 't);",
+            None,
+        ),
+        (
+            b"atoms order; let a = ('t, 't, 't, 't, 't, 't, 't, 't, 't);",
+            Some(WideTuple(22)),
+        ),
         (b"atoms equality; while true turns 1000000 { }", None),
-        (b"atoms equality; while true turns 1000001 { }", Some(TurnsTooMany(6))),
+        (
+            b"atoms equality; while true turns 1000001 { }",
+            Some(TurnsTooMany(6)),
+        ),
         // The least token of two.
-        (b"atoms equality; let a = ; while true turns 1000001 { }", Some(NoScript(6))),
-        (b"atoms equality; while true turns 1000001 { } ;", Some(TurnsTooMany(6))),
+        (
+            b"atoms equality; let a = ; while true turns 1000001 { }",
+            Some(NoScript(6)),
+        ),
+        (
+            b"atoms equality; while true turns 1000001 { } ;",
+            Some(TurnsTooMany(6)),
+        ),
     ];
     for (text, expected) in cases {
         assert_eq!(rt; refusal(rt.alloc(), text)?, expected);
@@ -41,14 +62,19 @@ fn only_whole_statements_end_a_script(rt: HostRuntime) -> Result<(), Fail> {
     let text: &[u8] = b"atoms equality; let a = atoms; print a;";
     // The number of tokens in each front of the text, at which it is refused.
     let missing = [
-        0, 0, 0, 0, 0, 1, 1, 1, 1, 1, 1, 1, 1, 1, 2, 3, 3, 4, 4, 4, 4, 5, 5, 6, 6, 7, 7, 7, 7, 7, 8, 8, 9, 9, 9, 9, 9, 9, 10, 11,
+        0, 0, 0, 0, 0, 1, 1, 1, 1, 1, 1, 1, 1, 1, 2, 3, 3, 4, 4, 4, 4, 5, 5, 6, 6, 7, 7, 7, 7, 7,
+        8, 8, 9, 9, 9, 9, 9, 9, 10, 11,
     ];
     for (length, token) in missing.into_iter().enumerate() {
         let expected = match length {
             15 | 16 | 30 | 31 | 39 => None,
             _ => Some(NoScript(token)),
         };
-        assert_eq!(rt; refusal(rt.alloc(), &text[..length])?, expected, "{length} bytes");
+        assert_eq!(rt;
+            refusal(rt.alloc(), &text[..length])?,
+            expected,
+            "{length} bytes"
+        );
     }
     Ok(())
 }
@@ -68,8 +94,14 @@ fn brackets_may_be_64_deep(rt: HostRuntime) -> Result<(), Fail> {
         for (depth, expected) in [(64, None), (65, Some(TooNested(token)))] {
             let opened = open.repeat(alloc, depth)?;
             let closed = close.repeat(alloc, depth)?;
-            let text = format!(in alloc; "atoms equality; {before}{opened}{inside}{closed}{behind}")?;
-            assert_eq!(rt; refusal(alloc, text.as_bytes())?, expected, "{depth} times {open}");
+            let text = format!(in alloc;
+                "atoms equality; {before}{opened}{inside}{closed}{behind}"
+            )?;
+            assert_eq!(rt;
+                refusal(alloc, text.as_bytes())?,
+                expected,
+                "{depth} times {open}"
+            );
         }
     }
     Ok(())
