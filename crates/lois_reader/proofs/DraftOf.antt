@@ -41,6 +41,14 @@ pub unbroken_append : (ps qs : List Piece) → Unbroken ps → Unbroken qs → U
 unbroken_append [] qs h k = k
 unbroken_append (p ∷ ps) qs h k = (h.0, unbroken_append ps qs h.1 k)
 
+pub unbroken_front : (ps qs : List Piece) → Unbroken (ps ++ qs) → Unbroken ps
+unbroken_front [] qs h = tt
+unbroken_front (p ∷ ps) qs h = (h.0, unbroken_front ps qs h.1)
+
+pub unbroken_back : (ps qs : List Piece) → Unbroken (ps ++ qs) → Unbroken qs
+unbroken_back [] qs h = h
+unbroken_back (p ∷ ps) qs h = unbroken_back ps qs h.1
+
 pub unbroken_each : {A : Type 0} (pieces : A → List Piece) (Good : A → Type 0) → ((x : A) → Good x → Unbroken (pieces x)) → (xs : List A) → AllByRecursion Good xs → Unbroken (each pieces xs)
 unbroken_each pieces Good one [] all = tt
 unbroken_each pieces Good one (x ∷ xs) all = unbroken_append (pieces x) (each pieces xs) (one x all.0) (unbroken_each pieces Good one xs all.1)
@@ -68,7 +76,7 @@ name_is_word (b ∷ bs) h = and_from (is_ascii_alphabetic b) (list_all is_word_b
 folds : FoldsDigits value_from
 folds = record { empty = λ n. refl; more = λ n c cs h. refl }
 
-numerals : IsNumeralModel (λ ds. all_ascii_digits ds ≡ true) (value_from 0)
+pub numerals : IsNumeralModel (λ ds. all_ascii_digits ds ≡ true) (value_from 0)
 numerals = numerals_by_fold (λ ds. all_ascii_digits ds ≡ true) tells_all_ascii_digits value_from folds
 
 pub value_decimal : (i : ℕ) → i < 2 ^ 64 → value (decimal i) ≡ i
@@ -111,7 +119,7 @@ constraint_draft ps cs = map (cube_draft ps) cs
 pub lt_test : (a b : ℕ) → a < b → nat_lt a b ≡ true
 lt_test a b h = grind (arith, nat_tests)
 
-ge_test : (a b : ℕ) → b ≤ a → nat_lt a b ≡ false
+pub ge_test : (a b : ℕ) → b ≤ a → nat_lt a b ≡ false
 ge_test a b h = grind (arith, nat_tests)
 
 pub le_test : (a b : ℕ) → a ≤ b → nat_le a b ≡ true

@@ -21,3 +21,5 @@ pub mod Told
 pub mod TraceBack
 pub mod TraceFronts
 pub mod Verdict
+mod SoundAnswers
+mod SoundTerms

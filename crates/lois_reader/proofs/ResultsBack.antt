@@ -108,7 +108,7 @@ apart : (w : List ℕ) (ws : List (List ℕ)) → (Contains ws w → ⊥) → Al
 apart w [] h = tt
 apart w (x ∷ xs) h = (unequal x w (λ e. h (0, omega arith, e)), apart w xs (λ k. h (suc k.0, omega (arith, k.1), k.2)))
 
-among_append : (xs : List (List ℕ)) (w x : List ℕ) → is_among (xs ++ w ∷ []) x ≡ (is_among xs x || bytes_eq x w)
+pub among_append : (xs : List (List ℕ)) (w x : List ℕ) → is_among (xs ++ w ∷ []) x ≡ (is_among xs x || bytes_eq x w)
 among_append [] w x = or_none (bytes_eq x w)
   where
     or_none : (b : Bool) → (b || false) ≡ b
@@ -213,7 +213,7 @@ results_value r sound =
     ap (λ (cs : List CaseD). let x : Results = record { order = r.order; parameters = r.parameters; cases = cs } in x)
     (cases_value (scope_of (results_draft r)) r.cases (parameters_of r.parameters sound.parameters) (recursion_from_All (IsSoundCase r.order (length r.parameters)) r.cases sound.cases))
 
-reading_is : (d : ResultsDraft) → IsResultsDraft d → results_reading (text_of (results_pieces d)) ≡ (out (results_pieces d) (results_of d) [] >>= λ x. Ok x.0)
+pub reading_is : (d : ResultsDraft) → IsResultsDraft d → results_reading (text_of (results_pieces d)) ≡ (out (results_pieces d) (results_of d) [] >>= λ x. Ok x.0)
 reading_is d form = ap (λ e. e >>= λ end. results_text_at (text_of (results_pieces d))) (results_text_front d form) ∙ results_text_out d form
 
 -- Sound results are read from their text.

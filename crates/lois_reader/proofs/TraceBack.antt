@@ -25,7 +25,7 @@ use Rattle.lois_reader.specs.Reading.{◌>>=◌}
 use Rattle.lois_reader.proofs.Outcome.{size, size_is, text_append}
 use Rattle.lois_reader.proofs.AnswerFronts.{head_rest}
 use Rattle.lois_reader.proofs.AnswerOutcome.{line_of}
-use Rattle.lois_reader.proofs.DraftOf.{Unbroken, unbroken_append, out_unbroken, Small, value_decimal, decimal_is_number, term_draft, term_text, each_map, le_test, lt_test}
+use Rattle.lois_reader.proofs.DraftOf.{Unbroken, unbroken_append, unbroken_front, unbroken_back, out_unbroken, Small, value_decimal, decimal_is_number, term_draft, term_text, each_map, le_test, lt_test}
 use Rattle.lois_reader.proofs.ResultsBack.{line_draft, results_draft, each_flat, line_regroup, head_rest_text, results_text_is, parameters_of, head_whole, lines_form, lines_whole, lines_value, results_form, results_whole, results_value, out_broken}
 use Rattle.lois_reader.proofs.TraceFronts.{trace_scope, number_pieces, choice_line, element_pieces, elements_of, trace_rest_is, trace_of, length_map, answer_of, answer_reading_is}
 
@@ -114,15 +114,7 @@ numbers_whole (a ∷ as_) h =
 
 element_lines : (s : Scope) (k : ℕ) (ls : List LineDraft) → Unbroken (each (line_pieces s k) ls) → Unbroken (each (element_pieces s k) ls)
 element_lines s k [] h = tt
-element_lines s k (l ∷ ls) h = (refl, unbroken_append (line_pieces s k l) (each (element_pieces s k) ls) (front_of (line_pieces s k l) (each (line_pieces s k) ls) h) (element_lines s k ls (back_of (line_pieces s k l) (each (line_pieces s k) ls) h)))
-  where
-    front_of : (ps qs : List Piece) → Unbroken (ps ++ qs) → Unbroken ps
-    front_of [] qs h = tt
-    front_of (p ∷ ps) qs h = (h.0, front_of ps qs h.1)
-
-    back_of : (ps qs : List Piece) → Unbroken (ps ++ qs) → Unbroken qs
-    back_of [] qs h = h
-    back_of (p ∷ ps) qs h = back_of ps qs h.1
+element_lines s k (l ∷ ls) h = (refl, unbroken_append (line_pieces s k l) (each (element_pieces s k) ls) (unbroken_front (line_pieces s k l) (each (line_pieces s k) ls) h) (element_lines s k ls (unbroken_back (line_pieces s k l) (each (line_pieces s k) ls) h)))
 
 pub trace_whole : (t : Trace) → IsSoundTrace t → length t.sample < 2 ^ 64 → Unbroken (trace_pieces (trace_draft t))
 trace_whole t sound short =

@@ -25,10 +25,10 @@ abbrev pub HasNone : {V : Type 0} → (V → Type 0) → ResultError → Type 0
 HasNone {V} Holds NoMemory = Unit {0}
 HasNone {V} Holds (NotResults k) = (v : V) → Holds v → ⊥
 
--- A text of the shape that breaks a side rule is refused at the first that it breaks.
+-- A text of the shape is refused only where it breaks a side rule, at the first that it breaks.
 abbrev pub IsPlaceOfRule : {D : Type 0} → (D → Type 0) → (D → List Piece) → ResultError → Type 0
 IsPlaceOfRule {D} Spells pieces NoMemory = Unit {0}
-IsPlaceOfRule {D} Spells pieces (NotResults k) = (d : D) (p : ℕ) → Spells d → first_broken (pieces d) ≡ Some p → k ≡ p
+IsPlaceOfRule {D} Spells pieces (NotResults k) = (d : D) → Spells d → first_broken (pieces d) ≡ Some k
 
 -- A text that isn't of the shape is refused where it leaves the shape.
 abbrev pub IsPlaceOfShape : (List ℕ → Type 0) → List ℕ → ResultError → Type 0
