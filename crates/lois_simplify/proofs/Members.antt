@@ -7,7 +7,7 @@ use Rattle.lois_base.specs.Data.{TermD, CompD, comps_of, depth_of_comp, depth_of
 use Rattle.lois_base.specs.Fits.{CompFits, ItemsFit}
 use Rattle.lois_base.specs.Validity.{AdmitsComp, AdmitsItems, CompHasUsualWidths, ItemsHaveUsualWidths}
 use Rattle.lois_base.specs.Values.{MakesAt, MemberAt, SameAt, InAt}
-use Rattle.lois_base.proofs.Same.{all_in_is, is_all_in, is_some_is, same_at_refl, same_at_sym, same_at_trans}
+use Rattle.lois_base.proofs.Same.{all_in_is, is_all_in, is_some_is, same_at_refl, same_at_sym}
 use Rattle.lois_simplify.specs.Kept.{set_of}
 
 module _ {X : Type 0} where
@@ -47,10 +47,6 @@ in_more xs ys more t c d i = (i.0, i.1, member_more xs ys more i.0 i.1 d i.2, i.
 
 pub member_in : (xs : List CompD) (w : TermD) (x d : List Atom) → MemberAt w x (comps_of xs) d → InAt w x (comps_of xs) d
 member_in xs w x d m = (w, x, m, same_at_refl w x)
-
--- what is the same as something in a set is in it
-pub in_same_at : (xs : List CompD) (t s : TermD) (c e d : List Atom) → SameAt t c s e → InAt s e (comps_of xs) d → InAt t c (comps_of xs) d
-in_same_at xs t s c e d same i = (i.0, i.1, i.2, same_at_trans t c s e i.0 i.1 same i.3)
 
 pub sets_same : (xs ys : List CompD) (c d : List Atom) → ((w : TermD) (x : List Atom) → MemberAt w x (comps_of xs) c → InAt w x (comps_of ys) d) → ((w : TermD) (x : List Atom) → MemberAt w x (comps_of ys) d → InAt w x (comps_of xs) c) → SameAt (set_of xs) c (set_of ys) d
 sets_same xs ys c d there back = (

@@ -1,5 +1,5 @@
 -- One pass over comprehensions that drops each of those that the others cover.
-use Rattle.std.proofs.Common.{◌≡◌, ℕ, ◌+◌, ◌-◌, ◌<◌, List, [], ◌∷◌, ◌++◌, length, get_or, take, drop, map, sym, ap, subst, append-nil, append_assoc, length-drop, arith}
+use Rattle.std.proofs.Common.{◌≡◌, ℕ, ◌+◌, ◌-◌, ◌<◌, List, [], ◌∷◌, ◌++◌, length, get_or, take, drop, map, sym, ap, subst, append_assoc, length-drop, arith}
 use Rattle.std.specs.Prelude.{Bool}
 use Rattle.std.specs.List.{Contains}
 use Rattle.std.proofs.lemmas.List.{take_all}
@@ -65,11 +65,3 @@ module _ (u : List (List Lit)) (n : ℕ) (whole : List CompD) where
       only = subst (λ z. (j : CompD) → Contains z j → Contains whole j) (sym (append_assoc kept (k ∷ []) coming)) so_far.only;
       own = own_with u n [] kept coming k so_far.own own;
     }
-
-  pub uncovered_value : (kept : List CompD) → UncoveredSoFar u n whole kept [] → IsKept u n (set_of whole) (set_of kept)
-  uncovered_value kept so_far =
-      subst (λ z. IsKept u n (set_of whole) (set_of z)) (append-nil kept) so_far.value
-
-  pub uncovered_only : (kept : List CompD) → UncoveredSoFar u n whole kept [] → (k : CompD) → Contains kept k → Contains whole k
-  uncovered_only kept so_far =
-      subst (λ z. (j : CompD) → Contains z j → Contains whole j) (append-nil kept) so_far.only

@@ -3,7 +3,7 @@ use Rattle.std.proofs.Common.{◌≡◌, ℕ, suc, ◌≤◌, List, [], ◌∷�
 use Rattle.std.specs.Prelude.{Bool}
 use Rattle.std.specs.Bool.{IsTrue}
 use Rattle.std.specs.List.{All, Contains}
-use Rattle.std.proofs.lemmas.List.Elements.{All-nil, All-push, All-weaker, All-contains, All-contains_itself}
+use Rattle.std.proofs.lemmas.List.Elements.{All-push, All-weaker, All-contains, All-contains_itself}
 use Rattle.lois_base.specs.Atom.{Atom}
 use Rattle.lois_base.specs.Data.{TermD, tup, terms_of, CompD, depth_of_parts}
 use Rattle.lois_base.specs.Fits.{PartsFit}
@@ -14,7 +14,7 @@ use Rattle.lois_base.specs.Values.{SamePartsAt}
 use Rattle.lois_base.specs.declared.guards.Lit.{Lit}
 use Rattle.lois_simplify.specs.Kept.{IsKept, set_of}
 use Rattle.lois_simplify.specs.Lean.{HasNormalGuards, PartsHaveNormalGuards, IsLeanComp}
-use Rattle.lois_simplify.proofs.Kept.{kept_refl, kept_trans, alike_kept, kept-append}
+use Rattle.lois_simplify.proofs.Kept.{kept_trans, alike_kept, kept-append}
 
 -- s stands for t, and is normal
 pub record IsSimplified (u : List (List Lit)) (n : ℕ) (t s : TermD) : Type 0 where
@@ -98,10 +98,6 @@ pub record LeanSoFar (u : List (List Lit)) (n : ℕ) (done found : List CompD) :
   pub lean : All (IsLeanComp u n) found
 
 module _ (u : List (List Lit)) (n : ℕ) where
-  pub lean_begin : LeanSoFar u n [] []
-  lean_begin =
-      record { kept = kept_refl u n (set_of []); lean = All-nil (IsLeanComp u n) }
-
   pub lean_found : (done found : List CompD) (k r : CompD) → LeanSoFar u n done found → IsKept u n (set_of (k ∷ [])) (set_of (r ∷ [])) → IsLeanComp u n r → LeanSoFar u n (done ++ k ∷ []) (found ++ r ∷ [])
   lean_found done found k r so_far kept lean = record {
     kept = kept-append u n done found (k ∷ []) (r ∷ []) so_far.kept kept;

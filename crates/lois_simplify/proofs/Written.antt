@@ -1,9 +1,8 @@
 -- Lists that are written alike, item by item, and the items that a list has so far.
-use Rattle.std.proofs.Common.{◌≡◌, ℕ, ◌+◌, ◌<◌, ◌≤◌, inl, inr, List, [], ◌∷◌, ◌++◌, length, get_or, drop, take, map, sym, ap, ◌∙◌, subst, arith}
+use Rattle.std.proofs.Common.{◌≡◌, ℕ, ◌+◌, ◌<◌, ◌≤◌, inl, inr, List, [], ◌∷◌, ◌++◌, length, get_or, take, map, sym, ap, ◌∙◌, subst, arith}
 use Rattle.std.specs.List.{Contains}
-use Rattle.std.proofs.lemmas.List.{drop_all, take_all, take_more, map-append, get_or-map, length-map}
+use Rattle.std.proofs.lemmas.List.{take_all, take_more, map-append, get_or-map, length-map}
 use Rattle.std.proofs.lemmas.List.Elements.{Contains-append_left, Contains-push, Contains-push_cases}
-use Rattle.lois_relate.proofs.Loops.{rest_is}
 
 -- `kept` has what was seen so far, and only what the whole list has
 pub record HasSeen {Y : Type 0} (seen whole kept : List Y) : Type 0 where
@@ -26,14 +25,6 @@ module _ {Y : Type 0} (seen whole kept : List Y) (y : Y) (so_far : HasSeen seen 
   }
 
 module _ {X Y : Type 0} (f : X → Y) where
-  -- what is left of two lists is alike where their next items are, and what is left behind these
-  pub alike_from : (xs ys : List X) (i : ℕ) (x y : X) → i < length xs → i < length ys → x ≡ get_or xs i x → y ≡ get_or ys i y → f x ≡ f y → map f (drop (i + 1) xs) ≡ map f (drop (i + 1) ys) → map f (drop i xs) ≡ map f (drop i ys)
-  alike_from xs ys i x y k l p q e h =
-      ap (map f) (rest_is xs i x k p) ∙ (ap (λ z. z ∷ map f (drop (i + 1) xs)) e ∙ (ap (λ zs. f y ∷ zs) h ∙ sym (ap (map f) (rest_is ys i y l q))))
-
-  pub alike_at_end : (xs ys : List X) (i : ℕ) → length xs ≤ i → length ys ≤ i → map f (drop i xs) ≡ map f (drop i ys)
-  alike_at_end xs ys i k l = ap (map f) (drop_all i xs k) ∙ sym (ap (map f) (drop_all i ys l))
-
   -- the items before an index, and one more
   pub one_more : (xs : List X) (i : ℕ) (x : X) → i < length xs → x ≡ get_or xs i x → map f (take (i + 1) xs) ≡ map f (take i xs) ++ f x ∷ []
   one_more xs i x l e =
