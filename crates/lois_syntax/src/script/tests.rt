@@ -70,11 +70,8 @@ fn only_whole_statements_end_a_script(rt: HostRuntime) -> Result<(), Fail> {
             15 | 16 | 30 | 31 | 39 => None,
             _ => Some(NoScript(token)),
         };
-        assert_eq!(rt;
-            refusal(rt.alloc(), &text[..length])?,
-            expected,
-            "{length} bytes"
-        );
+        let front = text.get(..length).unwrap_or(text);
+        assert_eq!(rt; refusal(rt.alloc(), front)?, expected, "{length} bytes");
     }
     Ok(())
 }
