@@ -8,7 +8,7 @@
 set -u
 top=$(cd "$(dirname "${BASH_SOURCE[0]}")/.." && pwd)
 reference=${REFERENCE:-$top/../shared/reference}
-missing=${MISSING:-make|reread}
+missing=${MISSING:-make}
 form=${FORM:-}
 [ $# -gt 0 ] || set -- 7 11
 

@@ -1,6 +1,8 @@
 -- The answer to a text.
-use Rattle.std.proofs.Common.{◌≡◌, ◌≢◌, ℕ, ◌≤◌, List, [], sym, subst, inl, arith}
+use Rattle.std.proofs.Common.{◌≡◌, ◌≢◌, ℕ, ◌≤◌, List, [], Option, sym, subst, inl, arith}
+use Rattle.lois_base.specs.declared.deciding.Kind.{Kind}
 use Rattle.lois_lexer.specs.Tokens.{HasTokens}
+use Rattle.lois_lexer.specs.declared.Place.{Place}
 use Rattle.lois_lexer.specs.declared.Token.{Token}
 use Rattle.lois_meaning.specs.Limits.{Spells}
 use Rattle.lois_meaning.specs.Scope.{IsWellScoped}
@@ -18,15 +20,13 @@ use Rattle.lois_run.specs.Causes.{AnswersText}
 use Rattle.lois_run.specs.Headline.{IsAnswer}
 use Rattle.lois_run.specs.Outcomes.{HasNumber, HasText, plain_results}
 use Rattle.lois_run.specs.Read.{IsReadOf, SpellsNone}
-use Rattle.lois_run.specs.Refusals.{SyntaxTells, ScopeTells, IsRefusedAs}
+use Rattle.lois_run.specs.Refusals.{SyntaxTells, ScopeTells, IsRefusedAs, IsNoAnswerAt, IsPlaceOf}
 use Rattle.lois_run.specs.Values.{all_lines}
-use Rattle.lois_run.specs.Words.{IsRun}
 use Rattle.lois_run.specs.declared.outcomes.Outcome.TheVariants.{Completed, Refused}
 use Rattle.lois_run.specs.declared.outcomes.Refusal.{Refusal}
-use Rattle.lois_run.specs.declared.outcomes.Refusal.TheVariants.{TooLong, Lexical, Syntax, Scope, NotBuilt}
+use Rattle.lois_run.specs.declared.outcomes.Refusal.TheVariants.{TooLong, Lexical, Syntax, Scope, NotResults, NotBuilt}
 use Rattle.lois_run.specs.declared.reading.Read.TheVariants.{Refused as NotRead}
-use Rattle.lois_run.specs.declared.words.Command.{Command}
-use Rattle.lois_run.specs.declared.words.Command.TheVariants.{Run, Check}
+use Rattle.lois_run.specs.declared.words.Command.TheVariants.{Run, Check, Reread}
 use Rattle.lois_run.proofs.Bodies.{answers}
 use Rattle.lois_run.proofs.Fit.{spelled_fits}
 
@@ -64,40 +64,47 @@ none_scoped text s spells never other h w = never (subst IsWellScoped (one_scrip
 -- ---- outcomes
 
 module _ (text : List ℕ) where
-  refused_by : (c : Command) (r : Refusal) → IsRefusedAs text r → SpellsNone text → AnswersText c text (Refused r)
-  refused_by c TooLong why none = absurd why
-  refused_by (Run kind) (Lexical n p) why none = record { cause = why; promise = record { completes = λ l s h w b. absurd (none s h w); right = tt }; kind = tt }
-  refused_by (Run kind) (Syntax n p) why none = record { cause = why; promise = record { completes = λ l s h w b. absurd (none s h w); right = tt }; kind = tt }
-  refused_by (Run kind) (Scope n p) why none = record { cause = why; promise = record { completes = λ l s h w b. absurd (none s h w); right = tt }; kind = tt }
-  refused_by Check (Lexical n p) why none = record { cause = why; promise = λ l s h w. absurd (none s h w); kind = tt }
-  refused_by Check (Syntax n p) why none = record { cause = why; promise = λ l s h w. absurd (none s h w); kind = tt }
-  refused_by Check (Scope n p) why none = record { cause = why; promise = λ l s h w. absurd (none s h w); kind = tt }
-  refused_by c NotBuilt (s, spells, scoped, never) none = absurd (none s spells scoped)
+  refused_run : (kind : Option Kind) (r : Refusal) → IsRefusedAs text r → SpellsNone text → AnswersText (Run kind) text (Refused r)
+  refused_run kind TooLong why none = absurd why
+  refused_run kind (NotResults p) why none = absurd why
+  refused_run kind (Lexical n p) why none = record { cause = why; promise = record { completes = λ l s h w b. absurd (none s h w); right = tt }; kind = tt }
+  refused_run kind (Syntax n p) why none = record { cause = why; promise = record { completes = λ l s h w b. absurd (none s h w); right = tt }; kind = tt }
+  refused_run kind (Scope n p) why none = record { cause = why; promise = record { completes = λ l s h w b. absurd (none s h w); right = tt }; kind = tt }
+  refused_run kind NotBuilt (s, spells, scoped, never) none = absurd (none s spells scoped)
 
-  pub refused_is_answered : (c : Command) (r : Refusal) → IsReadOf text (NotRead r) → AnswersText c text (Refused r)
-  refused_is_answered c r (why, none, number) = refused_by c r why none
+  pub refused_is_run : (r : Refusal) → IsReadOf text (NotRead r) → (kind : Option Kind) → AnswersText (Run kind) text (Refused r)
+  refused_is_run r (why, none, number) kind = refused_run kind r why none
+
+  refused_check : (r : Refusal) → IsRefusedAs text r → SpellsNone text → AnswersText Check text (Refused r)
+  refused_check TooLong why none = absurd why
+  refused_check (NotResults p) why none = absurd why
+  refused_check (Lexical n p) why none = record { cause = why; promise = λ l s h w. absurd (none s h w); kind = tt }
+  refused_check (Syntax n p) why none = record { cause = why; promise = λ l s h w. absurd (none s h w); kind = tt }
+  refused_check (Scope n p) why none = record { cause = why; promise = λ l s h w. absurd (none s h w); kind = tt }
+  refused_check NotBuilt (s, spells, scoped, never) none = absurd (none s spells scoped)
+
+  pub refused_is_checked : (r : Refusal) → IsReadOf text (NotRead r) → AnswersText Check text (Refused r)
+  refused_is_checked r (why, none, number) = refused_check r why none
+
+  pub not_results_is_answered : (k : ℕ) (place : Place) → IsNoAnswerAt text k → IsPlaceOf text k place → AnswersText Reread text (Refused (NotResults place))
+  not_results_is_answered k place refused at = record { cause = (k, refused, at); promise = λ l answer h. absurd (refused.none answer h); kind = tt }
 
   module _ (s : ScriptD) (spells : Spells text s) (scoped : IsWellScoped s) where
-    pub not_built_is_answered : (c : Command) → IsRun c → (IsBuilt s → ⊥) → AnswersText c text (Refused NotBuilt)
-    not_built_is_answered (Run kind) is never = record {
+    pub not_built_is_answered : (IsBuilt s → ⊥) → (kind : Option Kind) → AnswersText (Run kind) text (Refused NotBuilt)
+    not_built_is_answered never kind = record {
       cause = (s, spells, scoped, never);
       promise = record { completes = λ l other h w b. absurd (never (subst IsBuilt (one_script_of_text text other s h spells) b)); right = tt };
       kind = tt;
     }
-    not_built_is_answered Check is never = absurd is
 
-    answer_of : IsBuilt s → IsAnswer s (plain_results s.ordered (all_lines s.body []))
-    answer_of built = answers s built scoped (spelled_fits text s spells)
-
-    completed : (c : Command) (r : Results) → IsRun c → IsBuilt s → IsAnswer s r → AnswersText c text (Completed r)
-    completed (Run kind) r is built answer = record {
+    completed : (r : Results) → IsBuilt s → IsAnswer s r → (kind : Option Kind) → AnswersText (Run kind) text (Completed r)
+    completed r built answer kind = record {
       cause = (s, spells, scoped, built, answer);
       promise = record { completes = λ l other h w b. inl tt; right = λ other h. subst (λ x. IsAnswer x r) (one_script_of_text text s other spells h) answer };
       kind = tt;
     }
-    completed Check r is built answer = absurd is
 
-    pub completed_is_answered : (c : Command) (r : Results) → IsRun c → IsBuilt s → r ≡ plain_results s.ordered (all_lines s.body []) → AnswersText c text (Completed r) × HasText (Completed r)
-    completed_is_answered c r is built made =
-        let answer : IsAnswer s r = subst (IsAnswer s) (sym made) (answer_of built) in
-        (completed c r is built answer, answer.sound)
+    pub completed_is_answered : (r : Results) → IsBuilt s → r ≡ plain_results s.ordered (all_lines s.body []) → ((kind : Option Kind) → AnswersText (Run kind) text (Completed r)) × HasText (Completed r)
+    completed_is_answered r built made =
+        let answer : IsAnswer s r = subst (IsAnswer s) (sym made) (answers s built scoped (spelled_fits text s spells)) in
+        (completed r built answer, answer.sound)

@@ -13,7 +13,7 @@ use Rattle.lois_run.specs.declared.outcomes.Outcome.{Outcome}
 use Rattle.lois_run.specs.declared.outcomes.Outcome.TheVariants.{Refused, ReadFault, Usage}
 use Rattle.lois_run.specs.declared.outcomes.Refusal.TheVariants.{TooLong}
 use Rattle.lois_run.specs.declared.words.Command.{Command}
-use Rattle.lois_run.specs.declared.words.Command.TheVariants.{Run, Check}
+use Rattle.lois_run.specs.declared.words.Command.TheVariants.{Run, Check, Reread}
 
 refused_is_not_usage : Refused TooLong ≡ Usage → ⊥
 refused_is_not_usage e = cc e
@@ -49,6 +49,8 @@ module _ (words : List (List ℕ)) (kinds : List Kind) (before after : Option (L
       usage_cause (Run kind) (Some text) = tt
       usage_cause Check None = tt
       usage_cause Check (Some text) = tt
+      usage_cause Reread None = tt
+      usage_cause Reread (Some text) = tt
 
   module _ (command : Command) (asks : Asks command words) (has : Lacks command kinds → ⊥) where
     no_usage : IsUsage words kinds → ⊥
@@ -60,10 +62,12 @@ module _ (words : List (List ℕ)) (kinds : List Kind) (before after : Option (L
     fault_promise : Rose faults_before faults_after → (c : Command) (text : List ℕ) → Promises c text (Rose faults_before faults_after) ReadFault
     fault_promise rose (Run kind) text = record { completes = λ l s h w k. inr (refl, rose); right = tt }
     fault_promise rose Check text = λ l s h w. inr (refl, rose)
+    fault_promise rose Reread text = λ l answer h. inr (refl, rose)
 
     fault_cause : (c : Command) (text : List ℕ) → HasCause c text ReadFault
     fault_cause (Run kind) text = tt
     fault_cause Check text = tt
+    fault_cause Reread text = tt
 
     known : (P : List ℕ → Type 0) → ((text : List ℕ) → P text) → (at : Option (List ℕ)) → IfSome at P
     known P p None = tt
@@ -86,11 +90,13 @@ module _ (words : List (List ℕ)) (kinds : List Kind) (before after : Option (L
     long_cause : (c : Command) (text : List ℕ) → HasCause c text (Refused TooLong)
     long_cause (Run kind) text = tt
     long_cause Check text = tt
+    long_cause Reread text = tt
 
     long_promise : (c : Command) (from : Option (List ℕ)) → TookExactly 1048577 from after → IfSome from (λ text. Promises c text (Rose faults_before faults_after) (Refused TooLong))
     long_promise c None took = tt
     long_promise (Run kind) (Some text) took = record { completes = λ l s h w k. absurd (long_text text after took l); right = tt }
     long_promise Check (Some text) took = λ l s h w. absurd (long_text text after took l)
+    long_promise Reread (Some text) took = λ l answer h. absurd (long_text text after took l)
 
     exact_is_told : TookExactly 1048577 before after → IsOutcomeOf words kinds before after faults_before faults_after (Refused TooLong)
     exact_is_told took = record {
@@ -128,6 +134,7 @@ module _ (words : List (List ℕ)) (kinds : List Kind) (before after : Option (L
     text_promise : (c : Command) (text : List ℕ) (o : Outcome) → Promises c text ⊥ o → Promises c text (Rose faults_before faults_after) o
     text_promise (Run kind) text o h = record { completes = λ l s sp w k. no_fault o (h.completes l s sp w k); right = h.right }
     text_promise Check text o h = λ l s sp w. no_fault o (h l s sp w)
+    text_promise Reread text o h = λ l answer is. no_fault o (h l answer is)
 
     of_text : (P : List ℕ → Type 0) (from : Option (List ℕ)) (bytes : List ℕ) → Consumes from after bytes → IsAtEnd after → P bytes → IfSome from P
     of_text P None bytes took end h = tt

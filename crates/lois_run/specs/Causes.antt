@@ -6,20 +6,23 @@ use Rattle.lois_meaning.specs.Limits.{Spells}
 use Rattle.lois_meaning.specs.Scope.{IsWellScoped}
 use Rattle.lois_meaning.specs.Tree.{ScriptD}
 use Rattle.lois_meaning.specs.View.{script_tree}
+use Rattle.lois_meaning.specs.declared.faults.Answer.{Answer}
 use Rattle.lois_outside.specs.Faults.{Rose}
 use Rattle.lois_outside.specs.Reading.{TookAtMost, TookExactly}
 use Rattle.lois_outside.specs.Writing.{AppendsProperPrefix}
+use Rattle.lois_reader.specs.Refusal.{IsAnswerOf}
 use Rattle.lois_run.specs.BuiltForms.{IsBuilt}
 use Rattle.lois_run.specs.Headline.{Headline, IsAnswer, longest_text}
 use Rattle.lois_run.specs.Outcomes.{status_of, outcome_text}
-use Rattle.lois_run.specs.Refusals.{IsRefusedAs}
+use Rattle.lois_run.specs.Refusals.{IsRefusedAs, IsNoAnswer}
 use Rattle.lois_run.specs.Words.{Asks, IsUsage}
 use Rattle.lois_run.specs.declared.outcomes.Outcome.{Outcome}
-use Rattle.lois_run.specs.declared.outcomes.Outcome.TheVariants.{Completed, Checked, Refused, ReadFault, Usage}
+use Rattle.lois_run.specs.declared.outcomes.Outcome.TheVariants.{Completed, Reread, Checked, Refused, ReadFault, Usage}
 use Rattle.lois_run.specs.declared.outcomes.Refusal.{Refusal}
-use Rattle.lois_run.specs.declared.outcomes.Refusal.TheVariants.{TooLong, NotBuilt}
+use Rattle.lois_run.specs.declared.outcomes.Refusal.TheVariants.{TooLong, NotResults, NotBuilt}
 use Rattle.lois_run.specs.declared.words.Command.{Command}
 use Rattle.lois_run.specs.declared.words.Command.TheVariants.{Run, Check}
+use Rattle.lois_run.specs.declared.words.Command.TheVariants as commands
 
 -- the input was taken to its end, and is no longer than a script may be
 abbrev pub TookAll : Option (List ℕ) → Option (List ℕ) → Type 0
@@ -32,9 +35,12 @@ HasTaken before after ReadFault = TookAtMost longest_text before after
 HasTaken before after Usage = before ≡ after
 HasTaken before after _ = TookAll before after
 
--- how much was taken is said elsewhere, and `check` refuses no script for its forms
+-- How much was taken is said elsewhere. `check` refuses no script for its forms, `reread` only what is no answer, and only
+-- `reread` does.
 abbrev pub IsRefusedBy : Command → List ℕ → Refusal → Type 0
 IsRefusedBy command text TooLong = Unit {0}
+IsRefusedBy commands.Reread text (NotResults place) = IsNoAnswer text place
+IsRefusedBy commands.Reread text _ = ⊥
 IsRefusedBy Check text NotBuilt = ⊥
 IsRefusedBy command text refusal = IsRefusedAs text refusal
 
@@ -42,12 +48,12 @@ IsRefusedBy command text refusal = IsRefusedAs text refusal
 -- of these facts hold of one text and one command.
 abbrev pub HasCause : Command → List ℕ → Outcome → Type 0
 HasCause (Run kind) text (Completed r) = (s : ScriptD) × Spells text s × IsWellScoped s × IsBuilt s × IsAnswer s r
-HasCause Check text (Completed r) = ⊥
-HasCause (Run kind) text (Checked script) = ⊥
 HasCause Check text (Checked script) = Spells text (script_tree script) × IsWellScoped (script_tree script)
+HasCause commands.Reread text (Reread answer) = IsAnswerOf text answer
 HasCause command text (Refused refusal) = IsRefusedBy command text refusal
 HasCause command text ReadFault = Unit {0}
 HasCause command text Usage = Unit {0}
+HasCause command text _ = ⊥
 
 abbrev pub IsChecked : Outcome → Type 0
 IsChecked (Checked script) = Unit {0}
@@ -57,10 +63,19 @@ IsChecked _ = ⊥
 abbrev pub Checks : List ℕ → Type 0 → Outcome → Type 0
 Checks text fault o = length text ≤ longest_text → (s : ScriptD) → Spells text s → IsWellScoped s → IsChecked o ⊎ ((o ≡ ReadFault) × fault)
 
+abbrev pub IsReread : Outcome → Type 0
+IsReread (Reread answer) = Unit {0}
+IsReread _ = ⊥
+
+-- the text of each sound answer passes `reread` within the limit
+abbrev pub Rereads : List ℕ → Type 0 → Outcome → Type 0
+Rereads text fault o = length text ≤ longest_text → (answer : Answer) → IsAnswerOf text answer → IsReread o ⊎ ((o ≡ ReadFault) × fault)
+
 -- what the command promises of a text that was to be read
 abbrev pub Promises : Command → List ℕ → Type 0 → Outcome → Type 0
 Promises (Run kind) text fault o = Headline text fault o
 Promises Check text fault o = Checks text fault o
+Promises commands.Reread text fault o = Rereads text fault o
 
 -- The outcome of a call with these words and deciders of these kinds: of what the source had left and has left, and of its
 -- count of faults.

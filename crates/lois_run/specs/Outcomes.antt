@@ -3,18 +3,21 @@ use Rattle.std.specs.Prelude.{◌≤◌, ℕ, Bool, List, [], ◌∷◌, codes}
 use Rattle.lois_meaning.specs.ResultsData.{LineD}
 use Rattle.lois_meaning.specs.ResultsText.{lined, results_text}
 use Rattle.lois_meaning.specs.Sound.{IsSound}
+use Rattle.lois_meaning.specs.TraceText.{answer_text}
 use Rattle.lois_meaning.specs.View.{script_tree}
 use Rattle.lois_meaning.specs.declared.results.Results.{Results}
+use Rattle.lois_reader.specs.Refusal.{IsSoundAnswer}
 use Rattle.lois_syntax.specs.Printed.{printed_script}
 use Rattle.lois_syntax.specs.Unplaced.{IsSpelled}
 use Rattle.lois_run.specs.Texts.{lexical_text, syntax_text, scope_text, placed_text}
 use Rattle.lois_run.specs.declared.outcomes.Outcome.{Outcome}
-use Rattle.lois_run.specs.declared.outcomes.Outcome.TheVariants.{Completed, Checked, Refused, ReadFault, Usage}
+use Rattle.lois_run.specs.declared.outcomes.Outcome.TheVariants.{Completed, Reread, Checked, Refused, ReadFault, Usage}
 use Rattle.lois_run.specs.declared.outcomes.Refusal.{Refusal}
-use Rattle.lois_run.specs.declared.outcomes.Refusal.TheVariants.{TooLong, Lexical, Syntax, Scope, NotBuilt}
+use Rattle.lois_run.specs.declared.outcomes.Refusal.TheVariants.{TooLong, Lexical, Syntax, Scope, NotResults, NotBuilt}
 
 abbrev pub status_of : Outcome → ℕ
 status_of (Completed r) = 0
+status_of (Reread answer) = 0
 status_of (Checked script) = 0
 status_of (Refused refusal) = 5
 status_of ReadFault = 6
@@ -25,11 +28,13 @@ refusal_text TooLong = codes "refused: input over 1048576 bytes"
 refusal_text (Lexical n place) = placed_text place (lexical_text n)
 refusal_text (Syntax n place) = placed_text place (syntax_text n)
 refusal_text (Scope n place) = placed_text place (scope_text n)
+refusal_text (NotResults place) = placed_text place (codes "not results")
 refusal_text NotBuilt = codes "refused: not built yet"
 
 -- a read fault writes nothing
 abbrev pub outcome_text : Outcome → List ℕ
 outcome_text (Completed r) = results_text r
+outcome_text (Reread answer) = answer_text answer
 outcome_text (Checked script) = printed_script (script_tree script)
 outcome_text (Refused refusal) = lined (refusal_text refusal)
 outcome_text ReadFault = []
@@ -45,6 +50,7 @@ HasNumber _ = Unit {0}
 -- the outcome can be written
 abbrev pub HasText : Outcome → Type 0
 HasText (Completed r) = IsSound r
+HasText (Reread answer) = IsSoundAnswer answer
 HasText (Checked script) = IsSpelled (script_tree script)
 HasText (Refused refusal) = HasNumber refusal
 HasText _ = Unit {0}

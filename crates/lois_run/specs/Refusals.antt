@@ -10,6 +10,10 @@ use Rattle.lois_lexer.specs.declared.Token.{Token}
 use Rattle.lois_meaning.specs.Limits.{Spells}
 use Rattle.lois_meaning.specs.Scope.{IsWellScoped}
 use Rattle.lois_meaning.specs.Tree.{ScriptD}
+use Rattle.lois_reader.specs.Pieces.{answer_pieces}
+use Rattle.lois_reader.specs.Refusal.{HasNone, IsAnswerOf, IsInside, IsPlaceOfRule, IsPlaceOfShape}
+use Rattle.lois_reader.specs.Shape.{HasAnswerShape, SpellsAnswer}
+use Rattle.lois_reader.specs.declared.ResultError.TheVariants as results
 use Rattle.lois_scope.specs.Refusals.{Refuses as ScopeRefuses}
 use Rattle.lois_scope.specs.declared.checking.ScopeError.{ScopeError}
 use Rattle.lois_scope.specs.declared.checking.ScopeError.TheVariants.{Unknown, Again, OuterAssign, PrintInLoop, OrderInEquality}
@@ -18,7 +22,7 @@ use Rattle.lois_syntax.specs.declared.SyntaxError.{SyntaxError}
 use Rattle.lois_syntax.specs.declared.SyntaxError.TheVariants.{NoScript, TooNested, WideTuple, TurnsTooMany}
 use Rattle.lois_run.specs.BuiltForms.{IsBuilt}
 use Rattle.lois_run.specs.declared.outcomes.Refusal.{Refusal}
-use Rattle.lois_run.specs.declared.outcomes.Refusal.TheVariants.{TooLong, Lexical, Syntax, Scope, NotBuilt}
+use Rattle.lois_run.specs.declared.outcomes.Refusal.TheVariants.{TooLong, Lexical, Syntax, Scope, NotResults, NotBuilt}
 
 -- the line is one more than the LFs (10) before the offset, and the column one more than the bytes since the last of them
 pub record IsPlaceOf (text : List ℕ) (offset : ℕ) (place : Place) : Type 0 where
@@ -64,12 +68,25 @@ ScopeTells text (OrderInEquality p) refusal = IsScope text 5 p.offset refusal
 ScopeTells text _ refusal = ⊥
 
 -- The text is refused so: at its first place without a token, at the least token at fault, at the first break of a rule of
--- scope, or as a well-scoped script of other forms than those that run. A text that is too long isn't looked at.
+-- scope, or as a well-scoped script of other forms than those that run. A text that is too long isn't looked at, and a
+-- script isn't read as results.
 abbrev pub IsRefusedAs : List ℕ → Refusal → Type 0
 IsRefusedAs text TooLong = ⊥
+IsRefusedAs text (NotResults place) = ⊥
 IsRefusedAs text (Lexical n place) = (error : LexError) × LexRefuses text error × LexicalTells text error (Lexical n place)
 IsRefusedAs text (Syntax n place) =
     (tokens : List Token) × (error : SyntaxError) × HasTokens text tokens × SyntaxRefuses (tokens_in text tokens) error × SyntaxTells text tokens error (Syntax n place)
 IsRefusedAs text (Scope n place) =
     (s : ScriptD) × (error : ScopeError) × Spells text s × ScopeRefuses s error × ScopeTells text error (Scope n place)
 IsRefusedAs text NotBuilt = (s : ScriptD) × Spells text s × IsWellScoped s × (IsBuilt s → ⊥)
+
+-- The text is that of no sound results and of no sound trace. It is refused at k: where it leaves the shape of both, or, where
+-- it is of that shape, at the first side rule that it breaks.
+pub record IsNoAnswerAt (text : List ℕ) (k : ℕ) : Type 0 where
+  pub none : HasNone (IsAnswerOf text) (results.NotResults k)
+  pub shape : IsPlaceOfShape HasAnswerShape text (results.NotResults k)
+  pub rule : IsPlaceOfRule (SpellsAnswer text) answer_pieces (results.NotResults k)
+  pub inside : IsInside text (results.NotResults k)
+
+abbrev pub IsNoAnswer : List ℕ → Place → Type 0
+IsNoAnswer text place = (k : ℕ) × IsNoAnswerAt text k × IsPlaceOf text k place

@@ -1,4 +1,4 @@
--- The words that the program takes, each the list of its bytes: `run`, `check`, and `run` with the option
+-- The words that the program takes, each the list of its bytes: `run`, `check`, `reread`, and `run` with the option
 -- `--decider plain`, `--decider=plain` or the like.
 use Rattle.std.specs.Prelude.{◌≡◌, ◌&&◌, List, [], ◌∷◌, Option, Some, None, option_map, codes, if◌then◌else◌, bytes_eq, ℕ}
 use Rattle.std.specs.List.{All}
@@ -6,7 +6,7 @@ use Rattle.lois_base.specs.declared.deciding.Kind.{Kind}
 use Rattle.lois_base.specs.declared.deciding.Kind.TheVariants.{Plain, Graph, Memo}
 use Rattle.lois_deciders.specs.Choice.{IsUnwanted}
 use Rattle.lois_run.specs.declared.words.Command.{Command}
-use Rattle.lois_run.specs.declared.words.Command.TheVariants.{Run, Check}
+use Rattle.lois_run.specs.declared.words.Command.TheVariants.{Run, Check, Reread}
 
 abbrev pub kind_named : List ℕ → Option Kind
 kind_named word =
@@ -23,7 +23,8 @@ kind_chosen option =
 abbrev pub command_alone : List ℕ → Option Command
 command_alone word =
     if (bytes_eq word (codes "run")) then (Some (Run None)) else
-    (if (bytes_eq word (codes "check")) then (Some Check) else None)
+    (if (bytes_eq word (codes "check")) then (Some Check) else
+    (if (bytes_eq word (codes "reread")) then (Some Reread) else None))
 
 abbrev pub command_with_option : List ℕ → List ℕ → Option Command
 command_with_option word option =
@@ -46,12 +47,8 @@ Asks command words = command_of words ≡ Some command
 -- `run` has no decider of the named kind, or none at all
 abbrev pub Lacks : Command → List Kind → Type 0
 Lacks (Run kind) kinds = All (IsUnwanted kind) kinds
-Lacks Check kinds = ⊥
+Lacks _ kinds = ⊥
 
 -- The words ask for nothing, or for something that lacks its decider. They ask for one thing at most.
 abbrev pub IsUsage : List (List ℕ) → List Kind → Type 0
 IsUsage words kinds = (command : Command) → Asks command words → Lacks command kinds
-
-abbrev pub IsRun : Command → Type 0
-IsRun (Run kind) = Unit {0}
-IsRun Check = ⊥

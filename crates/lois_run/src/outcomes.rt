@@ -3,12 +3,14 @@
 ghost use Rattle.std.specs.Prelude.{◌≡◌, IfOk};
 ghost use Rattle.lois_run.specs.Outcomes.{status_of, refusal_text, outcome_text, HasText};
 ghost use Rattle.lois_meaning.specs.ResultsText.{lined};
+ghost use Rattle.lois_meaning.specs.TraceText.{answer_text};
+ghost use Rattle.lois_reader.specs.Refusal.{IsSoundAnswer};
 
 use crate::texts::{lexical_text, refused_line, scope_text, syntax_text, text_line};
 use lois_base::NoMemory;
 use lois_lexer::Place;
-use lois_meaning::{Results, Script};
-use lois_printer::print_results;
+use lois_meaning::{Answer, Results, Script};
+use lois_printer::{print_results, print_trace};
 use lois_syntax::print_script;
 use std::alloc::Global;
 
@@ -24,6 +26,8 @@ pub enum Refusal {
     Syntax(u8, Place),
     /// The script is not well scoped: 1 to 5.
     Scope(u8, Place),
+    /// The text is that of no results and no trace.
+    NotResults(Place),
     /// The script has a form that doesn't run yet.
     NotBuilt,
 }
@@ -33,6 +37,8 @@ pub enum Refusal {
 pub enum Outcome {
     /// What the script printed.
     Completed(Results),
+    /// The results or the trace that the text is.
+    Reread(Answer),
     /// A well-scoped script.
     Checked(Script),
     Refused(Refusal),
@@ -43,13 +49,14 @@ pub enum Outcome {
 }
 
 impl Outcome {
-    /// The exit status: 0 where the script has completed or was checked, 5 where the text is refused, 6 after a read
-    /// fault, and 9 where the words are none that the program takes.
+    /// The exit status: 0 where the script has completed or was checked, or the text was read again, 5 where the text is
+    /// refused, 6 after a read fault, and 9 where the words are none that the program takes.
     pub fn status(&self) -> u8
         ensures { result ≡ status_of self.now }
     {
         match self {
             Outcome::Completed(_) => 0,
+            Outcome::Reread(_) => 0,
             Outcome::Checked(_) => 0,
             Outcome::Refused(_) => 5,
             Outcome::ReadFault => 6,
@@ -64,6 +71,7 @@ impl Outcome {
     {
         match self {
             Outcome::Completed(results) => print_results(alloc, results),
+            Outcome::Reread(answer) => print_answer(alloc, answer),
             Outcome::Checked(script) => print_script(alloc, script),
             Outcome::Refused(refusal) => refusal.text(alloc),
             Outcome::ReadFault => Ok(Vec::new(alloc)),
@@ -84,7 +92,18 @@ impl Refusal {
             Refusal::Lexical(number, place) => refused_line(alloc, *place, lexical_text(*number)),
             Refusal::Syntax(number, place) => refused_line(alloc, *place, syntax_text(*number)),
             Refusal::Scope(number, place) => refused_line(alloc, *place, scope_text(*number)),
+            Refusal::NotResults(place) => refused_line(alloc, *place, b"not results"),
             Refusal::NotBuilt => text_line(alloc, b"refused: not built yet"),
         }
+    }
+}
+
+fn print_answer(alloc: Global, answer: &Answer) -> Result<Vec<u8>, NoMemory>
+    requires { IsSoundAnswer answer.now }
+    ensures { IfOk result (λ text. text.items ≡ answer_text answer.now) }
+{
+    match answer {
+        Answer::Results(results) => print_results(alloc, results),
+        Answer::Trace(trace) => print_trace(alloc, trace),
     }
 }

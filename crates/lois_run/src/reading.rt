@@ -41,8 +41,8 @@ pub(crate) fn read_text(alloc: Global, text: &[u8]) -> Result<Read, NoMemory>
     }
 }
 
-// An offset behind the end stands for the end.
-fn place_at(text: &[u8], offset: usize) -> Place
+/// An offset behind the end stands for the end.
+pub(crate) fn place_at(text: &[u8], offset: usize) -> Place
     ensures { IsPlaceOf text.now offset result }
 {
     place_of(text, offset.min(text.len()))

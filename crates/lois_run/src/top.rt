@@ -1,25 +1,25 @@
 //! The top call.
 
-ghost use Rattle.std.specs.Prelude.{◌≡◌, ◌≤◌, ◌⊎◌, ◌↔◌, IfOk, IsTrue, Ok, map, string_bytes};
+ghost use Rattle.std.specs.Prelude.{◌≡◌, ◌≤◌, ◌⊎◌, ◌↔◌, Option, IfOk, IsTrue, Ok, map, string_bytes};
+ghost use Rattle.lois_base.specs.declared.deciding.Kind.{Kind};
 ghost use Rattle.lois_outside.specs.Faults.{Rose};
 ghost use Rattle.lois_run.specs.Causes.{AnswersText, IsOutcomeOf, IsTold};
 ghost use Rattle.lois_run.specs.Outcomes.{HasText};
-ghost use Rattle.lois_run.specs.Read.{IsReadOf};
-ghost use Rattle.lois_run.specs.Words.{IsRun, IsUsage, Lacks};
+ghost use Rattle.lois_run.specs.Words.{IsUsage, Lacks};
 ghost use Rattle.lois_run.specs.declared.outcomes.Outcome.{Outcome};
-ghost use Rattle.lois_run.specs.declared.reading.Read.TheVariants.{Script};
+ghost use Rattle.lois_run.specs.declared.words.Command.TheVariants.{Run, Check, Reread};
 
-use crate::reading::{Read, read_text};
+use crate::reading::{Read, place_at, read_text};
 use crate::running::{made_results, run};
 use crate::words::{Command, asked};
 use crate::{Outcome, Refusal};
 use lois_base::{Decider, NoMemory};
 use lois_deciders::Chosen;
 use lois_outside::{ReadError, Sink, Source, read_all, write_all};
-use lois_scope::Scoped;
+use lois_reader::{ResultError, read_answer};
 use std::alloc::Global;
 
-/// A script has at most so many bytes.
+/// A text that is read has at most so many bytes.
 const LONGEST_TEXT: usize = 1_048_576;
 
 const WRITE_FAULT: u8 = 7;
@@ -32,22 +32,19 @@ fn lacks_decider(command: Command, deciders: Vec<Box<dyn Decider>>) -> bool
 {
     match command {
         Command::Run(kind) => Chosen::choose(deciders, kind).is_none(),
-        Command::Check => false,
+        Command::Check | Command::Reread => false,
     }
 }
 
-// What a script comes to that is run.
-fn run_script(
-    alloc: Global,
-    text: &[u8],
-    scoped: &Scoped,
-    command: Command,
-) -> Result<Outcome, NoMemory>
-    requires read { IsReadOf text.now (Script scoped.now) }
-    requires runs { IsRun command }
-    ensures answer { IfOk result (AnswersText command text.now) }
+// What a text comes to that is to be run.
+fn run_text(alloc: Global, text: &[u8]) -> Result<Outcome, NoMemory>
+    ensures answer { IfOk result (λ o. (kind : Option Kind) → AnswersText (Run kind) text.now o) }
     ensures written { IfOk result HasText }
 {
+    let scoped = match read_text(alloc, text)? {
+        Read::Script(scoped) => scoped,
+        Read::Refused(refusal) => return Ok(Outcome::Refused(refusal)),
+    };
     let script = scoped.script();
     match run(alloc, script)? {
         Some(lines) => Ok(Outcome::Completed(made_results(alloc, script.order, lines)?)),
@@ -55,25 +52,49 @@ fn run_script(
     }
 }
 
-// What the text comes to, once it is read.
+// What a text comes to that is to be checked.
+fn check_text(alloc: Global, text: &[u8]) -> Result<Outcome, NoMemory>
+    ensures answer { IfOk result (AnswersText Check text.now) }
+    ensures written { IfOk result HasText }
+{
+    match read_text(alloc, text)? {
+        Read::Script(scoped) => Ok(Outcome::Checked(scoped.into_script())),
+        Read::Refused(refusal) => Ok(Outcome::Refused(refusal)),
+    }
+}
+
+// What a text comes to that is to be read again.
+fn reread_text(alloc: Global, text: &[u8]) -> Result<Outcome, NoMemory>
+    ensures answer { IfOk result (AnswersText Reread text.now) }
+    ensures written { IfOk result HasText }
+{
+    match read_answer(alloc, text) {
+        Ok(answer) => Ok(Outcome::Reread(answer)),
+        Err(ResultError::NotResults(offset)) => {
+            Ok(Outcome::Refused(Refusal::NotResults(place_at(text, offset))))
+        }
+        Err(ResultError::NoMemory) => Err(NoMemory),
+    }
+}
+
+// What the text comes to, once it is taken.
 fn answer(alloc: Global, command: Command, text: &[u8]) -> Result<Outcome, NoMemory>
     ensures answer { IfOk result (AnswersText command text.now) }
     ensures written { IfOk result HasText }
 {
-    match read_text(alloc, text)? {
-        Read::Refused(refusal) => Ok(Outcome::Refused(refusal)),
-        Read::Script(scoped) => match command {
-            Command::Run(_) => run_script(alloc, text, &scoped, command),
-            Command::Check => Ok(Outcome::Checked(scoped.into_script())),
-        },
+    match command {
+        Command::Run(_) => run_text(alloc, text),
+        Command::Check => check_text(alloc, text),
+        Command::Reread => reread_text(alloc, text),
     }
 }
 
-/// What the words ask for, of the script that the source has left; `NoMemory` where memory ran out.
-/// The words are those after the program's name. `run` runs the script with the first decider, or with the first of the
-/// kind that the option `--decider` names; `check` only reads it. No decider is asked yet.
+/// What the words ask for, of the text that the source has left; `NoMemory` where memory ran out.
+/// The words are those after the program's name. `run` runs a script with the first decider, or with the first of the
+/// kind that the option `--decider` names; `check` only reads it; `reread` reads results or a trace. No decider is asked
+/// yet.
 ///
-/// A script of at most 1,048,576 bytes is read. Until the whole language runs, scripts of other forms than `let` and
+/// A text of at most 1,048,576 bytes is read. Until the whole language runs, scripts of other forms than `let` and
 /// `print` over `atoms`, names, tags, tuples and listed sets are refused by `run` as not built.
 #[tactic(auto, using(crate::proofs::Told::usage_is_told, crate::proofs::Told::fault_is_told, crate::proofs::Told::long_is_told, crate::proofs::Told::answered_is_told))]
 pub fn outcome<S: Source>(

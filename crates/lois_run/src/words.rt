@@ -12,6 +12,8 @@ pub(crate) enum Command {
     Run(Option<Kind>),
     /// To read a script and to write its printed form.
     Check,
+    /// To read a results text or a trace and to write it again.
+    Reread,
 }
 
 /// What these words ask for; `None` where they are none that the program takes.
@@ -33,6 +35,8 @@ fn command_alone(word: &str) -> Option<Command>
         Some(Command::Run(None))
     } else if word == "check" {
         Some(Command::Check)
+    } else if word == "reread" {
+        Some(Command::Reread)
     } else {
         None
     }

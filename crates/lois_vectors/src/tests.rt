@@ -459,3 +459,62 @@ fn truncated_scripts(rt: HostRuntime) -> Result<(), Fail> {
     }
     Ok(())
 }
+
+#[test]
+fn answers_are_read_again(rt: HostRuntime) -> Result<(), Fail> {
+    let alloc = rt.alloc();
+    let rows: [&[u8]; 3] = [
+        OUTPUT,
+        b"lois results 1\natoms order\nparameters\ncase when true\ns = {($0, $1) for $0 $1 if $0<$1}\nend\n",
+        b"lois results 2\natoms order\nparameters a b\nfailed at 1:30: assertion failed\nchoice 0 0\nend\n",
+    ];
+    for text in rows {
+        let told = asked(alloc, &["reread"], text)?;
+        assert_eq!(rt; told.status, 0);
+        assert_eq!(rt; told.held.as_slice(), text);
+    }
+    Ok(())
+}
+
+// A second space, another version, and a guard that is left out where it is true.
+#[test]
+fn other_texts_are_no_results(rt: HostRuntime) -> Result<(), Fail> {
+    let alloc = rt.alloc();
+    let rows: [(&[u8], &[u8]); 3] = [
+        (b"lois  results 1\n", b"refused at 1:6: not results\n"),
+        (b"lois results 3\n", b"refused at 1:14: not results\n"),
+        (
+            b"lois results 1\natoms order\nparameters\ncase when true\na = {$0 for $0 if true}\nend\n",
+            b"refused at 5:19: not results\n",
+        ),
+    ];
+    for (text, line) in rows {
+        let told = asked(alloc, &["reread"], text)?;
+        assert_eq!(rt; told.status, 5);
+        assert_eq!(rt; told.held.as_slice(), line);
+    }
+    Ok(())
+}
+
+// The first bytes of the output, up to each length: where each line begins.
+#[test]
+fn truncated_outputs_are_no_results(rt: HostRuntime) -> Result<(), Fail> {
+    let alloc = rt.alloc();
+    for (line, begin, end) in [
+        (1, 0, 15),
+        (2, 15, 30),
+        (3, 30, 41),
+        (4, 41, 56),
+        (5, 56, 72),
+        (6, 72, 76),
+    ] {
+        for len in begin..end {
+            let told = asked(alloc, &["reread"], &OUTPUT[..len])?;
+            let column = len - begin + 1;
+            let refused = format!(in alloc; "refused at {line}:{column}: not results\n")?;
+            assert_eq!(rt; told.status, 5, "{len}");
+            assert_eq!(rt; told.held.as_slice(), refused.as_bytes(), "{len}");
+        }
+    }
+    Ok(())
+}
