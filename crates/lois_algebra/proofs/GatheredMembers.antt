@@ -1,18 +1,18 @@
 -- The members of the members of a set.
-use Rattle.std.proofs.Common.{◌≡◌, ℕ, ◌+◌, ◌<◌, ◌≤◌, ◌^◌, Bool, ◌&&◌, ◌⊎◌, inl, inr, ◌↔◌, List, [], ◌∷◌, ◌++◌, length, length-append, get_or, map, take, drop, refl, sym, ap, subst, ◌∙◌, arith}
+use Rattle.std.proofs.Common.{◌≡◌, ℕ, ◌+◌, ◌<◌, ◌≤◌, ◌^◌, Bool, ◌&&◌, ◌⊎◌, inl, inr, ◌↔◌, List, ◌++◌, length, length-append, get_or, map, take, drop, refl, sym, ap, subst, ◌∙◌, arith}
 use Rattle.std.specs.Bool.{IsTrue}
-use Rattle.std.proofs.lemmas.List.{append_assoc, get_or_append_left, take-append-drop, length-take-le}
-use Rattle.std.proofs.lemmas.List.Elements.{All-head, All-tail}
+use Rattle.std.proofs.lemmas.List.{append_assoc, take-append-drop, length-take-le}
 use Rattle.lois_base.specs.Atom.{Atom, whole}
 use Rattle.lois_base.specs.Data.{TermD, var, tag, tup, coll, CompD, comp, CompsD, no_comps, more, comps_of}
-use Rattle.lois_base.specs.Fits.{LitFits, CubeFits, ConstraintFits, CompFits, Fits, ItemsFit}
+use Rattle.lois_base.specs.Fits.{ConstraintFits, CompFits, Fits, ItemsFit}
 use Rattle.lois_base.specs.Tree.{tree, comp_of}
-use Rattle.lois_base.specs.Truth.{lit_holds, cube_holds, holds}
+use Rattle.lois_base.specs.Truth.{holds}
 use Rattle.lois_base.specs.Validity.{AdmitsConstraint, AdmitsComp, AdmitsItems, CompHasUsualWidths, ItemsHaveUsualWidths}
 use Rattle.lois_base.specs.Values.{PointValue, point, IsExtension, MemberAt, SameAt, IsIn}
 use Rattle.lois_base.specs.declared.guards.Lit.{Lit}
 use Rattle.lois_base.specs.declared.values.Comp.{Comp}
 use Rattle.lois_base.proofs.Members.{same_in, same_refl}
+use Rattle.lois_base.proofs.Truths.{holds_longer}
 use Rattle.lois_elim.proofs.Truth.{both_true}
 use Rattle.lois_relate.proofs.Parts.{comp_has}
 use Rattle.lois_terms.specs.Guarded.{IsSet}
@@ -20,22 +20,6 @@ use Rattle.lois_terms.proofs.UnderGuard.{fits_longer}
 use Rattle.lois_algebra.specs.Gathered.{IsAmong, IsMadeBy, IsWithin, IsInMember, IsInSome, IsPut, Gathers, GathersItems}
 use Rattle.lois_algebra.specs.Sets.{IsUnionOfMembers, ItemsAreSets, IsSetOfSets}
 use Rattle.lois_algebra.proofs.Among.{among_in}
-
--- ---- further atoms don't count
-module _ (d e : List Atom) where
-  lit_longer : (l : Lit) → LitFits (length d) l → lit_holds (d ++ e) l ≡ lit_holds d l
-  lit_longer l f =
-      rw (get_or_append_left d e (whole 0) l.left f.0, get_or_append_left d e (whole 0) l.right f.1) refl
-
-  cube_longer : (k : List Lit) → CubeFits (length d) k → cube_holds (d ++ e) k ≡ cube_holds d k
-  cube_longer [] f = refl
-  cube_longer (l ∷ k) f =
-      rw (lit_longer l (All-head (LitFits (length d)) l k f), cube_longer k (All-tail (LitFits (length d)) l k f))
-
-  holds_longer : (g : List (List Lit)) → ConstraintFits (length d) g → holds (d ++ e) g ≡ holds d g
-  holds_longer [] f = refl
-  holds_longer (k ∷ g) f =
-      rw (cube_longer k (All-head (CubeFits (length d)) k g f), holds_longer g (All-tail (CubeFits (length d)) k g f))
 
 -- ---- the binders of both
 module _ (n m : ℕ) (g : List (List Lit)) (guard_fits : ConstraintFits (n + m) g) (k : ℕ) (q h : List (List Lit)) (t : TermD) (met : (d : List Atom) → holds d h ≡ (holds d g && holds d q)) where

@@ -4,4 +4,3 @@ pub mod Selections
 pub mod GatheredMembers
 pub mod Deep
 pub mod PartsAt
-pub mod Ordered

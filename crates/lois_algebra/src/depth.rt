@@ -1,7 +1,6 @@
 //! Where a value is deeper than a limit.
 
-ghost use Rattle.std.specs.Prelude.{◌≡◌, ℕ, ◌+◌, Bool, List, length, IfOk, IsTrue};
-ghost use Rattle.lois_base.specs.Atom.{Atom};
+ghost use Rattle.std.specs.Prelude.{ℕ, ◌+◌, Bool, IfOk, IsTrue};
 ghost use Rattle.lois_base.specs.Data.{terms_of, comps_of};
 ghost use Rattle.lois_base.specs.Fits.{CubeFits, ConstraintFits, Fits, PartsFit, CompFits, ItemsFit};
 ghost use Rattle.lois_base.specs.FormulaData.{FormulaFits};

@@ -1,6 +1,6 @@
 //! The members of one set that are, or aren't, in another.
 
-ghost use Rattle.std.specs.Prelude.{◌≡◌, ℕ, ◌+◌, Bool, true, false, IfOk};
+ghost use Rattle.std.specs.Prelude.{ℕ, ◌+◌, Bool, true, false, IfOk};
 ghost use Rattle.lois_base.specs.Data.{coll, comps_of};
 ghost use Rattle.lois_base.specs.Fits.{ConstraintFits, Fits, CompFits, ItemsFit};
 ghost use Rattle.lois_base.specs.Tree.{tree, comp_of};

@@ -1,9 +1,10 @@
 -- Truth at two choices of atoms: literals that hold at both alike decide it, so equal atoms do, and atoms that stand alike.
 use Rattle.std.proofs.Common.{◌≡◌, ℕ, inl, inr, Bool, true, not, List, [], ◌∷◌, ◌++◌, length, get_or, refl, ap, subst}
-use Rattle.std.proofs.lemmas.List.Elements.{All-head, All-tail}
+use Rattle.std.proofs.lemmas.List.{get_or_append_left}
+use Rattle.std.proofs.lemmas.List.Elements.{All-head, All-tail, All-weaker}
 use Rattle.std.specs.Bool.{IsTrue}
 use Rattle.std.specs.List.{All}
-use Rattle.lois_base.specs.Atom.{Atom, equal}
+use Rattle.lois_base.specs.Atom.{Atom, whole, equal}
 use Rattle.lois_base.specs.Fits.{LitFits, CubeFits, ConstraintFits}
 use Rattle.lois_base.specs.FormulaData.{FormulaD, lit, all, any, neg, exists, forall, FormulasD, no_formulas, formula}
 use Rattle.lois_base.specs.FormulaTruth.{FormulaHolds, AllHold, AnyHolds}
@@ -30,6 +31,15 @@ pub holds_agree : (c d : List Atom) (g : List (List Lit)) → All (All (LitAgree
 holds_agree c d [] h = refl
 holds_agree c d (k ∷ g) h =
     rw (cube_agrees c d k (All-head (All (LitAgrees c d)) k g h), holds_agree c d g (All-tail (All (LitAgrees c d)) k g h))
+
+-- ---- further atoms don't count
+module _ (d e : List Atom) where
+  lit_longer : (l : Lit) → LitFits (length d) l → LitAgrees (d ++ e) d l
+  lit_longer l f =
+      rw (get_or_append_left d e (whole 0) l.left f.0, get_or_append_left d e (whole 0) l.right f.1) refl
+
+  pub holds_longer : (g : List (List Lit)) → ConstraintFits (length d) g → holds (d ++ e) g ≡ holds d g
+  holds_longer g f = holds_agree (d ++ e) d g (All-weaker (CubeFits (length d)) (All (LitAgrees (d ++ e) d)) (λ k h. All-weaker (LitFits (length d)) (LitAgrees (d ++ e) d) lit_longer k h) g f)
 
 -- ---- equal atoms
 pub op_respects : (op : Op) (a b x y : Atom) → IsTrue (equal a b) → IsTrue (equal x y) → op_holds op a x ≡ op_holds op b y

@@ -2,9 +2,11 @@
 use Rattle.std.proofs.Common.{◌≡◌, ℕ, ◌<◌, true, List, ◌++◌, refl, subst, inl, inr}
 use Rattle.std.proofs.lemmas.List.Elements.{All-contains, Contains-get_or, Contains-append_left, Contains-append_right}
 use Rattle.std.specs.List.{All, Contains}
+use Rattle.lois_base.specs.Data.{TermD, var, tag, tup, coll, TermsD, no_terms, term, comp, CompsD, no_comps, more}
 use Rattle.lois_base.specs.Fits.{ConstraintFits}
+use Rattle.lois_base.specs.FormulaData.{FormulaD, lit, all, any, neg, exists, forall, FormulasD, no_formulas, formula}
 use Rattle.lois_base.specs.Normal.{LitUses, GuardUses}
-use Rattle.lois_base.specs.Validity.{is_admitted, AdmitsLit, AdmitsCube, AdmitsConstraint, UsesOnly}
+use Rattle.lois_base.specs.Validity.{is_admitted, AdmitsLit, AdmitsCube, AdmitsConstraint, AdmitsFormula, AdmitsFormulas, AdmitsTerm, AdmitsParts, AdmitsItems, UsesOnly}
 use Rattle.lois_base.specs.declared.guards.Lit.{Lit}
 use Rattle.lois_base.specs.declared.guards.Op.{Op}
 use Rattle.lois_base.specs.declared.guards.Op.TheVariants.{Eq, Ne, Lt}
@@ -79,3 +81,31 @@ cube_admitted q = all_that_are (AdmitsLit true) q (λ l _. ordered_admits l.op)
 
 pub constraint_admitted : (g : List (List Lit)) → AdmitsConstraint true g
 constraint_admitted g = all_that_are (AdmitsCube true) g (λ q _. cube_admitted q)
+
+mutual
+  pub formula_admitted : (f : FormulaD) → AdmitsFormula true f
+  formula_admitted (lit l) = ordered_admits l.op
+  formula_admitted (all fs) = formulas_admitted fs
+  formula_admitted (any fs) = formulas_admitted fs
+  formula_admitted (neg f) = formula_admitted f
+  formula_admitted (exists f) = formula_admitted f
+  formula_admitted (forall f) = formula_admitted f
+
+  formulas_admitted : (fs : FormulasD) → AdmitsFormulas true fs
+  formulas_admitted no_formulas = tt
+  formulas_admitted (formula f fs) = (formula_admitted f, formulas_admitted fs)
+
+mutual
+  pub term_admitted : (t : TermD) → AdmitsTerm true t
+  term_admitted (var i) = tt
+  term_admitted (tag n) = tt
+  term_admitted (tup ts) = parts_admitted ts
+  term_admitted (coll ks) = items_admitted ks
+
+  parts_admitted : (ts : TermsD) → AdmitsParts true ts
+  parts_admitted no_terms = tt
+  parts_admitted (term t ts) = (term_admitted t, parts_admitted ts)
+
+  pub items_admitted : (ks : CompsD) → AdmitsItems true ks
+  items_admitted no_comps = tt
+  items_admitted (more (comp m g t) ks) = ((constraint_admitted g, term_admitted t), items_admitted ks)

@@ -1,6 +1,6 @@
 //! Literals, cubes and constraints: guards without quantifiers.
 
-ghost use Rattle.std.specs.Prelude.{◌≡◌, ℕ, ◌+◌, IfOk, OnOk, OnErr, [], ◌∷◌, ◌++◌, length, slice_get, option_map, IsTrue, ◌↔◌};
+ghost use Rattle.std.specs.Prelude.{◌≡◌, ◌+◌, IfOk, OnOk, OnErr, [], ◌∷◌, ◌++◌, length, slice_get, option_map, IsTrue, ◌↔◌};
 ghost use Rattle.lois_base.specs.Fits.{LitFits, CubeFits, ConstraintFits};
 ghost use Rattle.lois_base.specs.Truth.{lit_holds, cube_holds, holds, sampled};
 

@@ -1,7 +1,6 @@
 //! Formulas with quantifiers.
 
-ghost use Rattle.std.specs.Prelude.{◌≡◌, ℕ, ◌+◌, ◌<◌, ◌^◌, IfOk, OnOk, OnErr, List, [], ◌∷◌, ◌++◌, length, slice_get, option_map, map, IsTrue, ◌↔◌};
-ghost use Rattle.lois_base.specs.FormulaData.{formulas_of};
+ghost use Rattle.std.specs.Prelude.{◌≡◌, ◌+◌, ◌<◌, IfOk, OnOk, OnErr, [], ◌∷◌, ◌++◌, length, slice_get, option_map, map};
 ghost use Rattle.lois_base.specs.FormulaView.{view, views};
 
 use crate::{Lit, NoMemory};

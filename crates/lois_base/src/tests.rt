@@ -1,5 +1,5 @@
 //! Each call once with ample memory, and a boxed decider's answers.
-ghost use Rattle.std.specs.Prelude.{◌≡◌, ◌<◌, IfOk, ℕ};
+ghost use Rattle.std.specs.Prelude.{◌≡◌, ◌<◌, IfOk};
 ghost use Rattle.lois_base.specs.Fits.{CubeFits};
 ghost use Rattle.lois_base.specs.Theory.{risen};
 ghost use Rattle.lois_base.specs.declared.deciding.Kind.{Kind};

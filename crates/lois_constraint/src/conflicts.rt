@@ -1,6 +1,6 @@
 //! Cubes that can't be met, and what follows from a cube.
 
-ghost use Rattle.std.specs.Prelude.{◌≡◌, ℕ, Bool, List, filter, ◌==◌, IfOk, IsTrue, IsFalse, ◌↔◌};
+ghost use Rattle.std.specs.Prelude.{◌≡◌, ℕ, List, filter, ◌==◌, IfOk, IsTrue, IsFalse, ◌↔◌};
 ghost use Rattle.std.specs.List.{All, list_any};
 ghost use Rattle.lois_base.specs.Atom.{Atom};
 ghost use Rattle.lois_base.specs.Fits.{CubeFits};

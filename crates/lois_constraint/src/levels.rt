@@ -1,9 +1,9 @@
 //! Constraints at other levels.
 
-ghost use Rattle.std.specs.Prelude.{◌≡◌, ◌<◌, ◌^◌, IfOk, map};
+ghost use Rattle.std.specs.Prelude.{◌≡◌, ◌<◌, ◌^◌, IfOk};
 ghost use Rattle.lois_base.specs.Fits.{LitFits, CubeFits, ConstraintFits};
 ghost use Rattle.lois_base.specs.Shift.{shift_level, shift_lit, shift_cube, shift_constraint};
-ghost use Rattle.lois_constraint.specs.Substitution.{put_level, put_lit, put_cube, put_constraint};
+ghost use Rattle.lois_constraint.specs.Substitution.{put_level, put_cube, put_constraint};
 
 use lois_base::{Constraint, Cube, Lit, NoMemory};
 use std::alloc::Global;

@@ -2,10 +2,10 @@
 
 ghost use Rattle.std.specs.Prelude.{◌≡◌, ℕ, Bool, List, ◌++◌, ◌&&◌, ◌||◌, map, IfOk, OnOk};
 ghost use Rattle.lois_base.specs.Atom.{Atom};
-ghost use Rattle.lois_base.specs.Fits.{CubeFits, ConstraintFits};
+ghost use Rattle.lois_base.specs.Fits.{ConstraintFits};
 ghost use Rattle.lois_base.specs.Normal.{both};
 ghost use Rattle.lois_base.specs.Truth.{cube_holds, holds};
-ghost use Rattle.lois_base.specs.Validity.{AdmitsCube, AdmitsConstraint, CubeUsesOnly, UsesOnly};
+ghost use Rattle.lois_base.specs.Validity.{AdmitsConstraint, UsesOnly};
 
 use lois_base::{Constraint, Cube, NoMemory};
 use std::alloc::Global;

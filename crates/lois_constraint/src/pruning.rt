@@ -3,9 +3,9 @@
 ghost use Rattle.std.specs.Prelude.{◌≡◌, ℕ, Bool, List, ◌++◌, ◌&&◌, ◌||◌, IfOk, IfSome, IsTrue, IsFalse};
 ghost use Rattle.std.specs.List.{All};
 ghost use Rattle.lois_base.specs.Atom.{Atom};
-ghost use Rattle.lois_base.specs.Fits.{CubeFits, ConstraintFits};
+ghost use Rattle.lois_base.specs.Fits.{ConstraintFits};
 ghost use Rattle.lois_base.specs.Truth.{cube_holds, holds};
-ghost use Rattle.lois_base.specs.Validity.{AdmitsCube, AdmitsConstraint, UsesOnly};
+ghost use Rattle.lois_base.specs.Validity.{AdmitsConstraint, UsesOnly};
 ghost use Rattle.lois_constraint.specs.Met.{CanBeMet, LiesWithin, IsPruned};
 ghost use Rattle.lois_constraint.specs.Rules.{Rule, CubeObeys, ConstraintObeys};
 ghost use Rattle.lois_constraint.specs.Tight.{some_holds};

@@ -1,7 +1,6 @@
 //! Questions that are asked again: a cube in one order, and a number of levels.
 
 ghost use Rattle.std.specs.Prelude.{◌≡◌, List, IfOk};
-ghost use Rattle.std.specs.List.{list_all};
 ghost use Rattle.lois_base.specs.Atom.{Atom};
 ghost use Rattle.lois_base.specs.Truth.{lit_holds, cube_holds};
 

@@ -1,6 +1,6 @@
 //! A cube with its levels eliminated, one after another from the last.
 
-ghost use Rattle.std.specs.Prelude.{◌≡◌, ◌+◌, ◌∷◌, [], IfOk};
+ghost use Rattle.std.specs.Prelude.{◌+◌, ◌∷◌, [], IfOk};
 ghost use Rattle.lois_base.specs.Fits.{CubeFits, ConstraintFits};
 ghost use Rattle.lois_deciders.specs.Stages.{HoldsForSome, AreStages};
 

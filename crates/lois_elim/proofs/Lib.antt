@@ -1,3 +1,2 @@
 pub mod Truth
 pub mod Steps
-pub mod Views

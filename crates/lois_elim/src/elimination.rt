@@ -1,6 +1,6 @@
 //! Elimination of the quantifiers of a formula, from the inside out.
 
-ghost use Rattle.std.specs.Prelude.{◌≡◌, ℕ, ◌+◌, Bool, List, [], ◌∷◌, IfOk, suc};
+ghost use Rattle.std.specs.Prelude.{◌≡◌, ℕ, Bool, List, [], ◌∷◌, IfOk, suc};
 ghost use Rattle.lois_base.specs.Atom.{Atom};
 ghost use Rattle.lois_base.specs.Fits.{LitFits, ConstraintFits};
 ghost use Rattle.lois_base.specs.FormulaData.{FormulaFits, FormulasFit, all, any, formulas_of};

@@ -1,6 +1,6 @@
 //! Constraints with their highest level bound: for some atom at it, and for each.
 
-ghost use Rattle.std.specs.Prelude.{◌≡◌, ℕ, ◌+◌, Bool, List, [], ◌∷◌, ◌++◌, IfOk, OnOk};
+ghost use Rattle.std.specs.Prelude.{◌≡◌, ◌+◌, Bool, ◌++◌, IfOk, OnOk};
 ghost use Rattle.lois_base.specs.Fits.{ConstraintFits};
 ghost use Rattle.lois_base.specs.Validity.{AdmitsConstraint};
 ghost use Rattle.lois_elim.specs.Bound.{HoldsForSome, HoldsForEach};
@@ -10,7 +10,7 @@ use lois_constraint::{negate, prune};
 use std::alloc::Global;
 
 /// Puts the cubes of one constraint behind those of another.
-pub fn append(cubes: &mut Constraint, more: Constraint) -> Result<(), NoMemory>
+pub(crate) fn append(cubes: &mut Constraint, more: Constraint) -> Result<(), NoMemory>
     ensures { OnOk result (cubes.new ≡ cubes.old ++ more) }
 {
     for cube in more.into_vec() {
@@ -39,7 +39,7 @@ pub fn for_some<T: Structure>(
 }
 
 /// A constraint over the levels below `size` that says that the given one holds for each atom at level `size`.
-pub fn for_each<T: Structure>(
+pub(crate) fn for_each<T: Structure>(
     alloc: Global,
     c: &Constraint,
     size: usize,

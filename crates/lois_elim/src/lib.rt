@@ -7,3 +7,4 @@ mod levels;
 mod tests;
 
 pub use elimination::quantifier_free;
+pub use levels::for_some;

@@ -1,6 +1,6 @@
 //! Worked formulas, and made ones, whose answers stay small.
 
-ghost use Rattle.std.specs.Prelude.{◌≡◌, ℕ, ◌+◌, ◌<◌, IsTrue, suc};
+ghost use Rattle.std.specs.Prelude.{◌<◌, IsTrue};
 ghost use Rattle.lois_base.specs.FormulaData.{FormulaFits, FormulasFit, formulas_of};
 ghost use Rattle.lois_base.specs.FormulaView.{view, views};
 ghost use Rattle.lois_base.specs.Validity.{AdmitsFormula, AdmitsFormulas};

@@ -1,6 +1,6 @@
 //! From bytes to tokens.
 
-ghost use Rattle.std.specs.Prelude.{◌≡◌, ◌≢◌, ℕ, ◌<◌, ◌≤◌, ◌⊎◌, ◌↔◌, List, [], ◌∷◌, length, ◌+◌, ◌^◌, take, slice_index, All, IfOk, IfErr, IfSome, IfNone, IsErrOf, IsTrue, IsFalse, Contains};
+ghost use Rattle.std.specs.Prelude.{◌≡◌, ◌≢◌, ℕ, ◌<◌, ◌⊎◌, ◌↔◌, List, [], ◌∷◌, length, ◌+◌, ◌^◌, take, slice_index, All, IfOk, IfErr, IfSome, IfNone, IsErrOf, IsTrue, IsFalse, Contains};
 ghost use Rattle.std.specs.List.{prefix_len};
 ghost use Rattle.std.specs.Char.{is_ascii_alphabetic, is_ascii_digit};
 ghost use Rattle.lois_lexer.specs.declared.TokenKind.{TokenKind};

@@ -1,6 +1,6 @@
 //! The reserved words.
 
-ghost use Rattle.std.specs.Prelude.{◌≡◌, ◌↔◌, IsTrue, Contains};
+ghost use Rattle.std.specs.Prelude.{◌↔◌, IsTrue, Contains};
 ghost use Rattle.lois_lexer.specs.Words.{reserved};
 
 /// The words that no name may be.

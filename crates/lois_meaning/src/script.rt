@@ -1,6 +1,6 @@
 //! The syntax tree of a script: statements, parameters and the whole.
 
-ghost use Rattle.std.specs.Prelude.{◌≡◌, ℕ, List, [], ◌∷◌, ◌++◌, length, map, slice_get, option_map, OnOk, OnErr};
+ghost use Rattle.std.specs.Prelude.{◌≡◌, [], ◌∷◌, ◌++◌, length, map, slice_get, option_map, OnOk, OnErr};
 ghost use Rattle.lois_meaning.specs.View.{param_tree, params_list, stmt_tree, stmts_list, stmts_held};
 
 use crate::{Binding, Cond, Expr, Pos};

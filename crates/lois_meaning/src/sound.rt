@@ -1,16 +1,16 @@
 //! Which results and traces have a text.
 
-ghost use Rattle.std.specs.Prelude.{◌≡◌, ◌↔◌, ◌<◌, ◌≤◌, ◌^◌, IsTrue, Contains, map};
+ghost use Rattle.std.specs.Prelude.{◌≡◌, ◌↔◌, ◌<◌, ◌≤◌, IsTrue, Contains};
 ghost use Rattle.std.specs.List.{All};
 ghost use Rattle.lois_base.specs.Data.{depth, depth_of_terms, depth_of_comps, terms_of, comps_of};
 ghost use Rattle.lois_base.specs.Tree.{tree, comp_of};
-ghost use Rattle.lois_base.specs.Validity.{is_admitted, AdmitsLit, AdmitsCube, AdmitsConstraint, AdmitsTerm, AdmitsParts, AdmitsItems, AdmitsComp, HasUsualWidths, PartsHaveUsualWidths, ItemsHaveUsualWidths};
+ghost use Rattle.lois_base.specs.Validity.{is_admitted, AdmitsCube, AdmitsConstraint, AdmitsTerm, AdmitsParts, AdmitsItems, AdmitsComp, HasUsualWidths, PartsHaveUsualWidths, ItemsHaveUsualWidths};
 ghost use Rattle.lois_meaning.specs.LineView.{line_of};
 ghost use Rattle.lois_meaning.specs.CaseView.{case_of};
 ghost use Rattle.lois_meaning.specs.Sound.{HasTags, PartsHaveTags, ItemsHaveTags, IsFreeName, IsSoundTerm, IsSoundLine, IsSoundCase, AreDistinct, AreParameters, IsSound, IsSoundTrace, IsPlaceNumber};
 
 use crate::{Case, Cases, Line, Lines, Results, Trace};
-use lois_base::{Comp, Comps, Constraint, Cube, Lit, Name, Names, Op, Term, Terms};
+use lois_base::{Comp, Comps, Constraint, Cube, Name, Names, Op, Term, Terms};
 use lois_lexer::is_reserved;
 
 /// How many brackets may be open at one place.

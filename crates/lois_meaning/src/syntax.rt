@@ -1,6 +1,6 @@
 //! The syntax tree of a script: expressions and conditions.
 
-ghost use Rattle.std.specs.Prelude.{◌≡◌, ℕ, List, [], ◌∷◌, ◌++◌, length, map, slice_get, option_map, OnOk, OnErr};
+ghost use Rattle.std.specs.Prelude.{◌≡◌, [], ◌∷◌, ◌++◌, length, map, slice_get, option_map, OnOk, OnErr};
 ghost use Rattle.lois_meaning.specs.View.{tree, binding_tree, cond_tree, exprs_list, bindings_list, conds_list, exprs_held, bindings_held, conds_held};
 
 use lois_base::{Name, NoMemory};

@@ -1,6 +1,6 @@
 -- Guards, operands and binders as they are written.
 use Rattle.std.proofs.Common.{◌≡◌, ℕ, zero, suc, ◌+◌, ◌-◌, ◌<◌, List, [], ◌∷◌, ◌++◌, refl, sym, ap, ◌∙◌, subst, append_assoc, codes, arith}
-use Rattle.std.specs.Prelude.{None, Some, slice_index_or}
+use Rattle.std.specs.Prelude.{None, slice_index_or}
 use Rattle.std.specs.List.{slice_get}
 use Rattle.lois_base.specs.declared.guards.Lit.{Lit}
 use Rattle.lois_meaning.specs.TermText.{constraint_text, guard_text, level_text, levels_text}

@@ -3,7 +3,7 @@ use Rattle.std.proofs.Common.{◌≡◌, ℕ, zero, suc, ◌+◌, ◌<◌, ◌�
 use Rattle.std.proofs.lemmas.List.{take_all}
 use Rattle.std.specs.Prelude.{Result, Ok, Err, OnOk}
 use Rattle.std.specs.List.{flat_map}
-use Rattle.lois_base.specs.Data.{TermD, TermsD, terms_of, CompD, CompsD, comps_of}
+use Rattle.lois_base.specs.Data.{TermD, terms_of, CompD, comps_of}
 use Rattle.lois_meaning.specs.TermText.{joined, term_text, part_texts, comp_text, item_texts}
 use Rattle.lois_printer.specs.Separated.{separator}
 

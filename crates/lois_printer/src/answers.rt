@@ -1,11 +1,10 @@
 //! The text of results and of traces.
 
 ghost use Rattle.std.specs.Prelude.{◌≡◌, ◌++◌, OnOk, IfOk, length};
-ghost use Rattle.std.specs.Fmt.{decimal};
 ghost use Rattle.std.specs.List.{All, flat_map};
 ghost use Rattle.lois_meaning.specs.CaseView.{case_of};
 ghost use Rattle.lois_meaning.specs.LineView.{line_of};
-ghost use Rattle.lois_meaning.specs.ResultsText.{structure_text, parameters_text, spaced, line_text, case_text, results_text};
+ghost use Rattle.lois_meaning.specs.ResultsText.{structure_text, parameters_text, line_text, case_text, results_text};
 ghost use Rattle.lois_meaning.specs.Sound.{IsSound, IsSoundTrace};
 ghost use Rattle.lois_meaning.specs.TraceText.{kind_text, failure_text, choice_text, element_text, trace_text};
 ghost use Rattle.lois_printer.specs.Inside.{LineFits, CaseFits};

@@ -2,14 +2,14 @@
 use Rattle.std.proofs.Common.{◌≡◌, ℕ, suc, ◌+◌, ◌-◌, ◌<◌, ◌≤◌, Bool, true, false, ◌&&◌, ◌||◌, nat_lt, ◌⊎◌, inl, inr, ◌↔◌, List, [], ◌∷◌, ◌++◌, length, get_or, map, refl, sym, ap, subst, ◌∙◌, append-nil, arith}
 use Rattle.std.proofs.lemmas.Bool.{cases_lt, lt-ltb, false≢true}
 use Rattle.std.proofs.lemmas.Bool.Decides.{nat_tests}
-use Rattle.std.proofs.lemmas.List.{get_or-map, length-map, get_or_append_left, get_or-append_right, append_assoc}
+use Rattle.std.proofs.lemmas.List.{get_or_append_left, get_or-append_right, append_assoc}
 use Rattle.std.specs.Bool.{IsTrue, MatchBool}
 use Rattle.lois_base.specs.Atom.{Atom, equal, whole}
 use Rattle.lois_base.specs.Data.{TermD, var, tag, tup, coll, TermsD, no_terms, term, CompD, comp, CompsD, no_comps, more, terms_of, comps_of}
 use Rattle.lois_base.specs.FormulaData.{FormulaD, all, no_formulas}
 use Rattle.lois_base.specs.Truth.{atom_at, op_holds, lit_holds, cube_holds, holds}
 use Rattle.lois_base.specs.Tree.{tree, comp_of}
-use Rattle.lois_base.specs.Values.{IsExtension, MakesAt, MemberAt, SameAt, SamePartsAt, AllInAt, EachInAt, InAt}
+use Rattle.lois_base.specs.Values.{MakesAt, MemberAt, SameAt, SamePartsAt, AllInAt, EachInAt}
 use Rattle.lois_base.specs.declared.guards.Lit.{Lit}
 use Rattle.lois_base.specs.declared.values.Comp.{Comp}
 use Rattle.lois_base.specs.declared.values.Term.{Term}

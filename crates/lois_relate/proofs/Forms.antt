@@ -4,25 +4,12 @@ use Rattle.std.proofs.lemmas.Bool.{eqb-true}
 use Rattle.std.proofs.lemmas.List.{append_assoc}
 use Rattle.std.specs.Bool.{IsTrue}
 use Rattle.lois_base.specs.Atom.{Atom, whole}
-use Rattle.lois_base.specs.FormulaData.{FormulaD, lit, all, any, neg, exists, FormulasD, no_formulas, formula, formulas_of, FormulaFits, FormulasFit}
+use Rattle.lois_base.specs.FormulaData.{FormulaD, all, any, neg, exists, no_formulas, formulas_of, FormulaFits, FormulasFit}
 use Rattle.lois_base.specs.FormulaTruth.{FormulaHolds, AllHold, AnyHolds}
-use Rattle.lois_base.specs.FormulaView.{view_step, views_step, view}
 use Rattle.lois_base.specs.Validity.{AdmitsFormula, AdmitsFormulas}
 use Rattle.lois_base.specs.declared.guards.Lit.{Lit}
 use Rattle.lois_base.specs.declared.logic.Formula.{Formula}
-use Rattle.lois_base.specs.declared.logic.Formula.TheFolds.{fold-roll-Formula}
-use Rattle.lois_base.specs.declared.logic.Formula.TheOpen.{Formula-F}
-use Rattle.lois_base.specs.declared.logic.Formula.TheVariants.{Lit as at_literal, Exists, rolls-Lit, rolls-Exists}
 use Rattle.lois_relate.specs.Built.{IsBoth, IsEither, IsNegation, IsImplied, IsForSome}
-
--- ---- what a formula stands for that is a literal or a quantifier
-pub view_Lit : (l : Lit) → view (at_literal l) ≡ lit l
-view_Lit l =
-    ap view (sym (rolls-Lit l)) ∙ fold-roll-Formula FormulaD (List FormulaD) view_step views_step (Formula-F.Lit l)
-
-pub view_Exists : (f : Formula) (b : _) (d : Formula) → f ≡ Exists b → d ≡ b.value → view f ≡ exists (view d)
-view_Exists f b d e v =
-    ap view e ∙ ap view (sym (rolls-Exists b)) ∙ fold-roll-Formula FormulaD (List FormulaD) view_step views_step (Formula-F.Exists b) ∙ ap (λ x. exists (view x)) (sym v)
 
 -- ---- true and false everywhere
 pub both_never_left : (f g : FormulaD) → f ≡ any no_formulas → IsBoth f g f

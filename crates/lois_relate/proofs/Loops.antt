@@ -1,7 +1,6 @@
 -- What holds as a loop goes over parts that are all to hold, or of which one is to hold.
-use Rattle.std.proofs.Common.{◌≡◌, ℕ, suc, ◌+◌, ◌<◌, ◌≤◌, Bool, true, false, ◌&&◌, ◌||◌, ◌⊎◌, inl, inr, ◌↔◌, List, [], ◌∷◌, ◌++◌, length, get_or, drop, refl, sym, ap, subst, ◌∙◌, drop-cons, arith}
+use Rattle.std.proofs.Common.{◌≡◌, ℕ, suc, ◌+◌, ◌<◌, Bool, true, false, ◌&&◌, ◌||◌, ◌⊎◌, inl, inr, ◌↔◌, List, ◌∷◌, length, get_or, drop, refl, sym, ap, subst, ◌∙◌, drop-cons, arith}
 use Rattle.std.proofs.lemmas.Bool.{false≢true}
-use Rattle.std.proofs.lemmas.List.{drop_all}
 use Rattle.std.specs.Bool.{IsTrue}
 use Rattle.lois_base.specs.Atom.{Atom}
 use Rattle.lois_base.specs.FormulaData.{FormulaD, all, any, no_formulas, FormulaFits}

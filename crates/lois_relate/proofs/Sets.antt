@@ -1,9 +1,8 @@
 -- Sets that are the same, members and inclusion, comprehension by comprehension.
-use Rattle.std.proofs.Common.{◌≡◌, ℕ, suc, ◌↔◌, List, [], ◌∷◌, length, refl, sym, ap, subst, ◌∙◌, arith}
-use Rattle.std.proofs.lemmas.Bool.{false≢true}
+use Rattle.std.proofs.Common.{◌≡◌, suc, ◌↔◌, List, [], ◌∷◌, length, refl, ap}
 use Rattle.lois_base.specs.Atom.{Atom}
-use Rattle.lois_base.specs.Data.{TermD, var, tag, tup, coll, TermsD, no_terms, term, CompsD, terms_of}
-use Rattle.lois_base.specs.Values.{PointValue, point, MemberAt, SameAt, SamePartsAt, AllInAt, SomeIsAt, InAt, IsIn, IsIncluded}
+use Rattle.lois_base.specs.Data.{TermD, coll, CompsD, terms_of}
+use Rattle.lois_base.specs.Values.{point, SameAt, SamePartsAt, AllInAt, SomeIsAt, InAt, IsIn, IsIncluded}
 use Rattle.lois_base.proofs.Same.{same_at_sym, all_in_is, is_all_in, some_is_is, is_some_is}
 
 pub sets_same : (cs : CompsD) (c : List Atom) (ss : CompsD) (d : List Atom) → SameAt (coll cs) c (coll ss) d ↔ (AllInAt cs c ss d × AllInAt ss d cs c)

@@ -8,7 +8,7 @@ use Rattle.lois_base.specs.FormulaTruth.{FormulaHolds}
 use Rattle.lois_base.specs.Truth.{holds}
 use Rattle.lois_base.specs.Validity.{AdmitsConstraint, AdmitsTerm, AdmitsComp, AdmitsItems}
 use Rattle.lois_base.specs.Tree.{comp_of}
-use Rattle.lois_base.specs.Values.{IsExtension, MemberAt, SameAt, EachInAt}
+use Rattle.lois_base.specs.Values.{MemberAt, SameAt, EachInAt}
 use Rattle.lois_base.specs.declared.guards.Lit.{Lit}
 use Rattle.lois_base.specs.declared.values.Comp.{Comp}
 use Rattle.lois_base.proofs.Order.{test}

@@ -1,6 +1,6 @@
 -- Terms whose levels have names of their own: level i of the term stands for the level names[i] of a choice. So two terms can be
 -- compared beside one another, each with binders of its own, and neither is copied.
-use Rattle.std.specs.Prelude.{◌≡◌, ℕ, zero, suc, ◌<◌, List, [], ◌∷◌, map, slice_index}
+use Rattle.std.specs.Prelude.{ℕ, zero, suc, ◌<◌, List, [], ◌∷◌, map, slice_index}
 use Rattle.std.specs.List.{All}
 use Rattle.lois_base.specs.Atom.{Atom}
 use Rattle.lois_base.specs.Truth.{atom_at}

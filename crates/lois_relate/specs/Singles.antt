@@ -1,5 +1,5 @@
 -- Sets of at most one member.
-use Rattle.lois_base.specs.Data.{CompD, comp, CompsD, no_comps, more}
+use Rattle.lois_base.specs.Data.{comp, CompsD, no_comps, more}
 use Rattle.std.specs.Prelude.{◌≡◌}
 
 -- one comprehension, without binders

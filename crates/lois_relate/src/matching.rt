@@ -1,6 +1,6 @@
 //! Terms that are written alike, so that they have the same value everywhere.
 
-ghost use Rattle.std.specs.Prelude.{◌≡◌, IsTrue, ◌↔◌};
+ghost use Rattle.std.specs.Prelude.{IsTrue, ◌↔◌};
 ghost use Rattle.lois_base.specs.Data.{terms_of, comps_of};
 ghost use Rattle.lois_base.specs.Tree.{tree, comp_of};
 ghost use Rattle.lois_relate.specs.Alike.{LevelsMatch, LitsMatch, CubesMatch, GuardsMatch, AreAlike, PartsAlike, CompsAlike, ItemsAlike, IsListed};

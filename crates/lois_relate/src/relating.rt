@@ -1,7 +1,7 @@
 //! Equality, membership and inclusion, by recursion on both terms.
 
-ghost use Rattle.std.specs.Prelude.{◌≡◌, ℕ, ◌+◌, ◌<◌, Bool, List, [], ◌∷◌, length, IfOk, IfSome, IfNone, IsTrue};
-ghost use Rattle.lois_base.specs.Atom.{Atom, equal};
+ghost use Rattle.std.specs.Prelude.{◌≡◌, ℕ, ◌<◌, Bool, [], ◌∷◌, length, IfOk, IfSome, IfNone, IsTrue};
+ghost use Rattle.lois_base.specs.Atom.{equal};
 ghost use Rattle.lois_base.specs.Data.{coll, more, no_comps, terms_of, comps_of};
 ghost use Rattle.lois_base.specs.Fits.{Fits, PartsFit, CompFits, ItemsFit};
 ghost use Rattle.lois_base.specs.FormulaData.{FormulaFits};

@@ -1,6 +1,6 @@
 //! The first break of a rule that a walk over a script has met.
 
-ghost use Rattle.std.specs.Prelude.{◌≡◌, ◌↔◌, IsTrue, Bool, false, None};
+ghost use Rattle.std.specs.Prelude.{◌≡◌, ◌↔◌, IsTrue, false, None};
 ghost use Rattle.lois_meaning.specs.Scope.{rule_number};
 ghost use Rattle.lois_scope.specs.Breaks.{rule_view, break_of, kept_of, IsNoLater, KeepsLeast};
 

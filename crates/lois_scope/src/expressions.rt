@@ -1,7 +1,7 @@
 //! The walk over expressions and conditions.
 
 ghost use Rattle.std.specs.Prelude.{OnOk};
-ghost use Rattle.lois_meaning.specs.Scope.{with_binder, bound, ExprBreaks, ExprsBreak, BindingBreaks, BindingsBreak, CondBreaks, CondsBreak};
+ghost use Rattle.lois_meaning.specs.Scope.{bound, ExprBreaks, ExprsBreak, BindingBreaks, BindingsBreak, CondBreaks, CondsBreak};
 ghost use Rattle.lois_meaning.specs.View.{tree, exprs_of, exprs_list, binding_tree, bindings_of, bindings_list, cond_tree, conds_of, conds_list};
 ghost use Rattle.lois_scope.specs.Walks.{seen, Walks, Leads};
 

@@ -1,8 +1,8 @@
 //! The names in scope at a place of a script.
 
-ghost use Rattle.std.specs.Prelude.{◌≡◌, [], length, map, take, option_map, OnOk};
+ghost use Rattle.std.specs.Prelude.{◌≡◌, [], length, take, option_map, OnOk};
 ghost use Rattle.lois_meaning.specs.Scope.{role_of};
-ghost use Rattle.lois_scope.specs.InScope.{MadeD, made_of, with_name, roles_inside, role_view};
+ghost use Rattle.lois_scope.specs.InScope.{made_of, with_name, roles_inside, role_view};
 
 use indexmap::IndexMap;
 use lois_base::{Name, NoMemory};

@@ -1,7 +1,7 @@
 //! The walk over parameters, statements and blocks.
 
 ghost use Rattle.std.specs.Prelude.{◌≡◌, ◌+◌, ◌<◌, take, suc, OnOk, IfOk};
-ghost use Rattle.lois_meaning.specs.Scope.{with_binder, entered, scope_behind, with_parameters, ParametersBreak, BindingBreaks, CondBreaks, StmtBreaks, StmtsBreak};
+ghost use Rattle.lois_meaning.specs.Scope.{entered, scope_behind, with_parameters, ParametersBreak, StmtBreaks, StmtsBreak};
 ghost use Rattle.lois_meaning.specs.View.{binding_tree, cond_tree, stmt_tree, stmts_of, stmts_list, params_list};
 ghost use Rattle.lois_scope.specs.InScope.{made_of};
 ghost use Rattle.lois_scope.specs.Walks.{seen, state_of, IsWithin, Walks, Leads, Enters};

@@ -2,11 +2,12 @@ pub mod Asked
 pub mod Beside
 pub mod Inserted
 pub mod Kept
+pub mod LeanComps
 pub mod Members
 pub mod OneRound
 pub mod Pass
 pub mod Renaming
+pub mod Seen
 pub mod Single
 pub mod Tuples
 pub mod Under
-pub mod Written

@@ -1,20 +1,17 @@
--- Tuples part by part, and sets comprehension by comprehension.
-use Rattle.std.proofs.Common.{◌≡◌, ℕ, suc, ◌≤◌, List, [], ◌∷◌, ◌++◌, length, refl, ap, subst, append-nil, arith}
+-- Tuples part by part.
+use Rattle.std.proofs.Common.{◌≡◌, ℕ, suc, ◌≤◌, List, [], ◌∷◌, ◌++◌, length, refl, ap, subst, arith}
 use Rattle.std.specs.Prelude.{Bool}
 use Rattle.std.specs.Bool.{IsTrue}
-use Rattle.std.specs.List.{All, Contains}
-use Rattle.std.proofs.lemmas.List.Elements.{All-push, All-weaker, All-contains, All-contains_itself}
 use Rattle.lois_base.specs.Atom.{Atom}
-use Rattle.lois_base.specs.Data.{TermD, tup, terms_of, CompD, depth_of_parts}
+use Rattle.lois_base.specs.Data.{TermD, tup, terms_of, depth_of_parts}
 use Rattle.lois_base.specs.Fits.{PartsFit}
 use Rattle.lois_base.specs.Normal.{IsNormal, PartsAreNormal}
 use Rattle.lois_base.specs.Truth.{holds}
 use Rattle.lois_base.specs.Validity.{AdmitsParts, count_of_parts, PartsHaveUsualWidths}
 use Rattle.lois_base.specs.Values.{SamePartsAt}
 use Rattle.lois_base.specs.declared.guards.Lit.{Lit}
-use Rattle.lois_simplify.specs.Kept.{IsKept, set_of}
-use Rattle.lois_simplify.specs.Lean.{HasNormalGuards, PartsHaveNormalGuards, IsLeanComp}
-use Rattle.lois_simplify.proofs.Kept.{kept_trans, alike_kept, kept-append}
+use Rattle.lois_simplify.specs.Kept.{IsKept}
+use Rattle.lois_simplify.specs.Lean.{HasNormalGuards, PartsHaveNormalGuards}
 
 -- s stands for t, and is normal
 pub record IsSimplified (u : List (List Lit)) (n : ℕ) (t s : TermD) : Type 0 where
@@ -91,31 +88,3 @@ module _ (u : List (List Lit)) (n : ℕ) where
   parts_guards [] (s ∷ ss) h = absurd h
   parts_guards (t ∷ ts) [] h = absurd h
   parts_guards (t ∷ ts) (s ∷ ss) h = ((h.0).guards, parts_guards ts ss h.1)
-
--- ---- the comprehensions `done` are made lean one by one
-pub record LeanSoFar (u : List (List Lit)) (n : ℕ) (done found : List CompD) : Type 0 where
-  pub kept : IsKept u n (set_of done) (set_of found)
-  pub lean : All (IsLeanComp u n) found
-
-module _ (u : List (List Lit)) (n : ℕ) where
-  pub lean_found : (done found : List CompD) (k r : CompD) → LeanSoFar u n done found → IsKept u n (set_of (k ∷ [])) (set_of (r ∷ [])) → IsLeanComp u n r → LeanSoFar u n (done ++ k ∷ []) (found ++ r ∷ [])
-  lean_found done found k r so_far kept lean = record {
-    kept = kept-append u n done found (k ∷ []) (r ∷ []) so_far.kept kept;
-    lean = All-push (IsLeanComp u n) found r so_far.lean lean;
-  }
-
-  pub lean_none : (done found : List CompD) (k : CompD) → LeanSoFar u n done found → IsKept u n (set_of (k ∷ [])) (set_of []) → LeanSoFar u n (done ++ k ∷ []) found
-  lean_none done found k so_far kept = record {
-    kept = subst (λ z. IsKept u n (set_of (done ++ k ∷ [])) (set_of z)) (append-nil found) (kept-append u n done found (k ∷ []) [] so_far.kept kept);
-    lean = so_far.lean;
-  }
-
-  -- equal ones are cut before and after
-  pub lean_kept : (whole several found rest : List CompD) → ((k : CompD) → Contains whole k → Contains several k) → ((k : CompD) → Contains several k → Contains whole k) → LeanSoFar u n several found → ((k : CompD) → Contains found k → Contains rest k) → ((k : CompD) → Contains rest k → Contains found k) → IsKept u n (set_of whole) (set_of rest)
-  lean_kept whole several found rest all only so_far all' only' =
-      kept_trans u n (set_of whole) (set_of several) (set_of rest) (alike_kept u n whole several all only)
-      (kept_trans u n (set_of several) (set_of found) (set_of rest) so_far.kept (alike_kept u n found rest all' only'))
-
-  pub fewer_lean : (found rest : List CompD) → All (IsLeanComp u n) found → ((k : CompD) → Contains rest k → Contains found k) → All (IsLeanComp u n) rest
-  fewer_lean found rest lean only =
-      All-weaker (Contains rest) (IsLeanComp u n) (λ k h. All-contains (IsLeanComp u n) found k lean (only k h)) rest (All-contains_itself rest)

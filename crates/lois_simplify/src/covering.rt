@@ -1,12 +1,10 @@
 //! Comprehensions whose members the others have.
 
-ghost use Rattle.std.specs.Prelude.{◌≡◌, ℕ, ◌+◌, ◌<◌, ◌≤◌, ◌^◌, Bool, List, [], ◌∷◌, ◌++◌, length, map, drop, IfOk, OnOk, IsTrue, IsFalse, Contains};
-ghost use Rattle.lois_base.specs.Atom.{Atom};
+ghost use Rattle.std.specs.Prelude.{◌≡◌, ◌+◌, ◌<◌, [], ◌++◌, map, IfOk, IsTrue, IsFalse, Contains};
 ghost use Rattle.lois_base.specs.Data.{CompD, comps_of};
 ghost use Rattle.lois_base.specs.Fits.{ConstraintFits, CompFits, ItemsFit};
-ghost use Rattle.lois_base.specs.Shift.{shift_comp};
-ghost use Rattle.lois_base.specs.Tree.{tree, comp_of};
-ghost use Rattle.lois_base.specs.Validity.{AdmitsConstraint, AdmitsComp, AdmitsItems};
+ghost use Rattle.lois_base.specs.Tree.{comp_of};
+ghost use Rattle.lois_base.specs.Validity.{AdmitsComp, AdmitsItems};
 ghost use Rattle.lois_simplify.specs.Kept.{IsKept, set_of};
 ghost use Rattle.lois_simplify.specs.Lean.{HasOwn, EachHasOwn};
 ghost use Rattle.lois_simplify.specs.Covered.{IsCovered};

@@ -1,6 +1,6 @@
 //! Comprehensions that are written alike.
 
-ghost use Rattle.std.specs.Prelude.{◌≡◌, List, IfOk, IsTrue, Contains};
+ghost use Rattle.std.specs.Prelude.{◌≡◌, IfOk, IsTrue, Contains};
 ghost use Rattle.lois_base.specs.Data.{CompD};
 ghost use Rattle.lois_base.specs.Tree.{tree, comp_of};
 

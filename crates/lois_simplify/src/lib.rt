@@ -2,7 +2,6 @@
 #![tactic(auto)]
 
 mod answering;
-mod binding;
 mod covering;
 mod distinct;
 mod fixing;

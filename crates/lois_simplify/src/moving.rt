@@ -1,6 +1,6 @@
 //! Terms with one level left out, and another in its place.
 
-ghost use Rattle.std.specs.Prelude.{◌≡◌, ◌+◌, ◌-◌, ◌<◌, ◌≤◌, ◌^◌, IfOk, map, Bool};
+ghost use Rattle.std.specs.Prelude.{◌≡◌, ◌+◌, ◌-◌, ◌<◌, ◌≤◌, IfOk, map, Bool};
 ghost use Rattle.lois_base.specs.Fits.{ConstraintFits, CompFits};
 ghost use Rattle.lois_base.specs.Rename.{rename, rename_comp, rename_lit, rename_cube, rename_constraint};
 ghost use Rattle.lois_base.specs.Tree.{tree, comp_of};
@@ -8,8 +8,8 @@ ghost use Rattle.lois_base.specs.Validity.{AdmitsConstraint};
 ghost use Rattle.lois_elim.specs.Bound.{HoldsForSome};
 ghost use Rattle.lois_simplify.specs.Moved.{moved};
 
-use crate::binding::for_some;
 use lois_base::{Comp, Comps, Constraint, Cube, Lit, NoMemory, Structure, Term, Terms};
+use lois_elim::for_some;
 use std::alloc::Global;
 
 fn moved_level(level: usize, gone: usize, to: usize) -> usize

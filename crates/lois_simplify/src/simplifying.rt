@@ -1,17 +1,12 @@
 //! Normal terms.
 
-ghost use Rattle.std.specs.Prelude.{◌≡◌, ℕ, ◌+◌, ◌<◌, ◌≤◌, Bool, List, [], ◌∷◌, ◌&&◌, IfOk, IfSome};
+ghost use Rattle.std.specs.Prelude.{◌+◌, ◌<◌, ◌≤◌, Bool, IfOk, IfSome};
 ghost use Rattle.std.specs.List.{All};
-ghost use Rattle.lois_base.specs.Atom.{Atom};
 ghost use Rattle.lois_base.specs.Data.{depth, tup, terms_of, comps_of};
 ghost use Rattle.lois_base.specs.Fits.{ConstraintFits, Fits, PartsFit, CompFits, ItemsFit};
 ghost use Rattle.lois_base.specs.Normal.{IsNormal, PartsAreNormal};
 ghost use Rattle.lois_base.specs.Tree.{tree, comp_of};
 ghost use Rattle.lois_base.specs.Validity.{AdmitsConstraint, AdmitsTerm, AdmitsParts, AdmitsComp, AdmitsItems, HasUsualWidths};
-ghost use Rattle.lois_base.specs.Truth.{holds};
-ghost use Rattle.lois_constraint.specs.Normalised.{IsNormalised};
-ghost use Rattle.lois_deciders.specs.Asked.{CanBeMet};
-ghost use Rattle.lois_simplify.specs.Fixed.{CanBeApart};
 ghost use Rattle.lois_simplify.specs.Kept.{IsKept, IsSameWhere, set_of};
 ghost use Rattle.lois_simplify.specs.Lean.{HasNormalGuards, PartsHaveNormalGuards, IsLeanComp};
 ghost use Rattle.lois_simplify.specs.Rounds.{only, listed, IsRoundOf};

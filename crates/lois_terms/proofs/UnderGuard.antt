@@ -2,18 +2,19 @@
 use Rattle.std.proofs.Common.{◌≡◌, ℕ, suc, ◌+◌, ◌<◌, Bool, true, false, ◌&&◌, List, [], ◌∷◌, ◌++◌, length, get_or, map, take, append-nil, refl, ap, ◌∙◌, sym, subst, inl, inr, arith}
 use Rattle.std.specs.List.{All}
 use Rattle.std.specs.Bool.{IsTrue, IsFalse}
-use Rattle.std.proofs.lemmas.List.{get_or_append_left, take_more}
+use Rattle.std.proofs.lemmas.List.{take_more}
 use Rattle.std.proofs.lemmas.List.Elements.{All-nil, All-head, All-tail, All-append, All-map, All-weaker}
 use Rattle.std.proofs.lemmas.Grind.{flat_map-append}
-use Rattle.lois_base.specs.Atom.{Atom, whole}
+use Rattle.lois_base.specs.Atom.{Atom}
 use Rattle.lois_base.specs.Data.{TermD, var, tag, tup, coll, CompD, comp, CompsD, no_comps, more, comps_of, depth, depth_of_items}
 use Rattle.lois_base.specs.Fits.{LitFits, CubeFits, ConstraintFits, Fits, ItemsFit}
 use Rattle.lois_base.specs.Normal.{both}
-use Rattle.lois_base.specs.Truth.{lit_holds, cube_holds, holds}
+use Rattle.lois_base.specs.Truth.{holds}
 use Rattle.lois_base.specs.Validity.{AdmitsLit, AdmitsConstraint, AdmitsTerm, AdmitsItems, HasUsualWidths, ItemsHaveUsualWidths}
 use Rattle.lois_base.specs.Values.{MemberAt, SameAt}
 use Rattle.lois_base.specs.declared.guards.Lit.{Lit}
 use Rattle.lois_base.proofs.Both.{holds_both}
+use Rattle.lois_base.proofs.Truths.{holds_longer}
 use Rattle.lois_base.proofs.Same.{same_at_refl, is_all_in, is_some_is}
 use Rattle.lois_terms.specs.Guarded.{IsSet, KeepsWhere, IsEmptyElsewhere, guarded_comp, guarded_items, guarded}
 
@@ -40,22 +41,6 @@ all_both P (x ∷ a) b h k =
 pub fits_longer : (n m : ℕ) (c : List (List Lit)) → ConstraintFits n c → ConstraintFits (n + m) c
 fits_longer n m c f =
     All-weaker (CubeFits n) (CubeFits (n + m)) (λ k h. All-weaker (LitFits n) (LitFits (n + m)) (λ l p. (omega (arith, p.0), omega (arith, p.1))) k h) c f
-
--- further atoms don't count
-module _ (d e : List Atom) where
-  lit_longer : (l : Lit) → LitFits (length d) l → lit_holds (d ++ e) l ≡ lit_holds d l
-  lit_longer l f =
-      rw (get_or_append_left d e (whole 0) l.left f.0, get_or_append_left d e (whole 0) l.right f.1) refl
-
-  cube_longer : (k : List Lit) → CubeFits (length d) k → cube_holds (d ++ e) k ≡ cube_holds d k
-  cube_longer [] f = refl
-  cube_longer (l ∷ k) f =
-      rw (lit_longer l (All-head (LitFits (length d)) l k f), cube_longer k (All-tail (LitFits (length d)) l k f))
-
-  holds_longer : (c : List (List Lit)) → ConstraintFits (length d) c → holds (d ++ e) c ≡ holds d c
-  holds_longer [] f = refl
-  holds_longer (k ∷ c) f =
-      rw (cube_longer k (All-head (CubeFits (length d)) k c f), holds_longer c (All-tail (CubeFits (length d)) k c f))
 
 module _ (c : List (List Lit)) (d : List Atom) (fits : ConstraintFits (length d) c) where
   guard_at : (e : List Atom) (g : List (List Lit)) → holds (d ++ e) (both c g) ≡ (holds d c && holds (d ++ e) g)

@@ -1,6 +1,6 @@
 //! Which levels occur in a term, and how deeply it is nested.
 
-ghost use Rattle.std.specs.Prelude.{◌≡◌, ℕ, ◌<◌, ◌^◌, IsTrue, ◌↔◌, List};
+ghost use Rattle.std.specs.Prelude.{◌≡◌, ◌<◌, ◌^◌, IsTrue, ◌↔◌, List};
 ghost use Rattle.lois_base.specs.Atom.{Atom};
 ghost use Rattle.lois_base.specs.Data.{depth, depth_of_terms, depth_of_comps, terms_of, comps_of};
 ghost use Rattle.lois_base.specs.Normal.{LitUses, GuardUses, Occurs, OccursInPart, OccursInComp, OccursInItem};

@@ -34,7 +34,7 @@ fn always(alloc: Global) -> Result<Constraint, NoMemory>
     Ok(constraint)
 }
 
-#[tactic(auto, using(crate::proofs::Admitted::formula_admitted))]
+#[tactic(auto, using(lois_base::proofs::Validity::formula_admitted))]
 fn place_of(alloc: Global, f: &Formula, chosen: &mut Chosen) -> Result<Place, NoMemory>
     requires { FormulaFits 1 (view f.now) }
 {

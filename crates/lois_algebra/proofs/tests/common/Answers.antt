@@ -1,5 +1,5 @@
 use Rattle.lois_base.specs.Data.{coll, comps_of}
-use Rattle.lois_algebra.proofs.Ordered.{term_admitted}
+use Rattle.lois_base.proofs.Validity.{term_admitted}
 use Rattle.lois_algebra.proofs.tests.common.Goals as goal
 
 pub inter-requires-clause-left_operators : goal.inter-requires-clause-left_operators

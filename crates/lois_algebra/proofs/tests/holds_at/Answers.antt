@@ -1,5 +1,5 @@
 use Rattle.lois_base.specs.FormulaView.{view}
-use Rattle.lois_algebra.proofs.Ordered.{formula_admitted}
+use Rattle.lois_base.proofs.Validity.{formula_admitted}
 use Rattle.lois_algebra.proofs.tests.holds_at.Goals as goal
 
 pub quantifier_free-requires-clause-operators : goal.quantifier_free-requires-clause-operators

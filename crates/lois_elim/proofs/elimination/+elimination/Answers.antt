@@ -1,4 +1,4 @@
-use Rattle.std.proofs.Common.{◌≡◌, ℕ, ◌+◌, ◌<◌, not, List, length, subst, sym, arith}
+use Rattle.std.proofs.Common.{◌≡◌, ℕ, ◌+◌, ◌<◌, not, List, length, subst, sym, ap, ◌∙◌, arith}
 use Rattle.std.proofs.lemmas.Result.{IfOk-weaker}
 use Rattle.lois_base.specs.Atom.{Atom}
 use Rattle.lois_base.specs.Fits.{LitFits, CubeFits, ConstraintFits}
@@ -7,17 +7,16 @@ use Rattle.lois_base.specs.FormulaView.{view, views}
 use Rattle.lois_base.specs.Truth.{holds}
 use Rattle.lois_base.specs.Validity.{AdmitsCube}
 use Rattle.lois_base.specs.declared.guards.Lit.{Lit}
-use Rattle.lois_base.proofs.FormulaViews.{formula_within}
+use Rattle.lois_base.proofs.FormulaViews.{formula_within, view_Lit, view_Not, view_Exists, view_Forall}
 use Rattle.lois_elim.specs.Bound.{AgreesWith, HoldsForSome, HoldsForEach}
 use Rattle.lois_elim.proofs.Steps.{AnySoFar, parts_from, no_parts, part_fits, part_admitted, parts_go_on, all_go_on, all_refuted, any_go_on, any_end, appended_obeys}
 use Rattle.lois_elim.proofs.Truth.{neg_agrees, exists_agrees, forall_agrees}
-use Rattle.lois_elim.proofs.Views.{view_Lit, view_Not, view_Exists, view_Forall}
 use Rattle.lois_elim.proofs.elimination.+elimination.Goals as goal
 
 pub quantifier_free-returns-in-Lit-clause-levels : goal.quantifier_free-returns-in-Lit-clause-levels
 quantifier_free-returns-in-Lit-clause-levels g t c =
     let lit : Lit = c.in-Lit.lit in
-    let fits : LitFits c.args.size lit = subst (FormulaFits c.args.size) (view_Lit c.args.f.now lit c.in-Lit.is) c.requires.levels in
+    let fits : LitFits c.args.size lit = subst (FormulaFits c.args.size) (ap view c.in-Lit.is ∙ view_Lit lit) c.requires.levels in
     IfOk-weaker c.of_literal.result (λ r. (n : ℕ) → LitFits n lit → ConstraintFits n r) (ConstraintFits c.args.size) (λ r levels. levels c.args.size fits) c.of_literal.ensures.levels
 
 pub quantifier_free-returns-in_ok-quantifier_free-in-Not-clause-truth :

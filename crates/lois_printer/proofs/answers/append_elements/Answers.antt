@@ -1,4 +1,4 @@
-use Rattle.std.proofs.Common.{◌≡◌, ◌++◌, codes, ap, ◌∙◌, append_assoc}
+use Rattle.std.proofs.Common.{◌++◌, codes, ap, ◌∙◌, append_assoc}
 use Rattle.lois_meaning.specs.LineView.{line_of}
 use Rattle.lois_meaning.specs.ResultsText.{line_text}
 use Rattle.lois_meaning.specs.TraceText.{element_text}

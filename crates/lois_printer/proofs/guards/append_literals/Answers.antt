@@ -1,4 +1,4 @@
-use Rattle.std.proofs.Common.{codes, get_or, refl}
+use Rattle.std.proofs.Common.{codes, refl}
 use Rattle.lois_base.specs.declared.guards.Op.TheVariants.{Eq}
 use Rattle.lois_meaning.specs.TermText.{literal_text}
 use Rattle.lois_printer.proofs.Written.{item_is_written}

@@ -1,5 +1,4 @@
 use Rattle.std.proofs.Common.{arith, ap, codes}
-use Rattle.std.proofs.lemmas.Grind.{common_steps}
 use Rattle.lois_base.specs.Tree.{tree, comp_of}
 use Rattle.lois_base.proofs.Parts.{term_within, comp_item_within}
 use Rattle.lois_meaning.specs.TermText.{term_text, comp_text, joined}

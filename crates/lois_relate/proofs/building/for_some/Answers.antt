@@ -2,7 +2,8 @@ use Rattle.std.proofs.Common.{◌≡◌, refl, ap, ◌∙◌, subst, arith}
 use Rattle.lois_base.specs.FormulaData.{exists}
 use Rattle.lois_base.specs.FormulaView.{view}
 use Rattle.lois_relate.specs.Built.{IsForSome}
-use Rattle.lois_relate.proofs.Forms.{for_some_never, for_some_always, for_some_none, for_some_more, view_Exists}
+use Rattle.lois_base.proofs.FormulaViews.{view_Exists}
+use Rattle.lois_relate.proofs.Forms.{for_some_never, for_some_always, for_some_none, for_some_more}
 use Rattle.lois_relate.proofs.building.for_some.Goals as goal
 
 pub returns-then-is_never : goal.returns-then-is_never

@@ -1,6 +1,6 @@
 use Rattle.std.proofs.lemmas.Result.{IfOk-weaker}
 use Rattle.lois_base.specs.FormulaView.{view}
-use Rattle.lois_relate.specs.Built.{IsEither, IsImplied}
+use Rattle.lois_relate.specs.Built.{IsEither}
 use Rattle.lois_relate.proofs.Forms.{is_implied}
 use Rattle.lois_relate.proofs.building.implied.Goals as goal
 

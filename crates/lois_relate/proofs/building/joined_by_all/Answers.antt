@@ -1,7 +1,7 @@
 use Rattle.std.proofs.Common.{ap, ◌∙◌}
 use Rattle.lois_base.specs.FormulaView.{view, views}
 use Rattle.lois_base.proofs.FormulaViews.{view_All}
-use Rattle.lois_relate.proofs.Forms.{both_pushed, both_paired}
+use Rattle.lois_relate.proofs.Forms.{both_pushed}
 use Rattle.lois_relate.proofs.building.joined_by_all.Goals as goal
 
 pub returns-in_ok-push-in-All : goal.returns-in_ok-push-in-All

@@ -1,7 +1,7 @@
 use Rattle.std.proofs.Common.{ap, ◌∙◌}
 use Rattle.lois_base.specs.FormulaView.{view, views}
 use Rattle.lois_base.proofs.FormulaViews.{view_Any}
-use Rattle.lois_relate.proofs.Forms.{either_pushed, either_paired}
+use Rattle.lois_relate.proofs.Forms.{either_pushed}
 use Rattle.lois_relate.proofs.building.joined_by_any.Goals as goal
 
 pub returns-in_ok-push-in-Any : goal.returns-in_ok-push-in-Any

@@ -1,5 +1,5 @@
 use Rattle.lois_base.specs.FormulaView.{view}
-use Rattle.lois_relate.proofs.Forms.{negation_of_never, negation_of_always, negation_is}
+use Rattle.lois_relate.proofs.Forms.{negation_of_never, negation_of_always}
 use Rattle.lois_relate.proofs.building.negated.Goals as goal
 
 pub returns-then-is_never : goal.returns-then-is_never

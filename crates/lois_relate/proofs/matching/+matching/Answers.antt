@@ -1,4 +1,4 @@
-use Rattle.std.proofs.Common.{◌<◌, length, arith}
+use Rattle.std.proofs.Common.{arith}
 use Rattle.lois_relate.proofs.AlikeSame.{parts_not_alike, items_not_alike}
 use Rattle.lois_relate.proofs.Parts.{is_part_of, is_comp_of}
 use Rattle.lois_relate.proofs.matching.+matching.Goals as goal

@@ -1,14 +1,10 @@
-use Rattle.std.proofs.Common.{◌≡◌, ◌+◌, Bool, sym, subst, drop, length, arith}
-use Rattle.std.proofs.lemmas.List.{drop_all}
-use Rattle.std.specs.Bool.{IsTrue}
-use Rattle.lois_base.specs.Fits.{CubeFits, LitFits}
+use Rattle.std.proofs.Common.{◌+◌, Bool, sym, subst, drop, length, arith}
+use Rattle.lois_base.specs.Fits.{CubeFits}
 use Rattle.lois_base.specs.FormulaView.{view}
-use Rattle.lois_base.specs.Truth.{cube_holds, lit_holds}
-use Rattle.lois_base.specs.Validity.{AdmitsCube, AdmitsLit}
-use Rattle.lois_base.specs.declared.guards.Lit.{Lit}
-use Rattle.lois_relate.specs.Named.{chosen, named_lit}
-use Rattle.lois_relate.proofs.Forms.{view_Lit}
-use Rattle.lois_relate.proofs.Loops.{AllSoFar, all_go_on, all_end, rest_at}
+use Rattle.lois_base.specs.Validity.{AdmitsCube}
+use Rattle.lois_relate.specs.Named.{chosen}
+use Rattle.lois_base.proofs.FormulaViews.{view_Lit}
+use Rattle.lois_relate.proofs.Loops.{all_go_on, all_end, rest_at}
 use Rattle.lois_relate.proofs.Steps.{literal_says, literals_split, no_literals}
 use Rattle.lois_relate.proofs.naming.cube_formula.Goals as goal
 

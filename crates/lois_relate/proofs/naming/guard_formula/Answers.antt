@@ -1,4 +1,4 @@
-use Rattle.std.proofs.Common.{◌≡◌, ◌+◌, Bool, sym, subst, drop, length, arith}
+use Rattle.std.proofs.Common.{◌+◌, Bool, sym, subst, drop, length, arith}
 use Rattle.lois_base.specs.Fits.{ConstraintFits, CubeFits}
 use Rattle.lois_base.specs.FormulaView.{view}
 use Rattle.lois_base.specs.Validity.{AdmitsConstraint, AdmitsCube}

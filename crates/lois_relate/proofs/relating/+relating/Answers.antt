@@ -1,20 +1,18 @@
-use Rattle.std.proofs.Common.{◌≡◌, ℕ, ◌+◌, ◌<◌, Bool, List, ◌++◌, length, sym, subst, refl, ap, ◌∙◌, arith}
+use Rattle.std.proofs.Common.{◌≡◌, ◌+◌, ◌<◌, ◌++◌, length, subst, refl, ap, ◌∙◌, arith}
 use Rattle.std.proofs.lemmas.Result.{IfOk-weaker}
-use Rattle.lois_base.specs.Atom.{Atom}
-use Rattle.lois_base.specs.Data.{terms_of, comps_of, coll, more, no_comps}
+use Rattle.lois_base.specs.Data.{comps_of, coll, more, no_comps}
 use Rattle.lois_base.specs.Fits.{Fits}
 use Rattle.lois_base.specs.FormulaView.{view}
 use Rattle.lois_base.specs.Tree.{tree, comp_of}
-use Rattle.lois_base.specs.Validity.{AdmitsTerm, AdmitsParts, AdmitsComp, AdmitsItems}
-use Rattle.lois_base.specs.Values.{SameAt, SamePartsAt, AllInAt, EachInAt, SomeIsAt, OneIsAt}
+use Rattle.lois_base.specs.Validity.{AdmitsComp}
+use Rattle.lois_base.specs.Values.{SameAt, AllInAt}
 use Rattle.lois_relate.specs.Built.{Says, IsBoth, IsNegation, IsForSome}
-use Rattle.lois_relate.specs.Named.{chosen, AreBelow, levels_from}
+use Rattle.lois_relate.specs.Named.{chosen, levels_from}
 use Rattle.lois_relate.proofs.AlikeSame.{always_says, listed_each, sets_alike}
 use Rattle.lois_relate.proofs.Binders.{one_says, each_says}
-use Rattle.lois_relate.proofs.Loops.{AllSoFar, AnySoFar, all_go_on, all_end, all_cut, any_go_on, any_end, any_cut}
-use Rattle.lois_relate.proofs.Parts.{terms_from, terms_are, comps_from, comps_are, is_part_of, is_comp_of, IsPartOf, IsCompOf}
+use Rattle.lois_relate.proofs.Loops.{all_go_on, all_cut, any_go_on}
+use Rattle.lois_relate.proofs.Parts.{terms_from, terms_are, comps_from, comps_are, is_part_of, is_comp_of}
 use Rattle.lois_relate.proofs.Single.{singles_say, singles_sets, bare_say}
-use Rattle.lois_relate.proofs.Sets.{parts_as_many}
 use Rattle.lois_relate.proofs.Steps.{all_in_split, some_is_split, parts_split, names_below, item_fits, guard_fits, own_below_more, parts_apart, atoms_say, sets_say}
 use Rattle.lois_relate.proofs.relating.+relating.Goals as goal
 

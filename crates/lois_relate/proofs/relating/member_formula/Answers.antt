@@ -1,14 +1,14 @@
 use Rattle.std.proofs.Common.{◌≡◌, ap, ◌∙◌, sym, subst, length}
 use Rattle.std.proofs.lemmas.Result.{IfOk-weaker}
-use Rattle.lois_base.specs.Data.{coll, comps_of}
-use Rattle.lois_base.specs.Fits.{Fits, ItemsFit}
+use Rattle.lois_base.specs.Data.{comps_of}
+use Rattle.lois_base.specs.Fits.{Fits}
 use Rattle.lois_base.specs.FormulaView.{view}
 use Rattle.lois_base.specs.Tree.{tree}
 use Rattle.lois_base.specs.Validity.{AdmitsTerm, AdmitsItems}
-use Rattle.lois_base.specs.Values.{SameAt, SomeIsAt, AllInAt}
+use Rattle.lois_base.specs.Values.{SomeIsAt}
 use Rattle.lois_relate.specs.Built.{Says}
 use Rattle.lois_relate.specs.Named.{chosen, levels_from}
-use Rattle.lois_relate.proofs.Own.{length-own, all_below, holds_where_same, holds_where_in, holds_where_included}
+use Rattle.lois_relate.proofs.Own.{length-own, all_below, holds_where_in}
 use Rattle.lois_relate.proofs.relating.member_formula.Goals as goal
 
 pub member-requires-clause-left : goal.member-requires-clause-left

@@ -1,5 +1,5 @@
-use Rattle.std.proofs.Common.{◌≡◌, length, arith}
-use Rattle.lois_relate.proofs.Single.{only_comp, not_single, not_bare}
+use Rattle.std.proofs.Common.{arith}
+use Rattle.lois_relate.proofs.Single.{only_comp, not_single}
 use Rattle.lois_relate.proofs.relating.single.Goals as goal
 
 pub returns-then-comp-eq0-clause-some : goal.returns-then-comp-eq0-clause-some

@@ -1,6 +1,6 @@
 use Rattle.std.proofs.Common.{take, map}
 use Rattle.lois_base.specs.Tree.{comp_of}
-use Rattle.lois_simplify.proofs.Written.{HasSeen}
+use Rattle.lois_simplify.proofs.Seen.{HasSeen}
 use Rattle.lois_simplify.proofs.distinct.distinct.Given as goal
 
 abbrev pub invariant-loop-comp : goal.invariant-loop-comp

@@ -1,4 +1,4 @@
-use Rattle.std.proofs.Common.{◌≡◌, ◌++◌, [], ◌∷◌, List, take, map, sym, ap, subst, ◌∙◌, arith}
+use Rattle.std.proofs.Common.{◌≡◌, ◌++◌, [], ◌∷◌, List, take, map, sym, ap, subst, arith}
 use Rattle.std.specs.List.{All, Contains}
 use Rattle.std.proofs.lemmas.List.Elements.{All-contains}
 use Rattle.std.proofs.lemmas.Result.{IfOk-weaker}
@@ -13,9 +13,10 @@ use Rattle.lois_simplify.proofs.Asked.{some_is, ok_both}
 use Rattle.lois_simplify.proofs.Kept.{kept_refl, kept_trans}
 use Rattle.lois_simplify.proofs.Members.{items_fit_each, items_admit_each, comp_depth_le}
 use Rattle.lois_simplify.proofs.OneRound.{item_kept, round_closed}
-use Rattle.lois_simplify.proofs.Tuples.{IsSimplified, PartsSimplified, LeanSoFar, part_behind, tuple_kept, parts_normal, parts_guards, lean_found, lean_none, lean_kept, fewer_lean}
+use Rattle.lois_simplify.proofs.Tuples.{IsSimplified, PartsSimplified, part_behind, tuple_kept, parts_normal, parts_guards}
+use Rattle.lois_simplify.proofs.LeanComps.{LeanSoFar, lean_found, lean_none, lean_kept, fewer_lean}
 use Rattle.lois_simplify.proofs.Under.{set_is_normal, set_has_normal_guards}
-use Rattle.lois_simplify.proofs.Written.{one_more, contains_item, all_taken}
+use Rattle.lois_simplify.proofs.Seen.{one_more, contains_item, all_taken}
 use Rattle.lois_simplify.proofs.simplifying.+simplifying.Goals as goal
 use Rattle.lois_simplify.proofs.simplifying.+simplifying.Goals.{lean_comps-in-Some+in_ok-push, lean_comps-in_default}
 
@@ -56,10 +57,9 @@ lean_comps-loop-comp-preserved g t c =
     subst (λ z. LeanSoFar u n z c.match-branch-3.found) (sym (one_more comp_of items i c.comp-item.result c.loop-comp-test.true c.comp-item.is))
     (elim c.match-branch-3.branch [
       | lean_comps-in-Some+in_ok-push w ↦
-          let pushed : c.match-branch-3.found ≡ c.loop-comp.found ++ comp_of w.in-Some.simple ∷ [] = w.found-is ∙ w.in_ok-push.ensures.ok in
           let kept = subst (λ o. IsKept u n (set_of (only k)) (set_of (listed o))) w.in-Some.is c.in_ok-simple.ensures.kept in
           let lean = some_is (λ j. IsLeanComp u n (comp_of j)) c.in_ok-simple.field-0 w.in-Some.simple w.in-Some.is c.in_ok-simple.ensures.lean in
-          subst (LeanSoFar u n (done ++ k ∷ [])) (sym pushed) (lean_found u n done c.loop-comp.found k (comp_of w.in-Some.simple) c.loop-comp.invariant kept lean)
+          lean_found u n done c.loop-comp.found w.push.new.self c.match-branch-3.found k (comp_of w.in-Some.simple) w.in_ok-push.ensures.ok w.found-is c.loop-comp.invariant kept lean
       | lean_comps-in_default w ↦
           let kept = subst (λ o. IsKept u n (set_of (only k)) (set_of (listed o))) w.in_default.is c.in_ok-simple.ensures.kept in
           subst (LeanSoFar u n (done ++ k ∷ [])) (sym w.found-is) (lean_none u n done c.loop-comp.found k c.loop-comp.invariant kept)

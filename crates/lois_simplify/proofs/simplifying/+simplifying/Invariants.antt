@@ -3,7 +3,8 @@ use Rattle.lois_base.specs.Data.{depth, depth_of_terms, depth_of_comps}
 use Rattle.lois_base.specs.Tree.{tree, comp_of}
 use Rattle.lois_simplify.specs.Kept.{IsKept, set_of}
 use Rattle.lois_simplify.specs.Rounds.{only}
-use Rattle.lois_simplify.proofs.Tuples.{PartsSimplified, LeanSoFar}
+use Rattle.lois_simplify.proofs.Tuples.{PartsSimplified}
+use Rattle.lois_simplify.proofs.LeanComps.{LeanSoFar}
 use Rattle.lois_simplify.proofs.simplifying.+simplifying.Given as goal
 
 -- each call goes into a part of the term, or on to a function of a lower rank

@@ -1,4 +1,4 @@
--- Lists that are written alike, item by item, and the items that a list has so far.
+-- What a loop has seen of a list, and what it kept of that.
 use Rattle.std.proofs.Common.{◌≡◌, ℕ, ◌+◌, ◌<◌, ◌≤◌, inl, inr, List, [], ◌∷◌, ◌++◌, length, get_or, take, map, sym, ap, ◌∙◌, subst, arith}
 use Rattle.std.specs.List.{Contains}
 use Rattle.std.proofs.lemmas.List.{take_all, take_more, map-append, get_or-map, length-map}
