@@ -1,3 +1,4 @@
+pub mod CommandLine
 pub mod Told
 pub mod Lookup
 pub mod Made

@@ -1,4 +1,5 @@
 pub mod Words
+pub mod CommandLine
 pub mod BuiltForms
 pub mod Values
 pub mod Held

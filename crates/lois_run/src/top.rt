@@ -105,14 +105,13 @@ pub fn outcome<S: Source>(
 ) -> Result<Outcome, NoMemory>
     ensures outcome { IfOk result (IsOutcomeOf (map string_bytes words.now) (map (λ b. kind_of b) deciders.items) (S.left source.old) (S.left source.new) (S.faults source.old) (S.faults source.new)) }
 
-    // Usage needs no memory, and the source is as it was.
-    ensures usage { IsUsage (map string_bytes words.now) (map (λ b. kind_of b) deciders.items) → result ≡ Ok Outcome.Usage }
+    // After usage the source is as it was, also where memory ran out.
     ensures source_untouched { IsUsage (map string_bytes words.now) (map (λ b. kind_of b) deciders.items) → source.new ≡ source.old }
     ensures count_never_falls { S.faults source.old ≤ S.faults source.new }
 
     ensures written { IfOk result HasText }
 {
-    let Some(command) = asked(words) else {
+    let Some(command) = asked(alloc, words)? else {
         return Ok(Outcome::Usage);
     };
     if lacks_decider(command, deciders) {

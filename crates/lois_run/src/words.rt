@@ -1,9 +1,14 @@
 //! The words of the command line.
 
-ghost use Rattle.std.specs.Prelude.{◌≡◌, map, string_bytes};
-ghost use Rattle.lois_run.specs.Words.{command_of, command_alone, command_with_option, command_with_kind, kind_named, kind_chosen};
+ghost use Rattle.std.specs.Prelude.{◌≡◌, false, IfOk, map, option_map, string_bytes};
+ghost use Rattle.clap.specs.Words.{app_of, subcommand_rows_of};
+ghost use Rattle.lois_run.specs.CommandLine.{are_expected, seen_behind, is_dashed, is_option, program, command_named, command_found};
+ghost use Rattle.lois_run.specs.Words.{command_of, kind_named};
 
-use lois_base::Kind;
+use clap::error::ErrorKind;
+use clap::{Arg, ArgAction, ArgMatches};
+use lois_base::{Kind, NoMemory};
+use std::alloc::{AllocError, Global};
 
 /// What the program is asked for.
 #[derive(Clone, Copy)]
@@ -17,51 +22,98 @@ pub(crate) enum Command {
 }
 
 /// What these words ask for; `None` where they are none that the program takes.
-pub(crate) fn asked(words: &[String]) -> Option<Command>
-    ensures { result ≡ command_of (map string_bytes words.now) }
+pub(crate) fn asked(alloc: Global, words: &[String]) -> Result<Option<Command>, NoMemory>
+    ensures { IfOk result (λ o. o ≡ command_of (map string_bytes words.now)) }
 {
-    match words {
-        [word] => command_alone(word.as_str()),
-        [word, option] => command_with_option(word.as_str(), option.as_str()),
-        [word, option, kind] => command_with_kind(word.as_str(), option.as_str(), kind.as_str()),
-        _ => None,
+    if !are_expected(words) {
+        return Ok(None);
+    }
+    match program(alloc)?.try_get_matches_from(words) {
+        Ok(matches) => Ok(command_found(&matches)),
+        Err(error) if error.kind() == ErrorKind::OutOfMemory => Err(NoMemory),
+        Err(_) => Ok(None),
     }
 }
 
-fn command_alone(word: &str) -> Option<Command>
-    ensures { result ≡ command_alone word.now }
+// Whether no word starts with a hyphen but the option, once.
+fn are_expected(words: &[String]) -> bool
+    ensures { result ≡ are_expected false (map string_bytes words.now) }
 {
-    if word == "run" {
-        Some(Command::Run(None))
-    } else if word == "check" {
-        Some(Command::Check)
-    } else if word == "reread" {
-        Some(Command::Reread)
+    let mut seen = false;
+    for word in words {
+        match seen_behind(seen, word.as_str()) {
+            Some(behind) => seen = behind,
+            None => return false,
+        }
+    }
+    true
+}
+
+// Whether the option was seen, behind one more word; `None` where it starts with a hyphen otherwise.
+fn seen_behind(seen: bool, word: &str) -> Option<bool>
+    ensures { result ≡ seen_behind seen word.now }
+{
+    if !is_dashed(word) {
+        Some(seen)
+    } else if !seen && is_option(word) {
+        Some(true)
     } else {
         None
     }
 }
 
-fn command_with_option(word: &str, option: &str) -> Option<Command>
-    ensures { result ≡ command_with_option word.now option.now }
+fn is_dashed(word: &str) -> bool
+    ensures { result ≡ is_dashed word.now }
 {
-    if word != "run" {
-        return None;
-    }
-    match kind_chosen(option) {
-        Some(kind) => Some(Command::Run(Some(kind))),
+    matches!(word.as_bytes(), [b'-', ..])
+}
+
+fn is_option(word: &str) -> bool
+    ensures { result ≡ is_option word.now }
+{
+    word == "--decider" || word.as_bytes().starts_with(b"--decider=")
+}
+
+// One command with one level of subcommands, of which `run` has an option.
+fn program<'a>(alloc: Global) -> Result<clap::Command<'a>, AllocError>
+    ensures { IfOk result (λ c. app_of c ≡ program) }
+{
+    let decider = Arg::new(alloc, "decider")
+        .long("decider")
+        .action(ArgAction::Set);
+    let run = clap::Command::new(alloc, "run").arg(decider)?;
+    clap::Command::new(alloc, "lois")
+        .no_binary_name(true)
+        .disable_help_flag(true)
+        .disable_help_subcommand(true)
+        .subcommand_required(true)
+        .subcommand(run)?
+        .subcommand(clap::Command::new(alloc, "check"))?
+        .subcommand(clap::Command::new(alloc, "reread"))
+}
+
+fn command_found(matches: &ArgMatches) -> Option<Command>
+    ensures { result ≡ command_found (subcommand_rows_of matches.now) }
+{
+    match matches.subcommand() {
+        Some((name, given)) => command_named(name, given.get_str("decider")),
         None => None,
     }
 }
 
-fn command_with_kind(word: &str, option: &str, kind: &str) -> Option<Command>
-    ensures { result ≡ command_with_kind word.now option.now kind.now }
+// The command of a subcommand and the value of its option.
+fn command_named(name: &str, decider: Option<&str>) -> Option<Command>
+    ensures { result ≡ command_named name.now (option_map (λ kind. kind.now) decider.entry) }
 {
-    if word != "run" || option != "--decider" {
-        return None;
-    }
-    match kind_named(kind) {
-        Some(kind) => Some(Command::Run(Some(kind))),
+    match decider {
+        Some(kind) if name == "run" => match kind_named(kind) {
+            Some(kind) => Some(Command::Run(Some(kind))),
+            None => None,
+        },
+        Some(_) => None,
+        None if name == "run" => Some(Command::Run(None)),
+        None if name == "check" => Some(Command::Check),
+        None if name == "reread" => Some(Command::Reread),
         None => None,
     }
 }
@@ -74,20 +126,6 @@ fn kind_named(word: &str) -> Option<Kind>
     } else if word == "graph" {
         Some(Kind::Graph)
     } else if word == "memo" {
-        Some(Kind::Memo)
-    } else {
-        None
-    }
-}
-
-fn kind_chosen(option: &str) -> Option<Kind>
-    ensures { result ≡ kind_chosen option.now }
-{
-    if option == "--decider=plain" {
-        Some(Kind::Plain)
-    } else if option == "--decider=graph" {
-        Some(Kind::Graph)
-    } else if option == "--decider=memo" {
         Some(Kind::Memo)
     } else {
         None

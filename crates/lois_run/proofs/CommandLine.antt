@@ -1,0 +1,405 @@
+-- What clap makes of the words is what they ask for.
+use Rattle.std.proofs.Common.{◌≡◌, ◌⊎◌, inl, inr, ℕ, Bool, true, false, true≢false, not, ◌&&◌, ◌||◌, List, [], ◌∷◌, ◌++◌, Some, None, codes, refl, sym, ap, ap₂, ◌∙◌, subst, bytes_eq, nat_eq, if◌then◌else◌, find, fold, map, String, string_bytes, length, zero, suc, ◌+◌, ◌<◌, arith, take, drop, take-append-drop, slice_index_or, append-nil, append_assoc}
+use Rattle.std.specs.Cmp.Lexicographic.{nat_list_eq_equiv}
+use Rattle.std.specs.List.{starts_with}
+use Rattle.std.specs.Option.{option_map_or}
+use Rattle.std.proofs.lemmas.Slice.Eq.{bytes_eq-Decides}
+use Rattle.clap.specs.Lexer.{long_of, short_of, strip_byte}
+use Rattle.clap.specs.Simple.{Shape, built, label_of, names_of}
+use Rattle.clap.specs.Walk.{Held, Names, Row, Text, Walk, answers_to, arg_by_index, idle, nothing_held, subcommand_met, walk, walk_from, walked, rows_after}
+use Rattle.clap.specs.Faults.{defaults_fault, fault_of, level_fault, stray_fault, turn_fault, walk_fault}
+use Rattle.clap.specs.Kinds.{Kinds, or_else}
+use Rattle.clap.specs.declared.error.kind.ErrorKind.TheVariants as kind
+use Rattle.clap.specs.Words.{HasKind, HasMatchesOf, IsAmong, is_simple_and_free, kind_of, subcommand_of, subcommand_rows_of}
+use Rattle.clap.specs.declared.error.Error.{Error}
+use Rattle.clap.specs.declared.error.kind.ErrorKind.TheVariants.{OutOfMemory}
+use Rattle.clap.specs.declared.parser.matches.ArgMatches.{ArgMatches}
+use Rattle.clap.proofs.FaultLemmas.{stopped_fault}
+use Rattle.clap.proofs.OnLiterals.{clap_on_literals}
+use Rattle.lois_run.specs.CommandLine.{is_dashed, is_option, seen_behind, are_expected, program, command_found}
+use Rattle.lois_run.specs.Words.{command_of}
+
+abbrev pub HasFault : Kinds → Type 0
+HasFault kinds = kinds ≡ [] → ⊥
+
+or_fault : (a b : Kinds) → HasFault a → HasFault (or_else a b)
+or_fault [] b h = λ e. h refl
+or_fault (k ∷ ks) b h = λ e. cc e
+
+-- ---- words
+
+plain_long : (w : List ℕ) → is_dashed w ≡ false → long_of w ≡ None
+plain_long [] d = refl
+plain_long (x ∷ xs) d = rw d refl
+
+plain_short : (w : List ℕ) → is_dashed w ≡ false → short_of w ≡ None
+plain_short [] d = refl
+plain_short (x ∷ xs) d = rw d refl
+
+plain_apart : (w t : List ℕ) → is_dashed w ≡ false → bytes_eq w (45 ∷ t) ≡ false
+plain_apart [] t d = refl
+plain_apart (x ∷ xs) t d = rw d refl
+
+option_split : (w : List ℕ) → is_option w ≡ true → (w ≡ codes "--decider") ⊎ ((v : List ℕ) × (w ≡ codes "--decider=" ++ v))
+option_split w h = go (bytes_eq w (codes "--decider")) (starts_with nat_eq w (codes "--decider=")) refl refl h
+  where
+    go : (a b : Bool) → bytes_eq w (codes "--decider") ≡ a → starts_with nat_eq w (codes "--decider=") ≡ b → (a || b) ≡ true → (w ≡ codes "--decider") ⊎ ((v : List ℕ) × (w ≡ codes "--decider=" ++ v))
+    go true b e f h = inl ((bytes_eq-Decides w (codes "--decider")).0 e)
+    go false true e f h =
+        let front : codes "--decider=" ≡ take 10 w = (bytes_eq-Decides (codes "--decider=") (take 10 w)).0 f in
+        inr (drop 10 w, sym (take-append-drop 10 w) ∙ ap (λ (x : List ℕ). x ++ drop 10 w) (sym front))
+    go false false e f h = cc h
+
+dashed_next : (seen : Bool) (w : List ℕ) (ws : List (List ℕ)) → is_dashed w ≡ true → are_expected seen (w ∷ ws) ≡ true → (not seen ≡ true) × (is_option w ≡ true) × (are_expected true ws ≡ true)
+dashed_next seen w ws d h = go (not seen) (is_option w) refl refl
+  where
+    go : (a b : Bool) → not seen ≡ a → is_option w ≡ b → (not seen ≡ true) × (is_option w ≡ true) × (are_expected true ws ≡ true)
+    go true true e f = (e, f, (rw (d, e, f) at h))
+    go true false e f = cc (rw (d, e, f) at h)
+    go false b e f = cc (rw (d, e) at h)
+
+plain_next : (seen : Bool) (w : List ℕ) (ws : List (List ℕ)) → is_dashed w ≡ false → are_expected seen (w ∷ ws) ≡ true → are_expected seen ws ≡ true
+plain_next seen w ws d h = rw d at h
+
+-- behind the option no word starts with a hyphen
+once : (w : List ℕ) (ws : List (List ℕ)) → are_expected true (w ∷ ws) ≡ true → (is_dashed w ≡ false) × (are_expected true ws ≡ true)
+once w ws h = go (is_dashed w) refl
+  where
+    go : (b : Bool) → is_dashed w ≡ b → (is_dashed w ≡ false) × (are_expected true ws ≡ true)
+    go true e = cc ((dashed_next true w ws e h).0)
+    go false e = (e, plain_next true w ws e h)
+
+-- ---- the walk over the words of one level
+
+-- a word that starts with no hyphen, names no subcommand and goes to no positional argument
+stray : (s : Shape) (names : Names) (h : Held) (w : Text) → is_dashed w ≡ false → subcommand_met names idle w ≡ None → arg_by_index s.rules 1 ≡ None → turn_fault s names (walk_from h) w ≡ stray_fault s
+stray s names h w d none nowhere = rw (none, plain_apart w (45 ∷ []) d, plain_long w d, plain_short w d, nowhere) refl
+
+stray_fails : (s : Shape) → HasFault (stray_fault s)
+stray_fails s = go s.is_leaf
+  where
+    go : (b : Bool) → HasFault (if b then kind.UnknownArgument ∷ [] else kind.UnknownArgument ∷ kind.InvalidSubcommand ∷ [])
+    go true = λ e. cc e
+    go false = λ e. cc e
+
+walk_fails : (s : Shape) (names : Names) (w : Walk) (word : Text) (rest : List Text) → HasFault (turn_fault s names w word) → HasFault (walk_fault s names w (word ∷ rest))
+unfolding walk_fault
+walk_fails s names w word rest h = or_fault _ _ h
+
+level_fails : (s : Shape) (names : Names) (words : List Text) (has : Bool) (below : Kinds) → HasFault (walk_fault s names (walk_from nothing_held) words) → HasFault (level_fault s names nothing_held words has below)
+level_fails s names words has below h = or_fault _ _ h
+
+-- ---- the program
+
+abbrev top : Shape
+top = (built program).top
+
+abbrev subs : List Shape
+subs = (built program).subs
+
+abbrev names : Names
+names = names_of (built program)
+
+nothing_fails : HasFault (fault_of program [])
+unfolding clap_on_literals
+nothing_fails = λ e. cc e
+
+first_fails : (w : Text) (ws : List Text) → HasFault (turn_fault top names (walk_from nothing_held) w) → HasFault (fault_of program (w ∷ ws))
+first_fails w ws h = level_fails top names (w ∷ ws) _ _ (walk_fails top names (walk_from nothing_held) w ws h)
+
+unknown_option : (w : Text) → (w ≡ codes "--decider") ⊎ ((v : List ℕ) × (w ≡ codes "--decider=" ++ v)) → HasFault (turn_fault top names (walk_from nothing_held) w)
+unknown_option w (inl e) = rw e (λ f. cc f)
+unknown_option w (inr (v, e)) = rw e (λ f. cc f)
+
+-- the first word names no subcommand
+other_fails : (w : Text) (ws : List Text) → subcommand_met names idle w ≡ None → are_expected false (w ∷ ws) ≡ true → HasFault (fault_of program (w ∷ ws))
+other_fails w ws none h = first_fails w ws (go (is_dashed w) refl)
+  where
+    go : (b : Bool) → is_dashed w ≡ b → HasFault (turn_fault top names (walk_from nothing_held) w)
+    go true d = unknown_option w (option_split w (dashed_next false w ws d h).1)
+    go false d = subst HasFault (sym (stray top names nothing_held w d none refl)) (stray_fails top)
+
+-- the first word names this subcommand
+module _ (n : Text) (s : Shape) (met : subcommand_met names idle n ≡ Some n) (found : find (λ x. answers_to n (label_of x)) subs ≡ Some s) (no_help : bytes_eq n (codes "help") ≡ false) where
+  first_walked : walked [] names (walk_from nothing_held) n ≡ record (walk_from nothing_held) { stopped = Some (n, []) }
+  unfolding walked
+  first_walked = rw met refl
+
+  stays : (xs rest : List Text) → fold (walked [] names) (record (walk_from nothing_held) { stopped = Some (n, xs) }) rest ≡ record (walk_from nothing_held) { stopped = Some (n, xs ++ rest) }
+  unfolding walked
+  stays xs [] = ap (λ (l : List Text). record (walk_from nothing_held) { stopped = Some (n, l) }) (sym (append-nil xs))
+  stays xs (x ∷ rest) = stays (xs ++ x ∷ []) rest ∙ ap (λ (l : List Text). record (walk_from nothing_held) { stopped = Some (n, l) }) (append_assoc xs (x ∷ []) rest)
+
+  all_walked : (rest : List Text) → walk [] names nothing_held (n ∷ rest) ≡ record (walk_from nothing_held) { stopped = Some (n, rest) }
+  all_walked rest = ap (λ (w : Walk). fold (walked [] names) w rest) first_walked ∙ stays [] rest
+
+  no_walk_fault : (rest : List Text) → walk_fault top names (walk_from nothing_held) (n ∷ rest) ≡ []
+  unfolding walk_fault
+  no_walk_fault rest =
+      let turn : turn_fault top names (walk_from nothing_held) n ≡ [] = rw (met, no_help) refl in
+      rw (turn, first_walked) (stopped_fault top names (walk_from nothing_held) (n, []) rest)
+
+  fault_is : (rest : List Text) → fault_of program (n ∷ rest) ≡ or_else (level_fault s [] nothing_held rest false []) []
+  unfolding defaults_fault
+  fault_is rest = rw (all_walked rest, no_walk_fault rest, found) refl
+
+  found_is : (rest : List Text) → subcommand_of program (n ∷ rest) ≡ Some (s.name, rows_after s.rules [] rest)
+  found_is rest = rw (all_walked rest, found) refl
+
+-- ---- what the words come to
+
+pub data Verdict (ws : List Text) : Type 0 where
+  takes : fault_of program ws ≡ [] → command_found (subcommand_of program ws) ≡ command_of ws → Verdict ws
+  refuses : HasFault (fault_of program ws) → command_of ws ≡ None → Verdict ws
+
+sub_fails : (n : Text) (s : Shape) (rest : List Text) → fault_of program (n ∷ rest) ≡ or_else (level_fault s [] nothing_held rest false []) [] → HasFault (walk_fault s [] (walk_from nothing_held) rest) → HasFault (fault_of program (n ∷ rest))
+sub_fails n s rest is h = subst HasFault (sym is) (or_fault _ _ (level_fails s [] rest false [] h))
+
+-- a subcommand without arguments
+module _ (n : Text) (s : Shape) (is : (rest : List Text) → fault_of program (n ∷ rest) ≡ or_else (level_fault s [] nothing_held rest false []) []) (none : s.rules ≡ []) where
+  leaf_fails : (o : Text) (more : List Text) → are_expected false (o ∷ more) ≡ true → HasFault (fault_of program (n ∷ o ∷ more))
+  leaf_fails o more h = sub_fails n s (o ∷ more) (is (o ∷ more)) (walk_fails s [] (walk_from nothing_held) o more (go (is_dashed o) refl))
+    where
+      unknown : (is_option o ≡ true) → HasFault (turn_fault s [] (walk_from nothing_held) o)
+      unknown e = elim (option_split o e) [
+        | inl f ↦ rw (f, none) (λ x. cc x)
+        | inr p ↦ rw (p.1, none) (λ x. cc x)
+      ]
+      go : (b : Bool) → is_dashed o ≡ b → HasFault (turn_fault s [] (walk_from nothing_held) o)
+      go true d = unknown (dashed_next false o more d h).1
+      go false d = subst HasFault (sym (stray s [] nothing_held o d refl (ap (λ rules. arg_by_index rules 1) none))) (stray_fails s)
+
+-- ---- `run`
+
+abbrev running : Shape
+running = slice_index_or subs 0 top
+
+or_later : (a b : Kinds) → HasFault b → HasFault (or_else a b)
+or_later [] b h = h
+or_later (k ∷ ks) b h = λ e. cc e
+
+run_is : (rest : List Text) → fault_of program (codes "run" ∷ rest) ≡ or_else (level_fault running [] nothing_held rest false []) []
+run_is rest = fault_is (codes "run") running refl refl refl rest
+
+run_fails : (rest : List Text) → HasFault (walk_fault running [] (walk_from nothing_held) rest) → HasFault (fault_of program (codes "run" ∷ rest))
+run_fails rest h = sub_fails (codes "run") running rest (run_is rest) h
+
+-- a word that is no option, wherever it stands
+stray_at : (h : Held) (k : Text) (more : List Text) → is_dashed k ≡ false → HasFault (walk_fault running [] (walk_from h) (k ∷ more))
+stray_at h k more d = walk_fails running [] (walk_from h) k more (subst HasFault (sym (stray running [] h k d refl refl)) (stray_fails running))
+
+later : (w : Walk) (o : Text) (rest : List Text) (h : Held) → walked running.rules [] w o ≡ walk_from h → HasFault (walk_fault running [] (walk_from h) rest) → HasFault (walk_fault running [] w (o ∷ rest))
+unfolding walk_fault
+later w o rest h is fails = or_later _ _ (subst (λ (x : Walk). HasFault (walk_fault running [] x rest)) (sym is) fails)
+
+valued : (v : Text) → walked running.rules [] (walk_from nothing_held) (codes "--decider=" ++ v) ≡ walk_from (walked running.rules [] (walk_from nothing_held) (codes "--decider=" ++ v)).held
+unfolding walked
+valued v = refl
+
+waiting : Walk
+waiting = walked running.rules [] (walk_from nothing_held) (codes "--decider")
+
+separate : (k : Text) → is_dashed k ≡ false → walked running.rules [] waiting k ≡ walk_from (walked running.rules [] waiting k).held
+unfolding walked waiting
+separate k d = rw (plain_apart k (45 ∷ []) d, plain_long k d, plain_short k d) refl
+
+run_alone : Verdict (codes "run" ∷ [])
+unfolding clap_on_literals
+run_alone = takes refl refl
+
+run_valued : (v : Text) → Verdict (codes "run" ∷ (codes "--decider=" ++ v) ∷ [])
+unfolding clap_on_literals
+run_valued v = takes refl refl
+
+run_separate : (k : Text) → is_dashed k ≡ false → Verdict (codes "run" ∷ codes "--decider" ∷ k ∷ [])
+unfolding clap_on_literals
+run_separate k d = takes (rw (plain_apart k (45 ∷ []) d, plain_long k d, plain_short k d) refl) (rw (plain_apart k (45 ∷ []) d, plain_long k d, plain_short k d) refl)
+
+run_waits : Verdict (codes "run" ∷ codes "--decider" ∷ [])
+unfolding clap_on_literals
+run_waits = refuses (λ e. cc e) refl
+
+-- behind `run`, a word that starts with no hyphen
+run_stray : (o : Text) (more : List Text) → is_dashed o ≡ false → Verdict (codes "run" ∷ o ∷ more)
+run_stray o more d = refuses (run_fails (o ∷ more) (stray_at nothing_held o more d)) (none more)
+  where
+    none : (l : List Text) → command_of (codes "run" ∷ o ∷ l) ≡ None
+    none [] = rw (plain_apart o (drop 1 (codes "--decider=plain")) d, plain_apart o (drop 1 (codes "--decider=graph")) d, plain_apart o (drop 1 (codes "--decider=memo")) d) refl
+    none (k ∷ []) = rw (plain_apart o (drop 1 (codes "--decider")) d) refl
+    none (k ∷ x ∷ l) = refl
+
+-- behind the option and its value, a word that starts with no hyphen
+stray_behind : (k x : Text) (l : List Text) → is_dashed k ≡ false → is_dashed x ≡ false → HasFault (walk_fault running [] (walk_from nothing_held) (codes "--decider" ∷ k ∷ x ∷ l))
+unfolding walk_fault waiting
+stray_behind k x l d f = or_later (turn_fault running [] (walk_from nothing_held) (codes "--decider")) _ (later waiting k (x ∷ l) _ (separate k d) (stray_at _ x l f))
+
+run_option : (o : Text) (more : List Text) → (o ≡ codes "--decider") ⊎ ((v : List ℕ) × (o ≡ codes "--decider=" ++ v)) → are_expected true more ≡ true → Verdict (codes "run" ∷ o ∷ more)
+run_option o more (inl e) h = subst (λ (x : Text). Verdict (codes "run" ∷ x ∷ more)) (sym e) (go more h)
+  where
+    go : (l : List Text) → are_expected true l ≡ true → Verdict (codes "run" ∷ codes "--decider" ∷ l)
+    go [] h = run_waits
+    go (k ∷ []) h = run_separate k (once k [] h).0
+    go (k ∷ x ∷ l) h =
+        let first = once k (x ∷ l) h in
+        let second = once x l first.1 in
+        refuses (run_fails (codes "--decider" ∷ k ∷ x ∷ l) (stray_behind k x l first.0 second.0)) refl
+run_option o more (inr (v, e)) h = subst (λ (x : Text). Verdict (codes "run" ∷ x ∷ more)) (sym e) (go more h)
+  where
+    none : (k : Text) (l : List Text) → command_of (codes "run" ∷ (codes "--decider=" ++ v) ∷ k ∷ l) ≡ None
+    none k [] = refl
+    none k (x ∷ l) = refl
+    go : (l : List Text) → are_expected true l ≡ true → Verdict (codes "run" ∷ (codes "--decider=" ++ v) ∷ l)
+    go [] h = run_valued v
+    go (k ∷ l) h = refuses (run_fails ((codes "--decider=" ++ v) ∷ k ∷ l) (later (walk_from nothing_held) (codes "--decider=" ++ v) (k ∷ l) _ (valued v) (stray_at _ k l (once k l h).0))) (none k l)
+
+run_verdict : (rest : List Text) → are_expected false rest ≡ true → Verdict (codes "run" ∷ rest)
+run_verdict [] h = run_alone
+run_verdict (o ∷ more) h = go (is_dashed o) refl
+  where
+    go : (b : Bool) → is_dashed o ≡ b → Verdict (codes "run" ∷ o ∷ more)
+    go true d = let next = dashed_next false o more d h in run_option o more (option_split o next.1) next.2
+    go false d = run_stray o more d
+
+check_verdict : (rest : List Text) → are_expected false rest ≡ true → Verdict (codes "check" ∷ rest)
+unfolding clap_on_literals
+check_verdict [] h = takes refl refl
+check_verdict (o ∷ more) h =
+    refuses (leaf_fails (codes "check") (slice_index_or subs 1 top) (fault_is (codes "check") (slice_index_or subs 1 top) refl refl refl) refl o more h) (none more)
+  where
+    none : (l : List Text) → command_of (codes "check" ∷ o ∷ l) ≡ None
+    none [] = refl
+    none (k ∷ []) = refl
+    none (k ∷ x ∷ l) = refl
+
+reread_verdict : (rest : List Text) → are_expected false rest ≡ true → Verdict (codes "reread" ∷ rest)
+unfolding clap_on_literals
+reread_verdict [] h = takes refl refl
+reread_verdict (o ∷ more) h =
+    refuses (leaf_fails (codes "reread") (slice_index_or subs 2 top) (fault_is (codes "reread") (slice_index_or subs 2 top) refl refl refl) refl o more h) (none more)
+  where
+    none : (l : List Text) → command_of (codes "reread" ∷ o ∷ l) ≡ None
+    none [] = refl
+    none (k ∷ []) = refl
+    none (k ∷ x ∷ l) = refl
+
+turned : (x y : List ℕ) → bytes_eq x y ≡ bytes_eq y x
+turned x y = nat_list_eq_equiv.symm x y
+
+-- what clap makes of words that it is asked about
+pub verdict : (ws : List Text) → are_expected false ws ≡ true → Verdict ws
+verdict [] h = refuses nothing_fails refl
+verdict (w ∷ ws) h = go (bytes_eq w (codes "run")) (bytes_eq w (codes "check")) (bytes_eq w (codes "reread")) refl refl refl
+  where
+    named : (n : Text) → bytes_eq w n ≡ true → Verdict (n ∷ ws) → Verdict (w ∷ ws)
+    named n e v = subst (λ (x : Text). Verdict (x ∷ ws)) (sym ((bytes_eq-Decides w n).0 e)) v
+    none : (l : List Text) → bytes_eq w (codes "run") ≡ false → bytes_eq w (codes "check") ≡ false → bytes_eq w (codes "reread") ≡ false → command_of (w ∷ l) ≡ None
+    none [] r c a = rw (r, c, a) refl
+    none (o ∷ []) r c a = rw r refl
+    none (o ∷ k ∷ []) r c a = rw r refl
+    none (o ∷ k ∷ x ∷ l) r c a = refl
+    behind : (n : Text) → bytes_eq w n ≡ true → is_dashed n ≡ false → are_expected false ws ≡ true
+    behind n e d = plain_next false w ws (ap is_dashed ((bytes_eq-Decides w n).0 e) ∙ d) h
+    go : (r c a : Bool) → bytes_eq w (codes "run") ≡ r → bytes_eq w (codes "check") ≡ c → bytes_eq w (codes "reread") ≡ a → Verdict (w ∷ ws)
+    go true c a e f g = named (codes "run") e (run_verdict ws (behind (codes "run") e refl))
+    go false true a e f g = named (codes "check") f (check_verdict ws (behind (codes "check") f refl))
+    go false false true e f g = named (codes "reread") g (reread_verdict ws (behind (codes "reread") g refl))
+    go false false false e f g =
+        let unmet : subcommand_met names idle w ≡ None = rw (turned (codes "run") w, turned (codes "check") w, turned (codes "reread") w, e, f, g) refl in
+        refuses (other_fails w ws unmet h) (none ws e f g)
+
+-- ---- words that clap isn't asked about ask for nothing
+
+same : (x y : List ℕ) → bytes_eq x y ≡ true → x ≡ y
+same x y e = (bytes_eq-Decides x y).0 e
+
+asked_about : (ws vs : List Text) → ws ≡ vs → are_expected false vs ≡ true → are_expected false ws ≡ false → ⊥
+asked_about ws vs e expected never = true≢false (sym expected ∙ sym (ap (are_expected false) e) ∙ never)
+
+alone : (w : Text) → are_expected false (w ∷ []) ≡ false → command_of (w ∷ []) ≡ None
+alone w h = go (bytes_eq w (codes "run")) (bytes_eq w (codes "check")) (bytes_eq w (codes "reread")) refl refl refl
+  where
+    known : (n : Text) → bytes_eq w n ≡ true → are_expected false (n ∷ []) ≡ true → ⊥
+    known n e expected = asked_about (w ∷ []) (n ∷ []) (ap (λ (x : Text). x ∷ []) (same w n e)) expected h
+    go : (r c a : Bool) → bytes_eq w (codes "run") ≡ r → bytes_eq w (codes "check") ≡ c → bytes_eq w (codes "reread") ≡ a → command_of (w ∷ []) ≡ None
+    go true c a e f g = absurd (known (codes "run") e refl)
+    go false true a e f g = absurd (known (codes "check") f refl)
+    go false false true e f g = absurd (known (codes "reread") g refl)
+    go false false false e f g = rw (e, f, g) refl
+
+two : (w o : Text) → are_expected false (w ∷ o ∷ []) ≡ false → command_of (w ∷ o ∷ []) ≡ None
+two w o h = go (bytes_eq w (codes "run")) (bytes_eq o (codes "--decider=plain")) (bytes_eq o (codes "--decider=graph")) (bytes_eq o (codes "--decider=memo")) refl refl refl refl
+  where
+    known : (n : Text) → bytes_eq w (codes "run") ≡ true → bytes_eq o n ≡ true → are_expected false (codes "run" ∷ n ∷ []) ≡ true → ⊥
+    known n d e expected = asked_about (w ∷ o ∷ []) (codes "run" ∷ n ∷ []) (ap₂ (λ (x y : Text). x ∷ y ∷ []) (same w (codes "run") d) (same o n e)) expected h
+    go : (r p g m : Bool) → bytes_eq w (codes "run") ≡ r → bytes_eq o (codes "--decider=plain") ≡ p → bytes_eq o (codes "--decider=graph") ≡ g → bytes_eq o (codes "--decider=memo") ≡ m → command_of (w ∷ o ∷ []) ≡ None
+    go false p g m d e f k = rw d refl
+    go true true g m d e f k = absurd (known (codes "--decider=plain") d e refl)
+    go true false true m d e f k = absurd (known (codes "--decider=graph") d f refl)
+    go true false false true d e f k = absurd (known (codes "--decider=memo") d k refl)
+    go true false false false d e f k = rw (d, e, f, k) refl
+
+three : (w o k : Text) → are_expected false (w ∷ o ∷ k ∷ []) ≡ false → command_of (w ∷ o ∷ k ∷ []) ≡ None
+three w o k h = go (bytes_eq w (codes "run")) (bytes_eq o (codes "--decider")) (bytes_eq k (codes "plain")) (bytes_eq k (codes "graph")) (bytes_eq k (codes "memo")) refl refl refl refl refl
+  where
+    known : (n : Text) → bytes_eq w (codes "run") ≡ true → bytes_eq o (codes "--decider") ≡ true → bytes_eq k n ≡ true → are_expected false (codes "run" ∷ codes "--decider" ∷ n ∷ []) ≡ true → ⊥
+    known n c d e expected =
+        asked_about (w ∷ o ∷ k ∷ []) (codes "run" ∷ codes "--decider" ∷ n ∷ []) (ap₂ (λ (x : Text) (l : List Text). x ∷ l) (same w (codes "run") c) (ap₂ (λ (x y : Text). x ∷ y ∷ []) (same o (codes "--decider") d) (same k n e))) expected h
+    go : (r d p g m : Bool) → bytes_eq w (codes "run") ≡ r → bytes_eq o (codes "--decider") ≡ d → bytes_eq k (codes "plain") ≡ p → bytes_eq k (codes "graph") ≡ g → bytes_eq k (codes "memo") ≡ m → command_of (w ∷ o ∷ k ∷ []) ≡ None
+    go false d p g m a b e f i = rw a refl
+    go true false p g m a b e f i = rw (a, b) refl
+    go true true true g m a b e f i = absurd (known (codes "plain") a b e refl)
+    go true true false true m a b e f i = absurd (known (codes "graph") a b f refl)
+    go true true false false true a b e f i = absurd (known (codes "memo") a b i refl)
+    go true true false false false a b e f i = rw (a, b, e, f, i) refl
+
+pub unexpected : (ws : List Text) → are_expected false ws ≡ false → command_of ws ≡ None
+unexpected [] h = refl
+unexpected (w ∷ []) h = alone w h
+unexpected (w ∷ o ∷ []) h = two w o h
+unexpected (w ∷ o ∷ k ∷ []) h = three w o k h
+unexpected (w ∷ o ∷ k ∷ x ∷ l) h = refl
+
+-- ---- the walk over the words that clap is asked about
+
+module _ {Z : Type 0} where
+  expected_next : (words : List (String Z)) (i : ℕ) (word : String Z) (seen behind : Bool) → i < length words → word ≡ slice_index_or words i word → seen_behind seen (string_bytes word) ≡ Some behind
+      → are_expected seen (drop i (map string_bytes words)) ≡ are_expected behind (drop (suc i) (map string_bytes words))
+  expected_next [] i word seen behind l at is = absurd (omega (arith, l))
+  expected_next (x ∷ xs) zero word seen behind l at is =
+      let first : seen_behind seen (string_bytes x) ≡ Some behind = subst (λ (y : String Z). seen_behind seen (string_bytes y) ≡ Some behind) at is in
+      ap (λ o. option_map_or (λ b. are_expected b (map string_bytes xs)) o false) first
+  expected_next (x ∷ xs) (suc i) word seen behind l at is = expected_next xs i word seen behind (omega (arith, l)) at is
+
+  pub expected_step : (words : List (String Z)) (i : ℕ) (word : String Z) (seen behind : Bool) → i < length words → word ≡ slice_index_or words i word → seen_behind seen (string_bytes word) ≡ Some behind
+      → are_expected seen (drop i (map string_bytes words)) ≡ are_expected behind (drop (i + 1) (map string_bytes words))
+  expected_step words i word seen behind l at is =
+      let next : i + 1 ≡ suc i = omega arith in
+      expected_next words i word seen behind l at is ∙ ap (λ (k : ℕ). are_expected behind (drop k (map string_bytes words))) (sym next)
+
+  pub expected_stop : (words : List (String Z)) (i : ℕ) (word : String Z) (seen : Bool) → i < length words → word ≡ slice_index_or words i word → seen_behind seen (string_bytes word) ≡ None
+      → are_expected seen (drop i (map string_bytes words)) ≡ false
+  expected_stop [] i word seen l at is = absurd (omega (arith, l))
+  expected_stop (x ∷ xs) zero word seen l at is =
+      let first : seen_behind seen (string_bytes x) ≡ None = subst (λ (y : String Z). seen_behind seen (string_bytes y) ≡ None) at is in
+      ap (λ o. option_map_or (λ b. are_expected b (map string_bytes xs)) o false) first
+  expected_stop (x ∷ xs) (suc i) word seen l at is = expected_stop xs i word seen (omega (arith, l)) at is
+
+-- ---- what is answered
+
+simple : is_simple_and_free program ≡ true
+simple = refl
+
+pub found_is_asked : (ws : List Text) (m : ArgMatches) → are_expected false ws ≡ true → HasMatchesOf program ws m → (is_simple_and_free program ≡ true → fault_of program ws ≡ []) → command_found (subcommand_rows_of m) ≡ command_of ws
+found_is_asked ws m h matches none = go (verdict ws h)
+  where
+    go : Verdict ws → command_found (subcommand_rows_of m) ≡ command_of ws
+    go (takes f is) = ap command_found (matches refl).1 ∙ is
+    go (refuses fault is) = absurd (fault (none simple))
+
+pub refused_is_none : (ws : List Text) (e : Error) → are_expected false ws ≡ true → (is_simple_and_free program ≡ true → HasKind (fault_of program ws) e) → (kind_of e ≡ OutOfMemory → ⊥) → command_of ws ≡ None
+refused_is_none ws e h kinds memory = go (verdict ws h) (kinds simple)
+  where
+    go : Verdict ws → HasKind (fault_of program ws) e → command_of ws ≡ None
+    go (takes f is) (inl m) = absurd (memory m)
+    go (takes f is) (inr among) = absurd (subst (IsAmong (kind_of e)) f among)
+    go (refuses fault is) k = is

@@ -1,0 +1,24 @@
+use Rattle.std.proofs.Common.{◌≡◌, List, ℕ, Option, Some, None, codes, option_map, box_value, Box, ap, ap₂, sym, ◌∙◌}
+use Rattle.clap.specs.Matches.{found_of}
+use Rattle.clap.specs.Simple.{subcommand_rows, subcommand_rows_of}
+use Rattle.clap.specs.Walk.{Row, first_of, rows_of}
+use Rattle.clap.specs.declared.parser.matches.ArgMatches.TheViews.{out-ArgMatches, out-SubCommand}
+use Rattle.clap.specs.declared.parser.matches.SubCommand.{SubCommand}
+use Rattle.clap.proofs.WalkLemmas.{first_value-rows}
+use Rattle.lois_run.specs.CommandLine.{command_named, command_found}
+use Rattle.lois_run.proofs.words.command_found.Goals as goal
+
+some_is : {X : Type 0} (x y : X) → Some x ≡ Some y → x ≡ y
+some_is x y e = cc e
+
+-- the name and the rows of a subcommand, from both
+entered_is : {Z : Type 0} (o : Option (Box SubCommand Z)) (name : List ℕ) (rows : List Row) → Some name ≡ option_map (λ b. (out-SubCommand (box_value b)).name.now) o → Some rows ≡ option_map (λ p. p.1) (subcommand_rows o) → subcommand_rows o ≡ Some (name, rows)
+entered_is None name rows e f = cc e
+entered_is (Some b) name rows e f = sym (ap₂ (λ (n : List ℕ) (r : List Row). Some (n, r)) (some_is name _ e) (some_is rows _ f))
+
+pub returns-in-Some : goal.returns-in-Some
+returns-in-Some c =
+    let rows : List Row = rows_of (found_of c.in-Some.given.now) in
+    let entered : subcommand_rows_of c.args.matches.now ≡ Some (c.in-Some.name.now, rows) = entered_is (out-ArgMatches c.args.matches.now).subcommand c.in-Some.name.now rows c.in-Some.ensures.name c.in-Some.ensures.rows in
+    let value = c.get_str.ensures ∙ first_value-rows (found_of c.in-Some.given.now) (codes "decider") in
+    c.command_named.ensures ∙ ap (command_named c.in-Some.name.now) value ∙ sym (ap command_found entered)

@@ -1,0 +1,52 @@
+-- The command line as clap is told of it, which words clap is asked about, and what is read of what clap found.
+use Rattle.std.specs.Prelude.{◌&&◌, ◌||◌, ◌==◌, Bool, true, false, not, List, [], ◌∷◌, Option, Some, None, option_map, codes, if◌then◌else◌, bytes_eq, nat_eq, ℕ}
+use Rattle.std.specs.List.{starts_with}
+use Rattle.std.specs.Option.{option_map_or}
+use Rattle.clap.specs.Simple.{on_top}
+use Rattle.clap.specs.Walk.{Row}
+use Rattle.clap.specs.Words.{App, Rule, first_of, new_app, new_rule, with_rule, with_subcommand}
+use Rattle.clap.specs.declared.builder.action.ArgAction.TheVariants.{Set}
+use Rattle.lois_run.specs.Words.{kind_named}
+use Rattle.lois_run.specs.declared.words.Command.{Command}
+use Rattle.lois_run.specs.declared.words.Command.TheVariants.{Run, Check, Reread}
+
+abbrev pub is_dashed : List ℕ → Bool
+is_dashed [] = false
+is_dashed (b ∷ bs) = b == 45
+
+-- the option as one word, or as the first of two
+abbrev pub is_option : List ℕ → Bool
+is_option word = bytes_eq word (codes "--decider") || starts_with nat_eq word (codes "--decider=")
+
+-- whether the option was seen, behind one more word; `None` where a word starts with a hyphen and isn't the option for the first time
+abbrev pub seen_behind : Bool → List ℕ → Option Bool
+seen_behind seen word = if (is_dashed word) then (if (not seen && is_option word) then (Some true) else None) else (Some seen)
+
+-- each word that starts with a hyphen is the option, which stands there once at most, and not at all where it was seen before
+abbrev pub are_expected : Bool → List (List ℕ) → Bool
+are_expected seen [] = true
+are_expected seen (word ∷ words) = option_map_or (λ behind. are_expected behind words) (seen_behind seen word) false
+
+abbrev pub decider_option : Rule
+decider_option = record (new_rule (codes "decider")) { long = Some (codes "decider"); action = Some Set }
+
+abbrev pub bare_program : App
+bare_program = on_top (λ s. record s { no_binary_name = true; disable_help_flag = true; disable_help_subcommand = true; subcommand_required = true }) (new_app (codes "lois"))
+
+-- one command with three subcommands, of which `run` has an option
+abbrev pub program : App
+program =
+    with_subcommand (with_subcommand (with_subcommand bare_program (with_rule (new_app (codes "run")) decider_option).top) (new_app (codes "check")).top) (new_app (codes "reread")).top
+
+-- the command of a subcommand and the value of its option
+abbrev pub command_named : List ℕ → Option (List ℕ) → Option Command
+command_named name None =
+    if (bytes_eq name (codes "run")) then (Some (Run None)) else
+    (if (bytes_eq name (codes "check")) then (Some Check) else
+    (if (bytes_eq name (codes "reread")) then (Some Reread) else None))
+command_named name (Some kind) =
+    if (bytes_eq name (codes "run")) then (option_map (λ k. Run (Some k)) (kind_named kind)) else None
+
+abbrev pub command_found : Option (List ℕ × List Row) → Option Command
+command_found None = None
+command_found (Some p) = command_named p.0 (first_of (codes "decider") p.1)
