@@ -1,12 +1,12 @@
 -- What clap makes of the words is what they ask for.
-use Rattle.std.proofs.Common.{◌≡◌, ◌⊎◌, inl, inr, ℕ, Bool, true, false, true≢false, not, ◌&&◌, ◌||◌, List, [], ◌∷◌, ◌++◌, Some, None, codes, refl, sym, ap, ap₂, ◌∙◌, subst, bytes_eq, nat_eq, if◌then◌else◌, find, fold, map, String, string_bytes, length, zero, suc, ◌+◌, ◌<◌, arith, take, drop, take-append-drop, slice_index_or, append-nil, append_assoc}
+use Rattle.std.proofs.Common.{◌≡◌, ◌⊎◌, inl, inr, ℕ, Bool, true, false, true≢false, not, ◌||◌, List, [], ◌∷◌, ◌++◌, Some, None, codes, refl, sym, ap, ap₂, ◌∙◌, subst, bytes_eq, nat_eq, if◌then◌else◌, find, fold, map, String, string_bytes, length, zero, suc, ◌+◌, ◌<◌, arith, take, drop, take-append-drop, slice_index_or, append-nil, append_assoc}
 use Rattle.std.specs.Cmp.Lexicographic.{nat_list_eq_equiv}
 use Rattle.std.specs.List.{starts_with}
 use Rattle.std.specs.Option.{option_map_or}
 use Rattle.std.proofs.lemmas.Slice.Eq.{bytes_eq-Decides}
-use Rattle.clap.specs.Lexer.{long_of, short_of, strip_byte}
+use Rattle.clap.specs.Lexer.{long_of, short_of}
 use Rattle.clap.specs.Simple.{Shape, built, label_of, names_of}
-use Rattle.clap.specs.Walk.{Held, Names, Row, Text, Walk, answers_to, arg_by_index, idle, nothing_held, subcommand_met, walk, walk_from, walked, rows_after}
+use Rattle.clap.specs.Walk.{Held, Names, Text, Walk, answers_to, arg_by_index, idle, nothing_held, subcommand_met, walk, walk_from, walked, rows_after}
 use Rattle.clap.specs.Faults.{defaults_fault, fault_of, level_fault, stray_fault, turn_fault, walk_fault}
 use Rattle.clap.specs.Kinds.{Kinds, or_else}
 use Rattle.clap.specs.declared.error.kind.ErrorKind.TheVariants as kind
@@ -165,6 +165,7 @@ module _ (n : Text) (s : Shape) (is : (rest : List Text) → fault_of program (n
         | inl f ↦ rw (f, none) (λ x. cc x)
         | inr p ↦ rw (p.1, none) (λ x. cc x)
       ]
+
       go : (b : Bool) → is_dashed o ≡ b → HasFault (turn_fault s [] (walk_from nothing_held) o)
       go true d = unknown (dashed_next false o more d h).1
       go false d = subst HasFault (sym (stray s [] nothing_held o d refl (ap (λ rules. arg_by_index rules 1) none))) (stray_fails s)
@@ -248,6 +249,7 @@ run_option o more (inr (v, e)) h = subst (λ (x : Text). Verdict (codes "run" �
     none : (k : Text) (l : List Text) → command_of (codes "run" ∷ (codes "--decider=" ++ v) ∷ k ∷ l) ≡ None
     none k [] = refl
     none k (x ∷ l) = refl
+
     go : (l : List Text) → are_expected true l ≡ true → Verdict (codes "run" ∷ (codes "--decider=" ++ v) ∷ l)
     go [] h = run_valued v
     go (k ∷ l) h = refuses (run_fails ((codes "--decider=" ++ v) ∷ k ∷ l) (later (walk_from nothing_held) (codes "--decider=" ++ v) (k ∷ l) _ (valued v) (stray_at _ k l (once k l h).0))) (none k l)
@@ -292,13 +294,16 @@ verdict (w ∷ ws) h = go (bytes_eq w (codes "run")) (bytes_eq w (codes "check")
   where
     named : (n : Text) → bytes_eq w n ≡ true → Verdict (n ∷ ws) → Verdict (w ∷ ws)
     named n e v = subst (λ (x : Text). Verdict (x ∷ ws)) (sym ((bytes_eq-Decides w n).0 e)) v
+
     none : (l : List Text) → bytes_eq w (codes "run") ≡ false → bytes_eq w (codes "check") ≡ false → bytes_eq w (codes "reread") ≡ false → command_of (w ∷ l) ≡ None
     none [] r c a = rw (r, c, a) refl
     none (o ∷ []) r c a = rw r refl
     none (o ∷ k ∷ []) r c a = rw r refl
     none (o ∷ k ∷ x ∷ l) r c a = refl
+
     behind : (n : Text) → bytes_eq w n ≡ true → is_dashed n ≡ false → are_expected false ws ≡ true
     behind n e d = plain_next false w ws (ap is_dashed ((bytes_eq-Decides w n).0 e) ∙ d) h
+
     go : (r c a : Bool) → bytes_eq w (codes "run") ≡ r → bytes_eq w (codes "check") ≡ c → bytes_eq w (codes "reread") ≡ a → Verdict (w ∷ ws)
     go true c a e f g = named (codes "run") e (run_verdict ws (behind (codes "run") e refl))
     go false true a e f g = named (codes "check") f (check_verdict ws (behind (codes "check") f refl))
@@ -320,6 +325,7 @@ alone w h = go (bytes_eq w (codes "run")) (bytes_eq w (codes "check")) (bytes_eq
   where
     known : (n : Text) → bytes_eq w n ≡ true → are_expected false (n ∷ []) ≡ true → ⊥
     known n e expected = asked_about (w ∷ []) (n ∷ []) (ap (λ (x : Text). x ∷ []) (same w n e)) expected h
+
     go : (r c a : Bool) → bytes_eq w (codes "run") ≡ r → bytes_eq w (codes "check") ≡ c → bytes_eq w (codes "reread") ≡ a → command_of (w ∷ []) ≡ None
     go true c a e f g = absurd (known (codes "run") e refl)
     go false true a e f g = absurd (known (codes "check") f refl)
@@ -331,6 +337,7 @@ two w o h = go (bytes_eq w (codes "run")) (bytes_eq o (codes "--decider=plain"))
   where
     known : (n : Text) → bytes_eq w (codes "run") ≡ true → bytes_eq o n ≡ true → are_expected false (codes "run" ∷ n ∷ []) ≡ true → ⊥
     known n d e expected = asked_about (w ∷ o ∷ []) (codes "run" ∷ n ∷ []) (ap₂ (λ (x y : Text). x ∷ y ∷ []) (same w (codes "run") d) (same o n e)) expected h
+
     go : (r p g m : Bool) → bytes_eq w (codes "run") ≡ r → bytes_eq o (codes "--decider=plain") ≡ p → bytes_eq o (codes "--decider=graph") ≡ g → bytes_eq o (codes "--decider=memo") ≡ m → command_of (w ∷ o ∷ []) ≡ None
     go false p g m d e f k = rw d refl
     go true true g m d e f k = absurd (known (codes "--decider=plain") d e refl)
@@ -344,6 +351,7 @@ three w o k h = go (bytes_eq w (codes "run")) (bytes_eq o (codes "--decider")) (
     known : (n : Text) → bytes_eq w (codes "run") ≡ true → bytes_eq o (codes "--decider") ≡ true → bytes_eq k n ≡ true → are_expected false (codes "run" ∷ codes "--decider" ∷ n ∷ []) ≡ true → ⊥
     known n c d e expected =
         asked_about (w ∷ o ∷ k ∷ []) (codes "run" ∷ codes "--decider" ∷ n ∷ []) (ap₂ (λ (x : Text) (l : List Text). x ∷ l) (same w (codes "run") c) (ap₂ (λ (x y : Text). x ∷ y ∷ []) (same o (codes "--decider") d) (same k n e))) expected h
+
     go : (r d p g m : Bool) → bytes_eq w (codes "run") ≡ r → bytes_eq o (codes "--decider") ≡ d → bytes_eq k (codes "plain") ≡ p → bytes_eq k (codes "graph") ≡ g → bytes_eq k (codes "memo") ≡ m → command_of (w ∷ o ∷ k ∷ []) ≡ None
     go false d p g m a b e f i = rw a refl
     go true false p g m a b e f i = rw (a, b) refl

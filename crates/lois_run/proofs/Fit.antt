@@ -16,8 +16,8 @@ use Rattle.lois_meaning.specs.Grammar.{placed, IsWide}
 use Rattle.lois_meaning.specs.Limits.{Spells, IsNarrow, AreNarrow, StmtIsWithin, StmtsAreWithin, width}
 use Rattle.lois_meaning.specs.Sound.{IsFreeName}
 use Rattle.lois_meaning.specs.Tree.{ExprD, tag, tuple, listed, ExprsD, no_exprs, expr, StmtD, «let», print, StmtsD, no_stmts, stmt, ScriptD}
-use Rattle.lois_syntax.proofs.Numbers.{IsToken}
-use Rattle.lois_syntax.proofs.Printable.{ExprPrints, ExprsPrint, StmtPrints, StmtsPrint, AreTokens, script_prints}
+use Rattle.lois_script_printer.proofs.Numbers.{IsToken}
+use Rattle.lois_script_printer.proofs.Printable.{ExprPrints, ExprsPrint, StmtPrints, StmtsPrint, AreTokens, script_prints}
 use Rattle.lois_run.specs.Fitting.{IsFitExpr, AreFitExprs, IsFitStmt, AreFit}
 
 -- ---- tokens

@@ -7,8 +7,8 @@ use Rattle.lois_meaning.specs.TraceText.{answer_text}
 use Rattle.lois_meaning.specs.View.{script_tree}
 use Rattle.lois_meaning.specs.declared.results.Results.{Results}
 use Rattle.lois_reader.specs.Refusal.{IsSoundAnswer}
-use Rattle.lois_syntax.specs.Printed.{printed_script}
-use Rattle.lois_syntax.specs.Unplaced.{IsSpelled}
+use Rattle.lois_script_printer.specs.Printed.{printed_script}
+use Rattle.lois_script_printer.specs.Unplaced.{IsSpelled}
 use Rattle.lois_run.specs.Texts.{lexical_text, syntax_text, scope_text, placed_text}
 use Rattle.lois_run.specs.declared.outcomes.Outcome.{Outcome}
 use Rattle.lois_run.specs.declared.outcomes.Outcome.TheVariants.{Completed, Reread, Checked, Refused, ReadFault, Usage}

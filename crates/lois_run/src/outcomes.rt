@@ -11,7 +11,7 @@ use lois_base::NoMemory;
 use lois_lexer::Place;
 use lois_meaning::{Answer, Results, Script};
 use lois_printer::{print_results, print_trace};
-use lois_syntax::print_script;
+use lois_script_printer::print_script;
 use std::alloc::Global;
 
 /// Why a text is refused. The number is that of the cause, counted from 1 in the order in which the errors of `lex`,

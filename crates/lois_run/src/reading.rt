@@ -1,6 +1,6 @@
 //! From a text to its script, or to the first thing that is wrong with it.
 
-ghost use Rattle.std.specs.Prelude.{◌≡◌, ◌≤◌, IfOk, MatchResult, length, map};
+ghost use Rattle.std.specs.Prelude.{◌≡◌, IfOk, MatchResult};
 ghost use Rattle.lois_lexer.specs.declared.LexError.{LexError};
 ghost use Rattle.lois_scope.specs.declared.checking.ScopeError.{ScopeError};
 ghost use Rattle.lois_syntax.specs.declared.SyntaxError.{SyntaxError};

@@ -2,7 +2,7 @@
 
 ghost use Rattle.std.specs.Prelude.{◌≡◌, [], ◌∷◌, ◌++◌, IfOk, MatchOption, MatchBool};
 ghost use Rattle.lois_meaning.specs.Scope.{IsWellScoped};
-ghost use Rattle.lois_meaning.specs.View.{stmt_tree, stmts_of, stmts_list, script_tree};
+ghost use Rattle.lois_meaning.specs.View.{stmt_tree, script_tree};
 ghost use Rattle.lois_run.specs.BuiltForms.{IsBuiltStmt, IsBuilt};
 ghost use Rattle.lois_run.specs.Fitting.{IsFitStmt, AreFit, AreGood};
 ghost use Rattle.lois_run.specs.Held.{held_by};

@@ -1,6 +1,6 @@
 //! The lines that the outcomes are told by.
 
-ghost use Rattle.std.specs.Prelude.{◌≡◌, ◌≤◌, ◌++◌, IfOk, OnOk};
+ghost use Rattle.std.specs.Prelude.{◌≡◌, ◌++◌, IfOk, OnOk};
 ghost use Rattle.std.specs.Fmt.{decimal};
 ghost use Rattle.lois_meaning.specs.ResultsText.{lined};
 ghost use Rattle.lois_run.specs.Texts.{lexical_text, syntax_text, scope_text, placed_text};

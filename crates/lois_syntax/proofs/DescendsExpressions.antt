@@ -25,7 +25,7 @@ use Rattle.lois_syntax.specs.declared.lexemes.Sign.TheVariants as signs
 use Rattle.lois_syntax.specs.declared.lexemes.Terminal.{Terminal}
 use Rattle.lois_syntax.specs.declared.lexemes.Terminal.TheVariants as terminals
 use Rattle.lois_syntax.specs.Descent as descent
-use Rattle.lois_syntax.specs.Descent.{Tokens, Read, ◌>>=◌, stop, pass, enter, enter_call}
+use Rattle.lois_syntax.specs.Descent.{Tokens, Read, ◌>>=◌, stop, pass}
 use Rattle.lois_syntax.specs.Lexemes.{lexeme_of, accepts, expr_form, joint, lead, has_two_operands}
 use Rattle.lois_syntax.specs.Machine.{Ending, token, one, two, part_number, terminal, expression, arguments, more_parts, more_items, after_brace, after_item, more_bindings, where_clause, condition, more_condition, behind, chosen, arity, expression_start, brace_start, after_item_start, more_parts_start, more_items_start, more_bindings_start, where_start, in_set, is_comma, over_if, State, push, verdict, refused, over}
 use Rattle.lois_syntax.specs.Refusals.{GoesOver}

@@ -26,12 +26,6 @@ pub mod OneExpression
 pub mod OneCondition
 pub mod OneReading
 pub mod OneStatement
-pub mod Appending
-pub mod Numbers
-pub mod Printable
-pub mod WrittenTokens
-pub mod Places
-pub mod ReadAgain
 pub mod Hosts
 pub mod DescendsStatements
 pub mod DescendsScript

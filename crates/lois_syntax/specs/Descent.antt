@@ -3,7 +3,7 @@
 use Rattle.std.specs.Prelude.{ℕ, zero, suc, Bool, true, false, not, ◌==◌, nat_lt, List, [], ◌∷◌, ◌++◌, length, drop, Option, Some, None, Result, Ok, Err, if◌then◌else◌}
 use Rattle.lois_meaning.specs.Grammar.{PlacedToken, decimal}
 use Rattle.lois_meaning.specs.Tree as trees
-use Rattle.lois_meaning.specs.Tree.{ExprD, ExprsD, no_exprs, expr, BindingD, CondD, CondsD, StmtD, ParamD, ScriptD}
+use Rattle.lois_meaning.specs.Tree.{ExprD, no_exprs, expr, BindingD, CondD, StmtD, ParamD, ScriptD}
 use Rattle.lois_meaning.specs.View.{exprs_of, bindings_of, conds_of, stmts_of}
 use Rattle.lois_meaning.specs.declared.syntax.Operation.{Operation}
 use Rattle.lois_syntax.specs.Lexemes.{accepts, relation_of, unit_form, expr_form, base_form, stmt_form, joint, lead, has_two_operands}

@@ -8,6 +8,3 @@ pub mod Refusals
 pub mod Machine
 pub mod Steps
 pub mod Laws
-pub mod Printed
-pub mod Appended
-pub mod Unplaced

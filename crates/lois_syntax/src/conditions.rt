@@ -1,6 +1,6 @@
 //! Conditions.
 
-ghost use Rattle.std.specs.Prelude.{◌≡◌, ◌<◌, ◌≤◌, length, IfOk};
+ghost use Rattle.std.specs.Prelude.{◌<◌, ◌≤◌, length, IfOk};
 ghost use Rattle.lois_meaning.specs.View.{binding_tree, cond_tree, conds_list};
 ghost use Rattle.lois_syntax.specs.Ahead.{ahead};
 ghost use Rattle.lois_syntax.specs.Descent as descent;

@@ -1,6 +1,6 @@
 //! Forms that stand in one another take the readers of what stands inside as parameters, so that each is proved by itself.
 
-ghost use Rattle.std.specs.Prelude.{◌≡◌, ◌<◌, length, IfOk};
+ghost use Rattle.std.specs.Prelude.{◌<◌};
 ghost use Rattle.lois_syntax.specs.Descent.{inner_expr, inner_cond};
 ghost use Rattle.lois_syntax.specs.Nests.{Nests, GivesExpr, GivesCond, GoesOn};
 

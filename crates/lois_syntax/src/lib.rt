@@ -1,4 +1,4 @@
-//! From the tokens of a text to its script, and back to a text.
+//! From the tokens of a text to its script.
 #![tactic(auto)]
 
 mod conditions;
@@ -8,7 +8,6 @@ mod halt;
 pub mod laws;
 mod lexemes;
 mod nesting;
-mod printing;
 mod rest;
 mod script;
 mod statements;
@@ -17,7 +16,6 @@ ghost use Rattle.std.specs.Prelude.{◌≡◌};
 ghost use Rattle.lois_syntax.specs.declared.SyntaxError.TheVariants.{NoMemory};
 
 use lois_base::NoMemory;
-pub use printing::print_script;
 pub use script::read_script;
 use std::alloc::AllocFailed;
 use thiserror::Error;

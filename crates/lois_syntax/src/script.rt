@@ -1,6 +1,6 @@
 //! Whole scripts.
 
-ghost use Rattle.std.specs.Prelude.{◌≡◌, ◌≢◌, ◌<◌, ◌≤◌, ◌-◌, length, IfOk, IfErr, IsTrue};
+ghost use Rattle.std.specs.Prelude.{◌≡◌, ◌≢◌, ◌<◌, ◌≤◌, ◌-◌, length, IfOk, IfErr};
 ghost use Rattle.lois_lexer.specs.Tokens.{HasTokens};
 ghost use Rattle.lois_meaning.specs.Limits.{Spells};
 ghost use Rattle.lois_meaning.specs.Tree.{ScriptD};

@@ -1,8 +1,7 @@
 //! Statements.
 
-ghost use Rattle.std.specs.Prelude.{◌≡◌, ◌<◌, ◌≤◌, suc, length, IfOk};
-ghost use Rattle.lois_meaning.specs.Tree.{StmtD};
-ghost use Rattle.lois_meaning.specs.View.{stmt_tree, stmts_list};
+ghost use Rattle.std.specs.Prelude.{◌<◌, ◌≤◌, suc, length, IfOk};
+ghost use Rattle.lois_meaning.specs.View.{stmt_tree};
 ghost use Rattle.lois_syntax.specs.Ahead.{ahead};
 ghost use Rattle.lois_syntax.specs.Descent as descent;
 ghost use Rattle.lois_syntax.specs.Descent.{cond_of, inner_block};

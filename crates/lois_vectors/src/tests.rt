@@ -169,8 +169,13 @@ fn scripts_complete(rt: HostRuntime) -> Result<(), Fail> {
 #[test]
 fn words_that_are_not_taken_are_usage(rt: HostRuntime) -> Result<(), Fail> {
     let alloc = rt.alloc();
-    let rows: [&[&str]; 13] = [
+    let rows: [&[&str]; 18] = [
         &[],
+        &["help"],
+        &["help", "run"],
+        &["run", "--help"],
+        &["run", "--", "x"],
+        &["run", "--decider=plain", "x"],
         &["run", "x"],
         &["Run"],
         &["--decider", "graph", "run"],
@@ -422,6 +427,34 @@ fn scripts_of_other_forms_are_not_built(rt: HostRuntime) -> Result<(), Fail> {
         let told = run(alloc, text.as_bytes())?;
         assert_eq!(rt; told.status, 5, "{text}");
         assert_eq!(rt; told.held.as_slice(), NOT_BUILT, "{text}");
+        let told = asked(alloc, &["check"], text.as_bytes())?;
+        assert_eq!(rt; told.status, 0, "{text}");
+        assert_eq!(rt; told.held.as_slice(), printed.as_bytes(), "{text}");
+    }
+    Ok(())
+}
+
+// The printed forms are those that the independent reference prints.
+#[test]
+fn scripts_are_checked(rt: HostRuntime) -> Result<(), Fail> {
+    let alloc = rt.alloc();
+    let rows: [(&str, &str); 3] = [
+        // LF stands behind `;` and the two braces of a block alone, and an empty `else` is left out.
+        (
+            "atoms order; parameter p, q; let s = {}; print p; if p < q { s := {p}; } else {} if true {} else { s := {}; }",
+            "atoms order ;\nparameter p , q ;\nlet s = { } ;\nprint p ;\nif p < q {\ns := { p } ;\n}\nif true {\n}\nelse {\ns := { } ;\n}\n",
+        ),
+        (
+            "atoms order;parameter a,b;let s={};while a in{b}turns 10{add part(('or,{a,b}),2)to s;}for x in union({a},{b})where x!=a{}",
+            "atoms order ;\nparameter a , b ;\nlet s = { } ;\nwhile a in { b } turns 10 {\nadd part ( ( 'or , { a , b } ) , 2 ) to s ;\n}\nfor x in union ( { a } , { b } ) where x != a {\n}\n",
+        ),
+        // Brackets stay where a base is asked for, round an `or` or an `and` beside `and`, and round an `or` beside `or`.
+        (
+            "atoms equality; parameter a, b, c; assert not [a = b and c = a] and [b = c or [a = c]] and [a = b and b = c] or [true or false] or [empty({}) and exists x in {a}: [not x = b]];",
+            "atoms equality ;\nparameter a , b , c ;\nassert not [ a = b and c = a ] and [ b = c or a = c ] and [ a = b and b = c ] or [ true or false ] or empty ( { } ) and exists x in { a } : [ not x = b ] ;\n",
+        ),
+    ];
+    for (text, printed) in rows {
         let told = asked(alloc, &["check"], text.as_bytes())?;
         assert_eq!(rt; told.status, 0, "{text}");
         assert_eq!(rt; told.held.as_slice(), printed.as_bytes(), "{text}");

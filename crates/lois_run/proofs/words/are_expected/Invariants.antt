@@ -1,4 +1,4 @@
-use Rattle.std.proofs.Common.{◌≡◌, false, List, drop, map, string_bytes, Global}
+use Rattle.std.proofs.Common.{◌≡◌, false, drop, map, string_bytes, Global}
 use Rattle.lois_run.specs.CommandLine.{are_expected}
 use Rattle.lois_run.proofs.words.are_expected.Given as goal
 

@@ -19,5 +19,5 @@ returns-in-Err-2 c =
     let expected : are_expected false texts ≡ true = cc (c.are_expected.ensures, c.if-not-are_expected.false) in
     let kinds : is_simple_and_free program ≡ true → HasKind (fault_of program texts) c.in-Err.error = subst (λ (a : App). is_simple_and_free a ≡ true → HasKind (fault_of a texts) c.in-Err.error) c.in_ok-program.ensures c.in-Err.ensures.kinds in
     sym (refused_is_none texts c.in-Err.error expected kinds (λ (memory : kind_of c.in-Err.error ≡ OutOfMemory).
-      let same : c.eq.result ≡ true = rw (c.kind.ensures ∙ memory) at c.eq.ensures in
-      cc (same, c.if-eq.false)))
+    let same : c.eq.result ≡ true = rw (c.kind.ensures ∙ memory) at c.eq.ensures in
+    cc (same, c.if-eq.false)))
