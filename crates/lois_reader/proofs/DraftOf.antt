@@ -41,14 +41,6 @@ pub unbroken_append : (ps qs : List Piece) → Unbroken ps → Unbroken qs → U
 unbroken_append [] qs h k = k
 unbroken_append (p ∷ ps) qs h k = (h.0, unbroken_append ps qs h.1 k)
 
-pub unbroken_front : (ps qs : List Piece) → Unbroken (ps ++ qs) → Unbroken ps
-unbroken_front [] qs h = tt
-unbroken_front (p ∷ ps) qs h = (h.0, unbroken_front ps qs h.1)
-
-pub unbroken_back : (ps qs : List Piece) → Unbroken (ps ++ qs) → Unbroken qs
-unbroken_back [] qs h = h
-unbroken_back (p ∷ ps) qs h = unbroken_back ps qs h.1
-
 pub unbroken_each : {A : Type 0} (pieces : A → List Piece) (Good : A → Type 0) → ((x : A) → Good x → Unbroken (pieces x)) → (xs : List A) → AllByRecursion Good xs → Unbroken (each pieces xs)
 unbroken_each pieces Good one [] all = tt
 unbroken_each pieces Good one (x ∷ xs) all = unbroken_append (pieces x) (each pieces xs) (one x all.0) (unbroken_each pieces Good one xs all.1)
@@ -125,7 +117,7 @@ ge_test a b h = grind (arith, nat_tests)
 pub le_test : (a b : ℕ) → a ≤ b → nat_le a b ≡ true
 le_test a b h = grind (arith, nat_tests)
 
-eq_test : (a b : ℕ) → a ≡ b → (a == b) ≡ true
+pub eq_test : (a b : ℕ) → a ≡ b → (a == b) ≡ true
 eq_test a b h = grind (arith, nat_tests)
 
 same_at : (xs : List (List ℕ)) (i : ℕ) (d e : List ℕ) → i < length xs → get_or xs i d ≡ get_or xs i e

@@ -56,7 +56,7 @@ ends_number [] h = refl
 ends_number (b ∷ r) h = digit_is_word_byte b h
 
 -- the front of a number
-number_parts : (ds : List ℕ) → is_number ds ≡ true → (0 < length ds) × (list_all is_ascii_digit ds ≡ true) × ((length ds == 1 || not (get_or ds 0 0 == 48)) ≡ true)
+pub number_parts : (ds : List ℕ) → is_number ds ≡ true → (0 < length ds) × (list_all is_ascii_digit ds ≡ true) × ((length ds == 1 || not (get_or ds 0 0 == 48)) ≡ true)
 number_parts [] h = absurd (false≢true h)
 number_parts (d ∷ ds) h =
     let outer = and_parts (not (length (d ∷ ds) == 0) && list_all is_ascii_digit (d ∷ ds)) (length (d ∷ ds) == 1 || not (d == 48)) h in

@@ -1,35 +1,27 @@
 -- Where a text leaves the shape.
-use Rattle.std.proofs.Common.{◌≡◌, ℕ, zero, suc, ◌-◌, ◌<◌, ◌≤◌, ◌⊎◌, inl, inr, List, [], ◌∷◌, ◌++◌, length, take, Result, Ok, Err, refl, sym, ap, subst, ◌∙◌, append_assoc, arith, length-append}
+use Rattle.std.proofs.Common.{◌≡◌, ℕ, zero, suc, ◌<◌, ◌≤◌, List, [], ◌∷◌, ◌++◌, length, take, Ok, refl, sym, ap, subst, ◌∙◌, append_assoc, arith, length-append}
 use Rattle.std.proofs.lemmas.List.{take_at}
-use Rattle.lois_reader.specs.Draft.{ResultsDraft, AnswerDraft, IsAnswerDraft}
+use Rattle.lois_reader.specs.Draft.{AnswerDraft, IsAnswerDraft}
 use Rattle.lois_reader.specs.Draft as draft
 use Rattle.lois_reader.specs.Pieces.{answer_pieces}
 use Rattle.lois_reader.specs.Shape.{text_of, HasResultsShape, HasAnswerShape, Begins, LeavesShapeAt}
-use Rattle.lois_reader.specs.Refusal.{IsResultsOf, IsAnswerOf, IsPlaceOfShape, Halts, IsErrorOfHalt, results_reading, answer_reading}
-use Rattle.lois_reader.specs.Reading.{◌>>=◌, End}
+use Rattle.lois_reader.specs.Reading.{End}
 use Rattle.lois_reader.specs.AnswerEnds.{results_text_end, answer_text_end}
-use Rattle.lois_reader.specs.AnswerValues.{results_text_at, answer_text_at}
-use Rattle.lois_reader.specs.declared.ResultError.{ResultError}
-use Rattle.lois_reader.specs.declared.halt.Halt.{Halt}
-use Rattle.lois_reader.specs.declared.halt.Halt.TheVariants as halts
 use Rattle.lois_reader.proofs.AnswerFronts.{results_front, results_text_front, results_rest_is}
 use Rattle.lois_reader.proofs.TraceFronts.{trace_rest_is, trace_front, answer_ends_one, answer_ends_two}
 use Rattle.lois_reader.proofs.Backs.{no_ok}
-use Rattle.lois_reader.proofs.Exact.{Exact, Refused}
-use Rattle.lois_reader.proofs.ExactAnswers.{results_text_exact, answer_text_exact}
-use Rattle.lois_reader.proofs.SpelledAnswers.{results_text_spelled, answer_text_spelled}
-use Rattle.lois_reader.proofs.Verdict.{err_not_ok, one_left}
+use Rattle.lois_reader.proofs.Exact.{Refused}
 
 -- ---- texts of the shape are accepted
 
-results_accepted : (s : List ℕ) → HasResultsShape s → results_text_end s ≡ Ok []
+pub results_accepted : (s : List ℕ) → HasResultsShape s → results_text_end s ≡ Ok []
 results_accepted s h = subst (λ (t : List ℕ). results_text_end t ≡ Ok []) h.1.spelled (results_text_front h.0 h.1.form)
 
 answer_front : (a : AnswerDraft) → IsAnswerDraft a → answer_text_end (text_of (answer_pieces a)) ≡ Ok []
 answer_front (draft.results d) form = ap (λ ps. answer_text_end (text_of ps)) (results_rest_is d) ∙ answer_ends_one _ (results_front d form)
 answer_front (draft.trace t) form = ap (λ ps. answer_text_end (text_of ps)) (trace_rest_is t) ∙ answer_ends_two _ (trace_front t form)
 
-answer_accepted : (s : List ℕ) → HasAnswerShape s → answer_text_end s ≡ Ok []
+pub answer_accepted : (s : List ℕ) → HasAnswerShape s → answer_text_end s ≡ Ok []
 answer_accepted s h = subst (λ (t : List ℕ). answer_text_end t ≡ Ok []) h.1.spelled (answer_front h.0 h.1.form)
 
 -- ---- where a refused text leaves the shape
@@ -51,7 +43,7 @@ module _ (ends : List ℕ → End) (Shape : List ℕ → Type 0) (spelled : (s :
       ∙ append_assoc h.front (b ∷ u.0) begun.0 in
       no_ok (sym (h.stays b t (u.0 ++ begun.0) is) ∙ sym (ap ends whole) ∙ accepted (take m text ++ begun.0) begun.1)
 
-  leaves_at : (text : List ℕ) (h : Refused ends text) → LeavesShapeAt Shape text (length h.front)
+  pub leaves_at : (text : List ℕ) (h : Refused ends text) → LeavesShapeAt Shape text (length h.front)
   leaves_at text h = record {
     outside = λ shape. no_ok (sym h.left ∙ accepted text shape);
     within = omega (arith, ap length h.split, length-append h.front h.rest);
@@ -61,24 +53,3 @@ module _ (ends : List ℕ → End) (Shape : List ℕ → Type 0) (spelled : (s :
     where
       front_is : (text : List ℕ) (h : Refused ends text) → take (length h.front) text ≡ h.front
       front_is text h = ap (take (length h.front)) h.split ∙ take_at h.front h.rest (length h.front) refl
-
-  shape_of : {V : Type 0} (read_value : List ℕ → Result V ℕ) (Holds : V → Type 0) (text : List ℕ) (h : Halt) (e : ResultError) → Exact ends text → Halts (ends text >>= λ end. read_value text) Holds h → IsErrorOfHalt text h e → IsPlaceOfShape Shape text e
-  shape_of read_value Holds text halts.NoMemory e exact halted is_error = subst (IsPlaceOfShape Shape text) (sym is_error) tt
-  shape_of read_value Holds text (halts.Left left) e (Exact.accepts ok) halted is_error = subst (IsPlaceOfShape Shape text) (sym is_error.0) (λ outside. absurd (outside (spelled text ok)))
-  shape_of {V} read_value Holds text (halts.Left left) e (Exact.refuses h) halted is_error =
-      subst (IsPlaceOfShape Shape text) (sym is_error.0) (λ outside. subst (LeavesShapeAt Shape text) (place halted) (leaves_at text h))
-    where
-      read_is : (let r : Result V ℕ = ends text >>= λ end. read_value text in r) ≡ Err (length h.rest)
-      read_is = ap (λ (r : End). r >>= λ end. read_value text) h.left
-
-      place : ((ends text >>= λ end. read_value text) ≡ Err left) ⊎ ((v : V) × ((ends text >>= λ end. read_value text) ≡ Ok v) × (Holds v → ⊥)) → length h.front ≡ length text - left
-      place (inl err) =
-          let same : left ≡ length h.rest = one_left (ends text >>= λ end. read_value text) left (length h.rest) err read_is in
-          omega (arith, ap length h.split, length-append h.front h.rest)
-      place (inr other) = absurd (err_not_ok (ends text >>= λ end. read_value text) (length h.rest) other.0 read_is other.1)
-
-pub results_shape : (text : List ℕ) (h : Halt) (e : ResultError) → Halts (results_reading text) (IsResultsOf text) h → IsErrorOfHalt text h e → IsPlaceOfShape HasResultsShape text e
-results_shape text h e = shape_of results_text_end HasResultsShape results_text_spelled results_accepted results_text_at (IsResultsOf text) text h e (results_text_exact text)
-
-pub answer_shape : (text : List ℕ) (h : Halt) (e : ResultError) → Halts (answer_reading text) (IsAnswerOf text) h → IsErrorOfHalt text h e → IsPlaceOfShape HasAnswerShape text e
-answer_shape text h e = shape_of answer_text_end HasAnswerShape answer_text_spelled answer_accepted answer_text_at (IsAnswerOf text) text h e (answer_text_exact text)

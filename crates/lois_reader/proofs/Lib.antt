@@ -20,6 +20,6 @@ pub mod TermOutcome
 pub mod Told
 pub mod TraceBack
 pub mod TraceFronts
+pub mod Unbroken
+pub mod UnbrokenAnswers
 pub mod Verdict
-mod SoundAnswers
-mod SoundTerms

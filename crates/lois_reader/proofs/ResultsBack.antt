@@ -20,7 +20,7 @@ use Rattle.lois_reader.specs.Shape.{text_of, first_broken}
 use Rattle.lois_reader.specs.Reading.{◌>>=◌}
 use Rattle.lois_reader.specs.AnswerValues.{results_text_at}
 use Rattle.lois_reader.proofs.Forms.{is_among_iff}
-use Rattle.lois_reader.proofs.Outcome.{size, size_is, out, text_append}
+use Rattle.lois_reader.proofs.Outcome.{size, out, text_append}
 use Rattle.lois_reader.proofs.AnswerFronts.{head_rest, scope_of, results_rest_is, results_rest_text, results_text_front}
 use Rattle.lois_reader.proofs.AnswerOutcome.{line_of, case_of, results_of, results_text_out}
 use Rattle.lois_reader.proofs.DraftOf.{Unbroken, unbroken_append, unbroken_each, out_unbroken, name_is_word, Parameters, Small, constraint_draft, constraint_text, constraint_form, constraint_whole, constraint_value, term_draft, term_text, term_form, term_whole, term_value, each_map, le_test, unequal}
@@ -244,10 +244,3 @@ out_broken (p ∷ ps) a r k e =
       | true ↦ λ h. (length p.bytes + (size ps + length r), refl, broken_here (length p.bytes) (size ps) (length r) k h)
       | false ↦ λ h. broken_later (length p.bytes) (size ps) (length r) k (first_broken ps) (out ps a r) (λ i f. out_broken ps a r i f) h
     ] e
-
--- A draft of results is refused at its first broken rule.
-pub results_broken : (d : ResultsDraft) (k : ℕ) → IsResultsDraft d → first_broken (results_pieces d) ≡ Some k → (left : ℕ) × (results_reading (text_of (results_pieces d)) ≡ Err left) × (k + left ≡ length (text_of (results_pieces d)))
-results_broken d k form e =
-    let b = out_broken (results_pieces d) (results_of d) [] k e in
-    let sum : k + b.0 ≡ size (results_pieces d) + 0 = b.2 in
-    (b.0, reading_is d form ∙ ap (λ x. x >>= λ y. Ok y.0) b.1, omega (arith, size_is (results_pieces d)))

@@ -1,18 +1,16 @@
 -- Values with the same text are the same, since reading the text gives them back.
-use Rattle.std.proofs.Common.{ℕ, ◌^◌, ◌<◌, List, length, ap, subst, ◌∙◌}
-use Rattle.lois_meaning.specs.ResultsText.{results_text}
-use Rattle.lois_meaning.specs.TraceText.{answer_text}
+use Rattle.std.proofs.Common.{ℕ, ◌^◌, ◌<◌, List, length, sym, ap, subst, ◌∙◌}
 use Rattle.lois_reader.specs.Laws.{ResultsAreTold, AnswersAreTold}
 use Rattle.lois_reader.specs.Refusal.{results_reading, answer_reading}
+use Rattle.lois_reader.proofs.Backs.{same_ok}
 use Rattle.lois_reader.proofs.ResultsBack.{results_back}
 use Rattle.lois_reader.proofs.TraceBack.{answer_back}
-use Rattle.lois_reader.proofs.Verdict.{one_value}
 
 pub results_are_told : ResultsAreTold
 results_are_told r s sound sound_too same =
-    one_value (results_reading (results_text r)) r s (results_back r sound) (ap results_reading same ∙ results_back s sound_too)
+    same_ok (sym (results_back r sound) ∙ ap results_reading same ∙ results_back s sound_too)
 
 pub answers_are_told : AnswersAreTold
 answers_are_told a b sound sound_too short same =
-    one_value (answer_reading (answer_text a)) a b (answer_back a sound short)
-    (ap answer_reading same ∙ answer_back b sound_too (subst (λ (t : List ℕ). length t < 2 ^ 64) same short))
+    same_ok (sym (answer_back a sound short) ∙ ap answer_reading same
+    ∙ answer_back b sound_too (subst (λ (t : List ℕ). length t < 2 ^ 64) same short))

@@ -1,5 +1,5 @@
 -- Sound traces are read back from their text, and so are answers.
-use Rattle.std.proofs.Common.{◌≡◌, ℕ, ◌+◌, ◌^◌, ◌<◌, ◌≤◌, Bool, true, false, not, ◌&&◌, List, [], ◌∷◌, ◌++◌, length, map, Some, Ok, Err, refl, sym, ap, subst, ◌∙◌, append_assoc, arith, length-append}
+use Rattle.std.proofs.Common.{◌≡◌, ℕ, ◌^◌, ◌<◌, ◌≤◌, Bool, true, false, not, ◌&&◌, List, [], ◌∷◌, ◌++◌, length, map, Ok, refl, sym, ap, subst, ◌∙◌, append_assoc, arith, length-append}
 use Rattle.std.specs.Prelude.{codes, nat_le, nat_lt}
 use Rattle.std.specs.Fmt.{decimal}
 use Rattle.std.specs.List.{AllByRecursion, flat_map}
@@ -16,18 +16,19 @@ use Rattle.lois_meaning.specs.declared.faults.Answer.TheVariants as answers
 use Rattle.lois_meaning.specs.declared.faults.FaultKind.{FaultKind}
 use Rattle.lois_meaning.specs.declared.faults.Trace.{Trace}
 use Rattle.lois_reader.specs.declared.scope.Scope.{Scope}
-use Rattle.lois_reader.specs.Draft.{LineDraft, TraceDraft, AnswerDraft, IsNumber, IsTraceDraft, IsAnswerDraft}
+use Rattle.lois_reader.specs.Draft.{LineDraft, TraceDraft, AnswerDraft, IsNumber, IsTraceDraft}
 use Rattle.lois_reader.specs.Draft as draft
 use Rattle.lois_reader.specs.Pieces.{Piece, plain, ruled, each, value, term_pieces, line_end, line_pieces, last_line, failure_pieces, trace_pieces, answer_pieces}
 use Rattle.lois_reader.specs.Refusal.{IsSoundAnswer, answer_reading}
-use Rattle.lois_reader.specs.Shape.{text_of, first_broken}
+use Rattle.lois_reader.specs.Shape.{text_of}
 use Rattle.lois_reader.specs.Reading.{◌>>=◌}
-use Rattle.lois_reader.proofs.Outcome.{size, size_is, text_append}
+use Rattle.lois_reader.proofs.Outcome.{text_append}
 use Rattle.lois_reader.proofs.AnswerFronts.{head_rest}
 use Rattle.lois_reader.proofs.AnswerOutcome.{line_of}
-use Rattle.lois_reader.proofs.DraftOf.{Unbroken, unbroken_append, unbroken_front, unbroken_back, out_unbroken, Small, value_decimal, decimal_is_number, term_draft, term_text, each_map, le_test, lt_test}
-use Rattle.lois_reader.proofs.ResultsBack.{line_draft, results_draft, each_flat, line_regroup, head_rest_text, results_text_is, parameters_of, head_whole, lines_form, lines_whole, lines_value, results_form, results_whole, results_value, out_broken}
+use Rattle.lois_reader.proofs.DraftOf.{Unbroken, unbroken_append, out_unbroken, Small, value_decimal, decimal_is_number, term_draft, term_text, each_map, le_test, lt_test}
+use Rattle.lois_reader.proofs.ResultsBack.{line_draft, results_draft, each_flat, line_regroup, head_rest_text, results_text_is, parameters_of, head_whole, lines_form, lines_whole, lines_value, results_form, results_whole, results_value}
 use Rattle.lois_reader.proofs.TraceFronts.{trace_scope, number_pieces, choice_line, element_pieces, elements_of, trace_rest_is, trace_of, length_map, answer_of, answer_reading_is}
+use Rattle.lois_reader.proofs.Unbroken.{unbroken_split}
 
 abbrev pub trace_draft : Trace → TraceDraft
 trace_draft t = record {
@@ -114,7 +115,9 @@ numbers_whole (a ∷ as_) h =
 
 element_lines : (s : Scope) (k : ℕ) (ls : List LineDraft) → Unbroken (each (line_pieces s k) ls) → Unbroken (each (element_pieces s k) ls)
 element_lines s k [] h = tt
-element_lines s k (l ∷ ls) h = (refl, unbroken_append (line_pieces s k l) (each (element_pieces s k) ls) (unbroken_front (line_pieces s k l) (each (line_pieces s k) ls) h) (element_lines s k ls (unbroken_back (line_pieces s k l) (each (line_pieces s k) ls) h)))
+element_lines s k (l ∷ ls) h =
+    let r = unbroken_split (line_pieces s k l) (each (line_pieces s k) ls) h in
+    (refl, unbroken_append (line_pieces s k l) (each (element_pieces s k) ls) r.0 (element_lines s k ls r.1))
 
 pub trace_whole : (t : Trace) → IsSoundTrace t → length t.sample < 2 ^ 64 → Unbroken (trace_pieces (trace_draft t))
 trace_whole t sound short =
@@ -191,10 +194,3 @@ answer_back (answers.Trace t) sound short =
     ∙ answer_reading_is d (trace_form t sound few)
     ∙ ap (λ e. e >>= λ x. Ok x.0) (out_unbroken (answer_pieces d) (answer_of d) [] (trace_whole t sound few))
     ∙ ap (λ x. Ok (answers.Trace x)) (trace_value t sound few)
-
--- A draft of an answer is refused at its first broken rule.
-pub answer_broken : (a : AnswerDraft) (k : ℕ) → IsAnswerDraft a → first_broken (answer_pieces a) ≡ Some k → (left : ℕ) × (answer_reading (text_of (answer_pieces a)) ≡ Err left) × (k + left ≡ length (text_of (answer_pieces a)))
-answer_broken a k form e =
-    let b = out_broken (answer_pieces a) (answer_of a) [] k e in
-    let sum : k + b.0 ≡ size (answer_pieces a) + 0 = b.2 in
-    (b.0, answer_reading_is a form ∙ ap (λ x. x >>= λ y. Ok y.0) b.1, omega (arith, size_is (answer_pieces a)))

@@ -13,7 +13,7 @@ use Rattle.lois_meaning.specs.declared.faults.FaultKind.TheVariants.{Assertion, 
 use Rattle.lois_meaning.specs.declared.faults.Trace.{Trace}
 use Rattle.lois_meaning.specs.declared.results.Results.{Results}
 use Rattle.lois_reader.specs.declared.scope.Scope.{Scope}
-use Rattle.lois_reader.specs.Draft.{LineDraft, ResultsDraft, TraceDraft, AnswerDraft, IsWord, IsNumber, IsLineDraft, IsResultsDraft, IsTraceDraft, IsAnswerDraft}
+use Rattle.lois_reader.specs.Draft.{LineDraft, TraceDraft, AnswerDraft, IsWord, IsNumber, IsLineDraft, IsTraceDraft, IsAnswerDraft}
 use Rattle.lois_reader.specs.Draft as draft
 use Rattle.lois_reader.specs.Pieces.{Piece, plain, ruled, each, value, term_pieces, line_end, line_pieces, last_line, place_piece, failure_pieces, trace_pieces, answer_pieces}
 use Rattle.lois_reader.specs.Refusal.{answer_reading}

@@ -37,3 +37,9 @@ pub record LeavesShapeAt (Shape : List ℕ → Type 0) (text : List ℕ) (k : �
   pub within : k ≤ length text
   pub begins : Begins Shape (take k text)
   pub longest : (m : ℕ) → k < m → m ≤ length text → Begins Shape (take m text) → ⊥
+
+-- The text is a draft's, and each draft that it is breaks its first side rule at k.
+pub record BreaksRuleAt {D : Type 0} (Spells : D → Type 0) (pieces : D → List Piece) (k : ℕ) : Type 0 where
+  pub draft : D
+  pub spelled : Spells draft
+  pub first : (d : D) → Spells d → first_broken (pieces d) ≡ Some k

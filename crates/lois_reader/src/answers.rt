@@ -1,12 +1,12 @@
 //! What the texts of results and of traces stand for.
 
-ghost use Rattle.std.specs.Prelude.{◌≡◌, ◌+◌, ◌<◌, ◌≤◌, [], ◌∷◌, length, IfOk, suc, IsTrue, is_ok};
+ghost use Rattle.std.specs.Prelude.{◌≡◌, ◌<◌, ◌≤◌, [], length, IfOk, suc};
 ghost use Rattle.lois_meaning.specs.CaseView.{case_of};
 ghost use Rattle.lois_meaning.specs.LineView.{line_of};
 ghost use Rattle.lois_meaning.specs.TraceText.{kind_text};
 ghost use Rattle.lois_reader.specs.Pieces.{is_among, is_free};
 ghost use Rattle.lois_reader.specs.Reading.{Gives};
-ghost use Rattle.lois_reader.specs.AnswerValues.{names_at, structure_at, parameters_at, head_at, name_at, line_at, starts_with, line_follows, lines_at, case_at, cases_at, results_at, place_at, kinds_at, all_kinds, kind_at, failure_at, number_of_choice_at, numbers_at, choice_at, element_at, elements_at, trace_at, results_text_at, version_at, answer_text_at};
+ghost use Rattle.lois_reader.specs.AnswerValues.{names_at, structure_at, parameters_at, head_at, name_at, line_at, starts_with, line_follows, lines_at, case_at, cases_at, results_at, place_at, kind_at, failure_at, number_of_choice_at, numbers_at, choice_at, element_at, elements_at, trace_at, results_text_at, version_at, answer_text_at};
 
 use crate::constraints::{constraint_at, value_of, value_within};
 use crate::halt::Halt;

@@ -1,6 +1,6 @@
 //! What constraints stand for.
 
-ghost use Rattle.std.specs.Prelude.{◌≡◌, ◌+◌, ◌-◌, ◌*◌, ◌^◌, ◌<◌, ◌≤◌, length, IfOk, IfSome, Some, None, position, bytes_eq, option_map, nat_lt, if◌then◌else◌};
+ghost use Rattle.std.specs.Prelude.{◌≡◌, ◌+◌, ◌-◌, ◌*◌, ◌^◌, ◌<◌, length, IfOk, IfSome, Some, None, position, bytes_eq, option_map, nat_lt, if◌then◌else◌};
 ghost use Rattle.lois_reader.specs.Pieces.{value};
 ghost use Rattle.lois_reader.specs.Reading.{Gives};
 ghost use Rattle.lois_reader.specs.Values.{value_within, level_at, parameter_at, operand_at, op_at, literal_at, keyword, follows, literals_at, cube_at, cubes_at, constraint_at};

@@ -2,7 +2,6 @@
 #![tactic(auto)]
 
 ghost use Rattle.lois_reader.specs.declared.ResultError.TheVariants.{NoMemory};
-ghost use Rattle.std.specs.Prelude.{◌≡◌, ◌≢◌, ◌≤◌, List, length, IfOk, IfErr};
 
 mod answer_ends;
 mod answers;

@@ -1,81 +1,45 @@
 //! The readers of whole texts.
 
-ghost use Rattle.std.specs.Prelude.{◌≡◌, ◌↔◌, IfOk, IfErr, IsTrue};
+ghost use Rattle.std.specs.Prelude.{◌≡◌, IfOk, IfErr, length};
 ghost use Rattle.lois_meaning.specs.ResultsText.{results_text};
 ghost use Rattle.lois_meaning.specs.Sound.{IsSound};
 ghost use Rattle.lois_meaning.specs.TraceText.{answer_text};
 ghost use Rattle.lois_meaning.specs.declared.faults.Answer.{Answer};
 ghost use Rattle.lois_meaning.specs.declared.results.Results.{Results};
 ghost use Rattle.lois_reader.specs.Pieces.{results_pieces, answer_pieces};
+ghost use Rattle.lois_reader.specs.Reading.{Gives};
 ghost use Rattle.lois_reader.specs.Shape.{SpellsResults, SpellsAnswer, HasResultsShape, HasAnswerShape};
-ghost use Rattle.lois_reader.specs.Refusal.{IsSoundAnswer, IsInside, HasNone, IsPlaceOfRule, IsPlaceOfShape, IsResultsOf, IsAnswerOf, results_reading, answer_reading, Halts, IsErrorOfHalt};
+ghost use Rattle.lois_reader.specs.Refusal.{IsSoundAnswer, IsInside, HasNone, IsPlace, IsResultsOf, IsAnswerOf, results_reading, answer_reading, IsErrorOfHalt};
 
 use crate::ResultError;
 use crate::answer_ends::{answer_text_end, results_text_end};
 use crate::answers::{answer_text_at, results_text_at};
 use crate::halt::Halt;
-use lois_base::NoMemory;
 use lois_meaning::{Answer, Results};
-use lois_printer::{print_results, print_trace};
 use std::alloc::Global;
 
-/// Whether this is the text of the results.
-fn is_results_text(alloc: Global, results: &Results, text: &[u8]) -> Result<bool, NoMemory>
-    ensures { IfOk result (λ b. IsTrue b ↔ IsResultsOf text.now results.now) }
-{
-    if !results.sound() {
-        return Ok(false);
-    }
-    Ok(print_results(alloc, results)?.as_slice() == text)
-}
-
-/// Whether this is the text of the answer.
-fn is_answer_text(alloc: Global, answer: &Answer, text: &[u8]) -> Result<bool, NoMemory>
-    ensures { IfOk result (λ b. IsTrue b ↔ IsAnswerOf text.now answer.now) }
-{
-    match answer {
-        Answer::Results(results) => is_results_text(alloc, results, text),
-        Answer::Trace(trace) => {
-            if !trace.sound() {
-                return Ok(false);
-            }
-            Ok(print_trace(alloc, trace)?.as_slice() == text)
-        }
-    }
-}
-
-// The shape is read first, since a text that leaves it is refused there, whatever rule it breaks before. What is read is
-// then held against the one text that it has.
+// The shape is read first, since a text that leaves it is refused there, whatever rule it breaks before.
 fn results_of(alloc: Global, text: &[u8]) -> Result<Results, Halt>
-    ensures ok { IfOk result (IsResultsOf text.now) }
-    ensures err { IfErr result (Halts (results_reading text.now) (IsResultsOf text.now)) }
+    ensures { Gives (λ r. r) result (results_reading text.now) }
 {
     results_text_end(text)?;
-    let results = results_text_at(alloc, text)?;
-    if !is_results_text(alloc, &results, text)? {
-        return Err(Halt::Left(0));
-    }
-    Ok(results)
+    results_text_at(alloc, text)
 }
 
 fn answer_of(alloc: Global, text: &[u8]) -> Result<Answer, Halt>
-    ensures ok { IfOk result (IsAnswerOf text.now) }
-    ensures err { IfErr result (Halts (answer_reading text.now) (IsAnswerOf text.now)) }
+    ensures { Gives (λ a. a) result (answer_reading text.now) }
 {
     answer_text_end(text)?;
-    let answer = answer_text_at(alloc, text)?;
-    if !is_answer_text(alloc, &answer, text)? {
-        return Err(Halt::Left(0));
-    }
-    Ok(answer)
+    answer_text_at(alloc, text)
 }
 
-fn error_of(halt: Halt, text: &[u8]) -> ResultError
-    ensures inside { IsInside text.now result }
-    ensures error { IsErrorOfHalt text.now halt result }
+// The error of a halt in a text of this length.
+fn error_of(halt: Halt, len: usize) -> ResultError
+    ensures inside { IsInside len result }
+    ensures error { IsErrorOfHalt len halt result }
 {
     match halt {
-        Halt::Left(left) => ResultError::NotResults(text.len().saturating_sub(left)),
+        Halt::Left(left) => ResultError::NotResults(len.saturating_sub(left)),
         Halt::NoMemory => ResultError::NoMemory,
     }
 }
@@ -89,13 +53,13 @@ pub fn read_results(alloc: Global, text: &[u8]) -> Result<Results, ResultError>
     ensures sound { IfOk result IsSound }
     ensures text { IfOk result (λ r. results_text r ≡ text.now) }
     ensures none { IfErr result (HasNone (IsResultsOf text.now)) }
-    ensures rule { IfErr result (IsPlaceOfRule (SpellsResults text.now) results_pieces) }
-    ensures shape { IfErr result (IsPlaceOfShape HasResultsShape text.now) }
-    ensures inside { IfErr result (IsInside text.now) }
+    ensures place { IfErr result (IsPlace HasResultsShape SpellsResults results_pieces text.now) }
+    ensures inside { IfErr result (IsInside (length text.now)) }
 {
+    let len = text.len();
     match results_of(alloc, text) {
         Ok(results) => Ok(results),
-        Err(halt) => Err(error_of(halt, text)),
+        Err(halt) => Err(error_of(halt, len)),
     }
 }
 
@@ -108,12 +72,12 @@ pub fn read_answer(alloc: Global, text: &[u8]) -> Result<Answer, ResultError>
     ensures sound { IfOk result IsSoundAnswer }
     ensures text { IfOk result (λ a. answer_text a ≡ text.now) }
     ensures none { IfErr result (HasNone (IsAnswerOf text.now)) }
-    ensures rule { IfErr result (IsPlaceOfRule (SpellsAnswer text.now) answer_pieces) }
-    ensures shape { IfErr result (IsPlaceOfShape HasAnswerShape text.now) }
-    ensures inside { IfErr result (IsInside text.now) }
+    ensures place { IfErr result (IsPlace HasAnswerShape SpellsAnswer answer_pieces text.now) }
+    ensures inside { IfErr result (IsInside (length text.now)) }
 {
+    let len = text.len();
     match answer_of(alloc, text) {
         Ok(answer) => Ok(answer),
-        Err(halt) => Err(error_of(halt, text)),
+        Err(halt) => Err(error_of(halt, len)),
     }
 }

@@ -1,6 +1,6 @@
 //! Where terms end.
 
-ghost use Rattle.std.specs.Prelude.{◌≡◌, ◌<◌, ◌≤◌, length, IfOk, suc};
+ghost use Rattle.std.specs.Prelude.{◌<◌, ◌≤◌, length, IfOk, suc};
 ghost use Rattle.lois_reader.specs.Reading.{Gives};
 ghost use Rattle.lois_reader.specs.Ends.{guard_end, binders_end, tail_end, more_parts_end, tuple_end, comp_end, more_comps_end, items_end, set_end, term_end};
 

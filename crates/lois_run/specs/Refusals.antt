@@ -11,7 +11,7 @@ use Rattle.lois_meaning.specs.Limits.{Spells}
 use Rattle.lois_meaning.specs.Scope.{IsWellScoped}
 use Rattle.lois_meaning.specs.Tree.{ScriptD}
 use Rattle.lois_reader.specs.Pieces.{answer_pieces}
-use Rattle.lois_reader.specs.Refusal.{HasNone, IsAnswerOf, IsInside, IsPlaceOfRule, IsPlaceOfShape}
+use Rattle.lois_reader.specs.Refusal.{HasNone, IsAnswerOf, IsInside, IsPlace}
 use Rattle.lois_reader.specs.Shape.{HasAnswerShape, SpellsAnswer}
 use Rattle.lois_reader.specs.declared.ResultError.TheVariants as results
 use Rattle.lois_scope.specs.Refusals.{Refuses as ScopeRefuses}
@@ -84,9 +84,8 @@ IsRefusedAs text NotBuilt = (s : ScriptD) × Spells text s × IsWellScoped s × 
 -- it is of that shape, at the first side rule that it breaks.
 pub record IsNoAnswerAt (text : List ℕ) (k : ℕ) : Type 0 where
   pub none : HasNone (IsAnswerOf text) (results.NotResults k)
-  pub shape : IsPlaceOfShape HasAnswerShape text (results.NotResults k)
-  pub rule : IsPlaceOfRule (SpellsAnswer text) answer_pieces (results.NotResults k)
-  pub inside : IsInside text (results.NotResults k)
+  pub place : IsPlace HasAnswerShape SpellsAnswer answer_pieces text (results.NotResults k)
+  pub inside : IsInside (length text) (results.NotResults k)
 
 abbrev pub IsNoAnswer : List ℕ → Place → Type 0
 IsNoAnswer text place = (k : ℕ) × IsNoAnswerAt text k × IsPlaceOf text k place

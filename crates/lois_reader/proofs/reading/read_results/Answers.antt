@@ -1,12 +1,23 @@
-use Rattle.lois_reader.proofs.Verdict.{results_none, results_rule}
-use Rattle.lois_reader.proofs.Leaving.{results_shape}
+use Rattle.std.proofs.Common.{◌^◌, ◌<◌, length, arith}
+use Rattle.lois_reader.proofs.Verdict.{results_hold, results_none, results_place}
 use Rattle.lois_reader.proofs.reading.read_results.Goals as goal
 
+pub returns-in-Ok-clause-sound : goal.returns-in-Ok-clause-sound
+returns-in-Ok-clause-sound c =
+    let short : length c.args.text.now < 2 ^ 64 = omega arith in
+    (results_hold c.args.text.now c.in-Ok.results short c.in-Ok.ensures).0
+
+pub returns-in-Ok-clause-text : goal.returns-in-Ok-clause-text
+returns-in-Ok-clause-text c =
+    let short : length c.args.text.now < 2 ^ 64 = omega arith in
+    (results_hold c.args.text.now c.in-Ok.results short c.in-Ok.ensures).1
+
 pub returns-in-Err-clause-none : goal.returns-in-Err-clause-none
-returns-in-Err-clause-none c = results_none c.args.text.now c.in-Err.halt c.error_of.result c.in-Err.ensures.err c.error_of.ensures.error
+returns-in-Err-clause-none c =
+    let short : length c.args.text.now < 2 ^ 64 = omega arith in
+    results_none c.args.text.now c.in-Err.halt c.error_of.result short c.in-Err.ensures c.error_of.ensures.error
 
-pub returns-in-Err-clause-rule : goal.returns-in-Err-clause-rule
-returns-in-Err-clause-rule c = results_rule c.args.text.now c.in-Err.halt c.error_of.result c.in-Err.ensures.err c.error_of.ensures.error
-
-pub returns-in-Err-clause-shape : goal.returns-in-Err-clause-shape
-returns-in-Err-clause-shape c = results_shape c.args.text.now c.in-Err.halt c.error_of.result c.in-Err.ensures.err c.error_of.ensures.error
+pub returns-in-Err-clause-place : goal.returns-in-Err-clause-place
+returns-in-Err-clause-place c =
+    let short : length c.args.text.now < 2 ^ 64 = omega arith in
+    results_place c.args.text.now c.in-Err.halt c.error_of.result short c.in-Err.ensures c.error_of.ensures.error
