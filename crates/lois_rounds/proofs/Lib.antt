@@ -1,0 +1,4 @@
+pub mod Counts
+pub mod Measures
+pub mod Runs
+pub mod Worked

@@ -1,0 +1,5 @@
+pub mod Families
+pub mod Equivalences
+pub mod Rounds
+pub mod Worked
+pub mod WorkedLaw
