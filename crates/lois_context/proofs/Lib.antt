@@ -1,0 +1,7 @@
+pub mod Options
+pub mod Seen
+pub mod Sides
+pub mod Longer
+pub mod Carried
+pub mod Entered
+pub mod Joined

@@ -1,0 +1,12 @@
+use Rattle.std.proofs.Common.{◌≡◌, take, map}
+use Rattle.lois_context.specs.Joined.{AreJoined}
+use Rattle.lois_context.specs.Kept.{AreSlots}
+use Rattle.lois_context.specs.Slots.{slot_name}
+use Rattle.lois_context.proofs.joining.joined.Given as goal
+
+abbrev pub invariant-loop-end : goal.invariant-loop-end
+invariant-loop-end l = record {
+  joined : AreJoined l.size (take l.end-index l.ends) l.initial.joined l.joined;
+  fit : AreSlots l.size l.joined;
+  names : map slot_name l.joined ≡ map slot_name l.initial.joined;
+}

@@ -1,0 +1,77 @@
+-- What stands for the members of a set when a loop over it is entered.
+use Rattle.std.specs.Prelude.{◌≡◌, ℕ, ◌+◌, ◌⊎◌, Bool, ◌&&◌, List, [], ◌∷◌, ◌++◌, length, map}
+use Rattle.std.specs.declared.option.Option.TheVariants.{Some}
+use Rattle.std.specs.List.{Contains}
+use Rattle.lois_base.specs.Atom.{Atom}
+use Rattle.lois_base.specs.Data.{TermD, coll, CompD, comp, CompsD, no_comps, more}
+use Rattle.lois_base.specs.Shift.{shift}
+use Rattle.lois_base.specs.Truth.{holds}
+use Rattle.lois_base.specs.Validity.{AdmitsComp, CompHasUsualWidths}
+use Rattle.lois_base.specs.Values.{PointValue}
+use Rattle.lois_base.specs.declared.guards.Lit.{Lit}
+use Rattle.lois_meaning.specs.ResultsData.{LineD}
+use Rattle.lois_meaning.specs.Store.{looked_up, stored, AreSameNamed}
+use Rattle.lois_context.specs.Choices.{IsAdmitted, AdmitsContext, ContextHasUsualWidths}
+use Rattle.lois_context.specs.Sides.{ExcludeEachOther}
+use Rattle.lois_context.specs.Slots.{SlotD, comps_in, store_at, lines_at}
+use Rattle.lois_context.specs.declared.contexts.Context.{Context}
+
+abbrev pub binders_of : CompD → ℕ
+binders_of (comp m g t) = m
+
+abbrev pub guard_of : CompD → List (List Lit)
+guard_of (comp m g t) = g
+
+abbrev pub item_of : CompD → TermD
+item_of (comp m g t) = t
+
+-- the comprehensions of a set, in order
+abbrev pub items_listed : CompsD → List CompD
+items_listed no_comps = []
+items_listed (more k ks) = k ∷ items_listed ks
+
+abbrev pub comps_listed : TermD → List CompD
+comps_listed (coll ks) = items_listed ks
+comps_listed _ = []
+
+-- A slot with `by` levels put in after the first n. The comprehensions of a set stood there when the loop was entered.
+abbrev pub carried : ℕ → ℕ → SlotD → SlotD
+carried n by s = record { name = s.name; term = shift n by s.term; from = comps_in s.term }
+
+abbrev pub carried_line : ℕ → ℕ → LineD → LineD
+carried_line n by l = record { name = l.name; term = shift n by l.term }
+
+abbrev pub bound : List ℕ → TermD → SlotD
+bound x t = record { name = x; term = t; from = 0 }
+
+-- The context that stands for the members of one comprehension, which x names: its binders are new levels, its guard holds.
+pub record IsEntry (before : Context) (x : List ℕ) (k : CompD) (inner : Context) : Type 0 where
+  pub size : inner.size ≡ before.size + binders_of k
+  pub «when» : (c : List Atom) → holds c inner.«when» ≡ (holds c before.«when» && holds c (guard_of k))
+  pub store : inner.store ≡ map (carried before.size (binders_of k)) before.store ++ bound x (item_of k) ∷ []
+  pub lines : inner.lines ≡ map (carried_line before.size (binders_of k)) before.lines
+  pub operators : (ordered : Bool) → AdmitsContext ordered before → AdmitsComp ordered k → AdmitsContext ordered inner
+  pub widths : ContextHasUsualWidths before → CompHasUsualWidths k → ContextHasUsualWidths inner
+
+-- the comprehension has no members where the context admits
+abbrev pub HasNoMembers : Context → CompD → Type 0
+HasNoMembers before k = ExcludeEachOther (before.size + binders_of k) before.«when» (guard_of k)
+
+-- one context for each comprehension that has members, in order
+abbrev pub AreEntries : Context → List ℕ → List CompD → List Context → Type 0
+AreEntries before x [] [] = Unit {0}
+AreEntries before x [] (d ∷ ds) = ⊥
+AreEntries before x (k ∷ ks) [] = HasNoMembers before k × AreEntries before x ks []
+AreEntries before x (k ∷ ks) (d ∷ ds) =
+    (HasNoMembers before k × AreEntries before x ks (d ∷ ds)) ⊎ (IsEntry before x k d × AreEntries before x ks ds)
+
+-- at some longer choice one of the contexts has u under the name
+abbrev pub IsHeldInside : List Context → List ℕ → List Atom → PointValue → Type 0
+IsHeldInside inner x c u =
+    (d : Context) × Contains inner d × (e : List Atom) × IsAdmitted (c ++ e) d × (looked_up x (store_at (c ++ e) d.store) ≡ Some u)
+
+-- Inside, at each choice that goes on from one outside, the lines and every other name have the values that they have there.
+pub record GoesOn (before : Context) (x : List ℕ) (inner : Context) : Type 0 where
+  pub outside : (c e : List Atom) → length c ≡ before.size → IsAdmitted (c ++ e) inner → IsAdmitted c before
+  pub store : (c e : List Atom) → length c ≡ before.size → IsAdmitted (c ++ e) inner → (u : PointValue) → looked_up x (store_at (c ++ e) inner.store) ≡ Some u → AreSameNamed (store_at (c ++ e) inner.store) (stored x u (store_at c before.store))
+  pub lines : (c e : List Atom) → length c ≡ before.size → IsAdmitted (c ++ e) inner → AreSameNamed (lines_at (c ++ e) inner.lines) (lines_at c before.lines)

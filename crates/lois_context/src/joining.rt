@@ -1,0 +1,178 @@
+//! Contexts behind loops.
+
+ghost use Rattle.std.specs.Prelude.{◌≡◌, ℕ, ◌+◌, ◌-◌, ◌≤◌, Bool, List, length, map, drop, Some, IfOk};
+ghost use Rattle.std.specs.List.{All};
+ghost use Rattle.lois_base.specs.Atom.{Atom};
+ghost use Rattle.lois_base.specs.Data.{comps_of};
+ghost use Rattle.lois_base.specs.Fits.{ConstraintFits, Fits, CompFits, ItemsFit};
+ghost use Rattle.lois_base.specs.Tree.{tree, comp_of};
+ghost use Rattle.lois_base.specs.Values.{PointValue};
+ghost use Rattle.lois_meaning.specs.Store.{looked_up};
+ghost use Rattle.lois_context.specs.Choices.{IsAdmitted, AdmitsContext, ContextHasUsualWidths};
+ghost use Rattle.lois_context.specs.Joined.{IsEnd, AreEndSlots, IsMoved, IsJoinedSlot, AreJoinedSlots, AreJoined, HasJoined, IsWithMoved, IsGrownTerm, added_to};
+ghost use Rattle.lois_context.specs.Kept.{IsSlot, AreSlots, HasDistinctNames};
+ghost use Rattle.lois_context.specs.Slots.{comps_in, store_at};
+ghost use Rattle.lois_context.specs.SlotView.{slot_of};
+
+use crate::{Context, Slot, Store};
+use lois_base::{Comp, Comps, Constraint, NoMemory, Term};
+use lois_constraint::meet;
+use std::alloc::Global;
+
+/// Joins the ends of a loop's body: each set from before the loop has in addition what was added at each end, under what the
+/// end's context asks for. Errors: `NoMemory`.
+pub fn join_loop(alloc: Global, before: Context, ends: Vec<Context>) -> Result<Context, NoMemory>
+    requires { All (IsEnd before) ends.items }
+    ensures size { IfOk result (λ r. r.size ≡ before.size) }
+    ensures when { IfOk result (λ r. r.when ≡ before.when) }
+    ensures sample { IfOk result (λ r. r.sample ≡ before.sample) }
+    ensures lines { IfOk result (λ r. r.lines ≡ before.lines) }
+    ensures joined { IfOk result (λ r. AreJoined before.size ends.items before.store r.store) }
+    ensures members { IfOk result (λ r. (c : List Atom) → IsAdmitted c before → (x : List ℕ) (v : PointValue) → looked_up x (store_at c before.store) ≡ Some v → HasJoined ends.items x c v r.store) }
+    ensures operators { IfOk result (λ r. (ordered : Bool) → AdmitsContext ordered before → All (AdmitsContext ordered) ends.items → AdmitsContext ordered r) }
+    ensures widths { IfOk result (λ r. ContextHasUsualWidths before → All ContextHasUsualWidths ends.items → ContextHasUsualWidths r) }
+{
+    let store = joined(alloc, &before.store, &ends, before.size)?;
+    Ok(Context {
+        size: before.size,
+        when: before.when,
+        sample: before.sample,
+        store,
+        lines: before.lines,
+    })
+}
+
+// The slots with what each end has added, one end after another.
+fn joined(alloc: Global, store: &Store, ends: &[Context], size: usize) -> Result<Store, NoMemory>
+    requires slots { AreSlots size store.now }
+    requires names { HasDistinctNames store.now }
+    requires ends { All (λ d. size ≤ d.size × AreEndSlots size (d.size - size) store.now d.store) ends.now }
+    ensures joined { IfOk result (AreJoined size ends.now store.now) }
+    ensures slots { IfOk result (AreSlots size) }
+    ensures names { IfOk result HasDistinctNames }
+{
+    let mut joined = store.copy(alloc)?;
+    for end in ends {
+        joined = with_end(alloc, &joined, end, size)?;
+    }
+    Ok(joined)
+}
+
+// The slots with what one end has added.
+fn with_end(alloc: Global, store: &Store, end: &Context, size: usize) -> Result<Store, NoMemory>
+    requires slots { AreSlots size store.now }
+    requires size { size ≤ end.now.size }
+    requires count { length store.now ≤ length end.now.store }
+    ensures joined { IfOk result (AreJoinedSlots end.now.when (end.now.size - size) end.now.store store.now) }
+    ensures slots { IfOk result (AreSlots size) }
+{
+    let by = end.size - size;
+    let slots = store.as_slice();
+    let ends = end.store.as_slice();
+    let mut joined = Store::new(alloc);
+    for (index, slot) in slots.iter().enumerate() {
+        joined.push(joined_slot(alloc, slot, &ends[index], &end.when, size, by)?)?;
+    }
+    Ok(joined)
+}
+
+fn joined_slot(
+    alloc: Global,
+    slot: &Slot,
+    end: &Slot,
+    when: &Constraint,
+    size: usize,
+    by: usize,
+) -> Result<Slot, NoMemory>
+    requires slot { IsSlot size (slot_of slot.now) }
+    requires end { IsSlot (size + by) (slot_of end.now) }
+    requires when { ConstraintFits (size + by) when.now }
+    ensures joined { IfOk result (λ r. IsJoinedSlot when.now by (slot_of end.now) (slot_of slot.now) (slot_of r)) }
+    ensures slot { IfOk result (λ r. IsSlot size (slot_of r)) }
+{
+    let added = added_inside(end);
+    let term = joined_term(alloc, &slot.term, added, when, size, by)?;
+    Ok(Slot {
+        name: slot.name.copy(alloc)?,
+        term,
+        from: slot.from,
+    })
+}
+
+// What was appended to a set since the loop was entered.
+fn added_inside(slot: &Slot) -> &[Comp]
+    requires { slot.now.from ≤ comps_in (tree slot.now.term) }
+    ensures { map comp_of result.now ≡ added_to (slot_of slot.now) }
+{
+    match &slot.term {
+        Term::Coll(comps) => from_index(comps.as_slice(), slot.from),
+        _ => &[],
+    }
+}
+
+fn from_index(comps: &[Comp], from: usize) -> &[Comp]
+    requires { from ≤ length comps.now }
+    ensures { result.now ≡ drop from comps.now }
+{
+    &comps[from..]
+}
+
+fn joined_term(
+    alloc: Global,
+    term: &Term,
+    added: &[Comp],
+    when: &Constraint,
+    size: usize,
+    by: usize,
+) -> Result<Term, NoMemory>
+    requires term { Fits size (tree term.now) }
+    requires fits { ItemsFit (size + by) (comps_of (map comp_of added.now)) }
+    requires when { ConstraintFits (size + by) when.now }
+    ensures { IfOk result (λ r. IsGrownTerm size when.now by (map comp_of added.now) (tree term.now) (tree r)) }
+{
+    match term {
+        Term::Coll(comps) => Ok(Term::Coll(with_moved(alloc, comps, added, when, size, by)?)),
+        Term::Var(level) => Ok(Term::Var(*level)),
+        Term::Tag(name) => Ok(Term::Tag(name.copy(alloc)?)),
+        Term::Tup(parts) => Ok(Term::Tup(parts.copy(alloc)?)),
+    }
+}
+
+// The comprehensions, and behind them those that an end has added, for its levels too and where its constraint holds.
+fn with_moved(
+    alloc: Global,
+    comps: &Comps,
+    added: &[Comp],
+    when: &Constraint,
+    size: usize,
+    by: usize,
+) -> Result<Comps, NoMemory>
+    requires fits { ItemsFit (size + by) (comps_of (map comp_of added.now)) }
+    requires when { ConstraintFits (size + by) when.now }
+    ensures { IfOk result (IsWithMoved size when.now by (map comp_of added.now) comps.now) }
+{
+    let mut joined = comps.copy(alloc)?;
+    for comp in added {
+        joined.push(moved(alloc, comp, when, size, by)?)?;
+    }
+    Ok(joined)
+}
+
+fn moved(
+    alloc: Global,
+    comp: &Comp,
+    when: &Constraint,
+    size: usize,
+    by: usize,
+) -> Result<Comp, NoMemory>
+    requires fits { CompFits (size + by) (comp_of comp.now) }
+    requires when { ConstraintFits (size + by) when.now }
+    ensures moved { IfOk result (λ r. IsMoved when.now by (comp_of comp.now) (comp_of r)) }
+    ensures fits { IfOk result (λ r. CompFits size (comp_of r)) }
+{
+    Ok(Comp {
+        binders: by + comp.binders,
+        guard: meet(alloc, when, &comp.guard)?,
+        item: comp.item.copy(alloc)?,
+    })
+}

@@ -1,0 +1,18 @@
+//! Contexts: finitely many stand for the runs at all choices of atoms. They are split by conditions, entered into loops, joined
+//! behind them and merged.
+#![tactic(auto)]
+
+mod contexts;
+mod entering;
+mod joining;
+mod meeting;
+mod slots;
+mod splitting;
+#[cfg(test)]
+mod tests;
+
+pub use contexts::{Context, Split};
+pub use entering::enter_loop;
+pub use joining::join_loop;
+pub use slots::{Slot, Store};
+pub use splitting::split;

@@ -1,0 +1,123 @@
+//! Slots and stores.
+
+ghost use Rattle.std.specs.Prelude.{◌≡◌, [], ◌∷◌, ◌++◌, length, map, slice_get, option_map, ◌↔◌, IsFalse, IfOk, OnOk, OnErr};
+
+use lois_base::{Name, NoMemory, Term};
+use std::alloc::Global;
+use std::marker::Model;
+
+/// A name and the term that it holds. In a set that was made outside of the innermost loop, the first `from`
+/// comprehensions stood there when that loop was entered.
+#[derive(Drop)]
+pub struct Slot {
+    pub name: Name,
+    pub term: Term,
+    pub from: usize,
+}
+
+/// A list of slots, in the order in which their names were made.
+#[derive(Drop)]
+pub struct Store {
+    items: Vec<Slot>,
+}
+
+impl Model for Store {
+    ghost use Rattle.std.specs.Prelude.{List, map};
+    ghost use Rattle.lois_context.specs.Slots.{SlotD, slots_code};
+    ghost use Rattle.lois_context.specs.SlotView.{slot_of};
+
+    ghost Value = { List SlotD };
+
+    ghost coded = { slots_code };
+
+    ghost view = { λ a. map slot_of a.items.items };
+}
+
+impl Slot {
+    ghost use Rattle.lois_context.specs.SlotView.{slot_of};
+
+    /// An equal slot.
+    pub fn copy(&self, alloc: Global) -> Result<Self, NoMemory>
+        ensures same { IfOk result (λ r. slot_of r ≡ slot_of self.now) }
+    {
+        Ok(Slot {
+            name: self.name.copy(alloc)?,
+            term: self.term.copy(alloc)?,
+            from: self.from,
+        })
+    }
+}
+
+impl Store {
+    ghost use Rattle.lois_context.specs.SlotView.{slot_of};
+    ghost use Rattle.lois_context.specs.Slots.{IsNew};
+
+    /// A store without slots.
+    pub fn new(alloc: Global) -> Self
+        ensures empty { result ≡ [] }
+    {
+        Store {
+            items: Vec::new(alloc),
+        }
+    }
+
+    /// How many slots there are.
+    pub fn len(&self) -> usize
+        ensures counted { result ≡ length self.now }
+    {
+        self.items.len()
+    }
+
+    /// The slot at an index, counted from 0, if there is one.
+    pub fn get(&self, index: usize) -> Option<&Slot>
+        ensures item { option_map (λ s. slot_of s.now) result ≡ slice_get self.now index }
+    {
+        self.items.get(index)
+    }
+
+    /// The slots, first to last.
+    pub fn as_slice(&self) -> &[Slot]
+        ensures items { map slot_of result.now ≡ self.now }
+    {
+        &self.items
+    }
+
+    /// The slots by value, first to last.
+    pub fn into_vec(self) -> Vec<Slot>
+        ensures items { map slot_of result.items ≡ self }
+    {
+        let Store { items } = self;
+        items
+    }
+
+    /// Whether a slot has the name.
+    pub fn has_name(&self, name: &Name) -> bool
+        ensures none { IsFalse result ↔ IsNew name.now self.now }
+    {
+        for slot in self.as_slice() {
+            if slot.name == *name {
+                return true;
+            }
+        }
+        false
+    }
+
+    /// Puts a slot at the end; fails for want of memory alone, and then nothing has changed.
+    pub fn push(&mut self, item: Slot) -> Result<(), NoMemory>
+        ensures appended { OnOk result (self.new ≡ self.old ++ slot_of item ∷ []) }
+        ensures unchanged { OnErr result (self.new ≡ self.old) }
+    {
+        self.items.push(item).map_err(|_| NoMemory)
+    }
+
+    /// Equal slots.
+    pub fn copy(&self, alloc: Global) -> Result<Self, NoMemory>
+        ensures same { IfOk result (λ r. r ≡ self.now) }
+    {
+        let mut copy = Store::new(alloc);
+        for item in &self.items {
+            copy.push(item.copy(alloc)?)?;
+        }
+        Ok(copy)
+    }
+}
