@@ -1,7 +1,6 @@
 -- The round of the tests.
-use Rattle.std.proofs.Common.{◌≡◌, ℕ, zero, suc, ◌+◌, ◌<◌, ◌≤◌, ◌⊎◌, inl, inr, Bool, true, false, ◌||◌, List, [], ◌∷◌, ◌++◌, map, length, get_or, take, drop, append_assoc, refl, ap, sym, ◌∙◌, subst, arith, Option, Some, None}
-use Rattle.std.proofs.lemmas.List.{take_more, drop_more, append-nil}
-use Rattle.std.proofs.lemmas.List.Concat.{flat_map-append}
+use Rattle.std.proofs.Common.{◌≡◌, ℕ, zero, suc, ◌+◌, ◌<◌, ◌≤◌, ◌⊎◌, inl, inr, Bool, true, false, ◌||◌, List, [], ◌∷◌, ◌++◌, map, length, get_or, drop, append_assoc, refl, ap, sym, ◌∙◌, subst, arith, Option, Some, None}
+use Rattle.std.proofs.lemmas.List.{drop_more}
 use Rattle.std.proofs.lemmas.List.Elements.{All-nil, All-cons, All-head, All-tail, All-append, All-map, AllZip-get_or}
 use Rattle.std.proofs.lemmas.Bool.{cases_lt}
 use Rattle.std.specs.List.{All, AllZip}
@@ -245,14 +244,6 @@ chained_admitted ordered grows o (m ∷ f) before own =
     All-cons (MemberAdmits ordered) (linked grows o m) (chained_from grows (Some m) f)
     (linked_admitted ordered grows o m before (All-head (MemberAdmits ordered) m f own))
     (chained_admitted ordered grows (Some m) f (All-head (MemberAdmits ordered) m f own) (All-tail (MemberAdmits ordered) m f own))
-
--- ---- one more step of the loops
-pub both_step : (g h all more : List (List Lit)) (i : ℕ) (k : List Lit) → all ≡ both (take i g) h → k ≡ get_or g i k → i < length g → more ≡ all ++ map (λ d. k ++ d) h → more ≡ both (take (i + 1) g) h
-both_step g h all more i k e is l f =
-    let one : take (i + 1) g ≡ take i g ++ k ∷ [] = take_more g i k l ∙ ap (λ x. take i g ++ x ∷ []) (sym is) in
-    let both_one : both (take (i + 1) g) h ≡ both (take i g) h ++ map (λ d. k ++ d) h =
-    rw one (simp (flat_map-append, append-nil)) in
-    rw (both_one, ← e) f
 
 pub chained_step : (grows : Bool) (f next whole : FamilyD) (o : Option MemberD) (i : ℕ) (m : MemberD) → i < length f → m ≡ get_or f i m → next ++ chained_from grows o (drop i f) ≡ whole → (next ++ linked grows o m ∷ []) ++ chained_from grows (Some m) (drop (i + 1) f) ≡ whole
 chained_step grows f next whole o i m l is h =

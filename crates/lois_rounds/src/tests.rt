@@ -1,13 +1,13 @@
 //! Families through each call, and rounds of the tests' own.
 
-ghost use Rattle.std.specs.Prelude.{◌≡◌, ◌++◌, ◌↔◌, IfOk, IsTrue, OnOk, length, map, option_map};
+ghost use Rattle.std.specs.Prelude.{◌≡◌, ◌↔◌, IfOk, IsTrue, length, map, option_map};
 ghost use Rattle.lois_base.specs.Fits.{ConstraintFits};
-ghost use Rattle.lois_base.specs.Normal.{both};
 ghost use Rattle.lois_rounds.specs.Families.{FamilyFits, MemberFits};
 ghost use Rattle.lois_rounds.specs.Worked.{AgreeAt, EachAgrees, MembersAgree, chained, joined, linked};
 
 use crate::*;
 use lois_base::{Constraint, Cube, Lit, NoMemory, Op};
+use lois_constraint::{and, or};
 use std::alloc::Global;
 use std::process::Abort;
 use std::test::Fail;
@@ -85,58 +85,10 @@ fn joined_constraint(
     ensures { IfOk result (λ r. r ≡ joined grows own.now other.now) }
 {
     if grows {
-        either(alloc, own, other)
+        or(alloc, own, other)
     } else {
-        each_with_each(alloc, own, other)
+        and(alloc, own, other)
     }
-}
-
-fn either(alloc: Global, own: &Constraint, other: &Constraint) -> Result<Constraint, NoMemory>
-    ensures { IfOk result (λ r. r ≡ own.now ++ other.now) }
-{
-    let mut all = own.copy(alloc)?;
-    for cube in other.as_slice() {
-        all.push(cube.copy(alloc)?)?;
-    }
-    Ok(all)
-}
-
-fn each_with_each(
-    alloc: Global,
-    own: &Constraint,
-    other: &Constraint,
-) -> Result<Constraint, NoMemory>
-    ensures { IfOk result (λ r. r ≡ both own.now other.now) }
-{
-    let mut all = Constraint::new(alloc);
-    for cube in own.as_slice() {
-        add_each(alloc, &mut all, cube, other)?;
-    }
-    Ok(all)
-}
-
-fn add_each(
-    alloc: Global,
-    all: &mut Constraint,
-    cube: &Cube,
-    others: &Constraint,
-) -> Result<(), NoMemory>
-    ensures { OnOk result (all.new ≡ all.old ++ map (λ d. cube.now ++ d) others.now) }
-{
-    for other in others.as_slice() {
-        all.push(longer(alloc, cube, other)?)?;
-    }
-    Ok(())
-}
-
-fn longer(alloc: Global, cube: &Cube, other: &Cube) -> Result<Cube, NoMemory>
-    ensures { IfOk result (λ r. r ≡ cube.now ++ other.now) }
-{
-    let mut all = cube.copy(alloc)?;
-    for literal in other.as_slice() {
-        all.push(*literal)?;
-    }
-    Ok(all)
 }
 
 // Whether the members agree, one by one, at the samples of their sizes.
