@@ -496,9 +496,10 @@ fn truncated_scripts(rt: HostRuntime) -> Result<(), Fail> {
 #[test]
 fn answers_are_read_again(rt: HostRuntime) -> Result<(), Fail> {
     let alloc = rt.alloc();
-    let rows: [&[u8]; 3] = [
+    let rows: [&[u8]; 4] = [
         OUTPUT,
         b"lois results 1\natoms order\nparameters\ncase when true\ns = {($0, $1) for $0 $1 if $0<$1}\nend\n",
+        b"lois results 2\natoms order\nparameters\nfailed at 1:40: not a set\nchoice 0\nfor x = $0\nend\n",
         b"lois results 2\natoms order\nparameters a b\nfailed at 1:30: assertion failed\nchoice 0 0\nend\n",
     ];
     for text in rows {
