@@ -1,5 +1,7 @@
--- The constraint of two constraints holds where both do.
-use Rattle.std.proofs.Common.{◌≡◌, Bool, true, false, ◌&&◌, ◌||◌, List, [], ◌∷◌, ◌++◌, map, refl, sym}
+-- The constraint of two constraints holds where both do, and has the literals of both.
+use Rattle.std.proofs.Common.{◌≡◌, Bool, true, false, ◌&&◌, ◌||◌, List, [], ◌∷◌, ◌++◌, get_or, map, refl, sym}
+use Rattle.std.specs.List.{All}
+use Rattle.std.proofs.lemmas.List.Elements.{All-nil, All-head, All-tail, All-append, All-map}
 use Rattle.std.proofs.lemmas.List.Folds.{list_all-append, list_any-append}
 use Rattle.lois_base.specs.Atom.{Atom}
 use Rattle.lois_base.specs.Normal.{both}
@@ -36,3 +38,11 @@ module _ (c : List Atom) where
   holds_both [] g = refl
   holds_both (k ∷ u) g =
       rw (holds_append (map (λ l. k ++ l) g) (both u g), holds_each k g, holds_both u g) (or_and (cube_holds c k) (holds c u) (holds c g))
+
+-- what is true of all literals of two constraints is true of those of both
+pub all_both : (P : Lit → Type 0) (u g : List (List Lit)) → All (All P) u → All (All P) g → All (All P) (both u g)
+all_both P [] g h k = All-nil (All P)
+all_both P (x ∷ u) g h k =
+    All-append (All P) (map (λ d. x ++ d) g) (both u g)
+    (All-map (All P) (λ d. x ++ d) g (λ i d l. All-append P x (get_or g i d) (All-head (All P) x u h) (k i d l)))
+    (all_both P u g (All-tail (All P) x u h) k)

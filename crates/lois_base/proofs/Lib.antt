@@ -6,6 +6,8 @@ pub mod Gaps
 pub mod Levels
 pub mod Members
 pub mod Moves
+pub mod NameForm
+pub mod NormalDepths
 pub mod Order
 pub mod Parts
 pub mod Raised

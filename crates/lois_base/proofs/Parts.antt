@@ -1,8 +1,8 @@
 -- What `get` tells of the list that it looks into.
-use Rattle.std.proofs.Common.{◌≡◌, ℕ, zero, suc, ◌+◌, ◌≤◌, List, [], ◌∷◌, ◌++◌, take, drop, ◌<◌, length, get_or, map, arith, add-one, ap, subst, sym}
+use Rattle.std.proofs.Common.{◌≡◌, ℕ, zero, suc, ◌+◌, ◌≤◌, List, [], ◌∷◌, ◌++◌, take, drop, ◌<◌, length, get_or, map, refl, arith, add-one, ap, subst, sym}
 use Rattle.std.specs.List.{slice_get}
 use Rattle.std.specs.declared.option.Option.TheVariants.{Some}
-use Rattle.lois_base.specs.Data.{TermD, CompD, depth, depth_of_terms, depth_of_comp, depth_of_comps}
+use Rattle.lois_base.specs.Data.{TermD, tup, coll, CompD, terms_of, comps_of, depth, depth_of_terms, depth_of_comp, depth_of_comps}
 use Rattle.lois_base.specs.Depth.{deep_le-depth}
 use Rattle.lois_base.specs.Tree.{tree, comp_of}
 use Rattle.lois_base.specs.declared.values.Comp.{Comp}
@@ -46,3 +46,28 @@ deep_comp_at (d ∷ cs) (suc i) c l = omega (arith, deep_comp_at cs i c (omega a
 
 pub comp_item_within : (cs : List Comp) (vs : List CompD) (i : ℕ) (c : Comp) → map comp_of cs ≡ vs → i < length cs → c ≡ get_or cs i c → deep-Comp c ≤ depth_of_comps vs
 comp_item_within cs vs i c m l e = subst (λ v. deep-Comp c ≤ depth_of_comps v) m (subst (λ d. deep-Comp d ≤ depth_of_comps (map comp_of cs)) (sym e) (deep_comp_at cs i c l))
+
+-- a tuple and a set tell the lists apart that they are made of
+terms_same : (ts ss : List TermD) → terms_of ts ≡ terms_of ss → ts ≡ ss
+terms_same [] [] e = refl
+terms_same [] (s ∷ ss) e = absurd (cc)
+terms_same (t ∷ ts) [] e = absurd (cc)
+terms_same (t ∷ ts) (s ∷ ss) e =
+    let rest : terms_of ts ≡ terms_of ss = cc in
+    let rests : ts ≡ ss = terms_same ts ss rest in
+    cc
+
+comps_same : (cs ks : List CompD) → comps_of cs ≡ comps_of ks → cs ≡ ks
+comps_same [] [] e = refl
+comps_same [] (k ∷ ks) e = absurd (cc)
+comps_same (c ∷ cs) [] e = absurd (cc)
+comps_same (c ∷ cs) (k ∷ ks) e =
+    let rest : comps_of cs ≡ comps_of ks = cc in
+    let rests : cs ≡ ks = comps_same cs ks rest in
+    cc
+
+pub tuples_same : (ts ss : List TermD) → tup (terms_of ts) ≡ tup (terms_of ss) → ts ≡ ss
+tuples_same ts ss e = let parts : terms_of ts ≡ terms_of ss = cc in terms_same ts ss parts
+
+pub sets_same : (cs ks : List CompD) → coll (comps_of cs) ≡ coll (comps_of ks) → cs ≡ ks
+sets_same cs ks e = let items : comps_of cs ≡ comps_of ks = cc in comps_same cs ks items

@@ -1,5 +1,5 @@
 -- Which levels and operators come from where.
-use Rattle.std.proofs.Common.{◌≡◌, ℕ, ◌<◌, true, List, ◌++◌, refl, subst, inl, inr}
+use Rattle.std.proofs.Common.{◌≡◌, ℕ, ◌+◌, ◌<◌, true, List, ◌++◌, refl, subst, inl, inr, arith}
 use Rattle.std.proofs.lemmas.List.Elements.{All-contains, Contains-get_or, Contains-append_left, Contains-append_right}
 use Rattle.std.specs.List.{All, Contains}
 use Rattle.lois_base.specs.Data.{TermD, var, tag, tup, coll, TermsD, no_terms, term, comp, CompsD, no_comps, more}
@@ -69,6 +69,10 @@ level_fits n g fits i u = at_used (λ j. j < n) i g fits u
 -- what uses only the levels of g fits where g does
 pub uses_only-fits : (n : ℕ) (g r : List (List Lit)) → ConstraintFits n g → UsesOnly g r → ConstraintFits n r
 uses_only-fits n g r fits only = used_at (λ j. j < n) r (λ i u. level_fits n g fits i (uses_only-is g r only i u))
+
+-- what fits, fits where there are more levels
+pub fits_longer : (n m : ℕ) (g : List (List Lit)) → ConstraintFits n g → ConstraintFits (n + m) g
+fits_longer n m g fits = used_at (λ j. j < n + m) g (λ i u. omega (arith, level_fits n g fits i u))
 
 -- with an order each operator is admitted
 ordered_admits : (o : Op) → is_admitted true o ≡ true

@@ -1,12 +1,12 @@
 -- What holds of atoms, truth and values by their definitions alone.
-use Rattle.std.specs.Prelude.{◌≡◌, ℕ, ◌<◌, Bool, true, List, ◌++◌, length, map, IsTrue, IsFalse, ◌⊎◌, ◌↔◌}
+use Rattle.std.specs.Prelude.{◌≡◌, ℕ, ◌<◌, ◌≤◌, Bool, true, List, ◌++◌, length, map, IsTrue, IsFalse, ◌⊎◌, ◌↔◌}
 use Rattle.std.specs.List.{All}
 use Rattle.lois_base.specs.Atom.{Atom, equal, below}
-use Rattle.lois_base.specs.Data.{TermD, coll, CompsD}
+use Rattle.lois_base.specs.Data.{TermD, coll, CompsD, depth}
 use Rattle.lois_base.specs.Fits.{ConstraintFits, Fits}
 use Rattle.lois_base.specs.FormulaData.{FormulaD, FormulaFits}
 use Rattle.lois_base.specs.FormulaTruth.{FormulaHolds}
-use Rattle.lois_base.specs.Normal.{GuardUses, Occurs}
+use Rattle.lois_base.specs.Normal.{GuardUses, Occurs, Meets, IsNormal}
 use Rattle.lois_base.specs.Patterns.{AreEqualFor, AreEqual, AreAlike, Keeps}
 use Rattle.lois_base.specs.Truth.{holds, sampled}
 use Rattle.lois_base.specs.Validity.{AdmitsConstraint, AdmitsFormula, AdmitsTerm}
@@ -77,3 +77,9 @@ pub record MapsKeepMeaning : Type 0 where
 pub record SmallNumbersSuffice : Type 0 where
   pub numbers : (c : List Atom) → (s : List ℕ) × (length s ≡ length c) × All (λ n. n < length c) s × AreAlike true c (sampled s)
   pub truth : (c : List Atom) (s : List ℕ) → AreAlike true c (sampled s) → (g : List (List Lit)) → ConstraintFits (length c) g → holds c g ≡ holds (sampled s) g
+
+-- A term that is normal where u holds, which some choice meets, and whose values there are nowhere deeper than d, is written at
+-- most d deep.
+abbrev pub NormalIsAsDeep : Type 0
+NormalIsAsDeep =
+    (t : TermD) (u : List (List Lit)) (n d : ℕ) → ConstraintFits n u → Fits n t → IsNormal t u n → ((c : List Atom) × Meets n u c) → ((c : List Atom) → Meets n u c → IsDeeper (point t c) d → ⊥) → depth t ≤ d

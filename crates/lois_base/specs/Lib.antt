@@ -2,6 +2,7 @@ pub mod Names
 pub mod Atom
 pub mod Truth
 pub mod Fits
+pub mod OneProof
 pub mod FormulaData
 pub mod FormulaTruth
 pub mod FormulaView
@@ -16,5 +17,6 @@ pub mod Rename
 pub mod Shift
 pub mod Validity
 pub mod Theory
+pub mod Bound
 pub mod Patterns
 pub mod Laws

@@ -4,6 +4,7 @@ use Rattle.std.specs.List.{All}
 use Rattle.lois_base.specs.declared.guards.Lit.{Lit}
 use Rattle.lois_base.specs.declared.guards.Op.{Op}
 use Rattle.lois_base.specs.declared.guards.Op.TheVariants.{Eq, Ne, Lt}
+use Rattle.lois_base.specs.declared.limits.TheConstants.{LEAST_WIDTH, GREATEST_WIDTH}
 use Rattle.lois_base.specs.Data.{TermD, var, tag, tup, coll, TermsD, no_terms, term, CompD, comp, CompsD, no_comps, more}
 use Rattle.lois_base.specs.FormulaData.{FormulaD, lit, all, any, neg, exists, forall, FormulasD, no_formulas, formula}
 use Rattle.lois_base.specs.Normal.{GuardUses}
@@ -77,7 +78,7 @@ abbrev mutual
   pub HasUsualWidths : TermD → Type 0
   HasUsualWidths (var i) = Unit {0}
   HasUsualWidths (tag t) = Unit {0}
-  HasUsualWidths (tup ts) = (2 ≤ count_of_parts ts) × (count_of_parts ts ≤ 8) × PartsHaveUsualWidths ts
+  HasUsualWidths (tup ts) = (LEAST_WIDTH ≤ count_of_parts ts) × (count_of_parts ts ≤ GREATEST_WIDTH) × PartsHaveUsualWidths ts
   HasUsualWidths (coll cs) = ItemsHaveUsualWidths cs
 
   pub PartsHaveUsualWidths : TermsD → Type 0

@@ -130,6 +130,23 @@ impl Cube {
         })
     }
 
+    /// Whether both have the same literals in the same order.
+    pub fn is_equal(&self, other: &Cube) -> bool
+        ensures { IsTrue result ↔ self.now ≡ other.now }
+    {
+        let literals = self.as_slice();
+        let others = other.as_slice();
+        if literals.len() != others.len() {
+            return false;
+        }
+        for (i, lit) in literals.iter().enumerate() {
+            if *lit != others[i] {
+                return false;
+            }
+        }
+        true
+    }
+
     /// Whether each literal holds at the sample.
     pub fn at(&self, sample: &[u64]) -> bool
         requires { CubeFits (length sample.now) self.now }
@@ -159,6 +176,15 @@ impl Constraint {
         Constraint {
             items: Vec::new(alloc),
         }
+    }
+
+    /// One cube without literals, which holds at every choice of atoms.
+    pub fn always(alloc: Global) -> Result<Self, NoMemory>
+        ensures { IfOk result (λ r. r ≡ [] ∷ []) }
+    {
+        let mut constraint = Constraint::new(alloc);
+        constraint.push(Cube::new(alloc))?;
+        Ok(constraint)
     }
 
     /// How many cubes there are.
@@ -207,6 +233,23 @@ impl Constraint {
             copy.push(item.copy(alloc)?)?;
         }
         Ok(copy)
+    }
+
+    /// Whether both have the same cubes in the same order.
+    pub fn is_equal(&self, other: &Constraint) -> bool
+        ensures { IsTrue result ↔ self.now ≡ other.now }
+    {
+        let cubes = self.as_slice();
+        let others = other.as_slice();
+        if cubes.len() != others.len() {
+            return false;
+        }
+        for (i, cube) in cubes.iter().enumerate() {
+            if !cube.is_equal(&others[i]) {
+                return false;
+            }
+        }
+        true
     }
 
     /// Whether some cube holds at the sample.

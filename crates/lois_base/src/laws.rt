@@ -1,7 +1,7 @@
 //! Laws of atoms, truth and values. They hold by the definitions alone, so each function here does nothing: its contract is
 //! the law.
 
-ghost use Rattle.lois_base.specs.Laws.{EqualIsEquivalence, IsDenseOrder, TruthRespectsEqual, SameIsEquivalence, SameIsRespected, SetsAreTheirMembers, OnlyItsLevelsCount, OnlyThePatternCounts, MapsKeepMeaning, SmallNumbersSuffice};
+ghost use Rattle.lois_base.specs.Laws.{EqualIsEquivalence, IsDenseOrder, TruthRespectsEqual, SameIsEquivalence, SameIsRespected, SetsAreTheirMembers, OnlyItsLevelsCount, OnlyThePatternCounts, MapsKeepMeaning, SmallNumbersSuffice, NormalIsAsDeep};
 
 /// Atoms are a dense total order without ends, and equal atoms may stand in place of one another.
 pub fn atoms_are_ordered()
@@ -38,4 +38,10 @@ pub fn maps_keep_meaning()
 /// positions. So each constraint over k levels has the same truth at both.
 pub fn small_numbers_suffice()
     ensures { SmallNumbersSuffice }
+{}
+
+/// A normal term is written no deeper than its values are, where its constraint can be met. So a bound on the depth of values
+/// is one of the text.
+pub fn normal_terms_are_as_deep_as_their_values()
+    ensures { NormalIsAsDeep }
 {}

@@ -4,11 +4,10 @@
 mod deciding;
 mod guards;
 pub mod laws;
+pub mod limits;
 mod logic;
 mod memory;
 mod numbers;
-#[cfg(test)]
-mod tests;
 mod theory;
 mod values;
 mod words;

@@ -58,6 +58,14 @@ impl Numbers {
         &self.items
     }
 
+    /// The numbers by value, in order.
+    pub fn into_vec(self) -> Vec<u64>
+        ensures { result.items ≡ self }
+    {
+        let Numbers { items } = self;
+        items
+    }
+
     /// Appends a number.
     pub fn push(&mut self, item: u64) -> Result<(), NoMemory>
         ensures ok { OnOk result (self.new ≡ self.old ++ item ∷ []) }

@@ -145,6 +145,24 @@ impl Terms {
         Ok(copy)
     }
 
+    /// Whether both have the same terms in the same order.
+    #[cycle(equal)]
+    pub fn is_equal(&self, other: &Terms) -> bool
+        ensures { IsTrue result ↔ self.now ≡ other.now }
+    {
+        let items = self.items.as_slice();
+        let others = other.items.as_slice();
+        if items.len() != others.len() {
+            return false;
+        }
+        for (i, item) in items.iter().enumerate() {
+            if !item.is_equal(&others[i]) {
+                return false;
+            }
+        }
+        true
+    }
+
     /// Whether each part fits `size`.
     #[cycle(fits)]
     pub fn fits(&self, size: usize) -> bool
@@ -218,6 +236,24 @@ impl Comps {
         Ok(copy)
     }
 
+    /// Whether both have the same comprehensions in the same order.
+    #[cycle(equal)]
+    pub fn is_equal(&self, other: &Comps) -> bool
+        ensures { IsTrue result ↔ self.now ≡ other.now }
+    {
+        let items = self.items.as_slice();
+        let others = other.items.as_slice();
+        if items.len() != others.len() {
+            return false;
+        }
+        for (i, item) in items.iter().enumerate() {
+            if !item.is_equal(&others[i]) {
+                return false;
+            }
+        }
+        true
+    }
+
     /// Whether each comprehension fits `size`.
     #[cycle(fits)]
     pub fn fits(&self, size: usize) -> bool
@@ -245,6 +281,16 @@ impl Comp {
         })
     }
 
+    /// Whether both are written alike.
+    #[cycle(equal)]
+    pub fn is_equal(&self, other: &Comp) -> bool
+        ensures { IsTrue result ↔ comp_of self.now ≡ comp_of other.now }
+    {
+        self.binders == other.binders
+            && self.guard.is_equal(&other.guard)
+            && self.item.is_equal(&other.item)
+    }
+
     /// Whether the guard and the item use only levels below `size` and the binders, and that sum is a usize.
     #[cycle(fits)]
     pub fn fits(&self, size: usize) -> bool
@@ -268,6 +314,20 @@ impl Term {
             Term::Tag(name) => Ok(Term::Tag(name.copy(alloc)?)),
             Term::Tup(parts) => Ok(Term::Tup(parts.copy(alloc)?)),
             Term::Coll(comps) => Ok(Term::Coll(comps.copy(alloc)?)),
+        }
+    }
+
+    /// Whether both are written alike: the same tree.
+    #[cycle(equal)]
+    pub fn is_equal(&self, other: &Term) -> bool
+        ensures { IsTrue result ↔ tree self.now ≡ tree other.now }
+    {
+        match (self, other) {
+            (Term::Var(level), Term::Var(partner)) => level == partner,
+            (Term::Tag(name), Term::Tag(partner)) => name == partner,
+            (Term::Tup(parts), Term::Tup(partners)) => parts.is_equal(partners),
+            (Term::Coll(comps), Term::Coll(partners)) => comps.is_equal(partners),
+            _ => false,
         }
     }
 

@@ -8,10 +8,9 @@ ghost use Rattle.std.specs.Cmp.Rules.{comparing};
 ghost use Rattle.std.proofs.Common.{rules};
 
 use crate::NoMemory;
+use crate::limits::LONGEST_NAME;
 use std::alloc::Global;
 use std::marker::Model;
-
-const LONGEST_NAME: usize = 64;
 
 /// A name or a tag: 1 to 64 bytes, a letter first, then letters, digits and `_`.
 #[derive(Drop)]
