@@ -6,6 +6,24 @@ use Rattle.std.proofs.lemmas.List.Elements.{All-nil, All-cons, All-head, All-tai
 use Rattle.std.proofs.lemmas.List.Folds.{list_all-append, list_any-append}
 use Rattle.std.proofs.lemmas.List.Kept.{AllPairs-cons, AllPairs-filter}
 
+pub first_of_and : (p q : Bool) → (p && q) ≡ true → p ≡ true
+first_of_and true q h = refl
+first_of_and false q h = h
+
+pub second_of_and : (p q : Bool) → (p && q) ≡ true → q ≡ true
+second_of_and true q h = h
+second_of_and false q h = absurd (cc)
+
+module _ {X : Type 0} (p : X → Bool) where
+  kept_at : (q : X → Bool) (x : X) (xs : List X) (b : Bool) → q x ≡ true → list_all q (filter p xs) ≡ true → list_all q (cond b (x ∷ filter p xs) (filter p xs)) ≡ true
+  kept_at q x xs true h rest = rw (h, rest)
+  kept_at q x xs false h rest = rest
+
+  pub filter_keeps : (q : X → Bool) (xs : List X) → list_all q xs ≡ true → list_all q (filter p xs) ≡ true
+  filter_keeps q [] h = refl
+  filter_keeps q (x ∷ xs) h =
+      kept_at q x xs (p x) (first_of_and (q x) (list_all q xs) h) (filter_keeps q xs (second_of_and (q x) (list_all q xs) h))
+
 module _ {X : Type 0} (R : X → X → Type 0) where
   AllPairs-head : (x : X) (xs : List X) → AllPairs R (x ∷ xs) → All (R x) xs
   AllPairs-head x xs p = λ k d l. p zero (suc k) d (omega arith) (omega arith)

@@ -1,8 +1,11 @@
+pub mod Raising
+pub mod Told
+pub mod Ranked
+pub mod Joined
+pub mod Linked
+pub mod Listed
 pub mod Both
 pub mod Denied
-pub mod Exchange
-pub mod Rounds
-pub mod Numbered
 pub mod Pruned
 pub mod Shifting
 pub mod Uses

@@ -17,7 +17,7 @@ use Rattle.lois_base.specs.declared.guards.Lit.{Lit}
 use Rattle.lois_constraint.specs.Normalised.{lit_before, lit_same, cube_before, is_part, IsTurned, IsNormalCube, IsNormalised}
 use Rattle.lois_constraint.proofs.Inserted.{in_order, all_inserted, any_inserted, apart_inserted}
 use Rattle.lois_constraint.proofs.Ordered.{lit_before_trans, lit_equal, lit_from_same, cube_before_trans, cube_before_irrefl, cube_equal, or_first, or_second}
-use Rattle.lois_constraint.proofs.Rounds.{filter_keeps, first_of_and, second_of_and}
+use Rattle.lois_constraint.proofs.Inserted.{filter_keeps, first_of_and, second_of_and}
 
 abbrev lower : Lit → Lit → Bool
 lower x k = lit_before k x

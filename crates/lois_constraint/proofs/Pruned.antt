@@ -1,10 +1,11 @@
 -- Cubes of which none lies within another.
-use Rattle.std.proofs.Common.{◌≡◌, ℕ, ◌+◌, ◌<◌, ◌≤◌, Bool, true, false, ◌||◌, List, [], ◌∷◌, ◌++◌, length, get_or, take, refl, sym, ap, ◌∙◌, subst, arith}
+use Rattle.std.proofs.Common.{◌≡◌, ℕ, ◌+◌, ◌<◌, ◌≤◌, Bool, true, false, ◌||◌, List, [], ◌∷◌, ◌++◌, length, length-append, get_or, refl, sym, ap, ◌∙◌, subst, arith}
 use Rattle.std.specs.List.{All}
-use Rattle.std.proofs.lemmas.List.{get_or_default}
-use Rattle.std.proofs.lemmas.List.Elements.{All-nil, All-cons, All-push, All-weaker, All-filter}
+use Rattle.std.proofs.lemmas.List.{get_or_append_left, get_or_push}
+use Rattle.std.specs.declared.option.Option.TheVariants.{Some}
+use Rattle.std.proofs.lemmas.List.Elements.{All-nil, All-cons, All-push, All-pop, All-weaker, All-filter}
 use Rattle.std.proofs.lemmas.List.Quantifiers.{all_pairs_push}
-use Rattle.std.proofs.lemmas.List.Folds.{list_any-append, list_any_more}
+use Rattle.std.proofs.lemmas.List.Folds.{list_any-append}
 use Rattle.lois_base.specs.Atom.{Atom}
 use Rattle.lois_base.specs.Truth.{cube_holds, holds}
 use Rattle.lois_base.specs.declared.guards.Lit.{Lit}
@@ -26,20 +27,31 @@ whole_pruned = record {
 abbrev pub ApartFrom : List (List Lit) → ℕ → List (List Lit) → Type 0
 ApartFrom xs i kept = (j : ℕ) (d : List Lit) → i ≤ j → j < length xs → All (λ k. AreApart k (get_or xs j d)) kept
 
-pub apart_from_later : (xs kept : List (List Lit)) (i : ℕ) → ApartFrom xs i kept → ApartFrom xs (i + 1) kept
-apart_from_later xs kept i h j d l m = h j d (omega arith) m
+module _ {X : Type 0} (P : X → Type 0) (xs : List X) (x : X) (h : All P (xs ++ x ∷ [])) where
+  pub all_before : All P xs
+  all_before = (All-pop P (xs ++ x ∷ []) xs (Some x) refl h).0
 
--- one more is kept
-module _ (xs kept : List (List Lit)) (i : ℕ) (x : List Lit) (b : i < length xs) (is : x ≡ get_or xs i x) (p : IsPruned xs) (later : ApartFrom xs i kept) where
-  pub kept_apart_from : ApartFrom xs (i + 1) (kept ++ x ∷ [])
-  kept_apart_from j d l m =
-      All-push (λ k. AreApart k (get_or xs j d)) kept x (later j d (omega arith) m) (subst (λ z. AreApart z (get_or xs j d)) (sym (is ∙ get_or_default xs i x d b)) (p.apart i j d (omega arith) m))
+  pub all_last : P x
+  all_last = (All-pop P (xs ++ x ∷ []) xs (Some x) refl h).1
 
-  pub kept_pruned : IsPruned kept → IsPruned (kept ++ x ∷ [])
-  kept_pruned q = record {
-    met = All-push CanBeMet kept x q.met (subst CanBeMet (sym is) (p.met i x b));
-    apart = all_pairs_push AreApart kept x q.apart (λ k d l. subst (AreApart (get_or kept k d)) (sym is) (later i x (omega arith) b k d l));
+-- the cubes before the last one
+module _ (xs : List (List Lit)) (x : List Lit) (p : IsPruned (xs ++ x ∷ [])) where
+  longer : length (xs ++ x ∷ []) ≡ length xs + 1
+  longer = length-append xs (x ∷ [])
+
+  pub front_pruned : IsPruned xs
+  front_pruned = record {
+    met = all_before CanBeMet xs x p.met;
+    apart = λ i j d l m. let h : AreApart (get_or (xs ++ x ∷ []) i d) (get_or (xs ++ x ∷ []) j d) = p.apart i j d l (omega (arith, longer)) in subst (λ (k : List Lit). AreApart k (get_or xs j d)) (get_or_append_left xs (x ∷ []) d i (omega arith)) (subst (AreApart (get_or (xs ++ x ∷ []) i d)) (get_or_append_left xs (x ∷ []) d j m) h);
   }
+
+  pub front_apart : All (λ k. AreApart k x) xs
+  front_apart i d l =
+      let h : AreApart (get_or (xs ++ x ∷ []) i d) (get_or (xs ++ x ∷ []) (length xs) d) = p.apart i (length xs) d l (omega (arith, longer)) in
+      subst (λ (k : List Lit). AreApart k x) (get_or_append_left xs (x ∷ []) d i l) (subst (AreApart (get_or (xs ++ x ∷ []) i d)) (get_or_push xs x d (length xs) refl) h)
+
+pub kept_pruned : (kept : List (List Lit)) (x : List Lit) → IsPruned kept → CanBeMet x → All (λ k. AreApart k x) kept → IsPruned (kept ++ x ∷ [])
+kept_pruned kept x p met apart = record { met = All-push CanBeMet kept x p.met met; apart = all_pairs_push AreApart kept x p.apart apart }
 
 -- a new cube that lies within none, and within which none lies
 pub pruned_more : (kept : List (List Lit)) (x : List Lit) → IsPruned kept → CanBeMet x → All (λ k. LiesWithin k x → ⊥) kept → All (λ k. LiesWithin x k → ⊥) kept → IsPruned (kept ++ x ∷ [])
@@ -48,35 +60,28 @@ pruned_more kept x p met out un = record {
   apart = all_pairs_push AreApart kept x p.apart (λ k d l. (out k d l, un k d l));
 }
 
--- ---- the cubes that were read, beside one within which the dropped ones lie
-one_kept : (h t p q : Bool) → (h || q) ≡ (t || q) → ((h || (p || false)) || q) ≡ ((t || p) || q)
+-- ---- the cubes so far, beside one within which the dropped ones lie
+one_kept : (h t p q : Bool) → (h || q) ≡ (t || q) → ((h || p) || q) ≡ ((t || p) || q)
 one_kept true true p q e = refl
 one_kept true false true q e = refl
 one_kept true false false q e = e
 one_kept false true true q e = refl
 one_kept false true false q e = e
-one_kept false false p q e = ap (λ b. b || q) (or_false p)
-  where
-    or_false : (b : Bool) → (b || false) ≡ b
-    or_false true = refl
-    or_false false = refl
+one_kept false false p q e = refl
 
-one_dropped : (h t p q : Bool) → (p ≡ true → q ≡ true) → (h || q) ≡ (t || q) → (h || q) ≡ ((t || p) || q)
+one_dropped : (h t p q : Bool) → (p ≡ true → q ≡ true) → (h || q) ≡ (t || q) → (h || q) ≡ ((t || (p || false)) || q)
 one_dropped h true p q f e = e
 one_dropped h false false q f e = e
 one_dropped h false true q f e = e ∙ f refl
 
-module _ (c : List Atom) (q : Bool) (kept xs : List (List Lit)) (i : ℕ) (x : List Lit) (b : i < length xs) (is : x ≡ get_or xs i x) (same : (holds c kept || q) ≡ (holds c (take i xs) || q)) where
-  read : holds c (take (i + 1) xs) ≡ (holds c (take i xs) || cube_holds c x)
-  read = list_any_more (cube_holds c) xs i x b ∙ ap (λ y. holds c (take i xs) || cube_holds c y) (sym is)
-
-  pub kept_holds : (holds c (kept ++ x ∷ []) || q) ≡ (holds c (take (i + 1) xs) || q)
+module _ (c : List Atom) (q : Bool) (kept xs : List (List Lit)) (x : List Lit) (same : (holds c kept || q) ≡ (holds c xs || q)) where
+  pub kept_holds : (holds c (kept ++ x ∷ []) || q) ≡ (holds c (xs ++ x ∷ []) || q)
   kept_holds =
-      ap (λ p. p || q) (list_any-append (cube_holds c) kept (x ∷ [])) ∙ (one_kept (holds c kept) (holds c (take i xs)) (cube_holds c x) q same ∙ ap (λ p. p || q) (sym read))
+      rw (list_any-append (cube_holds c) kept (x ∷ []), list_any-append (cube_holds c) xs (x ∷ [])) (one_kept (holds c kept) (holds c xs) (cube_holds c x || false) q same)
 
-  pub dropped_holds : (cube_holds c x ≡ true → q ≡ true) → (holds c kept || q) ≡ (holds c (take (i + 1) xs) || q)
+  pub dropped_holds : (cube_holds c x ≡ true → q ≡ true) → (holds c kept || q) ≡ (holds c (xs ++ x ∷ []) || q)
   dropped_holds f =
-      one_dropped (holds c kept) (holds c (take i xs)) (cube_holds c x) q f same ∙ ap (λ p. p || q) (sym read)
+      one_dropped (holds c kept) (holds c xs) (cube_holds c x) q f same ∙ ap (λ p. p || q) (sym (list_any-append (cube_holds c) xs (x ∷ [])))
 
 -- ---- cubes that hold at the same choices
 module _ (a b : List Lit) (e : (c : List Atom) → cube_holds c a ≡ cube_holds c b) where

@@ -1,5 +1,6 @@
--- A cube of a constraint obeys what each of its literals obeys.
-use Rattle.std.proofs.Common.{◌≡◌, ℕ, ◌<◌, List, length, get_or, subst, sym}
+-- What holds of a cube of a constraint, and of an answer.
+use Rattle.std.proofs.Common.{◌≡◌, ℕ, ◌<◌, List, length, get_or, Result, IfOk, subst, sym}
+use Rattle.std.proofs.lemmas.Result.{IfOk-weaker}
 use Rattle.std.proofs.lemmas.List.Elements.{All-get_or}
 use Rattle.lois_base.specs.declared.guards.Lit.{Lit}
 use Rattle.lois_constraint.specs.Rules.{Rule, CubeObeys, ConstraintObeys}
@@ -7,3 +8,7 @@ use Rattle.lois_constraint.specs.Rules.{Rule, CubeObeys, ConstraintObeys}
 pub item_obeys : (rule : Rule) (g xs : List (List Lit)) (i : ℕ) (x : List Lit) → xs ≡ g → i < length xs → x ≡ get_or xs i x → ConstraintObeys rule g → CubeObeys rule x
 item_obeys rule g xs i x e b is h =
     subst (CubeObeys rule) (sym is) (All-get_or (CubeObeys rule) xs i x b (subst (ConstraintObeys rule) (sym e) h))
+
+-- what holds of the constraint that is the answer
+pub same_answer : {E : Type 0} (result : Result (List (List Lit)) E) (g : List (List Lit)) (P : List (List Lit) → Type 0) → IfOk result (λ r. r ≡ g) → P g → IfOk result P
+same_answer result g P same h = IfOk-weaker result (λ r. r ≡ g) P (λ r e. subst P (sym e) h) same

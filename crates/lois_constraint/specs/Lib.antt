@@ -5,3 +5,4 @@ pub mod Steps
 pub mod Rules
 pub mod Tight
 pub mod Normalised
+pub mod Order

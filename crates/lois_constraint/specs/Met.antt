@@ -1,22 +1,13 @@
 -- Cubes that some choice of atoms meets, and cubes that lie within others.
-use Rattle.std.specs.Prelude.{◌≡◌, List, IsTrue}
+use Rattle.std.specs.Prelude.{List, IsTrue}
 use Rattle.std.specs.List.{All, AllPairs}
 use Rattle.lois_base.specs.Atom.{Atom}
 use Rattle.lois_base.specs.Truth.{cube_holds}
 use Rattle.lois_base.specs.declared.guards.Lit.{Lit}
-use Rattle.lois_base.specs.declared.guards.Op.TheVariants.{Eq}
 
 -- the cube holds at some choice
 abbrev pub CanBeMet : List Lit → Type 0
 CanBeMet k = (c : List Atom) × IsTrue (cube_holds c k)
-
--- an equation compares a level with itself
-abbrev pub IsJoined : Lit → Type 0
-IsJoined l = l.op ≡ Eq → l.left ≡ l.right
-
--- only an equation may compare a level with itself
-abbrev pub IsProper : Lit → Type 0
-IsProper l = l.left ≡ l.right → l.op ≡ Eq
 
 -- a lies within b: b holds wherever a does
 abbrev pub LiesWithin : List Lit → List Lit → Type 0

@@ -1,22 +1,22 @@
 //! Constraints over atoms: conjunction, disjunction, negation, and constraints that stay small.
 //!
 //! [`and`], [`or`] and [`conjoin_cube`] put together what they are given and drop nothing. [`prune`],
-//! [`meet`], [`negate`] and [`normalise`] drop the cubes that can't be met and those that others cover.
+//! [`meet`], [`negate`], [`and_not`] and [`normalise`] drop the cubes that can't be met and those that others cover.
 #![tactic(auto)]
 
 mod conflicts;
+mod known;
 mod levels;
 mod negation;
 mod normal;
+mod piles;
 mod products;
 mod pruning;
+mod rows;
 
 pub use conflicts::{conflict, implies, within};
 pub use levels::{shift, substitute, substitute_cube};
-pub use negation::negate;
+pub use negation::{and_not, negate};
 pub use normal::normalise;
 pub use products::{and, conjoin_cube, or};
 pub use pruning::{meet, prune, tighten};
-
-#[cfg(test)]
-mod tests;

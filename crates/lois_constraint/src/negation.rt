@@ -1,15 +1,17 @@
 //! Negation, one cube after another, pruned after each.
 
-ghost use Rattle.std.specs.Prelude.{◌≡◌, ℕ, Bool, List, ◌∷◌, [], ◌++◌, not, map, IfOk, OnOk};
+ghost use Rattle.std.specs.Prelude.{◌≡◌, ℕ, Bool, List, ◌∷◌, [], ◌++◌, ◌&&◌, not, map, IfOk, OnOk};
 ghost use Rattle.lois_base.specs.Atom.{Atom};
 ghost use Rattle.lois_base.specs.Fits.{ConstraintFits};
 ghost use Rattle.lois_base.specs.Truth.{holds};
 ghost use Rattle.lois_base.specs.Validity.{AdmitsConstraint, UsesOnly};
 ghost use Rattle.lois_constraint.specs.Alternatives.{alternatives, denials};
 ghost use Rattle.lois_constraint.specs.Met.{IsPruned};
+ghost use Rattle.lois_constraint.specs.Rules.{Rule, ConstraintObeys};
 
 use crate::conflicts::alternatives;
-use crate::pruning::meet;
+use crate::known::Known;
+use crate::piles::Pile;
 use lois_base::{Constraint, Cube, Lit, NoMemory};
 use std::alloc::Global;
 
@@ -36,6 +38,19 @@ fn denied(alloc: Global, cube: &Cube) -> Result<Constraint, NoMemory>
     Ok(denied)
 }
 
+// The pile without the constraint, one cube after the other.
+fn take_off(alloc: Global, pile: Pile, c: &Constraint) -> Result<Pile, NoMemory>
+    ensures truth { IfOk result (λ r. (e : List Atom) → holds e r ≡ (holds e pile && not (holds e c.now))) }
+    ensures rules { IfOk result (λ r. (rule : Rule) → ConstraintObeys rule pile → ConstraintObeys rule c.now → ConstraintObeys rule r) }
+{
+    let mut rest = pile;
+    for cube in c.as_slice() {
+        let refused = denied(alloc, cube)?;
+        rest = rest.meet(alloc, &refused)?;
+    }
+    Ok(rest)
+}
+
 /// A constraint that holds exactly where the given one doesn't, pruned.
 pub fn negate(alloc: Global, c: &Constraint) -> Result<Constraint, NoMemory>
     ensures truth { IfOk result (λ r. (e : List Atom) → holds e r ≡ not (holds e c.now)) }
@@ -44,11 +59,19 @@ pub fn negate(alloc: Global, c: &Constraint) -> Result<Constraint, NoMemory>
     ensures fits { IfOk result (λ r. (n : ℕ) → ConstraintFits n c.now → ConstraintFits n r) }
     ensures operators { IfOk result (λ r. (o : Bool) → AdmitsConstraint o c.now → AdmitsConstraint o r) }
 {
-    let mut negated = Constraint::new(alloc);
-    negated.push(Cube::new(alloc))?;
-    for cube in c.as_slice() {
-        let refused = denied(alloc, cube)?;
-        negated = meet(alloc, &negated, &refused)?;
-    }
-    Ok(negated)
+    let everywhere = Pile::new(alloc).put(alloc, Known::new(alloc))?;
+    let rest = take_off(alloc, everywhere, c)?;
+    rest.into_constraint(alloc)
+}
+
+/// A constraint that holds exactly where `a` does and `c` doesn't, pruned.
+pub fn and_not(alloc: Global, a: &Constraint, c: &Constraint) -> Result<Constraint, NoMemory>
+    ensures truth { IfOk result (λ r. (e : List Atom) → holds e r ≡ (holds e a.now && not (holds e c.now))) }
+    ensures pruned { IfOk result IsPruned }
+    ensures levels { IfOk result (UsesOnly (a.now ++ c.now)) }
+    ensures fits { IfOk result (λ r. (n : ℕ) → ConstraintFits n a.now → ConstraintFits n c.now → ConstraintFits n r) }
+    ensures operators { IfOk result (λ r. (o : Bool) → AdmitsConstraint o a.now → AdmitsConstraint o c.now → AdmitsConstraint o r) }
+{
+    let rest = take_off(alloc, Pile::of(alloc, a)?, c)?;
+    rest.into_constraint(alloc)
 }

@@ -17,7 +17,7 @@ use Rattle.lois_base.specs.Validity.{AdmitsCube, AdmitsConstraint, AdmitsFormula
 use Rattle.lois_base.specs.declared.guards.Lit.{Lit}
 use Rattle.lois_base.specs.declared.logic.Formula.{Formula}
 use Rattle.lois_base.proofs.Validity.{constraint_admitted}
-use Rattle.lois_elim.specs.Bound.{AgreesWith, HoldsForSome}
+use Rattle.lois_elim.specs.Bound.{AgreesWith, AgreesWithBoth, HoldsForSome}
 use Rattle.lois_elim.proofs.Truth.{both_true, either_true}
 
 -- what is left of a list at an item
@@ -153,22 +153,20 @@ parts_begin n whole r fits levels operators = record {
   operators = λ o h. (operators o, h);
 }
 
-pub one_more_part : (n : ℕ) (whole rest : FormulasD) (f : FormulaD) (before part r : List (List Lit)) → PartsSoFar n whole (formula f rest) before → ((o : Bool) → AdmitsFormula o f → AdmitsConstraint o part) → ConstraintFits n r → ((o : Bool) → AdmitsConstraint o before → AdmitsConstraint o part → AdmitsConstraint o r) → PartsSoFar n whole rest r
-one_more_part n whole rest f before part r so_far admits levels operators = record {
+pub one_more_part : (n : ℕ) (whole rest : FormulasD) (f : FormulaD) (before r : List (List Lit)) → PartsSoFar n whole (formula f rest) before → ConstraintFits n r → ((o : Bool) → AdmitsConstraint o before → AdmitsFormula o f → AdmitsConstraint o r) → PartsSoFar n whole rest r
+one_more_part n whole rest f before r so_far levels operators = record {
   rest_fits = so_far.rest_fits.1;
   levels = levels;
-  operators = λ o h. let both = so_far.operators o h in (operators o both.0 (admits o both.1.0), both.1.1);
+  operators = λ o h. let both = so_far.operators o h in (operators o both.0 both.1.0, both.1.1);
 }
 
 pub all_begin : (n : ℕ) (whole : FormulasD) → AllSoFar n whole whole ([] ∷ [])
 all_begin n whole c k = (λ h. h.1, λ h. (refl, h))
 
-pub all_one_more : (n : ℕ) (whole rest : FormulasD) (f : FormulaD) (before part r : List (List Lit)) → AllSoFar n whole (formula f rest) before → AgreesWith n f part → ((c : List Atom) → holds c r ≡ (holds c before && holds c part)) → AllSoFar n whole rest r
-all_one_more n whole rest f before part r so_far agrees met c k = (
-  λ h. let both = (both_true (holds c before) (holds c part)).0 (sym (met c) ∙ h.0) in
-      (so_far c k).0 (both.0, ((agrees c k).0 both.1, h.1)),
-  λ h. let each = (so_far c k).1 h in
-      (met c ∙ (both_true (holds c before) (holds c part)).1 (each.0, (agrees c k).1 each.1.0), each.1.1),
+pub all_one_more : (n : ℕ) (whole rest : FormulasD) (f : FormulaD) (before r : List (List Lit)) → AllSoFar n whole (formula f rest) before → AgreesWithBoth n before f r → AllSoFar n whole rest r
+all_one_more n whole rest f before r so_far agrees c k = (
+  λ h. let both = (agrees c k).0 h.0 in (so_far c k).0 (both.0, (both.1, h.1)),
+  λ h. let each = (so_far c k).1 h in ((agrees c k).1 (each.0, each.1.0), each.1.1),
 )
 
 pub all_end : (n : ℕ) (whole : FormulasD) (r : List (List Lit)) → AllSoFar n whole no_formulas r → AgreesWith n (all whole) r
@@ -221,13 +219,12 @@ module _ (n : ℕ) (whole : FormulasD) (items : List Formula) (i : ℕ) (f : For
   pub part_admitted : PartsSoFar n whole (parts_from items i) before → (o : Bool) → AdmitsFormulas o whole → AdmitsFormula o (view f)
   part_admitted so_far o h = ((parts_here so_far).operators o h).1.0
 
-  pub parts_go_on : (part r : List (List Lit)) → PartsSoFar n whole (parts_from items i) before → ((o : Bool) → AdmitsFormula o (view f) → AdmitsConstraint o part) → ConstraintFits n r → ((o : Bool) → AdmitsConstraint o before → AdmitsConstraint o part → AdmitsConstraint o r) → PartsSoFar n whole (parts_from items (i + 1)) r
-  parts_go_on part r so_far =
-      one_more_part n whole (parts_from items (i + 1)) (view f) before part r (parts_here so_far)
+  pub parts_go_on : (r : List (List Lit)) → PartsSoFar n whole (parts_from items i) before → ConstraintFits n r → ((o : Bool) → AdmitsConstraint o before → AdmitsFormula o (view f) → AdmitsConstraint o r) → PartsSoFar n whole (parts_from items (i + 1)) r
+  parts_go_on r so_far = one_more_part n whole (parts_from items (i + 1)) (view f) before r (parts_here so_far)
 
-  pub all_go_on : (part r : List (List Lit)) → AllSoFar n whole (parts_from items i) before → AgreesWith n (view f) part → ((c : List Atom) → holds c r ≡ (holds c before && holds c part)) → AllSoFar n whole (parts_from items (i + 1)) r
-  all_go_on part r so_far =
-      all_one_more n whole (parts_from items (i + 1)) (view f) before part r (subst (λ rest. AllSoFar n whole rest before) (parts_are items i f l is) so_far)
+  pub all_go_on : (r : List (List Lit)) → AllSoFar n whole (parts_from items i) before → AgreesWithBoth n before (view f) r → AllSoFar n whole (parts_from items (i + 1)) r
+  all_go_on r so_far =
+      all_one_more n whole (parts_from items (i + 1)) (view f) before r (subst (λ rest. AllSoFar n whole rest before) (parts_are items i f l is) so_far)
 
   pub any_go_on : (part r : List (List Lit)) → AnySoFar n whole (parts_from items i) before → AgreesWith n (view f) part → r ≡ before ++ part → AnySoFar n whole (parts_from items (i + 1)) r
   any_go_on part r so_far =

@@ -8,7 +8,7 @@ use Rattle.lois_base.specs.Atom.{Atom}
 use Rattle.lois_base.specs.FormulaData.{FormulaD, lit, neg, exists, forall}
 use Rattle.lois_base.specs.Truth.{lit_holds, holds}
 use Rattle.lois_base.specs.declared.guards.Lit.{Lit}
-use Rattle.lois_elim.specs.Bound.{AgreesWith, HoldsForSome, HoldsForEach}
+use Rattle.lois_elim.specs.Bound.{AgreesWith, AgreesWithBoth, HoldsForSome, HoldsForEach}
 
 pub both_true : (a b : Bool) → IsTrue (a && b) ↔ (IsTrue a × IsTrue b)
 both_true true b = (λ h. (refl, h), λ h. h.1)
@@ -64,3 +64,18 @@ each_of_some n g refutes found r denied some negated c k = (
   λ p a. not_refuted (holds (c ++ a ∷ []) g) (λ q. (not_true (holds c found)).0 (sym (negated c) ∙ p) ((some c k).1 (a, denied (c ++ a ∷ []) ∙ q))),
   λ p. negated c ∙ (not_true (holds c found)).1 (λ q. let x = (some c k).0 q in (not_true (holds (c ++ x.0 ∷ []) g)).0 (sym (denied (c ++ x.0 ∷ [])) ∙ x.1) (p x.0)),
 )
+
+-- a formula, or its negation, beside what a constraint says
+module _ (n : ℕ) (f : FormulaD) (g part r : List (List Lit)) (agrees : AgreesWith n f part) where
+  pub met_formula : ((c : List Atom) → holds c r ≡ (holds c g && holds c part)) → AgreesWithBoth n g f r
+  met_formula met c k = (
+    λ p. let both = (both_true (holds c g) (holds c part)).0 (sym (met c) ∙ p) in (both.0, (agrees c k).0 both.1),
+    λ h. met c ∙ (both_true (holds c g) (holds c part)).1 (h.0, (agrees c k).1 h.1),
+  )
+
+  pub met_negation : ((c : List Atom) → holds c r ≡ (holds c g && not (holds c part))) → AgreesWithBoth n g (neg f) r
+  met_negation met c k = (
+    λ p. let both = (both_true (holds c g) (not (holds c part))).0 (sym (met c) ∙ p) in
+        (both.0, λ h. (not_true (holds c part)).0 both.1 ((agrees c k).1 h)),
+    λ h. met c ∙ (both_true (holds c g) (not (holds c part))).1 (h.0, (not_true (holds c part)).1 (λ q. h.1 ((agrees c k).0 q))),
+  )

@@ -7,11 +7,11 @@ ghost use Rattle.lois_base.specs.FormulaData.{FormulaFits, FormulasFit, all, any
 ghost use Rattle.lois_base.specs.FormulaView.{view, views};
 ghost use Rattle.lois_base.specs.Truth.{lit_holds, holds};
 ghost use Rattle.lois_base.specs.Validity.{AdmitsLit, AdmitsConstraint, AdmitsFormula, AdmitsFormulas};
-ghost use Rattle.lois_elim.specs.Bound.{AgreesWith};
+ghost use Rattle.lois_elim.specs.Bound.{AgreesWith, AgreesWithBoth};
 
 use crate::levels::{append, for_each, for_some};
 use lois_base::{Constraint, Cube, Formula, Formulas, Lit, NoMemory, Structure};
-use lois_constraint::{meet, negate, prune};
+use lois_constraint::{and_not, meet, negate, prune};
 use std::alloc::Global;
 
 fn with_literal(alloc: Global, lit: Lit) -> Result<Constraint, NoMemory>
@@ -81,6 +81,26 @@ pub fn quantifier_free<T: Structure>(
     }
 }
 
+// The constraint where a part holds too. What a negation denies is taken off, and not negated first.
+#[cycle(elimination)]
+fn meet_part<T: Structure>(
+    alloc: Global,
+    met: &Constraint,
+    part: &Formula,
+    size: usize,
+) -> Result<Constraint, NoMemory>
+    requires levels { FormulaFits size (view part.now) }
+    requires operators { AdmitsFormula T.ordered (view part.now) }
+    ensures truth { IfOk result (AgreesWithBoth size met.now (view part.now)) }
+    ensures levels { IfOk result (λ r. ConstraintFits size met.now → ConstraintFits size r) }
+    ensures operators { IfOk result (λ r. (o : Bool) → AdmitsConstraint o met.now → AdmitsFormula o (view part.now) → AdmitsConstraint o r) }
+{
+    match part {
+        Formula::Not(body) => and_not(alloc, met, &quantifier_free::<T>(alloc, body, size)?),
+        _ => meet(alloc, met, &quantifier_free::<T>(alloc, part, size)?),
+    }
+}
+
 #[cycle(elimination)]
 fn all_of<T: Structure>(
     alloc: Global,
@@ -95,7 +115,7 @@ fn all_of<T: Structure>(
 {
     let mut met = always(alloc)?;
     for part in parts.as_slice() {
-        met = meet(alloc, &met, &quantifier_free::<T>(alloc, part, size)?)?;
+        met = meet_part::<T>(alloc, &met, part, size)?;
         if met.len() == 0 {
             return Ok(met);
         }

@@ -1,9 +1,10 @@
 //! Constraints with their highest level bound: for some atom at it, and for each.
 
-ghost use Rattle.std.specs.Prelude.{◌≡◌, ◌+◌, Bool, ◌++◌, IfOk, OnOk};
+ghost use Rattle.std.specs.Prelude.{◌≡◌, ◌+◌, ◌<◌, ◌^◌, Bool, ◌++◌, IfOk, OnOk};
 ghost use Rattle.lois_base.specs.Fits.{ConstraintFits};
 ghost use Rattle.lois_base.specs.Validity.{AdmitsConstraint};
-ghost use Rattle.lois_elim.specs.Bound.{HoldsForSome, HoldsForEach};
+ghost use Rattle.lois_base.specs.Bound.{HoldsForSome, HoldsForEach};
+ghost use Rattle.lois_elim.specs.Bound.{HoldsForSomeMore};
 
 use lois_base::{Constraint, NoMemory, Structure};
 use lois_constraint::{negate, prune};
@@ -36,6 +37,29 @@ pub fn for_some<T: Structure>(
         append(&mut found, T::eliminate(alloc, cube, size)?)?;
     }
     prune(alloc, &found)
+}
+
+/// A constraint over the levels below `size` that says that the given one holds for some atoms at the `by` levels from there on.
+pub fn for_some_more<T: Structure>(
+    alloc: Global,
+    c: Constraint,
+    size: usize,
+    by: usize,
+) -> Result<Constraint, NoMemory>
+    requires room { size + by < 2 ^ 64 }
+    requires levels { ConstraintFits (size + by) c }
+    requires operators { AdmitsConstraint T.ordered c }
+    ensures truth { IfOk result (HoldsForSomeMore size by c) }
+    ensures levels { IfOk result (ConstraintFits size) }
+    ensures operators { IfOk result (λ r. (o : Bool) → AdmitsConstraint o c → AdmitsConstraint o r) }
+{
+    let mut left = c;
+    let mut more = by;
+    'levels: while more > 0 {
+        more -= 1;
+        left = for_some::<T>(alloc, &left, size + more)?;
+    }
+    Ok(left)
 }
 
 /// A constraint over the levels below `size` that says that the given one holds for each atom at level `size`.

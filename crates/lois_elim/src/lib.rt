@@ -3,8 +3,6 @@
 
 mod elimination;
 mod levels;
-#[cfg(test)]
-mod tests;
 
 pub use elimination::quantifier_free;
-pub use levels::for_some;
+pub use levels::{for_some, for_some_more};

@@ -2,7 +2,5 @@
 #![tactic(auto)]
 
 mod atoms;
-#[cfg(test)]
-mod tests;
 
 pub use atoms::EqualityAtoms;

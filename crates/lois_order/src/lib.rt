@@ -4,7 +4,5 @@
 mod atoms;
 mod cubes;
 mod rule;
-#[cfg(test)]
-mod tests;
 
 pub use atoms::OrderAtoms;

@@ -1,20 +1,25 @@
-use Rattle.std.proofs.Common.{◌++◌, ◌∙◌}
-use Rattle.std.proofs.lemmas.Result.{IfOk-weaker}
-use Rattle.lois_base.proofs.Validity.{uses_only-trans}
+use Rattle.std.proofs.Common.{◌++◌, ◌&&◌, ap, ◌∙◌}
+use Rattle.lois_base.proofs.Validity.{uses_only-refl, uses_only-append_left, uses_only-append_right}
+use Rattle.lois_base.specs.Truth.{holds}
+use Rattle.lois_constraint.specs.Rules.{Rule, uses, fits, admits, ConstraintObeys}
+use Rattle.lois_constraint.proofs.Uses.{same_answer}
 use Rattle.lois_constraint.proofs.pruning.meet.Goals as goal
 
 pub returns-clause-truth : goal.returns-clause-truth
 returns-clause-truth c =
-    IfOk-weaker c.prune.result _ _ (λ r h e. h e ∙ c.in_ok-product.ensures.truth e) c.prune.ensures.truth
+    same_answer c.into_constraint.result c.in_ok-met.met _ c.into_constraint.ensures.same (λ e. c.in_ok-met.ensures.truth e ∙ ap (λ p. p && holds e c.args.b.now) (c.in_ok-of.ensures.truth e))
 
 pub returns-clause-levels : goal.returns-clause-levels
 returns-clause-levels c =
-    IfOk-weaker c.prune.result _ _ (λ r u. uses_only-trans (c.args.a.now ++ c.args.b.now) c.in_ok-product.product r c.in_ok-product.ensures.levels u) c.prune.ensures.levels
+    let obeys : (rule : Rule) → ConstraintObeys rule c.args.a.now → ConstraintObeys rule c.args.b.now → ConstraintObeys rule c.in_ok-met.met = λ rule h k. c.in_ok-met.ensures.rules rule (c.in_ok-of.ensures.rules rule h) k in
+    same_answer c.into_constraint.result c.in_ok-met.met _ c.into_constraint.ensures.same (obeys (uses (c.args.a.now ++ c.args.b.now)) (uses_only-append_left c.args.a.now c.args.b.now c.args.a.now (uses_only-refl c.args.a.now)) (uses_only-append_right c.args.a.now c.args.b.now c.args.b.now (uses_only-refl c.args.b.now)))
 
 pub returns-clause-fits : goal.returns-clause-fits
 returns-clause-fits c =
-    IfOk-weaker c.prune.result _ _ (λ r h n f g. h n (c.in_ok-product.ensures.fits n f g)) c.prune.ensures.fits
+    let obeys : (rule : Rule) → ConstraintObeys rule c.args.a.now → ConstraintObeys rule c.args.b.now → ConstraintObeys rule c.in_ok-met.met = λ rule h k. c.in_ok-met.ensures.rules rule (c.in_ok-of.ensures.rules rule h) k in
+    same_answer c.into_constraint.result c.in_ok-met.met _ c.into_constraint.ensures.same (λ n. obeys (fits n))
 
 pub returns-clause-operators : goal.returns-clause-operators
 returns-clause-operators c =
-    IfOk-weaker c.prune.result _ _ (λ r h o f g. h o (c.in_ok-product.ensures.operators o f g)) c.prune.ensures.operators
+    let obeys : (rule : Rule) → ConstraintObeys rule c.args.a.now → ConstraintObeys rule c.args.b.now → ConstraintObeys rule c.in_ok-met.met = λ rule h k. c.in_ok-met.ensures.rules rule (c.in_ok-of.ensures.rules rule h) k in
+    same_answer c.into_constraint.result c.in_ok-met.met _ c.into_constraint.ensures.same (λ o. obeys (admits o))

@@ -5,13 +5,16 @@ use Rattle.lois_elim.proofs.Steps.{PartsSoFar, AllSoFar, AnySoFar, parts_from}
 use Rattle.lois_elim.proofs.elimination.+elimination.Given as goal
 
 abbrev pub decreases-quantifier_free : goal.decreases-quantifier_free
-decreases-quantifier_free g l = 2 * depth_of_formula (view l.f.now) + 1
+decreases-quantifier_free g l = 3 * depth_of_formula (view l.f.now) + 1
+
+abbrev pub decreases-meet_part : goal.decreases-meet_part
+decreases-meet_part g l = 3 * depth_of_formula (view l.part.now) + 2
 
 abbrev pub decreases-all_of : goal.decreases-all_of
-decreases-all_of g l = 2 * depth_of_formulas (formulas_of (views l.parts.now)) + 2
+decreases-all_of g l = 3 * depth_of_formulas (formulas_of (views l.parts.now)) + 3
 
 abbrev pub decreases-any_of : goal.decreases-any_of
-decreases-any_of g l = 2 * depth_of_formulas (formulas_of (views l.parts.now)) + 2
+decreases-any_of g l = 3 * depth_of_formulas (formulas_of (views l.parts.now)) + 3
 
 abbrev pub invariant-all_of-loop-part : goal.invariant-all_of-loop-part
 invariant-all_of-loop-part g l = record {

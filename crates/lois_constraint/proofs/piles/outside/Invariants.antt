@@ -1,0 +1,18 @@
+use Rattle.std.proofs.Common.{◌≡◌, ◌||◌, List}
+use Rattle.std.specs.List.{All}
+use Rattle.lois_base.specs.Atom.{Atom}
+use Rattle.lois_base.specs.Truth.{cube_holds, holds}
+use Rattle.lois_base.specs.declared.guards.Lit.{Lit}
+use Rattle.lois_constraint.specs.Met.{LiesWithin, AreApart, IsPruned}
+use Rattle.lois_constraint.specs.Rules.{Rule, ConstraintObeys}
+use Rattle.lois_constraint.proofs.piles.outside.Given as goal
+
+abbrev pub invariant-loop-known : goal.invariant-loop-known
+invariant-loop-known l = record {
+  truth : (c : List Atom) → (holds c l.kept.items || cube_holds c l.cube) ≡ (holds c l.yielded || cube_holds c l.cube);
+  outside : All (λ k. LiesWithin k l.cube → ⊥) l.kept.items;
+  uncovered : All (λ k. LiesWithin l.cube k → ⊥) l.yielded → All (λ k. LiesWithin l.cube k → ⊥) l.kept.items;
+  pruned : IsPruned l.yielded → IsPruned l.kept.items;
+  apart : (z : List Lit) → All (λ k. AreApart k z) l.yielded → All (λ k. AreApart k z) l.kept.items;
+  rules : (rule : Rule) → ConstraintObeys rule l.yielded → ConstraintObeys rule l.kept.items;
+}

@@ -1,0 +1,185 @@
+//! Lists of cubes that are pruned as they grow.
+
+ghost use Rattle.std.specs.Prelude.{◌≡◌, List, [], ◌&&◌, ◌||◌, not, IfOk, IsTrue, IsFalse};
+ghost use Rattle.std.specs.List.{All};
+ghost use Rattle.lois_base.specs.Atom.{Atom};
+ghost use Rattle.lois_base.specs.Truth.{cube_holds, holds};
+ghost use Rattle.lois_constraint.specs.Met.{LiesWithin, AreApart, IsPruned};
+ghost use Rattle.lois_constraint.specs.Rules.{Rule, CubeObeys, ConstraintObeys};
+ghost use Rattle.lois_constraint.specs.Tight.{some_holds, SomeObeys};
+
+use crate::known::Known;
+use lois_base::{Constraint, Cube, NoMemory};
+use std::alloc::Global;
+use std::marker::Model;
+
+/// Cubes of which none lies within another, each with what it says.
+#[derive(Drop)]
+pub(crate) struct Pile {
+    items: Vec<Known>,
+}
+
+impl Model for Pile {
+    ghost use Rattle.std.specs.Prelude.{List};
+    ghost use Rattle.lois_base.specs.declared.guards.Lit.{Lit};
+    ghost use Rattle.lois_constraint.specs.Met.{IsPruned};
+
+    ghost Value = { List (List Lit) };
+
+    ghost view = { λ p. p.items.items };
+
+    ghost invariant = { λ p. IsPruned p.items.items };
+}
+
+// The cubes that don't lie within the cube.
+fn outside(alloc: Global, cubes: Vec<Known>, cube: &Cube) -> Result<Vec<Known>, NoMemory>
+    ensures truth { IfOk result (λ r. (c : List Atom) → (holds c r.items || cube_holds c cube.now) ≡ (holds c cubes.items || cube_holds c cube.now)) }
+    ensures outside { IfOk result (λ r. All (λ k. LiesWithin k cube.now → ⊥) r.items) }
+    ensures uncovered { IfOk result (λ r. All (λ k. LiesWithin cube.now k → ⊥) cubes.items → All (λ k. LiesWithin cube.now k → ⊥) r.items) }
+    ensures pruned { IfOk result (λ r. IsPruned cubes.items → IsPruned r.items) }
+    ensures rules { IfOk result (λ r. (rule : Rule) → ConstraintObeys rule cubes.items → ConstraintObeys rule r.items) }
+{
+    let mut kept = Vec::new(alloc);
+    for known in cubes {
+        if !known.lies_within(cube) {
+            kept.push(known)?;
+        }
+    }
+    Ok(kept)
+}
+
+// Whether the cube lies within one of the others.
+fn lies_within_one(known: &Known, others: &Constraint) -> bool
+    ensures { IsTrue result → (c : List Atom) → IsTrue (cube_holds c known.now) → IsTrue (holds c others.now) }
+{
+    for other in others.as_slice() {
+        if known.lies_within(other) {
+            return true;
+        }
+    }
+    false
+}
+
+// The cubes where a constraint holds too.
+fn met_with(alloc: Global, cubes: Vec<Known>, c: &Constraint) -> Result<Pile, NoMemory>
+    ensures truth { IfOk result (λ r. (e : List Atom) → holds e r ≡ (holds e cubes.items && holds e c.now)) }
+    ensures rules { IfOk result (λ r. (rule : Rule) → ConstraintObeys rule cubes.items → ConstraintObeys rule c.now → ConstraintObeys rule r) }
+{
+    let mut met = Pile::new(alloc);
+    for known in cubes {
+        met = met.put_met(alloc, known, c)?;
+    }
+    Ok(met)
+}
+
+impl Pile {
+    /// No cubes.
+    pub(crate) fn new(alloc: Global) -> Self
+        ensures { result ≡ [] }
+    {
+        Pile {
+            items: Vec::new(alloc),
+        }
+    }
+
+    // Whether the cube lies within one of the pile.
+    fn covers(&self, known: &Known) -> bool
+        ensures covered { IsTrue result → (c : List Atom) → IsTrue (cube_holds c known.now) → IsTrue (holds c self.now) }
+        ensures uncovered { IsFalse result → All (λ k. LiesWithin known.now k → ⊥) self.now }
+    {
+        for other in &self.items {
+            if known.lies_within(other.cube()) {
+                return true;
+            }
+        }
+        false
+    }
+
+    /// One more cube, unless it adds nothing.
+    pub(crate) fn put(self, alloc: Global, known: Known) -> Result<Self, NoMemory>
+        ensures truth { IfOk result (λ r. (c : List Atom) → holds c r ≡ (holds c self || cube_holds c known)) }
+        ensures rules { IfOk result (λ r. (rule : Rule) → ConstraintObeys rule self → CubeObeys rule known → ConstraintObeys rule r) }
+    {
+        if self.covers(&known) {
+            return Ok(self);
+        }
+        let Pile { items } = self;
+        let mut kept = outside(alloc, items, known.cube())?;
+        kept.push(known)?;
+        Ok(Pile { items: kept })
+    }
+
+    // One more cube, where there is one.
+    fn put_some(self, alloc: Global, found: Option<Known>) -> Result<Self, NoMemory>
+        ensures truth { IfOk result (λ r. (c : List Atom) → holds c r ≡ (holds c self || some_holds c found)) }
+        ensures rules { IfOk result (λ r. (rule : Rule) → ConstraintObeys rule self → SomeObeys rule found → ConstraintObeys rule r) }
+    {
+        match found {
+            Some(known) => Ok(self.put(alloc, known)?),
+            None => Ok(self),
+        }
+    }
+
+    /// The cubes of a constraint.
+    pub(crate) fn of(alloc: Global, c: &Constraint) -> Result<Self, NoMemory>
+        ensures truth { IfOk result (λ r. (e : List Atom) → holds e r ≡ holds e c.now) }
+        ensures rules { IfOk result (λ r. (rule : Rule) → ConstraintObeys rule c.now → ConstraintObeys rule r) }
+    {
+        let mut pile = Pile::new(alloc);
+        for cube in c.as_slice() {
+            pile = pile.put_some(alloc, Known::of(alloc, cube)?)?;
+        }
+        Ok(pile)
+    }
+
+    // The cube with each of the others.
+    fn put_with_each(
+        self,
+        alloc: Global,
+        known: &Known,
+        others: &Constraint,
+    ) -> Result<Self, NoMemory>
+        ensures truth { IfOk result (λ r. (c : List Atom) → holds c r ≡ (holds c self || (cube_holds c known.now && holds c others.now))) }
+        ensures rules { IfOk result (λ r. (rule : Rule) → ConstraintObeys rule self → CubeObeys rule known.now → ConstraintObeys rule others.now → ConstraintObeys rule r) }
+    {
+        let mut pile = self;
+        for other in others.as_slice() {
+            let both = known.copy(alloc)?.and(alloc, other)?;
+            pile = pile.put_some(alloc, both)?;
+        }
+        Ok(pile)
+    }
+
+    // The cube where the constraint holds: whole where it lies within one of the constraint's cubes.
+    fn put_met(self, alloc: Global, known: Known, others: &Constraint) -> Result<Self, NoMemory>
+        ensures truth { IfOk result (λ r. (c : List Atom) → holds c r ≡ (holds c self || (cube_holds c known && holds c others.now))) }
+        ensures rules { IfOk result (λ r. (rule : Rule) → ConstraintObeys rule self → CubeObeys rule known → ConstraintObeys rule others.now → ConstraintObeys rule r) }
+    {
+        if lies_within_one(&known, others) {
+            return Ok(self.put(alloc, known)?);
+        }
+        Ok(self.put_with_each(alloc, &known, others)?)
+    }
+
+    /// The pile where a constraint holds too.
+    pub(crate) fn meet(self, alloc: Global, c: &Constraint) -> Result<Self, NoMemory>
+        ensures truth { IfOk result (λ r. (e : List Atom) → holds e r ≡ (holds e self && holds e c.now)) }
+        ensures rules { IfOk result (λ r. (rule : Rule) → ConstraintObeys rule self → ConstraintObeys rule c.now → ConstraintObeys rule r) }
+    {
+        let Pile { items } = self;
+        met_with(alloc, items, c)
+    }
+
+    /// The cubes as a constraint.
+    pub(crate) fn into_constraint(self, alloc: Global) -> Result<Constraint, NoMemory>
+        ensures same { IfOk result (λ r. r ≡ self) }
+        ensures pruned { IfOk result IsPruned }
+    {
+        let Pile { items } = self;
+        let mut c = Constraint::new(alloc);
+        for known in items {
+            c.push(known.into_cube())?;
+        }
+        Ok(c)
+    }
+}

@@ -1,0 +1,11 @@
+use Rattle.std.proofs.Common.{◌+◌, ◌-◌, Bool}
+use Rattle.lois_base.specs.Fits.{ConstraintFits}
+use Rattle.lois_base.specs.Validity.{AdmitsConstraint}
+use Rattle.lois_elim.proofs.BoundDown.{IsBoundDown}
+use Rattle.lois_elim.proofs.levels.for_some_more.Given as goal
+
+abbrev pub invariant-levels : goal.invariant-levels
+invariant-levels g l = IsBoundDown l.size l.by l.more l.fn.c l.left
+
+abbrev pub decreases-levels : goal.decreases-levels
+decreases-levels g l = l.more
