@@ -1,16 +1,18 @@
 -- Questions about one cube after another.
 use Rattle.std.proofs.Common.{◌≡◌, ℕ, ◌+◌, ◌-◌, ◌<◌, ◌≤◌, ◌^◌, ◌⊎◌, inl, inr, Bool, true, false, not, ◌&&◌, List, length, get_or, set, Option, Some, None, Result, Ok, Err, IfOk, OnOk, IfSome, IsNone, ◌↔◌, refl, sym, ap, ◌∙◌, subst, arith}
-use Rattle.std.proofs.lemmas.Bool.{cases_lt}
+use Rattle.std.proofs.lemmas.Bool.{cases_lt, and_parts, and_from}
 use Rattle.std.proofs.lemmas.List.Folds.{Any-from_list_any}
-use Rattle.std.proofs.lemmas.List.{get_or_default, get_or-set_same}
+use Rattle.std.proofs.lemmas.List.{get_or_default, get_or-set_same, length-map}
 use Rattle.std.specs.Bool.{IsTrue, IsFalse}
 use Rattle.std.specs.Global.{Vec}
 use Rattle.std.specs.List.{HoldsAt}
-use Rattle.lois_base.specs.Atom.{Atom}
+use Rattle.std.specs.Option.{is_some}
+use Rattle.lois_base.specs.Atom.{Atom, whole}
 use Rattle.lois_base.specs.Theory.{IsSatisfiable, risen}
 use Rattle.lois_base.specs.Truth.{cube_holds, holds, sampled}
 use Rattle.lois_base.specs.declared.guards.Lit.{Lit}
 use Rattle.lois_deciders.specs.Asked.{CanBeMet, HasRisen, Meets, Parts, IsEntailed}
+use Rattle.lois_deciders.specs.Met.{ExcludeEachOther}
 
 -- the count of questions after k of them
 abbrev pub HasAsked : ℕ → ℕ → ℕ → Type 0
@@ -77,6 +79,35 @@ module _ {E : Type 0} (n : ℕ) (g h r : List (List Lit)) (e : (c : List Atom) �
   pub none_parts : (a : Result (Option (Vec ℕ)) E) → IfOk a (λ o. IsNone o ↔ (CanBeMet n r → ⊥)) → IfOk a (λ o. IsNone o ↔ IsEntailed n g h)
   none_parts (Ok o) w = (λ i. unmet_entails g h r e n (w.0 i), λ f. w.1 (entailed_unmet g h r e n f))
   none_parts (Err x) w = w
+
+-- ---- of a constraint that holds where another does
+module _ {E : Type 0} (n : ℕ) (g h : List (List Lit)) (e : (c : List Atom) → holds c h ≡ holds c g) where
+  pub sample_alike : (a : Result (Option (Vec ℕ)) E) → IfOk a (λ o. IfSome o (λ s. Meets n g s.items)) → IfOk a (λ o. IfSome o (λ s. Meets n h s.items))
+  sample_alike (Ok (Some s)) m = (m.0, e (sampled s.items) ∙ m.1)
+  sample_alike (Ok None) m = m
+  sample_alike (Err x) m = m
+
+  pub none_alike : (a : Result (Option (Vec ℕ)) E) → IfOk a (λ o. IsNone o ↔ (CanBeMet n g → ⊥)) → IfOk a (λ o. IsNone o ↔ (CanBeMet n h → ⊥))
+  none_alike (Ok o) w = (λ i m. w.0 i (m.0, m.1, sym (e m.0) ∙ m.2), λ f. w.1 (λ m. f (m.0, m.1, e m.0 ∙ m.2)))
+  none_alike (Err x) w = w
+
+-- ---- where two constraints hold
+module _ (n : ℕ) (g h r : List (List Lit)) (e : (c : List Atom) → holds c r ≡ (holds c g && holds c h)) where
+  pub unmet_excludes : (CanBeMet n r → ⊥) → ExcludeEachOther n g h
+  unmet_excludes f = λ c l p q. f (c, l, e c ∙ and_from (holds c g) (holds c h) p q)
+
+  pub excluded_unmet : ExcludeEachOther n g h → CanBeMet n r → ⊥
+  excluded_unmet f m = let b = and_parts (holds m.0 g) (holds m.0 h) (sym (e m.0) ∙ m.2) in f m.0 m.1 b.0 b.1
+
+pub is_met : (n : ℕ) (g : List (List Lit)) (s : List ℕ) → Meets n g s → CanBeMet n g
+is_met n g s m = (sampled s, length-map s whole ∙ m.0.count, m.1)
+
+-- ---- an answer that may be missing
+pub some_is : {X : Type 0} (P : X → Type 0) (o : Option X) (x : X) → o ≡ Some x → IfSome o P → P x
+some_is P o x e h = subst (λ z. IfSome z P) e h
+
+pub none_is : {X : Type 0} (o : Option X) → o ≡ None → IsNone o
+none_is o e = ap is_some e
 
 pub on_ok : {T E : Type 0} (r : Result T E) (P Q : Type 0) → (P → Q) → OnOk r P → OnOk r Q
 on_ok (Ok x) P Q f h = f h

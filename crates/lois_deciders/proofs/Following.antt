@@ -42,7 +42,3 @@ module _ (cube : List Lit) where
 pub no_both : (b : Bool) → IsTrue (not b) → IsTrue b → ⊥
 no_both true h k = cc
 no_both false h k = cc
-
-pub not_true : (b : Bool) → (b ≡ true → ⊥) → b ≡ false
-not_true true f = absurd (f refl)
-not_true false f = refl

@@ -10,3 +10,4 @@ pub mod Placed
 pub mod Staged
 pub mod Remembered
 pub mod Queued
+pub mod OnlyAsked

@@ -1,6 +1,6 @@
 -- How labels are ranked.
 use Rattle.std.proofs.Common.{◌≡◌, ℕ, zero, suc, ◌+◌, ◌<◌, ◌≢◌, ◌⊎◌, inl, inr, Bool, true, false, List, [], ◌∷◌, length, get_or, set, refl, sym, ap, ◌∙◌, subst, arith}
-use Rattle.std.proofs.lemmas.Bool.{cases_eq}
+use Rattle.std.proofs.lemmas.Bool.{cases_eq, false_from_ne_true}
 use Rattle.std.proofs.lemmas.Int.{ints}
 use Rattle.std.proofs.lemmas.List.{length-set, get_or_default, get_or-set_same, get_or-set_other}
 use Rattle.std.proofs.lemmas.List.Elements.{All-head, All-tail}
@@ -15,7 +15,6 @@ use Rattle.lois_base.specs.declared.guards.Lit.{Lit}
 use Rattle.lois_base.proofs.Samples.{sample_of}
 use Rattle.lois_deciders.specs.Labels.{IsLabelling, IsUnmet}
 use Rattle.lois_deciders.proofs.Ranking.{Waits, IsPlaced, IsLowest, EachWaitsOnAnother, one_where, IsRanking}
-use Rattle.lois_deciders.proofs.Following.{not_true}
 
 -- ---- the `<` go round
 below_numbers : (m n : ℕ) → IsTrue (below (whole m) (whole n)) → m < n
@@ -44,7 +43,7 @@ pub goes_round : (cube : List Lit) (labels : List ℕ) (waiting : List Bool) (ra
 goes_round cube labels waiting ranks next fits r l each = λ sat.
     let s = sample_of (length labels) cube fits sat in
     let lower : ((i : ℕ) → i < length waiting → Waits waiting i → (j : ℕ) × (j < length waiting) × Waits waiting j × (get_or s.0 j 0 < get_or s.0 i 0)) = λ i b w. let x = each i b w in (x.0, x.1, x.2, lower_number s.0 x.0 i (x.3 (sampled s.0) s.1.met)) in
-    let all : All (λ b. b ≡ false) waiting = λ i d b. subst (λ (v : Bool). v ≡ false) (get_or_default waiting i true d b) (not_true (get_or waiting i true) (λ w. falls waiting s.0 lower (get_or s.0 i 0 + 1) i b (omega arith) w)) in
+    let all : All (λ b. b ≡ false) waiting = λ i d b. subst (λ (v : Bool). v ≡ false) (get_or_default waiting i true d b) (false_from_ne_true (get_or waiting i true) (λ w. falls waiting s.0 lower (get_or s.0 i 0 + 1) i b (omega arith) w)) in
     omega (arith, none_left waiting all, r.left)
 
 -- ---- a lowest waiting level is placed

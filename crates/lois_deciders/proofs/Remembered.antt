@@ -1,5 +1,5 @@
 -- Answers that are right for questions that are equal.
-use Rattle.std.proofs.Common.{◌≡◌, ℕ, ◌-◌, ◌<◌, ◌⊎◌, inl, inr, Bool, true, false, not, ◌&&◌, List, [], ◌∷◌, length, get_or, take, eqb, Option, Some, None, Result, Ok, Err, OnOk, OnErr, IfSome, IsNone, ◌↔◌, refl, sym, ◌∙◌, subst, arith, rules, length-take}
+use Rattle.std.proofs.Common.{◌≡◌, ℕ, ◌-◌, ◌<◌, ◌⊎◌, inl, inr, Bool, true, false, not, ◌&&◌, List, [], ◌∷◌, length, get_or, take, eqb, Option, Some, None, Result, Ok, Err, OnOk, OnErr, IfSome, IsNone, ◌↔◌, refl, sym, ap, ◌∙◌, subst, arith, rules, length-take}
 use Rattle.std.proofs.lemmas.Bool.{eqb-true}
 use Rattle.std.proofs.lemmas.List.{get_or-take}
 use Rattle.std.proofs.lemmas.List.Elements.{All-contains, Contains-get_or}
@@ -25,6 +25,7 @@ use Rattle.lru.specs.LruCache.{LruCache, lru_cache, promoted, put_entries}
 use Rattle.lru.proofs.CallerLemmas.{Contains-lookup, Contains-promoted, Contains-put_entries, IsPut}
 use Rattle.lois_deciders.specs.Kept.{Answers, IsRight}
 use Rattle.lois_deciders.specs.Labels.{IsUnmet}
+use Rattle.lois_deciders.specs.Remembering.{Kept, HasPut, IsAbout, KeepsAnswers}
 use Rattle.lois_deciders.specs.contracts.questions.QuestionPartialEq.TheImpl.{eq-value}
 use Rattle.lois_deciders.specs.declared.questions.Question.{Question}
 
@@ -158,6 +159,24 @@ copy_answers q o p e h = answers_copied q.size q.literals.items o p e h
 
 pub answers_at : (n : ℕ) (q : Question) (o : Option (Vec ℕ)) → q.size ≡ n → Answers q o → AnswersAt n q.literals.items o
 answers_at n q o e h = subst (λ m. AnswersAt m q.literals.items o) e h
+
+-- ---- what is kept
+pub put_or_not : (q : Question) (o answer : Option (Vec ℕ)) (before after : Kept) → items_of o ≡ items_of answer → {T E : Type 0} (r : Result T E) →
+    OnOk r (after ≡ lru_cache (put_entries eq-value.it before q o) before.cap) → OnErr r (after ≡ before) → (after ≡ before) ⊎ HasPut q answer before after
+put_or_not q o answer before after same (Ok x) put err =
+    inr (record { copy = o; same = same; entries = ap (λ (d : Kept). d.entries) put })
+put_or_not q o answer before after same (Err x) put err = inl err
+
+module _ (n : ℕ) (cube : List Lit) (q : Question) (size : q.size ≡ n) (truth : (c : List Atom) → cube_holds c q.literals.items ≡ cube_holds c cube) (before after : Kept) where
+  about : IsAbout n cube q
+  about = record { size = size; truth = truth }
+
+  pub used_kept : after.entries ≡ promoted (eq-value.it q) before.entries → KeepsAnswers n cube before after
+  used_kept e = inr (q, about, inl e)
+
+  pub put_kept : (answer : Option (Vec ℕ)) → (after ≡ before) ⊎ HasPut q answer before after → KeepsAnswers n cube before after
+  put_kept answer (inl e) = inl (ap (λ (d : Kept). d.entries) e)
+  put_kept answer (inr p) = inr (q, about, inr (p.copy, p.entries))
 
 pub is_not : (b : Bool) → false ≡ not b → b ≡ true
 is_not true h = refl

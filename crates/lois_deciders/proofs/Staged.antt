@@ -10,7 +10,8 @@ use Rattle.lois_base.specs.Theory.{Eliminates, IsSatisfiable}
 use Rattle.lois_base.specs.Truth.{cube_holds, holds, sampled}
 use Rattle.lois_base.specs.declared.guards.Lit.{Lit}
 use Rattle.lois_deciders.specs.Asked.{CanBeMet}
-use Rattle.lois_deciders.specs.Stages.{SomeAtomMeets, HoldsForSome, AreStages}
+use Rattle.lois_base.specs.Bound.{SomeAtomMeets, HoldsForSome}
+use Rattle.lois_deciders.specs.Stages.{AreStages}
 
 either : (p q : Bool) → IsTrue (p || q) → IsTrue p ⊎ IsTrue q
 either true q h = inl refl

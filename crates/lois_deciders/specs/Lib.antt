@@ -1,7 +1,10 @@
 pub mod Labels
 pub mod Ranks
 pub mod Asked
+pub mod Met
 pub mod Choice
+pub mod OnlyAsked
 pub mod Stages
 pub mod Places
 pub mod Kept
+pub mod Remembering

@@ -1,15 +1,25 @@
 //! Several deciders, of which one is asked.
 
-ghost use Rattle.std.specs.Prelude.{◌≡◌, ◌<◌, ◌↔◌, length, map, vec_len, IfOk, OnOk, IfSome, IsNone, IsTrue};
+ghost use Rattle.std.specs.Prelude.{◌≡◌, ◌<◌, ◌≤◌, ◌↔◌, ◌&&◌, List, length, map, vec_len, IfOk, OnOk, IfSome, IsNone, IsTrue};
 ghost use Rattle.std.specs.List.{All, HoldsAt};
+ghost use Rattle.lois_base.specs.Atom.{Atom};
 ghost use Rattle.lois_base.specs.Fits.{CubeFits, ConstraintFits};
 ghost use Rattle.lois_base.specs.Theory.{IsSatisfiable, IsSampleOf, risen};
-ghost use Rattle.lois_deciders.specs.Asked.{Meets, CanBeMet, Parts, IsEntailed, HasRisen};
+ghost use Rattle.lois_base.specs.Truth.{holds};
+ghost use Rattle.lois_deciders.specs.Asked.{Meets, CanBeMet, Parts, IsEntailed, HasRisen, IsNoLower};
 ghost use Rattle.lois_deciders.specs.Choice.{IsWanted, IsUnwanted, IsFirstWanted};
+ghost use Rattle.lois_deciders.specs.Met.{AreMet, ExcludeEachOther};
 
-use lois_base::{Constraint, Cube, Decider, Kind, NoMemory};
-use lois_constraint::{and, meet, negate};
+use lois_base::{Constraint, Cube, Decider, Kind, NoMemory, Numbers};
+use lois_constraint::{and, and_not, meet, negate};
 use std::alloc::Global;
+
+/// A constraint, and numbers at which it holds.
+#[derive(Drop)]
+pub struct Met {
+    pub constraint: Constraint,
+    pub sample: Numbers,
+}
 
 /// Deciders, and which of them is asked.
 #[derive(Drop)]
@@ -38,6 +48,7 @@ fn put_cube(
     ensures sample { IfOk result (λ o. IfSome o (λ s. IsSampleOf size cube.now s.items)) }
     ensures none { IfOk result (λ o. IsNone o ↔ (IsSatisfiable size cube.now → ⊥)) }
     ensures asked { questions decider.new ≡ risen (questions decider.old) }
+    ensures kind { kind_of decider.new ≡ kind_of decider.old }
 {
     decider.satisfiable(alloc, cube, size)
 }
@@ -53,6 +64,8 @@ fn put(
     ensures sample { IfOk result (λ o. IfSome o (λ s. Meets size c.now s.items)) }
     ensures none { IfOk result (λ o. IsNone o ↔ (CanBeMet size c.now → ⊥)) }
     ensures asked { OnOk result (0 < length c.now → HasRisen (questions decider.old) (questions decider.new)) }
+    ensures kind { kind_of decider.new ≡ kind_of decider.old }
+    ensures more { IsNoLower (questions decider.old) (questions decider.new) }
 {
     for cube in c.as_slice() {
         if let Some(sample) = put_cube(decider, alloc, cube, size)? {
@@ -63,6 +76,8 @@ fn put(
 }
 
 impl Chosen {
+    ghost use Rattle.lois_deciders.specs.OnlyAsked.{HasOnlyAsked};
+
     /// The first of the deciders that is of the kind, or where no kind is named the first of all. `None` where there
     /// is no such decider, and then all are dropped.
     pub fn choose(deciders: Vec<Box<dyn Decider>>, kind: Option<Kind>) -> Option<Chosen>
@@ -90,13 +105,62 @@ impl Chosen {
         ensures sample { IfOk result (λ o. IfSome o (λ s. Meets size c.now s.items)) }
         ensures none { IfOk result (λ o. IsNone o ↔ (CanBeMet size c.now → ⊥)) }
         ensures asked { OnOk result (0 < length c.now → HoldsAt (λ b. HoldsAt (λ a. HasRisen ((⟦<dyn Decider as Decider>⟧ b.vtable).questions b.value) ((⟦<dyn Decider as Decider>⟧ a.vtable).questions a.value)) self.new.deciders.items self.new.position) self.old.deciders.items self.old.position) }
-        ensures position { self.new.position ≡ self.old.position }
+        ensures only_asked { HasOnlyAsked (λ b. kind_of b) (λ b. questions b) self.old self.new }
     {
         put(&mut self.deciders[self.position], alloc, c, size)
     }
 
-    /// `size` numbers below `size` at which `c` holds and `d` doesn't, or `None` where `d` holds at every choice of atoms at
-    /// which `c` does. Errors: `NoMemory`.
+    /// The pruned constraint that holds where `a` and `b` both do, with `size` numbers below `size` at which it holds, or `None`
+    /// where the two exclude each other. Errors: `NoMemory`.
+    pub fn meet(
+        &mut self,
+        alloc: Global,
+        a: &Constraint,
+        b: &Constraint,
+        size: usize,
+    ) -> Result<Option<Met>, NoMemory>
+        requires first { ConstraintFits size a.now }
+        requires second { ConstraintFits size b.now }
+        ensures met { IfOk result (λ o. IfSome o (λ m. AreMet size a.now b.now m.constraint m.sample)) }
+        ensures none { IfOk result (λ o. IsNone o ↔ ExcludeEachOther size a.now b.now) }
+        ensures only_asked { HasOnlyAsked (λ b. kind_of b) (λ b. questions b) self.old self.new }
+    {
+        let constraint = meet(alloc, a, b)?;
+        match self.ask_both(alloc, a, b, &constraint, size)? {
+            Some(sample) => Ok(Some(Met {
+                constraint,
+                sample: Numbers::from_vec(sample),
+            })),
+            None => Ok(None),
+        }
+    }
+
+    // A sample at which both hold. A contradiction that `pruned` has lost is for the decider to refuse.
+    fn ask_both(
+        &mut self,
+        alloc: Global,
+        a: &Constraint,
+        b: &Constraint,
+        pruned: &Constraint,
+        size: usize,
+    ) -> Result<Option<Vec<u64>>, NoMemory>
+        requires first { ConstraintFits size a.now }
+        requires second { ConstraintFits size b.now }
+        requires pruned { ConstraintFits size pruned.now }
+        requires truth { (c : List Atom) → holds c pruned.now ≡ (holds c a.now && holds c b.now) }
+        ensures sample { IfOk result (λ o. IfSome o (λ s. Meets size pruned.now s.items)) }
+        ensures none { IfOk result (λ o. IsNone o ↔ (CanBeMet size pruned.now → ⊥)) }
+        ensures only_asked { HasOnlyAsked (λ b. kind_of b) (λ b. questions b) self.old self.new }
+    {
+        if pruned.len() > 0 {
+            return self.ask(alloc, pruned, size);
+        }
+        let product = and(alloc, a, b)?;
+        self.ask(alloc, &product, size)
+    }
+
+    /// Whether `c` entails `d`, told by a counterexample: `size` numbers below `size` at which `c` holds and `d` doesn't, or
+    /// `None` where `d` holds at every choice of atoms at which `c` does. Errors: `NoMemory`.
     pub fn entails(
         &mut self,
         alloc: Global,
@@ -108,15 +172,15 @@ impl Chosen {
         requires second { ConstraintFits size d.now }
         ensures sample { IfOk result (λ o. IfSome o (λ s. Parts size c.now d.now s.items)) }
         ensures none { IfOk result (λ o. IsNone o ↔ IsEntailed size c.now d.now) }
-        ensures position { self.new.position ≡ self.old.position }
+        ensures only_asked { HasOnlyAsked (λ b. kind_of b) (λ b. questions b) self.old self.new }
     {
-        let denied = negate(alloc, d)?;
-        let pruned = meet(alloc, c, &denied)?;
+        let pruned = and_not(alloc, c, d)?;
         if pruned.len() > 0 {
             return self.ask(alloc, &pruned, size);
         }
 
         // a cube that contradicts itself is for the decider to refuse
+        let denied = negate(alloc, d)?;
         let product = and(alloc, c, &denied)?;
         self.ask(alloc, &product, size)
     }

@@ -10,10 +10,8 @@ mod plain;
 mod questions;
 mod ranks;
 mod stages;
-#[cfg(test)]
-mod tests;
 
-pub use chosen::Chosen;
+pub use chosen::{Chosen, Met};
 pub use graph::GraphDecider;
 pub use memo::MemoDecider;
 pub use plain::PlainDecider;

@@ -1,10 +1,14 @@
 //! The decider that keeps its answers.
 
-ghost use Rattle.std.specs.Prelude.{◌≡◌, ◌≤◌, [], IfOk};
+ghost use Rattle.std.specs.Prelude.{◌≡◌, ◌≤◌, ◌⊎◌, ◌↔◌, [], IfOk, IfSome, IsNone};
 ghost use Rattle.std.specs.List.{All};
 ghost use Rattle.std.specs.Option.{option_map};
+ghost use Rattle.lois_base.specs.Fits.{CubeFits};
+ghost use Rattle.lois_base.specs.Theory.{IsSampleOf, risen};
 ghost use Rattle.lois_base.specs.declared.deciding.Kind.{Kind};
 ghost use Rattle.lois_deciders.specs.Kept.{IsRight, Answers};
+ghost use Rattle.lois_deciders.specs.Labels.{IsUnmet};
+ghost use Rattle.lois_deciders.specs.Remembering.{HasPut, KeepsAnswers};
 
 use crate::graph::GraphDecider;
 use crate::questions::Question;
@@ -56,7 +60,8 @@ fn keep(
 )
     requires kept { All IsRight answers.old.entries }
     requires answer { Answers question answer.now }
-    ensures { All IsRight answers.new.entries }
+    ensures right { All IsRight answers.new.entries }
+    ensures entries { (answers.new ≡ answers.old) ⊎ HasPut question answer.now answers.old answers.new }
 {
     if let Ok(copy) = copied(alloc, answer) {
         let _ = answers.put(question, copy);
@@ -77,7 +82,15 @@ impl Decider for MemoDecider {
         alloc: Global,
         cube: &Cube,
         size: usize,
-    ) -> Result<Option<Vec<u64>>, NoMemory> {
+    ) -> Result<Option<Vec<u64>>, NoMemory>
+        requires { CubeFits size cube.now }
+        ensures sample { IfOk result (λ o. IfSome o (λ s. IsSampleOf size cube.now s.items)) }
+        ensures none { IfOk result (λ o. IsNone o ↔ IsUnmet size cube.now) }
+        ensures asked { self.new.asked ≡ risen self.old.asked }
+
+        // No answer is lost but for the one that another pushes out of a full list.
+        ensures kept { KeepsAnswers size cube.now self.old.answers self.new.answers }
+    {
         self.asked = self.asked.saturating_add(1);
         let question = Question::new(alloc, cube, size)?;
         if let Some(kept) = self.answers.peek(&question) {

@@ -1,8 +1,9 @@
 //! A cube with its levels eliminated, one after another from the last.
 
 ghost use Rattle.std.specs.Prelude.{◌+◌, ◌∷◌, [], IfOk};
+ghost use Rattle.lois_base.specs.Bound.{HoldsForSome};
 ghost use Rattle.lois_base.specs.Fits.{CubeFits, ConstraintFits};
-ghost use Rattle.lois_deciders.specs.Stages.{HoldsForSome, AreStages};
+ghost use Rattle.lois_deciders.specs.Stages.{AreStages};
 
 use lois_base::{Constraint, Cube, NoMemory, Structure};
 use lois_constraint::or;

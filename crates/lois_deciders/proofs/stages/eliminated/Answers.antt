@@ -1,6 +1,7 @@
 use Rattle.std.proofs.Common.{◌≡◌, ◌+◌, ◌-◌, [], ◌∷◌, get_or, sym, subst, arith}
 use Rattle.lois_base.specs.Fits.{ConstraintFits}
-use Rattle.lois_deciders.specs.Stages.{HoldsForSome, AreStages}
+use Rattle.lois_base.specs.Bound.{HoldsForSome}
+use Rattle.lois_deciders.specs.Stages.{AreStages}
 use Rattle.lois_deciders.proofs.Staged.{one_stage_more, stage_read}
 use Rattle.lois_deciders.proofs.stages.eliminated.Goals as goal
 

@@ -1,6 +1,6 @@
 use Rattle.std.proofs.Common.{take}
 use Rattle.lois_base.specs.Fits.{ConstraintFits}
-use Rattle.lois_deciders.specs.Stages.{HoldsForSome}
+use Rattle.lois_base.specs.Bound.{HoldsForSome}
 use Rattle.lois_deciders.proofs.stages.without_level.Given as goal
 
 abbrev pub invariant-loop-cube : goal.invariant-loop-cube
