@@ -11,7 +11,7 @@ use Rattle.lois_base.specs.Validity.{AdmitsTerm, HasUsualWidths}
 use Rattle.lois_base.specs.Values.{point, IsSame, SameAt}
 use Rattle.lois_base.proofs.Members.{same_refl}
 use Rattle.lois_base.proofs.RenamedForm.{admits_renamed, widths_renamed}
-use Rattle.lois_meaning.specs.ResultsData.{LineD}
+use Rattle.lois_answers.specs.ResultsData.{LineD}
 use Rattle.lois_meaning.specs.Store.{named, looked_up, stored, AreSameNamed}
 use Rattle.lois_terms.proofs.MoreAtoms.{is_raised}
 use Rattle.lois_context.specs.Entered.{carried, carried_line, bound}

@@ -12,8 +12,8 @@ use Rattle.lois_base.specs.Validity.{AdmitsConstraint, AdmitsTerm, AdmitsComp, A
 use Rattle.lois_base.specs.Values.{PointValue, point, MemberAt, MakesAt, IsMember}
 use Rattle.lois_meaning.specs.Store.{looked_up, stored, AreSameNamed}
 use Rattle.lois_context.specs.Choices.{IsAdmitted, AdmitsContext, ContextHasUsualWidths}
-use Rattle.lois_context.specs.Entered.{binders_of, guard_of, item_of, items_listed, comps_listed, carried, carried_line, bound, IsEntry, HasNoMembers, AreEntries, IsHeldInside, GoesOn}
-use Rattle.lois_context.specs.Slots.{IsNew, store_at, lines_at}
+use Rattle.lois_context.specs.Entered.{binders_of, guard_of, item_of, items_listed, comps_listed, carried, carried_line, bound, IsEntry, HasNoMembers, AreEntries, IsHeldInside, GoesOn, IsInside, AreEntered}
+use Rattle.lois_context.specs.Slots.{IsNew, SlotD, slot_name, store_at, lines_at}
 use Rattle.lois_context.specs.declared.contexts.Context.{Context}
 use Rattle.lois_context.proofs.Carried.{lines_same, store_same, carried_new, held_last, carried_admits, carried_widths, lines_admit, lines_widths}
 use Rattle.lois_context.proofs.Longer.{holds_at_start}
@@ -135,28 +135,49 @@ module _ (before : Context) (x : List ℕ) where
       | inr later ↦ inr (member_outside ks ds h.1 (d, later, e, adm, held))
     ]
 
+  names_carried : (n by : ℕ) (t : TermD) (ss : List SlotD) → map slot_name (map (carried n by) ss ++ bound x t ∷ []) ≡ map slot_name ss ++ x ∷ []
+  names_carried n by t [] = refl
+  names_carried n by t (s ∷ ss) = ap (λ ns. s.name ∷ ns) (names_carried n by t ss)
+
+  is_inside : IsNew x before.store → (k : CompD) (d : Context) → IsEntry before x k d → IsInside before x d
+  is_inside new k d entry = record {
+    longer = omega (arith, entry.size);
+    names = ap (map slot_name) entry.store ∙ names_carried before.size (binders_of k) (item_of k) before.store;
+    held = λ c. (point (item_of k) c, entry_holds new k d entry c);
+  }
+
   -- ---- what is promised of the contexts inside
   module _ (t : TermD) (ks : List CompD) (is : t ≡ coll (comps_of ks)) (ds : List Context) (entries : AreEntries before x ks ds) where
-    pub members_are : IsNew x before.store → (c : List Atom) → IsAdmitted c before → (u : PointValue) → IsMember u (point t c) ↔ IsHeldInside ds x c u
+    members_are : IsNew x before.store → (c : List Atom) → IsAdmitted c before → (u : PointValue) → IsMember u (point t c) ↔ IsHeldInside ds x c u
     members_are new c a u =
         let own = subst (λ z. AreEntries before x z ds) (sym (listed_of ks)) entries in (
           λ m. held_inside new c a u (comps_of ks) ds own (subst (λ z. IsMember u (point z c)) is m),
           λ m. subst (λ z. IsMember u (point z c)) (sym is) (member_outside new c a u (comps_of ks) ds own m),
         )
 
-    pub all_go_on : IsNew x before.store → All (GoesOn before x) ds
+    all_go_on : IsNew x before.store → All (GoesOn before x) ds
     all_go_on new =
         all_entries (λ k. Unit {0}) (GoesOn before x) (λ k d q e. goes_on new k d e) ks ds (λ i d l. tt) entries
 
-    pub all_admit : (ordered : Bool) → AdmitsContext ordered before → AdmitsTerm ordered t → All (AdmitsContext ordered) ds
+    all_admit : (ordered : Bool) → AdmitsContext ordered before → AdmitsTerm ordered t → All (AdmitsContext ordered) ds
     all_admit ordered h g =
         all_entries (AdmitsComp ordered) (AdmitsContext ordered) (λ k d q e. e.operators ordered h q) ks ds
         (items_all (AdmitsComp ordered) (AdmitsItems ordered) (λ k qs p. p) ks (subst (AdmitsTerm ordered) is g)) entries
 
-    pub all_have_widths : ContextHasUsualWidths before → HasUsualWidths t → All ContextHasUsualWidths ds
+    all_have_widths : ContextHasUsualWidths before → HasUsualWidths t → All ContextHasUsualWidths ds
     all_have_widths h g =
         all_entries CompHasUsualWidths ContextHasUsualWidths (λ k d q e. e.widths h q) ks ds
         (items_all CompHasUsualWidths ItemsHaveUsualWidths (λ k qs p. p) ks (subst HasUsualWidths is g)) entries
+
+    pub are_entered : IsNew x before.store → AreEntered before x t ds
+    are_entered new = record {
+      entries = subst (λ z. AreEntries before x z ds) (sym (listed_coll t ks is)) entries;
+      members = members_are new;
+      inside = all_entries (λ k. Unit {0}) (IsInside before x) (λ k d q e. is_inside new k d e) ks ds (λ i d l. tt) entries;
+      outside = all_go_on new;
+      operators = all_admit;
+      widths = all_have_widths;
+    }
 
 -- ---- the context of one comprehension
 pub is_entry : (before : Context) (x : List ℕ) (m : ℕ) (g : List (List Lit)) (t : TermD) (inner : Context) → inner.size ≡ before.size + m →

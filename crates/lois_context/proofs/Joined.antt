@@ -18,7 +18,7 @@ use Rattle.lois_base.proofs.Members.{same_in, same_sym}
 use Rattle.lois_base.proofs.Shifted.{shift_items_of}
 use Rattle.lois_meaning.specs.Store.{looked_up}
 use Rattle.lois_relate.proofs.Sets.{some_is_member}
-use Rattle.lois_terms.proofs.UnderGuard.{fits_longer}
+use Rattle.lois_base.proofs.Validity.{fits_longer}
 use Rattle.lois_context.specs.Choices.{IsAdmitted, AdmitsContext, ContextHasUsualWidths}
 use Rattle.lois_context.specs.Entered.{binders_of, item_of, items_listed, comps_listed, carried, bound, AreEntries}
 use Rattle.lois_context.specs.Joined.{IsGoneOn, IsEndSlot, AreEndSlots, IsEnd, IsMoved, AreMoved, added_to, IsJoinedTerm, IsGrownTerm, IsJoinedSlot, AreJoinedSlots, AreJoined, IsAddedInside, HasJoined, IsWithMoved}
@@ -37,7 +37,7 @@ IsAmong ks c w = SomeIsAt (comps_of ks) c w.term_of w.choice
 among_in : (ks : List CompD) (c : List Atom) (w : PointValue) → IsAmong ks c w ↔ IsIn w (point (coll (comps_of ks)) c)
 among_in ks c w = some_is_member w.term_of w.choice (comps_of ks) c
 
-of_listed : (ks : CompsD) → comps_of (items_listed ks) ≡ ks
+pub of_listed : (ks : CompsD) → comps_of (items_listed ks) ≡ ks
 of_listed no_comps = refl
 of_listed (more k ks) = ap (more k) (of_listed ks)
 

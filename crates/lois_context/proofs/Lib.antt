@@ -1,7 +1,8 @@
-pub mod Options
 pub mod Seen
 pub mod Sides
 pub mod Longer
 pub mod Carried
 pub mod Entered
 pub mod Joined
+pub mod Counts
+pub mod Merged

@@ -1,8 +1,8 @@
 -- Lists that are seen through a view, item by item.
 use Rattle.std.proofs.Common.{◌≡◌, ℕ, ◌+◌, ◌<◌, ◌⊎◌, inl, inr, List, [], ◌∷◌, ◌++◌, length, get_or, take, map, sym, ap, ◌∙◌, subst, arith}
-use Rattle.std.proofs.lemmas.List.{take_more, map-append, get_or-map, length-map}
+use Rattle.std.proofs.lemmas.List.{take_more, map-append, get_or-map, get_or_default, length-map}
 use Rattle.std.proofs.lemmas.List.Elements.{Contains-append_cases, Contains-push_cases}
-use Rattle.std.specs.List.{All, Contains}
+use Rattle.std.specs.List.{All, Contains, HoldsAt}
 
 module _ {X Y : Type 0} (f : X → Y) where
   -- the items before an index, and one more
@@ -19,6 +19,12 @@ module _ {X Y : Type 0} (f : X → Y) where
   pub item_at : (xs : List X) (vs : List Y) (i : ℕ) (x : X) → map f xs ≡ vs → i < length xs → x ≡ get_or xs i x → f x ≡ get_or vs i (f x)
   item_at xs vs i x m l e =
       subst (λ us. f x ≡ get_or us i (f x)) m (sym (get_or-map f xs i x (f x) l ∙ ap f (sym e)))
+
+  -- what is true of an item is true of it as the view has it
+  pub item_there : (P : Y → Type 0) (xs : List X) (vs : List Y) (i : ℕ) (x : X) → map f xs ≡ vs → i < length xs → x ≡ get_or xs i x → P (f x) → (i < length vs) × HoldsAt P vs i
+  item_there P xs vs i x m l e h =
+      let within : i < length vs = omega (arith, l, length-map xs f, ap length m) in
+      (within, λ d. subst P (item_at xs vs i x m l e ∙ get_or_default vs i (f x) d within) h)
 
   -- a list that was mapped so far, and one more
   pub mapped_more : {Z : Type 0} (g : Y → Z) (xs : List X) (i : ℕ) (x : X) (before after : List Z) (z : Z) → after ≡ before ++ z ∷ [] → z ≡ g (f x) → before ≡ map g (map f (take i xs)) → i < length xs → x ≡ get_or xs i x → after ≡ map g (map f (take (i + 1) xs))

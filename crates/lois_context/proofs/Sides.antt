@@ -1,13 +1,17 @@
 -- The two sides of a split context.
-use Rattle.std.proofs.Common.{◌≡◌, Bool, true, false, not, ◌&&◌, ◌↔◌, List, length, Option, Some, None, refl, sym, ap, ◌∙◌}
+use Rattle.std.proofs.Common.{◌≡◌, Bool, true, false, not, ◌&&◌, ◌↔◌, List, length, Option, Some, None, refl, sym, ap, ◌∙◌, subst}
 use Rattle.std.proofs.lemmas.Bool.{and_parts}
 use Rattle.std.specs.Bool.{IsTrue, IsFalse}
-use Rattle.std.specs.Option.{IfSome}
+use Rattle.std.specs.List.{All}
+use Rattle.std.specs.Option.{IfSome, IsNone}
 use Rattle.lois_base.specs.Atom.{Atom}
 use Rattle.lois_base.specs.Truth.{holds}
+use Rattle.lois_base.specs.Validity.{AdmitsConstraint, AdmitsTerm}
 use Rattle.lois_base.specs.declared.guards.Lit.{Lit}
-use Rattle.lois_context.specs.Choices.{IsAdmitted, IsAdmittedBy}
-use Rattle.lois_context.specs.Sides.{IsSide}
+use Rattle.lois_deciders.specs.Met.{AreMet, ExcludeEachOther}
+use Rattle.lois_deciders.specs.declared.chosen.Met.{Met}
+use Rattle.lois_context.specs.Choices.{IsAdmitted, IsAdmittedBy, AdmitsContext}
+use Rattle.lois_context.specs.Sides.{IsSide, IsNarrowedBy, CanNarrow}
 use Rattle.lois_context.specs.declared.contexts.Context.{Context}
 
 pub and_true : (a b : Bool) → IsTrue a → IsTrue b → IsTrue (a && b)
@@ -34,6 +38,42 @@ side_choices before g r truth c = (
   λ a. let p = and_parts (holds c before.«when») (holds c g) (sym (truth c) ∙ a.1) in ((a.0, p.0), p.1),
   λ a. (a.0.0, truth c ∙ and_true (holds c before.«when») (holds c g) a.0.1 a.1),
 )
+
+-- ---- a side, from what was met
+pub side_met : (before : Context) (g : List (List Lit)) (o : Option Met) (r : Option Context) → IfSome o (λ m. AreMet before.size before.«when» g m.constraint m.sample) → IsNarrowedBy before o r → IfSome r (IsSide before (λ c. holds c g))
+side_met before g None None h by = tt
+side_met before g (Some m) (Some side) h by = record {
+  size = by.size;
+  «when» = λ c. ap (holds c) by.«when» ∙ h.truth c;
+  store = by.store;
+  lines = by.lines;
+}
+side_met before g None (Some side) h by = absurd by
+side_met before g (Some m) None h by = absurd by
+
+pub operators_met : (before : Context) (g : List (List Lit)) (o : Option Met) (r : Option Context) → IfSome o (λ m. AreMet before.size before.«when» g m.constraint m.sample) → IsNarrowedBy before o r → (ordered : Bool) → AdmitsContext ordered before → AdmitsConstraint ordered g → IfSome r (AdmitsContext ordered)
+operators_met before g None None h by ordered a b = tt
+operators_met before g (Some m) (Some side) h by ordered a b = record {
+  «when» = subst (AdmitsConstraint ordered) (sym by.«when») (h.operators ordered a.«when» b);
+  store = subst (All (λ s. AdmitsTerm ordered s.term)) (sym by.store) a.store;
+  lines = subst (All (λ s. AdmitsTerm ordered s.term)) (sym by.lines) a.lines;
+}
+operators_met before g None (Some side) h by ordered a b = absurd by
+operators_met before g (Some m) None h by ordered a b = absurd by
+
+pub choices_met : (before : Context) (g : List (List Lit)) (o : Option Met) (r : Option Context) → IfSome o (λ m. AreMet before.size before.«when» g m.constraint m.sample) → (IsNone o → ExcludeEachOther before.size before.«when» g) → IsNarrowedBy before o r → (c : List Atom) → IsAdmittedBy c r ↔ (IsAdmitted c before × IsTrue (holds c g))
+choices_met before g None None h none by c = (λ a. absurd a, λ a. none refl c a.0.0 a.0.1 a.1)
+choices_met before g (Some m) (Some side) h none by c =
+    let own = side_choices before g m.constraint h.truth c in (
+      λ a. own.0 (a.0 ∙ by.size, sym (ap (holds c) by.«when») ∙ a.1),
+      λ a. let b = own.1 a in (b.0 ∙ sym by.size, ap (holds c) by.«when» ∙ b.1),
+    )
+choices_met before g None (Some side) h none by c = absurd by
+choices_met before g (Some m) None h none by c = absurd by
+
+pub can_narrow : (before : Context) (g : List (List Lit)) (o : Option Met) → IfSome o (λ m. AreMet before.size before.«when» g m.constraint m.sample) → IfSome o (CanNarrow before)
+can_narrow before g None h = h
+can_narrow before g (Some m) h = (h.levels, h.sample)
 
 -- the same of a constraint that holds where another doesn't
 pub denied_choices : (before : Context) (g r : List (List Lit)) (o : Option Context) → ((c : List Atom) → holds c r ≡ not (holds c g)) → (c : List Atom) → IsAdmittedBy c o ↔ (IsAdmitted c before × IsTrue (holds c r)) → IsAdmittedBy c o ↔ (IsAdmitted c before × IsFalse (holds c g))

@@ -1,19 +1,19 @@
 -- What stands for the members of a set when a loop over it is entered.
-use Rattle.std.specs.Prelude.{◌≡◌, ℕ, ◌+◌, ◌⊎◌, Bool, ◌&&◌, List, [], ◌∷◌, ◌++◌, length, map}
+use Rattle.std.specs.Prelude.{◌≡◌, ℕ, ◌+◌, ◌≤◌, ◌⊎◌, ◌↔◌, Bool, ◌&&◌, List, [], ◌∷◌, ◌++◌, length, map}
 use Rattle.std.specs.declared.option.Option.TheVariants.{Some}
-use Rattle.std.specs.List.{Contains}
+use Rattle.std.specs.List.{All, Contains}
 use Rattle.lois_base.specs.Atom.{Atom}
 use Rattle.lois_base.specs.Data.{TermD, coll, CompD, comp, CompsD, no_comps, more}
 use Rattle.lois_base.specs.Shift.{shift}
 use Rattle.lois_base.specs.Truth.{holds}
-use Rattle.lois_base.specs.Validity.{AdmitsComp, CompHasUsualWidths}
-use Rattle.lois_base.specs.Values.{PointValue}
+use Rattle.lois_base.specs.Validity.{AdmitsTerm, AdmitsComp, HasUsualWidths, CompHasUsualWidths}
+use Rattle.lois_base.specs.Values.{PointValue, point, IsMember}
 use Rattle.lois_base.specs.declared.guards.Lit.{Lit}
-use Rattle.lois_meaning.specs.ResultsData.{LineD}
+use Rattle.lois_answers.specs.ResultsData.{LineD}
 use Rattle.lois_meaning.specs.Store.{looked_up, stored, AreSameNamed}
+use Rattle.lois_deciders.specs.Met.{ExcludeEachOther}
 use Rattle.lois_context.specs.Choices.{IsAdmitted, AdmitsContext, ContextHasUsualWidths}
-use Rattle.lois_context.specs.Sides.{ExcludeEachOther}
-use Rattle.lois_context.specs.Slots.{SlotD, comps_in, store_at, lines_at}
+use Rattle.lois_context.specs.Slots.{SlotD, slot_name, comps_in, store_at, lines_at}
 use Rattle.lois_context.specs.declared.contexts.Context.{Context}
 
 abbrev pub binders_of : CompD → ℕ
@@ -75,3 +75,19 @@ pub record GoesOn (before : Context) (x : List ℕ) (inner : Context) : Type 0 w
   pub outside : (c e : List Atom) → length c ≡ before.size → IsAdmitted (c ++ e) inner → IsAdmitted c before
   pub store : (c e : List Atom) → length c ≡ before.size → IsAdmitted (c ++ e) inner → (u : PointValue) → looked_up x (store_at (c ++ e) inner.store) ≡ Some u → AreSameNamed (store_at (c ++ e) inner.store) (stored x u (store_at c before.store))
   pub lines : (c e : List Atom) → length c ≡ before.size → IsAdmitted (c ++ e) inner → AreSameNamed (lines_at (c ++ e) inner.lines) (lines_at c before.lines)
+
+-- Inside there are no fewer levels, the name stands behind those from outside, and it holds a value.
+pub record IsInside (before : Context) (x : List ℕ) (inner : Context) : Type 0 where
+  pub longer : before.size ≤ inner.size
+  pub names : map slot_name inner.store ≡ map slot_name before.store ++ x ∷ []
+  pub held : (c : List Atom) → (u : PointValue) × (looked_up x (store_at c inner.store) ≡ Some u)
+
+-- The contexts inside of a loop over the set t, in which x names its members: one for each comprehension that has some. Together
+-- they stand for exactly the members.
+pub record AreEntered (before : Context) (x : List ℕ) (t : TermD) (inner : List Context) : Type 0 where
+  pub entries : AreEntries before x (comps_listed t) inner
+  pub members : (c : List Atom) → IsAdmitted c before → (u : PointValue) → IsMember u (point t c) ↔ IsHeldInside inner x c u
+  pub inside : All (IsInside before x) inner
+  pub outside : All (GoesOn before x) inner
+  pub operators : (ordered : Bool) → AdmitsContext ordered before → AdmitsTerm ordered t → All (AdmitsContext ordered) inner
+  pub widths : ContextHasUsualWidths before → HasUsualWidths t → All ContextHasUsualWidths inner

@@ -6,7 +6,7 @@ use Rattle.std.proofs.lemmas.Map.Keys.{IsDistinct-prop}
 use Rattle.lois_base.specs.Data.{TermD, var, tag, tup, coll, TermsD, no_terms, term, CompD, comp, CompsD, no_comps, more}
 use Rattle.lois_base.specs.Fits.{LitFits, CubeFits, ConstraintFits, Fits, PartsFit, CompFits, ItemsFit}
 use Rattle.lois_base.specs.declared.guards.Lit.{Lit}
-use Rattle.lois_meaning.specs.ResultsData.{LineD}
+use Rattle.lois_answers.specs.ResultsData.{LineD}
 use Rattle.lois_context.specs.Slots.{SlotD, slot_name, comps_in}
 
 -- A slot of a context with n levels: its term fits, and not more than its comprehensions stood there before.

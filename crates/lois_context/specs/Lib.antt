@@ -4,4 +4,6 @@ pub mod Kept
 pub mod Choices
 pub mod Sides
 pub mod Entered
+pub mod Counted
+pub mod Merged
 pub mod Joined

@@ -1,10 +1,13 @@
 -- The two sides of a context that is split by a constraint.
-use Rattle.std.specs.Prelude.{◌≡◌, ℕ, Bool, ◌&&◌, List, length, IsTrue}
+use Rattle.std.specs.Prelude.{◌≡◌, Bool, ◌&&◌, List}
+use Rattle.std.specs.declared.option.Option.{Option}
+use Rattle.std.specs.declared.option.Option.TheVariants.{Some, None}
 use Rattle.lois_base.specs.Atom.{Atom}
 use Rattle.lois_base.specs.Fits.{ConstraintFits}
-use Rattle.lois_base.specs.Truth.{holds, sampled}
-use Rattle.lois_base.specs.Validity.{AdmitsConstraint}
+use Rattle.lois_base.specs.Truth.{holds}
 use Rattle.lois_base.specs.declared.guards.Lit.{Lit}
+use Rattle.lois_deciders.specs.Asked.{Meets}
+use Rattle.lois_deciders.specs.declared.chosen.Met.{Met}
 use Rattle.lois_context.specs.declared.contexts.Context.{Context}
 
 -- The context as it was, where the test holds too.
@@ -14,14 +17,19 @@ pub record IsSide (before : Context) (test : List Atom → Bool) (side : Context
   pub store : side.store ≡ before.store
   pub lines : side.lines ≡ before.lines
 
--- The constraint r over n levels holds where g and h both do, and at the sample s.
-pub record AreMet (n : ℕ) (g h r : List (List Lit)) (s : List ℕ) : Type 0 where
-  pub truth : (c : List Atom) → holds c r ≡ (holds c g && holds c h)
-  pub levels : ConstraintFits n r
-  pub operators : (ordered : Bool) → AdmitsConstraint ordered g → AdmitsConstraint ordered h → AdmitsConstraint ordered r
-  pub count : length s ≡ n
-  pub met : IsTrue (holds (sampled s) r)
+-- the context where g holds
+pub record IsNarrowed (before : Context) (g : List (List Lit)) (side : Context) : Type 0 where
+  pub size : side.size ≡ before.size
+  pub «when» : side.«when» ≡ g
+  pub store : side.store ≡ before.store
+  pub lines : side.lines ≡ before.lines
 
--- at no choice of n atoms both hold
-abbrev pub ExcludeEachOther : ℕ → List (List Lit) → List (List Lit) → Type 0
-ExcludeEachOther n g h = (c : List Atom) → length c ≡ n → IsTrue (holds c g) → IsTrue (holds c h) → ⊥
+-- what was met over the context's levels
+abbrev pub CanNarrow : Context → Met → Type 0
+CanNarrow before m = ConstraintFits before.size m.constraint × Meets before.size m.constraint m.sample
+
+-- there is a side where there is something that was met
+abbrev pub IsNarrowedBy : Context → Option Met → Option Context → Type 0
+IsNarrowedBy before None None = Unit {0}
+IsNarrowedBy before (Some m) (Some side) = IsNarrowed before m.constraint side
+IsNarrowedBy before _ _ = ⊥

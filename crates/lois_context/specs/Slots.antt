@@ -7,7 +7,7 @@ use Rattle.lois_base.specs.Atom.{Atom}
 use Rattle.lois_base.specs.Codes.{term_code}
 use Rattle.lois_base.specs.Data.{TermD, coll, CompsD, no_comps, more}
 use Rattle.lois_base.specs.Values.{point}
-use Rattle.lois_meaning.specs.ResultsData.{LineD}
+use Rattle.lois_answers.specs.ResultsData.{LineD}
 use Rattle.lois_meaning.specs.Store.{NamedValue, NamedValues, named}
 
 -- A name with the term that it holds. In a set from outside of a loop the first `from` comprehensions stood there when the

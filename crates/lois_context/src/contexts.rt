@@ -6,8 +6,8 @@ ghost use Rattle.lois_base.specs.Truth.{holds, sampled};
 ghost use Rattle.lois_context.specs.Kept.{AreSlots, LinesFit, HasDistinctNames, are_slots_prop, lines_fit_prop, names_prop};
 
 use crate::Store;
+use lois_answers::Lines;
 use lois_base::{Constraint, Numbers};
-use lois_meaning::Lines;
 
 /// What a run has come to at all choices of `size` atoms at which `when` holds. It holds at the sample, so no context is empty.
 #[derive(Drop)]

@@ -1,26 +1,21 @@
 //! Contexts for the members of a set.
 
-ghost use Rattle.std.specs.Prelude.{◌≡◌, ◌+◌, ◌<◌, ◌^◌, Bool, List, [], ◌∷◌, ◌++◌, ◌↔◌, map, IfOk, IfSome, IsNone};
-ghost use Rattle.std.specs.List.{All};
-ghost use Rattle.lois_base.specs.Atom.{Atom};
+ghost use Rattle.std.specs.Prelude.{◌≡◌, ◌+◌, ◌<◌, ◌^◌, [], ◌∷◌, ◌++◌, map, IfOk, IfSome, IsNone};
 ghost use Rattle.lois_base.specs.Data.{comps_of};
 ghost use Rattle.lois_base.specs.Fits.{Fits, CompFits, ItemsFit};
 ghost use Rattle.lois_base.specs.Shift.{shift};
 ghost use Rattle.lois_base.specs.Tree.{tree, comp_of};
-ghost use Rattle.lois_base.specs.Validity.{AdmitsTerm, HasUsualWidths};
-ghost use Rattle.lois_base.specs.Values.{PointValue, point, IsMember};
+ghost use Rattle.lois_deciders.specs.OnlyAsked.{HasOnlyAsked};
 ghost use Rattle.lois_terms.specs.Guarded.{IsSet};
-ghost use Rattle.lois_context.specs.Choices.{IsAdmitted, AdmitsContext, ContextHasUsualWidths};
-ghost use Rattle.lois_context.specs.Entered.{carried, carried_line, bound, comps_listed, IsEntry, HasNoMembers, AreEntries, IsHeldInside, GoesOn};
+ghost use Rattle.lois_context.specs.Entered.{carried, carried_line, bound, IsEntry, HasNoMembers, AreEntries, AreEntered};
 ghost use Rattle.lois_context.specs.Kept.{IsSlot, AreSlots, LinesFit, HasDistinctNames};
 ghost use Rattle.lois_context.specs.Slots.{IsNew, comps_in};
 ghost use Rattle.lois_context.specs.SlotView.{slot_of};
 
-use crate::meeting::meet_both;
 use crate::{Context, Slot, Store};
-use lois_base::{Comp, Comps, Name, NoMemory, Term};
+use lois_answers::{Line, Lines};
+use lois_base::{Comp, Comps, Decider, Name, NoMemory, Term};
 use lois_deciders::Chosen;
-use lois_meaning::{Line, Lines};
 use lois_terms::shift_term;
 use std::alloc::Global;
 
@@ -37,11 +32,10 @@ pub fn enter_loop(
     requires levels { Fits context.now.size (tree elements.now) }
     requires set { IsSet (tree elements.now) }
     requires new_name { IsNew name.now context.now.store }
-    ensures entries { IfOk result (λ r. AreEntries context.now name.now (comps_listed (tree elements.now)) r.items) }
-    ensures members { IfOk result (λ r. (c : List Atom) → IsAdmitted c context.now → (u : PointValue) → IsMember u (point (tree elements.now) c) ↔ IsHeldInside r.items name.now c u) }
-    ensures inside { IfOk result (λ r. All (GoesOn context.now name.now) r.items) }
-    ensures operators { IfOk result (λ r. (ordered : Bool) → AdmitsContext ordered context.now → AdmitsTerm ordered (tree elements.now) → All (AdmitsContext ordered) r.items) }
-    ensures widths { IfOk result (λ r. ContextHasUsualWidths context.now → HasUsualWidths (tree elements.now) → All ContextHasUsualWidths r.items) }
+    ensures entered { IfOk result (λ r. AreEntered context.now name.now (tree elements.now) r.items) }
+
+    // whatever is answered
+    ensures only_asked { HasOnlyAsked (λ b. (⟦<dyn Decider as Decider>⟧ b.vtable).kind_of b.value) (λ b. (⟦<dyn Decider as Decider>⟧ b.vtable).questions b.value) chosen.old chosen.new }
 {
     match elements {
         Term::Coll(comps) => entries(alloc, context, comps, name, chosen),
@@ -58,7 +52,8 @@ fn entries(
 ) -> Result<Vec<Context>, NoMemory>
     requires levels { ItemsFit context.now.size (comps_of comps.now) }
     requires new_name { IsNew name.now context.now.store }
-    ensures { IfOk result (λ r. AreEntries context.now name.now comps.now r.items) }
+    ensures entries { IfOk result (λ r. AreEntries context.now name.now comps.now r.items) }
+    ensures only_asked { HasOnlyAsked (λ b. (⟦<dyn Decider as Decider>⟧ b.vtable).kind_of b.value) (λ b. (⟦<dyn Decider as Decider>⟧ b.vtable).questions b.value) chosen.old chosen.new }
 {
     let mut inner = Vec::new(alloc);
     for comp in comps.as_slice() {
@@ -81,16 +76,17 @@ fn entry_of(
     requires new_name { IsNew name.now context.now.store }
     ensures entry { IfOk result (λ o. IfSome o (IsEntry context.now name.now (comp_of comp.now))) }
     ensures none { IfOk result (λ o. IsNone o → HasNoMembers context.now (comp_of comp.now)) }
+    ensures only_asked { HasOnlyAsked (λ b. (⟦<dyn Decider as Decider>⟧ b.vtable).kind_of b.value) (λ b. (⟦<dyn Decider as Decider>⟧ b.vtable).questions b.value) chosen.old chosen.new }
 {
     let size = context.size + comp.binders;
-    let Some(met) = meet_both(alloc, &context.when, &comp.guard, size, chosen)? else {
+    let Some(met) = chosen.meet(alloc, &context.when, &comp.guard, size)? else {
         return Ok(None);
     };
     let store = inner_store(alloc, context, comp, name)?;
     let lines = carried_lines(alloc, &context.lines, context.size, comp.binders)?;
     Ok(Some(Context {
         size,
-        when: met.when,
+        when: met.constraint,
         sample: met.sample,
         store,
         lines,

@@ -1,6 +1,6 @@
 //! Contexts behind loops.
 
-ghost use Rattle.std.specs.Prelude.{◌≡◌, ℕ, ◌+◌, ◌-◌, ◌≤◌, Bool, List, length, map, drop, Some, IfOk};
+ghost use Rattle.std.specs.Prelude.{◌≡◌, ℕ, ◌+◌, ◌-◌, ◌<◌, ◌≤◌, Bool, List, length, get_or, map, drop, Some, IfOk};
 ghost use Rattle.std.specs.List.{All};
 ghost use Rattle.lois_base.specs.Atom.{Atom};
 ghost use Rattle.lois_base.specs.Data.{comps_of};
@@ -32,7 +32,7 @@ pub fn join_loop(alloc: Global, before: Context, ends: Vec<Context>) -> Result<C
     ensures operators { IfOk result (λ r. (ordered : Bool) → AdmitsContext ordered before → All (AdmitsContext ordered) ends.items → AdmitsContext ordered r) }
     ensures widths { IfOk result (λ r. ContextHasUsualWidths before → All ContextHasUsualWidths ends.items → ContextHasUsualWidths r) }
 {
-    let store = joined(alloc, &before.store, &ends, before.size)?;
+    let store = joined(alloc, before.store, &ends, before.size)?;
     Ok(Context {
         size: before.size,
         when: before.when,
@@ -43,60 +43,65 @@ pub fn join_loop(alloc: Global, before: Context, ends: Vec<Context>) -> Result<C
 }
 
 // The slots with what each end has added, one end after another.
-fn joined(alloc: Global, store: &Store, ends: &[Context], size: usize) -> Result<Store, NoMemory>
-    requires slots { AreSlots size store.now }
-    requires names { HasDistinctNames store.now }
-    requires ends { All (λ d. size ≤ d.size × AreEndSlots size (d.size - size) store.now d.store) ends.now }
-    ensures joined { IfOk result (AreJoined size ends.now store.now) }
+fn joined(alloc: Global, store: Store, ends: &[Context], size: usize) -> Result<Store, NoMemory>
+    requires slots { AreSlots size store }
+    requires names { HasDistinctNames store }
+    requires ends { All (λ d. size ≤ d.size × AreEndSlots size (d.size - size) store d.store) ends.now }
+    ensures joined { IfOk result (AreJoined size ends.now store) }
     ensures slots { IfOk result (AreSlots size) }
     ensures names { IfOk result HasDistinctNames }
 {
-    let mut joined = store.copy(alloc)?;
+    let mut joined = store;
     for end in ends {
-        joined = with_end(alloc, &joined, end, size)?;
+        joined = with_end(alloc, joined, end, size)?;
     }
     Ok(joined)
 }
 
 // The slots with what one end has added.
-fn with_end(alloc: Global, store: &Store, end: &Context, size: usize) -> Result<Store, NoMemory>
-    requires slots { AreSlots size store.now }
+fn with_end(alloc: Global, store: Store, end: &Context, size: usize) -> Result<Store, NoMemory>
+    requires slots { AreSlots size store }
     requires size { size ≤ end.now.size }
-    requires count { length store.now ≤ length end.now.store }
-    ensures joined { IfOk result (AreJoinedSlots end.now.when (end.now.size - size) end.now.store store.now) }
+    requires count { length store ≤ length end.now.store }
+    ensures joined { IfOk result (AreJoinedSlots end.now.when (end.now.size - size) end.now.store store) }
     ensures slots { IfOk result (AreSlots size) }
 {
     let by = end.size - size;
-    let slots = store.as_slice();
     let ends = end.store.as_slice();
+    let slots = store.into_vec();
     let mut joined = Store::new(alloc);
-    for (index, slot) in slots.iter().enumerate() {
-        joined.push(joined_slot(alloc, slot, &ends[index], &end.when, size, by)?)?;
+    for slot in slots {
+        let partner = slot_at(ends, joined.len());
+        joined.push(joined_slot(alloc, slot, partner, &end.when, size, by)?)?;
     }
     Ok(joined)
 }
 
+fn slot_at(slots: &[Slot], index: usize) -> &Slot
+    requires { index < length slots.now }
+    ensures { result.now ≡ get_or slots.now index result.now }
+{
+    &slots[index]
+}
+
 fn joined_slot(
     alloc: Global,
-    slot: &Slot,
+    slot: Slot,
     end: &Slot,
     when: &Constraint,
     size: usize,
     by: usize,
 ) -> Result<Slot, NoMemory>
-    requires slot { IsSlot size (slot_of slot.now) }
+    requires slot { IsSlot size (slot_of slot) }
     requires end { IsSlot (size + by) (slot_of end.now) }
     requires when { ConstraintFits (size + by) when.now }
-    ensures joined { IfOk result (λ r. IsJoinedSlot when.now by (slot_of end.now) (slot_of slot.now) (slot_of r)) }
+    ensures joined { IfOk result (λ r. IsJoinedSlot when.now by (slot_of end.now) (slot_of slot) (slot_of r)) }
     ensures slot { IfOk result (λ r. IsSlot size (slot_of r)) }
 {
+    let Slot { name, term, from } = slot;
     let added = added_inside(end);
-    let term = joined_term(alloc, &slot.term, added, when, size, by)?;
-    Ok(Slot {
-        name: slot.name.copy(alloc)?,
-        term,
-        from: slot.from,
-    })
+    let term = joined_term(alloc, term, added, when, size, by)?;
+    Ok(Slot { name, term, from })
 }
 
 // What was appended to a set since the loop was entered.
@@ -119,29 +124,29 @@ fn from_index(comps: &[Comp], from: usize) -> &[Comp]
 
 fn joined_term(
     alloc: Global,
-    term: &Term,
+    term: Term,
     added: &[Comp],
     when: &Constraint,
     size: usize,
     by: usize,
 ) -> Result<Term, NoMemory>
-    requires term { Fits size (tree term.now) }
+    requires term { Fits size (tree term) }
     requires fits { ItemsFit (size + by) (comps_of (map comp_of added.now)) }
     requires when { ConstraintFits (size + by) when.now }
-    ensures { IfOk result (λ r. IsGrownTerm size when.now by (map comp_of added.now) (tree term.now) (tree r)) }
+    ensures { IfOk result (λ r. IsGrownTerm size when.now by (map comp_of added.now) (tree term) (tree r)) }
 {
     match term {
         Term::Coll(comps) => Ok(Term::Coll(with_moved(alloc, comps, added, when, size, by)?)),
-        Term::Var(level) => Ok(Term::Var(*level)),
-        Term::Tag(name) => Ok(Term::Tag(name.copy(alloc)?)),
-        Term::Tup(parts) => Ok(Term::Tup(parts.copy(alloc)?)),
+        Term::Var(level) => Ok(Term::Var(level)),
+        Term::Tag(name) => Ok(Term::Tag(name)),
+        Term::Tup(parts) => Ok(Term::Tup(parts)),
     }
 }
 
 // The comprehensions, and behind them those that an end has added, for its levels too and where its constraint holds.
 fn with_moved(
     alloc: Global,
-    comps: &Comps,
+    comps: Comps,
     added: &[Comp],
     when: &Constraint,
     size: usize,
@@ -149,9 +154,9 @@ fn with_moved(
 ) -> Result<Comps, NoMemory>
     requires fits { ItemsFit (size + by) (comps_of (map comp_of added.now)) }
     requires when { ConstraintFits (size + by) when.now }
-    ensures { IfOk result (IsWithMoved size when.now by (map comp_of added.now) comps.now) }
+    ensures { IfOk result (IsWithMoved size when.now by (map comp_of added.now) comps) }
 {
-    let mut joined = comps.copy(alloc)?;
+    let mut joined = comps;
     for comp in added {
         joined.push(moved(alloc, comp, when, size, by)?)?;
     }

@@ -5,14 +5,13 @@
 mod contexts;
 mod entering;
 mod joining;
-mod meeting;
+mod merging;
 mod slots;
 mod splitting;
-#[cfg(test)]
-mod tests;
 
 pub use contexts::{Context, Split};
 pub use entering::enter_loop;
 pub use joining::join_loop;
+pub use merging::merge_equal;
 pub use slots::{Slot, Store};
-pub use splitting::split;
+pub use splitting::{side, split};

@@ -1,6 +1,7 @@
 //! Slots and stores.
 
-ghost use Rattle.std.specs.Prelude.{◌≡◌, [], ◌∷◌, ◌++◌, length, map, slice_get, option_map, ◌↔◌, IsFalse, IfOk, OnOk, OnErr};
+ghost use Rattle.std.specs.Prelude.{◌≡◌, ◌<◌, [], ◌∷◌, ◌++◌, length, map, take, slice_get, slice_set, option_map, ◌↔◌, IsTrue, IsFalse, IsNone, IfSome, IfOk, OnOk, OnErr};
+ghost use Rattle.std.specs.List.{HoldsAt};
 
 use lois_base::{Name, NoMemory, Term};
 use std::alloc::Global;
@@ -46,6 +47,13 @@ impl Slot {
             from: self.from,
         })
     }
+
+    /// Whether both have the same name, term and `from`.
+    pub fn is_equal(&self, other: &Slot) -> bool
+        ensures { IsTrue result ↔ slot_of self.now ≡ slot_of other.now }
+    {
+        self.name == other.name && self.from == other.from && self.term.is_equal(&other.term)
+    }
 }
 
 impl Store {
@@ -90,16 +98,57 @@ impl Store {
         items
     }
 
+    /// The index of the first slot with the name, counted from 0, if there is one.
+    pub fn place_of(&self, name: &Name) -> Option<usize>
+        ensures found { IfSome result (λ i. (i < length self.now) × HoldsAt (λ s. s.name ≡ name.now) self.now i) }
+        ensures none { IsNone result ↔ IsNew name.now self.now }
+    {
+        let slots = self.as_slice();
+        for index in 0..slots.len() {
+            if slots[index].name == *name {
+                return Some(index);
+            }
+        }
+        None
+    }
+
     /// Whether a slot has the name.
     pub fn has_name(&self, name: &Name) -> bool
         ensures none { IsFalse result ↔ IsNew name.now self.now }
     {
-        for slot in self.as_slice() {
-            if slot.name == *name {
-                return true;
+        self.place_of(name).is_some()
+    }
+
+    /// Puts a slot in the place of the one at an index.
+    pub fn set(&mut self, index: usize, item: Slot)
+        requires { index < length self.old }
+        ensures { self.new ≡ slice_set self.old index (slot_of item) }
+    {
+        self.items[index] = item;
+    }
+
+    /// Keeps the first `count` slots alone, or all where there are fewer.
+    pub fn truncate(&mut self, count: usize)
+        ensures { self.new ≡ take count self.old }
+    {
+        self.items.truncate(count);
+    }
+
+    /// Whether both have equal slots in the same order.
+    pub fn is_equal(&self, other: &Store) -> bool
+        ensures { IsTrue result ↔ self.now ≡ other.now }
+    {
+        let slots = self.as_slice();
+        let others = other.as_slice();
+        if slots.len() != others.len() {
+            return false;
+        }
+        for (i, slot) in slots.iter().enumerate() {
+            if !slot.is_equal(&others[i]) {
+                return false;
             }
         }
-        false
+        true
     }
 
     /// Puts a slot at the end; fails for want of memory alone, and then nothing has changed.

@@ -1,5 +1,5 @@
 use Rattle.lois_base.specs.Fits.{Fits}
-use Rattle.lois_meaning.specs.LineView.{line_of}
+use Rattle.lois_answers.specs.LineView.{line_of}
 use Rattle.lois_context.proofs.Seen.{item_has}
 use Rattle.lois_context.proofs.entering.carried_lines.Goals as goal
 

@@ -1,5 +1,5 @@
 use Rattle.std.proofs.Common.{◌≡◌, ◌+◌, take, map}
-use Rattle.lois_meaning.specs.LineView.{line_of}
+use Rattle.lois_answers.specs.LineView.{line_of}
 use Rattle.lois_context.specs.Entered.{carried_line}
 use Rattle.lois_context.specs.Kept.{LinesFit}
 use Rattle.lois_context.proofs.entering.carried_lines.Given as goal

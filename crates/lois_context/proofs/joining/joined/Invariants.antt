@@ -6,7 +6,7 @@ use Rattle.lois_context.proofs.joining.joined.Given as goal
 
 abbrev pub invariant-loop-end : goal.invariant-loop-end
 invariant-loop-end l = record {
-  joined : AreJoined l.size (take l.end-index l.ends) l.initial.joined l.joined;
+  joined : AreJoined l.size (take l.end-index l.ends) l.fn.store l.joined;
   fit : AreSlots l.size l.joined;
-  names : map slot_name l.joined ≡ map slot_name l.initial.joined;
+  names : map slot_name l.joined ≡ map slot_name l.fn.store;
 }

@@ -13,9 +13,9 @@ joined_term-requires-clause-fits c =
 
 pub returns-clause-joined : goal.returns-clause-joined
 returns-clause-joined c = record {
-  name = c.in_ok-copy.ensures;
+  name = refl;
   from = refl;
-  term = subst (λ z. IsJoinedTerm c.args.when.now c.args.by z (tree c.args.slot.now.term) (tree c.in_ok-term.term)) c.added_inside-added.ensures c.in_ok-term.ensures.joined;
+  term = subst (λ z. IsJoinedTerm c.args.when.now c.args.by z (tree c.args.slot.term) (tree c.in_ok-term.term)) c.added_inside-added.ensures c.in_ok-term.ensures.joined;
 }
 
 pub returns-clause-slot : goal.returns-clause-slot

@@ -1,44 +1,60 @@
-use Rattle.std.proofs.Common.{◌≡◌, ℕ, [], ◌∷◌, ◌++◌, ◌+◌, ◌-◌, ◌<◌, length, get_or, take, map, sym, ap, ◌∙◌, subst, arith}
-use Rattle.std.proofs.lemmas.List.{length-map, length-take-le}
+use Rattle.std.proofs.Common.{◌≡◌, ℕ, [], ◌∷◌, ◌++◌, ◌+◌, ◌-◌, ◌<◌, length, get_or, map, sym, ap, ◌∙◌, subst, arith}
+use Rattle.std.proofs.lemmas.Iterator.Adapters.{YieldsList-from_vec}
+use Rattle.std.proofs.lemmas.Iterator.Consumers.{YieldsList-turn, YieldsList-end}
+use Rattle.std.proofs.lemmas.List.{length-map, map-append, map-id}
 use Rattle.std.proofs.lemmas.List.Elements.{All-push}
 use Rattle.lois_context.specs.Joined.{AreJoinedSlots}
 use Rattle.lois_context.specs.Kept.{IsSlot, AreSlots}
 use Rattle.lois_context.specs.SlotView.{slot_of}
 use Rattle.lois_context.proofs.Joined.{joined_count, slots_more}
-use Rattle.lois_context.proofs.Seen.{one_more, item_has, item_at}
+use Rattle.lois_context.proofs.Seen.{item_has, item_at}
 use Rattle.lois_context.proofs.joining.with_end.Goals as goal
 
 pub joined_slot-requires-clause-slot : goal.joined_slot-requires-clause-slot
 joined_slot-requires-clause-slot c =
-    item_has slot_of (IsSlot c.args.size) c.as_slice-slots.result.now c.args.store.now c.loop-index.index c.index-slots-index.result c.as_slice-slots.ensures.items c.loop-index-test.true c.index-slots-index.is c.requires.slots
+    let slots = c.into_vec-slots.result.items in
+    let turn = YieldsList-turn (YieldsList-from_vec slots (cc) (cc)) c.loop-slot.yielded c.loop-slot.slot-iterator c.loop-slot.yielded_by c.next.result c.next.new.self c.in-Some.slot c.in-Some.is c.next.ensures.steps in
+    item_has slot_of (IsSlot c.args.size) slots c.args.store (length c.loop-slot.yielded) c.in-Some.slot c.into_vec-slots.ensures.items turn.0 turn.1 c.requires.slots
+
+pub slot_at-partner-requires : goal.slot_at-partner-requires
+slot_at-partner-requires c =
+    let slots = c.into_vec-slots.result.items in
+    let ends = c.as_slice-ends.result.now in
+    let yielded = c.loop-slot.yielded in
+    let turn = YieldsList-turn (YieldsList-from_vec slots (cc) (cc)) yielded c.loop-slot.slot-iterator c.loop-slot.yielded_by c.next.result c.next.new.self c.in-Some.slot c.in-Some.is c.next.ensures.steps in
+    let count : length c.loop-slot.joined ≡ length yielded = joined_count c.args.end.now.«when» (c.args.end.now.size - c.args.size) c.args.end.now.store (map slot_of yielded) c.loop-slot.joined c.loop-slot.invariant.joined ∙ length-map yielded slot_of in
+    omega (arith, c.len.ensures.counted, count, turn.0, ap length c.into_vec-slots.ensures.items, length-map slots slot_of, c.requires.count, ap length c.as_slice-ends.ensures.items, length-map ends slot_of)
 
 pub joined_slot-requires-clause-end : goal.joined_slot-requires-clause-end
 joined_slot-requires-clause-end c =
-    let slots = c.as_slice-slots.result.now in
+    let slots = c.into_vec-slots.result.items in
     let ends = c.as_slice-ends.result.now in
-    let within : c.loop-index.index < length ends = omega (arith, c.loop-index-test.true, ap length c.as_slice-slots.ensures.items, length-map slots slot_of, c.requires.count, ap length c.as_slice-ends.ensures.items, length-map ends slot_of) in
+    let yielded = c.loop-slot.yielded in
+    let turn = YieldsList-turn (YieldsList-from_vec slots (cc) (cc)) yielded c.loop-slot.slot-iterator c.loop-slot.yielded_by c.next.result c.next.new.self c.in-Some.slot c.in-Some.is c.next.ensures.steps in
+    let count : length c.loop-slot.joined ≡ length yielded = joined_count c.args.end.now.«when» (c.args.end.now.size - c.args.size) c.args.end.now.store (map slot_of yielded) c.loop-slot.joined c.loop-slot.invariant.joined ∙ length-map yielded slot_of in
+    let within : c.len.result < length ends = omega (arith, c.len.ensures.counted, count, turn.0, ap length c.into_vec-slots.ensures.items, length-map slots slot_of, c.requires.count, ap length c.as_slice-ends.ensures.items, length-map ends slot_of) in
     let size : c.args.end.now.size ≡ c.args.size + (c.args.end.now.size - c.args.size) = omega (arith, c.requires.size) in
-    subst (λ n. IsSlot n (slot_of c.index-ends-index.result)) size
-    (item_has slot_of (IsSlot c.args.end.now.size) ends c.args.end.now.store c.loop-index.index c.index-ends-index.result c.as_slice-ends.ensures.items within c.index-ends-index.is c.args.end.now.slots)
+    subst (λ n. IsSlot n (slot_of c.slot_at-partner.result.now)) size
+    (item_has slot_of (IsSlot c.args.end.now.size) ends c.args.end.now.store c.len.result c.slot_at-partner.result.now c.as_slice-ends.ensures.items within c.slot_at-partner.ensures c.args.end.now.slots)
 
-pub loop-index-preserved : goal.loop-index-preserved
-loop-index-preserved c =
+pub loop-slot-preserved : goal.loop-slot-preserved
+loop-slot-preserved c =
     let g = c.args.end.now.«when» in
     let by = c.args.end.now.size - c.args.size in
     let es = c.args.end.now.store in
-    let slots = c.as_slice-slots.result.now in
+    let slots = c.into_vec-slots.result.items in
     let ends = c.as_slice-ends.result.now in
-    let i = c.loop-index.index in
-    let e = slot_of c.index-ends-index.result in
-    let s = slot_of c.index-slots-index.result in
+    let yielded = c.loop-slot.yielded in
+    let k = c.in-Some.slot in
+    let e = slot_of c.slot_at-partner.result.now in
     let t = slot_of c.in_ok-joined_slot.field-0 in
-    let seen = map slot_of (take i slots) in
-    let within : i < length ends = omega (arith, c.loop-index-test.true, ap length c.as_slice-slots.ensures.items, length-map slots slot_of, c.requires.count, ap length c.as_slice-ends.ensures.items, length-map ends slot_of) in
-    let count : length c.loop-index.joined ≡ i = joined_count g by es seen c.loop-index.joined c.loop-index.invariant.joined ∙ (length-map (take i slots) slot_of ∙ length-take-le i slots (omega (arith, c.loop-index-test.true))) in
-    let at : e ≡ get_or es (length c.loop-index.joined) e = subst (λ (k : ℕ). e ≡ get_or es k e) (sym count) (item_at slot_of ends es i c.index-ends-index.result c.as_slice-ends.ensures.items within c.index-ends-index.is) in
-    let inside : length c.loop-index.joined < length es = omega (arith, count, within, ap length c.as_slice-ends.ensures.items, length-map ends slot_of) in
+    let turn = YieldsList-turn (YieldsList-from_vec slots (cc) (cc)) yielded c.loop-slot.slot-iterator c.loop-slot.yielded_by c.next.result c.next.new.self k c.in-Some.is c.next.ensures.steps in
+    let count : length c.loop-slot.joined ≡ length yielded = joined_count g by es (map slot_of yielded) c.loop-slot.joined c.loop-slot.invariant.joined ∙ length-map yielded slot_of in
+    let within : c.len.result < length ends = omega (arith, c.len.ensures.counted, count, turn.0, ap length c.into_vec-slots.ensures.items, length-map slots slot_of, c.requires.count, ap length c.as_slice-ends.ensures.items, length-map ends slot_of) in
+    let at : e ≡ get_or es (length c.loop-slot.joined) e = subst (λ (m : ℕ). e ≡ get_or es m e) c.len.ensures.counted (item_at slot_of ends es c.len.result c.slot_at-partner.result.now c.as_slice-ends.ensures.items within c.slot_at-partner.ensures) in
+    let inside : length c.loop-slot.joined < length es = omega (arith, c.len.ensures.counted, within, ap length c.as_slice-ends.ensures.items, length-map ends slot_of) in
     record {
-      joined = subst (λ z. AreJoinedSlots g by es z c.push.new.self) (sym (one_more slot_of slots i c.index-slots-index.result c.loop-index-test.true c.index-slots-index.is))
-          (subst (AreJoinedSlots g by es (seen ++ s ∷ [])) (sym c.in_ok-push.ensures.appended) (slots_more g by es seen c.loop-index.joined e s t c.loop-index.invariant.joined at inside c.in_ok-joined_slot.ensures.joined));
-      fit = subst (AreSlots c.args.size) (sym c.in_ok-push.ensures.appended) (All-push (IsSlot c.args.size) c.loop-index.joined t c.loop-index.invariant.fit c.in_ok-joined_slot.ensures.slot);
+      joined = subst (λ z. AreJoinedSlots g by es z c.push.new.self) (sym (map-append slot_of yielded (k ∷ [])))
+          (subst (AreJoinedSlots g by es (map slot_of yielded ++ slot_of k ∷ [])) (sym c.in_ok-push.ensures.appended) (slots_more g by es (map slot_of yielded) c.loop-slot.joined e (slot_of k) t c.loop-slot.invariant.joined at inside c.in_ok-joined_slot.ensures.joined));
+      fit = subst (AreSlots c.args.size) (sym c.in_ok-push.ensures.appended) (All-push (IsSlot c.args.size) c.loop-slot.joined t c.loop-slot.invariant.fit c.in_ok-joined_slot.ensures.slot);
     }

@@ -7,7 +7,7 @@ use Rattle.lois_context.proofs.Seen.{one_more}
 use Rattle.lois_context.proofs.joining.with_moved.Goals as goal
 
 pub loop-comp-init : goal.loop-comp-init
-loop-comp-init c = with_none c.args.size c.args.when.now c.args.by c.args.comps.now c.in_ok-joined.joined c.in_ok-joined.ensures
+loop-comp-init c = with_none c.args.size c.args.when.now c.args.by c.args.comps c.args.comps refl
 
 pub moved-requires-clause-fits : goal.moved-requires-clause-fits
 moved-requires-clause-fits c =
@@ -18,7 +18,7 @@ loop-comp-preserved c =
     let n = c.args.size in
     let g = c.args.when.now in
     let by = c.args.by in
-    let ks = c.args.comps.now in
+    let ks = c.args.comps in
     let added = c.args.added.now in
     let i = c.loop-comp.comp-index in
     let k = comp_of c.comp-item.result in

@@ -1,0 +1,5 @@
+use Rattle.lois_context.specs.Merged.{AreMerged}
+use Rattle.lois_context.proofs.merging.merge_equal.Given as goal
+
+abbrev pub invariant-loop-context : goal.invariant-loop-context
+invariant-loop-context l = AreMerged l.yielded l.merged.items

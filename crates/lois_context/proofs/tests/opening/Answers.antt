@@ -1,5 +1,0 @@
-use Rattle.lois_context.proofs.Carried.{no_names}
-use Rattle.lois_context.proofs.tests.opening.Goals as goal
-
-pub invariant_of-result-clause-names : goal.invariant_of-result-clause-names
-invariant_of-result-clause-names g c = no_names c.new-store.result c.new-store.ensures.empty

@@ -1,0 +1,100 @@
+//! Contexts joined where nothing but their constraints differs.
+
+ghost use Rattle.std.specs.Prelude.{◌≡◌, ℕ, ◌<◌, ◌↔◌, List, [], ◌∷◌, ◌++◌, length, IfOk, OnOk, IfSome, IsNone, IsTrue};
+ghost use Rattle.std.specs.List.{All, HoldsAt};
+ghost use Rattle.lois_base.specs.Atom.{Atom};
+ghost use Rattle.lois_base.specs.Fits.{ConstraintFits};
+ghost use Rattle.lois_base.specs.Truth.{holds};
+ghost use Rattle.lois_answers.specs.LineView.{line_of};
+ghost use Rattle.lois_context.specs.Merged.{AreMerged, IsLike, IsTakenIn};
+
+use crate::Context;
+use lois_answers::{Line, Lines};
+use lois_base::{Constraint, NoMemory};
+use std::alloc::Global;
+
+/// Joins the contexts that have equal sizes, and equal lists as stores and as lines: their cubes stand one list after the other,
+/// and the sample is that of the first. The answer is in the order of the first ones. Errors: `NoMemory`.
+pub fn merge_equal(alloc: Global, contexts: Vec<Context>) -> Result<Vec<Context>, NoMemory>
+    ensures { IfOk result (λ r. AreMerged contexts.items r.items) }
+{
+    let mut merged = Vec::new(alloc);
+    for context in contexts {
+        put(alloc, &mut merged, context)?;
+    }
+    Ok(merged)
+}
+
+// Takes a context into the one that holds the same, or puts it behind the others where there is none.
+fn put(alloc: Global, merged: &mut Vec<Context>, context: Context) -> Result<(), NoMemory>
+    ensures { OnOk result ((ks : List Context) → AreMerged ks merged.old.items → AreMerged (ks ++ context ∷ []) merged.new.items) }
+{
+    if let Some(place) = place_of(merged, &context) {
+        return take_in(alloc, &mut merged[place], &context);
+    }
+    merged.push(context)?;
+    Ok(())
+}
+
+// The index of a context with the same size, store and lines.
+fn place_of(contexts: &[Context], context: &Context) -> Option<usize>
+    ensures found { IfSome result (λ i. (i < length contexts.now) × HoldsAt (IsLike context.now) contexts.now i) }
+    ensures none { IsNone result → All (λ d. IsLike context.now d → ⊥) contexts.now }
+{
+    for index in 0..contexts.len() {
+        if is_like(&contexts[index], context) {
+            return Some(index);
+        }
+    }
+    None
+}
+
+fn is_like(context: &Context, other: &Context) -> bool
+    ensures { IsTrue result ↔ IsLike other.now context.now }
+{
+    context.size == other.size
+        && context.store.is_equal(&other.store)
+        && are_equal(&context.lines, &other.lines)
+}
+
+fn are_equal(lines: &Lines, partners: &Lines) -> bool
+    ensures { IsTrue result ↔ lines.now ≡ partners.now }
+{
+    let items = lines.as_slice();
+    let others = partners.as_slice();
+    if items.len() != others.len() {
+        return false;
+    }
+    for (i, line) in items.iter().enumerate() {
+        if !is_equal(line, &others[i]) {
+            return false;
+        }
+    }
+    true
+}
+
+fn is_equal(line: &Line, other: &Line) -> bool
+    ensures { IsTrue result ↔ line_of line.now ≡ line_of other.now }
+{
+    line.name == other.name && line.term.is_equal(&other.term)
+}
+
+// The context admits in addition what the other one does.
+fn take_in(alloc: Global, context: &mut Context, other: &Context) -> Result<(), NoMemory>
+    requires { context.old.size ≡ other.now.size }
+    ensures { OnOk result (IsTakenIn other.now context.old context.new) }
+{
+    add_cubes(alloc, &mut context.when, &other.when)
+}
+
+// Without memory for all of the cubes, some of them stand there.
+fn add_cubes(alloc: Global, when: &mut Constraint, more: &Constraint) -> Result<(), NoMemory>
+    ensures cubes { OnOk result (when.new ≡ when.old ++ more.now) }
+    ensures levels { (n : ℕ) → ConstraintFits n when.old → ConstraintFits n more.now → ConstraintFits n when.new }
+    ensures truth { (c : List Atom) → IsTrue (holds c when.old) → IsTrue (holds c when.new) }
+{
+    for cube in more.as_slice() {
+        when.push(cube.copy(alloc)?)?;
+    }
+    Ok(())
+}
