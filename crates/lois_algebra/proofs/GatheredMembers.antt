@@ -16,7 +16,7 @@ use Rattle.lois_base.proofs.Truths.{holds_longer}
 use Rattle.lois_elim.proofs.Truth.{both_true}
 use Rattle.lois_relate.proofs.Parts.{comp_has}
 use Rattle.lois_terms.specs.Guarded.{IsSet}
-use Rattle.lois_terms.proofs.UnderGuard.{fits_longer}
+use Rattle.lois_base.proofs.Validity.{fits_longer}
 use Rattle.lois_algebra.specs.Gathered.{IsAmong, IsMadeBy, IsWithin, IsInMember, IsInSome, IsPut, Gathers, GathersItems}
 use Rattle.lois_algebra.specs.Sets.{IsUnionOfMembers, ItemsAreSets, IsSetOfSets}
 use Rattle.lois_algebra.proofs.Among.{among_in}

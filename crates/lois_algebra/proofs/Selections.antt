@@ -1,29 +1,22 @@
 -- The members of one set that are, or aren't, in another.
-use Rattle.std.proofs.Common.{◌≡◌, ℕ, ◌+◌, Bool, true, false, not, ◌&&◌, ◌⊎◌, inl, inr, ◌↔◌, List, [], ◌++◌, length, length-append, append-nil, refl, sym, ap, subst, ◌∙◌, arith}
+use Rattle.std.proofs.Common.{◌≡◌, ℕ, ◌+◌, Bool, true, false, not, ◌&&◌, ◌⊎◌, inl, inr, ◌↔◌, List, ◌++◌, length, length-append, refl, sym, subst, ◌∙◌, arith}
 use Rattle.std.proofs.lemmas.Bool.{false≢true}
 use Rattle.std.specs.Bool.{IsTrue}
 use Rattle.lois_base.specs.Atom.{Atom}
 use Rattle.lois_base.specs.Data.{TermD, coll, comp, CompsD, no_comps, more}
 use Rattle.lois_base.specs.Fits.{CompFits, ItemsFit}
 use Rattle.lois_base.specs.FormulaData.{FormulaD}
-use Rattle.lois_base.specs.Shift.{shift, shift_items}
 use Rattle.lois_base.specs.Truth.{holds}
 use Rattle.lois_base.specs.Validity.{AdmitsTerm, AdmitsComp, AdmitsItems, CompHasUsualWidths, ItemsHaveUsualWidths}
 use Rattle.lois_base.specs.Values.{PointValue, point, IsExtension, SameAt, IsSame, IsIn}
 use Rattle.lois_base.specs.declared.guards.Lit.{Lit}
-use Rattle.lois_base.proofs.Members.{same_sym, in_same, same_in}
+use Rattle.lois_base.proofs.Members.{same_sym, in_same}
 use Rattle.lois_elim.specs.Bound.{AgreesWith}
 use Rattle.lois_elim.proofs.Truth.{both_true}
-use Rattle.lois_relate.specs.Relations.{HoldsWhereIn}
-use Rattle.lois_terms.specs.Guarded.{IsSet}
-use Rattle.lois_terms.specs.Raised.{IsRaised}
+use Rattle.lois_relate.specs.Relations.{HoldsWhereItemIn}
 use Rattle.lois_algebra.specs.Gathered.{IsAmong, IsMadeBy, IsPut}
 use Rattle.lois_algebra.specs.Selected.{IsWanted, IsSelection, IsSelectedGuard, IsNarrowed}
 use Rattle.lois_algebra.proofs.Among.{among_in}
-
--- ---- the set among more levels
-pub shifted_set : (from by : ℕ) (t r : TermD) → r ≡ shift from by t → IsSet t → IsSet r
-shifted_set from by t r e h = (shift_items from by h.0, e ∙ ap (shift from by) h.1)
 
 -- ---- the guard
 wanted_there : (b : Bool) (P Q : Type 0) → P ↔ Q → IsWanted b P → IsWanted b Q
@@ -43,43 +36,31 @@ narrowed_found wanted g q r e met = subst (λ b. IsNarrowed b g q r) (sym e) (λ
     let both = both_true (holds d g) (holds d q) in
     (λ p. both.0 (sym (met d) ∙ p), λ p. met d ∙ both.1 p))
 
-pub narrowed_others : (wanted : Bool) (g q a r : List (List Lit)) → wanted ≡ false → ((d : List Atom) → holds d a ≡ not (holds d q)) → ((d : List Atom) → holds d r ≡ (holds d g && holds d a)) → IsNarrowed wanted g q r
-narrowed_others wanted g q a r e negated met = subst (λ b. IsNarrowed b g q r) (sym e) (λ d.
-    let both = both_true (holds d g) (holds d a) in
+pub narrowed_others : (wanted : Bool) (g q r : List (List Lit)) → wanted ≡ false → ((d : List Atom) → holds d r ≡ (holds d g && not (holds d q))) → IsNarrowed wanted g q r
+narrowed_others wanted g q r e met = subst (λ b. IsNarrowed b g q r) (sym e) (λ d.
+    let both = both_true (holds d g) (not (holds d q)) in
     let absent = not_true (holds d q) in (
-      λ p. let x = both.0 (sym (met d) ∙ p) in (x.0, absent.0 (sym (negated d) ∙ x.1)),
-      λ p. met d ∙ both.1 (p.0, negated d ∙ absent.1 p.1),
+      λ p. let x = both.0 (sym (met d) ∙ p) in (x.0, absent.0 x.1),
+      λ p. met d ∙ both.1 (p.0, absent.1 p.1),
     ))
 
-module _ (n m : ℕ) (t raised : TermD) (is_raised : IsRaised n m t raised) where
-  raised_same : (c e : List Atom) → length c ≡ n → length e ≡ m → IsSame (point raised (c ++ e)) (point t c)
-  raised_same c e k l =
-      let here : SameAt raised (c ++ (e ++ [])) t (c ++ []) = is_raised c e [] k l in
-      subst (λ z. SameAt raised (c ++ z) t c) (append-nil e) (subst (λ z. SameAt raised (c ++ (e ++ [])) t z) (append-nil c) here)
-
-  in_raised : (c e : List Atom) → length c ≡ n → length e ≡ m → (u : PointValue) → IsIn u (point raised (c ++ e)) ↔ IsIn u (point t c)
-  in_raised c e k l u =
-      let same = raised_same c e k l in (
-        λ h. same_in u (point raised (c ++ e)) (point t c) same h,
-        λ h. same_in u (point t c) (point raised (c ++ e)) (same_sym (point raised (c ++ e)) (point t c) same) h,
+module _ (n m : ℕ) (ks : CompsD) (item : TermD) (f : FormulaD) (q : List (List Lit)) (member : HoldsWhereItemIn n m item ks f) (agrees : AgreesWith (n + m) f q) where
+  found_is : (c e : List Atom) → length c ≡ n → length e ≡ m → IsTrue (holds (c ++ e) q) ↔ IsIn (point item (c ++ e)) (point (coll ks) c)
+  found_is c e k l =
+      let longer : length (c ++ e) ≡ n + m = omega (arith, length-append c e) in
+      let one = agrees (c ++ e) longer in
+      let two = member c e k l in (
+        λ h. let i = two.0 (one.0 h) in (point i.0 i.1, i.2, i.3),
+        λ h. one.1 (two.1 ((h.0).term_of, (h.0).choice, h.1, h.2)),
       )
 
-  module _ (item : TermD) (f : FormulaD) (q : List (List Lit)) (member : HoldsWhereIn (n + m) item raised f) (agrees : AgreesWith (n + m) f q) where
-    found_is : (c e : List Atom) → length c ≡ n → length e ≡ m → IsTrue (holds (c ++ e) q) ↔ IsIn (point item (c ++ e)) (point t c)
-    found_is c e k l =
-        let longer : length (c ++ e) ≡ n + m = omega (arith, length-append c e) in
-        let one = agrees (c ++ e) longer in
-        let two = member (c ++ e) longer in
-        let three = in_raised c e k l (point item (c ++ e)) in
-        (λ h. three.0 (two.0 (one.0 h)), λ h. one.1 (two.1 (three.1 h)))
-
-    pub selects : (wanted : Bool) (g h : List (List Lit)) → IsNarrowed wanted g q h → IsSelectedGuard n m wanted g item t h
-    selects wanted g h narrowed c e k l =
-        let here = narrowed (c ++ e) in
-        let found = found_is c e k l in (
-          λ p. let x = here.0 p in (x.0, wanted_there wanted (IsTrue (holds (c ++ e) q)) (IsIn (point item (c ++ e)) (point t c)) found x.1),
-          λ p. here.1 (p.0, wanted_back wanted (IsTrue (holds (c ++ e) q)) (IsIn (point item (c ++ e)) (point t c)) found p.1),
-        )
+  pub selects : (wanted : Bool) (g h : List (List Lit)) → IsNarrowed wanted g q h → IsSelectedGuard n m wanted g item (coll ks) h
+  selects wanted g h narrowed c e k l =
+      let here = narrowed (c ++ e) in
+      let found = found_is c e k l in (
+        λ p. let x = here.0 p in (x.0, wanted_there wanted (IsTrue (holds (c ++ e) q)) (IsIn (point item (c ++ e)) (point (coll ks) c)) found x.1),
+        λ p. here.1 (p.0, wanted_back wanted (IsTrue (holds (c ++ e) q)) (IsIn (point item (c ++ e)) (point (coll ks) c)) found p.1),
+      )
 
 -- ---- the members
 wanted_same : (b : Bool) (u w v : PointValue) → IsSame u w → IsWanted b (IsIn u v) → IsWanted b (IsIn w v)
@@ -156,5 +137,5 @@ module _ (n : ℕ) (wanted : Bool) (t : TermD) where
 pub put_item : (m : ℕ) (h : List (List Lit)) (item item' : TermD) (before after : CompsD) → item' ≡ item → IsPut (comp m h item') before after → IsPut (comp m h item) before after
 put_item m h item item' before after e put = subst (λ z. IsPut (comp m h z) before after) e put
 
-pub selection_of : (n : ℕ) (wanted : Bool) (s t r : TermD) (ks : CompsD) → s ≡ coll ks → IsSelection n wanted (coll ks) t r → IsSelection n wanted s t r
-selection_of n wanted s t r ks e h = subst (λ z. IsSelection n wanted z t r) (sym e) h
+pub selection_of : (n : ℕ) (wanted : Bool) (s t r : TermD) (ks ls : CompsD) → s ≡ coll ks → t ≡ coll ls → IsSelection n wanted (coll ks) (coll ls) r → IsSelection n wanted s t r
+selection_of n wanted s t r ks ls e f h = subst (λ z. IsSelection n wanted z t r) (sym e) (subst (λ z. IsSelection n wanted (coll ks) z r) (sym f) h)

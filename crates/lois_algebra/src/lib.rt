@@ -6,12 +6,11 @@ mod gathering;
 mod parts;
 mod putting;
 mod selecting;
-#[cfg(test)]
-mod tests;
 mod uniting;
 
 pub use depth::depth_formula;
 pub use gathering::collect_over;
 pub use parts::project;
-pub use selecting::{inter, minus};
+pub use putting::put;
+pub use selecting::{inter, minus, selected_guard};
 pub use uniting::{all_atoms, union};

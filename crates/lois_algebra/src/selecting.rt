@@ -11,10 +11,9 @@ ghost use Rattle.lois_algebra.specs.Sets.{IsIntersection, IsDifference};
 
 use crate::putting::put;
 use lois_base::{Comp, Comps, Constraint, NoMemory, Structure, Term};
-use lois_constraint::{meet, negate};
+use lois_constraint::{and_not, meet};
 use lois_elim::quantifier_free;
-use lois_relate::member_formula;
-use lois_terms::shift_term;
+use lois_relate::item_formula;
 use std::alloc::Global;
 
 /// The set that has the members that both sets have. Errors: `NoMemory`, also where a level would pass the greatest usize.
@@ -31,8 +30,10 @@ pub fn inter<T: Structure>(alloc: Global, s: &Term, t: &Term, size: usize) -> Re
     ensures operators { IfOk result (λ r. (ordered : Bool) → AdmitsTerm ordered (tree s.now) → AdmitsTerm ordered (tree t.now) → AdmitsTerm ordered (tree r)) }
     ensures widths { IfOk result (λ r. HasUsualWidths (tree s.now) → HasUsualWidths (tree r)) }
 {
-    match s {
-        Term::Coll(comps) => Ok(Term::Coll(selected::<T>(alloc, comps, t, size, true)?)),
+    match (s, t) {
+        (Term::Coll(comps), Term::Coll(others)) => {
+            Ok(Term::Coll(selected::<T>(alloc, comps, others, size, true)?))
+        }
         _ => unreachable!(),
     }
 }
@@ -51,8 +52,10 @@ pub fn minus<T: Structure>(alloc: Global, s: &Term, t: &Term, size: usize) -> Re
     ensures operators { IfOk result (λ r. (ordered : Bool) → AdmitsTerm ordered (tree s.now) → AdmitsTerm ordered (tree t.now) → AdmitsTerm ordered (tree r)) }
     ensures widths { IfOk result (λ r. HasUsualWidths (tree s.now) → HasUsualWidths (tree r)) }
 {
-    match s {
-        Term::Coll(comps) => Ok(Term::Coll(selected::<T>(alloc, comps, t, size, false)?)),
+    match (s, t) {
+        (Term::Coll(comps), Term::Coll(others)) => {
+            Ok(Term::Coll(selected::<T>(alloc, comps, others, size, false)?))
+        }
         _ => unreachable!(),
     }
 }
@@ -61,23 +64,22 @@ pub fn minus<T: Structure>(alloc: Global, s: &Term, t: &Term, size: usize) -> Re
 fn selected<T: Structure>(
     alloc: Global,
     comps: &Comps,
-    t: &Term,
+    others: &Comps,
     size: usize,
     wanted: bool,
 ) -> Result<Comps, NoMemory>
     requires left { ItemsFit size (comps_of comps.now) }
     requires left_operators { AdmitsItems T.ordered (comps_of comps.now) }
-    requires right { Fits size (tree t.now) }
-    requires right_set { IsSet (tree t.now) }
-    requires right_operators { AdmitsTerm T.ordered (tree t.now) }
-    ensures members { IfOk result (λ r. IsSelection size wanted (coll (comps_of comps.now)) (tree t.now) (coll (comps_of r))) }
+    requires right { ItemsFit size (comps_of others.now) }
+    requires right_operators { AdmitsItems T.ordered (comps_of others.now) }
+    ensures members { IfOk result (λ r. IsSelection size wanted (coll (comps_of comps.now)) (coll (comps_of others.now)) (coll (comps_of r))) }
     ensures levels { IfOk result (λ r. ItemsFit size (comps_of r)) }
-    ensures operators { IfOk result (λ r. (ordered : Bool) → AdmitsItems ordered (comps_of comps.now) → AdmitsTerm ordered (tree t.now) → AdmitsItems ordered (comps_of r)) }
+    ensures operators { IfOk result (λ r. (ordered : Bool) → AdmitsItems ordered (comps_of comps.now) → AdmitsItems ordered (comps_of others.now) → AdmitsItems ordered (comps_of r)) }
     ensures widths { IfOk result (λ r. ItemsHaveUsualWidths (comps_of comps.now) → ItemsHaveUsualWidths (comps_of r)) }
 {
     let mut kept = Comps::new(alloc);
     for comp in comps.as_slice() {
-        let guard = selected_guard::<T>(alloc, comp, t, size, wanted)?;
+        let guard = selected_guard::<T>(alloc, comp, others, size, wanted)?;
         let item = comp.item.copy(alloc)?;
         put(
             &mut kept,
@@ -91,31 +93,25 @@ fn selected<T: Structure>(
     Ok(kept)
 }
 
-// The guard of a comprehension, and that its item is in the set `t`, or isn't.
-fn selected_guard<T: Structure>(
+/// The guard of a comprehension, and that its item is in the set of the others, or isn't where that is wanted. The others use
+/// the first `size` levels. Errors: `NoMemory`, also where a level would pass the greatest usize.
+pub fn selected_guard<T: Structure>(
     alloc: Global,
     comp: &Comp,
-    t: &Term,
+    others: &Comps,
     size: usize,
     wanted: bool,
 ) -> Result<Constraint, NoMemory>
     requires left { CompFits size (comp_of comp.now) }
     requires left_operators { AdmitsComp T.ordered (comp_of comp.now) }
-    requires right { Fits size (tree t.now) }
-    requires right_set { IsSet (tree t.now) }
-    requires right_operators { AdmitsTerm T.ordered (tree t.now) }
-    ensures truth { IfOk result (IsSelectedGuard size comp.now.binders wanted comp.now.guard (tree comp.now.item) (tree t.now)) }
+    requires right { ItemsFit size (comps_of others.now) }
+    requires right_operators { AdmitsItems T.ordered (comps_of others.now) }
+    ensures truth { IfOk result (IsSelectedGuard size comp.now.binders wanted comp.now.guard (tree comp.now.item) (coll (comps_of others.now))) }
     ensures levels { IfOk result (ConstraintFits (size + comp.now.binders)) }
-    ensures operators { IfOk result (λ r. (ordered : Bool) → AdmitsComp ordered (comp_of comp.now) → AdmitsTerm ordered (tree t.now) → AdmitsConstraint ordered r) }
+    ensures operators { IfOk result (λ r. (ordered : Bool) → AdmitsComp ordered (comp_of comp.now) → AdmitsItems ordered (comps_of others.now) → AdmitsConstraint ordered r) }
 {
-    let inner = size + comp.binders;
-    let movable = t.fits(inner);
-    if !movable {
-        return Err(NoMemory);
-    }
-    let raised = shift_term(alloc, t, size, comp.binders)?;
-    let formula = member_formula(alloc, &comp.item, &raised, inner)?;
-    let found = quantifier_free::<T>(alloc, &formula, inner)?;
+    let formula = item_formula(alloc, &comp.item, others.as_slice(), size, comp.binders)?;
+    let found = quantifier_free::<T>(alloc, &formula, size + comp.binders)?;
     narrowed(alloc, &comp.guard, &found, wanted)
 }
 
@@ -131,8 +127,8 @@ fn narrowed(
     ensures operators { IfOk result (λ r. (ordered : Bool) → AdmitsConstraint ordered guard.now → AdmitsConstraint ordered found.now → AdmitsConstraint ordered r) }
 {
     if wanted {
-        return meet(alloc, guard, found);
+        meet(alloc, guard, found)
+    } else {
+        and_not(alloc, guard, found)
     }
-    let absent = negate(alloc, found)?;
-    meet(alloc, guard, &absent)
 }

@@ -7,7 +7,7 @@ ghost use Rattle.lois_base.specs.Validity.{AdmitsTerm, HasUsualWidths};
 ghost use Rattle.lois_terms.specs.Guarded.{IsSet};
 ghost use Rattle.lois_algebra.specs.Sets.{IsUnion, HasAllAtoms};
 
-use lois_base::{Comp, Comps, Constraint, Cube, NoMemory, Term};
+use lois_base::{Comp, Comps, Constraint, NoMemory, Term};
 use std::alloc::Global;
 
 /// The set that has the members of either of the two sets.
@@ -50,19 +50,10 @@ pub fn all_atoms(alloc: Global, size: usize) -> Result<Term, NoMemory>
 {
     let comp = Comp {
         binders: 1,
-        guard: always(alloc)?,
+        guard: Constraint::always(alloc)?,
         item: Term::Var(size),
     };
     Ok(Term::Coll(alone(alloc, comp)?))
-}
-
-// One cube without literals.
-fn always(alloc: Global) -> Result<Constraint, NoMemory>
-    ensures { IfOk result (λ r. r ≡ [] ∷ []) }
-{
-    let mut constraint = Constraint::new(alloc);
-    constraint.push(Cube::new(alloc))?;
-    Ok(constraint)
 }
 
 fn alone(alloc: Global, comp: Comp) -> Result<Comps, NoMemory>

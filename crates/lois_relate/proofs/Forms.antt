@@ -7,8 +7,6 @@ use Rattle.lois_base.specs.Atom.{Atom, whole}
 use Rattle.lois_base.specs.FormulaData.{FormulaD, all, any, neg, exists, no_formulas, formulas_of, FormulaFits, FormulasFit}
 use Rattle.lois_base.specs.FormulaTruth.{FormulaHolds, AllHold, AnyHolds}
 use Rattle.lois_base.specs.Validity.{AdmitsFormula, AdmitsFormulas}
-use Rattle.lois_base.specs.declared.guards.Lit.{Lit}
-use Rattle.lois_base.specs.declared.logic.Formula.{Formula}
 use Rattle.lois_relate.specs.Built.{IsBoth, IsEither, IsNegation, IsImplied, IsForSome}
 
 -- ---- true and false everywhere

@@ -1,15 +1,15 @@
 -- Terms whose levels are those of the choice itself.
-use Rattle.std.proofs.Common.{◌≡◌, ℕ, Bool, ◌↔◌, List, length, ap, ◌∙◌, sym, subst}
+use Rattle.std.proofs.Common.{◌≡◌, ℕ, Bool, ◌↔◌, List, ◌+◌, ◌++◌, length, length-append, ap, ◌∙◌, sym, subst, arith}
 use Rattle.lois_base.specs.Atom.{Atom}
 use Rattle.lois_base.specs.Data.{TermD, coll, CompsD}
 use Rattle.lois_base.specs.FormulaData.{FormulaD}
 use Rattle.lois_base.specs.FormulaTruth.{FormulaHolds}
-use Rattle.lois_base.specs.Values.{point, SameAt, AllInAt, SomeIsAt, IsIn, IsIncluded}
+use Rattle.lois_base.specs.Values.{point, SameAt, AllInAt, SomeIsAt, InAt, IsIn, IsIncluded}
 use Rattle.lois_relate.specs.Built.{Says}
 use Rattle.lois_relate.specs.Named.{chosen, AreBelow, levels_from}
-use Rattle.lois_relate.specs.Relations.{HoldsWhereSame, HoldsWhereIn, HoldsWhereIncluded}
-use Rattle.lois_relate.proofs.Names.{chosen_own, own_below, length-levels_from}
-use Rattle.lois_relate.proofs.Sets.{some_is_member, all_in_included}
+use Rattle.lois_relate.specs.Relations.{HoldsWhereSame, HoldsWhereIn, HoldsWhereItemIn, HoldsWhereIncluded}
+use Rattle.lois_relate.proofs.Names.{chosen_own, chosen_longer, chosen_entered, own_below, length-levels_from}
+use Rattle.lois_relate.proofs.Sets.{some_is_in, some_is_member, all_in_included}
 
 then : (P Q R : Type 0) → P ↔ Q → Q ↔ R → P ↔ R
 then P Q R h k = (λ p. k.0 (h.0 p), λ r. h.1 (k.1 r))
@@ -37,3 +37,15 @@ module _ (n : ℕ) (own : List ℕ) (is : own ≡ levels_from 0 n) where
     holds_where_included s t cs ks d e says = λ c k.
         let here : FormulaHolds c f ↔ AllInAt cs c ks c = subst (λ z. FormulaHolds c f ↔ AllInAt cs z ks z) (unchanged c k) (says.truth c k) in
         subst (λ y. FormulaHolds c f ↔ IsIncluded (point y c) (point t c)) (sym d) (subst (λ z. FormulaHolds c f ↔ IsIncluded (point (coll cs) c) (point z c)) (sym e) (then (FormulaHolds c f) (AllInAt cs c ks c) (IsIncluded (point (coll cs) c) (point (coll ks) c)) here (all_in_included cs c ks c)))
+
+-- an item behind further levels, beside a set at the first ones
+module _ (n m inner : ℕ) (sum : inner ≡ n + m) (own names : List ℕ) (is : own ≡ levels_from 0 n) (entered : names ≡ own ++ levels_from n m) where
+  pub holds_where_item_in : (A : Bool → Type 0) (f : FormulaD) (t : TermD) (ks : CompsD) → Says inner (λ c. SomeIsAt ks (chosen own c) t (chosen names c)) A f → HoldsWhereItemIn n m t ks f
+  holds_where_item_in A f t ks says c e k l =
+      let below : AreBelow n own = all_below n own is in
+      let own_same : chosen own c ≡ c = unchanged n own is c k in
+      let first : chosen own (c ++ e) ≡ c = chosen_longer own c e (subst (λ j. AreBelow j own) (sym k) below) ∙ own_same in
+      let whole : chosen names (c ++ e) ≡ c ++ e = subst (λ z. chosen z (c ++ e) ≡ c ++ e) (sym entered) (chosen_entered own n m c e k l below ∙ ap (λ z. z ++ e) own_same) in
+      let long : length (c ++ e) ≡ inner = omega (arith, length-append c e) in
+      let here : FormulaHolds (c ++ e) f ↔ SomeIsAt ks c t (c ++ e) = subst (λ z. FormulaHolds (c ++ e) f ↔ SomeIsAt ks z t (c ++ e)) first (subst (λ z. FormulaHolds (c ++ e) f ↔ SomeIsAt ks (chosen own (c ++ e)) t z) whole (says.truth (c ++ e) long)) in
+      then (FormulaHolds (c ++ e) f) (SomeIsAt ks c t (c ++ e)) (InAt t (c ++ e) ks c) here (some_is_in t (c ++ e) ks c)

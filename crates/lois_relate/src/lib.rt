@@ -5,7 +5,5 @@ pub mod building;
 mod matching;
 mod naming;
 mod relating;
-#[cfg(test)]
-mod tests;
 
-pub use relating::{equal_formula, included_formula, member_formula};
+pub use relating::{equal_formula, included_formula, item_formula, member_formula};

@@ -1,6 +1,6 @@
 //! Equality, membership and inclusion, by recursion on both terms.
 
-ghost use Rattle.std.specs.Prelude.{◌≡◌, ℕ, ◌<◌, Bool, [], ◌∷◌, length, IfOk, IfSome, IfNone, IsTrue};
+ghost use Rattle.std.specs.Prelude.{◌≡◌, ℕ, ◌+◌, ◌<◌, Bool, [], ◌∷◌, length, map, IfOk, IfSome, IfNone, IsTrue};
 ghost use Rattle.lois_base.specs.Atom.{equal};
 ghost use Rattle.lois_base.specs.Data.{coll, more, no_comps, terms_of, comps_of};
 ghost use Rattle.lois_base.specs.Fits.{Fits, PartsFit, CompFits, ItemsFit};
@@ -14,7 +14,7 @@ ghost use Rattle.lois_terms.specs.Guarded.{IsSet};
 ghost use Rattle.lois_relate.specs.Built.{Says};
 ghost use Rattle.lois_relate.specs.Named.{chosen, AreBelow};
 ghost use Rattle.lois_relate.specs.Singles.{IsSingle};
-ghost use Rattle.lois_relate.specs.Relations.{HoldsWhereSame, HoldsWhereIn, HoldsWhereIncluded};
+ghost use Rattle.lois_relate.specs.Relations.{HoldsWhereSame, HoldsWhereIn, HoldsWhereItemIn, HoldsWhereIncluded};
 
 use crate::building::{
     always, both, either, for_some, implied, is_always, is_never, negated, never,
@@ -49,9 +49,30 @@ pub fn member_formula(alloc: Global, s: &Term, t: &Term, size: usize) -> Result<
     let levels = entered(alloc, &[], 0, size)?;
     let own = levels.as_slice();
     match t {
-        Term::Coll(comps) => member(alloc, s, own, comps, own, size),
+        Term::Coll(comps) => member(alloc, s, own, comps.as_slice(), own, size),
         _ => unreachable!(),
     }
+}
+
+/// A formula that says of a comprehension of `binders` binders, inside of `size` levels, where its item is in the set of other comprehensions that stand beside it: at each choice of `size` atoms and `binders` more. The others use the first `size` levels and binders of their own, and nothing is copied. It has `<` only where the item or the others have it. Errors: `NoMemory`, also where a level would pass the greatest usize.
+pub fn item_formula(
+    alloc: Global,
+    item: &Term,
+    others: &[Comp],
+    size: usize,
+    binders: usize,
+) -> Result<Formula, NoMemory>
+    requires element { Fits (size + binders) (tree item.now) }
+    requires levels { ItemsFit size (comps_of (map comp_of others.now)) }
+    ensures truth { IfOk result (λ f. HoldsWhereItemIn size binders (tree item.now) (comps_of (map comp_of others.now)) (view f)) }
+    ensures levels { IfOk result (λ f. FormulaFits (size + binders) (view f)) }
+    ensures operators { IfOk result (λ f. (ordered : Bool) → AdmitsTerm ordered (tree item.now) → AdmitsItems ordered (comps_of (map comp_of others.now)) → AdmitsFormula ordered (view f)) }
+{
+    let inner = inner_size(size, binders)?;
+    let levels = entered(alloc, &[], 0, size)?;
+    let own = levels.as_slice();
+    let longer = entered(alloc, own, size, binders)?;
+    member(alloc, item, longer.as_slice(), others, own, inner)
 }
 
 /// A formula that holds at each choice of `size` atoms exactly where each member of the set `s` is in the set `t`. It has `<` only where a term has it. Errors: `NoMemory`, also where a level would pass the greatest usize.
@@ -275,30 +296,30 @@ fn each_in(
     let inner = inner_size(size, comp.binders)?;
     let longer = entered(alloc, s_names, size, comp.binders)?;
     let names = longer.as_slice();
-    let found = member(alloc, &comp.item, names, others, t_names, inner)?;
+    let found = member(alloc, &comp.item, names, others.as_slice(), t_names, inner)?;
     let guard = guard_formula(alloc, &comp.guard, names)?;
     let missing = both(alloc, guard, negated(alloc, found)?)?;
     negated(alloc, for_some(alloc, missing, comp.binders)?)
 }
 
-// Where the value is in the set.
+// Where the value is in the set of the comprehensions.
 #[cycle(relating)]
 fn member(
     alloc: Global,
     s: &Term,
     s_names: &[usize],
-    comps: &Comps,
+    comps: &[Comp],
     t_names: &[usize],
     size: usize,
 ) -> Result<Formula, NoMemory>
     requires left { Fits (length s_names.now) (tree s.now) }
     requires left_names { AreBelow size s_names.now }
-    requires right { ItemsFit (length t_names.now) (comps_of comps.now) }
+    requires right { ItemsFit (length t_names.now) (comps_of (map comp_of comps.now)) }
     requires right_names { AreBelow size t_names.now }
-    ensures { IfOk result (λ f. Says size (λ c. SomeIsAt (comps_of comps.now) (chosen t_names.now c) (tree s.now) (chosen s_names.now c)) (λ o. AdmitsItems o (comps_of comps.now) × AdmitsTerm o (tree s.now)) (view f)) }
+    ensures { IfOk result (λ f. Says size (λ c. SomeIsAt (comps_of (map comp_of comps.now)) (chosen t_names.now c) (tree s.now) (chosen s_names.now c)) (λ o. AdmitsItems o (comps_of (map comp_of comps.now)) × AdmitsTerm o (tree s.now)) (view f)) }
 {
     let mut found = never(alloc);
-    for comp in comps.as_slice() {
+    for comp in comps {
         let one = is_item(alloc, s, s_names, comp, t_names, size)?;
         found = either(alloc, found, one)?;
         if is_always(&found) {

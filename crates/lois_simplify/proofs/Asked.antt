@@ -71,9 +71,6 @@ sample_is_apart n b a h s m l k d =
 pub small_sample_meets : (n : ℕ) (h : List (List Lit)) (s : List ℕ) → Meets n h s → CanBeMet n h
 small_sample_meets n h s m = (sampled s, length-map s whole ∙ m.0.count, m.1)
 
-pub met_same : (n : ℕ) (g h : List (List Lit)) (s : List ℕ) → ((c : List Atom) → holds c g ≡ holds c h) → Meets n g s → Meets n h s
-met_same n g h s e m = (m.0, sym (e (sampled s)) ∙ m.1)
-
 -- ---- what `is_none` tells
 pub none_there : {X : Type 0} (o : Option X) (b : Bool) → is_some o ≡ not b → IsTrue b → IsNone o
 none_there None b e t = refl
@@ -88,11 +85,6 @@ some_is P o x e h = subst (λ z. IfSome z P) e h
 
 pub none_is : {X : Type 0} (o : Option X) → o ≡ None → IsNone o
 none_is o e = ap is_some e
-
-pub ask_moved : {X E : Type 0} (P Q : X → Type 0) (r : Result (Option X) E) → ((x : X) → P x → Q x) → IfOk r (λ o. IfSome o P) → IfOk r (λ o. IfSome o Q)
-ask_moved P Q (Ok None) f h = h
-ask_moved P Q (Ok (Some x)) f h = f x h
-ask_moved P Q (Err e) f h = h
 
 pub ok_both : {X E : Type 0} (P Q R : X → Type 0) (r : Result X E) → ((x : X) → P x → Q x → R x) → IfOk r P → IfOk r Q → IfOk r R
 ok_both P Q R (Ok x) f p q = f x p q

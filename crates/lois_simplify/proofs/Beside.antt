@@ -1,5 +1,5 @@
 -- Comprehensions beside others: what they still have of their own, and what the others cover.
-use Rattle.std.proofs.Common.{◌≡◌, ℕ, ◌+◌, ◌⊎◌, inl, inr, ◌&&◌, ◌↔◌, List, [], ◌∷◌, ◌++◌, length, take, drop, sym, ap, ◌∙◌, subst, arith, append-nil, append_assoc, length-append}
+use Rattle.std.proofs.Common.{◌≡◌, ℕ, ◌+◌, ◌⊎◌, inl, inr, ◌&&◌, ◌↔◌, List, [], ◌∷◌, ◌++◌, length, take, drop, sym, ap, ◌∙◌, subst, arith, append_assoc, length-append}
 use Rattle.std.proofs.lemmas.Bool.{and_parts}
 use Rattle.std.proofs.lemmas.List.{take-append-drop, length-take-le, length-drop}
 use Rattle.std.specs.Bool.{IsTrue, IsFalse}
@@ -10,13 +10,11 @@ use Rattle.lois_base.specs.Data.{TermD, CompD, comp, comps_of}
 use Rattle.lois_base.specs.Fits.{ConstraintFits}
 use Rattle.lois_base.specs.FormulaData.{FormulaD}
 use Rattle.lois_base.specs.Truth.{holds}
-use Rattle.lois_base.specs.Values.{point, IsSame, IsIn, MakesAt, MemberAt, InAt}
+use Rattle.lois_base.specs.Values.{MakesAt, MemberAt, InAt}
 use Rattle.lois_base.specs.declared.guards.Lit.{Lit}
-use Rattle.lois_base.proofs.Members.{same_in}
-use Rattle.lois_base.proofs.Same.{same_at_sym}
 use Rattle.lois_elim.specs.Bound.{AgreesWith}
-use Rattle.lois_relate.specs.Relations.{HoldsWhereIn}
-use Rattle.lois_terms.specs.Raised.{IsRaised}
+use Rattle.lois_relate.specs.Built.{IsEither}
+use Rattle.lois_relate.specs.Relations.{HoldsWhereItemIn}
 use Rattle.lois_simplify.specs.Covered.{IsCovered}
 use Rattle.lois_simplify.specs.Kept.{IsSameWhere, set_of}
 use Rattle.lois_simplify.specs.Lean.{HasOwn, EachHasOwn}
@@ -76,38 +74,44 @@ module _ (u : List (List Lit)) (n : ℕ) where
       there w x h =
           let r = member_made (ps ++ comp m g t ∷ bs) w x c h in made w x r.0 r.2 (Contains-append_cases ps (comp m g t ∷ bs) r.0 r.1)
 
--- ---- what the questions say: a set r that has the value of others behind m more atoms, and a constraint q that holds where
--- the item is in it
-module _ (u : List (List Lit)) (n m : ℕ) (g : List (List Lit)) (t : TermD) (others : List CompD) (r : TermD) (h q : List (List Lit)) where
+-- ---- membership among some and among others is membership among all
+in_either : (xs ys : List CompD) (t : TermD) (c d : List Atom) → InAt t c (comps_of (xs ++ ys)) d → InAt t c (comps_of xs) d ⊎ InAt t c (comps_of ys) d
+in_either xs ys t c d i =
+    let made = member_made (xs ++ ys) i.0 i.1 d i.2 in
+    elim (Contains-append_cases xs ys made.0 made.1) [
+      | inl h ↦ inl (i.0, i.1, made_member xs made.0 i.0 i.1 d h made.2, i.3)
+      | inr h ↦ inr (i.0, i.1, made_member ys made.0 i.0 i.1 d h made.2, i.3)
+    ]
+
+pub among_all : (n m : ℕ) (t : TermD) (xs ys : List CompD) (f g r : FormulaD) → HoldsWhereItemIn n m t (comps_of xs) f → HoldsWhereItemIn n m t (comps_of ys) g → IsEither f g r → HoldsWhereItemIn n m t (comps_of (xs ++ ys)) r
+among_all n m t xs ys f g r there else_there either c e l k = (
+  λ h. elim ((either.truth (c ++ e)).0 h) [
+    | inl p ↦ in_more xs (xs ++ ys) (λ j q. Contains-append_left xs ys j q) t (c ++ e) c ((there c e l k).0 p)
+    | inr p ↦ in_more ys (xs ++ ys) (λ j q. Contains-append_right xs ys j q) t (c ++ e) c ((else_there c e l k).0 p)
+  ],
+  λ i. (either.truth (c ++ e)).1 (elim (in_either xs ys t (c ++ e) c i) [
+    | inl p ↦ inl ((there c e l k).1 p)
+    | inr p ↦ inr ((else_there c e l k).1 p)
+  ]),
+)
+
+-- ---- what the questions say: a constraint h that holds where u and the guard do, and a constraint q that holds where the item
+-- is among the others
+module _ (u : List (List Lit)) (n m : ℕ) (g : List (List Lit)) (t : TermD) (others : List CompD) (h q : List (List Lit)) where
   pub record IsAsked : Type 0 where
     pub under : ConstraintFits n u
-    pub raised : IsRaised n m (set_of others) r
     pub here : (c : List Atom) → holds c h ≡ (holds c u && holds c g)
-    pub within : (c : List Atom) → length c ≡ n + m → IsTrue (holds c q) ↔ IsIn (point t c) (point r c)
-
-  raised_same : IsAsked → (c e : List Atom) → length c ≡ n → length e ≡ m → IsSame (point r (c ++ e)) (point (set_of others) c)
-  raised_same a c e l k =
-      subst (λ z. IsSame (point r (c ++ z)) (point (set_of others) c)) (append-nil e)
-      (subst (λ z. IsSame (point r (c ++ (e ++ []))) (point (set_of others) z)) (append-nil c) (a.raised c e [] l k))
-
-  in_others : (c e d : List Atom) → IsIn (point t e) (point (set_of others) d) → InAt t e (comps_of others) d
-  in_others c e d i = (i.0.term_of, i.0.choice, i.1, i.2)
-
-  to_in : (c e : List Atom) → InAt t e (comps_of others) c → IsIn (point t e) (point (set_of others) c)
-  to_in c e i = (point i.0 i.1, i.2, i.3)
+    pub within : (c e : List Atom) → length c ≡ n → length e ≡ m → IsTrue (holds (c ++ e) q) ↔ InAt t (c ++ e) (comps_of others) c
 
   pub asked_covered : IsAsked → ((c : List Atom) → length c ≡ n + m → IsTrue (holds c h) → IsTrue (holds c q)) → IsCovered u n others (comp m g t)
   asked_covered a entailed c e l o i =
       let long : length (c ++ e) ≡ n + m = omega (arith, length-append c e, i.count) in
       let before : holds (c ++ e) u ≡ holds c u = holds_before c e u (subst (λ k. ConstraintFits k u) (sym l) a.under) in
       let hh : IsTrue (holds (c ++ e) h) = a.here (c ++ e) ∙ (ap (λ b. b && holds (c ++ e) g) (before ∙ o) ∙ i.guard) in
-      let inside : IsIn (point t (c ++ e)) (point r (c ++ e)) = (a.within (c ++ e) long).0 (entailed (c ++ e) long hh) in
-      in_others c (c ++ e) c (same_in (point t (c ++ e)) (point r (c ++ e)) (point (set_of others) c) (raised_same a c e l i.count) inside)
+      (a.within c e l i.count).0 (entailed (c ++ e) long hh)
 
   pub asked_own : IsAsked → (d : List Atom) → length d ≡ n + m → IsTrue (holds d h) → IsFalse (holds d q) → HasOwn u n others (comp m g t)
   asked_own a d l hh out =
-      let c : List Atom = take n d in
-      let e : List Atom = drop n d in
       let whole : take n d ++ drop n d ≡ d = take-append-drop n d in
       let short : length (take n d) ≡ n = length-take-le n d (omega arith) in
       let more : length (drop n d) ≡ m = omega (arith, length-drop n d) in
@@ -117,14 +121,16 @@ module _ (u : List (List Lit)) (n m : ℕ) (g : List (List Lit)) (t : TermD) (ot
         drop n d,
         record { count = short; met = under },
         record { count = more; guard = ap (λ z. holds z g) whole ∙ parts.1 },
-        λ i. let inside : IsIn (point t d) (point r d) = subst (λ z. IsIn (point t z) (point r z)) whole (same_in (point t (take n d ++ drop n d)) (point (set_of others) (take n d)) (point r (take n d ++ drop n d)) (same_at_sym r (take n d ++ drop n d) (set_of others) (take n d) (raised_same a (take n d) (drop n d) short more)) (to_in (take n d) (take n d ++ drop n d) i)) in
-            let yes : IsTrue (holds d q) = (a.within d l).1 inside in absurd (cc),
+        λ i. let yes : IsTrue (holds d q) = ap (λ z. holds z q) (sym whole) ∙ (a.within (take n d) (drop n d) short more).1 i in absurd (cc),
       )
 
-  pub is_asked : (f : FormulaD) → ConstraintFits n u → IsRaised n m (set_of others) r → ((c : List Atom) → holds c h ≡ (holds c u && holds c g)) → HoldsWhereIn (n + m) t r f → AgreesWith (n + m) f q → IsAsked
-  is_asked f under raised here member agrees = record {
+  pub is_asked : (f : FormulaD) → ConstraintFits n u → ((c : List Atom) → holds c h ≡ (holds c u && holds c g)) → HoldsWhereItemIn n m t (comps_of others) f → AgreesWith (n + m) f q → IsAsked
+  is_asked f under here member agrees = record {
     under = under;
-    raised = raised;
     here = here;
-    within = λ c l. (λ p. (member c l).0 ((agrees c l).0 p), λ p. (agrees c l).1 ((member c l).1 p));
+    within = λ c e l k.
+        let long : length (c ++ e) ≡ n + m = omega (arith, length-append c e) in (
+          (λ p. (member c e l k).0 ((agrees (c ++ e) long).0 p)),
+          λ p. (agrees (c ++ e) long).1 ((member c e l k).1 p),
+        );
   }

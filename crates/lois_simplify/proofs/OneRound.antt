@@ -17,7 +17,7 @@ use Rattle.lois_base.specs.declared.values.Comp.{Comp}
 use Rattle.lois_base.proofs.Both.{holds_both}
 use Rattle.lois_base.proofs.RenamedForm.{NamesFit, depth_renamed, widths_renamed, admits_renamed, fits_renamed}
 use Rattle.lois_deciders.specs.Asked.{CanBeMet}
-use Rattle.lois_elim.specs.Bound.{HoldsForSome}
+use Rattle.lois_base.specs.Bound.{HoldsForSome}
 use Rattle.lois_simplify.specs.Fixed.{IsFixed}
 use Rattle.lois_simplify.specs.Kept.{IsSameWhere, IsKept, set_of}
 use Rattle.lois_simplify.specs.Lean.{HasNormalGuards, IsLeanAlone, IsLeanComp}

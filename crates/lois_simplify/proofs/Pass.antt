@@ -3,7 +3,7 @@ use Rattle.std.proofs.Common.{◌≡◌, ℕ, ◌+◌, ◌-◌, ◌<◌, List, [
 use Rattle.std.specs.Prelude.{Bool}
 use Rattle.std.specs.List.{Contains}
 use Rattle.std.proofs.lemmas.List.{take_all}
-use Rattle.std.proofs.lemmas.List.Elements.{Contains-append_right}
+use Rattle.std.proofs.lemmas.List.Elements.{Contains-append_left, Contains-append_right}
 use Rattle.lois_base.specs.Data.{CompD, comps_of}
 use Rattle.lois_base.specs.Fits.{ItemsFit}
 use Rattle.lois_base.specs.Tree.{comp_of}
@@ -43,13 +43,23 @@ module _ (u : List (List Lit)) (n : ℕ) (whole : List CompD) where
     pub others_are_there : (j : CompD) → Contains (kept ++ coming) j → Contains whole j
     others_are_there j h = so_far.only j (skip_one u n kept coming k j h)
 
-    pub others_fit : ItemsFit n (comps_of whole) → ItemsFit n (comps_of (kept ++ coming))
-    others_fit f =
-        each_fits_items n (kept ++ coming) (λ j h. items_fit_each n whole j f (others_are_there j h))
+    kept_there : (j : CompD) → Contains kept j → Contains whole j
+    kept_there j h = others_are_there j (Contains-append_left kept coming j h)
 
-    pub others_admit : (o : Bool) → AdmitsItems o (comps_of whole) → AdmitsItems o (comps_of (kept ++ coming))
-    others_admit o f =
-        each_admits_items o (kept ++ coming) (λ j h. items_admit_each o whole j f (others_are_there j h))
+    coming_there : (j : CompD) → Contains coming j → Contains whole j
+    coming_there j h = others_are_there j (Contains-append_right kept coming j h)
+
+    pub kept_fit : ItemsFit n (comps_of whole) → ItemsFit n (comps_of kept)
+    kept_fit f = each_fits_items n kept (λ j h. items_fit_each n whole j f (kept_there j h))
+
+    pub coming_fit : ItemsFit n (comps_of whole) → ItemsFit n (comps_of coming)
+    coming_fit f = each_fits_items n coming (λ j h. items_fit_each n whole j f (coming_there j h))
+
+    pub kept_admit : (o : Bool) → AdmitsItems o (comps_of whole) → AdmitsItems o (comps_of kept)
+    kept_admit o f = each_admits_items o kept (λ j h. items_admit_each o whole j f (kept_there j h))
+
+    pub coming_admit : (o : Bool) → AdmitsItems o (comps_of whole) → AdmitsItems o (comps_of coming)
+    coming_admit o f = each_admits_items o coming (λ j h. items_admit_each o whole j f (coming_there j h))
 
     pub next_dropped : IsCovered u n (kept ++ coming) k → UncoveredSoFar u n whole kept coming
     next_dropped covered = record {

@@ -13,7 +13,7 @@ use Rattle.lois_base.specs.declared.guards.Lit.{Lit}
 use Rattle.lois_base.proofs.Order.{equal_refl}
 use Rattle.lois_base.proofs.Renamed.{Renames, same_renamed}
 use Rattle.lois_base.proofs.Same.{same_at_refl, same_at_sym}
-use Rattle.lois_elim.specs.Bound.{HoldsForSome}
+use Rattle.lois_base.specs.Bound.{HoldsForSome}
 use Rattle.lois_simplify.specs.Kept.{IsSameWhere, set_of}
 use Rattle.lois_simplify.specs.Moved.{moved}
 use Rattle.lois_simplify.specs.Rounds.{only}

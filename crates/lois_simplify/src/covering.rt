@@ -1,57 +1,67 @@
 //! Comprehensions whose members the others have.
 
-ghost use Rattle.std.specs.Prelude.{◌≡◌, ◌+◌, ◌<◌, [], ◌++◌, map, IfOk, IsTrue, IsFalse, Contains};
+ghost use Rattle.std.specs.Prelude.{◌+◌, [], ◌++◌, map, Bool, IfOk, IsTrue, IsFalse, Contains};
 ghost use Rattle.lois_base.specs.Data.{CompD, comps_of};
 ghost use Rattle.lois_base.specs.Fits.{ConstraintFits, CompFits, ItemsFit};
-ghost use Rattle.lois_base.specs.Tree.{comp_of};
-ghost use Rattle.lois_base.specs.Validity.{AdmitsComp, AdmitsItems};
+ghost use Rattle.lois_base.specs.FormulaData.{FormulaFits};
+ghost use Rattle.lois_base.specs.FormulaView.{view};
+ghost use Rattle.lois_base.specs.Tree.{tree, comp_of};
+ghost use Rattle.lois_base.specs.Validity.{AdmitsTerm, AdmitsComp, AdmitsItems, AdmitsFormula};
+ghost use Rattle.lois_relate.specs.Relations.{HoldsWhereItemIn};
 ghost use Rattle.lois_simplify.specs.Kept.{IsKept, set_of};
 ghost use Rattle.lois_simplify.specs.Lean.{HasOwn, EachHasOwn};
 ghost use Rattle.lois_simplify.specs.Covered.{IsCovered};
 
 use crate::answering::Answers;
-use lois_base::{Comp, Comps, Constraint, NoMemory, Structure, Term};
+use lois_base::{Comp, Comps, Constraint, Formula, NoMemory, Structure};
 use lois_constraint::meet;
 use lois_elim::quantifier_free;
-use lois_relate::member_formula;
-use lois_terms::shift_term;
+use lois_relate::building::either;
+use lois_relate::item_formula;
 use std::alloc::Global;
 
-// The comprehensions before one and behind it.
-fn others_of(alloc: Global, kept: &Comps, coming: &[Comp]) -> Result<Comps, NoMemory>
-    ensures { IfOk result (λ r. r ≡ kept.now ++ map comp_of coming.now) }
+// Where the item of the comprehension is among the members of those before it and behind it.
+fn item_among(
+    alloc: Global,
+    comp: &Comp,
+    kept: &Comps,
+    coming: &[Comp],
+    size: usize,
+) -> Result<Formula, NoMemory>
+    requires levels { CompFits size (comp_of comp.now) }
+    requires kept_levels { ItemsFit size (comps_of kept.now) }
+    requires coming_levels { ItemsFit size (comps_of (map comp_of coming.now)) }
+    ensures truth { IfOk result (λ f. HoldsWhereItemIn size comp.now.binders (tree comp.now.item) (comps_of (kept.now ++ map comp_of coming.now)) (view f)) }
+    ensures levels { IfOk result (λ f. FormulaFits (size + comp.now.binders) (view f)) }
+    ensures operators { IfOk result (λ f. (o : Bool) → AdmitsTerm o (tree comp.now.item) → AdmitsItems o (comps_of kept.now) → AdmitsItems o (comps_of (map comp_of coming.now)) → AdmitsFormula o (view f)) }
 {
-    let mut others = kept.copy(alloc)?;
-    for comp in coming {
-        others.push(comp.copy(alloc)?)?;
-    }
-    Ok(others)
+    let before = item_formula(alloc, &comp.item, kept.as_slice(), size, comp.binders)?;
+    let behind = item_formula(alloc, &comp.item, coming, size, comp.binders)?;
+    either(alloc, before, behind)
 }
 
-// Whether the others have each member of the comprehension wherever `under` holds.
+// Whether those before it and behind it have each member of the comprehension wherever `under` holds.
 fn is_covered<T: Structure, D: Answers>(
     alloc: Global,
     comp: &Comp,
-    others: Comps,
+    kept: &Comps,
+    coming: &[Comp],
     under: &Constraint,
     size: usize,
     decider: &mut D,
 ) -> Result<bool, NoMemory>
     requires levels { CompFits size (comp_of comp.now) }
-    requires others_levels { ItemsFit size (comps_of others) }
+    requires kept_levels { ItemsFit size (comps_of kept.now) }
+    requires coming_levels { ItemsFit size (comps_of (map comp_of coming.now)) }
     requires under_levels { ConstraintFits size under.now }
     requires operators { AdmitsComp T.ordered (comp_of comp.now) }
-    requires others_operators { AdmitsItems T.ordered (comps_of others) }
-    ensures covered { IfOk result (λ b. IsTrue b → IsCovered under.now size others (comp_of comp.now)) }
-    ensures own { IfOk result (λ b. IsFalse b → HasOwn under.now size others (comp_of comp.now)) }
+    requires kept_operators { AdmitsItems T.ordered (comps_of kept.now) }
+    requires coming_operators { AdmitsItems T.ordered (comps_of (map comp_of coming.now)) }
+    ensures covered { IfOk result (λ b. IsTrue b → IsCovered under.now size (kept.now ++ map comp_of coming.now) (comp_of comp.now)) }
+    ensures own { IfOk result (λ b. IsFalse b → HasOwn under.now size (kept.now ++ map comp_of coming.now) (comp_of comp.now)) }
 {
     let inner = size + comp.binders;
-    let set = Term::Coll(others);
-    if !set.fits(inner) {
-        return Err(NoMemory);
-    }
-    let raised = shift_term(alloc, &set, size, comp.binders)?;
-    let membership = member_formula(alloc, &comp.item, &raised, inner)?;
+    let membership = item_among(alloc, comp, kept, coming, size)?;
     let within = quantifier_free::<T>(alloc, &membership, inner)?;
     let here = meet(alloc, under, &comp.guard)?;
     let sample = decider.counterexample(alloc, &here, &within, inner)?;
@@ -77,8 +87,8 @@ pub(crate) fn uncovered<T: Structure, D: Answers>(
     let items = comps.as_slice();
     let mut kept = Comps::new(alloc);
     for (index, comp) in items.iter().enumerate() {
-        let others = others_of(alloc, &kept, &items[index + 1..])?;
-        if !is_covered::<T, D>(alloc, comp, others, under, size, decider)? {
+        let coming = &items[index + 1..];
+        if !is_covered::<T, D>(alloc, comp, &kept, coming, under, size, decider)? {
             kept.push(comp.copy(alloc)?)?;
         }
     }

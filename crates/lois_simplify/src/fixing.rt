@@ -11,7 +11,7 @@ ghost use Rattle.lois_simplify.specs.Fixed.{IsFixed, CanBeApart};
 
 use crate::answering::Answers;
 use lois_base::{Constraint, Cube, Lit, NoMemory, Op, Term};
-use lois_constraint::{and, meet};
+use lois_constraint::meet;
 use lois_terms::occurs;
 use std::alloc::Global;
 
@@ -20,30 +20,6 @@ use std::alloc::Global;
 pub(crate) struct Fixed {
     pub(crate) binder: usize,
     pub(crate) level: usize,
-}
-
-/// `size` numbers at which both constraints hold, where `here` is both. A contradiction that `here` has lost is for the
-/// decider to refuse.
-pub(crate) fn ask_both<D: Answers>(
-    alloc: Global,
-    under: &Constraint,
-    guard: &Constraint,
-    here: &Constraint,
-    size: usize,
-    decider: &mut D,
-) -> Result<Option<Vec<u64>>, NoMemory>
-    requires under { ConstraintFits size under.now }
-    requires guard { ConstraintFits size guard.now }
-    requires here { ConstraintFits size here.now }
-    requires both { (c : List Atom) → holds c here.now ≡ (holds c under.now && holds c guard.now) }
-    ensures sample { IfOk result (λ o. IfSome o (λ s. Meets size here.now s.items)) }
-    ensures none { IfOk result (λ o. IsNone o → CanBeMet size here.now → ⊥) }
-{
-    if here.len() > 0 {
-        return decider.sample(alloc, here, size);
-    }
-    let product = and(alloc, under, guard)?;
-    decider.sample(alloc, &product, size)
 }
 
 fn apart(alloc: Global, left: usize, right: usize) -> Result<Constraint, NoMemory>

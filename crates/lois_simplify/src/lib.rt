@@ -8,7 +8,5 @@ mod fixing;
 mod moving;
 mod rounds;
 mod simplifying;
-#[cfg(test)]
-mod tests;
 
 pub use simplifying::simplify;

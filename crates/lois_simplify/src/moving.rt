@@ -5,7 +5,7 @@ ghost use Rattle.lois_base.specs.Fits.{ConstraintFits, CompFits};
 ghost use Rattle.lois_base.specs.Rename.{rename, rename_comp, rename_lit, rename_cube, rename_constraint};
 ghost use Rattle.lois_base.specs.Tree.{tree, comp_of};
 ghost use Rattle.lois_base.specs.Validity.{AdmitsConstraint};
-ghost use Rattle.lois_elim.specs.Bound.{HoldsForSome};
+ghost use Rattle.lois_base.specs.Bound.{HoldsForSome};
 ghost use Rattle.lois_simplify.specs.Moved.{moved};
 
 use lois_base::{Comp, Comps, Constraint, Cube, Lit, NoMemory, Structure, Term, Terms};

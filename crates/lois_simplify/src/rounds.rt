@@ -7,10 +7,10 @@ ghost use Rattle.lois_base.specs.Validity.{AdmitsComp};
 ghost use Rattle.lois_simplify.specs.Rounds.{IsOpeningOf, IsClosingOf, IsKeptEverywhere};
 
 use crate::answering::Answers;
-use crate::fixing::{ask_both, fixed_binder, unused_binder};
+use crate::fixing::{fixed_binder, unused_binder};
 use crate::moving::without_binder;
 use lois_base::{Comp, Constraint, NoMemory, Structure};
-use lois_constraint::{meet, normalise};
+use lois_constraint::normalise;
 use std::alloc::Global;
 
 /// What one round makes of a comprehension. One that is shorter has a binder less.
@@ -70,11 +70,12 @@ pub(crate) fn open_round<T: Structure, D: Answers>(
         guard: normalise(alloc, &comp.guard)?,
         item: comp.item,
     };
-    let here = meet(alloc, under, &comp.guard)?;
-    let Some(sample) = ask_both(alloc, under, &comp.guard, &here, inner, decider)? else {
+    let Some(met) = decider.both(alloc, under, &comp.guard, inner)? else {
         return Ok(Opening::Over(Round::Empty));
     };
-    let Some(fixed) = fixed_binder(alloc, &here, size, inner, &sample, decider)? else {
+    let here = met.constraint;
+    let sample = met.sample.as_slice();
+    let Some(fixed) = fixed_binder(alloc, &here, size, inner, sample, decider)? else {
         return Ok(Opening::Open(Open { comp, here }));
     };
     let shorter = without_binder::<T>(alloc, &comp, size, fixed.binder, fixed.level)?;

@@ -1,20 +1,19 @@
 -- What a set is under a further guard.
-use Rattle.std.proofs.Common.{◌≡◌, ℕ, suc, ◌+◌, ◌<◌, Bool, true, false, ◌&&◌, List, [], ◌∷◌, ◌++◌, length, get_or, map, take, append-nil, refl, ap, ◌∙◌, sym, subst, inl, inr, arith}
-use Rattle.std.specs.List.{All}
+use Rattle.std.proofs.Common.{◌≡◌, ℕ, suc, ◌+◌, ◌<◌, Bool, true, false, ◌&&◌, List, [], ◌∷◌, ◌++◌, length, get_or, map, take, append-nil, refl, ap, ◌∙◌, sym, subst, inl, inr}
 use Rattle.std.specs.Bool.{IsTrue, IsFalse}
 use Rattle.std.proofs.lemmas.List.{take_more}
-use Rattle.std.proofs.lemmas.List.Elements.{All-nil, All-head, All-tail, All-append, All-map, All-weaker}
 use Rattle.std.proofs.lemmas.Grind.{flat_map-append}
 use Rattle.lois_base.specs.Atom.{Atom}
 use Rattle.lois_base.specs.Data.{TermD, var, tag, tup, coll, CompD, comp, CompsD, no_comps, more, comps_of, depth, depth_of_items}
-use Rattle.lois_base.specs.Fits.{LitFits, CubeFits, ConstraintFits, Fits, ItemsFit}
+use Rattle.lois_base.specs.Fits.{LitFits, ConstraintFits, Fits, ItemsFit}
 use Rattle.lois_base.specs.Normal.{both}
 use Rattle.lois_base.specs.Truth.{holds}
 use Rattle.lois_base.specs.Validity.{AdmitsLit, AdmitsConstraint, AdmitsTerm, AdmitsItems, HasUsualWidths, ItemsHaveUsualWidths}
 use Rattle.lois_base.specs.Values.{MemberAt, SameAt}
 use Rattle.lois_base.specs.declared.guards.Lit.{Lit}
-use Rattle.lois_base.proofs.Both.{holds_both}
+use Rattle.lois_base.proofs.Both.{all_both, holds_both}
 use Rattle.lois_base.proofs.Truths.{holds_longer}
+use Rattle.lois_base.proofs.Validity.{fits_longer}
 use Rattle.lois_base.proofs.Same.{same_at_refl, is_all_in, is_some_is}
 use Rattle.lois_terms.specs.Guarded.{IsSet, KeepsWhere, IsEmptyElsewhere, guarded_comp, guarded_items, guarded}
 
@@ -29,18 +28,6 @@ both_more a b i d l = rw (take_more a i d l) (simp (flat_map-append, append-nil)
 pub both_step : (a b p r : List (List Lit)) (i : ℕ) (x : List Lit) → p ≡ both (take i a) b → x ≡ get_or a i x → i < length a → r ≡ p ++ map (λ e. x ++ e) b → r ≡ both (take (i + 1) a) b
 both_step a b p r i x e is l f =
     rw (both_more a b i x l) (subst (λ (y : List Lit). r ≡ both (take i a) b ++ map (λ e. y ++ e) b) is (subst (λ (q : List (List Lit)). r ≡ q ++ map (λ e. x ++ e) b) e f))
-
--- what is true of all literals of two constraints is true of those of both
-all_both : (P : Lit → Type 0) (a b : List (List Lit)) → All (All P) a → All (All P) b → All (All P) (both a b)
-all_both P [] b h k = All-nil (All P)
-all_both P (x ∷ a) b h k =
-    All-append (All P) (map (λ d. x ++ d) b) (both a b)
-    (All-map (All P) (λ d. x ++ d) b (λ i d l. All-append P x (get_or b i d) (All-head (All P) x a h) (k i d l)))
-    (all_both P a b (All-tail (All P) x a h) k)
-
-pub fits_longer : (n m : ℕ) (c : List (List Lit)) → ConstraintFits n c → ConstraintFits (n + m) c
-fits_longer n m c f =
-    All-weaker (CubeFits n) (CubeFits (n + m)) (λ k h. All-weaker (LitFits n) (LitFits (n + m)) (λ l p. (omega (arith, p.0), omega (arith, p.1))) k h) c f
 
 module _ (c : List (List Lit)) (d : List Atom) (fits : ConstraintFits (length d) c) where
   guard_at : (e : List Atom) (g : List (List Lit)) → holds (d ++ e) (both c g) ≡ (holds d c && holds (d ++ e) g)

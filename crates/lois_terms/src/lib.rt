@@ -5,10 +5,8 @@ mod guarding;
 mod placing;
 mod reading;
 mod shifting;
-#[cfg(test)]
-mod tests;
 
 pub use guarding::with_guard;
 pub use placing::{Placed, instantiate};
-pub use reading::{height, occurs};
+pub use reading::{is_within_depth, occurs};
 pub use shifting::shift_term;

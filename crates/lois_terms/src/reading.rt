@@ -1,6 +1,6 @@
 //! Which levels occur in a term, and how deeply it is nested.
 
-ghost use Rattle.std.specs.Prelude.{◌≡◌, ◌<◌, ◌^◌, IsTrue, ◌↔◌, List};
+ghost use Rattle.std.specs.Prelude.{◌≤◌, IsTrue, ◌↔◌, List};
 ghost use Rattle.lois_base.specs.Atom.{Atom};
 ghost use Rattle.lois_base.specs.Data.{depth, depth_of_terms, depth_of_comps, terms_of, comps_of};
 ghost use Rattle.lois_base.specs.Normal.{LitUses, GuardUses, Occurs, OccursInPart, OccursInComp, OccursInItem};
@@ -68,40 +68,39 @@ fn cube_uses(level: usize, cube: &Cube) -> bool
         .any(|lit| lit.left == level || lit.right == level)
 }
 
-/// How deeply the term is nested: 0 for an atom or a tag, else one more than the greatest height of its parts or items. No value of the term is deeper.
-#[cycle(height)]
-pub fn height(t: &Term) -> usize
-    requires { depth (tree t.now) < 2 ^ 64 }
-    ensures height { result ≡ depth (tree t.now) }
-    ensures bound { (c : List Atom) → IsDeeper (point (tree t.now) c) result → ⊥ }
+/// Whether the term is written at most `limit` deep: an atom or a tag is 0 deep, a tuple or a set one more than its deepest part or item. No value of such a term is deeper than `limit`.
+#[cycle(depth)]
+pub fn is_within_depth(t: &Term, limit: usize) -> bool
+    ensures written { IsTrue result ↔ (depth (tree t.now) ≤ limit) }
+    ensures values { IsTrue result → (c : List Atom) → IsDeeper (point (tree t.now) c) limit → ⊥ }
 {
     match t {
-        Term::Var(_) | Term::Tag(_) => 0,
-        Term::Tup(parts) => height_of_parts(parts) + 1,
-        Term::Coll(comps) => height_of_items(comps) + 1,
+        Term::Var(_) | Term::Tag(_) => true,
+        Term::Tup(parts) => limit > 0 && are_parts_within_depth(parts, limit - 1),
+        Term::Coll(comps) => limit > 0 && are_items_within_depth(comps, limit - 1),
     }
 }
 
-#[cycle(height)]
-fn height_of_parts(terms: &Terms) -> usize
-    requires { depth_of_terms terms.now < 2 ^ 64 }
-    ensures { result ≡ depth_of_terms terms.now }
+#[cycle(depth)]
+fn are_parts_within_depth(terms: &Terms, limit: usize) -> bool
+    ensures { IsTrue result ↔ (depth_of_terms terms.now ≤ limit) }
 {
-    let mut highest = 0;
     for part in terms.as_slice() {
-        highest = highest.max(height(part));
+        if !is_within_depth(part, limit) {
+            return false;
+        }
     }
-    highest
+    true
 }
 
-#[cycle(height)]
-fn height_of_items(comps: &Comps) -> usize
-    requires { depth_of_comps comps.now < 2 ^ 64 }
-    ensures { result ≡ depth_of_comps comps.now }
+#[cycle(depth)]
+fn are_items_within_depth(comps: &Comps, limit: usize) -> bool
+    ensures { IsTrue result ↔ (depth_of_comps comps.now ≤ limit) }
 {
-    let mut highest = 0;
     for comp in comps.as_slice() {
-        highest = highest.max(height(&comp.item));
+        if !is_within_depth(&comp.item, limit) {
+            return false;
+        }
     }
-    highest
+    true
 }

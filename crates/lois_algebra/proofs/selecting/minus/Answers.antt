@@ -7,12 +7,19 @@ use Rattle.lois_algebra.proofs.Selections.{selection_of}
 use Rattle.lois_algebra.proofs.selecting.minus.Goals as goal
 
 pub selected-requires-clause-left : goal.selected-requires-clause-left
-selected-requires-clause-left g c = subst (λ z. Fits c.args.size (tree z)) c.in-Coll.is c.requires.left
+selected-requires-clause-left g c = subst (λ z. Fits c.args.size (tree z)) c.in-Coll-Coll.is-0 c.requires.left
 
 pub selected-requires-clause-left_operators : goal.selected-requires-clause-left_operators
 selected-requires-clause-left_operators g c =
-    subst (λ z. AdmitsTerm g.T.Structure.ordered (tree z)) c.in-Coll.is c.requires.left_operators
+    subst (λ z. AdmitsTerm g.T.Structure.ordered (tree z)) c.in-Coll-Coll.is-0 c.requires.left_operators
+
+pub selected-requires-clause-right : goal.selected-requires-clause-right
+selected-requires-clause-right g c = subst (λ z. Fits c.args.size (tree z)) c.in-Coll-Coll.is-1 c.requires.right
+
+pub selected-requires-clause-right_operators : goal.selected-requires-clause-right_operators
+selected-requires-clause-right_operators g c =
+    subst (λ z. AdmitsTerm g.T.Structure.ordered (tree z)) c.in-Coll-Coll.is-1 c.requires.right_operators
 
 pub returns-clause-members : goal.returns-clause-members
 returns-clause-members g c =
-    selection_of c.args.size false (tree c.args.s.now) (tree c.args.t.now) (coll (comps_of c.in_ok-selected-in-Coll.field-0)) (comps_of c.in-Coll.comps) (ap tree c.in-Coll.is) c.in_ok-selected-in-Coll.ensures.members
+    selection_of c.args.size false (tree c.args.s.now) (tree c.args.t.now) (coll (comps_of c.in_ok-selected-in-Coll-Coll.field-0)) (comps_of c.in-Coll-Coll.comps) (comps_of c.in-Coll-Coll.others) (ap tree c.in-Coll-Coll.is-0) (ap tree c.in-Coll-Coll.is-1) c.in_ok-selected-in-Coll-Coll.ensures.members

@@ -1,5 +1,5 @@
 use Rattle.std.proofs.Common.{◌+◌, sym, ap, subst, arith}
-use Rattle.lois_base.specs.Data.{comps_of}
+use Rattle.lois_base.specs.Data.{coll, comps_of}
 use Rattle.lois_base.specs.Tree.{tree}
 use Rattle.lois_relate.proofs.Parts.{comps_from, comps_are, no_comps_left, is_comp_of}
 use Rattle.lois_algebra.proofs.Selections.{SelectedSoFar, selected_begin, selected_more, selected_end, put_item}
@@ -17,7 +17,7 @@ selected_guard-requires-clause-left_operators g c =
 
 pub loop-comp-init : goal.loop-comp-init
 loop-comp-init g c =
-    subst (λ z. SelectedSoFar c.args.size c.args.wanted (tree c.args.t.now) (comps_of z) (comps_of c.args.comps.now) (comps_of c.new-kept.result)) (sym c.as_slice-comp-items.ensures) (selected_begin c.args.size c.args.wanted (tree c.args.t.now) (comps_of c.args.comps.now) (comps_of c.new-kept.result) (ap comps_of c.new-kept.ensures))
+    subst (λ z. SelectedSoFar c.args.size c.args.wanted (coll (comps_of c.args.others.now)) (comps_of z) (comps_of c.args.comps.now) (comps_of c.new-kept.result)) (sym c.as_slice-comp-items.ensures) (selected_begin c.args.size c.args.wanted (coll (comps_of c.args.others.now)) (comps_of c.args.comps.now) (comps_of c.new-kept.result) (ap comps_of c.new-kept.ensures))
 
 pub loop-comp-preserved : goal.loop-comp-preserved
 loop-comp-preserved g c =
@@ -28,8 +28,8 @@ loop-comp-preserved g c =
     let item = tree (c.comp-item.result).item in
     let m = (c.comp-item.result).binders in
     let put = put_item m c.in_ok-guard.guard item (tree c.in_ok-item.item) (comps_of c.loop-comp.kept) (comps_of c.put.new.comps) (ap tree c.in_ok-item.ensures) c.in_ok-put.ensures in
-    selected_more c.args.size c.args.wanted (tree c.args.t.now) (comps_from items i) (comps_from items (i + 1)) (comps_of c.args.comps.now) (comps_of c.loop-comp.kept) (comps_of c.put.new.comps) m (c.comp-item.result).guard c.in_ok-guard.guard item (comps_are items i c.comp-item.result c.loop-comp-test.true c.comp-item.is) c.loop-comp.invariant c.in_ok-guard.ensures.truth (fits.0, c.in_ok-guard.ensures.levels, fits.2) (λ o h t. (c.in_ok-guard.ensures.operators o (k.admits o h) t, (k.admits o h).1)) k.widths put
+    selected_more c.args.size c.args.wanted (coll (comps_of c.args.others.now)) (comps_from items i) (comps_from items (i + 1)) (comps_of c.args.comps.now) (comps_of c.loop-comp.kept) (comps_of c.put.new.comps) m (c.comp-item.result).guard c.in_ok-guard.guard item (comps_are items i c.comp-item.result c.loop-comp-test.true c.comp-item.is) c.loop-comp.invariant c.in_ok-guard.ensures.truth (fits.0, c.in_ok-guard.ensures.levels, fits.2) (λ o h t. (c.in_ok-guard.ensures.operators o (k.admits o h) t, (k.admits o h).1)) k.widths put
 
 pub returns-clause-members : goal.returns-clause-members
 returns-clause-members g c =
-    selected_end c.args.size c.args.wanted (tree c.args.t.now) (comps_from c.as_slice-comp-items.result.now c.loop-comp.comp-index) (comps_of c.args.comps.now) (comps_of c.loop-comp.kept) (no_comps_left c.as_slice-comp-items.result.now c.loop-comp.comp-index (omega arith)) c.loop-comp.invariant
+    selected_end c.args.size c.args.wanted (coll (comps_of c.args.others.now)) (comps_from c.as_slice-comp-items.result.now c.loop-comp.comp-index) (comps_of c.args.comps.now) (comps_of c.loop-comp.kept) (no_comps_left c.as_slice-comp-items.result.now c.loop-comp.comp-index (omega arith)) c.loop-comp.invariant

@@ -1,36 +1,29 @@
-use Rattle.std.proofs.Common.{ℕ, ◌+◌, Bool, arith}
+use Rattle.std.proofs.Common.{ℕ, ◌+◌, Bool, sym, subst}
 use Rattle.std.proofs.lemmas.Result.{IfOk-weaker}
-use Rattle.lois_base.specs.Fits.{ConstraintFits, Fits}
+use Rattle.lois_base.specs.Data.{comps_of}
+use Rattle.lois_base.specs.Fits.{ConstraintFits, ItemsFit}
 use Rattle.lois_base.specs.FormulaView.{view}
 use Rattle.lois_base.specs.Tree.{tree}
-use Rattle.lois_base.specs.Validity.{AdmitsConstraint}
+use Rattle.lois_base.specs.Validity.{AdmitsConstraint, AdmitsItems}
+use Rattle.lois_relate.specs.Relations.{HoldsWhereItemIn}
 use Rattle.lois_algebra.specs.Selected.{IsNarrowed}
-use Rattle.lois_algebra.proofs.Selections.{selects, shifted_set}
+use Rattle.lois_algebra.proofs.Selections.{selects}
 use Rattle.lois_algebra.proofs.selecting.selected_guard.Goals as goal
 
-pub shift_term-requires : goal.shift_term-requires
-shift_term-requires g c =
-    let higher : Fits (c.args.size + c.args.comp.now.binders) (tree c.args.t.now) = c.fits-movable.ensures.0 c.if-not-movable.false in
-    (c.args.size, omega arith, omega (arith, c.requires.left.0), c.requires.right, higher)
-
-pub member_formula-requires-clause-levels : goal.member_formula-requires-clause-levels
-member_formula-requires-clause-levels g c =
-    let higher : Fits (c.args.size + c.args.comp.now.binders) (tree c.args.t.now) = c.fits-movable.ensures.0 c.if-not-movable.false in
-    c.in_ok-raised.ensures.levels c.args.size (omega arith) c.requires.right higher
-
-pub member_formula-requires-clause-set : goal.member_formula-requires-clause-set
-member_formula-requires-clause-set g c =
-    shifted_set c.args.size c.args.comp.now.binders (tree c.args.t.now) (tree c.in_ok-raised.raised) c.in_ok-raised.ensures.raised c.requires.right_set
+pub item_formula-requires-clause-levels : goal.item_formula-requires-clause-levels
+item_formula-requires-clause-levels g c =
+    subst (λ z. ItemsFit c.args.size (comps_of z)) (sym c.as_slice.ensures) c.requires.right
 
 pub quantifier_free-requires-clause-operators : goal.quantifier_free-requires-clause-operators
 quantifier_free-requires-clause-operators g c =
-    c.in_ok-formula.ensures.operators g.T.Structure.ordered c.requires.left_operators.1 (c.in_ok-raised.ensures.operators g.T.Structure.ordered c.requires.right_operators)
+    c.in_ok-formula.ensures.operators g.T.Structure.ordered c.requires.left_operators.1 (subst (λ z. AdmitsItems g.T.Structure.ordered (comps_of z)) (sym c.as_slice.ensures) c.requires.right_operators)
 
 pub returns-clause-truth : goal.returns-clause-truth
 returns-clause-truth g c =
     let comp = c.args.comp.now in
     let own = c.in_ok-found.ensures in
-    IfOk-weaker c.narrowed.result (IsNarrowed c.args.wanted comp.guard c.in_ok-found.found) _ (λ r narrowed. selects c.args.size comp.binders (tree c.args.t.now) (tree c.in_ok-raised.raised) c.in_ok-raised.ensures.value (tree comp.item) (view c.in_ok-formula.formula) c.in_ok-found.found c.in_ok-formula.ensures.truth own.truth c.args.wanted comp.guard r narrowed) c.narrowed.ensures.truth
+    let member = subst (λ z. HoldsWhereItemIn c.args.size comp.binders (tree comp.item) (comps_of z) (view c.in_ok-formula.formula)) c.as_slice.ensures c.in_ok-formula.ensures.truth in
+    IfOk-weaker c.narrowed.result (IsNarrowed c.args.wanted comp.guard c.in_ok-found.found) _ (λ r narrowed. selects c.args.size comp.binders (comps_of c.args.others.now) (tree comp.item) (view c.in_ok-formula.formula) c.in_ok-found.found member own.truth c.args.wanted comp.guard r narrowed) c.narrowed.ensures.truth
 
 pub returns-clause-levels : goal.returns-clause-levels
 returns-clause-levels g c =
@@ -41,4 +34,4 @@ returns-clause-levels g c =
 pub returns-clause-operators : goal.returns-clause-operators
 returns-clause-operators g c =
     let comp = c.args.comp.now in
-    IfOk-weaker c.narrowed.result (λ r. (o : Bool) → AdmitsConstraint o comp.guard → AdmitsConstraint o c.in_ok-found.found → AdmitsConstraint o r) _ (λ r admits o a b. admits o a.0 (c.in_ok-found.ensures.operators o (c.in_ok-formula.ensures.operators o a.1 (c.in_ok-raised.ensures.operators o b)))) c.narrowed.ensures.operators
+    IfOk-weaker c.narrowed.result (λ r. (o : Bool) → AdmitsConstraint o comp.guard → AdmitsConstraint o c.in_ok-found.found → AdmitsConstraint o r) _ (λ r admits o a b. admits o a.0 (c.in_ok-found.ensures.operators o (c.in_ok-formula.ensures.operators o a.1 (subst (λ z. AdmitsItems o (comps_of z)) (sym c.as_slice.ensures) b)))) c.narrowed.ensures.operators

@@ -1,11 +1,11 @@
-use Rattle.std.proofs.Common.{◌≡◌, ◌+◌, ◌<◌, ◌++◌, length, subst, refl, ap, ◌∙◌, arith}
+use Rattle.std.proofs.Common.{◌≡◌, ◌+◌, ◌<◌, ◌++◌, length, map, subst, sym, refl, ap, ◌∙◌, arith}
 use Rattle.std.proofs.lemmas.Result.{IfOk-weaker}
-use Rattle.lois_base.specs.Data.{comps_of, coll, more, no_comps}
-use Rattle.lois_base.specs.Fits.{Fits}
+use Rattle.lois_base.specs.Data.{comps_of, depth_of_comps, coll, more, no_comps}
+use Rattle.lois_base.specs.Fits.{Fits, ItemsFit}
 use Rattle.lois_base.specs.FormulaView.{view}
 use Rattle.lois_base.specs.Tree.{tree, comp_of}
-use Rattle.lois_base.specs.Validity.{AdmitsComp}
-use Rattle.lois_base.specs.Values.{SameAt, AllInAt}
+use Rattle.lois_base.specs.Validity.{AdmitsTerm, AdmitsComp, AdmitsItems}
+use Rattle.lois_base.specs.Values.{SameAt, AllInAt, SomeIsAt}
 use Rattle.lois_relate.specs.Built.{Says, IsBoth, IsNegation, IsForSome}
 use Rattle.lois_relate.specs.Named.{chosen, levels_from}
 use Rattle.lois_relate.proofs.AlikeSame.{always_says, listed_each, sets_alike}
@@ -23,7 +23,9 @@ each_in-member-requires t c =
     let fits = item_fits c.args.size comp.binders c.in_ok-inner.inner c.in_ok-inner.ensures c.args.s_names.now c.as_slice-names.result.now e comp.guard (tree comp.item) c.requires.left in
     let below = names_below c.args.size comp.binders c.in_ok-inner.inner c.in_ok-inner.ensures c.args.s_names.now c.as_slice-names.result.now e c.requires.left_names in
     let others = own_below_more c.args.size comp.binders c.in_ok-inner.inner c.args.t_names.now c.in_ok-inner.ensures c.requires.right_names in
-    (omega arith, (fits, (below, (c.requires.right, others))))
+    let items : map comp_of c.as_slice.result.now ≡ c.args.others.now = c.as_slice.ensures in
+    let others_fit = subst (λ z. ItemsFit (length c.args.t_names.now) (comps_of z)) (sym items) c.requires.right in
+    (omega (arith, ap depth_of_comps items), (fits, (below, (others_fit, others))))
 
 pub each_in-guard_formula-requires : goal.each_in-guard_formula-requires
 each_in-guard_formula-requires t c =
@@ -37,7 +39,8 @@ each_in-returns t c =
     let e : c.as_slice-names.result.now ≡ c.args.s_names.now ++ levels_from c.args.size comp.binders = c.as_slice-names.ensures.value ∙ c.in_ok-longer.ensures in
     let below = names_below c.args.size comp.binders c.in_ok-inner.inner c.in_ok-inner.ensures c.args.s_names.now c.as_slice-names.result.now e c.requires.left_names in
     let guard = c.in_ok-guard.ensures c.in_ok-inner.inner below in
-    IfOk-weaker c.negated-2.result (λ r. IsNegation (view c.in_ok-for_some.field-0) (view r)) _ (λ r none. each_says c.args.size comp.binders c.in_ok-inner.inner c.in_ok-inner.ensures c.args.t_names.now c.args.s_names.now c.as_slice-names.result.now e c.requires.right_names c.requires.left_names comp.guard (tree comp.item) (comps_of c.args.others.now) (view c.in_ok-found.found) (view c.in_ok-negated.field-0) (view c.in_ok-guard.guard) (view c.in_ok-missing.missing) (view c.in_ok-for_some.field-0) (view r) c.in_ok-found.ensures c.in_ok-negated.ensures guard c.in_ok-missing.ensures c.in_ok-for_some.ensures none) c.negated-2.ensures
+    let found = subst (λ z. Says c.in_ok-inner.inner (λ a. SomeIsAt (comps_of z) (chosen c.args.t_names.now a) (tree comp.item) (chosen c.as_slice-names.result.now a)) (λ o. AdmitsItems o (comps_of z) × AdmitsTerm o (tree comp.item)) (view c.in_ok-found.found)) c.as_slice.ensures c.in_ok-found.ensures in
+    IfOk-weaker c.negated-2.result (λ r. IsNegation (view c.in_ok-for_some.field-0) (view r)) _ (λ r none. each_says c.args.size comp.binders c.in_ok-inner.inner c.in_ok-inner.ensures c.args.t_names.now c.args.s_names.now c.as_slice-names.result.now e c.requires.right_names c.requires.left_names comp.guard (tree comp.item) (comps_of c.args.others.now) (view c.in_ok-found.found) (view c.in_ok-negated.field-0) (view c.in_ok-guard.guard) (view c.in_ok-missing.missing) (view c.in_ok-for_some.field-0) (view r) found c.in_ok-negated.ensures guard c.in_ok-missing.ensures c.in_ok-for_some.ensures none) c.negated-2.ensures
 
 pub included-each_in-requires : goal.included-each_in-requires
 included-each_in-requires t c =
@@ -83,14 +86,14 @@ is_item-returns t c =
 
 pub member-is_item-requires : goal.member-is_item-requires
 member-is_item-requires t c =
-    let k = is_comp_of c.as_slice-comp-items.result.now c.args.comps.now c.loop-comp.comp-index c.comp-item.result c.as_slice-comp-items.ensures c.loop-comp-test.true c.comp-item.is in
+    let k = is_comp_of c.args.comps.now (map comp_of c.args.comps.now) c.loop-comp.comp-index c.comp-item.result refl c.loop-comp-test.true c.comp-item.is in
     (omega (arith, k.depth), (c.requires.left, (c.requires.left_names, (k.fits (length c.args.t_names.now) c.requires.right, c.requires.right_names))))
 
 pub member-loop-comp-preserved : goal.member-loop-comp-preserved
 member-loop-comp-preserved t c =
-    let items = c.as_slice-comp-items.result.now in
+    let items = c.args.comps.now in
     let i = c.loop-comp.comp-index in
-    let k = is_comp_of items c.args.comps.now i c.comp-item.result c.as_slice-comp-items.ensures c.loop-comp-test.true c.comp-item.is in
+    let k = is_comp_of items (map comp_of items) i c.comp-item.result refl c.loop-comp-test.true c.comp-item.is in
     any_go_on c.args.size _ _ _ _ _ _ (view c.loop-comp.found) (view c.in_ok-one.one) (view c.in_ok-found.found) c.loop-comp.invariant (λ a. some_is_split (comps_from items i) (comps_from items (i + 1)) (comp_of c.comp-item.result) (comps_are items i c.comp-item.result c.loop-comp-test.true c.comp-item.is) (chosen c.args.t_names.now a) (tree c.args.s.now) (chosen c.args.s_names.now a)) c.in_ok-one.ensures (λ o h. (k.admits o h.0, h.1)) c.in_ok-found.ensures
 
 pub same-returns-in-Var-Var : goal.same-returns-in-Var-Var

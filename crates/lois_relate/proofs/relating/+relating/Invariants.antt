@@ -1,7 +1,7 @@
-use Rattle.std.proofs.Common.{◌+◌, ◌*◌}
+use Rattle.std.proofs.Common.{◌+◌, ◌*◌, map}
 use Rattle.lois_base.specs.Data.{depth, depth_of_terms, depth_of_comps, terms_of, comps_of}
 use Rattle.lois_base.specs.FormulaView.{view}
-use Rattle.lois_base.specs.Tree.{tree}
+use Rattle.lois_base.specs.Tree.{tree, comp_of}
 use Rattle.lois_base.specs.Validity.{AdmitsTerm, AdmitsParts, AdmitsItems}
 use Rattle.lois_base.specs.Values.{SamePartsAt, AllInAt, SomeIsAt}
 use Rattle.lois_relate.specs.Named.{chosen}
@@ -29,7 +29,7 @@ abbrev pub decreases-each_in : goal.decreases-each_in
 decreases-each_in l = 8 * (depth (tree l.comp.now.item) + depth_of_comps l.others.now) + 3
 
 abbrev pub decreases-member : goal.decreases-member
-decreases-member l = 8 * (depth (tree l.s.now) + depth_of_comps l.comps.now) + 2
+decreases-member l = 8 * (depth (tree l.s.now) + depth_of_comps (map comp_of l.comps.now)) + 2
 
 abbrev pub decreases-is_item : goal.decreases-is_item
 decreases-is_item l = 8 * (depth (tree l.s.now) + depth (tree l.comp.now.item)) + 1
@@ -44,4 +44,4 @@ invariant-included-loop-comp l =
 
 abbrev pub invariant-member-loop-comp : goal.invariant-member-loop-comp
 invariant-member-loop-comp l =
-    AnySoFar l.size (λ c. SomeIsAt (comps_from l.comp-items l.comp-index) (chosen l.t_names c) (tree l.s) (chosen l.s_names c)) (λ c. SomeIsAt (comps_of l.comps) (chosen l.t_names c) (tree l.s) (chosen l.s_names c)) (λ o. AdmitsItems o (comps_of l.comps) × AdmitsTerm o (tree l.s)) (view l.found)
+    AnySoFar l.size (λ c. SomeIsAt (comps_from l.comps l.comp-index) (chosen l.t_names c) (tree l.s) (chosen l.s_names c)) (λ c. SomeIsAt (comps_of (map comp_of l.comps)) (chosen l.t_names c) (tree l.s) (chosen l.s_names c)) (λ o. AdmitsItems o (comps_of (map comp_of l.comps)) × AdmitsTerm o (tree l.s)) (view l.found)

@@ -1,9 +1,9 @@
-use Rattle.std.proofs.Common.{◌≡◌, ap, ◌∙◌, sym, subst, length}
+use Rattle.std.proofs.Common.{◌≡◌, ap, ◌∙◌, sym, subst, length, map}
 use Rattle.std.proofs.lemmas.Result.{IfOk-weaker}
-use Rattle.lois_base.specs.Data.{comps_of}
-use Rattle.lois_base.specs.Fits.{Fits}
+use Rattle.lois_base.specs.Data.{coll, comps_of}
+use Rattle.lois_base.specs.Fits.{Fits, ItemsFit}
 use Rattle.lois_base.specs.FormulaView.{view}
-use Rattle.lois_base.specs.Tree.{tree}
+use Rattle.lois_base.specs.Tree.{tree, comp_of}
 use Rattle.lois_base.specs.Validity.{AdmitsTerm, AdmitsItems}
 use Rattle.lois_base.specs.Values.{SomeIsAt}
 use Rattle.lois_relate.specs.Built.{Says}
@@ -24,7 +24,7 @@ member-requires-clause-left_names c =
 pub member-requires-clause-right : goal.member-requires-clause-right
 member-requires-clause-right c =
     let e : c.as_slice-own.result.now ≡ levels_from 0 c.args.size = c.as_slice-own.ensures.value ∙ c.in_ok-levels.ensures in
-    subst (λ z. Fits (length c.as_slice-own.result.now) (tree z)) c.in-Coll.is (subst (λ k. Fits k (tree c.args.t.now)) (sym (length-own c.args.size c.as_slice-own.result.now e)) c.requires.levels)
+    subst (λ z. ItemsFit (length c.as_slice-own.result.now) (comps_of z)) (sym c.as_slice.ensures) (subst (λ z. Fits (length c.as_slice-own.result.now) (tree z)) c.in-Coll.is (subst (λ k. Fits k (tree c.args.t.now)) (sym (length-own c.args.size c.as_slice-own.result.now e)) c.requires.levels))
 
 pub member-requires-clause-right_names : goal.member-requires-clause-right_names
 member-requires-clause-right_names c =
@@ -35,5 +35,6 @@ pub returns-clause-truth : goal.returns-clause-truth
 returns-clause-truth c =
     let e : c.as_slice-own.result.now ≡ levels_from 0 c.args.size = c.as_slice-own.ensures.value ∙ c.in_ok-levels.ensures in
     let own = c.as_slice-own.result.now in
-    let ks = comps_of c.in-Coll.comps in
-    IfOk-weaker c.member.result (λ f. Says c.args.size (λ a. SomeIsAt ks (chosen own a) (tree c.args.s.now) (chosen own a)) (λ o. AdmitsItems o ks × AdmitsTerm o (tree c.args.s.now)) (view f)) _ (λ f says. holds_where_in c.args.size own e _ (view f) (tree c.args.s.now) (tree c.args.t.now) ks (ap tree c.in-Coll.is) says) c.member.ensures
+    let ks = comps_of (map comp_of c.as_slice.result.now) in
+    let set = ap tree c.in-Coll.is ∙ ap (λ z. coll (comps_of z)) (sym c.as_slice.ensures) in
+    IfOk-weaker c.member.result (λ f. Says c.args.size (λ a. SomeIsAt ks (chosen own a) (tree c.args.s.now) (chosen own a)) (λ o. AdmitsItems o ks × AdmitsTerm o (tree c.args.s.now)) (view f)) _ (λ f says. holds_where_in c.args.size own e _ (view f) (tree c.args.s.now) (tree c.args.t.now) ks set says) c.member.ensures

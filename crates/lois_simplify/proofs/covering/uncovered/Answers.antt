@@ -6,7 +6,7 @@ use Rattle.lois_base.specs.Validity.{AdmitsItems}
 use Rattle.lois_simplify.specs.Covered.{IsCovered}
 use Rattle.lois_simplify.specs.Lean.{HasOwn}
 use Rattle.lois_simplify.proofs.Members.{items_fit_each, items_admit_each}
-use Rattle.lois_simplify.proofs.Pass.{UncoveredSoFar, uncovered_begin, next_of, next_is_there, others_fit, others_admit, next_dropped, next_kept, to_the_end}
+use Rattle.lois_simplify.proofs.Pass.{UncoveredSoFar, uncovered_begin, next_of, next_is_there, kept_fit, coming_fit, kept_admit, coming_admit, next_dropped, next_kept, to_the_end}
 use Rattle.lois_simplify.proofs.covering.uncovered.Goals as goal
 use Rattle.lois_simplify.proofs.covering.uncovered.Goals.{then-not-branch+in_ok-copy+in_ok-push, else-not-branch}
 
@@ -25,15 +25,25 @@ is_covered-requires-clause-levels g c =
     let so_far = next_of u n c.args.comps.now c.loop-index.kept items i k c.loop-index-test.true c.index-items-index.is c.loop-index.invariant in
     items_fit_each n c.args.comps.now (comp_of k) c.requires.levels (next_is_there u n c.args.comps.now c.loop-index.kept (map comp_of (drop (i + 1) items)) (comp_of k) so_far)
 
-pub is_covered-requires-clause-others_levels : goal.is_covered-requires-clause-others_levels
-is_covered-requires-clause-others_levels g c =
+pub is_covered-requires-clause-kept_levels : goal.is_covered-requires-clause-kept_levels
+is_covered-requires-clause-kept_levels g c =
     let u = c.args.under.now in
     let n = c.args.size in
     let items = c.as_slice-items.result.now in
     let i = c.loop-index.index in
     let k = c.index-items-index.result in
     let so_far = next_of u n c.args.comps.now c.loop-index.kept items i k c.loop-index-test.true c.index-items-index.is c.loop-index.invariant in
-    subst (λ z. ItemsFit n (comps_of z)) (sym (c.in_ok-others.ensures ∙ ap (λ z. c.loop-index.kept ++ map comp_of z) (to_the_end items (i + 1)))) (others_fit u n c.args.comps.now c.loop-index.kept (map comp_of (drop (i + 1) items)) (comp_of k) so_far c.requires.levels)
+    kept_fit u n c.args.comps.now c.loop-index.kept (map comp_of (drop (i + 1) items)) (comp_of k) so_far c.requires.levels
+
+pub is_covered-requires-clause-coming_levels : goal.is_covered-requires-clause-coming_levels
+is_covered-requires-clause-coming_levels g c =
+    let u = c.args.under.now in
+    let n = c.args.size in
+    let items = c.as_slice-items.result.now in
+    let i = c.loop-index.index in
+    let k = c.index-items-index.result in
+    let so_far = next_of u n c.args.comps.now c.loop-index.kept items i k c.loop-index-test.true c.index-items-index.is c.loop-index.invariant in
+    subst (λ z. ItemsFit n (comps_of (map comp_of z))) (sym (to_the_end items (i + 1))) (coming_fit u n c.args.comps.now c.loop-index.kept (map comp_of (drop (i + 1) items)) (comp_of k) so_far c.requires.levels)
 
 pub is_covered-requires-clause-operators : goal.is_covered-requires-clause-operators
 is_covered-requires-clause-operators g c =
@@ -45,15 +55,25 @@ is_covered-requires-clause-operators g c =
     let so_far = next_of u n c.args.comps.now c.loop-index.kept items i k c.loop-index-test.true c.index-items-index.is c.loop-index.invariant in
     items_admit_each g.T.Structure.ordered c.args.comps.now (comp_of k) c.requires.operators (next_is_there u n c.args.comps.now c.loop-index.kept (map comp_of (drop (i + 1) items)) (comp_of k) so_far)
 
-pub is_covered-requires-clause-others_operators : goal.is_covered-requires-clause-others_operators
-is_covered-requires-clause-others_operators g c =
+pub is_covered-requires-clause-kept_operators : goal.is_covered-requires-clause-kept_operators
+is_covered-requires-clause-kept_operators g c =
     let u = c.args.under.now in
     let n = c.args.size in
     let items = c.as_slice-items.result.now in
     let i = c.loop-index.index in
     let k = c.index-items-index.result in
     let so_far = next_of u n c.args.comps.now c.loop-index.kept items i k c.loop-index-test.true c.index-items-index.is c.loop-index.invariant in
-    subst (λ z. AdmitsItems g.T.Structure.ordered (comps_of z)) (sym (c.in_ok-others.ensures ∙ ap (λ z. c.loop-index.kept ++ map comp_of z) (to_the_end items (i + 1)))) (others_admit u n c.args.comps.now c.loop-index.kept (map comp_of (drop (i + 1) items)) (comp_of k) so_far g.T.Structure.ordered c.requires.operators)
+    kept_admit u n c.args.comps.now c.loop-index.kept (map comp_of (drop (i + 1) items)) (comp_of k) so_far g.T.Structure.ordered c.requires.operators
+
+pub is_covered-requires-clause-coming_operators : goal.is_covered-requires-clause-coming_operators
+is_covered-requires-clause-coming_operators g c =
+    let u = c.args.under.now in
+    let n = c.args.size in
+    let items = c.as_slice-items.result.now in
+    let i = c.loop-index.index in
+    let k = c.index-items-index.result in
+    let so_far = next_of u n c.args.comps.now c.loop-index.kept items i k c.loop-index-test.true c.index-items-index.is c.loop-index.invariant in
+    subst (λ z. AdmitsItems g.T.Structure.ordered (comps_of (map comp_of z))) (sym (to_the_end items (i + 1))) (coming_admit u n c.args.comps.now c.loop-index.kept (map comp_of (drop (i + 1) items)) (comp_of k) so_far g.T.Structure.ordered c.requires.operators)
 
 pub loop-index-preserved : goal.loop-index-preserved
 loop-index-preserved g c =
@@ -69,9 +89,9 @@ loop-index-preserved g c =
     elim c.if-not-branch.branch [
       | then-not-branch+in_ok-copy+in_ok-push w ↦
           let pushed : c.if-not-branch.kept ≡ kept ++ comp_of k ∷ [] = w.kept-is ∙ (w.in_ok-push.ensures.ok ∙ ap (λ z. kept ++ comp_of z ∷ []) w.in_ok-copy.ensures) in
-          let own = subst (λ z. HasOwn u n z (comp_of k)) (c.in_ok-others.ensures ∙ ap (λ z. c.loop-index.kept ++ map comp_of z) (to_the_end items (i + 1))) (c.in_ok-is_covered.ensures.own w.if-not-branch.true) in
+          let own = subst (λ z. HasOwn u n z (comp_of k)) (ap (λ z. c.loop-index.kept ++ map comp_of z) (to_the_end items (i + 1))) (c.in_ok-is_covered.ensures.own w.if-not-branch.true) in
           subst (λ z. UncoveredSoFar u n whole z coming) (sym pushed) (next_kept u n whole kept coming (comp_of k) so_far own)
       | else-not-branch w ↦
-          let covered = subst (λ z. IsCovered u n z (comp_of k)) (c.in_ok-others.ensures ∙ ap (λ z. c.loop-index.kept ++ map comp_of z) (to_the_end items (i + 1))) (c.in_ok-is_covered.ensures.covered w.if-not-branch.false) in
+          let covered = subst (λ z. IsCovered u n z (comp_of k)) (ap (λ z. c.loop-index.kept ++ map comp_of z) (to_the_end items (i + 1))) (c.in_ok-is_covered.ensures.covered w.if-not-branch.false) in
           subst (λ z. UncoveredSoFar u n whole z coming) (sym w.kept-is) (next_dropped u n whole kept coming (comp_of k) so_far covered)
     ]

@@ -1,8 +1,13 @@
-use Rattle.std.proofs.Common.{◌+◌, ◌<◌, ◌≤◌, [], arith}
+use Rattle.std.proofs.Common.{◌+◌, ◌<◌, ◌≤◌, [], sym, subst, ◌∙◌, arith}
+use Rattle.std.proofs.lemmas.Bool.{and_parts}
 use Rattle.lois_base.specs.Data.{comp}
+use Rattle.lois_base.specs.Normal.{both}
 use Rattle.lois_base.specs.Tree.{tree, comp_of}
+use Rattle.lois_base.specs.Truth.{holds}
+use Rattle.lois_base.proofs.Both.{holds_both}
+use Rattle.lois_base.proofs.Validity.{fits_longer}
 use Rattle.lois_deciders.specs.Asked.{Meets}
-use Rattle.lois_terms.proofs.UnderGuard.{fits_longer}
+use Rattle.lois_deciders.specs.Met.{AreMet}
 use Rattle.lois_simplify.specs.Fixed.{IsFixed}
 use Rattle.lois_simplify.specs.Kept.{set_of}
 use Rattle.lois_simplify.specs.Rounds.{only}
@@ -11,16 +16,17 @@ use Rattle.lois_simplify.proofs.Kept.{kept_trans}
 use Rattle.lois_simplify.proofs.OneRound.{nothing_kept, binder_less, fixed_can_leave, prepared_fits, prepared_admits, prepared_kept}
 use Rattle.lois_simplify.proofs.rounds.open_round.Goals as goal
 
-pub ask_both-requires-clause-guard : goal.ask_both-requires-clause-guard
-ask_both-requires-clause-guard g c =
-    let k = c.in_ok-comp.comp in
-    (prepared_fits c.args.size (comp_of c.args.comp) k.binders k.guard c.in_ok-normalise.field-0 (tree k.item) c.in_ok-comp.ensures.kept c.in_ok-normalise.ensures.fits c.requires.levels).1
+pub both-requires-clause-first : goal.both-requires-clause-first
+both-requires-clause-first g c =
+    fits_longer c.args.size c.in_ok-comp.comp.binders c.args.under.now c.requires.under_levels
 
-pub ask_both-requires-clause-here : goal.ask_both-requires-clause-here
-ask_both-requires-clause-here g c =
+pub both-requires-clause-second : goal.both-requires-clause-second
+both-requires-clause-second g c =
+    let n = c.args.size in
     let k = c.in_ok-comp.comp in
-    let whole = prepared_fits c.args.size (comp_of c.args.comp) k.binders k.guard c.in_ok-normalise.field-0 (tree k.item) c.in_ok-comp.ensures.kept c.in_ok-normalise.ensures.fits c.requires.levels in
-    c.in_ok-here.ensures.fits (c.args.size + k.binders) (fits_longer c.args.size k.binders c.args.under.now c.requires.under_levels) whole.1
+    let h = c.in_ok-normalise.field-0 in
+    let whole = prepared_fits n (comp_of c.args.comp) k.binders k.guard h (tree k.item) c.in_ok-comp.ensures.kept c.in_ok-normalise.ensures.fits c.requires.levels in
+    whole.1
 
 pub returns-in_default : goal.returns-in_default
 returns-in_default g c =
@@ -28,15 +34,30 @@ returns-in_default g c =
     let n = c.args.size in
     let k = c.in_ok-comp.comp in
     let h = c.in_ok-normalise.field-0 in
+    let apart = c.in_ok-met.ensures.none.0 (none_is c.in_ok-met.field-0 c.in_default.is) in
     kept_trans u n (set_of (only (comp_of c.args.comp))) (set_of (only (comp k.binders h (tree k.item)))) (set_of [])
     (prepared_kept n (comp_of c.args.comp) k.binders k.guard h (tree k.item) c.in_ok-comp.ensures.kept u c.requires.under_levels c.in_ok-normalise.ensures.truth c.in_ok-normalise.ensures.fits c.in_ok-normalise.ensures.operators)
-    (nothing_kept u n k.binders h c.in_ok-here.here (tree k.item) c.requires.under_levels c.in_ok-here.ensures.truth (c.in_ok-sample.ensures.none (none_is c.in_ok-sample.field-0 c.in_default.is)))
+    (nothing_kept u n k.binders h (both u h) (tree k.item) c.requires.under_levels (λ d. holds_both d u h) (λ p.
+    let parts = and_parts (holds p.0 u) (holds p.0 h) (sym (holds_both p.0 u h) ∙ p.2) in
+    apart p.0 p.1 parts.0 parts.1))
 
 pub fixed_binder-requires-clause-here : goal.fixed_binder-requires-clause-here
 fixed_binder-requires-clause-here g c =
+    let u = c.args.under.now in
+    let n = c.args.size in
     let k = c.in_ok-comp.comp in
-    let whole = prepared_fits c.args.size (comp_of c.args.comp) k.binders k.guard c.in_ok-normalise.field-0 (tree k.item) c.in_ok-comp.ensures.kept c.in_ok-normalise.ensures.fits c.requires.levels in
-    c.in_ok-here.ensures.fits (c.args.size + k.binders) (fits_longer c.args.size k.binders c.args.under.now c.requires.under_levels) whole.1
+    let h = c.in_ok-normalise.field-0 in
+    let met = some_is (λ m. AreMet (n + k.binders) u h m.constraint m.sample) c.in_ok-met.field-0 c.in-Some.met c.in-Some.is c.in_ok-met.ensures.met in
+    met.levels
+
+pub fixed_binder-requires-clause-sample : goal.fixed_binder-requires-clause-sample
+fixed_binder-requires-clause-sample g c =
+    let u = c.args.under.now in
+    let n = c.args.size in
+    let k = c.in_ok-comp.comp in
+    let h = c.in_ok-normalise.field-0 in
+    let met = some_is (λ m. AreMet (n + k.binders) u h m.constraint m.sample) c.in_ok-met.field-0 c.in-Some.met c.in-Some.is c.in_ok-met.ensures.met in
+    subst (Meets (n + k.binders) c.in-Some.met.constraint) (sym c.as_slice-sample.ensures) met.sample
 
 pub returns-in_default-2 : goal.returns-in_default-2
 returns-in_default-2 g c =
@@ -44,24 +65,26 @@ returns-in_default-2 g c =
     let n = c.args.size in
     let k = c.in_ok-comp.comp in
     let h = c.in_ok-normalise.field-0 in
-    let whole = prepared_fits n (comp_of c.args.comp) k.binders k.guard h (tree k.item) c.in_ok-comp.ensures.kept c.in_ok-normalise.ensures.fits c.requires.levels in
-    let sample = some_is (λ v. Meets (n + k.binders) c.in_ok-here.here v.items) c.in_ok-sample.field-0 c.in-Some.sample c.in-Some.is c.in_ok-sample.ensures.sample in (
+    let met = some_is (λ m. AreMet (n + k.binders) u h m.constraint m.sample) c.in_ok-met.field-0 c.in-Some.met c.in-Some.is c.in_ok-met.ensures.met in (
       prepared_kept n (comp_of c.args.comp) k.binders k.guard h (tree k.item) c.in_ok-comp.ensures.kept u c.requires.under_levels c.in_ok-normalise.ensures.truth c.in_ok-normalise.ensures.fits c.in_ok-normalise.ensures.operators,
       c.in_ok-comp.ensures.binders,
       record {
-        levels = c.in_ok-here.ensures.fits (n + k.binders) (fits_longer n k.binders u c.requires.under_levels) whole.1;
-        operators = c.in_ok-here.ensures.operators;
-        here = c.in_ok-here.ensures.truth;
+        levels = met.levels;
+        operators = met.operators;
+        here = met.truth;
         guard = c.in_ok-normalise.ensures.normalised;
-        met = small_sample_meets (n + k.binders) c.in_ok-here.here c.in-Some.sample.items sample;
+        met = small_sample_meets (n + k.binders) c.in-Some.met.constraint c.in-Some.met.sample met.sample;
         free = c.in_ok-fixed.ensures.none (none_is c.in_ok-fixed.field-0 c.in_default-2.is);
       },
     )
 
 pub without_binder-requires-clause-levels : goal.without_binder-requires-clause-levels
 without_binder-requires-clause-levels g c =
+    let n = c.args.size in
     let k = c.in_ok-comp.comp in
-    prepared_fits c.args.size (comp_of c.args.comp) k.binders k.guard c.in_ok-normalise.field-0 (tree k.item) c.in_ok-comp.ensures.kept c.in_ok-normalise.ensures.fits c.requires.levels
+    let h = c.in_ok-normalise.field-0 in
+    let whole = prepared_fits n (comp_of c.args.comp) k.binders k.guard h (tree k.item) c.in_ok-comp.ensures.kept c.in_ok-normalise.ensures.fits c.requires.levels in
+    whole
 
 pub without_binder-requires-clause-operators : goal.without_binder-requires-clause-operators
 without_binder-requires-clause-operators g c =
@@ -74,15 +97,16 @@ returns g c =
     let n = c.args.size in
     let k = c.in_ok-comp.comp in
     let h = c.in_ok-normalise.field-0 in
+    let met = some_is (λ m. AreMet (n + k.binders) u h m.constraint m.sample) c.in_ok-met.field-0 c.in-Some.met c.in-Some.is c.in_ok-met.ensures.met in
     let r = c.in_ok-shorter.shorter in
     let e = c.in_ok-shorter.ensures in
     let b = c.in-Some-2.fixed.binder in
     let a = c.in-Some-2.fixed.level in
     let whole = prepared_fits n (comp_of c.args.comp) k.binders k.guard h (tree k.item) c.in_ok-comp.ensures.kept c.in_ok-normalise.ensures.fits c.requires.levels in
     let range = some_is (λ f. (n ≤ f.binder) × (f.binder < n + k.binders) × (f.level < f.binder)) c.in_ok-fixed.field-0 c.in-Some-2.fixed c.in-Some-2.is c.in_ok-fixed.ensures.range in
-    let fixed = some_is (λ f. IsFixed (n + k.binders) c.in_ok-here.here f.binder f.level) c.in_ok-fixed.field-0 c.in-Some-2.fixed c.in-Some-2.is c.in_ok-fixed.ensures.some in (
+    let fixed = some_is (λ f. IsFixed (n + k.binders) c.in-Some.met.constraint f.binder f.level) c.in_ok-fixed.field-0 c.in-Some-2.fixed c.in-Some-2.is c.in_ok-fixed.ensures.some in (
       kept_trans u n (set_of (only (comp_of c.args.comp))) (set_of (only (comp k.binders h (tree k.item)))) (set_of (only (comp_of r)))
           (prepared_kept n (comp_of c.args.comp) k.binders k.guard h (tree k.item) c.in_ok-comp.ensures.kept u c.requires.under_levels c.in_ok-normalise.ensures.truth c.in_ok-normalise.ensures.fits c.in_ok-normalise.ensures.operators)
-          (binder_less u n k.binders r.binders b a h r.guard (tree k.item) (tree r.item) e.binders e.item c.requires.under_levels range.0 range.1 e.guard e.guard_levels e.guard_operators whole (fixed_can_leave u n (n + k.binders) b a h c.in_ok-here.here (tree k.item) c.in_ok-here.ensures.truth range.2 fixed)),
+          (binder_less u n k.binders r.binders b a h r.guard (tree k.item) (tree r.item) e.binders e.item c.requires.under_levels range.0 range.1 e.guard e.guard_levels e.guard_operators whole (fixed_can_leave u n (n + k.binders) b a h c.in-Some.met.constraint (tree k.item) met.truth range.2 fixed)),
       omega (arith, e.binders, c.in_ok-comp.ensures.binders),
     )
