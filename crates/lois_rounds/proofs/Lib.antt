@@ -1,4 +1,3 @@
 pub mod Counts
 pub mod Measures
 pub mod Runs
-pub mod Worked

@@ -1,5 +1,5 @@
 -- What a number of rounds leads to, and what holds while rounds are made.
-use Rattle.std.proofs.Common.{◌≡◌, ℕ, zero, suc, ◌<◌, inl, inr, Bool, refl, sym, ◌∙◌, subst, arith}
+use Rattle.std.proofs.Common.{◌≡◌, ◌↔◌, ℕ, zero, suc, ◌<◌, inl, inr, Bool, refl, sym, ◌∙◌, subst, arith}
 use Rattle.std.proofs.lemmas.Bool.{cases_lt}
 use Rattle.lois_rounds.specs.Families.{FamilyD, FamilyFits, AdmitsFamily, sizes, AreEquivalent}
 use Rattle.lois_rounds.specs.Rounds.{RespectsEquivalence, LeadAlike, LeavesEquivalent, LeadsAfter, IsFirstUnchanged, Changes}
@@ -43,19 +43,20 @@ module _ (leads : FamilyD → FamilyD → Type 0) (respects : RespectsEquivalenc
             ];
       }
 
--- What holds while rounds are made: `now` is the round's relation, and `now_ordered` whether it uses `<`, after the calls so far.
-pub record IsUnderWay (leads now : FamilyD → FamilyD → Type 0) (ordered now_ordered : Bool) (start family : FamilyD) : Type 0 where
+-- What holds while rounds are made: `now` is the round's relation after the calls so far, and `admits_now` the operators of what
+-- it brings in.
+pub record IsUnderWay (leads now : FamilyD → FamilyD → Type 0) (admits admits_now : Bool → Type 0) (start family : FamilyD) : Type 0 where
   pub run : IsRun leads start family
   pub kept : sizes family ≡ sizes start
-  pub order : AdmitsFamily ordered family
+  pub operators : (ordered : Bool) → admits ordered → AdmitsFamily ordered start → AdmitsFamily ordered family
   pub same_leads : LeadAlike leads now
-  pub same_ordered : now_ordered ≡ ordered
+  pub same_operators : (ordered : Bool) → admits ordered ↔ admits_now ordered
 
-pub under_way_none : (leads : FamilyD → FamilyD → Type 0) (ordered : Bool) (start : FamilyD) → AdmitsFamily ordered start → IsUnderWay leads leads ordered ordered start start
-under_way_none leads ordered start order =
-    record { run = run_none leads start; kept = refl; order = order; same_leads = λ f g. (λ h. h, λ h. h); same_ordered = refl }
+pub under_way_none : (leads : FamilyD → FamilyD → Type 0) (admits : Bool → Type 0) (start : FamilyD) → IsUnderWay leads leads admits admits start start
+under_way_none leads admits start =
+    record { run = run_none leads start; kept = refl; operators = λ o h k. k; same_leads = λ f g. (λ h. h, λ h. h); same_operators = λ o. (λ h. h, λ h. h) }
 
-module _ (leads now : FamilyD → FamilyD → Type 0) (ordered now_ordered : Bool) (start f : FamilyD) (way : IsUnderWay leads now ordered now_ordered start f) where
+module _ (leads now : FamilyD → FamilyD → Type 0) (admits admits_now : Bool → Type 0) (start f : FamilyD) (way : IsUnderWay leads now admits admits_now start f) where
   -- what a round changes now it would have changed before
   pub changes_before : (g : FamilyD) → Changes now f g → Changes leads f g
   changes_before g change =
@@ -67,15 +68,18 @@ module _ (leads now : FamilyD → FamilyD → Type 0) (ordered now_ordered : Boo
         changed = λ leaves. change.changed (leaves.0, (way.same_leads f leaves.0).0 leaves.1, leaves.2);
       }
 
-  pub under_way_more : RespectsEquivalence leads → (after : FamilyD → FamilyD → Type 0) (after_ordered : Bool) (g : FamilyD) → Changes now f g → AdmitsFamily now_ordered g → LeadAlike now after → after_ordered ≡ now_ordered → IsUnderWay leads after ordered after_ordered start g
-  under_way_more respects after after_ordered g change order same_leads same_ordered =
+  pub under_way_more : RespectsEquivalence leads → (after : FamilyD → FamilyD → Type 0) (admits_after : Bool → Type 0) (g : FamilyD) → Changes now f g
+      → ((ordered : Bool) → admits_now ordered → AdmitsFamily ordered f → AdmitsFamily ordered g) → LeadAlike now after → ((ordered : Bool) → admits_now ordered ↔ admits_after ordered)
+      → IsUnderWay leads after admits admits_after start g
+  under_way_more respects after admits_after g change operators same_leads same_operators =
       record {
         run = run_more leads respects start f g way.run (changes_before g change);
         kept = change.kept ∙ way.kept;
-        order = subst (λ o. AdmitsFamily o g) way.same_ordered order;
+        operators = λ o h k. operators o ((way.same_operators o).0 h) (way.operators o h k);
         same_leads =
             λ x y. (λ h. (same_leads x y).0 ((way.same_leads x y).0 h), λ h. (way.same_leads x y).1 ((same_leads x y).1 h));
-        same_ordered = same_ordered ∙ way.same_ordered;
+        same_operators =
+            λ o. (λ h. (same_operators o).0 ((way.same_operators o).0 h), λ h. (way.same_operators o).1 ((same_operators o).1 h));
       }
 
   pub under_way_all : LeavesEquivalent now f → IsFirstUnchanged leads start f

@@ -4,8 +4,6 @@
 mod families;
 mod resting;
 mod rounds;
-#[cfg(test)]
-mod tests;
 
 pub use families::{Family, Member};
 pub use resting::{grow, shrink};

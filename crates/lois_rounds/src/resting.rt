@@ -1,6 +1,6 @@
 //! Rounds that are made until one leaves every member equivalent.
 
-ghost use Rattle.std.specs.Prelude.{◌≡◌, IfOk, IfSome, IfNone};
+ghost use Rattle.std.specs.Prelude.{◌≡◌, ◌↔◌, Bool, IfOk, IfSome, IfNone};
 ghost use Rattle.lois_rounds.specs.Families.{FamilyFits, AdmitsFamily, sizes};
 ghost use Rattle.lois_rounds.specs.Rounds.{Changes, IsFirstUnchanged, LeavesEquivalent, LeadAlike, OnlyWeakens, OnlyStrengthens};
 
@@ -10,19 +10,18 @@ use std::alloc::Global;
 
 /// The first family, counted from `start`, that a round leaves equivalent. A round only makes members weaker.
 pub fn grow<R: Round>(alloc: Global, round: &mut R, start: Family) -> Result<Family, NoMemory>
-    requires order { AdmitsFamily (R.ordered round.old) start }
-    requires weaker { OnlyWeakens (R.leads round.old) }
+    requires { OnlyWeakens (R.leads round.old) }
 
     ensures first { IfOk result (IsFirstUnchanged (R.leads round.old) start) }
     ensures sizes { IfOk result (λ f. sizes f ≡ sizes start) }
     ensures fits { IfOk result FamilyFits }
 
-    // The answer has `<` only where the round uses it.
-    ensures order { IfOk result (AdmitsFamily (R.ordered round.old)) }
+    // The answer has `<` only where the round or the start has it.
+    ensures operators { IfOk result (λ f. (ordered : Bool) → R.admits round.old ordered → AdmitsFamily ordered start → AdmitsFamily ordered f) }
 
     // No call changes what the round means, whatever this one answers.
     ensures same_leads { LeadAlike (R.leads round.old) (R.leads round.new) }
-    ensures same_ordered { R.ordered round.new ≡ R.ordered round.old }
+    ensures same_operators { (ordered : Bool) → R.admits round.old ordered ↔ R.admits round.new ordered }
 {
     let mut family = start;
     'growing: while let Some(next) = advance(alloc, round, &family)? {
@@ -33,19 +32,18 @@ pub fn grow<R: Round>(alloc: Global, round: &mut R, start: Family) -> Result<Fam
 
 /// The first family, counted from `start`, that a round leaves equivalent. A round only makes members stronger.
 pub fn shrink<R: Round>(alloc: Global, round: &mut R, start: Family) -> Result<Family, NoMemory>
-    requires order { AdmitsFamily (R.ordered round.old) start }
-    requires stronger { OnlyStrengthens (R.leads round.old) }
+    requires { OnlyStrengthens (R.leads round.old) }
 
     ensures first { IfOk result (IsFirstUnchanged (R.leads round.old) start) }
     ensures sizes { IfOk result (λ f. sizes f ≡ sizes start) }
     ensures fits { IfOk result FamilyFits }
 
-    // The answer has `<` only where the round uses it.
-    ensures order { IfOk result (AdmitsFamily (R.ordered round.old)) }
+    // The answer has `<` only where the round or the start has it.
+    ensures operators { IfOk result (λ f. (ordered : Bool) → R.admits round.old ordered → AdmitsFamily ordered start → AdmitsFamily ordered f) }
 
     // No call changes what the round means, whatever this one answers.
     ensures same_leads { LeadAlike (R.leads round.old) (R.leads round.new) }
-    ensures same_ordered { R.ordered round.new ≡ R.ordered round.old }
+    ensures same_operators { (ordered : Bool) → R.admits round.old ordered ↔ R.admits round.new ordered }
 {
     let mut family = start;
     'shrinking: while let Some(next) = advance(alloc, round, &family)? {
@@ -60,13 +58,12 @@ fn advance<R: Round>(
     round: &mut R,
     family: &Family,
 ) -> Result<Option<Family>, NoMemory>
-    requires { AdmitsFamily (R.ordered round.old) family.now }
     ensures fits { FamilyFits family.now }
     ensures unchanged { IfOk result (λ o. IfNone o (LeavesEquivalent (R.leads round.old) family.now)) }
     ensures changed { IfOk result (λ o. IfSome o (Changes (R.leads round.old) family.now)) }
-    ensures order { IfOk result (λ o. IfSome o (AdmitsFamily (R.ordered round.old))) }
+    ensures operators { IfOk result (λ o. IfSome o (λ f. (ordered : Bool) → R.admits round.old ordered → AdmitsFamily ordered family.now → AdmitsFamily ordered f)) }
     ensures same_leads { LeadAlike (R.leads round.old) (R.leads round.new) }
-    ensures same_ordered { R.ordered round.new ≡ R.ordered round.old }
+    ensures same_operators { (ordered : Bool) → R.admits round.old ordered ↔ R.admits round.new ordered }
 {
     let _ = family.as_slice();
     match round.next(alloc, family)? {

@@ -5,7 +5,7 @@ use Rattle.lois_rounds.proofs.resting.grow.Given as goal
 
 abbrev pub invariant-growing : goal.invariant-growing
 invariant-growing g l =
-    IsUnderWay (g.R.Round.leads l.fn.round) (g.R.Round.leads l.round) (g.R.Round.ordered l.fn.round) (g.R.Round.ordered l.round) l.fn.start l.family
+    IsUnderWay (g.R.Round.leads l.fn.round) (g.R.Round.leads l.round) (g.R.Round.admits l.fn.round) (g.R.Round.admits l.round) l.fn.start l.family
 
 abbrev pub decreases-growing : goal.decreases-growing
 decreases-growing g l = sample_count false l.family
