@@ -4,3 +4,4 @@ pub mod Forms
 pub mod Tokens
 pub mod Refusals
 pub mod Laws
+pub mod Causes

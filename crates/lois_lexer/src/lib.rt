@@ -3,8 +3,6 @@
 
 mod lexing;
 mod places;
-#[cfg(test)]
-mod tests;
 mod words;
 
 ghost use Rattle.lois_lexer.specs.declared.LexError.TheVariants.{NoMemory};
@@ -13,7 +11,8 @@ ghost use Rattle.std.specs.Prelude.{◌≡◌, ◌≤◌, length};
 pub use lexing::{lex, one_reading, written_is_read};
 pub use places::place_of;
 use std::alloc::AllocFailed;
-use thiserror::Error;
+use std::error::Error;
+use std::fmt;
 pub use words::{RESERVED, is_reserved};
 
 /// What a token is. A `Word` is one of the reserved words, and a `Name` has their form without being one.
@@ -55,21 +54,58 @@ pub struct Place {
 }
 
 /// Why a text has no tokens, with the offset of the first byte at fault.
-#[derive(Clone, Copy, Debug, PartialEq, Eq, Error)]
+#[derive(Clone, Copy, Debug, PartialEq, Eq)]
 pub enum LexError {
     /// A byte begins no token, blank or comment, or may not stand in its comment.
-    #[error("bad byte at {0}")]
     BadByte(usize),
     /// A word, name or tag has more than 64 bytes without its quote.
-    #[error("long name at {0}")]
     LongName(usize),
     /// A number has more than 9 digits, or a leading 0.
-    #[error("bad number at {0}")]
     BadNumber(usize),
     /// Memory ran out. It says nothing of the text.
-    #[error("out of memory")]
     NoMemory,
 }
+
+impl LexError {
+    ghost use Rattle.lois_lexer.specs.Causes.{cause_number, cause_text};
+
+    /// The number of the cause, counted from 1 as the causes are declared.
+    pub fn number(&self) -> u8
+        ensures exact { result ≡ cause_number self.now }
+    {
+        match self {
+            LexError::BadByte(_) => 1,
+            LexError::LongName(_) => 2,
+            LexError::BadNumber(_) => 3,
+            LexError::NoMemory => 4,
+        }
+    }
+
+    /// The words for the cause, without its place.
+    pub fn text(&self) -> &'static str
+        ensures exact { result.now ≡ cause_text self.now }
+    {
+        match self {
+            LexError::BadByte(_) => "bad byte",
+            LexError::LongName(_) => "long name",
+            LexError::BadNumber(_) => "bad number",
+            LexError::NoMemory => "out of memory",
+        }
+    }
+}
+
+impl fmt::Display for LexError {
+    ghost use Rattle.lois_lexer.specs.Causes.{cause_text};
+    ghost use Rattle.std.specs.Prelude.{Some};
+
+    ghost output = { λ e. Some (cause_text e) };
+
+    fn fmt<W: fmt::Write>(&self, f: &mut fmt::Formatter<W>) -> fmt::Result {
+        f.write_str(self.text())
+    }
+}
+
+impl Error for LexError {}
 
 impl<T: Drop> From<AllocFailed<T>> for LexError {
     ghost from_gives = { λ _ e. e ≡ NoMemory };

@@ -7,9 +7,9 @@ use Rattle.lois_meaning.specs.Automata.{Machine, IsPair, IsTriple, JoinsStates, 
 use Rattle.lois_meaning.specs.Expressions.{IsFitFor, IsResultOf}
 use Rattle.lois_meaning.specs.Faults.{IsNoAutomaton, IsNotWhole, IsUnfitFor}
 use Rattle.lois_meaning.specs.Kinds.{HasParts, AreSame}
-use Rattle.lois_meaning.specs.declared.faults.FaultKind.{FaultKind}
-use Rattle.lois_meaning.specs.declared.syntax.Operation.{Operation}
-use Rattle.lois_meaning.specs.declared.syntax.Operation.TheVariants.{Union, Inter, Minus, Flatten, Reach, Product, Complement, Minimise}
+use Rattle.lois_answers.specs.declared.faults.FaultKind.{FaultKind}
+use Rattle.lois_script.specs.declared.syntax.Operation.{Operation}
+use Rattle.lois_script.specs.declared.syntax.Operation.TheVariants.{Union, Inter, Minus, Flatten, Reach, Product, Complement, Minimise}
 use Rattle.lois_meaning.proofs.Alike.{is_set_same, set_of_same, set_of_move, set_of_shift, set_of_to, parts_same, parts_both, tuples_same}
 
 -- five sets that are the same one by one
@@ -29,7 +29,7 @@ machine_sym a b h = record {
   final = same_sym a.final b.final h.final;
 }
 
-triple_same : (x a b c a' b' c' : PointValue) → IsSame a a' → IsSame b b' → IsSame c c' → IsTriple x a b c → IsTriple x a' b' c'
+pub triple_same : (x a b c a' b' c' : PointValue) → IsSame a a' → IsSame b b' → IsSame c c' → IsTriple x a b c → IsTriple x a' b' c'
 triple_same x a b c a' b' c' p q r (d, e, f, parts, s, t, u) =
     (d, e, f, parts, same_trans a' a d (same_sym a a' p) s, same_trans b' b e (same_sym b b' q) t, same_trans c' c f (same_sym c c' r) u)
 

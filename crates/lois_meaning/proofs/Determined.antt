@@ -8,7 +8,7 @@ use Rattle.lois_base.proofs.Order.{below_respects}
 use Rattle.lois_meaning.specs.Expressions.{IsPartOf, IsTruthOf, Makes, GiveAll, HasTruth, HaveTruths, Gives}
 use Rattle.lois_meaning.specs.Kinds.{AreSame, IsOneOf}
 use Rattle.lois_meaning.specs.Store.{NamedValues, stored}
-use Rattle.lois_meaning.specs.Tree.{ExprD, atoms, var, tag, tuple, listed, each, part, apply, ExprsD, no_exprs, expr, binding, CondD, truth, falsity, same, differ, below, member, included, empty, not, all, any, exists, every, CondsD, no_conds, cond}
+use Rattle.lois_script.specs.Tree.{ExprD, atoms, var, tag, tuple, listed, each, part, apply, ExprsD, no_exprs, expr, binding, CondD, truth, falsity, same, differ, below, member, included, empty, not, all, any, exists, every, CondsD, no_conds, cond}
 use Rattle.lois_meaning.proofs.Alike.{set_of_same, set_of_shift, is_atom_both, tags_same, parts_both, tuples_same, are_same_sym, are_same_trans}
 use Rattle.lois_meaning.proofs.Automata.{made_same, automaton_same}
 use Rattle.lois_meaning.proofs.Moves.{truth_from}

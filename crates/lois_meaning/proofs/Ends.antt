@@ -6,7 +6,7 @@ use Rattle.lois_base.proofs.Members.{same_refl, same_sym, same_trans}
 use Rattle.lois_meaning.specs.Expressions.{HasTruth}
 use Rattle.lois_meaning.specs.Runs.{Ending, BlockEnds, TurnsEnd, StmtEnds, ListEnds}
 use Rattle.lois_meaning.specs.Store.{named, NamedValues, looked_up, stored, AreSameNamed}
-use Rattle.lois_meaning.specs.Tree.{binding, CondD, StmtD, «let», assign, add, for, if, while, assert, print, StmtsD, no_stmts, stmt}
+use Rattle.lois_script.specs.Tree.{binding, CondD, StmtD, «let», assign, add, for, if, while, assert, print, StmtsD, no_stmts, stmt}
 use Rattle.lois_meaning.proofs.Gathered.{set_with_move, all_gathered_move, all_gathered_to}
 use Rattle.lois_meaning.proofs.Moves.{truth_from, gives_from}
 use Rattle.lois_meaning.proofs.Stores.{named_refl, named_sym, named_trans, looked_up_same, stored_in, length_same, split_same, none_same}

@@ -5,8 +5,8 @@ use Rattle.lois_base.specs.Values.{PointValue}
 use Rattle.lois_meaning.specs.Expressions.{Reaches}
 use Rattle.lois_meaning.specs.Faults.{IsNoSet, IsNoAtom, HasNoPart, IsNoAutomaton, IsUnfitFor, OperandFails, SomeOperandFails, MakesTooDeep, Failing, Breaks, SomeFails, SomeSetFails, CondFails, SomeCondFails, Fails}
 use Rattle.lois_meaning.specs.Store.{NamedValues, stored, AreSameNamed}
-use Rattle.lois_meaning.specs.Tree.{ExprD, atoms, var, tag, tuple, listed, each, part, apply, ExprsD, no_exprs, expr, binding, BindingsD, no_bindings, bind, CondD, truth, falsity, same, differ, below, member, included, empty, not, all, any, exists, every, CondsD, no_conds, cond}
-use Rattle.lois_meaning.specs.declared.faults.FaultKind.{FaultKind}
+use Rattle.lois_script.specs.Tree.{ExprD, atoms, var, tag, tuple, listed, each, part, apply, ExprsD, no_exprs, expr, binding, BindingsD, no_bindings, bind, CondD, truth, falsity, same, differ, below, member, included, empty, not, all, any, exists, every, CondsD, no_conds, cond}
+use Rattle.lois_answers.specs.declared.faults.FaultKind.{FaultKind}
 use Rattle.lois_meaning.proofs.Moves.{makes_from, gives_from, reaches_from, truth_from}
 use Rattle.lois_meaning.proofs.Stores.{stored_in}
 

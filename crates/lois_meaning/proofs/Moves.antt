@@ -5,7 +5,7 @@ use Rattle.lois_base.proofs.Members.{deeper_same, same_sym, same_trans}
 use Rattle.lois_meaning.specs.Expressions.{IsPartOf, IsTruthOf, Given, Makes, GiveAll, HaveSets, Reaches, HasTruth, HaveTruths, Gives}
 use Rattle.lois_meaning.specs.Kinds.{HasParts, AreSame}
 use Rattle.lois_meaning.specs.Store.{NamedValues, looked_up, stored, AreSameNamed, depth_limit}
-use Rattle.lois_meaning.specs.Tree.{ExprD, atoms, var, tag, tuple, listed, each, part, apply, ExprsD, no_exprs, expr, binding, BindingsD, no_bindings, bind, CondD, truth, falsity, same, differ, below, member, included, empty, not, all, any, exists, every, CondsD, no_conds, cond}
+use Rattle.lois_script.specs.Tree.{ExprD, atoms, var, tag, tuple, listed, each, part, apply, ExprsD, no_exprs, expr, binding, BindingsD, no_bindings, bind, CondD, truth, falsity, same, differ, below, member, included, empty, not, all, any, exists, every, CondsD, no_conds, cond}
 use Rattle.lois_meaning.proofs.Automata.{made_move}
 use Rattle.lois_meaning.proofs.Stores.{named_sym, looked_up_same, stored_in}
 use Rattle.lois_meaning.proofs.Alike.{set_of_shift, set_of_to, is_tag_same, parts_same, are_same_sym, are_same_trans}

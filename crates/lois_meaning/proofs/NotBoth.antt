@@ -9,9 +9,9 @@ use Rattle.lois_meaning.specs.Expressions.{IsPartOf, AreFitFor, Given, Makes, Gi
 use Rattle.lois_meaning.specs.Faults.{IsNoSet, IsNoAtom, HasNoPart, IsNoAutomaton, IsUnfitFor, OperandFails, SomeOperandFails, MakesTooDeep, Failing, Breaks, SomeFails, SomeSetFails, CondFails, SomeCondFails, Fails}
 use Rattle.lois_meaning.specs.Kinds.{IsAtomValue, IsSet, HasParts, AreSame}
 use Rattle.lois_meaning.specs.Store.{NamedValues, stored, depth_limit}
-use Rattle.lois_meaning.specs.Tree.{ExprD, atoms, var, tag, tuple, listed, each, part, apply, ExprsD, no_exprs, expr, binding, BindingsD, no_bindings, bind, CondD, truth, falsity, same, differ, below, member, included, empty, not, all, any, exists, every, CondsD, no_conds, cond}
-use Rattle.lois_meaning.specs.declared.faults.FaultKind.{FaultKind}
-use Rattle.lois_meaning.specs.declared.syntax.Operation.{Operation}
+use Rattle.lois_script.specs.Tree.{ExprD, atoms, var, tag, tuple, listed, each, part, apply, ExprsD, no_exprs, expr, binding, BindingsD, no_bindings, bind, CondD, truth, falsity, same, differ, below, member, included, empty, not, all, any, exists, every, CondsD, no_conds, cond}
+use Rattle.lois_answers.specs.declared.faults.FaultKind.{FaultKind}
+use Rattle.lois_script.specs.declared.syntax.Operation.{Operation}
 use Rattle.lois_meaning.proofs.Alike.{is_set_same, is_atom_same, parts_same, parts_both}
 use Rattle.lois_meaning.proofs.Automata.{suits_fit, automaton_move}
 use Rattle.lois_meaning.proofs.Determined.{makes_same, given_same}

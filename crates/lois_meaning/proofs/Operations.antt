@@ -65,25 +65,25 @@ via : (u a b v : PointValue) → IsSame u a → IsSame a b → IsSame v b → Is
 via u a b v h k l = same_trans u a v h (same_trans a b v k (same_sym v b l))
 
 -- pairs that are the same have parts that are, and back
-pair_both : (x y p q p' q' : PointValue) → IsSame x y → IsPair x p q → IsPair y p' q' → IsSame p p' × IsSame q q'
+pub pair_both : (x y p q p' q' : PointValue) → IsSame x y → IsPair x p q → IsPair y p' q' → IsSame p p' × IsSame q q'
 pair_both x y p q p' q' s (a, b, h, i, j) (a', b', h', i', j') =
     let both : AreSame (a ∷ b ∷ []) (a' ∷ b' ∷ []) = parts_both x y (a ∷ b ∷ []) (a' ∷ b' ∷ []) s h h' in
     (via p a a' p' i both.0 i', via q b b' q' j both.1.0 j')
 
-pair_same : (x y p q p' q' : PointValue) → IsSame p p' → IsSame q q' → IsPair x p q → IsPair y p' q' → IsSame x y
+pub pair_same : (x y p q p' q' : PointValue) → IsSame p p' → IsSame q q' → IsPair x p q → IsPair y p' q' → IsSame x y
 pair_same x y p q p' q' s t (a, b, h, i, j) (a', b', h', i', j') =
     tuples_same x y (a ∷ b ∷ []) (a' ∷ b' ∷ []) h h' (via a p p' a' (same_sym p a i) s (same_sym p' a' i'), (via b q q' b' (same_sym q b j) t (same_sym q' b' j'), tt))
 
-triple_both : (x p q r p' q' r' : PointValue) → IsTriple x p q r → IsTriple x p' q' r' → IsSame p p' × IsSame q q' × IsSame r r'
+pub triple_both : (x p q r p' q' r' : PointValue) → IsTriple x p q r → IsTriple x p' q' r' → IsSame p p' × IsSame q q' × IsSame r r'
 triple_both x p q r p' q' r' (a, b, c, h, i, j, k) (a', b', c', h', i', j', k') =
     let both : AreSame (a ∷ b ∷ c ∷ []) (a' ∷ b' ∷ c' ∷ []) = parts_both x x (a ∷ b ∷ c ∷ []) (a' ∷ b' ∷ c' ∷ []) (same_refl x) h h' in
     (via p a a' p' i both.0 i', via q b b' q' j both.1.0 j', via r c c' r' k both.1.1.0 k')
 
-step_move : (a : Machine) (p l q p' l' q' : PointValue) → IsSame p p' → IsSame l l' → IsSame q q' → HasStep a p l q → HasStep a p' l' q'
+pub step_move : (a : Machine) (p l q p' l' q' : PointValue) → IsSame p p' → IsSame l l' → IsSame q q' → HasStep a p l q → HasStep a p' l' q'
 step_move a p l q p' l' q' s t u (x, i, (d, e, f, h, j, k, m)) =
     (x, i, (d, e, f, h, same_trans p' p d (same_sym p p' s) j, same_trans l' l e (same_sym l l' t) k, same_trans q' q f (same_sym q q' u) m))
 
-reads_move : (a : Machine) (word : List PointValue) (p p' q : PointValue) → IsSame p p' → Reads a word p q → Reads a word p' q
+pub reads_move : (a : Machine) (word : List PointValue) (p p' q : PointValue) → IsSame p p' → Reads a word p q → Reads a word p' q
 reads_move a [] p p' q s h = same_trans p' p q (same_sym p p' s) h
 reads_move a (l ∷ word) p p' q s (r, step, rest) = (r, step_move a p l r p' l r s (same_refl l) (same_refl r) step, rest)
 
@@ -92,7 +92,7 @@ reads_to a [] p q q' s h = same_trans p q q' h s
 reads_to a (l ∷ word) p q q' s (r, step, rest) = (r, step, reads_to a word r q q' s rest)
 
 -- a path goes on
-reads_on : (a : Machine) (word more : List PointValue) (p q r : PointValue) → Reads a word p q → Reads a more q r → Reads a (word ++ more) p r
+pub reads_on : (a : Machine) (word more : List PointValue) (p q r : PointValue) → Reads a word p q → Reads a more q r → Reads a (word ++ more) p r
 reads_on a [] more p q r h k = reads_move a more q p r (same_sym p q h) k
 reads_on a (l ∷ word) more p q r (s, step, rest) k = (s, step, reads_on a word more s q r rest k)
 
@@ -102,7 +102,7 @@ accepts_by_reach a = (
   (λ h. (h.1.1, (h.1.0, h.1.2, (h.0, h.2, h.1.3)))),
 )
 
-pair_to : (y z p q : PointValue) → IsSame y z → IsPair y p q → IsPair z p q
+pub pair_to : (y z p q : PointValue) → IsSame y z → IsPair y p q → IsPair z p q
 pair_to y z p q h (a, b, k, i, j) =
     let moved : (ws : List PointValue) × HasParts z ws × AreSame (a ∷ b ∷ []) ws = parts_same y z (a ∷ b ∷ []) h k in
     go moved.0 moved.1 moved.2
@@ -222,7 +222,7 @@ complements_accept_others v m a word is one whole comp = (there, back)
           ),
         )
 
-words_sym : (a : Machine) (p q : PointValue) → HaveSameWords a p q → HaveSameWords a q p
+pub words_sym : (a : Machine) (p q : PointValue) → HaveSameWords a p q → HaveSameWords a q p
 words_sym a p q h word = ((h word).1, (h word).0)
 
 words_refl : (a : Machine) (p : PointValue) → HaveSameWords a p p
@@ -247,7 +247,7 @@ class_of a c q q' h one =
 class_to : (a : Machine) (c d q : PointValue) → IsSame c d → IsClassOf a c q → IsClassOf a d q
 class_to a c d q s h = set_of_to _ c d s h
 
-reach_step : (a : Machine) (q l r : PointValue) → IsReachable a q → HasStep a q l r → IsReachable a r
+pub reach_step : (a : Machine) (q l r : PointValue) → IsReachable a q → HasStep a q l r → IsReachable a r
 reach_step a q l r (p, word, i, reads) step = (p, word ++ (l ∷ []), i, reads_on a word (l ∷ []) p q r reads (r, step, same_refl r))
 
 reach_same : (a : Machine) (q q' : PointValue) → IsSame q q' → IsReachable a q → IsReachable a q'

@@ -8,8 +8,8 @@ use Rattle.lois_meaning.specs.Faults.{IsNoSet}
 use Rattle.lois_meaning.specs.Kinds.{IsSet}
 use Rattle.lois_meaning.specs.Runs.{Ending, BlockEnds, TurnsEnd, StmtEnds, ListEnds, StmtFails, ListFails}
 use Rattle.lois_meaning.specs.Store.{named, NamedValues, looked_up, stored, AreSameNamed, depth_limit}
-use Rattle.lois_meaning.specs.Tree.{binding, CondD, StmtD, «let», assign, add, for, if, while, assert, print, StmtsD, no_stmts, stmt}
-use Rattle.lois_meaning.specs.declared.faults.FaultKind.{FaultKind}
+use Rattle.lois_script.specs.Tree.{binding, CondD, StmtD, «let», assign, add, for, if, while, assert, print, StmtsD, no_stmts, stmt}
+use Rattle.lois_answers.specs.declared.faults.FaultKind.{FaultKind}
 use Rattle.lois_meaning.proofs.Alike.{is_set_same}
 use Rattle.lois_meaning.proofs.Determined.{given_same, truth_same}
 use Rattle.lois_meaning.proofs.Ends.{From, block_from, turns_from, stmt_from, list_from}

@@ -11,9 +11,9 @@ use Rattle.lois_meaning.specs.Faults.{Fails}
 use Rattle.lois_meaning.specs.Kinds.{IsAtomValue, IsSet}
 use Rattle.lois_meaning.specs.Runs.{BlockEnds, TurnsEnd, StmtEnds, ListEnds, StmtFails, ScriptEnds}
 use Rattle.lois_meaning.specs.Store.{named, NamedValues, looked_up, stored, AreSameNamed, IsStore, opening, depth_limit}
-use Rattle.lois_meaning.specs.Tree.{ExprD, atoms, listed, each, no_exprs, expr, binding, no_bindings, bind, CondD, truth, same, StmtD, «let», add, for, while, assert, print, StmtsD, no_stmts, stmt, ParamD, ScriptD}
-use Rattle.lois_meaning.specs.declared.faults.FaultKind.{FaultKind}
-use Rattle.lois_meaning.specs.declared.faults.FaultKind.TheVariants.{Assertion, TurnLimit, DepthLimit}
+use Rattle.lois_script.specs.Tree.{ExprD, atoms, listed, each, no_exprs, expr, binding, no_bindings, bind, CondD, truth, same, StmtD, «let», add, for, while, assert, print, StmtsD, no_stmts, stmt, ParamD, ScriptD}
+use Rattle.lois_answers.specs.declared.faults.FaultKind.{FaultKind}
+use Rattle.lois_answers.specs.declared.faults.FaultKind.TheVariants.{Assertion, TurnLimit, DepthLimit}
 
 -- the names a, b, p, q, s, x and y
 abbrev pub name_a : List ℕ

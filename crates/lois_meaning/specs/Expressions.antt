@@ -13,9 +13,9 @@ use Rattle.lois_base.specs.Values.{PointValue, IsMember, IsSame, IsIn, IsInclude
 use Rattle.lois_meaning.specs.Automata.{Machine, IsAutomatonOf, IsAutomaton, Accepts, IsReachable, IsDeterministic, IsComplete, IsMinimalOf, IsProductOf, IsComplementOf}
 use Rattle.lois_meaning.specs.Kinds.{IsAtomValue, IsTagValue, IsSet, IsSetOf, HasParts, AreSame, IsOneOf}
 use Rattle.lois_meaning.specs.Store.{NamedValues, looked_up, stored, IsShallow}
-use Rattle.lois_meaning.specs.Tree.{ExprD, atoms, var, tag, tuple, listed, each, part, apply, ExprsD, no_exprs, expr, binding, BindingsD, no_bindings, bind, CondD, truth, falsity, same, differ, below, member, included, empty, not, all, any, exists, every, CondsD, no_conds, cond}
-use Rattle.lois_meaning.specs.declared.syntax.Operation.{Operation}
-use Rattle.lois_meaning.specs.declared.syntax.Operation.TheVariants.{Union, Inter, Minus, Flatten, Reach, Product, Complement, Minimise}
+use Rattle.lois_script.specs.Tree.{ExprD, atoms, var, tag, tuple, listed, each, part, apply, ExprsD, no_exprs, expr, binding, BindingsD, no_bindings, bind, CondD, truth, falsity, same, differ, below, member, included, empty, not, all, any, exists, every, CondsD, no_conds, cond}
+use Rattle.lois_script.specs.declared.syntax.Operation.{Operation}
+use Rattle.lois_script.specs.declared.syntax.Operation.TheVariants.{Union, Inter, Minus, Flatten, Reach, Product, Complement, Minimise}
 
 -- v is part n of these, counted from 1
 abbrev pub IsPartOf : PointValue → List PointValue → ℕ → Type 0

@@ -6,8 +6,8 @@ use Rattle.lois_meaning.specs.Expressions.{Gives, HasTruth}
 use Rattle.lois_meaning.specs.Faults.{Fails, CondFails}
 use Rattle.lois_meaning.specs.Runs.{ListEnds, ListFails, ScriptEnds, ScriptFails}
 use Rattle.lois_meaning.specs.Store.{NamedValues, AreSameNamed, name_of}
-use Rattle.lois_meaning.specs.Tree.{ExprD, CondD, StmtsD, ScriptD}
-use Rattle.lois_meaning.specs.declared.faults.FaultKind.{FaultKind}
+use Rattle.lois_script.specs.Tree.{ExprD, CondD, StmtsD, ScriptD}
+use Rattle.lois_answers.specs.declared.faults.FaultKind.{FaultKind}
 
 -- From stores that are the same come the same values, truths, failures and ends.
 pub record RunsAlike : Type 0 where

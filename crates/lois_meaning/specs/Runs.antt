@@ -6,9 +6,9 @@ use Rattle.lois_meaning.specs.Expressions.{Gives, HasTruth}
 use Rattle.lois_meaning.specs.Faults.{IsNoSet, OperandFails, Fails, CondFails}
 use Rattle.lois_meaning.specs.Kinds.{IsSet, IsSetOf}
 use Rattle.lois_meaning.specs.Store.{NamedValue, named, NamedValues, looked_up, stored, AreSameNamed, opening, depth_limit, IsShallow}
-use Rattle.lois_meaning.specs.Tree.{binding, StmtD, «let», assign, add, for, if, while, assert, print, StmtsD, no_stmts, stmt, ScriptD}
-use Rattle.lois_meaning.specs.declared.faults.FaultKind.{FaultKind}
-use Rattle.lois_meaning.specs.declared.faults.FaultKind.TheVariants.{Assertion, TurnLimit, DepthLimit}
+use Rattle.lois_script.specs.Tree.{binding, StmtD, «let», assign, add, for, if, while, assert, print, StmtsD, no_stmts, stmt, ScriptD}
+use Rattle.lois_answers.specs.declared.faults.FaultKind.{FaultKind}
+use Rattle.lois_answers.specs.declared.faults.FaultKind.TheVariants.{Assertion, TurnLimit, DepthLimit}
 
 -- new is a set of the members of the set old, and v
 abbrev pub IsSetWith : PointValue → PointValue → PointValue → Type 0

@@ -4,7 +4,7 @@ use Rattle.std.specs.List.{IsDistinct}
 use Rattle.lois_base.specs.Atom.{Atom}
 use Rattle.lois_base.specs.Data.{var}
 use Rattle.lois_base.specs.Values.{PointValue, point, IsProper, IsSame, IsDeeper}
-use Rattle.lois_meaning.specs.Tree.{ParamD}
+use Rattle.lois_script.specs.Tree.{ParamD}
 
 -- A name with a value: a name of a store, a line that was printed, or a loop's name with the element it stands for.
 pub record NamedValue : Type 0 where

@@ -1,18 +1,15 @@
-//! What LOIS scripts, their answers and their texts are: the trees, and the definitions of their meaning.
+//! What LOIS scripts mean: stores, values, failures and runs, with the laws. What scripts are stands in `lois_script`, what
+//! runs answer in `lois_answers`; their names are reachable here too.
 #![tactic(auto)]
 
 mod faults;
 pub mod laws;
-mod results;
-mod script;
-mod sound;
-mod syntax;
-#[cfg(test)]
-mod tests;
-pub mod texts;
 
-pub use faults::{Answer, Fault, FaultKind, Stop, Trace};
-pub use results::{Case, Cases, Line, Lines, Results};
-pub use script::{Param, Params, Script, Stmt, Stmts};
-pub use sound::{is_sound_term, tags_are_names};
-pub use syntax::{Binding, Bindings, Cond, Conds, Expr, Exprs, Operation, Pos};
+pub use faults::{Fault, Stop};
+pub use lois_answers::{
+    Answer, Case, Cases, FaultKind, Line, Lines, Results, Trace, is_sound_term, tags_are_names,
+    texts,
+};
+pub use lois_script::{
+    Binding, Bindings, Cond, Conds, Expr, Exprs, Operation, Param, Params, Pos, Script, Stmt, Stmts,
+};

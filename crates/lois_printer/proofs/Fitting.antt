@@ -7,8 +7,8 @@ use Rattle.lois_base.specs.Fits.{Fits, PartsFit, CompFits, ItemsFit}
 use Rattle.lois_base.specs.Tree.{tree, comp_of}
 use Rattle.lois_base.specs.declared.values.Comp.{Comp}
 use Rattle.lois_base.specs.declared.values.Term.{Term}
-use Rattle.lois_meaning.specs.ResultsData.{LineD, CaseD}
-use Rattle.lois_meaning.specs.Sound.{IsSoundLine, IsSoundCase}
+use Rattle.lois_answers.specs.ResultsData.{LineD, CaseD}
+use Rattle.lois_answers.specs.Sound.{IsSoundLine, IsSoundCase}
 use Rattle.lois_printer.specs.Inside.{LineFits, CaseFits}
 use Rattle.std.specs.Prelude.{Bool}
 

@@ -3,7 +3,7 @@ use Rattle.std.proofs.Common.{◌≡◌, ℕ, zero, suc, ◌+◌, ◌-◌, ◌<�
 use Rattle.std.specs.Prelude.{None, slice_index_or}
 use Rattle.std.specs.List.{slice_get}
 use Rattle.lois_base.specs.declared.guards.Lit.{Lit}
-use Rattle.lois_meaning.specs.TermText.{constraint_text, guard_text, level_text, levels_text}
+use Rattle.lois_answers.specs.TermText.{constraint_text, guard_text, level_text, levels_text}
 
 -- a guard other than the constraint with one empty cube
 pub guard_text_other : (parameters : List (List ℕ)) (g : List (List Lit)) → (g ≡ [] ∷ [] → ⊥) → guard_text parameters g ≡ codes " if " ++ constraint_text parameters g

@@ -4,7 +4,7 @@ use Rattle.std.proofs.lemmas.List.{take_all}
 use Rattle.std.specs.Prelude.{Result, Ok, Err, OnOk}
 use Rattle.std.specs.List.{flat_map}
 use Rattle.lois_base.specs.Data.{TermD, terms_of, CompD, comps_of}
-use Rattle.lois_meaning.specs.TermText.{joined, term_text, part_texts, comp_text, item_texts}
+use Rattle.lois_answers.specs.TermText.{joined, term_text, part_texts, comp_text, item_texts}
 use Rattle.lois_printer.specs.Separated.{separator}
 
 joined-append : (b : List ℕ) (ts : List (List ℕ)) (t : List ℕ) → joined b (ts ++ t ∷ []) ≡ (joined b ts ++ separator (length ts) b) ++ t

@@ -2,7 +2,7 @@
 use Rattle.std.specs.Prelude.{ℕ}
 use Rattle.std.specs.List.{All}
 use Rattle.lois_base.specs.Fits.{Fits}
-use Rattle.lois_meaning.specs.ResultsData.{LineD, CaseD}
+use Rattle.lois_answers.specs.ResultsData.{LineD, CaseD}
 
 abbrev pub LineFits : ℕ → LineD → Type 0
 LineFits n l = Fits n l.term

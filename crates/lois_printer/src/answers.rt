@@ -2,18 +2,18 @@
 
 ghost use Rattle.std.specs.Prelude.{◌≡◌, ◌++◌, OnOk, IfOk, length};
 ghost use Rattle.std.specs.List.{All, flat_map};
-ghost use Rattle.lois_meaning.specs.CaseView.{case_of};
-ghost use Rattle.lois_meaning.specs.LineView.{line_of};
-ghost use Rattle.lois_meaning.specs.ResultsText.{structure_text, parameters_text, line_text, case_text, results_text};
-ghost use Rattle.lois_meaning.specs.Sound.{IsSound, IsSoundTrace};
-ghost use Rattle.lois_meaning.specs.TraceText.{kind_text, failure_text, choice_text, element_text, trace_text};
+ghost use Rattle.lois_answers.specs.CaseView.{case_of};
+ghost use Rattle.lois_answers.specs.LineView.{line_of};
+ghost use Rattle.lois_answers.specs.ResultsText.{structure_text, parameters_text, line_text, case_text, results_text};
+ghost use Rattle.lois_answers.specs.Sound.{IsSound, IsSoundTrace};
+ghost use Rattle.lois_answers.specs.TraceText.{failure_text, choice_text, element_text, trace_text};
 ghost use Rattle.lois_printer.specs.Inside.{LineFits, CaseFits};
 
 use crate::guards::append_constraint;
 use crate::pieces::{append, append_number};
 use crate::terms::append_term;
+use lois_answers::{Case, Cases, FaultKind, Line, Lines, Results, Trace};
 use lois_base::{Names, NoMemory, Numbers};
-use lois_meaning::{Case, Cases, FaultKind, Line, Lines, Results, Trace};
 use std::alloc::Global;
 
 fn structure_line(order: bool) -> &'static [u8]
@@ -114,23 +114,6 @@ pub fn print_results(alloc: Global, results: &Results) -> Result<Vec<u8>, NoMemo
     Ok(text)
 }
 
-fn kind_words(kind: FaultKind) -> &'static [u8]
-    ensures { result.now ≡ kind_text kind }
-{
-    match kind {
-        FaultKind::Assertion => b"assertion failed",
-        FaultKind::NotASet => b"not a set",
-        FaultKind::NotAtoms => b"not atoms",
-        FaultKind::NotATuple => b"not a tuple",
-        FaultKind::NoSuchPart => b"no such part",
-        FaultKind::NotAutomaton => b"not an automaton",
-        FaultKind::NotDeterministic => b"not deterministic",
-        FaultKind::NotComplete => b"not complete",
-        FaultKind::TurnLimit => b"turn limit",
-        FaultKind::DepthLimit => b"depth limit",
-    }
-}
-
 fn append_failure(
     alloc: Global,
     text: &mut Vec<u8>,
@@ -145,7 +128,7 @@ fn append_failure(
     append(text, b":")?;
     append_number(alloc, text, column as u64)?;
     append(text, b": ")?;
-    append(text, kind_words(kind))?;
+    append(text, kind.text())?;
     append(text, b"\n")
 }
 

@@ -1,7 +1,7 @@
 //! The text of constraints.
 
 ghost use Rattle.std.specs.Prelude.{◌≡◌, ◌↔◌, [], ◌∷◌, ◌++◌, OnOk, IsTrue, map, codes};
-ghost use Rattle.lois_meaning.specs.TermText.{op_text, literal_text, cube_text, constraint_text, guard_text, joined};
+ghost use Rattle.lois_answers.specs.TermText.{op_text, literal_text, cube_text, constraint_text, guard_text, joined};
 
 use crate::pieces::{append, append_operand, append_separator};
 use lois_base::{Constraint, Cube, Lit, Names, NoMemory, Op};

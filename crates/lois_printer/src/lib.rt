@@ -5,7 +5,5 @@ mod answers;
 mod guards;
 mod pieces;
 mod terms;
-#[cfg(test)]
-mod tests;
 
 pub use answers::{print_results, print_trace};

@@ -2,7 +2,7 @@
 
 ghost use Rattle.std.specs.Prelude.{◌≡◌, ◌++◌, OnOk};
 ghost use Rattle.std.specs.Fmt.{decimal};
-ghost use Rattle.lois_meaning.specs.TermText.{level_text, operand_text};
+ghost use Rattle.lois_answers.specs.TermText.{level_text, operand_text};
 ghost use Rattle.lois_printer.specs.Separated.{separator};
 
 use lois_base::{Names, NoMemory};

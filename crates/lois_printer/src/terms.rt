@@ -4,7 +4,7 @@ ghost use Rattle.std.specs.Prelude.{◌≡◌, ◌++◌, ◌+◌, ◌<◌, ◌^�
 ghost use Rattle.lois_base.specs.Data.{terms_of, comps_of};
 ghost use Rattle.lois_base.specs.Fits.{Fits, PartsFit, CompFits, ItemsFit};
 ghost use Rattle.lois_base.specs.Tree.{tree, comp_of};
-ghost use Rattle.lois_meaning.specs.TermText.{levels_text, binders_text, term_text, comp_text, joined};
+ghost use Rattle.lois_answers.specs.TermText.{levels_text, binders_text, term_text, comp_text, joined};
 
 use crate::guards::append_guard;
 use crate::pieces::{append, append_level, append_operand, append_separator};

@@ -2,7 +2,7 @@
 use Rattle.std.proofs.Common.{◌≡◌, ℕ, zero, suc, ◌<◌, Bool, true, false, cond, ◌&&◌, List, [], ◌∷◌, ◌++◌, length, Ok, refl, sym, ap, subst, ◌∙◌, append_assoc, arith, length-append}
 use Rattle.std.specs.Prelude.{codes, bytes_eq}
 use Rattle.std.specs.List.{AllByRecursion}
-use Rattle.lois_meaning.specs.ResultsText.{structure_text}
+use Rattle.lois_answers.specs.ResultsText.{structure_text}
 use Rattle.lois_reader.specs.declared.scope.Scope.{Scope}
 use Rattle.lois_reader.specs.Draft.{ConstraintDraft, TermDraft, LineDraft, CaseDraft, ResultsDraft, IsWord, IsConstraintDraft, IsTermDraft, IsLineDraft, IsCaseDraft, IsResultsDraft}
 use Rattle.lois_reader.specs.Pieces.{Piece, plain, each, constraint_pieces, term_pieces, line_end, line_pieces, case_pieces, name_pieces, last_line, results_pieces}

@@ -6,9 +6,9 @@ use Rattle.std.proofs.lemmas.List.{append-nil}
 use Rattle.std.proofs.lemmas.Bool.{and_parts, false≢true, eqb-true}
 use Rattle.lois_lexer.specs.Bytes.{is_word_byte}
 use Rattle.lois_lexer.proofs.Forms.{word_bytes}
-use Rattle.lois_meaning.specs.ResultsData.{LineD, CaseD}
-use Rattle.lois_meaning.specs.ResultsText.{structure_text}
-use Rattle.lois_meaning.specs.declared.results.Results.{Results}
+use Rattle.lois_answers.specs.ResultsData.{LineD, CaseD}
+use Rattle.lois_answers.specs.ResultsText.{structure_text}
+use Rattle.lois_answers.specs.declared.results.Results.{Results}
 use Rattle.lois_reader.specs.declared.scope.Scope.{Scope}
 use Rattle.lois_reader.specs.Draft.{LineDraft, CaseDraft, ResultsDraft, IsWord, IsLineDraft, IsCaseDraft, IsResultsDraft}
 use Rattle.lois_reader.specs.Pieces.{Piece, plain, ruled, each, is_among, is_free, constraint_pieces, term_pieces, line_end, line_pieces, case_pieces, name_pieces, last_line, results_pieces}

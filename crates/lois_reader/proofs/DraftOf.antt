@@ -20,8 +20,8 @@ use Rattle.lois_base.specs.Names.{IsName, is_letter, is_name_byte}
 use Rattle.lois_base.specs.Validity.{AdmitsLit, AdmitsCube, AdmitsConstraint, AdmitsTerm, AdmitsParts, AdmitsComp, AdmitsItems, HasUsualWidths, PartsHaveUsualWidths, CompHasUsualWidths, ItemsHaveUsualWidths, count_of_parts}
 use Rattle.lois_base.specs.declared.guards.Lit.{Lit}
 use Rattle.lois_lexer.specs.Bytes.{is_word_byte}
-use Rattle.lois_meaning.specs.Sound.{HasTags, PartsHaveTags, CompHasTags, ItemsHaveTags, AreDistinct}
-use Rattle.lois_meaning.specs.TermText as texts
+use Rattle.lois_answers.specs.Sound.{HasTags, PartsHaveTags, CompHasTags, ItemsHaveTags, AreDistinct}
+use Rattle.lois_answers.specs.TermText as texts
 use Rattle.lois_reader.specs.declared.scope.Scope.{Scope}
 use Rattle.lois_reader.specs.Draft.{Operand, word, level, LitDraft, ConstraintDraft, TermDraft, atom, tag, tuple, set, TermDrafts, no_terms, term, CompDraft, comp, CompDrafts, no_comps, more, IsWord, IsNumber, IsOperand, IsLitDraft, IsConstraintDraft, IsTermDraft, AreTermDrafts, IsCompDraft, AreCompDrafts, width, is_number}
 use Rattle.lois_reader.specs.Pieces.{Piece, plain, each, value, value_from, is_among, comma, operand_piece, literal_pieces, cube_pieces, constraint_pieces, guard_pieces, level_pieces, binder_pieces, term_pieces, part_pieces, comp_pieces, item_pieces}

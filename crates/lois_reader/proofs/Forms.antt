@@ -5,16 +5,17 @@ use Rattle.std.proofs.lemmas.Slice.Eq.{bytes_eq-Decides}
 use Rattle.std.proofs.lemmas.List.Folds.{list_any_at}
 use Rattle.std.proofs.lemmas.Map.Views.{Contains-from_any}
 use Rattle.lois_lexer.specs.Words.{reserved}
-use Rattle.lois_meaning.specs.TraceText.{kind_text}
-use Rattle.lois_meaning.specs.declared.faults.FaultKind.{FaultKind}
+use Rattle.lois_answers.specs.TraceText.{kind_text}
+use Rattle.lois_answers.specs.declared.faults.FaultKind.{FaultKind}
 use Rattle.lois_reader.specs.declared.halt.Halt.{Halt}
 use Rattle.lois_reader.specs.declared.halt.Halt.TheVariants.{Left, NoMemory}
 use Rattle.std.proofs.lemmas.List.{drop_all}
-use Rattle.std.specs.List.{list_all, list_any, prefix_len}
+use Rattle.std.specs.List.{list_any, prefix_len}
 use Rattle.std.specs.Char.{is_ascii_alphabetic}
-use Rattle.std.proofs.lemmas.Bool.{and_parts, and_from, false≢true, le-leb}
+use Rattle.std.proofs.lemmas.Bool.{false≢true, le-leb}
 use Rattle.std.proofs.lemmas.Bool.Decides.{nat_tests}
-use Rattle.lois_base.specs.Names.{IsName, is_letter, is_name_byte}
+use Rattle.lois_base.specs.Names.{IsName}
+use Rattle.lois_base.proofs.NameForm.{name_form}
 use Rattle.lois_lexer.specs.Bytes.{is_word_byte}
 use Rattle.lois_lexer.specs.Forms.{is_word_form}
 use Rattle.lois_lexer.proofs.Longest.{front_is_word}
@@ -24,27 +25,9 @@ use Rattle.lois_reader.specs.Ends.{fixed_end, word_at}
 use Rattle.lois_reader.specs.AnswerValues.{kinds_at}
 use Rattle.lois_reader.specs.Values.{value_within, keyword}
 
--- what the lexer and the vocabulary call a letter and a byte of a word is the same
-letter_is : (b : ℕ) → is_ascii_alphabetic b ≡ true → is_letter b ≡ true
-letter_is b h = grind (arith, nat_tests)
-
-byte_is : (b : ℕ) → is_word_byte b ≡ true → is_name_byte b ≡ true
-byte_is b h = grind (arith, nat_tests)
-
-bytes_are : (bs : List ℕ) → list_all is_word_byte bs ≡ true → list_all is_name_byte bs ≡ true
-bytes_are [] h = refl
-bytes_are (b ∷ bs) h =
-    let parts = and_parts (is_word_byte b) (list_all is_word_byte bs) h in
-    and_from (is_name_byte b) (list_all is_name_byte bs) (byte_is b parts.0) (bytes_are bs parts.1)
-
-letter_is_byte : (b : ℕ) → is_ascii_alphabetic b ≡ true → is_name_byte b ≡ true
-letter_is_byte b h = grind (arith, nat_tests)
-
 pub word_is_name : (w : List ℕ) → is_word_form w ≡ true → length w ≤ 64 → IsName w
 word_is_name [] form short = absurd (false≢true form)
-word_is_name (b ∷ bs) form short =
-    let parts = and_parts (is_ascii_alphabetic b) (list_all is_word_byte bs) form in
-    record { short = short; letter = letter_is b parts.0; bytes = and_from (is_name_byte b) (list_all is_name_byte bs) (letter_is_byte b parts.0) (bytes_are bs parts.1) }
+word_is_name (b ∷ bs) form short = name_form b bs form short
 
 -- the number only grows with further digits
 pub value_grows : (n : ℕ) (ds : List ℕ) → n ≤ value_from n ds

@@ -23,3 +23,5 @@ pub mod TraceFronts
 pub mod Unbroken
 pub mod UnbrokenAnswers
 pub mod Verdict
+pub mod Places
+pub mod NameLists

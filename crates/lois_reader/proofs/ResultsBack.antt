@@ -7,11 +7,11 @@ use Rattle.std.proofs.lemmas.List.Elements.{recursion_from_All}
 use Rattle.lois_base.specs.Data.{TermD}
 use Rattle.lois_base.specs.declared.guards.Lit.{Lit}
 use Rattle.lois_lexer.specs.Words.{reserved}
-use Rattle.lois_meaning.specs.ResultsData.{LineD, CaseD}
-use Rattle.lois_meaning.specs.ResultsText as rt
-use Rattle.lois_meaning.specs.Sound.{IsFreeName, IsSoundLine, AreDistinct, AreParameters, IsSoundCase, IsSound}
-use Rattle.lois_meaning.specs.TermText as texts
-use Rattle.lois_meaning.specs.declared.results.Results.{Results}
+use Rattle.lois_answers.specs.ResultsData.{LineD, CaseD}
+use Rattle.lois_answers.specs.ResultsText as rt
+use Rattle.lois_answers.specs.Sound.{IsFreeName, IsSoundLine, AreDistinct, AreParameters, IsSoundCase, IsSound}
+use Rattle.lois_answers.specs.TermText as texts
+use Rattle.lois_answers.specs.declared.results.Results.{Results}
 use Rattle.lois_reader.specs.declared.scope.Scope.{Scope}
 use Rattle.lois_reader.specs.Draft.{LineDraft, CaseDraft, ResultsDraft, IsWord, IsLineDraft, IsCaseDraft, IsResultsDraft}
 use Rattle.lois_reader.specs.Pieces.{Piece, each, is_among, is_free, constraint_pieces, term_pieces, line_end, line_pieces, case_pieces, name_pieces, last_line, results_pieces}

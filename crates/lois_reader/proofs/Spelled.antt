@@ -6,7 +6,7 @@ use Rattle.std.proofs.lemmas.Bool.{and_parts, false≢true, not-true}
 use Rattle.std.proofs.lemmas.Slice.Eq.{bytes_eq-Decides}
 use Rattle.lois_base.specs.declared.guards.Op.{Op}
 use Rattle.lois_base.specs.declared.guards.Op.TheVariants.{Eq, Ne, Lt}
-use Rattle.lois_meaning.specs.TermText.{op_text}
+use Rattle.lois_answers.specs.TermText.{op_text}
 use Rattle.lois_reader.specs.declared.constraint_ends.Joint.{Joint}
 use Rattle.lois_reader.specs.declared.constraint_ends.Joint.TheVariants.{Start, And, Or}
 use Rattle.lois_reader.specs.declared.scope.Scope.{Scope}

@@ -4,10 +4,10 @@ use Rattle.std.specs.Prelude.{codes, bytes_eq}
 use Rattle.std.specs.List.{AllByRecursion}
 use Rattle.std.proofs.lemmas.Bool.{and_parts}
 use Rattle.std.proofs.lemmas.Slice.Eq.{bytes_eq-Decides}
-use Rattle.lois_meaning.specs.ResultsText.{structure_text}
-use Rattle.lois_meaning.specs.TraceText.{kind_text}
-use Rattle.lois_meaning.specs.declared.faults.FaultKind.{FaultKind}
-use Rattle.lois_meaning.specs.declared.faults.FaultKind.TheVariants.{Assertion, NotASet, NotAtoms, NotATuple, NoSuchPart, NotAutomaton, NotDeterministic, NotComplete, TurnLimit, DepthLimit}
+use Rattle.lois_answers.specs.ResultsText.{structure_text}
+use Rattle.lois_answers.specs.TraceText.{kind_text}
+use Rattle.lois_answers.specs.declared.faults.FaultKind.{FaultKind}
+use Rattle.lois_answers.specs.declared.faults.FaultKind.TheVariants.{Assertion, NotASet, NotAtoms, NotATuple, NoSuchPart, NotAutomaton, NotDeterministic, NotComplete, TurnLimit, DepthLimit}
 use Rattle.lois_reader.specs.declared.scope.Scope.{Scope}
 use Rattle.lois_reader.specs.Draft.{ConstraintDraft, TermDraft, LineDraft, CaseDraft, ResultsDraft, TraceDraft, IsWord, IsNumber, IsConstraintDraft, IsTermDraft, IsLineDraft, IsCaseDraft, IsResultsDraft, IsTraceDraft}
 use Rattle.lois_reader.specs.Draft as draft

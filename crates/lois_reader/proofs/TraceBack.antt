@@ -6,15 +6,15 @@ use Rattle.std.specs.List.{AllByRecursion, flat_map}
 use Rattle.std.proofs.lemmas.List.{append-nil}
 use Rattle.std.proofs.lemmas.List.Concat.{flat_map-cons}
 use Rattle.std.proofs.lemmas.List.Elements.{recursion_from_All}
-use Rattle.lois_meaning.specs.ResultsData.{LineD}
-use Rattle.lois_meaning.specs.ResultsText as rt
-use Rattle.lois_meaning.specs.Sound.{IsSoundLine, IsPlaceNumber, IsSoundTrace}
-use Rattle.lois_meaning.specs.TermText as texts
-use Rattle.lois_meaning.specs.TraceText as tt_
-use Rattle.lois_meaning.specs.declared.faults.Answer.{Answer}
-use Rattle.lois_meaning.specs.declared.faults.Answer.TheVariants as answers
-use Rattle.lois_meaning.specs.declared.faults.FaultKind.{FaultKind}
-use Rattle.lois_meaning.specs.declared.faults.Trace.{Trace}
+use Rattle.lois_answers.specs.ResultsData.{LineD}
+use Rattle.lois_answers.specs.ResultsText as rt
+use Rattle.lois_answers.specs.Sound.{IsSoundLine, IsPlaceNumber, IsSoundTrace}
+use Rattle.lois_answers.specs.TermText as texts
+use Rattle.lois_answers.specs.TraceText as tt_
+use Rattle.lois_answers.specs.declared.faults.Answer.{Answer}
+use Rattle.lois_answers.specs.declared.faults.Answer.TheVariants as answers
+use Rattle.lois_answers.specs.declared.faults.FaultKind.{FaultKind}
+use Rattle.lois_answers.specs.declared.faults.Trace.{Trace}
 use Rattle.lois_reader.specs.declared.scope.Scope.{Scope}
 use Rattle.lois_reader.specs.Draft.{LineDraft, TraceDraft, AnswerDraft, IsNumber, IsTraceDraft}
 use Rattle.lois_reader.specs.Draft as draft

@@ -8,7 +8,7 @@ use Rattle.std.proofs.lemmas.Bool.Decides.{nat_tests}
 use Rattle.std.proofs.lemmas.List.Elements.{All-from_recursion}
 use Rattle.std.proofs.lemmas.Slice.Eq.{bytes_eq-Decides}
 use Rattle.lois_lexer.specs.Words.{reserved}
-use Rattle.lois_meaning.specs.Sound.{IsFreeName, IsSoundLine, AreDistinct, AreParameters, IsSoundCase, IsSound, IsPlaceNumber, IsSoundTrace}
+use Rattle.lois_answers.specs.Sound.{IsFreeName, IsSoundLine, AreDistinct, AreParameters, IsSoundCase, IsSound, IsPlaceNumber, IsSoundTrace}
 use Rattle.lois_reader.specs.declared.scope.Scope.{Scope}
 use Rattle.lois_reader.specs.Draft.{ConstraintDraft, TermDraft, LineDraft, CaseDraft, ResultsDraft, TraceDraft, IsWord, IsNumber, IsLineDraft, IsCaseDraft, IsResultsDraft, IsTraceDraft}
 use Rattle.lois_reader.specs.Pieces.{Piece, plain, ruled, each, value, is_among, is_free, constraint_pieces, term_pieces, line_end, line_pieces, case_pieces, name_pieces, last_line, results_pieces, failure_pieces, trace_pieces}

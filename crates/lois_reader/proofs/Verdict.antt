@@ -1,7 +1,7 @@
 -- What reading gives, and what an error says of the text.
 use Rattle.std.proofs.Common.{◌≡◌, ℕ, ◌+◌, ◌-◌, ◌^◌, ◌<◌, ◌⊎◌, inl, inr, List, [], length, Some, None, Result, Ok, Err, refl, sym, ap, subst, ◌∙◌, arith, length-append}
-use Rattle.lois_meaning.specs.declared.faults.Answer.{Answer}
-use Rattle.lois_meaning.specs.declared.results.Results.{Results}
+use Rattle.lois_answers.specs.declared.faults.Answer.{Answer}
+use Rattle.lois_answers.specs.declared.results.Results.{Results}
 use Rattle.lois_reader.specs.Draft.{ResultsDraft, TraceDraft, AnswerDraft}
 use Rattle.lois_reader.specs.Draft as draft
 use Rattle.lois_reader.specs.Pieces.{Piece, results_pieces, trace_pieces, answer_pieces}
@@ -11,6 +11,7 @@ use Rattle.lois_reader.specs.Refusal.{IsResultsOf, IsAnswerOf, HasNone, IsPlace,
 use Rattle.lois_reader.specs.AnswerEnds.{results_text_end, answer_text_end}
 use Rattle.lois_reader.specs.AnswerValues.{results_text_at, answer_text_at}
 use Rattle.lois_reader.specs.declared.ResultError.{ResultError}
+use Rattle.lois_reader.specs.declared.ResultError.TheVariants.{NotResults, NoMemory}
 use Rattle.lois_reader.specs.declared.halt.Halt.{Halt}
 use Rattle.lois_reader.specs.declared.halt.Halt.TheVariants as halts
 use Rattle.lois_reader.proofs.Outcome.{size, size_is, out}
@@ -101,6 +102,11 @@ module _ {V D : Type 0} (ends : List ℕ → End) (value_at : List ℕ → Resul
     none_of s halts.NoMemory e short failed is_error = subst (HasNone (Holds s)) (sym is_error) tt
     none_of s (halts.Left left) e short failed is_error = subst (HasNone (Holds s)) (sym is_error) (λ v holds. no_ok (sym failed ∙ reader.back s v short holds))
 
+-- a text that is some value's isn't refused
+pub accepted_value : {V : Type 0} (Holds : V → Type 0) (e : ResultError) → HasNone Holds e → (v : V) → Holds v → e ≡ NoMemory
+accepted_value Holds NoMemory none v holds = refl
+accepted_value Holds (NotResults k) none v holds = absurd (none v holds)
+
 -- ---- results
 
 results_reads : (s : List ℕ) (d : ResultsDraft) → SpellsResults s d → results_reading s ≡ (out (results_pieces d) (results_of d) [] >>= λ x. Ok x.0)
@@ -130,6 +136,10 @@ results_reader = record {
 
 pub results_hold : (s : List ℕ) (r : Results) → length s < 2 ^ 64 → results_reading s ≡ Ok r → IsResultsOf s r
 results_hold = read_holds results_text_end results_text_at SpellsResults results_pieces results_of IsResultsOf results_reader
+
+-- what is read is the one value of the text
+pub results_those : (s : List ℕ) (r other : Results) → length s < 2 ^ 64 → results_reading s ≡ Ok r → IsResultsOf s other → r ≡ other
+results_those s r other short e holds = same_ok (sym e ∙ results_known s other short holds)
 
 pub results_place : (s : List ℕ) (h : Halt) (e : ResultError) → length s < 2 ^ 64 → Fails h (results_reading s) → IsErrorOfHalt (length s) h e → IsPlace HasResultsShape SpellsResults results_pieces s e
 results_place = place_of results_text_end results_text_at SpellsResults results_pieces results_of IsResultsOf results_reader
@@ -169,6 +179,9 @@ answer_reader = record {
 
 pub answer_holds : (s : List ℕ) (a : Answer) → length s < 2 ^ 64 → answer_reading s ≡ Ok a → IsAnswerOf s a
 answer_holds = read_holds answer_text_end answer_text_at SpellsAnswer answer_pieces answer_of IsAnswerOf answer_reader
+
+pub answer_those : (s : List ℕ) (a other : Answer) → length s < 2 ^ 64 → answer_reading s ≡ Ok a → IsAnswerOf s other → a ≡ other
+answer_those s a other short e holds = same_ok (sym e ∙ answer_known s other short holds)
 
 pub answer_place : (s : List ℕ) (h : Halt) (e : ResultError) → length s < 2 ^ 64 → Fails h (answer_reading s) → IsErrorOfHalt (length s) h e → IsPlace HasAnswerShape SpellsAnswer answer_pieces s e
 answer_place = place_of answer_text_end answer_text_at SpellsAnswer answer_pieces answer_of IsAnswerOf answer_reader

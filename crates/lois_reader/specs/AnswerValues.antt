@@ -1,13 +1,13 @@
 -- What the texts of results and of traces stand for, or the first side rule that they break.
 use Rattle.std.specs.Prelude.{ℕ, zero, suc, ◌^◌, Bool, true, false, ◌&&◌, not, nat_le, List, [], ◌∷◌, ◌++◌, length, Result, Ok, Err, codes, is_ok, if◌then◌else◌}
-use Rattle.lois_meaning.specs.ResultsData.{LineD, CaseD}
-use Rattle.lois_meaning.specs.TraceText.{kind_text}
-use Rattle.lois_meaning.specs.declared.faults.FaultKind.{FaultKind}
-use Rattle.lois_meaning.specs.declared.faults.FaultKind.TheVariants.{Assertion, NotASet, NotAtoms, NotATuple, NoSuchPart, NotAutomaton, NotDeterministic, NotComplete, TurnLimit, DepthLimit}
-use Rattle.lois_meaning.specs.declared.faults.Answer.{Answer}
-use Rattle.lois_meaning.specs.declared.faults.Answer.TheVariants as answers
-use Rattle.lois_meaning.specs.declared.faults.Trace.{Trace}
-use Rattle.lois_meaning.specs.declared.results.Results.{Results}
+use Rattle.lois_answers.specs.ResultsData.{LineD, CaseD}
+use Rattle.lois_answers.specs.TraceText.{kind_text}
+use Rattle.lois_answers.specs.declared.faults.FaultKind.{FaultKind}
+use Rattle.lois_answers.specs.declared.faults.FaultKind.TheVariants.{Assertion, NotASet, NotAtoms, NotATuple, NoSuchPart, NotAutomaton, NotDeterministic, NotComplete, TurnLimit, DepthLimit}
+use Rattle.lois_answers.specs.declared.faults.Answer.{Answer}
+use Rattle.lois_answers.specs.declared.faults.Answer.TheVariants as answers
+use Rattle.lois_answers.specs.declared.faults.Trace.{Trace}
+use Rattle.lois_answers.specs.declared.results.Results.{Results}
 use Rattle.lois_reader.specs.declared.scope.Scope.{Scope}
 use Rattle.lois_reader.specs.Reading.{◌>>=◌, End, begins}
 use Rattle.lois_reader.specs.Ends.{fixed_end, word_at, number_at}

@@ -4,7 +4,7 @@ use Rattle.std.specs.Char.{is_ascii_digit}
 use Rattle.std.specs.List.{list_all, AllByRecursion}
 use Rattle.lois_base.specs.declared.guards.Op.{Op}
 use Rattle.lois_lexer.specs.Forms.{is_word_form}
-use Rattle.lois_meaning.specs.declared.faults.FaultKind.{FaultKind}
+use Rattle.lois_answers.specs.declared.faults.FaultKind.{FaultKind}
 
 -- a word, or a level by its digits
 pub data Operand : Type 0 where

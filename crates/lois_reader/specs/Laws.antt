@@ -1,10 +1,10 @@
 -- Texts tell their values apart.
 use Rattle.std.specs.Prelude.{◌≡◌, ◌<◌, ◌^◌, length}
-use Rattle.lois_meaning.specs.ResultsText.{results_text}
-use Rattle.lois_meaning.specs.Sound.{IsSound}
-use Rattle.lois_meaning.specs.TraceText.{answer_text}
-use Rattle.lois_meaning.specs.declared.faults.Answer.{Answer}
-use Rattle.lois_meaning.specs.declared.results.Results.{Results}
+use Rattle.lois_answers.specs.ResultsText.{results_text}
+use Rattle.lois_answers.specs.Sound.{IsSound}
+use Rattle.lois_answers.specs.TraceText.{answer_text}
+use Rattle.lois_answers.specs.declared.faults.Answer.{Answer}
+use Rattle.lois_answers.specs.declared.results.Results.{Results}
 use Rattle.lois_reader.specs.Refusal.{IsSoundAnswer}
 
 -- sound results with the same text are the same

@@ -4,9 +4,9 @@ use Rattle.std.specs.List.{list_any}
 use Rattle.lois_base.specs.Validity.{is_admitted}
 use Rattle.lois_base.specs.declared.guards.Op.{Op}
 use Rattle.lois_lexer.specs.Words.{reserved}
-use Rattle.lois_meaning.specs.ResultsText.{structure_text}
-use Rattle.lois_meaning.specs.TermText.{op_text}
-use Rattle.lois_meaning.specs.TraceText.{kind_text}
+use Rattle.lois_answers.specs.ResultsText.{structure_text}
+use Rattle.lois_answers.specs.TermText.{op_text}
+use Rattle.lois_answers.specs.TraceText.{kind_text}
 use Rattle.lois_reader.specs.declared.scope.Scope.{Scope}
 use Rattle.lois_reader.specs.Draft.{Operand, word, level, LitDraft, ConstraintDraft, TermDraft, atom, tag, tuple, set, TermDrafts, no_terms, term, CompDraft, comp, CompDrafts, no_comps, more, LineDraft, CaseDraft, ResultsDraft, TraceDraft, AnswerDraft, results, trace, width}
 

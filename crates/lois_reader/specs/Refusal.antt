@@ -4,12 +4,12 @@ use Rattle.lois_reader.specs.Pieces.{Piece}
 use Rattle.lois_reader.specs.Shape.{LeavesShapeAt, BreaksRuleAt}
 use Rattle.lois_reader.specs.declared.ResultError.{ResultError}
 use Rattle.lois_reader.specs.declared.ResultError.TheVariants.{NotResults, NoMemory}
-use Rattle.lois_meaning.specs.Sound.{IsSound, IsSoundTrace}
-use Rattle.lois_meaning.specs.declared.faults.Answer.{Answer}
-use Rattle.lois_meaning.specs.declared.faults.Answer.TheVariants as answers
-use Rattle.lois_meaning.specs.declared.results.Results.{Results}
-use Rattle.lois_meaning.specs.ResultsText.{results_text}
-use Rattle.lois_meaning.specs.TraceText.{answer_text}
+use Rattle.lois_answers.specs.Sound.{IsSound, IsSoundTrace}
+use Rattle.lois_answers.specs.declared.faults.Answer.{Answer}
+use Rattle.lois_answers.specs.declared.faults.Answer.TheVariants as answers
+use Rattle.lois_answers.specs.declared.results.Results.{Results}
+use Rattle.lois_answers.specs.ResultsText.{results_text}
+use Rattle.lois_answers.specs.TraceText.{answer_text}
 use Rattle.lois_reader.specs.declared.halt.Halt.{Halt}
 use Rattle.lois_reader.specs.declared.halt.Halt.TheVariants as halts
 use Rattle.lois_reader.specs.Reading.{◌>>=◌}

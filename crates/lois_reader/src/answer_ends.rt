@@ -8,9 +8,7 @@ use crate::constraint_ends::constraint_end;
 use crate::halt::Halt;
 use crate::term_ends::term_end;
 use crate::words::{begins, fixed_end, number_end, word_at, word_end};
-
-/// How many brackets may be open at one place.
-const MOST_BRACKETS: usize = 64;
+use lois_base::limits::MOST_OPEN_BRACKETS;
 
 #[tactic(auto, unfolding(crate::specs::AnswerEnds::structure_end))]
 fn structure_end(bytes: &[u8]) -> Result<&[u8], Halt>
@@ -70,7 +68,7 @@ fn body_end(bytes: &[u8]) -> Result<&[u8], Halt>
     ensures end { Gives (λ r. r.now) result (body_end bytes.now) }
     ensures shorter { IfOk result (λ r. length r.now < length bytes.now) }
 {
-    fixed_end(b"\n", term_end(bytes, MOST_BRACKETS)?)
+    fixed_end(b"\n", term_end(bytes, MOST_OPEN_BRACKETS)?)
 }
 
 /// What follows the line, where this is behind `case`.

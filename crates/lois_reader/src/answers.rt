@@ -1,30 +1,26 @@
 //! What the texts of results and of traces stand for.
 
 ghost use Rattle.std.specs.Prelude.{◌≡◌, ◌<◌, ◌≤◌, [], length, IfOk, suc};
-ghost use Rattle.lois_meaning.specs.CaseView.{case_of};
-ghost use Rattle.lois_meaning.specs.LineView.{line_of};
-ghost use Rattle.lois_meaning.specs.TraceText.{kind_text};
-ghost use Rattle.lois_reader.specs.Pieces.{is_among, is_free};
+ghost use Rattle.lois_answers.specs.CaseView.{case_of};
+ghost use Rattle.lois_answers.specs.LineView.{line_of};
+ghost use Rattle.lois_reader.specs.Pieces.{is_free};
 ghost use Rattle.lois_reader.specs.Reading.{Gives};
 ghost use Rattle.lois_reader.specs.AnswerValues.{names_at, structure_at, parameters_at, head_at, name_at, line_at, starts_with, line_follows, lines_at, case_at, cases_at, results_at, place_at, kind_at, failure_at, number_of_choice_at, numbers_at, choice_at, element_at, elements_at, trace_at, results_text_at, version_at, answer_text_at};
 
 use crate::constraints::{constraint_at, value_of, value_within};
 use crate::halt::Halt;
+use crate::parameters::Parameters;
 use crate::scope::Scope;
 use crate::terms::{name_of, term_at};
 use crate::words::{begins, fixed_end, number_at, word_at};
-use lois_base::{Name, Names, Numbers};
+use lois_answers::{Answer, Case, Cases, FaultKind, Line, Lines, Results, Trace};
+use lois_base::limits::{LONGEST_NAME, LONGEST_TEXT, MOST_OPEN_BRACKETS};
+use lois_base::{Name, Numbers};
 use lois_lexer::is_reserved;
-use lois_meaning::{Answer, Case, Cases, FaultKind, Line, Lines, Results, Trace};
 use std::alloc::Global;
 
-/// How many brackets may be open at one place.
-const MOST_BRACKETS: usize = 64;
-
-const LONGEST_NAME: usize = 64;
-
 /// One more than the last place of the longest script, as a line or as a column.
-const PLACES_END: usize = 1_048_578;
+const PLACES_END: usize = LONGEST_TEXT + 2;
 
 /// Whether a name may be so: at most 64 bytes, and no word of the language.
 fn is_free(word: &[u8]) -> bool
@@ -33,26 +29,20 @@ fn is_free(word: &[u8]) -> bool
     word.len() <= LONGEST_NAME && !is_reserved(word)
 }
 
-fn is_among(names: &Names, word: &[u8]) -> bool
-    ensures { result ≡ is_among names.now word.now }
-{
-    names.as_slice().iter().any(|name| word == name.bytes())
-}
-
 /// The parameters.
-fn names_at(alloc: Global, bytes: &[u8]) -> Result<(Names, &[u8]), Halt>
+fn names_at(alloc: Global, bytes: &[u8]) -> Result<(Parameters<'_>, &[u8]), Halt>
     ensures names { Gives (λ x. (x.0, x.1.now)) result (names_at (suc (length bytes.now)) [] bytes.now) }
     ensures shorter { IfOk result (λ x. length x.1.now ≤ length bytes.now) }
 {
-    let mut names = Names::new(alloc);
+    let mut names = Parameters::new(alloc);
     let mut rest = bytes;
     while begins(rest, b' ') {
         let inside = fixed_end(b" ", rest)?;
         let (word, after) = word_at(inside)?;
-        if !is_free(word) || is_among(&names, word) {
+        if !is_free(word) || names.contains(word) {
             return Err(Halt::Left(inside.len()));
         }
-        names.push(name_of(alloc, word)?)?;
+        names = names.with(word, name_of(alloc, word)?)?;
         rest = after;
     }
     Ok((names, rest))
@@ -72,7 +62,7 @@ fn structure_at(bytes: &[u8]) -> Result<(bool, &[u8]), Halt>
 }
 
 #[tactic(auto, unfolding(crate::specs::AnswerValues::parameters_at))]
-fn parameters_at(alloc: Global, bytes: &[u8]) -> Result<(Names, &[u8]), Halt>
+fn parameters_at(alloc: Global, bytes: &[u8]) -> Result<(Parameters<'_>, &[u8]), Halt>
     ensures names { Gives (λ x. (x.0, x.1.now)) result (parameters_at bytes.now) }
     ensures shorter { IfOk result (λ x. length x.1.now < length bytes.now) }
 {
@@ -81,7 +71,7 @@ fn parameters_at(alloc: Global, bytes: &[u8]) -> Result<(Names, &[u8]), Halt>
 
 /// The structure and the parameters, where this is behind the version.
 #[tactic(auto, unfolding(crate::specs::AnswerValues::head_at))]
-fn head_at(alloc: Global, bytes: &[u8]) -> Result<(Scope, &[u8]), Halt>
+fn head_at(alloc: Global, bytes: &[u8]) -> Result<(Scope<'_>, &[u8]), Halt>
     ensures scope { Gives (λ x. (x.0, x.1.now)) result (head_at bytes.now) }
     ensures shorter { IfOk result (λ x. length x.1.now < length bytes.now) }
 {
@@ -107,7 +97,7 @@ fn name_at(alloc: Global, bytes: &[u8]) -> Result<(Name, &[u8]), Halt>
 #[tactic(auto, unfolding(crate::specs::AnswerValues::line_at))]
 fn line_at<'a>(
     alloc: Global,
-    scope: &Scope,
+    scope: &Scope<'_>,
     levels: usize,
     bytes: &'a [u8],
 ) -> Result<(Line, &'a [u8]), Halt>
@@ -116,7 +106,7 @@ fn line_at<'a>(
 {
     let (name, rest) = name_at(alloc, bytes)?;
     let rest = fixed_end(b" = ", rest)?;
-    let (term, rest) = term_at(alloc, scope, levels, MOST_BRACKETS, rest)?;
+    let (term, rest) = term_at(alloc, scope, levels, MOST_OPEN_BRACKETS, rest)?;
     let rest = fixed_end(b"\n", rest)?;
     Ok((Line { name, term }, rest))
 }
@@ -141,7 +131,7 @@ fn line_follows(bytes: &[u8]) -> bool
 #[tactic(auto, unfolding(crate::specs::AnswerValues::lines_at))]
 fn lines_at<'a>(
     alloc: Global,
-    scope: &Scope,
+    scope: &Scope<'_>,
     levels: usize,
     bytes: &'a [u8],
 ) -> Result<(Lines, &'a [u8]), Halt>
@@ -159,7 +149,7 @@ fn lines_at<'a>(
 }
 
 #[tactic(auto, unfolding(crate::specs::AnswerValues::case_at))]
-fn case_at<'a>(alloc: Global, scope: &Scope, bytes: &'a [u8]) -> Result<(Case, &'a [u8]), Halt>
+fn case_at<'a>(alloc: Global, scope: &Scope<'_>, bytes: &'a [u8]) -> Result<(Case, &'a [u8]), Halt>
     ensures case { Gives (λ x. (case_of x.0, x.1.now)) result (case_at scope.now bytes.now) }
     ensures shorter { IfOk result (λ x. length x.1.now < length bytes.now) }
 {
@@ -172,7 +162,11 @@ fn case_at<'a>(alloc: Global, scope: &Scope, bytes: &'a [u8]) -> Result<(Case, &
 }
 
 #[tactic(auto, unfolding(crate::specs::AnswerValues::cases_at))]
-fn cases_at<'a>(alloc: Global, scope: &Scope, bytes: &'a [u8]) -> Result<(Cases, &'a [u8]), Halt>
+fn cases_at<'a>(
+    alloc: Global,
+    scope: &Scope<'_>,
+    bytes: &'a [u8],
+) -> Result<(Cases, &'a [u8]), Halt>
     ensures cases { Gives (λ x. (x.0, x.1.now)) result (cases_at scope.now bytes.now) }
     ensures shorter { IfOk result (λ x. length x.1.now ≤ length bytes.now) }
 {
@@ -199,7 +193,7 @@ fn results_at(alloc: Global, bytes: &[u8]) -> Result<(Results, &[u8]), Halt>
     Ok((
         Results {
             order: ordered,
-            parameters: names,
+            parameters: names.into_names(),
             cases,
         },
         rest,
@@ -217,23 +211,6 @@ fn place_at(bytes: &[u8]) -> Result<(usize, &[u8]), Halt>
         return Err(Halt::Left(bytes.len()));
     };
     Ok((place, rest))
-}
-
-fn kind_text(kind: FaultKind) -> &'static [u8]
-    ensures { result.now ≡ kind_text kind }
-{
-    match kind {
-        FaultKind::Assertion => b"assertion failed",
-        FaultKind::NotASet => b"not a set",
-        FaultKind::NotAtoms => b"not atoms",
-        FaultKind::NotATuple => b"not a tuple",
-        FaultKind::NoSuchPart => b"no such part",
-        FaultKind::NotAutomaton => b"not an automaton",
-        FaultKind::NotDeterministic => b"not deterministic",
-        FaultKind::NotComplete => b"not complete",
-        FaultKind::TurnLimit => b"turn limit",
-        FaultKind::DepthLimit => b"depth limit",
-    }
 }
 
 /// The kind of a failure. No kind's text begins with another's.
@@ -255,7 +232,7 @@ fn kind_at(bytes: &[u8]) -> Result<(FaultKind, &[u8]), Halt>
         FaultKind::DepthLimit,
     ];
     for kind in kinds {
-        if let Ok(rest) = fixed_end(kind_text(kind), bytes) {
+        if let Ok(rest) = fixed_end(kind.text(), bytes) {
             return Ok((kind, rest));
         }
     }
@@ -318,7 +295,7 @@ fn choice_at(alloc: Global, fewest: usize, bytes: &[u8]) -> Result<(Numbers, &[u
 #[tactic(auto, unfolding(crate::specs::AnswerValues::element_at))]
 fn element_at<'a>(
     alloc: Global,
-    scope: &Scope,
+    scope: &Scope<'_>,
     levels: usize,
     bytes: &'a [u8],
 ) -> Result<(Line, &'a [u8]), Halt>
@@ -331,7 +308,7 @@ fn element_at<'a>(
 #[tactic(auto, unfolding(crate::specs::AnswerValues::elements_at))]
 fn elements_at<'a>(
     alloc: Global,
-    scope: &Scope,
+    scope: &Scope<'_>,
     levels: usize,
     bytes: &'a [u8],
 ) -> Result<(Lines, &'a [u8]), Halt>
@@ -363,7 +340,7 @@ fn trace_at(alloc: Global, bytes: &[u8]) -> Result<(Trace, &[u8]), Halt>
     Ok((
         Trace {
             order: ordered,
-            parameters: names,
+            parameters: names.into_names(),
             line,
             column,
             kind,

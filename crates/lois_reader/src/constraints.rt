@@ -1,14 +1,15 @@
 //! What constraints stand for.
 
-ghost use Rattle.std.specs.Prelude.{◌≡◌, ◌+◌, ◌-◌, ◌*◌, ◌^◌, ◌<◌, length, IfOk, IfSome, Some, None, position, bytes_eq, option_map, nat_lt, if◌then◌else◌};
+ghost use Rattle.std.specs.Prelude.{◌≡◌, ◌+◌, ◌-◌, ◌*◌, ◌^◌, ◌<◌, length, IfOk, IfSome, Some, None, option_map, nat_lt, if◌then◌else◌};
 ghost use Rattle.lois_reader.specs.Pieces.{value};
 ghost use Rattle.lois_reader.specs.Reading.{Gives};
 ghost use Rattle.lois_reader.specs.Values.{value_within, level_at, parameter_at, operand_at, op_at, literal_at, keyword, follows, literals_at, cube_at, cubes_at, constraint_at};
 
 use crate::halt::Halt;
+use crate::parameters::Parameters;
 use crate::scope::Scope;
 use crate::words::{begins, begins_op, fixed_end, number_at, word_at};
-use lois_base::{Constraint, Cube, Lit, Names, Op};
+use lois_base::{Constraint, Cube, Lit, Op};
 use std::alloc::Global;
 
 /// The value with another digit behind it, where it is a usize.
@@ -44,7 +45,11 @@ pub fn value_within(digits: &[u8], low: usize, high: usize) -> Option<usize>
 
 /// The level that is written here: no parameter's, and below `levels`.
 #[tactic(auto, unfolding(crate::specs::Values::level_at))]
-fn level_at<'a>(names: &Names, levels: usize, bytes: &'a [u8]) -> Result<(usize, &'a [u8]), Halt>
+fn level_at<'a>(
+    names: &Parameters<'_>,
+    levels: usize,
+    bytes: &'a [u8],
+) -> Result<(usize, &'a [u8]), Halt>
     ensures level { Gives (λ x. (x.0, x.1.now)) result (level_at names.now levels bytes.now) }
     ensures shorter { IfOk result (λ x. length x.1.now < length bytes.now) }
 {
@@ -55,23 +60,14 @@ fn level_at<'a>(names: &Names, levels: usize, bytes: &'a [u8]) -> Result<(usize,
     Ok((level, rest))
 }
 
-pub fn place_of_name(names: &Names, word: &[u8]) -> Option<usize>
-    ensures { result ≡ position (bytes_eq word.now) names.now }
-{
-    names
-        .as_slice()
-        .iter()
-        .position(|name| word == name.bytes())
-}
-
 /// The level of the parameter whose name stands here.
 #[tactic(auto, unfolding(crate::specs::Values::parameter_at))]
-fn parameter_at<'a>(names: &Names, bytes: &'a [u8]) -> Result<(usize, &'a [u8]), Halt>
+fn parameter_at<'a>(names: &Parameters<'_>, bytes: &'a [u8]) -> Result<(usize, &'a [u8]), Halt>
     ensures level { Gives (λ x. (x.0, x.1.now)) result (parameter_at names.now bytes.now) }
     ensures shorter { IfOk result (λ x. length x.1.now < length bytes.now) }
 {
     let (word, rest) = word_at(bytes)?;
-    let Some(level) = place_of_name(names, word) else {
+    let Some(level) = names.place(word) else {
         return Err(Halt::Left(bytes.len()));
     };
     Ok((level, rest))
@@ -80,7 +76,7 @@ fn parameter_at<'a>(names: &Names, bytes: &'a [u8]) -> Result<(usize, &'a [u8]),
 /// The level that an operand stands for.
 #[tactic(auto, unfolding(crate::specs::Values::operand_at))]
 pub fn operand_at<'a>(
-    scope: &Scope,
+    scope: &Scope<'_>,
     levels: usize,
     bytes: &'a [u8],
 ) -> Result<(usize, &'a [u8]), Halt>
@@ -112,7 +108,11 @@ fn op_at(ordered: bool, bytes: &[u8]) -> Result<(Op, &[u8]), Halt>
 }
 
 #[tactic(auto, unfolding(crate::specs::Values::literal_at))]
-fn literal_at<'a>(scope: &Scope, levels: usize, bytes: &'a [u8]) -> Result<(Lit, &'a [u8]), Halt>
+fn literal_at<'a>(
+    scope: &Scope<'_>,
+    levels: usize,
+    bytes: &'a [u8],
+) -> Result<(Lit, &'a [u8]), Halt>
     ensures literal { Gives (λ x. (x.0, x.1.now)) result (literal_at scope.now levels bytes.now) }
     ensures shorter { IfOk result (λ x. length x.1.now < length bytes.now) }
 {
@@ -150,7 +150,7 @@ pub fn follows(bytes: &[u8], byte: u8) -> bool
 #[tactic(auto, unfolding(crate::specs::Values::literals_at))]
 fn literals_at<'a>(
     alloc: Global,
-    scope: &Scope,
+    scope: &Scope<'_>,
     levels: usize,
     bytes: &'a [u8],
 ) -> Result<(Cube, &'a [u8]), Halt>
@@ -172,7 +172,7 @@ fn literals_at<'a>(
 #[tactic(auto, unfolding(crate::specs::Values::cube_at))]
 fn cube_at<'a>(
     alloc: Global,
-    scope: &Scope,
+    scope: &Scope<'_>,
     levels: usize,
     bytes: &'a [u8],
 ) -> Result<(Cube, &'a [u8]), Halt>
@@ -188,7 +188,7 @@ fn cube_at<'a>(
 #[tactic(auto, unfolding(crate::specs::Values::cubes_at))]
 fn cubes_at<'a>(
     alloc: Global,
-    scope: &Scope,
+    scope: &Scope<'_>,
     levels: usize,
     bytes: &'a [u8],
 ) -> Result<(Constraint, &'a [u8]), Halt>
@@ -211,7 +211,7 @@ fn cubes_at<'a>(
 #[tactic(auto, unfolding(crate::specs::Values::constraint_at))]
 pub fn constraint_at<'a>(
     alloc: Global,
-    scope: &Scope,
+    scope: &Scope<'_>,
     levels: usize,
     bytes: &'a [u8],
 ) -> Result<(Constraint, &'a [u8]), Halt>

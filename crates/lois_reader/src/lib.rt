@@ -9,12 +9,11 @@ mod constraint_ends;
 mod constraints;
 mod halt;
 pub mod laws;
+mod parameters;
 mod reading;
 mod scope;
 mod term_ends;
 mod terms;
-#[cfg(test)]
-mod tests;
 mod words;
 
 pub use reading::{read_answer, read_results};

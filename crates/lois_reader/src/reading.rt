@@ -1,21 +1,22 @@
 //! The readers of whole texts.
 
 ghost use Rattle.std.specs.Prelude.{◌≡◌, IfOk, IfErr, length};
-ghost use Rattle.lois_meaning.specs.ResultsText.{results_text};
-ghost use Rattle.lois_meaning.specs.Sound.{IsSound};
-ghost use Rattle.lois_meaning.specs.TraceText.{answer_text};
-ghost use Rattle.lois_meaning.specs.declared.faults.Answer.{Answer};
-ghost use Rattle.lois_meaning.specs.declared.results.Results.{Results};
+ghost use Rattle.lois_answers.specs.ResultsText.{results_text};
+ghost use Rattle.lois_answers.specs.Sound.{IsSound};
+ghost use Rattle.lois_answers.specs.TraceText.{answer_text};
+ghost use Rattle.lois_answers.specs.declared.faults.Answer.{Answer};
+ghost use Rattle.lois_answers.specs.declared.results.Results.{Results};
 ghost use Rattle.lois_reader.specs.Pieces.{results_pieces, answer_pieces};
 ghost use Rattle.lois_reader.specs.Reading.{Gives};
 ghost use Rattle.lois_reader.specs.Shape.{SpellsResults, SpellsAnswer, HasResultsShape, HasAnswerShape};
+ghost use Rattle.lois_reader.specs.declared.ResultError.{ResultError};
 ghost use Rattle.lois_reader.specs.Refusal.{IsSoundAnswer, IsInside, HasNone, IsPlace, IsResultsOf, IsAnswerOf, results_reading, answer_reading, IsErrorOfHalt};
 
 use crate::ResultError;
 use crate::answer_ends::{answer_text_end, results_text_end};
 use crate::answers::{answer_text_at, results_text_at};
 use crate::halt::Halt;
-use lois_meaning::{Answer, Results};
+use lois_answers::{Answer, Results};
 use std::alloc::Global;
 
 // The shape is read first, since a text that leaves it is refused there, whatever rule it breaks before.
@@ -50,8 +51,13 @@ fn error_of(halt: Halt, len: usize) -> ResultError
 /// `NotResults` where the text is that of no sound results, with the place of the first fault: where no text of the
 /// shape goes on so, or the first side rule that a text of the shape breaks. `NoMemory` where memory ran out.
 pub fn read_results(alloc: Global, text: &[u8]) -> Result<Results, ResultError>
+    // Ok gives the results of the text, and comes exactly where it is that of some, unless memory ran out.
     ensures sound { IfOk result IsSound }
     ensures text { IfOk result (λ r. results_text r ≡ text.now) }
+    ensures those { (others : Results) → IsResultsOf text.now others → IfOk result (λ r. r ≡ others) }
+    ensures accepts { (others : Results) → IsResultsOf text.now others → IfErr result (λ error. error ≡ ResultError.NoMemory) }
+
+    // A refusal comes only where there are none, at the place of the first fault.
     ensures none { IfErr result (HasNone (IsResultsOf text.now)) }
     ensures place { IfErr result (IsPlace HasResultsShape SpellsResults results_pieces text.now) }
     ensures inside { IfErr result (IsInside (length text.now)) }
@@ -69,8 +75,13 @@ pub fn read_results(alloc: Global, text: &[u8]) -> Result<Results, ResultError>
 /// `NotResults` where the text is that of no sound results and no sound trace, with the place of the first fault as
 /// `read_results` says it of the shape of both. `NoMemory` where memory ran out.
 pub fn read_answer(alloc: Global, text: &[u8]) -> Result<Answer, ResultError>
+    // Ok gives the answer of the text, and comes exactly where it is that of one, unless memory ran out.
     ensures sound { IfOk result IsSoundAnswer }
     ensures text { IfOk result (λ a. answer_text a ≡ text.now) }
+    ensures those { (other : Answer) → IsAnswerOf text.now other → IfOk result (λ a. a ≡ other) }
+    ensures accepts { (other : Answer) → IsAnswerOf text.now other → IfErr result (λ error. error ≡ ResultError.NoMemory) }
+
+    // A refusal comes only where there is none, at the place of the first fault.
     ensures none { IfErr result (HasNone (IsAnswerOf text.now)) }
     ensures place { IfErr result (IsPlace HasAnswerShape SpellsAnswer answer_pieces text.now) }
     ensures inside { IfErr result (IsInside (length text.now)) }

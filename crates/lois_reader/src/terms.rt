@@ -12,12 +12,9 @@ use crate::halt::Halt;
 use crate::scope::Scope;
 use crate::term_ends::term_end;
 use crate::words::{begins, fixed_end, level_end, number_at, word_at};
-use lois_base::{Comp, Comps, Constraint, Cube, Name, NoMemory, Term, Terms};
+use lois_base::limits::{GREATEST_WIDTH, LONGEST_NAME};
+use lois_base::{Comp, Comps, Constraint, Name, NoMemory, Term, Terms};
 use std::alloc::Global;
-
-const LONGEST_TAG: usize = 64;
-
-const MOST_PARTS: usize = 8;
 
 /// How many levels are written here, each behind a space.
 fn level_count(bytes: &[u8]) -> Result<usize, Halt>
@@ -95,19 +92,10 @@ fn true_alone(bytes: &[u8]) -> bool
     }
 }
 
-/// The constraint with one empty cube.
-fn always(alloc: Global) -> Result<Constraint, NoMemory>
-    ensures { IfOk result (λ r. r ≡ [] ∷ []) }
-{
-    let mut constraint = Constraint::new(alloc);
-    constraint.push(Cube::new(alloc))?;
-    Ok(constraint)
-}
-
 #[tactic(auto, unfolding(crate::specs::TermValues::behind_if))]
 fn behind_if<'a>(
     alloc: Global,
-    scope: &Scope,
+    scope: &Scope<'_>,
     levels: usize,
     bytes: &'a [u8],
 ) -> Result<(Constraint, &'a [u8]), Halt>
@@ -124,7 +112,7 @@ fn behind_if<'a>(
 #[tactic(auto, unfolding(crate::specs::TermValues::guard_at))]
 fn guard_at<'a>(
     alloc: Global,
-    scope: &Scope,
+    scope: &Scope<'_>,
     levels: usize,
     bytes: &'a [u8],
 ) -> Result<(Constraint, &'a [u8]), Halt>
@@ -132,7 +120,7 @@ fn guard_at<'a>(
     ensures shorter { IfOk result (λ x. length x.1.now ≤ length bytes.now) }
 {
     if !begins(bytes, b' ') {
-        return Ok((always(alloc)?, bytes));
+        return Ok((Constraint::always(alloc)?, bytes));
     }
     behind_if(alloc, scope, levels, fixed_end(b" if ", bytes)?)
 }
@@ -152,14 +140,14 @@ fn tag_at(alloc: Global, bytes: &[u8]) -> Result<(Term, &[u8]), Halt>
     ensures shorter { IfOk result (λ x. length x.1.now < length bytes.now) }
 {
     let (word, rest) = word_at(fixed_end(b"'", bytes)?)?;
-    if word.len() > LONGEST_TAG {
+    if word.len() > LONGEST_NAME {
         return Err(Halt::Left(bytes.len()));
     }
     Ok((Term::Tag(name_of(alloc, word)?), rest))
 }
 
 #[tactic(auto, unfolding(crate::specs::TermValues::var_at))]
-fn var_at<'a>(scope: &Scope, levels: usize, bytes: &'a [u8]) -> Result<(Term, &'a [u8]), Halt>
+fn var_at<'a>(scope: &Scope<'_>, levels: usize, bytes: &'a [u8]) -> Result<(Term, &'a [u8]), Halt>
     ensures term { Gives (λ x. (tree x.0, x.1.now)) result (var_at scope.now levels bytes.now) }
     ensures shorter { IfOk result (λ x. length x.1.now < length bytes.now) }
 {
@@ -185,7 +173,7 @@ fn part_count(bytes: &[u8], brackets: usize) -> Result<usize, Halt>
 #[tactic(auto, unfolding(crate::specs::TermValues::parts_at))]
 fn parts_at<'a>(
     alloc: Global,
-    scope: &Scope,
+    scope: &Scope<'_>,
     levels: usize,
     brackets: usize,
     bytes: &'a [u8],
@@ -209,7 +197,7 @@ fn parts_at<'a>(
 #[tactic(auto, unfolding(crate::specs::TermValues::closed_parts_at))]
 fn closed_parts_at<'a>(
     alloc: Global,
-    scope: &Scope,
+    scope: &Scope<'_>,
     levels: usize,
     brackets: usize,
     bytes: &'a [u8],
@@ -226,7 +214,7 @@ fn closed_parts_at<'a>(
 #[tactic(auto, unfolding(crate::specs::TermValues::tuple_at))]
 fn tuple_at<'a>(
     alloc: Global,
-    scope: &Scope,
+    scope: &Scope<'_>,
     levels: usize,
     brackets: usize,
     bytes: &'a [u8],
@@ -235,7 +223,7 @@ fn tuple_at<'a>(
     ensures shorter { IfOk result (λ x. length x.1.now < length bytes.now) }
 {
     let inside = fixed_end(b"(", bytes)?;
-    if part_count(inside, brackets)? > MOST_PARTS {
+    if part_count(inside, brackets)? > GREATEST_WIDTH {
         return Err(Halt::Left(bytes.len()));
     }
     closed_parts_at(alloc, scope, levels, brackets, inside)
@@ -246,7 +234,7 @@ fn tuple_at<'a>(
 #[tactic(auto, unfolding(crate::specs::TermValues::comp_at))]
 fn comp_at<'a>(
     alloc: Global,
-    scope: &Scope,
+    scope: &Scope<'_>,
     levels: usize,
     brackets: usize,
     bytes: &'a [u8],
@@ -274,7 +262,7 @@ fn comp_at<'a>(
 #[tactic(auto, unfolding(crate::specs::TermValues::comps_at))]
 fn comps_at<'a>(
     alloc: Global,
-    scope: &Scope,
+    scope: &Scope<'_>,
     levels: usize,
     brackets: usize,
     bytes: &'a [u8],
@@ -298,7 +286,7 @@ fn comps_at<'a>(
 #[tactic(auto, unfolding(crate::specs::TermValues::closed_comps_at))]
 fn closed_comps_at<'a>(
     alloc: Global,
-    scope: &Scope,
+    scope: &Scope<'_>,
     levels: usize,
     brackets: usize,
     bytes: &'a [u8],
@@ -314,7 +302,7 @@ fn closed_comps_at<'a>(
 #[tactic(auto, unfolding(crate::specs::TermValues::set_at))]
 fn set_at<'a>(
     alloc: Global,
-    scope: &Scope,
+    scope: &Scope<'_>,
     levels: usize,
     brackets: usize,
     bytes: &'a [u8],
@@ -334,7 +322,7 @@ fn set_at<'a>(
 #[tactic(auto, unfolding(crate::specs::TermValues::term_at))]
 pub fn term_at<'a>(
     alloc: Global,
-    scope: &Scope,
+    scope: &Scope<'_>,
     levels: usize,
     brackets: usize,
     bytes: &'a [u8],

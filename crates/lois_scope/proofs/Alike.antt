@@ -1,9 +1,9 @@
 -- Scopes with the same names in the same roles are broken alike.
 use Rattle.std.proofs.Common.{◌≡◌, ℕ, ◌⊎◌, inl, inr, Bool, true, false, List, [], ◌∷◌, ◌++◌, map, Option, Some, None, refl, sym, ap, ◌∙◌, if◌then◌else◌, bytes_eq}
 use Rattle.std.specs.Option.{option_map}
-use Rattle.lois_meaning.specs.Tree.{ExprD, atoms, var, tag, tuple, listed, each, part, apply, ExprsD, no_exprs, expr, BindingD, binding, BindingsD, no_bindings, bind, CondD, truth, falsity, same, differ, below, member, included, empty, not, all, any, exists, every, CondsD, no_conds, cond, StmtD, «let», assign, add, for, if, while, assert, print, StmtsD, no_stmts, stmt}
-use Rattle.lois_meaning.specs.Tree.{ParamD}
-use Rattle.lois_meaning.specs.Scope.{ParametersBreak, with_parameters, RoleD, inner, fixed, DeclaredD, ScopeD, RuleD, role_of, declare, farther, entered, with_binder, bound, scope_behind, UseBreaks, DeclarationBreaks, AssignBreaks, AddBreaks, ExprBreaks, ExprsBreak, BindingsBreak, BindingBreaks, CondBreaks, CondsBreak, StmtBreaks, StmtsBreak}
+use Rattle.lois_script.specs.Tree.{ExprD, atoms, var, tag, tuple, listed, each, part, apply, ExprsD, no_exprs, expr, BindingD, binding, BindingsD, no_bindings, bind, CondD, truth, falsity, same, differ, below, member, included, empty, not, all, any, exists, every, CondsD, no_conds, cond, StmtD, «let», assign, add, for, if, while, assert, print, StmtsD, no_stmts, stmt}
+use Rattle.lois_script.specs.Tree.{ParamD}
+use Rattle.lois_script.specs.Scope.{ParametersBreak, with_parameters, RoleD, inner, fixed, DeclaredD, ScopeD, RuleD, role_of, declare, farther, entered, with_binder, bound, scope_behind, UseBreaks, DeclarationBreaks, AssignBreaks, AddBreaks, ExprBreaks, ExprsBreak, BindingsBreak, BindingBreaks, CondBreaks, CondsBreak, StmtBreaks, StmtsBreak}
 use Rattle.lois_scope.specs.Walks.{IsAlike, ComparisonBreaks}
 
 pub alike_self : (s : ScopeD) → IsAlike s s

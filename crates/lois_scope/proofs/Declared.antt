@@ -6,7 +6,7 @@ use Rattle.std.proofs.lemmas.List.{map-append}
 use Rattle.std.proofs.lemmas.List.Elements.{All-append, All-head, All-tail, All-cons, All-nil}
 use Rattle.std.proofs.lemmas.Slice.Eq.{bytes_eq-Decides}
 use Rattle.std.specs.List.{All, list_any}
-use Rattle.lois_meaning.specs.Scope.{RoleD, inner, outer, role_of, declare, farther}
+use Rattle.lois_script.specs.Scope.{RoleD, inner, outer, role_of, declare, farther}
 use Rattle.lois_scope.specs.InScope.{MadeD, role_inside, roles_inside, is_named, with_name}
 use Rattle.lois_scope.specs.Breaks.{KeepsLeast}
 use Rattle.lois_scope.specs.Walks.{StateD, SeenD, scope_of, IsMadeWithin, IsWithin, IsAlike, Walks, Leads}

@@ -1,8 +1,8 @@
 -- The first break of a script, from what a walk over it keeps.
 use Rattle.std.proofs.Common.{◌≡◌, ℕ, ◌≤◌, ◌⊎◌, inl, inr, Option, Some, None, MatchOption, [], refl, sym, subst, arith}
 use Rattle.std.specs.Option.{option_map}
-use Rattle.lois_meaning.specs.Scope.{RuleD, unknown, again, outer_assign, print_in_loop, order_in_equality, ScopeD, with_parameters, ParametersBreak, StmtsBreak, ScriptBreaks, IsWellScoped, BreaksFirst, rule_number}
-use Rattle.lois_meaning.specs.Tree.{ScriptD}
+use Rattle.lois_script.specs.Scope.{RuleD, unknown, again, outer_assign, print_in_loop, order_in_equality, ScopeD, with_parameters, ParametersBreak, StmtsBreak, ScriptBreaks, IsWellScoped, BreaksFirst, rule_number}
+use Rattle.lois_script.specs.Tree.{ScriptD}
 use Rattle.lois_scope.specs.Breaks.{BreakD, rule_view, break_of, KeepsLeast}
 use Rattle.lois_scope.specs.Refusals.{RefusesFor}
 use Rattle.lois_scope.specs.Walks.{StateD, SeenD, scope_of, Walks, Leads}

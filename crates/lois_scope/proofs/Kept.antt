@@ -1,6 +1,6 @@
 -- Laws of keeping the least break.
 use Rattle.std.proofs.Common.{◌≡◌, ℕ, ◌⊎◌, inl, inr, Option, Some, None, refl, sym, subst, arith}
-use Rattle.lois_meaning.specs.Scope.{RuleD}
+use Rattle.lois_script.specs.Scope.{RuleD}
 use Rattle.lois_scope.specs.Breaks.{BreakD, IsNoLater, KeptBefore, KeepsLeast}
 
 abbrev pub Broken : Type 1

@@ -1,13 +1,13 @@
 -- Walks over lists of expressions, conditions, bindings and statements.
 use Rattle.std.proofs.Common.{◌≡◌, ℕ, ◌+◌, ◌≤◌, ◌<◌, List, [], ◌∷◌, map, length, get_or, refl}
-use Rattle.lois_meaning.specs.Scope.{ScopeD, declare, fixed, with_parameters, DeclarationBreaks, ParametersBreak, with_binder, bound, scope_behind, ExprBreaks, ExprsBreak, BindingBreaks, BindingsBreak, CondBreaks, CondsBreak, StmtBreaks, StmtsBreak}
-use Rattle.lois_meaning.specs.Tree.{ExprD, BindingD, CondD, StmtD, ParamD}
-use Rattle.lois_meaning.specs.View.{tree, exprs_of, binding_tree, bindings_of, cond_tree, conds_of, stmt_tree, stmts_of, param_tree}
-use Rattle.lois_meaning.specs.declared.syntax.Expr.{Expr}
-use Rattle.lois_meaning.specs.declared.syntax.Cond.{Cond}
-use Rattle.lois_meaning.specs.declared.syntax.Binding.{Binding}
-use Rattle.lois_meaning.specs.declared.script.Param.{Param}
-use Rattle.lois_meaning.specs.declared.script.Stmt.{Stmt}
+use Rattle.lois_script.specs.Scope.{ScopeD, declare, fixed, with_parameters, DeclarationBreaks, ParametersBreak, with_binder, bound, scope_behind, ExprBreaks, ExprsBreak, BindingBreaks, BindingsBreak, CondBreaks, CondsBreak, StmtBreaks, StmtsBreak}
+use Rattle.lois_script.specs.Tree.{ExprD, BindingD, CondD, StmtD, ParamD}
+use Rattle.lois_script.specs.View.{tree, exprs_of, binding_tree, bindings_of, cond_tree, conds_of, stmt_tree, stmts_of, param_tree}
+use Rattle.lois_script.specs.declared.syntax.Expr.{Expr}
+use Rattle.lois_script.specs.declared.syntax.Cond.{Cond}
+use Rattle.lois_script.specs.declared.syntax.Binding.{Binding}
+use Rattle.lois_script.specs.declared.script.Param.{Param}
+use Rattle.lois_script.specs.declared.script.Stmt.{Stmt}
 use Rattle.lois_scope.specs.Walks.{SeenD, Walks, Leads}
 use Rattle.lois_scope.proofs.Alike.{Part, alike_bound, alike_behind, bindings_steady, stmts_steady, alike_parameters, parameters_steady}
 use Rattle.lois_scope.proofs.Walked.{LeadsOn, WalksOn, KeepsAlike, walks_on, walks_to_end, leads_on, leads_to_end}

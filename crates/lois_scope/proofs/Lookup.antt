@@ -5,7 +5,7 @@ use Rattle.std.specs.Cmp.Lexicographic.{nat_list_eq_equiv}
 use Rattle.std.specs.List.{list_any}
 use Rattle.std.specs.Map.{lookup}
 use Rattle.std.specs.Option.{option_map}
-use Rattle.lois_meaning.specs.Scope.{role_of}
+use Rattle.lois_script.specs.Scope.{role_of}
 use Rattle.lois_scope.specs.InScope.{MadeD, role_inside, roles_inside, is_named, with_name}
 use Rattle.lois_scope.specs.declared.names.Made.{Made}
 

@@ -2,10 +2,10 @@
 use Rattle.std.proofs.Common.{◌≡◌, ℕ, suc, ◌+◌, ◌⊎◌, inl, inr, true, List, [], ◌∷◌, take, length, sym, ap, subst, ◌∙◌, nat_lt, arith}
 use Rattle.std.proofs.lemmas.List.Elements.{All-head, All-tail, All-cons, All-nil}
 use Rattle.std.specs.List.{All}
-use Rattle.lois_meaning.specs.Scope.{RuleD, ScopeD, inner, fixed, declare, entered, with_binder, scope_behind, DeclarationBreaks, ExprBreaks, BindingBreaks, CondBreaks, StmtBreaks, StmtsBreak}
-use Rattle.lois_meaning.specs.Tree.{ExprD, BindingD, CondD, StmtsD, «let», for}
-use Rattle.lois_meaning.specs.View.{binding_tree}
-use Rattle.lois_meaning.specs.declared.syntax.Binding.{Binding}
+use Rattle.lois_script.specs.Scope.{RuleD, ScopeD, inner, fixed, declare, entered, with_binder, scope_behind, DeclarationBreaks, ExprBreaks, BindingBreaks, CondBreaks, StmtBreaks, StmtsBreak}
+use Rattle.lois_script.specs.Tree.{ExprD, BindingD, CondD, StmtsD, «let», for}
+use Rattle.lois_script.specs.View.{binding_tree}
+use Rattle.lois_script.specs.declared.syntax.Binding.{Binding}
 use Rattle.lois_scope.specs.Breaks.{KeepsLeast}
 use Rattle.lois_scope.specs.InScope.{MadeD, role_inside, with_name}
 use Rattle.lois_scope.specs.Walks.{StateD, SeenD, scope_of, IsMadeWithin, IsWithin, IsAlike, Walks, Leads, Enters}
@@ -14,7 +14,7 @@ use Rattle.lois_scope.specs.declared.names.Made.TheVariants.{Variable, Fixed}
 use Rattle.lois_scope.proofs.Kept.{keeps_both, keeps_as}
 use Rattle.lois_scope.proofs.Alike.{Part, cond_steady, stmts_steady}
 use Rattle.lois_scope.proofs.Declared.{declared_state, declared_alike, declared_prefix, declared_within, walked_and_declared, made_here, farther_out}
-use Rattle.lois_scope.proofs.Nodes.{tree_binding}
+use Rattle.lois_script.proofs.Views.{binding_is}
 use Rattle.lois_scope.proofs.Walked.{walks_both, keeps_alike}
 
 pub let_behind : (p : ℕ) (x : List ℕ) (e : ExprD) (a w k z : SeenD) → Walks (DeclarationBreaks x p) a w → Walks (ExprBreaks e) w k
@@ -56,7 +56,7 @@ enters b c a w d k within h made loops ordered kept g =
     let e : k.state ≡ declared_state start x Fixed =
     g.state ∙ (λ i. record { made = (made ∙ ap (λ (s : StateD). with_name s.made x Fixed) h.state) i; loops = (loops ∙ ap (λ (s : StateD). suc s.loops) h.state) i; ordered = (ordered ∙ ap (λ (s : StateD). s.ordered) h.state) i }) in
     let alike : IsAlike (scope_of (declared_state start x Fixed)) inside =
-    rw (tree_binding b) (subst (λ (s : ScopeD). IsAlike (scope_of (declared_state start x Fixed)) (declare x fixed s)) (entered_scope a.state within) (declared_alike start x Fixed)) in
+    rw (binding_is b) (subst (λ (s : ScopeD). IsAlike (scope_of (declared_state start x Fixed)) (declare x fixed s)) (entered_scope a.state within) (declared_alike start x Fixed)) in
     let scope : IsAlike (scope_of k.state) inside = subst (λ (s : StateD). IsAlike (scope_of s) inside) (sym e) alike in
     let behind : IsAlike (scope_of d.state) inside = subst (λ (s : StateD). IsAlike (scope_of s) inside) g.state scope in
     record {

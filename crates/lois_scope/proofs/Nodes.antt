@@ -1,14 +1,13 @@
 -- The walk over a node, from the walks over its parts.
 use Rattle.std.proofs.Common.{◌≡◌, ◌⊎◌, inl, inr, List, take, length, Result, Ok, Err, OnOk}
-use Rattle.lois_meaning.specs.Scope.{with_binder, bound, ExprBreaks, BindingBreaks, BindingsBreak, CondBreaks}
-use Rattle.lois_meaning.specs.Tree.{ExprD, BindingD, binding, BindingsD, CondD, exists, every}
-use Rattle.lois_meaning.specs.View.{tree, binding_tree, cond_tree, cond_step, expr_step, binding_step, bindings_step, conds_step, exprs_step}
-use Rattle.lois_meaning.specs.declared.syntax.Cond.TheFolds.{fold_out-Binding}
-use Rattle.lois_meaning.specs.declared.syntax.Expr.{Expr}
-use Rattle.lois_meaning.specs.declared.syntax.Cond.{Cond}
-use Rattle.lois_meaning.specs.declared.syntax.Cond.TheVariants.{Same, Differ, Member, Included}
-use Rattle.lois_meaning.specs.declared.syntax.Binding.{Binding}
-use Rattle.lois_meaning.proofs.Views.{cond_Same, cond_Differ, cond_Member, cond_Included}
+use Rattle.lois_script.specs.Scope.{with_binder, bound, ExprBreaks, BindingBreaks, BindingsBreak, CondBreaks}
+use Rattle.lois_script.specs.Tree.{ExprD, BindingD, BindingsD, CondD, exists, every}
+use Rattle.lois_script.specs.View.{tree, binding_tree, cond_tree}
+use Rattle.lois_script.specs.declared.syntax.Expr.{Expr}
+use Rattle.lois_script.specs.declared.syntax.Cond.{Cond}
+use Rattle.lois_script.specs.declared.syntax.Cond.TheVariants.{Same, Differ, Member, Included}
+use Rattle.lois_script.specs.declared.syntax.Binding.{Binding}
+use Rattle.lois_script.proofs.Views.{binding_is, cond_Same, cond_Differ, cond_Member, cond_Included}
 use Rattle.lois_scope.specs.InScope.{with_name}
 use Rattle.lois_scope.specs.Walks.{SeenD, Walks, Leads}
 use Rattle.lois_scope.specs.declared.names.Made.TheVariants.{Fixed}
@@ -20,12 +19,9 @@ pub on_ok : {A E P Q : Type 0} (r : Result A E) → (P → Q) → OnOk r P → O
 on_ok (Ok x) to h = to h
 on_ok (Err e) to h = h
 
-pub tree_binding : (b : Binding) → binding_tree b ≡ binding b.pos.offset b.name (tree b.from)
-tree_binding b = fold_out-Binding CondD ExprD BindingD (List BindingD) (List CondD) (List ExprD) cond_step expr_step binding_step bindings_step conds_step exprs_step b
-
 pub bound_behind : (P : Part) (b : Binding) (a w d : SeenD) → Walks P a w → d.state.made ≡ with_name w.state.made b.name Fixed
     → d.state.loops ≡ w.state.loops → d.state.ordered ≡ w.state.ordered → d.kept ≡ w.kept → Leads P (with_binder (binding_tree b)) a d
-bound_behind P b a w d h made loops ordered kept = rw (tree_binding b) (walked_and_declared P b.name Fixed a w d h made loops ordered kept tt)
+bound_behind P b a w d h made loops ordered kept = rw (binding_is b) (walked_and_declared P b.name Fixed a w d h made loops ordered kept tt)
 
 pub comparison : (x : Cond) (l r : Expr) (a b : SeenD) → (x ≡ Same l r) ⊎ ((x ≡ Differ l r) ⊎ ((x ≡ Member l r) ⊎ (x ≡ Included l r)))
     → Walks (λ s rule at. ExprBreaks (tree l) s rule at ⊎ ExprBreaks (tree r) s rule at) a b → Walks (CondBreaks (cond_tree x)) a b

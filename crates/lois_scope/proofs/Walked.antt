@@ -2,7 +2,7 @@
 use Rattle.std.proofs.Common.{◌≡◌, ℕ, suc, ◌+◌, ◌≤◌, ◌<◌, ◌⊎◌, List, [], ◌∷◌, map, take, drop, length, get_or, Option, refl, sym, ap, subst, ◌∙◌, arith, add-one}
 use Rattle.std.proofs.Math.Seq.{drop-cons, take-length}
 use Rattle.std.proofs.lemmas.List.{take-take, length-take, drop_all}
-use Rattle.lois_meaning.specs.Scope.{ScopeD}
+use Rattle.lois_script.specs.Scope.{ScopeD}
 use Rattle.lois_scope.specs.InScope.{MadeD}
 use Rattle.lois_scope.specs.Breaks.{BreakD, KeepsLeast}
 use Rattle.lois_scope.specs.Walks.{StateD, SeenD, scope_of, IsWithin, IsAlike, Walks, Leads}

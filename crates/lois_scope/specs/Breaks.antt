@@ -1,7 +1,7 @@
 -- The first of the breaks that a walk has met.
 use Rattle.std.specs.Prelude.{◌≡◌, ℕ, ◌≤◌, ◌⊎◌, Option, Some, None}
 use Rattle.std.specs.Option.{option_map}
-use Rattle.lois_meaning.specs.Scope.{RuleD, unknown, again, outer_assign, print_in_loop, order_in_equality, rule_number}
+use Rattle.lois_script.specs.Scope.{RuleD, unknown, again, outer_assign, print_in_loop, order_in_equality, rule_number}
 use Rattle.lois_scope.specs.declared.breaks.Rule.{Rule}
 use Rattle.lois_scope.specs.declared.breaks.Rule.TheVariants.{Unknown, Again, OuterAssign, PrintInLoop, OrderInEquality}
 use Rattle.lois_scope.specs.declared.breaks.Break.{Break}

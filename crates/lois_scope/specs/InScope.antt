@@ -1,7 +1,7 @@
 -- The names in scope, as the check keeps them: a name that is declared again is there once, as it was made first.
 use Rattle.std.specs.Prelude.{ℕ, Bool, List, [], ◌∷◌, ◌++◌, map, if◌then◌else◌, bytes_eq, nat_eq}
 use Rattle.std.specs.List.{list_any}
-use Rattle.lois_meaning.specs.Scope.{RoleD, inner, outer, fixed, DeclaredD}
+use Rattle.lois_script.specs.Scope.{RoleD, inner, outer, fixed, DeclaredD}
 use Rattle.lois_scope.specs.declared.names.Made.{Made}
 use Rattle.lois_scope.specs.declared.names.Made.TheVariants.{Variable, Fixed}
 use Rattle.lois_scope.specs.declared.names.Role.{Role}

@@ -2,3 +2,4 @@ pub mod InScope
 pub mod Breaks
 pub mod Walks
 pub mod Refusals
+pub mod Causes

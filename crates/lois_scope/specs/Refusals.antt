@@ -1,7 +1,7 @@
 -- What a refusal says of a script.
 use Rattle.std.specs.Prelude.{◌≡◌, ℕ}
-use Rattle.lois_meaning.specs.Scope.{RuleD, unknown, again, outer_assign, print_in_loop, order_in_equality, BreaksFirst}
-use Rattle.lois_meaning.specs.Tree.{ScriptD}
+use Rattle.lois_script.specs.Scope.{RuleD, unknown, again, outer_assign, print_in_loop, order_in_equality, BreaksFirst}
+use Rattle.lois_script.specs.Tree.{ScriptD}
 use Rattle.lois_scope.specs.declared.checking.ScopeError.{ScopeError}
 use Rattle.lois_scope.specs.declared.checking.ScopeError.TheVariants.{Unknown, Again, OuterAssign, PrintInLoop, OrderInEquality, NoMemory}
 

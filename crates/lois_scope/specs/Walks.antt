@@ -1,8 +1,8 @@
 -- What a walk over a part of a script does: it goes to what is behind the part, and keeps the first break.
 use Rattle.std.specs.Prelude.{◌≡◌, ℕ, ◌≤◌, Bool, true, false, ◌⊎◌, suc, List, take, length, Option, nat_lt}
 use Rattle.std.specs.List.{All}
-use Rattle.lois_meaning.specs.Scope.{RuleD, order_in_equality, print_in_loop, ScopeD, role_of, with_binder, entered, BindingBreaks, CondBreaks}
-use Rattle.lois_meaning.specs.Tree.{BindingD, CondD}
+use Rattle.lois_script.specs.Scope.{RuleD, order_in_equality, print_in_loop, ScopeD, role_of, with_binder, entered, BindingBreaks, CondBreaks}
+use Rattle.lois_script.specs.Tree.{BindingD, CondD}
 use Rattle.lois_scope.specs.InScope.{MadeD, made_of, roles_inside}
 use Rattle.lois_scope.specs.Breaks.{BreakD, kept_of, KeepsLeast}
 use Rattle.lois_scope.specs.declared.names.Made.{Made}

@@ -1,10 +1,10 @@
 //! The first break of a rule that a walk over a script has met.
 
 ghost use Rattle.std.specs.Prelude.{◌≡◌, ◌↔◌, IsTrue, false, None};
-ghost use Rattle.lois_meaning.specs.Scope.{rule_number};
+ghost use Rattle.lois_script.specs.Scope.{rule_number};
 ghost use Rattle.lois_scope.specs.Breaks.{rule_view, break_of, kept_of, IsNoLater, KeepsLeast};
 
-use lois_meaning::Pos;
+use lois_script::Pos;
 
 /// The rules of scope, in the order in which they are reported at one place.
 #[derive(Clone, Copy)]

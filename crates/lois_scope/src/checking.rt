@@ -1,8 +1,8 @@
 //! The check of a whole script.
 
 ghost use Rattle.std.specs.Prelude.{◌≡◌, ℕ, IfOk, IfErr, IsErrAnd, IsOkUnless, MatchOption};
-ghost use Rattle.lois_meaning.specs.Scope.{RuleD, IsWellScoped, BreaksFirst};
-ghost use Rattle.lois_meaning.specs.View.{script_tree};
+ghost use Rattle.lois_script.specs.Scope.{RuleD, IsWellScoped, BreaksFirst};
+ghost use Rattle.lois_script.specs.View.{script_tree};
 ghost use Rattle.lois_scope.specs.Breaks.{rule_view};
 ghost use Rattle.lois_scope.specs.Refusals.{RefusesFor, Refuses};
 
@@ -10,33 +10,73 @@ use crate::breaks::{Break, FirstBreak, Rule};
 use crate::names::Names;
 use crate::walk::Walk;
 use lois_base::NoMemory;
-use lois_meaning::{Pos, Script};
+use lois_script::{Pos, Script};
 use std::alloc::Global;
+use std::error::Error;
+use std::fmt;
 use std::marker::Model;
-use thiserror::Error;
 
 /// Why a script is not well scoped: the first place in the text that breaks a rule, and there the first rule of these.
-#[derive(Debug, Drop, Error)]
+#[derive(Debug, Drop)]
 pub enum ScopeError {
     /// A used name is not in scope.
-    #[error("unknown name")]
     Unknown(Pos),
     /// A declared name is in scope already.
-    #[error("name declared again")]
     Again(Pos),
     /// `:=` names something that isn't a variable made inside the innermost loop, or `add` names no variable.
-    #[error("assignment to outer variable")]
     OuterAssign(Pos),
     /// A `print` stands inside a loop.
-    #[error("print in a loop")]
     PrintInLoop(Pos),
     /// `<` stands in a script whose atoms have no order.
-    #[error("order in an equality script")]
     OrderInEquality(Pos),
     /// There was no memory for the names in scope.
-    #[error("there is no memory")]
     NoMemory,
 }
+
+impl ScopeError {
+    ghost use Rattle.lois_scope.specs.Causes.{cause_number, cause_text};
+
+    /// The number of the cause, counted from 1 as the causes are declared.
+    pub fn number(&self) -> u8
+        ensures exact { result ≡ cause_number self.now }
+    {
+        match self {
+            ScopeError::Unknown(_) => 1,
+            ScopeError::Again(_) => 2,
+            ScopeError::OuterAssign(_) => 3,
+            ScopeError::PrintInLoop(_) => 4,
+            ScopeError::OrderInEquality(_) => 5,
+            ScopeError::NoMemory => 6,
+        }
+    }
+
+    /// The words for the cause, without its place.
+    pub fn text(&self) -> &'static str
+        ensures exact { result.now ≡ cause_text self.now }
+    {
+        match self {
+            ScopeError::Unknown(_) => "unknown name",
+            ScopeError::Again(_) => "name declared again",
+            ScopeError::OuterAssign(_) => "assignment to outer variable",
+            ScopeError::PrintInLoop(_) => "print in a loop",
+            ScopeError::OrderInEquality(_) => "order in an equality script",
+            ScopeError::NoMemory => "out of memory",
+        }
+    }
+}
+
+impl fmt::Display for ScopeError {
+    ghost use Rattle.lois_scope.specs.Causes.{cause_text};
+    ghost use Rattle.std.specs.Prelude.{Some};
+
+    ghost output = { λ e. Some (cause_text e) };
+
+    fn fmt<W: fmt::Write>(&self, f: &mut fmt::Formatter<W>) -> fmt::Result {
+        f.write_str(self.text())
+    }
+}
+
+impl Error for ScopeError {}
 
 /// A well-scoped script.
 #[derive(Drop)]
@@ -45,10 +85,10 @@ pub struct Scoped {
 }
 
 impl Model for Scoped {
-    ghost use Rattle.lois_meaning.specs.Scope.{IsWellScoped};
-    ghost use Rattle.lois_meaning.specs.View.{script_tree};
-    ghost use Rattle.lois_meaning.specs.contracts.script.Stmt as statement;
-    ghost use Rattle.lois_meaning.specs.declared.script.Script.{Script};
+    ghost use Rattle.lois_script.specs.Scope.{IsWellScoped};
+    ghost use Rattle.lois_script.specs.View.{script_tree};
+    ghost use Rattle.lois_script.specs.contracts.script.Stmt as statement;
+    ghost use Rattle.lois_script.specs.declared.script.Script.{Script};
     ghost use Rattle.std.specs.Coded.{codes};
 
     ghost Value = { Script };

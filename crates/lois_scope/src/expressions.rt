@@ -1,14 +1,14 @@
 //! The walk over expressions and conditions.
 
 ghost use Rattle.std.specs.Prelude.{OnOk};
-ghost use Rattle.lois_meaning.specs.Scope.{bound, ExprBreaks, ExprsBreak, BindingBreaks, BindingsBreak, CondBreaks, CondsBreak};
-ghost use Rattle.lois_meaning.specs.View.{tree, exprs_of, exprs_list, binding_tree, bindings_of, bindings_list, cond_tree, conds_of, conds_list};
+ghost use Rattle.lois_script.specs.Scope.{bound, ExprBreaks, ExprsBreak, BindingBreaks, BindingsBreak, CondBreaks, CondsBreak};
+ghost use Rattle.lois_script.specs.View.{tree, exprs_of, exprs_list, binding_tree, bindings_of, bindings_list, cond_tree, conds_of, conds_list};
 ghost use Rattle.lois_scope.specs.Walks.{seen, Walks, Leads};
 
 use crate::names::Made;
 use crate::walk::Walk;
 use lois_base::NoMemory;
-use lois_meaning::{Binding, Bindings, Cond, Conds, Expr, Exprs};
+use lois_script::{Binding, Bindings, Cond, Conds, Expr, Exprs};
 
 impl<'a> Walk<'a> {
     #[cycle(expressions)]

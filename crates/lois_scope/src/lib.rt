@@ -7,8 +7,6 @@ mod checking;
 mod expressions;
 mod names;
 mod statements;
-#[cfg(test)]
-mod tests;
 mod walk;
 
 pub use checking::{ScopeError, Scoped, check};

@@ -1,7 +1,7 @@
 //! The names in scope at a place of a script.
 
 ghost use Rattle.std.specs.Prelude.{◌≡◌, [], length, take, option_map, OnOk};
-ghost use Rattle.lois_meaning.specs.Scope.{role_of};
+ghost use Rattle.lois_script.specs.Scope.{role_of};
 ghost use Rattle.lois_scope.specs.InScope.{made_of, with_name, roles_inside, role_view};
 
 use indexmap::IndexMap;

@@ -1,15 +1,15 @@
 //! The walk over parameters, statements and blocks.
 
 ghost use Rattle.std.specs.Prelude.{◌≡◌, ◌+◌, ◌<◌, take, suc, OnOk, IfOk};
-ghost use Rattle.lois_meaning.specs.Scope.{entered, scope_behind, with_parameters, ParametersBreak, StmtBreaks, StmtsBreak};
-ghost use Rattle.lois_meaning.specs.View.{binding_tree, cond_tree, stmt_tree, stmts_of, stmts_list, params_list};
+ghost use Rattle.lois_script.specs.Scope.{entered, scope_behind, with_parameters, ParametersBreak, StmtBreaks, StmtsBreak};
+ghost use Rattle.lois_script.specs.View.{binding_tree, cond_tree, stmt_tree, stmts_of, stmts_list, params_list};
 ghost use Rattle.lois_scope.specs.InScope.{made_of};
 ghost use Rattle.lois_scope.specs.Walks.{seen, state_of, IsWithin, Walks, Leads, Enters};
 
 use crate::names::Made;
 use crate::walk::Walk;
 use lois_base::NoMemory;
-use lois_meaning::{Binding, Cond, Params, Stmt, Stmts};
+use lois_script::{Binding, Cond, Params, Stmt, Stmts};
 
 impl<'a> Walk<'a> {
     /// Each parameter is in scope at the names of those after it.

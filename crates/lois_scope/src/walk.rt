@@ -1,14 +1,14 @@
 //! A walk over a script: the names in scope at the place that it has reached, and the first break of a rule so far.
 
 ghost use Rattle.std.specs.Prelude.{◌≡◌, IsTrue};
-ghost use Rattle.lois_meaning.specs.Scope.{UseBreaks, DeclarationBreaks, AssignBreaks, AddBreaks};
+ghost use Rattle.lois_script.specs.Scope.{UseBreaks, DeclarationBreaks, AssignBreaks, AddBreaks};
 ghost use Rattle.lois_scope.specs.Breaks.{rule_view, kept_of, KeepsLeast};
 ghost use Rattle.lois_scope.specs.Walks.{seen, state_of, Walks, ComparisonBreaks, PrintBreaks};
 
 use crate::breaks::{FirstBreak, Rule};
 use crate::names::{Names, Role};
 use lois_base::Name;
-use lois_meaning::Pos;
+use lois_script::Pos;
 
 /// Where a walk stands.
 #[derive(Drop)]

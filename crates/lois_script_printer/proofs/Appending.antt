@@ -3,15 +3,14 @@ use Rattle.std.proofs.Common.{◌≡◌, ℕ, zero, suc, ◌+◌, ◌<◌, ◌�
 use Rattle.std.specs.Prelude.{OnOk, if◌then◌else◌}
 use Rattle.std.proofs.lemmas.List.{drop_more, drop_all}
 use Rattle.lois_lexer.specs.Laws.{Written}
-use Rattle.lois_meaning.specs.Tree.{ExprD, BindingD, binding, CondD, StmtD, ParamD}
-use Rattle.lois_meaning.specs.Grammar.{is_unit, is_conjunction}
-use Rattle.lois_meaning.specs.View.{stmt_tree, param_tree, tree, cond_tree, binding_tree, cond_step, expr_step, binding_step, bindings_step, conds_step, exprs_step, exprs_of, bindings_of, conds_of, stmts_of}
-use Rattle.lois_meaning.specs.declared.syntax.Cond.TheFolds.{fold_out-Binding}
-use Rattle.lois_meaning.specs.declared.syntax.Expr.{Expr}
-use Rattle.lois_meaning.specs.declared.syntax.Binding.{Binding}
-use Rattle.lois_meaning.specs.declared.syntax.Cond.{Cond}
-use Rattle.lois_meaning.specs.declared.script.Stmt.{Stmt}
-use Rattle.lois_meaning.specs.declared.script.Param.{Param}
+use Rattle.lois_script.specs.Tree.{ExprD, BindingD, CondD, StmtD, ParamD}
+use Rattle.lois_script.specs.Grammar.{is_unit, is_conjunction}
+use Rattle.lois_script.specs.View.{stmt_tree, param_tree, tree, cond_tree, binding_tree, exprs_of, bindings_of, conds_of, stmts_of}
+use Rattle.lois_script.specs.declared.syntax.Expr.{Expr}
+use Rattle.lois_script.specs.declared.syntax.Binding.{Binding}
+use Rattle.lois_script.specs.declared.syntax.Cond.{Cond}
+use Rattle.lois_script.specs.declared.script.Stmt.{Stmt}
+use Rattle.lois_script.specs.declared.script.Param.{Param}
 use Rattle.lois_lexer.specs.declared.TokenKind.TheVariants.{Tag}
 use Rattle.lois_script_printer.specs.Printed.{Writing, nothing, ◌▸◌, spaced, ends_line, word, symbol, name, enclosed, is_truth, where_clause, block, else_clause, text, written_expr, written_exprs, written_more_exprs, written_binding, written_bindings, written_more_bindings, written_cond, written_units, written_more_units, written_conjunctions, written_more_conjunctions, written_stmt, written_stmts, written_more_names, written_parameters}
 use Rattle.lois_script_printer.specs.Appended.{Appends, between, written_names}
@@ -147,9 +146,6 @@ tag_written (Ok u) a b x y z e f h = record {
       sym (append_assoc a (39 ∷ []) ((x ++ 32 ∷ []) ++ text rest)) ∙ ap (λ l. l ++ ((x ++ 32 ∷ []) ++ text rest)) (sym e) ∙ ap (λ l. b ++ ((l ++ 32 ∷ []) ++ text rest)) (sym f) ∙ h.same rest;
 }
 tag_written (Err u) a b x y z e f h = tt
-
-pub binding_is : (b : Binding) → binding_tree b ≡ binding b.pos.offset b.name (tree b.from)
-binding_is b = fold_out-Binding CondD ExprD BindingD (List BindingD) (List CondD) (List ExprD) cond_step expr_step binding_step bindings_step conds_step exprs_step b
 
 -- a condition that isn't true has its `where`
 pub where_is : (c : CondD) (w : Writing) → is_truth c ≡ false → where_clause c w ≡ (word (codes "where") ▸ w)

@@ -10,12 +10,12 @@ use Rattle.lois_lexer.specs.Tokens.{IsTokenOf, Spelled, spelled, bytes_of}
 use Rattle.lois_lexer.specs.Laws.{Written}
 use Rattle.lois_lexer.proofs.OneReading.{tokens_of_cut}
 use Rattle.lois_lexer.proofs.Written.{written_is_read}
-use Rattle.lois_meaning.specs.Tree.{ExprD, atoms, var, tag, tuple, listed, each, part, apply, ExprsD, no_exprs, expr, BindingD, binding, BindingsD, no_bindings, bind, CondD, truth, falsity, same, differ, below, member, included, empty, not, all, any, exists, every, CondsD, no_conds, cond, StmtD, «let», assign, add, for, if, while, assert, print, StmtsD, no_stmts, stmt, ParamD, ScriptD}
-use Rattle.lois_meaning.specs.Grammar.{PlacedToken, placed, Spelling, IsWide, AreMany, operation_word, HasArity, Enclosed, is_base, is_unit, is_conjunction, WhereClause, Block, ElseClause, SpellsExpr, SpellsExprs, SpellsListed, SpellsMoreExprs, SpellsBinding, SpellsBindings, SpellsMoreBindings, SpellsCond, SpellsUnits, SpellsMoreUnits, SpellsConjunctions, SpellsMoreConjunctions, SpellsStmt, SpellsStmts, SpellsMoreNames, SpellsParameters, structure_word, SpellsScript}
-use Rattle.lois_meaning.specs.Limits.{open_after, IsNestedWithin, StmtsAreWithin}
+use Rattle.lois_script.specs.Tree.{ExprD, atoms, var, tag, tuple, listed, each, part, apply, ExprsD, no_exprs, expr, BindingD, binding, BindingsD, no_bindings, bind, CondD, truth, falsity, same, differ, below, member, included, empty, not, all, any, exists, every, CondsD, no_conds, cond, StmtD, «let», assign, add, for, if, while, assert, print, StmtsD, no_stmts, stmt, ParamD, ScriptD}
+use Rattle.lois_script.specs.Grammar.{PlacedToken, placed, Spelling, IsWide, AreMany, operation_word, HasArity, Enclosed, is_base, is_unit, is_conjunction, WhereClause, Block, ElseClause, SpellsExpr, SpellsExprs, SpellsListed, SpellsMoreExprs, SpellsBinding, SpellsBindings, SpellsMoreBindings, SpellsCond, SpellsUnits, SpellsMoreUnits, SpellsConjunctions, SpellsMoreConjunctions, SpellsStmt, SpellsStmts, SpellsMoreNames, SpellsParameters, structure_word, SpellsScript}
+use Rattle.lois_script.specs.Limits.{open_after, IsNestedWithin, StmtsAreWithin}
 use Rattle.lois_script_printer.specs.Printed.{spaced, enclosed, where_clause, block, else_clause, written_expr, written_exprs, written_more_exprs, written_binding, written_bindings, written_more_bindings, written_cond, written_units, written_more_units, written_conjunctions, written_more_conjunctions, written_stmt, written_stmts, written_more_names, written_parameters, written_script, printed_script}
 use Rattle.lois_script_printer.specs.Unplaced.{unplaced_expr, unplaced_exprs, unplaced_binding, unplaced_bindings, unplaced_cond, unplaced_conds, unplaced_stmt, unplaced_stmts, unplaced_param, unplaced, IsSpelled, SpellsUnplaced}
-use Rattle.lois_script_printer.proofs.Printable.{HasSomeExpr, HasSomeBinding, Opens, ExprPrints, ExprsPrint, BindingPrints, BindingsPrint, CondPrints, UnitsPrint, ConjunctionsPrint, EnclosedPrints, StmtPrints, StmtsPrint, NamesPrint, ScriptPrints, AreTokens, Left, one_back, script_prints}
+use Rattle.lois_script.proofs.Printable.{HasSomeExpr, HasSomeBinding, Opens, ExprPrints, ExprsPrint, BindingPrints, BindingsPrint, CondPrints, UnitsPrint, ConjunctionsPrint, EnclosedPrints, StmtPrints, StmtsPrint, NamesPrint, ScriptPrints, AreTokens, Left, one_back, script_prints}
 use Rattle.lois_script_printer.proofs.WrittenTokens.{AreWritten, script_writes}
 use Rattle.lois_script_printer.proofs.Places.{carried, wide_un, many_un, arity_un, is_base_un, is_unit_un, is_conjunction_un, stmts_un}
 

@@ -13,13 +13,13 @@ use Rattle.lois_lexer.specs.declared.TokenKind.TheVariants.{Name, Word, Tag, Num
 use Rattle.lois_lexer.specs.Forms.{is_word_form}
 use Rattle.lois_lexer.specs.Words.{reserved, symbols}
 use Rattle.lois_lexer.specs.Laws.{Written, IsWritten}
-use Rattle.lois_meaning.specs.declared.syntax.Operation.{Operation}
-use Rattle.lois_meaning.specs.declared.syntax.Operation.TheVariants.{Union, Inter, Minus, Flatten, Reach, Product, Complement, Minimise}
-use Rattle.lois_meaning.specs.Tree.{ExprD, atoms, var, tag, tuple, listed, each, part, apply, ExprsD, no_exprs, expr, BindingD, binding, BindingsD, no_bindings, bind, CondD, truth, falsity, same, differ, below, member, included, empty, not, all, any, exists, every, CondsD, no_conds, cond, StmtD, «let», assign, add, for, if, while, assert, print, StmtsD, no_stmts, stmt, ParamD, ScriptD}
-use Rattle.lois_meaning.specs.Grammar.{operation_word, is_base, is_unit, is_conjunction, structure_word}
+use Rattle.lois_script.specs.declared.syntax.Operation.{Operation}
+use Rattle.lois_script.specs.declared.syntax.Operation.TheVariants.{Union, Inter, Minus, Flatten, Reach, Product, Complement, Minimise}
+use Rattle.lois_script.specs.Tree.{ExprD, atoms, var, tag, tuple, listed, each, part, apply, ExprsD, no_exprs, expr, BindingD, binding, BindingsD, no_bindings, bind, CondD, truth, falsity, same, differ, below, member, included, empty, not, all, any, exists, every, CondsD, no_conds, cond, StmtD, «let», assign, add, for, if, while, assert, print, StmtsD, no_stmts, stmt, ParamD, ScriptD}
+use Rattle.lois_script.specs.Grammar.{operation_word, is_base, is_unit, is_conjunction, structure_word}
 use Rattle.lois_script_printer.specs.Printed.{Writing, spaced, ends_line, word, symbol, enclosed, where_clause, block, else_clause, written_expr, written_exprs, written_more_exprs, written_binding, written_bindings, written_more_bindings, written_cond, written_units, written_more_units, written_conjunctions, written_more_conjunctions, written_stmt, written_stmts, written_more_names, written_parameters, written_script}
-use Rattle.lois_script_printer.proofs.Numbers.{IsToken}
-use Rattle.lois_script_printer.proofs.Printable.{ExprPrints, ExprsPrint, BindingPrints, BindingsPrint, CondPrints, UnitsPrint, ConjunctionsPrint, EnclosedPrints, StmtPrints, StmtsPrint, NamesPrint, ScriptPrints}
+use Rattle.lois_script.proofs.Numbers.{IsToken}
+use Rattle.lois_script.proofs.Printable.{ExprPrints, ExprsPrint, BindingPrints, BindingsPrint, CondPrints, UnitsPrint, ConjunctionsPrint, EnclosedPrints, StmtPrints, StmtsPrint, NamesPrint, ScriptPrints}
 
 pub record AreWritten (ws : List Written) : Type 0 where
   pub each_one : All IsWritten ws

@@ -1,7 +1,7 @@
 -- What a step of the printing appends: no public clause cites it.
 use Rattle.std.specs.Prelude.{◌≡◌, ℕ, zero, suc, List, [], ◌∷◌, ◌++◌}
 use Rattle.lois_lexer.specs.Laws.{Written}
-use Rattle.lois_meaning.specs.Tree.{ParamD}
+use Rattle.lois_script.specs.Tree.{ParamD}
 use Rattle.lois_script_printer.specs.Printed.{Writing, nothing, ◌▸◌, name, written_more_names, text}
 
 -- the bytes after are those before and what is written, so that both say the same with any rest behind

@@ -6,8 +6,8 @@ use Rattle.std.specs.Fmt.{decimal}
 use Rattle.lois_lexer.specs.declared.TokenKind.{TokenKind}
 use Rattle.lois_lexer.specs.declared.TokenKind.TheVariants.{Name, Word, Tag, Number, Symbol}
 use Rattle.lois_lexer.specs.Laws.{Written, text_of}
-use Rattle.lois_meaning.specs.Tree.{ExprD, atoms, var, tag, tuple, listed, each, part, apply, ExprsD, no_exprs, expr, BindingD, binding, BindingsD, no_bindings, bind, CondD, truth, falsity, same, differ, below, member, included, empty, not, all, any, exists, every, CondsD, no_conds, cond, StmtD, «let», assign, add, for, if, while, assert, print, StmtsD, no_stmts, stmt, ParamD, ScriptD}
-use Rattle.lois_meaning.specs.Grammar.{operation_word, is_base, is_unit, is_conjunction, structure_word}
+use Rattle.lois_script.specs.Tree.{ExprD, atoms, var, tag, tuple, listed, each, part, apply, ExprsD, no_exprs, expr, BindingD, binding, BindingsD, no_bindings, bind, CondD, truth, falsity, same, differ, below, member, included, empty, not, all, any, exists, every, CondsD, no_conds, cond, StmtD, «let», assign, add, for, if, while, assert, print, StmtsD, no_stmts, stmt, ParamD, ScriptD}
+use Rattle.lois_script.specs.Grammar.{operation_word, is_base, is_unit, is_conjunction, structure_word}
 
 abbrev pub Writing : Type 0
 Writing = List Written → List Written

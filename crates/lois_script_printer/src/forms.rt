@@ -1,29 +1,14 @@
 //! Expressions and conditions.
 
 ghost use Rattle.std.specs.Prelude.{◌≡◌, OnOk};
-ghost use Rattle.lois_meaning.specs.Grammar.{is_base, is_unit, is_conjunction, operation_word};
-ghost use Rattle.lois_meaning.specs.View.{tree, cond_tree, binding_tree, exprs_list, bindings_list, conds_list, exprs_of, bindings_of, conds_of};
+ghost use Rattle.lois_script.specs.Grammar.{is_base, is_unit, is_conjunction};
+ghost use Rattle.lois_script.specs.View.{tree, cond_tree, binding_tree, exprs_list, bindings_list, conds_list, exprs_of, bindings_of, conds_of};
 ghost use Rattle.lois_script_printer.specs.Appended.{Appends};
 ghost use Rattle.lois_script_printer.specs.Printed.{enclosed, is_truth, where_clause, written_expr, written_exprs, written_binding, written_bindings, written_cond, written_units, written_conjunctions};
 
 use crate::tokens::{put, put_number, put_separator, put_tag};
 use lois_base::NoMemory;
-use lois_meaning::{Binding, Bindings, Cond, Conds, Expr, Exprs, Operation};
-
-fn operation_word(operation: Operation) -> &'static [u8]
-    ensures { result.now ≡ operation_word operation }
-{
-    match operation {
-        Operation::Union => b"union",
-        Operation::Inter => b"inter",
-        Operation::Minus => b"minus",
-        Operation::Flatten => b"flatten",
-        Operation::Reach => b"reach",
-        Operation::Product => b"product",
-        Operation::Complement => b"complement",
-        Operation::Minimise => b"minimise",
-    }
-}
+use lois_script::{Binding, Bindings, Cond, Conds, Expr, Exprs};
 
 #[cycle(printing)]
 pub(crate) fn put_expr(out: &mut Vec<u8>, e: &Expr) -> Result<(), NoMemory>
@@ -60,7 +45,7 @@ pub(crate) fn put_expr(out: &mut Vec<u8>, e: &Expr) -> Result<(), NoMemory>
             put(out, b")")
         }
         Expr::Apply(_, operation, operands) => {
-            put(out, operation_word(*operation))?;
+            put(out, operation.word())?;
             put(out, b"(")?;
             put_exprs(out, operands)?;
             put(out, b")")

@@ -1,8 +1,8 @@
 //! The whole script.
 
 ghost use Rattle.std.specs.Prelude.{◌≡◌, OnOk, IfOk};
-ghost use Rattle.lois_meaning.specs.Grammar.{structure_word};
-ghost use Rattle.lois_meaning.specs.View.{params_list, script_tree};
+ghost use Rattle.lois_script.specs.Grammar.{structure_word};
+ghost use Rattle.lois_script.specs.View.{params_list, script_tree};
 ghost use Rattle.lois_script_printer.specs.Appended.{Appends, written_names};
 ghost use Rattle.lois_script_printer.specs.Printed.{written_parameters, printed_script};
 ghost use Rattle.lois_script_printer.specs.Unplaced.{IsSpelled, SpellsUnplaced};
@@ -10,7 +10,7 @@ ghost use Rattle.lois_script_printer.specs.Unplaced.{IsSpelled, SpellsUnplaced};
 use crate::statements::put_stmts;
 use crate::tokens::{put, put_line_end, put_separator};
 use lois_base::NoMemory;
-use lois_meaning::{Params, Script};
+use lois_script::{Params, Script};
 use std::alloc::Global;
 
 fn put_names(out: &mut Vec<u8>, parameters: &Params) -> Result<(), NoMemory>

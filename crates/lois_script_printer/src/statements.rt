@@ -1,14 +1,14 @@
 //! Statements and blocks.
 
 ghost use Rattle.std.specs.Prelude.{OnOk};
-ghost use Rattle.lois_meaning.specs.View.{stmt_tree, stmts_list, stmts_of};
+ghost use Rattle.lois_script.specs.View.{stmt_tree, stmts_list, stmts_of};
 ghost use Rattle.lois_script_printer.specs.Appended.{Appends};
 ghost use Rattle.lois_script_printer.specs.Printed.{block, else_clause, written_stmt, written_stmts};
 
 use crate::forms::{put_binding, put_cond, put_expr, put_where};
 use crate::tokens::{put, put_line_end, put_number};
 use lois_base::NoMemory;
-use lois_meaning::{Stmt, Stmts};
+use lois_script::{Stmt, Stmts};
 
 #[cycle(printing_statements)]
 fn put_stmt(out: &mut Vec<u8>, statement: &Stmt) -> Result<(), NoMemory>

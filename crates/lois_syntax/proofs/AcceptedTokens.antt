@@ -1,6 +1,6 @@
 -- A token that is the next part of a form.
 use Rattle.std.proofs.Common.{◌≡◌, ℕ, ◌+◌, true, false, Option, Some, None, List, [], ◌∷◌, drop, refl, sym, ap, ◌∙◌, subst}
-use Rattle.lois_meaning.specs.Grammar.{PlacedToken}
+use Rattle.lois_script.specs.Grammar.{PlacedToken}
 use Rattle.lois_syntax.specs.declared.lexemes.Terminal.{Terminal}
 use Rattle.lois_syntax.specs.declared.lexemes.Terminal.TheVariants.{Atoms as the_atoms, Structure as structure, Semicolon as semicolon, Comma as comma, CloseRound as close_round, CloseSquare as close_square, CloseCurly as close_curly, Colon as colon, Equal as equal, Becomes as becomes, In as within, To as to, Relation as relation, Name as name, Number as number}
 use Rattle.lois_syntax.specs.Lexemes.{accepts}

@@ -3,9 +3,9 @@ use Rattle.std.proofs.Common.{◌≡◌, ◌≢◌, ℕ, suc, ◌+◌, ◌-◌, 
 use Rattle.std.specs.Prelude.{nat_eq, nat_lt, if◌then◌else◌}
 use Rattle.std.specs.Prelude.{cond as choose}
 use Rattle.lois_lexer.specs.declared.TokenKind.TheVariants as kinds
-use Rattle.lois_meaning.specs.Grammar.{PlacedToken, decimal, SpellsExpr, SpellsMoreExprs}
-use Rattle.lois_meaning.specs.Limits.{opens, closes, open_after, width, IsNestedWithin}
-use Rattle.lois_meaning.specs.Tree.{ExprD, ExprsD, no_exprs, expr}
+use Rattle.lois_script.specs.Grammar.{PlacedToken, decimal, SpellsExpr, SpellsMoreExprs}
+use Rattle.lois_script.specs.Limits.{opens, closes, open_after, width, IsNestedWithin}
+use Rattle.lois_script.specs.Tree.{ExprD, ExprsD, no_exprs, expr}
 use Rattle.lois_syntax.specs.Lexemes.{lexeme_of}
 use Rattle.lois_syntax.specs.declared.lexemes.Terminal.TheVariants.{Comma as comma, CloseRound as close_round, Number as number}
 use Rattle.lois_syntax.specs.Machine.{Arguments, one, two, part_number, Item, terminal, expression, arguments, more_parts, more_items, after_brace, after_item, more_bindings, where_clause, condition, more_condition, unit, base, turns_number, statements, after_if, more_names, Bottom, State, operands, step}

@@ -2,8 +2,8 @@
 -- it stops where the machine stops.
 use Rattle.std.proofs.Common.{◌≡◌, ℕ, zero, suc, ◌+◌, ◌-◌, ◌<◌, ◌≤◌, Bool, true, false, List, [], ◌∷◌, length, drop, Option, Some, None, refl, sym, ap, ◌∙◌, subst, arith, length-drop, drop-drop, eqb-true}
 use Rattle.std.specs.Prelude.{codes, Result, Ok, Err, if◌then◌else◌, ◌==◌}
-use Rattle.lois_meaning.specs.Grammar.{TakesName, TakesNumber, TakesSymbol, TakesWord, TakesWordAt, structure_word, decimal}
-use Rattle.lois_meaning.specs.Tree.{ParamD}
+use Rattle.lois_script.specs.Grammar.{TakesName, TakesNumber, TakesSymbol, TakesWord, TakesWordAt, structure_word, decimal}
+use Rattle.lois_script.specs.Tree.{ParamD}
 use Rattle.lois_syntax.specs.Reading.{error_of}
 use Rattle.lois_syntax.specs.declared.halt.Halt.{Halt}
 use Rattle.lois_syntax.specs.declared.halt.Halt.TheVariants as halts

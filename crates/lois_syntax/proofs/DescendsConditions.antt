@@ -2,10 +2,10 @@
 -- conditions, however many brackets may be open.
 use Rattle.std.proofs.Common.{◌≡◌, ℕ, zero, suc, ◌+◌, ◌<◌, inl, inr, ⊎_elim, Bool, true, false, List, [], ◌∷◌, ◌++◌, drop, Option, Some, None, refl, subst, arith, drop-drop}
 use Rattle.std.specs.Prelude.{Result, Ok, if◌then◌else◌, codes, IsTrue}
-use Rattle.lois_meaning.specs.Grammar.{Spelling, ◌▹◌, TakesSymbol, Enclosed, AreMany, is_base, is_unit, is_conjunction, SpellsBinding, SpellsCond, SpellsMoreUnits, SpellsMoreConjunctions}
-use Rattle.lois_meaning.specs.Limits.{BindingIsNarrow, CondIsNarrow, CondsAreNarrow}
-use Rattle.lois_meaning.specs.Tree.{ExprD, BindingD, CondD, truth, falsity, not, all, any, exists, every}
-use Rattle.lois_meaning.specs.View.{conds_of}
+use Rattle.lois_script.specs.Grammar.{Spelling, ◌▹◌, TakesSymbol, Enclosed, AreMany, is_base, is_unit, is_conjunction, SpellsBinding, SpellsCond, SpellsMoreUnits, SpellsMoreConjunctions}
+use Rattle.lois_script.specs.Limits.{BindingIsNarrow, CondIsNarrow, CondsAreNarrow}
+use Rattle.lois_script.specs.Tree.{ExprD, BindingD, CondD, truth, falsity, not, all, any, exists, every}
+use Rattle.lois_script.specs.View.{conds_of}
 use Rattle.lois_syntax.specs.declared.halt.Halt.{Halt}
 use Rattle.lois_syntax.specs.declared.lexemes.BaseForm.{BaseForm}
 use Rattle.lois_syntax.specs.declared.lexemes.BaseForm.TheVariants as bases

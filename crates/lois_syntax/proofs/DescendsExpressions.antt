@@ -4,13 +4,13 @@ use Rattle.std.proofs.Common.{◌≡◌, ℕ, zero, suc, ◌+◌, ◌<◌, ◌�
 use Rattle.std.specs.Prelude.{Result, Ok, Err, if◌then◌else◌, ◌==◌, nat_eq, codes}
 use Rattle.std.specs.Prelude.{cond as choose}
 use Rattle.std.proofs.lemmas.Bool.{le-leb}
-use Rattle.lois_meaning.specs.declared.syntax.Operation.{Operation}
-use Rattle.lois_meaning.specs.declared.syntax.Operation.TheVariants as operations
-use Rattle.lois_meaning.specs.Grammar.{TakesSymbol, TakesSymbolAt, Enclosed, HasArity, IsWide, WhereClause, SpellsExpr, SpellsExprs, SpellsListed, SpellsMoreExprs, SpellsBinding, SpellsBindings, SpellsMoreBindings, SpellsCond}
-use Rattle.lois_meaning.specs.Limits.{opens, IsNarrow, AreNarrow, BindingIsNarrow, BindingsAreNarrow, CondIsNarrow}
-use Rattle.lois_meaning.specs.Tree.{ExprD, var, tuple, listed, no_exprs, expr, BindingD, CondD, truth}
-use Rattle.lois_meaning.specs.Tree as trees
-use Rattle.lois_meaning.specs.View.{exprs_of, bindings_of}
+use Rattle.lois_script.specs.declared.syntax.Operation.{Operation}
+use Rattle.lois_script.specs.declared.syntax.Operation.TheVariants as operations
+use Rattle.lois_script.specs.Grammar.{TakesSymbol, TakesSymbolAt, Enclosed, HasArity, IsWide, WhereClause, SpellsExpr, SpellsExprs, SpellsListed, SpellsMoreExprs, SpellsBinding, SpellsBindings, SpellsMoreBindings, SpellsCond}
+use Rattle.lois_script.specs.Limits.{opens, IsNarrow, AreNarrow, BindingIsNarrow, BindingsAreNarrow, CondIsNarrow}
+use Rattle.lois_script.specs.Tree.{ExprD, var, tuple, listed, no_exprs, expr, BindingD, CondD, truth}
+use Rattle.lois_script.specs.Tree as trees
+use Rattle.lois_script.specs.View.{exprs_of, bindings_of}
 use Rattle.lois_syntax.specs.declared.halt.Halt.{Halt}
 use Rattle.lois_syntax.specs.declared.halt.Halt.TheVariants as halts
 use Rattle.lois_syntax.specs.declared.lexemes.ExprForm.{ExprForm}

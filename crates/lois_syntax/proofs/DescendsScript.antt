@@ -1,10 +1,10 @@
 -- A whole script, as the descent reads it: it is a script within the limits, or it is refused as the machine refuses it.
 use Rattle.std.proofs.Common.{◌≡◌, ℕ, ◌+◌, true, false, List, [], ◌∷◌, length, drop, refl, sym, ap, ◌∙◌, subst, arith, drop-drop}
 use Rattle.std.specs.Prelude.{Result, Ok, Err}
-use Rattle.lois_meaning.specs.Grammar.{PlacedToken, TakesName, SpellsScript, SpellsStmts, SpellsParameters, SpellsMoreNames}
-use Rattle.lois_meaning.specs.Limits.{IsNestedWithin, StmtsAreWithin}
-use Rattle.lois_meaning.specs.Tree.{ParamD, ScriptD}
-use Rattle.lois_meaning.specs.View.{stmts_of}
+use Rattle.lois_script.specs.Grammar.{PlacedToken, TakesName, SpellsScript, SpellsStmts, SpellsParameters, SpellsMoreNames}
+use Rattle.lois_script.specs.Limits.{IsNestedWithin, StmtsAreWithin}
+use Rattle.lois_script.specs.Tree.{ParamD, ScriptD}
+use Rattle.lois_script.specs.View.{stmts_of}
 use Rattle.lois_syntax.specs.declared.halt.Halt.{Halt}
 use Rattle.lois_syntax.specs.declared.halt.Halt.TheVariants as halts
 use Rattle.lois_syntax.specs.declared.lexemes.Keyword.TheVariants as words

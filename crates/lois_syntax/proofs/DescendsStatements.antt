@@ -3,11 +3,11 @@ use Rattle.std.proofs.Common.{◌≡◌, ℕ, zero, suc, ◌+◌, ◌<◌, ◌�
 use Rattle.std.specs.Prelude.{not as flip, ◌&&◌}
 use Rattle.std.specs.Prelude.{cond as choose}
 use Rattle.std.specs.Prelude.{option_map, Result, Ok, Err, nat_lt, nat_eq, if◌then◌else◌}
-use Rattle.lois_meaning.specs.Grammar.{◌▹◌, TakesNumber, TakesWord, TakesSymbol, ElseClause, Block, SpellsStmt, SpellsStmts}
-use Rattle.lois_meaning.specs.Limits.{StmtIsWithin, StmtsAreWithin}
-use Rattle.lois_meaning.specs.Tree.{StmtD}
-use Rattle.lois_meaning.specs.View.{stmts_of}
-use Rattle.lois_meaning.specs.Grammar.{decimal}
+use Rattle.lois_script.specs.Grammar.{◌▹◌, TakesNumber, TakesWord, TakesSymbol, ElseClause, Block, SpellsStmt, SpellsStmts}
+use Rattle.lois_script.specs.Limits.{StmtIsWithin, StmtsAreWithin}
+use Rattle.lois_script.specs.Tree.{StmtD}
+use Rattle.lois_script.specs.View.{stmts_of}
+use Rattle.lois_script.specs.Grammar.{decimal}
 use Rattle.lois_syntax.specs.Refusals as limits
 use Rattle.lois_syntax.specs.declared.halt.Halt.TheVariants as halts
 use Rattle.lois_syntax.specs.declared.halt.Halt.{Halt}

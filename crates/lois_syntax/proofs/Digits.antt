@@ -4,7 +4,7 @@ use Rattle.std.specs.List.{list_all}
 use Rattle.std.specs.Char.{is_ascii_digit}
 use Rattle.std.proofs.lemmas.Bool.Decides.{nat_tests}
 use Rattle.std.proofs.lemmas.List.Folds.{list_all_at}
-use Rattle.lois_meaning.specs.Grammar.{decimal_behind}
+use Rattle.lois_script.specs.Grammar.{decimal_behind}
 
 -- the numbers with i digits are below it
 abbrev pub power : ℕ → ℕ

@@ -1,9 +1,9 @@
 -- Expressions in a list that grows at its end.
 use Rattle.std.proofs.Common.{◌≡◌, suc, List, [], ◌∷◌, ◌++◌, length, refl, sym, ap, subst, codes}
-use Rattle.lois_meaning.specs.Grammar.{PlacedToken, ◌▹◌, TakesSymbol, SpellsExpr, SpellsExprs, SpellsMoreExprs}
-use Rattle.lois_meaning.specs.Limits.{width, IsNarrow, AreNarrow}
-use Rattle.lois_meaning.specs.Tree.{ExprD, no_exprs}
-use Rattle.lois_meaning.specs.View.{exprs_of}
+use Rattle.lois_script.specs.Grammar.{PlacedToken, ◌▹◌, TakesSymbol, SpellsExpr, SpellsExprs, SpellsMoreExprs}
+use Rattle.lois_script.specs.Limits.{width, IsNarrow, AreNarrow}
+use Rattle.lois_script.specs.Tree.{ExprD, no_exprs}
+use Rattle.lois_script.specs.View.{exprs_of}
 
 pub width_of : (es : List ExprD) → width (exprs_of es) ≡ length es
 width_of [] = refl

@@ -1,8 +1,8 @@
 -- Whatever has still to come, some tokens spell it.
 use Rattle.std.proofs.Common.{ℕ, true, List, [], ◌∷◌, inl, refl, arith, codes}
 use Rattle.lois_lexer.specs.declared.TokenKind.TheVariants as kinds
-use Rattle.lois_meaning.specs.Grammar.{PlacedToken}
-use Rattle.lois_meaning.specs.Tree.{atoms, no_exprs, expr, no_bindings, truth, no_conds, no_stmts}
+use Rattle.lois_script.specs.Grammar.{PlacedToken}
+use Rattle.lois_script.specs.Tree.{atoms, no_exprs, expr, no_bindings, truth, no_conds, no_stmts}
 use Rattle.lois_syntax.specs.declared.lexemes.Terminal.{Terminal}
 use Rattle.lois_syntax.specs.declared.lexemes.Terminal.TheVariants.{Atoms as the_atoms, Structure as structure, Semicolon as semicolon, Comma as comma, CloseRound as close_round, CloseSquare as close_square, OpenCurly as open_curly, CloseCurly as close_curly, Colon as colon, Equal as equal, Becomes as becomes, In as within, To as to, Relation as relation, Name as name, Number as number}
 use Rattle.lois_syntax.specs.Machine.{Ending, token, turns_block, Arguments, one, two, part_number, Item, terminal, expression, arguments, more_parts, more_items, after_brace, after_item, more_bindings, where_clause, condition, more_condition, unit, base, turns_number, statements, after_if, more_names, Bottom, body, outermost, after_outer_if, State}

@@ -4,10 +4,10 @@ use Rattle.std.specs.Str.{bytes_eq}
 use Rattle.std.proofs.lemmas.Bool.{false≢true}
 use Rattle.lois_lexer.specs.declared.TokenKind.{TokenKind}
 use Rattle.lois_lexer.specs.declared.TokenKind.TheVariants.{Name, Word, Tag, Number, Symbol}
-use Rattle.lois_meaning.specs.declared.syntax.Operation.{Operation}
-use Rattle.lois_meaning.specs.declared.syntax.Operation.TheVariants.{Union, Inter, Minus, Flatten, Reach, Product, Complement, Minimise}
-use Rattle.lois_meaning.specs.Tree.{ExprD, atoms, var, tag, tuple, listed, each, part, apply, StmtD, «let», assign, add, for, if, while, assert, print}
-use Rattle.lois_meaning.specs.Grammar.{PlacedToken, operation_word, SpellsExpr, SpellsStmt}
+use Rattle.lois_script.specs.declared.syntax.Operation.{Operation}
+use Rattle.lois_script.specs.declared.syntax.Operation.TheVariants.{Union, Inter, Minus, Flatten, Reach, Product, Complement, Minimise}
+use Rattle.lois_script.specs.Tree.{ExprD, atoms, var, tag, tuple, listed, each, part, apply, StmtD, «let», assign, add, for, if, while, assert, print}
+use Rattle.lois_script.specs.Grammar.{PlacedToken, operation_word, SpellsExpr, SpellsStmt}
 use Rattle.lois_syntax.proofs.Lengths.{Tokens}
 
 abbrev is_symbol_kind : TokenKind → Bool

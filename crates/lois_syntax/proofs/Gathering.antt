@@ -1,7 +1,7 @@
 -- Loops that gather what they read.
 use Rattle.std.proofs.Common.{◌≡◌, ℕ, zero, suc, ◌+◌, ◌<◌, ◌≤◌, Bool, true, false, List, [], ◌∷◌, ◌++◌, length, drop, Result, Ok, Err, refl, sym, ap, ◌∙◌, append_assoc, length-append, arith}
 use Rattle.std.proofs.lemmas.List.{append-nil}
-use Rattle.lois_meaning.specs.Tree.{ExprD, CondD, StmtD}
+use Rattle.lois_script.specs.Tree.{ExprD, CondD, StmtD}
 use Rattle.lois_syntax.specs.Descent.{Tokens, Read, ◌>>=◌, behind, many, begins, next, listed, begins_and, begins_or, more_units, more_conjunctions, more_parts, parts, goes_on, is_some, statement, outermost}
 use Rattle.lois_syntax.specs.Reading.{Stops}
 use Rattle.lois_syntax.specs.declared.halt.Halt.{Halt}

@@ -1,7 +1,7 @@
 -- The places of a script where a statement may begin.
 use Rattle.std.proofs.Common.{◌≡◌, false, Some, None, List, [], ◌∷◌, ◌++◌, append-nil, append_assoc, refl, sym, ap, ◌∙◌}
 use Rattle.std.specs.Prelude.{option_map}
-use Rattle.lois_meaning.specs.Grammar.{PlacedToken}
+use Rattle.lois_script.specs.Grammar.{PlacedToken}
 use Rattle.lois_syntax.specs.Lexemes.{accepts, stmt_form, lead}
 use Rattle.lois_syntax.specs.declared.lexemes.Terminal.TheVariants.{OpenCurly as open_curly, CloseCurly as close_curly}
 use Rattle.lois_syntax.specs.Machine.{token, Item, terminal, condition, statements, after_if, outermost, after_outer_if, State, push, behind, statement_start, statements_start, at_bottom, bottom_start, step, item_breach, is_end_of}

@@ -1,7 +1,7 @@
 -- What stands in one bracket more.
 use Rattle.std.proofs.Common.{◌≡◌, ℕ, zero, suc, Result, Ok, Err, refl, ap}
-use Rattle.lois_meaning.specs.Tree as trees
-use Rattle.lois_meaning.specs.Tree.{ExprD}
+use Rattle.lois_script.specs.Tree as trees
+use Rattle.lois_script.specs.Tree.{ExprD}
 use Rattle.lois_syntax.specs.declared.halt.Halt.{Halt}
 use Rattle.lois_syntax.specs.declared.lexemes.Terminal.TheVariants as terminals
 use Rattle.lois_syntax.specs.Descent.{Tokens, Read, ◌>>=◌, name, pass, binding, expr_here, cond_here, expr_of, cond_of, block_of, statement, statements, inner_expr, inner_cond, inner_block}

@@ -1,8 +1,8 @@
 -- The tokens that each item of the machine's stack may stand for. Where `limits` holds, those of the forms within the limits.
 use Rattle.std.proofs.Common.{ℕ, ◌+◌, ◌≤◌, true, List, [], ◌∷◌, ◌++◌, codes, Option, Some, None, refl, sym, subst}
-use Rattle.lois_meaning.specs.Tree.{ExprD, ExprsD, BindingD, BindingsD, CondD, CondsD, StmtsD, ParamD}
-use Rattle.lois_meaning.specs.Grammar.{PlacedToken, Spelling, Nothing, Either, ◌▹◌, TakesWord, TakesSymbol, TakesNumber, SpellsExpr, SpellsMoreExprs, SpellsBinding, SpellsMoreBindings, SpellsCond, SpellsMoreUnits, SpellsMoreConjunctions, Enclosed, is_unit, is_base, WhereClause, ElseClause, SpellsStmts, SpellsMoreNames, SpellsParameters}
-use Rattle.lois_meaning.specs.Limits.{width, IsNarrow, AreNarrow, BindingIsNarrow, BindingsAreNarrow, CondIsNarrow, CondsAreNarrow, StmtsAreWithin}
+use Rattle.lois_script.specs.Tree.{ExprD, ExprsD, BindingD, BindingsD, CondD, CondsD, StmtsD, ParamD}
+use Rattle.lois_script.specs.Grammar.{PlacedToken, Spelling, Nothing, Either, ◌▹◌, TakesWord, TakesSymbol, TakesNumber, SpellsExpr, SpellsMoreExprs, SpellsBinding, SpellsMoreBindings, SpellsCond, SpellsMoreUnits, SpellsMoreConjunctions, Enclosed, is_unit, is_base, WhereClause, ElseClause, SpellsStmts, SpellsMoreNames, SpellsParameters}
+use Rattle.lois_script.specs.Limits.{width, IsNarrow, AreNarrow, BindingIsNarrow, BindingsAreNarrow, CondIsNarrow, CondsAreNarrow, StmtsAreWithin}
 use Rattle.lois_syntax.specs.declared.lexemes.Terminal.{Terminal}
 use Rattle.lois_syntax.specs.declared.lexemes.Terminal.TheVariants.{Comma as comma, CloseRound as close_round, Number as number}
 use Rattle.lois_syntax.specs.Steps.{One}

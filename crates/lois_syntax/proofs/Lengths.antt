@@ -2,8 +2,8 @@
 use Rattle.std.proofs.Common.{◌≡◌, ℕ, zero, suc, ◌≤◌, Bool, true, List, ◌∷◌, length, codes, ap, inl, inr, arith}
 use Rattle.lois_lexer.specs.declared.TokenKind.{TokenKind}
 use Rattle.lois_lexer.specs.declared.TokenKind.TheVariants.{Name, Word, Tag, Symbol}
-use Rattle.lois_meaning.specs.Tree.{ExprD, atoms, var, tag, tuple, listed, each, part, apply, ExprsD, no_exprs, expr, BindingD, binding, BindingsD, no_bindings, bind, CondD, truth, falsity, same, differ, below, member, included, empty, not, all, any, exists, every, CondsD, no_conds, cond}
-use Rattle.lois_meaning.specs.Grammar.{PlacedToken, Spelling, Nothing, Never, Provided, Either, ◌▹◌, Takes, TakesWord, TakesSymbol, TakesNumber, IsWide, AreMany, operation_word, HasArity, Bracketed, Enclosed, is_base, is_unit, is_conjunction, WhereClause, SpellsExpr, SpellsExprs, SpellsListed, SpellsMoreExprs, SpellsBinding, SpellsBindings, SpellsMoreBindings, SpellsCond, SpellsUnits, SpellsMoreUnits, SpellsConjunctions, SpellsMoreConjunctions}
+use Rattle.lois_script.specs.Tree.{ExprD, atoms, var, tag, tuple, listed, each, part, apply, ExprsD, no_exprs, expr, BindingD, binding, BindingsD, no_bindings, bind, CondD, truth, falsity, same, differ, below, member, included, empty, not, all, any, exists, every, CondsD, no_conds, cond}
+use Rattle.lois_script.specs.Grammar.{PlacedToken, Spelling, Nothing, Never, Provided, Either, ◌▹◌, Takes, TakesWord, TakesSymbol, TakesNumber, IsWide, AreMany, operation_word, HasArity, Bracketed, Enclosed, is_base, is_unit, is_conjunction, WhereClause, SpellsExpr, SpellsExprs, SpellsListed, SpellsMoreExprs, SpellsBinding, SpellsBindings, SpellsMoreBindings, SpellsCond, SpellsUnits, SpellsMoreUnits, SpellsConjunctions, SpellsMoreConjunctions}
 
 abbrev pub Tokens : Type 0
 Tokens = List PlacedToken

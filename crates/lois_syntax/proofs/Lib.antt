@@ -10,7 +10,6 @@ pub mod Verdicts
 pub mod Unbroken
 pub mod TokenSteps
 pub mod AcceptedTokens
-pub mod Names
 pub mod Gathering
 pub mod InnerForms
 pub mod ReadScript

@@ -3,10 +3,10 @@ use Rattle.std.proofs.Common.{◌≡◌, ℕ, zero, suc, ◌<◌, Bool, true, fa
 use Rattle.std.specs.Prelude.{nat_le}
 use Rattle.std.specs.Str.{bytes_eq}
 use Rattle.lois_lexer.specs.declared.TokenKind.TheVariants.{Word}
-use Rattle.lois_meaning.specs.declared.syntax.Operation.{Operation}
-use Rattle.lois_meaning.specs.declared.syntax.Operation.TheVariants.{Union, Inter, Minus, Flatten, Reach, Product, Complement, Minimise}
-use Rattle.lois_meaning.specs.Tree.{ExprD, atoms, var, tag, tuple, listed, each, part, apply, ExprsD, no_exprs, expr, BindingD, CondD, truth, falsity, same, differ, below, member, included, empty, not, all, any, exists, every}
-use Rattle.lois_meaning.specs.Grammar.{PlacedToken, ◌▹◌, TakesWord, TakesSymbol, TakesNumber, operation_word, WhereClause, SpellsExpr, SpellsExprs, SpellsListed, SpellsMoreExprs, SpellsBinding, SpellsBindings, SpellsCond}
+use Rattle.lois_script.specs.declared.syntax.Operation.{Operation}
+use Rattle.lois_script.specs.declared.syntax.Operation.TheVariants.{Union, Inter, Minus, Flatten, Reach, Product, Complement, Minimise}
+use Rattle.lois_script.specs.Tree.{ExprD, atoms, var, tag, tuple, listed, each, part, apply, ExprsD, no_exprs, expr, BindingD, CondD, truth, falsity, same, differ, below, member, included, empty, not, all, any, exists, every}
+use Rattle.lois_script.specs.Grammar.{PlacedToken, ◌▹◌, TakesWord, TakesSymbol, TakesNumber, operation_word, WhereClause, SpellsExpr, SpellsExprs, SpellsListed, SpellsMoreExprs, SpellsBinding, SpellsBindings, SpellsCond}
 use Rattle.lois_syntax.proofs.Lengths.{Tokens, expr_shrinks, binding_shrinks, bindings_shrink}
 use Rattle.lois_syntax.proofs.FirstTokens.{is_symbol, Avoids, avoids, never_avoids, one_token, token_class, first_class, expr_class, expr_first}
 use Rattle.lois_syntax.proofs.OneExpression.{is_comma, is_where, ends_before, Base, UnitCond, Condition, Decides, no_form, base_as_unit, number_once, exprs, binding_once, bindings, condition_once, where_once}

@@ -2,8 +2,8 @@
 use Rattle.std.proofs.Common.{◌≡◌, ℕ, zero, suc, ◌<◌, ◌⊎◌, Bool, true, false, ◌∷◌, length, codes, refl, sym, ap, ◌∙◌, subst, inl, inr, arith}
 use Rattle.std.specs.Prelude.{IsTrue}
 use Rattle.std.proofs.lemmas.Bool.{false≢true}
-use Rattle.lois_meaning.specs.Tree.{ExprD, ExprsD, no_exprs, expr, BindingD, binding, BindingsD, no_bindings, bind, CondD, all, any, CondsD, no_conds, cond}
-use Rattle.lois_meaning.specs.Grammar.{PlacedToken, Spelling, TakesNumber, decimal, AreMany, Enclosed, is_base, is_unit, is_conjunction, WhereClause, SpellsExpr, SpellsExprs, SpellsMoreExprs, SpellsBinding, SpellsBindings, SpellsMoreBindings, SpellsCond, SpellsUnits, SpellsMoreUnits, SpellsConjunctions, SpellsMoreConjunctions}
+use Rattle.lois_script.specs.Tree.{ExprD, ExprsD, no_exprs, expr, BindingD, binding, BindingsD, no_bindings, bind, CondD, all, any, CondsD, no_conds, cond}
+use Rattle.lois_script.specs.Grammar.{PlacedToken, Spelling, TakesNumber, decimal, AreMany, Enclosed, is_base, is_unit, is_conjunction, WhereClause, SpellsExpr, SpellsExprs, SpellsMoreExprs, SpellsBinding, SpellsBindings, SpellsMoreBindings, SpellsCond, SpellsUnits, SpellsMoreUnits, SpellsConjunctions, SpellsMoreConjunctions}
 use Rattle.lois_syntax.proofs.Lengths.{Tokens, expr_shrinks, enclosed_shrinks, cond_shrinks, binding_shrinks}
 use Rattle.lois_syntax.proofs.FirstTokens.{is_word, is_symbol, Avoids, avoids, never_avoids, one_token}
 

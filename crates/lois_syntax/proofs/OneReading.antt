@@ -1,7 +1,7 @@
 -- Tokens are those of one expression, binding, condition and clause at most, with one end.
 use Rattle.std.proofs.Common.{◌≡◌, suc, length, arith}
-use Rattle.lois_meaning.specs.Tree.{ExprD, BindingD, CondD}
-use Rattle.lois_meaning.specs.Grammar.{WhereClause, SpellsExpr, SpellsBinding, SpellsCond}
+use Rattle.lois_script.specs.Tree.{ExprD, BindingD, CondD}
+use Rattle.lois_script.specs.Grammar.{WhereClause, SpellsExpr, SpellsBinding, SpellsCond}
 use Rattle.lois_syntax.proofs.Lengths.{Tokens}
 use Rattle.lois_syntax.proofs.FirstTokens.{Avoids}
 use Rattle.lois_syntax.proofs.OneExpression.{is_where, EndsCond, Condition, binding_once, condition_once, where_once}

@@ -3,8 +3,8 @@ use Rattle.std.proofs.Common.{◌≡◌, ℕ, Bool, true, false, ◌&&◌, ◌||
 use Rattle.std.specs.Prelude.{nat_le}
 use Rattle.std.proofs.lemmas.Bool.{false≢true}
 use Rattle.lois_lexer.specs.declared.TokenKind.TheVariants.{Word}
-use Rattle.lois_meaning.specs.Tree.{StmtD, «let», assign, add, for, if, while, assert, print, StmtsD, no_stmts, stmt, ParamD}
-use Rattle.lois_meaning.specs.Grammar.{PlacedToken, TakesWord, TakesNumber, WhereClause, Block, ElseClause, SpellsExpr, SpellsBinding, SpellsCond, SpellsStmt, SpellsStmts, SpellsMoreNames, SpellsParameters, structure_word, SpellsScript, placed}
+use Rattle.lois_script.specs.Tree.{StmtD, «let», assign, add, for, if, while, assert, print, StmtsD, no_stmts, stmt, ParamD}
+use Rattle.lois_script.specs.Grammar.{PlacedToken, TakesWord, TakesNumber, WhereClause, Block, ElseClause, SpellsExpr, SpellsBinding, SpellsCond, SpellsStmt, SpellsStmts, SpellsMoreNames, SpellsParameters, structure_word, SpellsScript, placed}
 use Rattle.lois_lexer.specs.declared.Token.{Token}
 use Rattle.lois_lexer.proofs.OneReading.{one_list}
 use Rattle.lois_syntax.specs.Laws.{OneScript, OneScriptOfText}

@@ -1,19 +1,21 @@
 -- What the descent over all tokens says of the text.
-use Rattle.std.proofs.Common.{◌≡◌, ◌≢◌, ℕ, List, length, Ok, Err, refl, subst}
+use Rattle.std.proofs.Common.{◌≡◌, ◌≢◌, ℕ, ◌⊎◌, inl, inr, List, length, Ok, Err, refl, subst}
 use Rattle.std.proofs.lemmas.List.{length-map}
 use Rattle.lois_lexer.specs.declared.Token.{Token}
 use Rattle.lois_lexer.specs.Tokens.{HasTokens}
-use Rattle.lois_meaning.specs.Grammar.{placed}
-use Rattle.lois_meaning.specs.Limits.{Spells}
-use Rattle.lois_meaning.specs.Tree.{ScriptD}
+use Rattle.lois_script.specs.Grammar.{placed}
+use Rattle.lois_script.specs.Limits.{Spells}
+use Rattle.lois_script.specs.Tree.{ScriptD}
 use Rattle.lois_syntax.specs.Descent as descent
 use Rattle.lois_syntax.specs.Reading.{Stops, error_of}
 use Rattle.lois_syntax.specs.Refusals.{Refuses, tokens_in}
+use Rattle.lois_syntax.specs.declared.SyntaxError.{SyntaxError}
 use Rattle.lois_syntax.specs.declared.SyntaxError.TheVariants as errors
 use Rattle.lois_syntax.specs.declared.halt.Halt.{Halt}
 use Rattle.lois_syntax.specs.declared.halt.Halt.TheVariants.{NoScript, TooNested, WideTuple, TurnsTooMany, NoMemory}
 use Rattle.lois_syntax.proofs.DescendsScript.{Judged, script_reads}
-use Rattle.lois_syntax.proofs.Refusing.{never_both}
+use Rattle.lois_syntax.proofs.OneStatement.{one_script_of_text}
+use Rattle.lois_syntax.proofs.Refusing.{never_both, one_refusal}
 
 module _ (text : List ℕ) (tokens : List Token) (cut : HasTokens text tokens) where
   pub spells : (s : ScriptD) → descent.script (tokens_in text tokens) ≡ Ok s → Spells text s
@@ -45,3 +47,21 @@ module _ (text : List ℕ) (tokens : List Token) (cut : HasTokens text tokens) w
   accepts (WideTuple left) e s spelled = absurd (never (WideTuple left) e s spelled)
   accepts (TurnsTooMany left) e s spelled = absurd (never (TurnsTooMany left) e s spelled)
   accepts NoMemory e s spelled = refl
+
+  -- what is read is the one script of the text
+  pub those : (s : ScriptD) → descent.script (tokens_in text tokens) ≡ Ok s → (other : ScriptD) → Spells text other → s ≡ other
+  those s e other spelled = one_script_of_text text s other (spells s e) spelled
+
+  pub never_refused : (s : ScriptD) → descent.script (tokens_in text tokens) ≡ Ok s → (error : SyntaxError) → Refuses (tokens_in text tokens) error → ⊥
+  never_refused s e error refused = never_both text tokens s error cut (spells s e) refused
+
+  only : (h : Halt) → descent.script (tokens_in text tokens) ≡ Err h → (error : SyntaxError) → Refuses (tokens_in text tokens) error → error_of (length tokens) h ≡ error
+  only h e error refused = one_refusal (tokens_in text tokens) (error_of (length tokens) h) error (refused_by h e) refused
+
+  -- the tokens are refused in this way alone, unless memory ran out
+  pub refuses_so : (h : Halt) → Stops h (descent.script (tokens_in text tokens)) → (error : SyntaxError) → Refuses (tokens_in text tokens) error → (error_of (length tokens) h ≡ error) ⊎ (error_of (length tokens) h ≡ errors.NoMemory)
+  refuses_so (NoScript left) e error refused = inl (only (NoScript left) e error refused)
+  refuses_so (TooNested left) e error refused = inl (only (TooNested left) e error refused)
+  refuses_so (WideTuple left) e error refused = inl (only (WideTuple left) e error refused)
+  refuses_so (TurnsTooMany left) e error refused = inl (only (TurnsTooMany left) e error refused)
+  refuses_so NoMemory e error refused = inr refl

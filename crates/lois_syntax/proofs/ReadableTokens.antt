@@ -20,7 +20,7 @@ use Rattle.lois_syntax.specs.Steps.{first_lexeme}
 use Rattle.lois_syntax.specs.declared.lexemes.Lexeme.TheVariants as lexemes
 use Rattle.lois_syntax.specs.declared.lexemes.Terminal.TheVariants as terminals
 use Rattle.lois_syntax.proofs.AcceptedTokens.{name_accepted, number_accepted}
-use Rattle.lois_syntax.proofs.Names.{is_name as name_form, is_tag_name as tag_form}
+use Rattle.lois_script.proofs.Names.{is_name as name_form, is_tag_name as tag_form}
 use Rattle.lois_syntax.proofs.Tokens.{kind_is}
 
 pub record Lies (text : List ℕ) (t : Token) : Type 0 where

@@ -6,9 +6,9 @@ use Rattle.lois_lexer.specs.declared.TokenKind.TheVariants as kinds
 use Rattle.lois_lexer.specs.declared.Token.{Token}
 use Rattle.lois_lexer.specs.Tokens.{HasTokens}
 use Rattle.lois_lexer.proofs.OneReading.{one_list}
-use Rattle.lois_meaning.specs.Tree.{ScriptD}
-use Rattle.lois_meaning.specs.Grammar.{PlacedToken, SpellsScript, SpellsParameters, Begins}
-use Rattle.lois_meaning.specs.Limits.{opens, IsNestedWithin, StmtsAreWithin, Spells}
+use Rattle.lois_script.specs.Tree.{ScriptD}
+use Rattle.lois_script.specs.Grammar.{PlacedToken, SpellsScript, SpellsParameters, Begins}
+use Rattle.lois_script.specs.Limits.{opens, IsNestedWithin, StmtsAreWithin, Spells}
 use Rattle.lois_syntax.specs.Machine.{no_script, over, accepted, refused, verdict, start}
 use Rattle.lois_syntax.specs.Refusals.{Fails, Limit, nesting, parts, turns, GoesOver, Breaks, Refuses, tokens_in}
 use Rattle.lois_syntax.specs.declared.SyntaxError.{SyntaxError}

@@ -2,11 +2,11 @@
 -- item is spelled with the token.
 use Rattle.std.proofs.Common.{◌≡◌, ℕ, suc, ◌+◌, ◌≤◌, Bool, true, false, Option, Some, None, option_map, List, [], ◌∷◌, ◌++◌, inl, inr, refl, subst, arith, codes, leb-true}
 use Rattle.std.specs.Prelude.{nat_le, option_map}
-use Rattle.lois_meaning.specs.Grammar.{PlacedToken, Spelling, TakesSymbol, decimal, IsWide, HasArity, SpellsCond, SpellsMoreUnits, SpellsMoreConjunctions, Enclosed, is_unit, is_base, is_conjunction, ElseClause, SpellsStmt, SpellsStmts}
-use Rattle.lois_meaning.specs.Limits.{width}
-use Rattle.lois_meaning.specs.Tree.{ExprD, atoms, var, tag, tuple, listed, each, part, apply, ExprsD, no_exprs, expr, binding, no_bindings, bind, CondD, truth, falsity, same, differ, below, member, included, empty, not, all, any, exists, every, CondsD, no_conds, cond, StmtD, «let», assign, add, for, if, while, assert, print, StmtsD, no_stmts, stmt}
-use Rattle.lois_meaning.specs.declared.syntax.Operation.{Operation}
-use Rattle.lois_meaning.specs.declared.syntax.Operation.TheVariants.{Union, Inter, Minus, Flatten, Reach, Product, Complement, Minimise}
+use Rattle.lois_script.specs.Grammar.{PlacedToken, Spelling, TakesSymbol, decimal, IsWide, HasArity, SpellsCond, SpellsMoreUnits, SpellsMoreConjunctions, Enclosed, is_unit, is_base, is_conjunction, ElseClause, SpellsStmt, SpellsStmts}
+use Rattle.lois_script.specs.Limits.{width}
+use Rattle.lois_script.specs.Tree.{ExprD, atoms, var, tag, tuple, listed, each, part, apply, ExprsD, no_exprs, expr, binding, no_bindings, bind, CondD, truth, falsity, same, differ, below, member, included, empty, not, all, any, exists, every, CondsD, no_conds, cond, StmtD, «let», assign, add, for, if, while, assert, print, StmtsD, no_stmts, stmt}
+use Rattle.lois_script.specs.declared.syntax.Operation.{Operation}
+use Rattle.lois_script.specs.declared.syntax.Operation.TheVariants.{Union, Inter, Minus, Flatten, Reach, Product, Complement, Minimise}
 use Rattle.lois_syntax.specs.Lexemes.{lexeme_of}
 use Rattle.lois_syntax.specs.declared.lexemes.Terminal.{Terminal}
 use Rattle.lois_syntax.specs.declared.lexemes.Terminal.TheVariants.{Atoms as the_atoms, Structure as structure, Semicolon as semicolon, Comma as comma, CloseRound as close_round, CloseSquare as close_square, OpenCurly as open_curly, CloseCurly as close_curly, Colon as colon, Equal as equal, Becomes as becomes, In as within, To as to, Relation as relation, Name as name, Number as number}

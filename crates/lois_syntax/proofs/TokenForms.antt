@@ -1,6 +1,6 @@
 -- What the form of a token says of the token, and of the machine.
 use Rattle.std.proofs.Common.{◌≡◌, ℕ, ◌+◌, true, false, Some, None, List, [], ◌∷◌, drop, refl, sym, ap, subst}
-use Rattle.lois_meaning.specs.Grammar.{PlacedToken, TakesWordAt, TakesSymbolAt, TakesName, TakesTag, TakesNumber, decimal}
+use Rattle.lois_script.specs.Grammar.{PlacedToken, TakesWordAt, TakesSymbolAt, TakesName, TakesTag, TakesNumber, decimal}
 use Rattle.lois_syntax.specs.Lexemes.{word_of, sign_of}
 use Rattle.lois_syntax.specs.declared.lexemes.Terminal.{Terminal}
 use Rattle.lois_syntax.specs.declared.lexemes.Terminal.TheVariants.{Relation as relation}

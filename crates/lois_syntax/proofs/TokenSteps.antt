@@ -2,8 +2,8 @@
 use Rattle.std.proofs.Common.{◌≡◌, ◌≢◌, ℕ, zero, suc, ◌+◌, ◌-◌, ◌<◌, Bool, true, false, ◌&&◌, Option, Some, None, List, [], ◌∷◌, ◌++◌, drop, append_assoc, ap₂, refl, sym, ap, ◌∙◌, subst, arith, eq-eqb, ne_eqb}
 use Rattle.std.specs.Prelude.{nat_eq, option_map, if◌then◌else◌}
 use Rattle.std.specs.Prelude.{cond as choose}
-use Rattle.lois_meaning.specs.Grammar.{PlacedToken}
-use Rattle.lois_meaning.specs.Limits.{opens, closes, open_after}
+use Rattle.lois_script.specs.Grammar.{PlacedToken}
+use Rattle.lois_script.specs.Limits.{opens, closes, open_after}
 use Rattle.lois_syntax.specs.Lexemes.{lexeme_of}
 use Rattle.lois_syntax.specs.Machine.{Item, State, behind, item_start, at_bottom, step}
 use Rattle.lois_syntax.specs.declared.lexemes.Lexeme.{Lexeme}

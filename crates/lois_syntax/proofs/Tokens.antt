@@ -6,7 +6,7 @@ use Rattle.std.specs.Str.{bytes_eq}
 use Rattle.std.proofs.lemmas.Slice.Eq.{bytes_eq-Decides}
 use Rattle.lois_lexer.specs.declared.TokenKind.{TokenKind}
 use Rattle.lois_lexer.specs.declared.TokenKind.TheVariants as kinds
-use Rattle.lois_meaning.specs.Grammar.{PlacedToken, TakesWordAt, TakesSymbolAt, TakesName, TakesTag, TakesNumber, decimal}
+use Rattle.lois_script.specs.Grammar.{PlacedToken, TakesWordAt, TakesSymbolAt, TakesName, TakesTag, TakesNumber, decimal}
 use Rattle.lois_syntax.specs.Lexemes.{word_of, sign_of, as_word, as_symbol, as_tag, lexeme_from, lexeme_of}
 use Rattle.lois_syntax.specs.declared.lexemes.TheConstants.{KEYWORDS, SIGNS}
 use Rattle.lois_syntax.specs.declared.lexemes.Lexeme.{Lexeme}

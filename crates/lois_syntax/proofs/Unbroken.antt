@@ -3,9 +3,9 @@ use Rattle.std.proofs.Common.{◌≡◌, ℕ, zero, suc, ◌+◌, ◌<◌, ◌�
 use Rattle.std.specs.Prelude.{nat_eq, option_map}
 use Rattle.std.specs.Prelude.{cond as choose}
 use Rattle.lois_lexer.specs.declared.TokenKind.TheVariants as kinds
-use Rattle.lois_meaning.specs.Grammar.{PlacedToken, decimal, SpellsExpr, SpellsMoreExprs}
-use Rattle.lois_meaning.specs.Limits.{opens, open_after, width}
-use Rattle.lois_meaning.specs.Tree.{ExprD, ExprsD, no_exprs, expr}
+use Rattle.lois_script.specs.Grammar.{PlacedToken, decimal, SpellsExpr, SpellsMoreExprs}
+use Rattle.lois_script.specs.Limits.{opens, open_after, width}
+use Rattle.lois_script.specs.Tree.{ExprD, ExprsD, no_exprs, expr}
 use Rattle.lois_syntax.specs.Lexemes.{lexeme_of}
 use Rattle.lois_syntax.specs.declared.lexemes.Terminal.{Terminal}
 use Rattle.lois_syntax.specs.declared.lexemes.Terminal.TheVariants.{Atoms as the_atoms, Comma as comma, CloseRound as close_round, OpenCurly as open_curly, Relation as relation, Number as number}

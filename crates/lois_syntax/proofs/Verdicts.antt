@@ -1,7 +1,7 @@
 -- What the machine's verdict says of the tokens.
 use Rattle.std.proofs.Common.{◌≡◌, ℕ, suc, ◌+◌, ◌<◌, Bool, true, false, ◌⊎◌, inl, inr, Option, Some, None, List, [], ◌∷◌, ◌++◌, length, take, refl, sym, ap, ◌∙◌, subst, arith}
-use Rattle.lois_meaning.specs.Grammar.{PlacedToken}
-use Rattle.lois_meaning.specs.Limits.{open_after}
+use Rattle.lois_script.specs.Grammar.{PlacedToken}
+use Rattle.lois_script.specs.Limits.{open_after}
 use Rattle.lois_syntax.specs.Lexemes.{lexeme_of}
 use Rattle.lois_syntax.specs.Machine.{State, step}
 use Rattle.lois_syntax.proofs.Language.{Completes}

@@ -1,11 +1,11 @@
 -- The descent over the tokens that are still to come: each form gives its tree and the tokens behind it, or where the
 -- reader stops. This file is of the reader's own steps, and no public clause cites it.
 use Rattle.std.specs.Prelude.{ℕ, zero, suc, Bool, true, false, not, ◌==◌, nat_lt, List, [], ◌∷◌, ◌++◌, length, drop, Option, Some, None, Result, Ok, Err, if◌then◌else◌}
-use Rattle.lois_meaning.specs.Grammar.{PlacedToken, decimal}
-use Rattle.lois_meaning.specs.Tree as trees
-use Rattle.lois_meaning.specs.Tree.{ExprD, no_exprs, expr, BindingD, CondD, StmtD, ParamD, ScriptD}
-use Rattle.lois_meaning.specs.View.{exprs_of, bindings_of, conds_of, stmts_of}
-use Rattle.lois_meaning.specs.declared.syntax.Operation.{Operation}
+use Rattle.lois_script.specs.Grammar.{PlacedToken, decimal}
+use Rattle.lois_script.specs.Tree as trees
+use Rattle.lois_script.specs.Tree.{ExprD, no_exprs, expr, BindingD, CondD, StmtD, ParamD, ScriptD}
+use Rattle.lois_script.specs.View.{exprs_of, bindings_of, conds_of, stmts_of}
+use Rattle.lois_script.specs.declared.syntax.Operation.{Operation}
 use Rattle.lois_syntax.specs.Lexemes.{accepts, relation_of, unit_form, expr_form, base_form, stmt_form, joint, lead, has_two_operands}
 use Rattle.lois_syntax.specs.Steps.{first_lexeme, first_place, first_bytes}
 use Rattle.lois_syntax.specs.declared.halt.Halt.{Halt}

@@ -2,9 +2,9 @@
 use Rattle.std.specs.Prelude.{◌≡◌, ℕ, List}
 use Rattle.lois_lexer.specs.declared.Token.{Token}
 use Rattle.lois_lexer.specs.Tokens.{HasTokens}
-use Rattle.lois_meaning.specs.Tree.{ScriptD}
-use Rattle.lois_meaning.specs.Grammar.{PlacedToken, SpellsScript}
-use Rattle.lois_meaning.specs.Limits.{Spells}
+use Rattle.lois_script.specs.Tree.{ScriptD}
+use Rattle.lois_script.specs.Grammar.{PlacedToken, SpellsScript}
+use Rattle.lois_script.specs.Limits.{Spells}
 use Rattle.lois_syntax.specs.Refusals.{Refuses, tokens_in}
 use Rattle.lois_syntax.specs.declared.SyntaxError.{SyntaxError}
 

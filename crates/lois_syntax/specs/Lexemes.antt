@@ -4,9 +4,9 @@ use Rattle.std.specs.List.{find}
 use Rattle.std.specs.Str.{bytes_eq}
 use Rattle.lois_lexer.specs.declared.TokenKind.{TokenKind}
 use Rattle.lois_lexer.specs.declared.TokenKind.TheVariants as kinds
-use Rattle.lois_meaning.specs.Grammar.{PlacedToken, operation_word}
-use Rattle.lois_meaning.specs.declared.syntax.Operation.{Operation}
-use Rattle.lois_meaning.specs.declared.syntax.Operation.TheVariants.{Union, Inter, Minus, Product}
+use Rattle.lois_script.specs.Grammar.{PlacedToken, operation_word}
+use Rattle.lois_script.specs.declared.syntax.Operation.{Operation}
+use Rattle.lois_script.specs.declared.syntax.Operation.TheVariants.{Union, Inter, Minus, Product}
 use Rattle.lois_syntax.specs.declared.lexemes.TheConstants.{KEYWORDS, SIGNS}
 use Rattle.lois_syntax.specs.declared.lexemes.Lexeme.{Lexeme}
 use Rattle.lois_syntax.specs.declared.lexemes.Lexeme.TheVariants.{Name, Tag, Number, Word, Symbol, Other}

@@ -8,3 +8,4 @@ pub mod Refusals
 pub mod Machine
 pub mod Steps
 pub mod Laws
+pub mod Causes

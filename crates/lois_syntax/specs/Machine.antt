@@ -1,10 +1,10 @@
 -- A machine that goes over the tokens with a stack of what has still to come, and stops at the first token that is at
 -- fault. The next token always decides the form, so each step takes one token.
 use Rattle.std.specs.Prelude.{ℕ, suc, Bool, true, false, cond, ◌&&◌, Option, Some, None, option_map, List, [], ◌∷◌, ◌++◌, nat_eq, nat_lt, nat_le}
-use Rattle.lois_meaning.specs.Grammar.{PlacedToken, decimal}
-use Rattle.lois_meaning.specs.Limits.{opens, open_after}
-use Rattle.lois_meaning.specs.declared.syntax.Operation.{Operation}
-use Rattle.lois_meaning.specs.declared.syntax.Operation.TheVariants.{Union, Inter, Minus, Flatten, Reach, Product, Complement, Minimise}
+use Rattle.lois_script.specs.Grammar.{PlacedToken, decimal}
+use Rattle.lois_script.specs.Limits.{opens, open_after}
+use Rattle.lois_script.specs.declared.syntax.Operation.{Operation}
+use Rattle.lois_script.specs.declared.syntax.Operation.TheVariants.{Union, Inter, Minus, Flatten, Reach, Product, Complement, Minimise}
 use Rattle.lois_syntax.specs.Lexemes.{lexeme_of, accepts}
 use Rattle.lois_syntax.specs.declared.lexemes.Terminal.{Terminal}
 use Rattle.lois_syntax.specs.declared.lexemes.Terminal.TheVariants.{Atoms as the_atoms, Structure as structure, Semicolon as semicolon, Comma as comma, CloseRound as close_round, CloseSquare as close_square, OpenCurly as open_curly, CloseCurly as close_curly, Colon as colon, Equal as equal, Becomes as becomes, In as within, To as to, Relation as relation, Name as name, Number as number}

@@ -1,11 +1,11 @@
 -- What the reader's functions of whole forms give, and function values that read what stands in one bracket more.
 use Rattle.std.specs.Prelude.{◌≡◌, ℕ, suc, ◌<◌, length, Result, IfOk}
 use Rattle.std.specs.declared.alloc.Global.{Global}
-use Rattle.lois_meaning.specs.Tree.{ExprD, CondD, StmtD}
-use Rattle.lois_meaning.specs.View.{tree, cond_tree, stmts_list}
-use Rattle.lois_meaning.specs.declared.syntax.Expr.{Expr}
-use Rattle.lois_meaning.specs.declared.syntax.Cond.{Cond}
-use Rattle.lois_meaning.specs.declared.script.Stmts.{Stmts}
+use Rattle.lois_script.specs.Tree.{ExprD, CondD, StmtD}
+use Rattle.lois_script.specs.View.{tree, cond_tree, stmts_list}
+use Rattle.lois_script.specs.declared.syntax.Expr.{Expr}
+use Rattle.lois_script.specs.declared.syntax.Cond.{Cond}
+use Rattle.lois_script.specs.declared.script.Stmts.{Stmts}
 use Rattle.lois_syntax.specs.Ahead.{ahead}
 use Rattle.lois_syntax.specs.Descent.{Read, expr_of, cond_of, block_of}
 use Rattle.lois_syntax.specs.Reading.{Gives}

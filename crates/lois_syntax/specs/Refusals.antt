@@ -1,9 +1,9 @@
 -- Where the tokens of a text are refused as a script, and for what.
 use Rattle.std.specs.Prelude.{◌≡◌, ℕ, suc, ◌<◌, ◌⊎◌, List, [], ◌∷◌, length, take, drop, map, codes, IsTrue}
 use Rattle.lois_lexer.specs.declared.Token.{Token}
-use Rattle.lois_meaning.specs.Tree.{ExprsD, ScriptD}
-use Rattle.lois_meaning.specs.Grammar.{PlacedToken, placed, ◌▹◌, TakesWord, TakesSymbol, TakesNumber, SpellsExprs, SpellsScript, Begins}
-use Rattle.lois_meaning.specs.Limits.{opens, open_after, width}
+use Rattle.lois_script.specs.Tree.{ExprsD, ScriptD}
+use Rattle.lois_script.specs.Grammar.{PlacedToken, placed, ◌▹◌, TakesWord, TakesSymbol, TakesNumber, SpellsExprs, SpellsScript, Begins}
+use Rattle.lois_script.specs.Limits.{opens, open_after, width}
 use Rattle.lois_syntax.specs.declared.SyntaxError.{SyntaxError}
 use Rattle.lois_syntax.specs.declared.SyntaxError.TheVariants.{NoScript, TooNested, WideTuple, TurnsTooMany, NoMemory}
 

@@ -1,6 +1,6 @@
 -- How far the machine comes with what a function of the reader reads.
 use Rattle.std.specs.Prelude.{◌≡◌, ℕ, Bool, true, false, not, List, [], ◌∷◌, drop, codes}
-use Rattle.lois_meaning.specs.Grammar.{PlacedToken, Spelling, Either, TakesName, TakesWord, TakesSymbol, TakesNumber, structure_word}
+use Rattle.lois_script.specs.Grammar.{PlacedToken, Spelling, Either, TakesName, TakesWord, TakesSymbol, TakesNumber, structure_word}
 use Rattle.lois_syntax.specs.declared.lexemes.Terminal.{Terminal}
 use Rattle.lois_syntax.specs.declared.lexemes.Terminal.TheVariants.{Atoms as the_atoms, Structure as structure, Semicolon as semicolon, Comma as comma, CloseRound as close_round, CloseSquare as close_square, OpenCurly as open_curly, CloseCurly as close_curly, Colon as colon, Equal as equal, Becomes as becomes, In as within, To as to, Relation as relation, Name as name, Number as number}
 use Rattle.lois_syntax.specs.Lexemes.{lexeme_of}

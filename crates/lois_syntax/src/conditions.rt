@@ -1,7 +1,7 @@
 //! Conditions.
 
 ghost use Rattle.std.specs.Prelude.{◌<◌, ◌≤◌, length, IfOk};
-ghost use Rattle.lois_meaning.specs.View.{binding_tree, cond_tree, conds_list};
+ghost use Rattle.lois_script.specs.View.{binding_tree, cond_tree, conds_list};
 ghost use Rattle.lois_syntax.specs.Ahead.{ahead};
 ghost use Rattle.lois_syntax.specs.Descent as descent;
 ghost use Rattle.lois_syntax.specs.Descent.{inner_expr, inner_cond, expr_here, cond_here, base_here, unit_here, conjunction_here};
@@ -12,7 +12,7 @@ use crate::grammar::Grammar;
 use crate::halt::Halt;
 use crate::lexemes::{BaseForm, Relation, Terminal, UnitForm};
 use crate::rest::Rest;
-use lois_meaning::{Binding, Cond, Conds, Expr};
+use lois_script::{Binding, Cond, Conds, Expr};
 use std::alloc::Global;
 
 impl<

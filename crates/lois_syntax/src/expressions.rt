@@ -1,7 +1,7 @@
 //! Expressions.
 
 ghost use Rattle.std.specs.Prelude.{◌<◌, ◌≤◌, length, IfOk};
-ghost use Rattle.lois_meaning.specs.View.{tree, binding_tree, exprs_list, bindings_list};
+ghost use Rattle.lois_script.specs.View.{tree, binding_tree, exprs_list, bindings_list};
 ghost use Rattle.lois_syntax.specs.Ahead.{ahead};
 ghost use Rattle.lois_syntax.specs.Descent as descent;
 ghost use Rattle.lois_syntax.specs.Descent.{inner_expr, inner_cond, expr_here};
@@ -12,7 +12,7 @@ use crate::grammar::Grammar;
 use crate::halt::Halt;
 use crate::lexemes::{ExprForm, Lead, Terminal, has_two_operands};
 use crate::rest::Rest;
-use lois_meaning::{Binding, Bindings, Cond, Expr, Exprs, Operation, Pos};
+use lois_script::{Binding, Bindings, Cond, Expr, Exprs, Operation, Pos};
 use std::alloc::Global;
 
 /// How many parts a tuple may have.

@@ -6,7 +6,7 @@ ghost use Rattle.lois_syntax.specs.Nests.{Nests, GivesExpr, GivesCond, GoesOn};
 
 use crate::halt::Halt;
 use crate::rest::Rest;
-use lois_meaning::{Cond, Expr};
+use lois_script::{Cond, Expr};
 use std::alloc::Global;
 
 /// Reads forms where `room` more brackets may be open. `expr` and `cond` read what stands in one bracket more.

@@ -3,11 +3,10 @@
 ghost use Rattle.std.specs.Prelude.{◌≡◌};
 ghost use Rattle.std.specs.List.{find};
 ghost use Rattle.std.specs.Str.{bytes_eq};
-ghost use Rattle.lois_meaning.specs.Grammar.{operation_word};
 ghost use Rattle.lois_syntax.specs.Lexemes.{word_of, sign_of, as_tag, lexeme_from, accepts, relation_of, unit_form, expr_form, base_form, stmt_form, joint, lead, has_two_operands};
 
 use lois_lexer::TokenKind;
-use lois_meaning::Operation;
+use lois_script::Operation;
 
 /// A token as the grammar sees it.
 #[derive(Clone, Copy, Debug, PartialEq, Eq)]
@@ -126,22 +125,6 @@ pub(crate) const SIGNS: [Sign; 13] = [
     Sign::Below,
 ];
 
-/// How an operation is spelled.
-pub(crate) fn operation_word(operation: Operation) -> &'static [u8]
-    ensures { result.now ≡ operation_word operation }
-{
-    match operation {
-        Operation::Union => b"union",
-        Operation::Inter => b"inter",
-        Operation::Minus => b"minus",
-        Operation::Flatten => b"flatten",
-        Operation::Reach => b"reach",
-        Operation::Product => b"product",
-        Operation::Complement => b"complement",
-        Operation::Minimise => b"minimise",
-    }
-}
-
 impl Keyword {
     /// How the word is spelled.
     pub(crate) fn spelling(self) -> &'static [u8]
@@ -174,7 +157,7 @@ impl Keyword {
             Keyword::Subset => b"subset",
             Keyword::Empty => b"empty",
             Keyword::Part => b"part",
-            Keyword::Apply(operation) => operation_word(operation),
+            Keyword::Apply(operation) => operation.word(),
         }
     }
 

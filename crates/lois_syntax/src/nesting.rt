@@ -1,7 +1,7 @@
 //! Whole forms, each with the readers of what stands inside.
 
 ghost use Rattle.std.specs.Prelude.{◌<◌};
-ghost use Rattle.lois_meaning.specs.View.{binding_tree};
+ghost use Rattle.lois_script.specs.View.{binding_tree};
 ghost use Rattle.lois_syntax.specs.Ahead.{ahead};
 ghost use Rattle.lois_syntax.specs.Descent as descent;
 ghost use Rattle.lois_syntax.specs.Descent.{expr_of, cond_of, block_of};
@@ -12,7 +12,7 @@ use crate::grammar::Grammar;
 use crate::halt::Halt;
 use crate::rest::Rest;
 use crate::statements::Statements;
-use lois_meaning::{Binding, Cond, Expr, Stmts};
+use lois_script::{Binding, Cond, Expr, Stmts};
 use std::alloc::Global;
 
 /// An expression, where `room` more brackets may be open.

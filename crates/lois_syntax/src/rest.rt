@@ -3,14 +3,14 @@
 ghost use Rattle.std.specs.Prelude.{◌≡◌, ◌<◌, ◌≤◌, true, IfOk, IsTrue, length, drop};
 ghost use Rattle.lois_base.specs.Names.{IsName};
 ghost use Rattle.lois_lexer.specs.Tokens.{HasTokens};
-ghost use Rattle.lois_meaning.specs.Grammar.{decimal};
+ghost use Rattle.lois_script.specs.Grammar.{decimal};
 ghost use Rattle.lois_syntax.specs.Readable.{is_number, are_readable};
 
 use crate::halt::Halt;
 use crate::lexemes::{Joint, Keyword, Lead, Lexeme, Relation, Terminal, lexeme_of, relation_of};
 use lois_base::Name;
 use lois_lexer::Token;
-use lois_meaning::{Param, Pos};
+use lois_script::{Param, Pos};
 use std::alloc::Global;
 
 /// The tokens of a text that are still to come.
@@ -22,7 +22,7 @@ pub(crate) struct Rest<'a> {
 }
 
 impl<'a> Rest<'a> {
-    ghost use Rattle.lois_meaning.specs.View.{param_tree};
+    ghost use Rattle.lois_script.specs.View.{param_tree};
     ghost use Rattle.lois_syntax.specs.Ahead.{ahead};
     ghost use Rattle.lois_syntax.specs.Descent as descent;
     ghost use Rattle.lois_syntax.specs.Lexemes.{accepts};

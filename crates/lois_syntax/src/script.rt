@@ -1,15 +1,16 @@
 //! Whole scripts.
 
-ghost use Rattle.std.specs.Prelude.{◌≡◌, ◌≢◌, ◌<◌, ◌≤◌, ◌-◌, length, IfOk, IfErr};
+ghost use Rattle.std.specs.Prelude.{◌≡◌, ◌≢◌, ◌<◌, ◌≤◌, ◌-◌, ◌⊎◌, length, IfOk, IfErr, IsErrOf};
 ghost use Rattle.lois_lexer.specs.Tokens.{HasTokens};
-ghost use Rattle.lois_meaning.specs.Limits.{Spells};
-ghost use Rattle.lois_meaning.specs.Tree.{ScriptD};
-ghost use Rattle.lois_meaning.specs.View.{script_tree, param_tree, params_list};
+ghost use Rattle.lois_script.specs.Limits.{Spells};
+ghost use Rattle.lois_script.specs.Tree.{ScriptD};
+ghost use Rattle.lois_script.specs.View.{script_tree, param_tree, params_list};
 ghost use Rattle.lois_syntax.specs.Ahead.{ahead};
 ghost use Rattle.lois_syntax.specs.Descent as descent;
 ghost use Rattle.lois_syntax.specs.Nests.{GivesStmts};
 ghost use Rattle.lois_syntax.specs.Reading.{Gives, error_of};
 ghost use Rattle.lois_syntax.specs.Refusals.{Refuses, tokens_in};
+ghost use Rattle.lois_syntax.specs.declared.SyntaxError.{SyntaxError};
 ghost use Rattle.lois_syntax.specs.declared.SyntaxError.TheVariants.{NoMemory};
 
 use crate::SyntaxError;
@@ -18,12 +19,10 @@ use crate::lexemes::{Lead, Terminal};
 use crate::nesting::block;
 use crate::rest::Rest;
 use crate::statements::Statements;
+use lois_base::limits::MOST_OPEN_BRACKETS;
 use lois_lexer::Token;
-use lois_meaning::{Param, Params, Script, Stmts};
+use lois_script::{Param, Params, Script, Stmts};
 use std::alloc::Global;
-
-/// How many brackets may be open at once.
-const MOST_OPEN: usize = 64;
 
 /// Parameters, or none.
 #[tactic(auto, unfolding(crate::specs::Descent::parameters))]
@@ -63,7 +62,7 @@ fn body(alloc: Global, at: Rest<'_>) -> Result<(Stmts, Rest<'_>), Halt>
 {
     Statements {
         alloc,
-        room: MOST_OPEN,
+        room: MOST_OPEN_BRACKETS,
         block,
     }
     .body(at)
@@ -105,15 +104,17 @@ fn error_of(count: usize, halt: Halt) -> SyntaxError
 /// are several. `NoMemory` where memory ran out.
 pub fn read_script(alloc: Global, tokens: &[Token], text: &[u8]) -> Result<Script, SyntaxError>
     requires cut { HasTokens text.now tokens.now }
+    // Ok gives the script of the text, and comes exactly where it spells one, unless memory ran out.
     ensures script { IfOk result (λ s. Spells text.now (script_tree s)) }
-    ensures refused { IfErr result (λ e. e ≢ NoMemory → Refuses (tokens_in text.now tokens.now) e) }
+    ensures those { (other : ScriptD) → Spells text.now other → IfOk result (λ s. script_tree s ≡ other) }
     ensures accepts { IfErr result (λ e. (s : ScriptD) → Spells text.now s → e ≡ NoMemory) }
+
+    // Each refusal comes exactly where the tokens are refused so, unless memory ran out.
+    ensures refused { IfErr result (λ e. e ≢ NoMemory → Refuses (tokens_in text.now tokens.now) e) }
+    ensures refuses { (error : SyntaxError) → Refuses (tokens_in text.now tokens.now) error → IsErrOf result error ⊎ IsErrOf result NoMemory }
 {
     match script(alloc, Rest::new(tokens, text)) {
         Ok(script) => Ok(script),
         Err(halt) => Err(error_of(tokens.len(), halt)),
     }
 }
-
-#[cfg(test)]
-mod tests;

@@ -1,7 +1,7 @@
 //! Statements.
 
 ghost use Rattle.std.specs.Prelude.{◌<◌, ◌≤◌, suc, length, IfOk};
-ghost use Rattle.lois_meaning.specs.View.{stmt_tree};
+ghost use Rattle.lois_script.specs.View.{stmt_tree};
 ghost use Rattle.lois_syntax.specs.Ahead.{ahead};
 ghost use Rattle.lois_syntax.specs.Descent as descent;
 ghost use Rattle.lois_syntax.specs.Descent.{cond_of, inner_block};
@@ -12,7 +12,7 @@ use crate::halt::Halt;
 use crate::lexemes::{Keyword, Lead, Lexeme, StmtForm, Terminal};
 use crate::nesting::{binding, condition, expression};
 use crate::rest::Rest;
-use lois_meaning::{Cond, Stmt, Stmts};
+use lois_script::{Cond, Stmt, Stmts};
 use std::alloc::Global;
 
 /// How many turns a loop may have.

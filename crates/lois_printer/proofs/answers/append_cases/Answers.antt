@@ -1,5 +1,5 @@
-use Rattle.lois_meaning.specs.CaseView.{case_of}
-use Rattle.lois_meaning.specs.ResultsText.{case_text}
+use Rattle.lois_answers.specs.CaseView.{case_of}
+use Rattle.lois_answers.specs.ResultsText.{case_text}
 use Rattle.std.proofs.Common.{length}
 use Rattle.lois_printer.specs.Inside.{CaseFits}
 use Rattle.lois_printer.proofs.Fitting.{holds_of_each}

@@ -1,7 +1,7 @@
 use Rattle.std.proofs.Common.{◌≡◌, ◌++◌, take}
 use Rattle.std.specs.List.{flat_map}
-use Rattle.lois_meaning.specs.CaseView.{case_of}
-use Rattle.lois_meaning.specs.ResultsText.{case_text}
+use Rattle.lois_answers.specs.CaseView.{case_of}
+use Rattle.lois_answers.specs.ResultsText.{case_text}
 use Rattle.lois_printer.proofs.answers.append_cases.Given as goal
 
 abbrev pub invariant-loop-case : goal.invariant-loop-case

@@ -1,7 +1,7 @@
 use Rattle.std.proofs.Common.{◌++◌, codes, ap, ◌∙◌, append_assoc}
-use Rattle.lois_meaning.specs.LineView.{line_of}
-use Rattle.lois_meaning.specs.ResultsText.{line_text}
-use Rattle.lois_meaning.specs.TraceText.{element_text}
+use Rattle.lois_answers.specs.LineView.{line_of}
+use Rattle.lois_answers.specs.ResultsText.{line_text}
+use Rattle.lois_answers.specs.TraceText.{element_text}
 use Rattle.lois_printer.specs.Inside.{LineFits}
 use Rattle.lois_printer.proofs.Fitting.{holds_of_each}
 use Rattle.lois_printer.proofs.Written.{piece_is_written, pieces_are_written}

@@ -1,7 +1,7 @@
 use Rattle.std.proofs.Common.{◌≡◌, ◌++◌, take}
 use Rattle.std.specs.List.{flat_map}
-use Rattle.lois_meaning.specs.LineView.{line_of}
-use Rattle.lois_meaning.specs.TraceText.{element_text}
+use Rattle.lois_answers.specs.LineView.{line_of}
+use Rattle.lois_answers.specs.TraceText.{element_text}
 use Rattle.lois_printer.proofs.answers.append_elements.Given as goal
 
 abbrev pub invariant-loop-element : goal.invariant-loop-element

@@ -1,5 +1,5 @@
-use Rattle.lois_meaning.specs.LineView.{line_of}
-use Rattle.lois_meaning.specs.ResultsText.{line_text}
+use Rattle.lois_answers.specs.LineView.{line_of}
+use Rattle.lois_answers.specs.ResultsText.{line_text}
 use Rattle.lois_printer.specs.Inside.{LineFits}
 use Rattle.lois_printer.proofs.Fitting.{holds_of_each}
 use Rattle.lois_printer.proofs.Written.{piece_is_written, pieces_are_written}

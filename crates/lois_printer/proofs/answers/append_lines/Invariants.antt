@@ -1,7 +1,7 @@
 use Rattle.std.proofs.Common.{◌≡◌, ◌++◌, take}
 use Rattle.std.specs.List.{flat_map}
-use Rattle.lois_meaning.specs.LineView.{line_of}
-use Rattle.lois_meaning.specs.ResultsText.{line_text}
+use Rattle.lois_answers.specs.LineView.{line_of}
+use Rattle.lois_answers.specs.ResultsText.{line_text}
 use Rattle.lois_printer.proofs.answers.append_lines.Given as goal
 
 abbrev pub invariant-loop-line : goal.invariant-loop-line

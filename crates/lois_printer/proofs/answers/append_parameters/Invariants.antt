@@ -1,6 +1,6 @@
 use Rattle.std.proofs.Common.{◌≡◌, ◌++◌, take}
 use Rattle.std.specs.List.{flat_map}
-use Rattle.lois_meaning.specs.ResultsText.{spaced}
+use Rattle.lois_answers.specs.ResultsText.{spaced}
 use Rattle.lois_printer.proofs.answers.append_parameters.Given as goal
 
 abbrev pub invariant-loop-name : goal.invariant-loop-name

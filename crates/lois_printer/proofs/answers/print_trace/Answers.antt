@@ -1,6 +1,6 @@
 use Rattle.std.proofs.Common.{sym, subst}
 use Rattle.std.specs.List.{All}
-use Rattle.lois_meaning.specs.Sound.{IsSoundLine}
+use Rattle.lois_answers.specs.Sound.{IsSoundLine}
 use Rattle.lois_printer.proofs.Fitting.{sound_lines_fit}
 use Rattle.lois_printer.proofs.answers.print_trace.Goals as goal
 

@@ -1,5 +1,5 @@
 use Rattle.std.proofs.Common.{codes}
-use Rattle.lois_meaning.specs.TermText.{cube_text}
+use Rattle.lois_answers.specs.TermText.{cube_text}
 use Rattle.lois_printer.proofs.Written.{item_is_written}
 use Rattle.lois_printer.proofs.guards.append_cubes.Goals as goal
 

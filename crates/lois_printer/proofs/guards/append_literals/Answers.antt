@@ -1,6 +1,6 @@
 use Rattle.std.proofs.Common.{codes, refl}
 use Rattle.lois_base.specs.declared.guards.Op.TheVariants.{Eq}
-use Rattle.lois_meaning.specs.TermText.{literal_text}
+use Rattle.lois_answers.specs.TermText.{literal_text}
 use Rattle.lois_printer.proofs.Written.{item_is_written}
 use Rattle.lois_printer.proofs.guards.append_literals.Goals as goal
 

@@ -1,5 +1,5 @@
 use Rattle.std.proofs.Common.{◌≡◌, ◌++◌, map, take, codes}
-use Rattle.lois_meaning.specs.TermText.{literal_text, joined}
+use Rattle.lois_answers.specs.TermText.{literal_text, joined}
 use Rattle.lois_printer.proofs.guards.append_literals.Given as goal
 
 abbrev pub invariant-loop-index : goal.invariant-loop-index

@@ -1,7 +1,7 @@
 use Rattle.std.proofs.Common.{arith, ap, codes}
 use Rattle.lois_base.specs.Tree.{tree, comp_of}
 use Rattle.lois_base.proofs.Parts.{term_within, comp_item_within}
-use Rattle.lois_meaning.specs.TermText.{term_text, comp_text, joined}
+use Rattle.lois_answers.specs.TermText.{term_text, comp_text, joined}
 use Rattle.lois_printer.proofs.Fitting.{part_fits, item_fits}
 use Rattle.lois_printer.proofs.Written.{item_is_written, items_are_written, enclosed_on_ok, part_texts_of, item_texts_of}
 use Rattle.lois_printer.proofs.terms.+terms.Goals as goal

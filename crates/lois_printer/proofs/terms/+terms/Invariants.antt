@@ -1,6 +1,6 @@
 use Rattle.std.proofs.Common.{◌≡◌, ◌++◌, map, take, codes}
 use Rattle.lois_base.specs.Tree.{tree, comp_of}
-use Rattle.lois_meaning.specs.TermText.{term_text, comp_text, joined}
+use Rattle.lois_answers.specs.TermText.{term_text, comp_text, joined}
 use Rattle.lois_printer.proofs.terms.+terms.Given as goal
 
 abbrev pub invariant-append_items-loop-index : goal.invariant-append_items-loop-index

@@ -1,5 +1,5 @@
 use Rattle.std.proofs.Common.{◌≡◌, ◌++◌, ◌-◌}
-use Rattle.lois_meaning.specs.TermText.{levels_text}
+use Rattle.lois_answers.specs.TermText.{levels_text}
 use Rattle.lois_printer.proofs.terms.append_levels.Given as goal
 
 abbrev pub invariant-loop-level : goal.invariant-loop-level

@@ -1,5 +1,5 @@
 use Rattle.std.proofs.Common.{sym, ◌∙◌, arith}
-use Rattle.lois_meaning.specs.CaseView.{case_of}
+use Rattle.lois_answers.specs.CaseView.{case_of}
 use Rattle.lois_reader.specs.Reading.{begins}
 use Rattle.lois_reader.specs.AnswerValues.{cases_at, case_at}
 use Rattle.lois_reader.proofs.Lists.{many_next}

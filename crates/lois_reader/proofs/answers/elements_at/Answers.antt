@@ -1,5 +1,5 @@
 use Rattle.std.proofs.Common.{sym, ◌∙◌, arith}
-use Rattle.lois_meaning.specs.LineView.{line_of}
+use Rattle.lois_answers.specs.LineView.{line_of}
 use Rattle.lois_reader.specs.Reading.{begins}
 use Rattle.lois_reader.specs.AnswerValues.{elements_at, element_at}
 use Rattle.lois_reader.proofs.Lists.{many_next}

@@ -1,6 +1,6 @@
 use Rattle.std.proofs.Common.{sym, ◌∙◌, arith}
 use Rattle.std.proofs.lemmas.Result.{err_from_is_err_and}
-use Rattle.lois_meaning.specs.LineView.{line_of}
+use Rattle.lois_answers.specs.LineView.{line_of}
 use Rattle.lois_reader.specs.AnswerValues.{lines_at, line_at, line_follows}
 use Rattle.lois_reader.proofs.Lists.{many_next, many_halts}
 use Rattle.lois_reader.proofs.answers.lines_at.Goals as goal

@@ -1,4 +1,4 @@
-use Rattle.lois_meaning.specs.View.{script_tree}
+use Rattle.lois_script.specs.View.{script_tree}
 use Rattle.lois_scope.specs.Breaks.{rule_view}
 use Rattle.lois_scope.proofs.First.{refused_for}
 use Rattle.lois_scope.proofs.checking.check.Goals as goal

@@ -1,5 +1,5 @@
 use Rattle.std.proofs.Common.{refl}
-use Rattle.lois_meaning.specs.View.{script_tree}
+use Rattle.lois_script.specs.View.{script_tree}
 use Rattle.lois_scope.specs.Breaks.{kept_of}
 use Rattle.lois_scope.specs.InScope.{made_of}
 use Rattle.lois_scope.specs.Walks.{SeenD, seen}

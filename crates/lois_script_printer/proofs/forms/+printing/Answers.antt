@@ -1,11 +1,11 @@
 use Rattle.std.proofs.Common.{◌≡◌, false, sym, ap, ◌∙◌}
 use Rattle.lois_lexer.specs.declared.TokenKind.TheVariants.{Name, Word, Symbol}
-use Rattle.lois_meaning.specs.Tree.{not, exists, every, part, each}
-use Rattle.lois_meaning.specs.Grammar.{is_base}
-use Rattle.lois_meaning.specs.View.{tree, cond_tree, binding_tree, bindings_list, exprs_of, bindings_of, conds_of}
-use Rattle.lois_meaning.proofs.Views.{tree_Tuple, tree_Listed, tree_Each, tree_Part, tree_Apply, cond_Same, cond_Differ, cond_Below, cond_Member, cond_Included, cond_Empty, cond_Not, cond_Exists, cond_Every}
+use Rattle.lois_script.specs.Tree.{not, exists, every, part, each}
+use Rattle.lois_script.specs.Grammar.{is_base}
+use Rattle.lois_script.specs.View.{tree, cond_tree, binding_tree, bindings_list, exprs_of, bindings_of, conds_of}
+use Rattle.lois_script.proofs.Views.{binding_is, tree_Tuple, tree_Listed, tree_Each, tree_Part, tree_Apply, cond_Same, cond_Differ, cond_Below, cond_Member, cond_Included, cond_Empty, cond_Not, cond_Exists, cond_Every}
 use Rattle.lois_script_printer.specs.Printed.{word, spaced, enclosed, is_truth, written_expr, written_exprs, written_binding, written_bindings, written_cond, written_units, written_conjunctions}
-use Rattle.lois_script_printer.proofs.Appending.{◌then◌, last, on_ok_as, appends_as, start, one_more_expr, one_more_binding, one_more_unit, one_more_conjunction, no_more_exprs, no_more_bindings, no_more_units, no_more_conjunctions, binding_is, where_is}
+use Rattle.lois_script_printer.proofs.Appending.{◌then◌, last, on_ok_as, appends_as, start, one_more_expr, one_more_binding, one_more_unit, one_more_conjunction, no_more_exprs, no_more_bindings, no_more_units, no_more_conjunctions, where_is}
 use Rattle.lois_script_printer.proofs.forms.+printing.Goals as goal
 
 pub put_binding-returns : goal.put_binding-returns
@@ -94,7 +94,7 @@ put_expr-returns-in_ok-put_number-in-Part t c =
 pub put_expr-returns-in_ok-put_exprs-in-Apply : goal.put_expr-returns-in_ok-put_exprs-in-Apply
 put_expr-returns-in_ok-put_exprs-in-Apply t c =
     on_ok_as c.put-in-Apply-3.result _ _ (ap written_expr (ap tree c.in-Apply.is ∙ tree_Apply _ _ _))
-    (last _ _ c.put-in-Apply-3.result (appends_as (ap word (sym c.operation_word.ensures)) (c.in_ok-put-in-Apply.ensures Word) then c.in_ok-put-in-Apply-2.ensures Symbol then c.in_ok-put_exprs-in-Apply.ensures) (c.put-in-Apply-3.ensures Symbol))
+    (last _ _ c.put-in-Apply-3.result (appends_as (ap word (sym c.word.ensures.exact)) (c.in_ok-put-in-Apply.ensures Word) then c.in_ok-put-in-Apply-2.ensures Symbol then c.in_ok-put_exprs-in-Apply.ensures) (c.put-in-Apply-3.ensures Symbol))
 
 pub put_exprs-loop-i-init : goal.put_exprs-loop-i-init
 put_exprs-loop-i-init t c =

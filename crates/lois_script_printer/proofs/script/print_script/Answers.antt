@@ -1,6 +1,6 @@
 use Rattle.std.proofs.Common.{◌≡◌, sym, ap, subst}
 use Rattle.lois_lexer.specs.declared.TokenKind.TheVariants.{Word}
-use Rattle.lois_meaning.specs.View.{script_tree}
+use Rattle.lois_script.specs.View.{script_tree}
 use Rattle.lois_script_printer.specs.Printed.{word, printed_script}
 use Rattle.lois_script_printer.specs.Unplaced.{SpellsUnplaced}
 use Rattle.lois_script_printer.proofs.Appending.{◌then◌, appends_as, all_of_it}

@@ -1,5 +1,5 @@
 use Rattle.std.proofs.Common.{map, drop}
-use Rattle.lois_meaning.specs.View.{param_tree, params_list}
+use Rattle.lois_script.specs.View.{param_tree, params_list}
 use Rattle.lois_script_printer.specs.Appended.{written_names}
 use Rattle.lois_script_printer.proofs.Appending.{Leaves, names_left}
 use Rattle.lois_script_printer.proofs.script.put_names.Given as goal

@@ -1,6 +1,6 @@
 use Rattle.std.proofs.Common.{◌<◌, length, arith}
 use Rattle.lois_lexer.specs.declared.TokenKind.TheVariants.{Word}
-use Rattle.lois_meaning.specs.View.{params_list}
+use Rattle.lois_script.specs.View.{params_list}
 use Rattle.lois_script_printer.proofs.Appending.{◌then◌, last, on_ok_as, parameters_is}
 use Rattle.lois_script_printer.proofs.script.put_parameters.Goals as goal
 

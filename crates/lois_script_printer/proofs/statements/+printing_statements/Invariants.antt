@@ -1,5 +1,5 @@
 use Rattle.std.proofs.Common.{map, drop}
-use Rattle.lois_meaning.specs.View.{stmt_tree, stmts_list, stmts_of}
+use Rattle.lois_script.specs.View.{stmt_tree, stmts_list, stmts_of}
 use Rattle.lois_script_printer.specs.Printed.{written_stmts}
 use Rattle.lois_script_printer.proofs.Appending.{Leaves}
 use Rattle.lois_script_printer.proofs.statements.+printing_statements.Given as goal

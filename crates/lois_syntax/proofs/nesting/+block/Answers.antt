@@ -1,5 +1,5 @@
 use Rattle.std.proofs.Common.{sym, subst}
-use Rattle.lois_meaning.specs.View.{stmts_list}
+use Rattle.lois_script.specs.View.{stmts_list}
 use Rattle.lois_syntax.specs.Ahead.{ahead}
 use Rattle.lois_syntax.specs.Reading.{Gives}
 use Rattle.lois_syntax.proofs.InnerForms.{block_of_is}

@@ -1,5 +1,5 @@
 use Rattle.std.proofs.Common.{sym, subst}
-use Rattle.lois_meaning.specs.View.{tree, cond_tree}
+use Rattle.lois_script.specs.View.{tree, cond_tree}
 use Rattle.lois_syntax.specs.Ahead.{ahead}
 use Rattle.lois_syntax.specs.Reading.{Gives}
 use Rattle.lois_syntax.proofs.InnerForms.{expr_of_is, cond_of_is}

@@ -1,5 +1,5 @@
 use Rattle.std.proofs.Common.{sym, subst}
-use Rattle.lois_meaning.specs.View.{binding_tree}
+use Rattle.lois_script.specs.View.{binding_tree}
 use Rattle.lois_syntax.specs.Ahead.{ahead}
 use Rattle.lois_syntax.specs.Descent.{expr_of, expr_here}
 use Rattle.lois_syntax.specs.Reading.{Gives}

@@ -1,5 +1,5 @@
 use Rattle.std.proofs.Common.{◌+◌, ◌*◌, sym, ap, ◌∙◌, drop, refl, arith}
-use Rattle.lois_meaning.specs.Grammar.{decimal_behind}
+use Rattle.lois_script.specs.Grammar.{decimal_behind}
 use Rattle.lois_syntax.proofs.Digits.{power_next, power_small, is_digit, one_digit, no_digits}
 use Rattle.lois_syntax.proofs.ReadableTokens.{number_parts}
 use Rattle.lois_syntax.proofs.rest.value.Goals as goal

@@ -1,5 +1,5 @@
 use Rattle.std.proofs.Common.{◌≡◌, ◌<◌, drop}
-use Rattle.lois_meaning.specs.Grammar.{decimal, decimal_behind}
+use Rattle.lois_script.specs.Grammar.{decimal, decimal_behind}
 use Rattle.lois_syntax.proofs.Digits.{power}
 use Rattle.lois_syntax.proofs.rest.value.Given as goal
 

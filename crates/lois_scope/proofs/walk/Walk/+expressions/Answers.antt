@@ -1,18 +1,18 @@
 use Rattle.std.proofs.Common.{◌≡◌, ◌⊎◌, inl, inr, refl, ap, subst, ◌∙◌, ℕ, List, take}
-use Rattle.lois_meaning.specs.Scope.{DeclarationBreaks, ExprBreaks, BindingBreaks, CondBreaks}
-use Rattle.lois_meaning.specs.Tree.{ExprD, BindingD, CondD, exists, every}
-use Rattle.lois_meaning.specs.View.{tree, binding_tree, bindings_of, bindings_list, cond_tree}
-use Rattle.lois_meaning.specs.declared.syntax.Binding.{Binding}
-use Rattle.lois_meaning.specs.declared.syntax.Cond.{Cond}
-use Rattle.lois_meaning.specs.declared.syntax.Expr.{Expr}
-use Rattle.lois_meaning.proofs.Views.{tree_Each, cond_Below, cond_Exists, cond_Every}
+use Rattle.lois_script.specs.Scope.{DeclarationBreaks, ExprBreaks, BindingBreaks, CondBreaks}
+use Rattle.lois_script.specs.Tree.{ExprD, BindingD, CondD, exists, every}
+use Rattle.lois_script.specs.View.{tree, binding_tree, bindings_of, bindings_list, cond_tree}
+use Rattle.lois_script.specs.declared.syntax.Binding.{Binding}
+use Rattle.lois_script.specs.declared.syntax.Cond.{Cond}
+use Rattle.lois_script.specs.declared.syntax.Expr.{Expr}
+use Rattle.lois_script.proofs.Views.{binding_is, tree_Each, cond_Below, cond_Exists, cond_Every}
 use Rattle.lois_scope.specs.Breaks.{kept_of}
 use Rattle.lois_scope.specs.InScope.{made_of, with_name}
 use Rattle.lois_scope.specs.Walks.{SeenD, seen, ComparisonBreaks, Walks, Leads}
 use Rattle.lois_scope.specs.declared.names.Made.TheVariants.{Fixed}
 use Rattle.lois_scope.proofs.Walked.{walks_both}
 use Rattle.lois_scope.proofs.Lists.{expressions_on, expressions_end, conditions_on, conditions_end, bindings_on, bindings_end, expressions_break, conditions_break, bindings_break, bound_by}
-use Rattle.lois_scope.proofs.Nodes.{on_ok, tree_binding, bound_behind, comparison, quantifier, comprehension}
+use Rattle.lois_scope.proofs.Nodes.{on_ok, bound_behind, comparison, quantifier, comprehension}
 use Rattle.lois_scope.proofs.walk.Walk.+expressions.Goals as goal
 
 pub expressions-loop-item-preserved : goal.expressions-loop-item-preserved
@@ -54,7 +54,7 @@ bindings-returns t c = record {
 pub binding-returns : goal.binding-returns
 binding-returns t c = record {
   walked = on_ok c.expression.result
-      (λ h. rw (tree_binding c.args.binding.now) (walks_both (DeclarationBreaks c.args.binding.now.name c.args.binding.now.pos.offset) (ExprBreaks (tree c.args.binding.now.from)) (seen c.args.self.now) (seen c.declared.new.self) (seen c.expression.new.self) c.declared.ensures.walked h))
+      (λ h. rw (binding_is c.args.binding.now) (walks_both (DeclarationBreaks c.args.binding.now.name c.args.binding.now.pos.offset) (ExprBreaks (tree c.args.binding.now.from)) (seen c.args.self.now) (seen c.declared.new.self) (seen c.expression.new.self) c.declared.ensures.walked h))
       c.expression.ensures.walked;
 }
 

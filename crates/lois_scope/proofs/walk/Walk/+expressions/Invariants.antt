@@ -1,4 +1,4 @@
-use Rattle.lois_meaning.specs.View.{tree, binding_tree, cond_tree}
+use Rattle.lois_script.specs.View.{tree, binding_tree, cond_tree}
 use Rattle.lois_scope.specs.Walks.{seen}
 use Rattle.lois_scope.proofs.Walked.{WalksOn, LeadsOn}
 use Rattle.lois_scope.proofs.Lists.{expressions_break, conditions_break, bindings_break, bound_by}

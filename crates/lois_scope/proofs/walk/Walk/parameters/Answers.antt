@@ -1,7 +1,7 @@
 use Rattle.std.proofs.Common.{refl, subst, List}
-use Rattle.lois_meaning.specs.Scope.{ParametersBreak, with_parameters}
-use Rattle.lois_meaning.specs.Tree.{ParamD}
-use Rattle.lois_meaning.specs.View.{param_tree}
+use Rattle.lois_script.specs.Scope.{ParametersBreak, with_parameters}
+use Rattle.lois_script.specs.Tree.{ParamD}
+use Rattle.lois_script.specs.View.{param_tree}
 use Rattle.lois_scope.specs.Breaks.{kept_of}
 use Rattle.lois_scope.specs.InScope.{made_of}
 use Rattle.lois_scope.specs.Walks.{SeenD, seen, Leads}

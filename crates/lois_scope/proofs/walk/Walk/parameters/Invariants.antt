@@ -1,5 +1,5 @@
-use Rattle.lois_meaning.specs.Scope.{ParametersBreak, with_parameters}
-use Rattle.lois_meaning.specs.View.{param_tree}
+use Rattle.lois_script.specs.Scope.{ParametersBreak, with_parameters}
+use Rattle.lois_script.specs.View.{param_tree}
 use Rattle.lois_scope.specs.Walks.{seen}
 use Rattle.lois_scope.proofs.Walked.{LeadsOn}
 use Rattle.lois_scope.proofs.walk.Walk.parameters.Given as goal

@@ -1,5 +1,5 @@
 use Rattle.std.proofs.Common.{◌≡◌, suc, ◌-◌, sym, subst, arith}
-use Rattle.lois_meaning.specs.View.{tree}
+use Rattle.lois_script.specs.View.{tree}
 use Rattle.lois_syntax.specs.Ahead.{ahead}
 use Rattle.lois_syntax.specs.Reading.{Gives}
 use Rattle.lois_syntax.proofs.InnerForms.{inner_expr_is}

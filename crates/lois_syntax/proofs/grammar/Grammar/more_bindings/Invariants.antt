@@ -1,5 +1,5 @@
 use Rattle.std.proofs.Common.{◌≤◌, length}
-use Rattle.lois_meaning.specs.View.{bindings_list, binding_tree}
+use Rattle.lois_script.specs.View.{bindings_list, binding_tree}
 use Rattle.lois_syntax.specs.Ahead.{ahead}
 use Rattle.lois_syntax.specs.Descent.{begins, next, listed, inner_expr, binding}
 use Rattle.lois_syntax.specs.declared.lexemes.Terminal.TheVariants as terminals

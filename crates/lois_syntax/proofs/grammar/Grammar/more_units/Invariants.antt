@@ -1,5 +1,5 @@
 use Rattle.std.proofs.Common.{◌≤◌, length}
-use Rattle.lois_meaning.specs.View.{conds_list, cond_tree}
+use Rattle.lois_script.specs.View.{conds_list, cond_tree}
 use Rattle.lois_syntax.specs.Ahead.{ahead}
 use Rattle.lois_syntax.specs.Descent.{begins_and, next, more_units, unit_here}
 use Rattle.lois_syntax.proofs.Gathering.{Gathers}

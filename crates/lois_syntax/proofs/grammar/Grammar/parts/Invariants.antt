@@ -1,5 +1,5 @@
 use Rattle.std.proofs.Common.{◌≤◌, length}
-use Rattle.lois_meaning.specs.View.{exprs_list, tree}
+use Rattle.lois_script.specs.View.{exprs_list, tree}
 use Rattle.lois_syntax.specs.Ahead.{ahead}
 use Rattle.lois_syntax.specs.Descent.{parts, inner_expr}
 use Rattle.lois_syntax.proofs.Gathering.{Parts}

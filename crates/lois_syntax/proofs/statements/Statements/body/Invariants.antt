@@ -1,5 +1,5 @@
 use Rattle.std.proofs.Common.{length}
-use Rattle.lois_meaning.specs.View.{stmts_list}
+use Rattle.lois_script.specs.View.{stmts_list}
 use Rattle.lois_syntax.specs.Ahead.{ahead}
 use Rattle.lois_syntax.specs.Descent.{is_some, statement, inner_block, outermost}
 use Rattle.lois_syntax.proofs.Gathering.{Gathers}

@@ -1,8 +1,0 @@
-use Rattle.std.proofs.Common.{arith}
-use Rattle.std.proofs.lemmas.Grind.{common_steps}
-use Rattle.std.proofs.lemmas.Option.{gets, slice_get-map}
-use Rattle.lois_meaning.proofs.Views.{exprs_items}
-use Rattle.lois_meaning.proofs.syntax.Exprs.get.Goals as goal
-
-pub returns : goal.returns
-returns c = rw (exprs_items c.args.self.now, slice_get-map) (grind (arith, common_steps, gets))

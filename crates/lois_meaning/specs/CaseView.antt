@@ -1,6 +1,0 @@
--- What a case says, as data.
-use Rattle.lois_meaning.specs.ResultsData.{CaseD}
-use Rattle.lois_meaning.specs.declared.results.Case.{Case}
-
-abbrev pub case_of : Case → CaseD
-case_of c = record { «when» = c.when; lines = c.lines }
