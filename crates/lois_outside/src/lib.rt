@@ -22,6 +22,3 @@ pub use standard::{StdSink, StdSource};
 pub use sure::{SureSink, SureSource};
 pub use taking::Source;
 pub use writing::write_all;
-
-#[cfg(test)]
-mod tests;

@@ -4,10 +4,10 @@ use Rattle.lois_base.specs.declared.deciding.Kind.{Kind}
 use Rattle.lois_lexer.specs.Tokens.{HasTokens}
 use Rattle.lois_lexer.specs.declared.Place.{Place}
 use Rattle.lois_lexer.specs.declared.Token.{Token}
-use Rattle.lois_meaning.specs.Limits.{Spells}
-use Rattle.lois_meaning.specs.Scope.{IsWellScoped}
-use Rattle.lois_meaning.specs.Tree.{ScriptD}
-use Rattle.lois_meaning.specs.declared.results.Results.{Results}
+use Rattle.lois_script.specs.Limits.{Spells}
+use Rattle.lois_script.specs.Scope.{IsWellScoped}
+use Rattle.lois_script.specs.Tree.{ScriptD}
+use Rattle.lois_answers.specs.declared.results.Results.{Results}
 use Rattle.lois_scope.specs.Refusals.{Refuses as ScopeRefuses}
 use Rattle.lois_scope.specs.declared.checking.ScopeError.{ScopeError}
 use Rattle.lois_scope.specs.declared.checking.ScopeError.TheVariants.{Unknown, Again, OuterAssign, PrintInLoop, OrderInEquality, NoMemory as ScopeMemory}

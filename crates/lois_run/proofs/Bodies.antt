@@ -9,14 +9,14 @@ use Rattle.lois_base.specs.Data.{TermD, coll, no_comps, depth}
 use Rattle.lois_base.specs.Fits.{LitFits, CubeFits}
 use Rattle.lois_base.specs.Validity.{AdmitsLit, AdmitsCube}
 use Rattle.lois_base.proofs.Members.{same_refl}
-use Rattle.lois_meaning.specs.ResultsData.{LineD, CaseD}
+use Rattle.lois_answers.specs.ResultsData.{LineD, CaseD}
 use Rattle.lois_meaning.specs.Runs.{ListEnds, StmtEnds}
-use Rattle.lois_meaning.specs.Scope.{RuleD, unknown, again, inner, RoleD, DeclaredD, ScopeD, role_of, scope_behind, ExprBreaks, ExprsBreak, StmtBreaks, StmtsBreak, IsWellScoped, opening_scope, with_parameters}
-use Rattle.lois_meaning.specs.Sound.{IsSound, IsSoundCase, IsSoundLine, IsFreeName}
+use Rattle.lois_script.specs.Scope.{RuleD, unknown, again, inner, RoleD, DeclaredD, ScopeD, role_of, scope_behind, ExprBreaks, ExprsBreak, StmtBreaks, StmtsBreak, IsWellScoped, opening_scope, with_parameters}
+use Rattle.lois_answers.specs.Sound.{IsSound, IsSoundCase, IsSoundLine, IsFreeName}
 use Rattle.lois_meaning.specs.Store.{NamedValues, named, stored, opening, AreSameNamed}
-use Rattle.lois_meaning.specs.Tree.{ExprD, atoms, var, tag, tuple, listed, each, part, apply, ExprsD, no_exprs, expr, StmtD, «let», assign, add, for, if, while, assert, print, StmtsD, no_stmts, stmt, ScriptD}
-use Rattle.lois_meaning.specs.View.{stmt_tree, stmts_of}
-use Rattle.lois_meaning.specs.declared.script.Stmt.{Stmt}
+use Rattle.lois_script.specs.Tree.{ExprD, atoms, var, tag, tuple, listed, each, part, apply, ExprsD, no_exprs, expr, StmtD, «let», assign, add, for, if, while, assert, print, StmtsD, no_stmts, stmt, ScriptD}
+use Rattle.lois_script.specs.View.{stmt_tree, stmts_of}
+use Rattle.lois_script.specs.declared.script.Stmt.{Stmt}
 use Rattle.lois_meaning.proofs.Stores.{named_refl}
 use Rattle.lois_run.specs.BuiltForms.{IsBuiltStmt, AreBuilt, IsBuilt, heights_behind}
 use Rattle.lois_run.specs.Fitting.{IsFitStmt, AreFit, IsGood, AreGood}

@@ -1,59 +1,31 @@
 -- What the tokens of a text and the limits keep of the script that they spell.
-use Rattle.std.proofs.Common.{◌≡◌, ℕ, ◌≤◌, true, List, [], ◌∷◌, length, map, refl, arith}
-use Rattle.std.specs.List.{All, list_all}
-use Rattle.std.specs.Char.{is_ascii_alphabetic}
-use Rattle.std.proofs.lemmas.Bool.{and_parts, and_from, leb-true}
-use Rattle.std.proofs.lemmas.Bool.Decides.{nat_tests}
+use Rattle.std.proofs.Common.{ℕ, ◌≤◌, List, [], ◌∷◌, length, map, arith}
+use Rattle.std.specs.List.{All}
+use Rattle.std.proofs.lemmas.Bool.{leb-true}
 use Rattle.std.proofs.lemmas.List.Elements.{All-head, All-tail}
-use Rattle.lois_base.specs.Names.{IsName, is_letter, is_name_byte}
-use Rattle.lois_lexer.specs.Bytes.{is_word_byte}
-use Rattle.lois_lexer.specs.Forms.{is_word_form}
+use Rattle.lois_base.specs.Names.{IsName}
 use Rattle.lois_lexer.specs.Tokens.{IsTokenOf}
 use Rattle.lois_lexer.specs.declared.Token.{Token}
 use Rattle.lois_lexer.specs.declared.TokenKind.TheVariants.{Name, Tag}
 use Rattle.lois_lexer.proofs.OneReading.{tokens_of_cut}
-use Rattle.lois_meaning.specs.Grammar.{placed, IsWide}
-use Rattle.lois_meaning.specs.Limits.{Spells, IsNarrow, AreNarrow, StmtIsWithin, StmtsAreWithin, width}
-use Rattle.lois_meaning.specs.Sound.{IsFreeName}
-use Rattle.lois_meaning.specs.Tree.{ExprD, tag, tuple, listed, ExprsD, no_exprs, expr, StmtD, «let», print, StmtsD, no_stmts, stmt, ScriptD}
-use Rattle.lois_script_printer.proofs.Numbers.{IsToken}
-use Rattle.lois_script_printer.proofs.Printable.{ExprPrints, ExprsPrint, StmtPrints, StmtsPrint, AreTokens, script_prints}
+use Rattle.lois_script.specs.Grammar.{placed, IsWide}
+use Rattle.lois_script.specs.Limits.{Spells, IsNarrow, AreNarrow, StmtIsWithin, StmtsAreWithin, width}
+use Rattle.lois_answers.specs.Sound.{IsFreeName}
+use Rattle.lois_script.specs.Tree.{ExprD, tag, tuple, listed, ExprsD, no_exprs, expr, StmtD, «let», print, StmtsD, no_stmts, stmt, ScriptD}
+use Rattle.lois_script.proofs.Names.{word_is_name}
+use Rattle.lois_script.proofs.Numbers.{IsToken}
+use Rattle.lois_script.proofs.Printable.{ExprPrints, ExprsPrint, StmtPrints, StmtsPrint, AreTokens, script_prints}
 use Rattle.lois_run.specs.Fitting.{IsFitExpr, AreFitExprs, IsFitStmt, AreFit}
 
 -- ---- tokens
 
-letter_is : (b : ℕ) → is_ascii_alphabetic b ≡ true → is_letter b ≡ true
-letter_is b h = grind (arith, nat_tests)
-
-byte_is : (b : ℕ) → is_word_byte b ≡ true → is_name_byte b ≡ true
-byte_is b h = grind (arith, nat_tests)
-
-letter_word : (b : ℕ) → is_ascii_alphabetic b ≡ true → is_word_byte b ≡ true
-letter_word b h = grind (arith, nat_tests)
-
-bytes_are : (bs : List ℕ) → list_all is_word_byte bs ≡ true → list_all is_name_byte bs ≡ true
-bytes_are [] h = refl
-bytes_are (b ∷ bs) h =
-    let parts : (is_word_byte b ≡ true) × (list_all is_word_byte bs ≡ true) = and_parts (is_word_byte b) (list_all is_word_byte bs) h in
-    and_from (is_name_byte b) (list_all is_name_byte bs) (byte_is b parts.0) (bytes_are bs parts.1)
-
-name_form : (bytes : List ℕ) → is_word_form bytes ≡ true → length bytes ≤ 64 → IsName bytes
-name_form [] h l = cc h
-name_form (b ∷ bs) h l =
-    let parts : (is_ascii_alphabetic b ≡ true) × (list_all is_word_byte bs ≡ true) = and_parts (is_ascii_alphabetic b) (list_all is_word_byte bs) h in
-    record {
-      short = l;
-      letter = letter_is b parts.0;
-      bytes = and_from (is_name_byte b) (list_all is_name_byte bs) (byte_is b (letter_word b parts.0)) (bytes_are bs parts.1);
-    }
-
 free_name : (bytes : List ℕ) → IsToken Name bytes → IsFreeName bytes
-free_name bytes t = record { form = name_form bytes t.form.0 (leb-true (length bytes) 64 t.limits); free = t.form.1 }
+free_name bytes t = record { form = word_is_name bytes t.form.0 (leb-true (length bytes) 64 t.limits); free = t.form.1 }
 
 tag_name : (x : List ℕ) → IsToken Tag (39 ∷ x) → IsName x
 tag_name x t =
     let short : length (39 ∷ x) ≤ 65 = leb-true (length (39 ∷ x)) 65 t.limits in
-    name_form x t.form.1 (omega (arith, short))
+    word_is_name x t.form.1 (omega (arith, short))
 
 are_tokens : (text : List ℕ) (ts : List Token) → All (IsTokenOf text) ts → AreTokens (map (placed text) ts)
 are_tokens text [] h = tt

@@ -5,3 +5,4 @@ pub mod Made
 pub mod Bodies
 pub mod Fit
 pub mod Answered
+pub mod Sure

@@ -13,11 +13,11 @@ use Rattle.lois_base.proofs.Depths.{deeper_depth}
 use Rattle.lois_base.proofs.Members.{same_refl}
 use Rattle.lois_meaning.specs.Expressions.{Gives, GiveAll}
 use Rattle.lois_meaning.specs.Kinds.{IsAtomAt, IsAtomValue, IsSetOf, IsOneOf, AreSame, parts_at}
-use Rattle.lois_meaning.specs.Limits.{width}
-use Rattle.lois_meaning.specs.Sound.{PartsHaveTags, ItemsHaveTags, IsSoundTerm}
+use Rattle.lois_script.specs.Limits.{width}
+use Rattle.lois_answers.specs.Sound.{PartsHaveTags, ItemsHaveTags, IsSoundTerm}
 use Rattle.lois_meaning.specs.Store.{NamedValues, named, looked_up, IsShallow}
-use Rattle.lois_meaning.specs.Tree.{ExprD, atoms, var, tag, tuple, listed, ExprsD, no_exprs, expr}
-use Rattle.lois_meaning.specs.View.{exprs_of}
+use Rattle.lois_script.specs.Tree.{ExprD, atoms, var, tag, tuple, listed, ExprsD, no_exprs, expr}
+use Rattle.lois_script.specs.View.{exprs_of}
 use Rattle.lois_run.specs.BuiltForms.{IsBuiltExpr, AreBuiltExprs, height_held, height, greatest_height}
 use Rattle.lois_run.specs.Fitting.{IsFitExpr, AreFitExprs, IsGood, AreGood}
 use Rattle.lois_run.specs.Values.{HeldD, held, all_atoms, value_of, values_of, items_of, item_of, AreHeld, AreAllHeld, heights}

@@ -1,17 +1,19 @@
 -- The outcome of a call, by what became of the reading.
-use Rattle.std.proofs.Common.{◌≡◌, ℕ, ◌≤◌, List, ◌++◌, length, refl, sym, ap, ◌∙◌, subst, ◌⊎◌, inl, inr, Option, Some, None, arith, length-append, append-nil}
-use Rattle.std.specs.Prelude.{IfSome, IfOk, Result, Ok, Err}
+use Rattle.std.proofs.Common.{◌≡◌, ℕ, ◌+◌, ◌≤◌, List, [], ◌++◌, length, refl, sym, ap, ◌∙◌, subst, ◌⊎◌, inl, inr, Option, Some, None, arith, length-append, append-nil}
+use Rattle.std.specs.Prelude.{IfSome, IfOk, IfErr, Result, Ok, Err}
 use Rattle.lois_base.specs.declared.deciding.Kind.{Kind}
 use Rattle.lois_base.specs.declared.memory.NoMemory.{NoMemory}
 use Rattle.std.specs.Io.KnownBytes.{Consumes, IsAtEnd}
+use Rattle.lois_outside.specs.Calls.{Reads, no_take, one_more_take}
 use Rattle.lois_outside.specs.Faults.{Rose}
-use Rattle.lois_outside.specs.Reading.{TookAtMost, TookExactly}
-use Rattle.lois_run.specs.Causes.{HasTaken, HasCause, Promises, IsOutcomeOf, IsOfText, AnswersText}
-use Rattle.lois_run.specs.Headline.{longest_text}
+use Rattle.lois_outside.specs.Reading.{TookAtMost, TookExactly, ReadsToEnd, GivesUp}
+use Rattle.lois_outside.specs.declared.reading.ReadError.TheVariants as unread
+use Rattle.lois_run.specs.Causes.{Takes, Serves, HasRead, HasTaken, HasCause, Promises, IsOutcomeOf, GaveAtMost, IsOfText, AnswersText}
+use Rattle.lois_base.specs.declared.limits.TheConstants.{LONGEST_TEXT}
 use Rattle.lois_run.specs.Words.{Asks, Lacks, IsUsage}
 use Rattle.lois_run.specs.declared.outcomes.Outcome.{Outcome}
-use Rattle.lois_run.specs.declared.outcomes.Outcome.TheVariants.{Refused, ReadFault, Usage}
-use Rattle.lois_run.specs.declared.outcomes.Refusal.TheVariants.{TooLong}
+use Rattle.lois_run.specs.declared.outcomes.Outcome.TheVariants.{Completed, Reread as WrittenAgain, Checked, Refused, ReadFault, Usage}
+use Rattle.lois_run.specs.declared.outcomes.Refusal.TheVariants.{TooLong, Lexical, Syntax, Scope, NotResults, NotBuilt}
 use Rattle.lois_run.specs.declared.words.Command.{Command}
 use Rattle.lois_run.specs.declared.words.Command.TheVariants.{Run, Check, Reread}
 
@@ -33,13 +35,25 @@ one_command c d words a b = some_is (sym a ∙ b)
     some_is : Some c ≡ Some d → c ≡ d
     some_is e = cc e
 
-module _ (words : List (List ℕ)) (kinds : List Kind) (before after : Option (List ℕ)) (faults_before faults_after : ℕ) where
-  pub usage_is_told : IsUsage words kinds → before ≡ after → faults_after ≡ faults_before → IsOutcomeOf words kinds before after faults_before faults_after Usage
-  usage_is_told lacking same count = record {
+module _ {S : Type 0} (words : List (List ℕ)) (kinds : List Kind) (left : S → Option (List ℕ)) (faults : S → ℕ) (takes : Takes S) (from to : S) where
+  abbrev before : Option (List ℕ)
+  before = left from
+
+  abbrev after : Option (List ℕ)
+  after = left to
+
+  abbrev faults_before : ℕ
+  faults_before = faults from
+
+  abbrev faults_after : ℕ
+  faults_after = faults to
+
+  pub usage_is_told : IsUsage words kinds → from ≡ to → IsOutcomeOf words kinds left faults takes from to Usage
+  usage_is_told lacking same = record {
     usage = (λ e. lacking, λ n. refl);
-    usage_asks_nothing = λ e. count;
     read_fault = λ e. absurd (usage_is_not_fault e);
-    taken = same;
+    read = same;
+    taken = ap left same;
     cause = λ c asks. usage_cause c before;
     promise = λ c asks served. absurd (served lacking);
   }
@@ -73,17 +87,17 @@ module _ (words : List (List ℕ)) (kinds : List Kind) (before after : Option (L
     known P p None = tt
     known P p (Some text) = p text
 
-    pub fault_is_told : TookAtMost longest_text before after → Rose faults_before faults_after → IsOutcomeOf words kinds before after faults_before faults_after ReadFault
-    fault_is_told took rose = record {
+    pub fault_is_told : GivesUp takes LONGEST_TEXT from unread.ReadFault to → TookAtMost LONGEST_TEXT before after → Rose faults_before faults_after → IsOutcomeOf words kinds left faults takes from to ReadFault
+    fault_is_told calls took rose = record {
       usage = (λ e. absurd (fault_is_not_usage e), λ lacking. absurd (no_usage lacking));
-      usage_asks_nothing = λ e. absurd (fault_is_not_usage e);
       read_fault = λ e. rose;
+      read = calls;
       taken = took;
       cause = λ c a. known (λ text. HasCause c text ReadFault) (fault_cause c) before;
       promise = λ c a served. known (λ text. Promises c text (Rose faults_before faults_after) ReadFault) (fault_promise rose c) before;
     }
 
-    long_text : (text : List ℕ) (at : Option (List ℕ)) → TookExactly 1048577 (Some text) at → length text ≤ longest_text → ⊥
+    long_text : (text : List ℕ) (at : Option (List ℕ)) → TookExactly 1048577 (Some text) at → length text ≤ LONGEST_TEXT → ⊥
     long_text text None (bytes, took, count) l = took
     long_text text (Some rest) (bytes, took, count) l = omega (arith, l, count, ap length took, length-append bytes rest)
 
@@ -98,18 +112,15 @@ module _ (words : List (List ℕ)) (kinds : List Kind) (before after : Option (L
     long_promise Check (Some text) took = λ l s h w. absurd (long_text text after took l)
     long_promise Reread (Some text) took = λ l answer h. absurd (long_text text after took l)
 
-    exact_is_told : TookExactly 1048577 before after → IsOutcomeOf words kinds before after faults_before faults_after (Refused TooLong)
-    exact_is_told took = record {
+    pub long_is_told : (n : ℕ) → GivesUp takes LONGEST_TEXT from (unread.TooLong n) to → (n ≡ 1048577) × TookExactly n before after → IsOutcomeOf words kinds left faults takes from to (Refused TooLong)
+    long_is_told n calls (e, some) = let took : TookExactly 1048577 before after = subst (λ k. TookExactly k before after) e some in record {
       usage = (λ e. absurd (refused_is_not_usage e), λ lacking. absurd (no_usage lacking));
-      usage_asks_nothing = λ e. absurd (refused_is_not_usage e);
       read_fault = λ e. absurd (refused_is_not_fault e);
+      read = calls;
       taken = took;
       cause = λ c a. known (λ text. HasCause c text (Refused TooLong)) (long_cause c) before;
       promise = λ c a served. long_promise c before took;
     }
-
-    pub long_is_told : (n : ℕ) → (n ≡ 1048577) × TookExactly n before after → IsOutcomeOf words kinds before after faults_before faults_after (Refused TooLong)
-    long_is_told n (e, took) = exact_is_told (subst (λ k. TookExactly k before after) e took)
 
     text_is_not_usage : (o : Outcome) → IsOfText o → o ≡ Usage → ⊥
     text_is_not_usage o h e = subst IsOfText e h
@@ -117,7 +128,7 @@ module _ (words : List (List ℕ)) (kinds : List Kind) (before after : Option (L
     text_is_not_fault : (o : Outcome) → IsOfText o → o ≡ ReadFault → ⊥
     text_is_not_fault o h e = subst IsOfText e h
 
-    text_taken : (o : Outcome) → IsOfText o → TookAtMost longest_text before after → IsAtEnd after → HasTaken before after o
+    text_taken : (o : Outcome) → IsOfText o → TookAtMost LONGEST_TEXT before after → IsAtEnd after → HasTaken before after o
     text_taken (Refused TooLong) h took end = absurd h
     text_taken ReadFault h took end = absurd h
     text_taken Usage h took end = absurd h
@@ -140,17 +151,75 @@ module _ (words : List (List ℕ)) (kinds : List Kind) (before after : Option (L
     of_text P None bytes took end h = tt
     of_text P (Some text) bytes took end h = subst P (sym (all_text text bytes after took end)) h
 
-    pub text_is_told : (bytes : List ℕ) (o : Outcome) → Consumes before after bytes → IsAtEnd after → length bytes ≤ longest_text → AnswersText command bytes o → IsOutcomeOf words kinds before after faults_before faults_after o
-    text_is_told bytes o took end fits h = record {
+    text_read : (bytes : List ℕ) (o : Outcome) → IsOfText o → ReadsToEnd takes (LONGEST_TEXT + 1) from bytes to → length bytes ≤ LONGEST_TEXT → Serves words bytes o → HasRead takes words from to o
+    text_read bytes (Refused TooLong) h calls fits serves = absurd h
+    text_read bytes ReadFault h calls fits serves = absurd h
+    text_read bytes Usage h calls fits serves = absurd h
+    text_read bytes _ h calls fits serves = (bytes, calls, fits, serves)
+
+    served : (bytes : List ℕ) (o : Outcome) → AnswersText command bytes o → Serves words bytes o
+    served bytes o h c a = for_command (λ d. HasCause d bytes o × Promises d bytes ⊥ o) (h.cause, h.promise) c a
+
+    pub text_is_told : (bytes : List ℕ) (o : Outcome) → ReadsToEnd takes (LONGEST_TEXT + 1) from bytes to → Consumes before after bytes → IsAtEnd after → length bytes ≤ LONGEST_TEXT → AnswersText command bytes o → IsOutcomeOf words kinds left faults takes from to o
+    text_is_told bytes o calls took end fits h = record {
       usage = (λ e. absurd (text_is_not_usage o h.kind e), λ lacking. absurd (no_usage lacking));
-      usage_asks_nothing = λ e. absurd (text_is_not_usage o h.kind e);
       read_fault = λ e. absurd (text_is_not_fault o h.kind e);
+      read = text_read bytes o h.kind calls fits (served bytes o h);
       taken = text_taken o h.kind (bytes, took, fits) end;
       cause = λ c a. for_command (λ d. IfSome before (λ text. HasCause d text o)) (of_text (λ text. HasCause command text o) before bytes took end h.cause) c a;
       promise = λ c a served. for_command (λ d. IfSome before (λ text. Promises d text (Rose faults_before faults_after) o))
           (of_text (λ text. Promises command text (Rose faults_before faults_after) o) before bytes took end (text_promise command bytes o h.promise)) c a;
     }
 
-    pub answered_is_told : (bytes : List ℕ) (r : Result Outcome NoMemory) → Consumes before after bytes → IsAtEnd after → length bytes ≤ longest_text → IfOk r (AnswersText command bytes) → IfOk r (IsOutcomeOf words kinds before after faults_before faults_after)
-    answered_is_told bytes (Ok o) took end fits h = text_is_told bytes o took end fits h
-    answered_is_told bytes (Err e) took end fits h = tt
+    pub answered_is_told : (bytes : List ℕ) (r : Result Outcome NoMemory) → ReadsToEnd takes (LONGEST_TEXT + 1) from bytes to → Consumes before after bytes → IsAtEnd after → length bytes ≤ LONGEST_TEXT → IfOk r (AnswersText command bytes) → IfOk r (IsOutcomeOf words kinds left faults takes from to)
+    answered_is_told bytes (Ok o) calls took end fits h = text_is_told bytes o calls took end fits h
+    answered_is_told bytes (Err e) calls took end fits h = tt
+
+-- ---- how much was read at most
+
+module _ {S : Type 0} (left : S → Option (List ℕ)) (takes : Takes S) where
+  nothing_taken : (most : ℕ) (at : Option (List ℕ)) → TookAtMost most at at
+  nothing_taken most None = ([], tt, omega arith)
+  nothing_taken most (Some xs) = ([], refl, omega arith)
+
+  pub gave_nothing : (most : ℕ) (at : S) → GaveAtMost left takes most at at
+  gave_nothing most at = record { bytes = []; calls = inl no_take; few = omega arith; taken = nothing_taken most (left at) }
+
+  pub gave_up : (from to : S) → GivesUp takes LONGEST_TEXT from unread.NoMemory to → TookAtMost LONGEST_TEXT (left from) (left to) → GaveAtMost left takes LONGEST_TEXT from to
+  gave_up from to (bytes, calls, few) took = record { bytes = bytes; calls = inl calls; few = few; taken = took }
+
+  to_end : (from to : S) (bytes : List ℕ) → ReadsToEnd takes (LONGEST_TEXT + 1) from bytes to → Reads takes (LONGEST_TEXT + 1) from bytes to
+  to_end from to bytes (mid, asked, calls, room, some, last) =
+      subst (λ bs. Reads takes (LONGEST_TEXT + 1) from bs to) (append-nil bytes) (one_more_take bytes [] asked mid to calls room last)
+
+  pub gave_text : (most : ℕ) (from to : S) (bytes : List ℕ) → ReadsToEnd takes (LONGEST_TEXT + 1) from bytes to → length bytes ≤ most → Consumes (left from) (left to) bytes → GaveAtMost left takes most from to
+  gave_text most from to bytes calls few took = record { bytes = bytes; calls = inl (to_end from to bytes calls); few = few; taken = (bytes, took, few) }
+
+  more : (few most : ℕ) (a b : Option (List ℕ)) → few ≤ most → TookAtMost few a b → TookAtMost most a b
+  more few most a b le (bytes, took, count) = (bytes, took, omega (arith, le, count))
+
+  exactly : (n : ℕ) (a b : Option (List ℕ)) → TookExactly n a b → TookAtMost n a b
+  exactly n a b (bytes, took, count) = (bytes, took, omega (arith, count))
+
+  given : (from to : S) (text : List ℕ) → ReadsToEnd takes (LONGEST_TEXT + 1) from text to → length text ≤ LONGEST_TEXT → TookAtMost LONGEST_TEXT (left from) (left to) → GaveAtMost left takes (LONGEST_TEXT + 1) from to
+  given from to text calls few took = record { bytes = text; calls = inl (to_end from to text calls); few = omega (arith, few); taken = more LONGEST_TEXT (LONGEST_TEXT + 1) (left from) (left to) (omega arith) took }
+
+  of_outcome : (words : List (List ℕ)) (from to : S) (o : Outcome) → HasRead takes words from to o → HasTaken (left from) (left to) o → GaveAtMost left takes (LONGEST_TEXT + 1) from to
+  of_outcome words from to (Refused TooLong) read took = record { bytes = read.0; calls = inl read.1; few = omega (arith, read.2); taken = exactly 1048577 (left from) (left to) took }
+  of_outcome words from to (Refused (Lexical n p)) read took = given from to read.0 read.1 read.2 took.0
+  of_outcome words from to (Refused (Syntax n p)) read took = given from to read.0 read.1 read.2 took.0
+  of_outcome words from to (Refused (Scope n p)) read took = given from to read.0 read.1 read.2 took.0
+  of_outcome words from to (Refused (NotResults p)) read took = given from to read.0 read.1 read.2 took.0
+  of_outcome words from to (Refused NotBuilt) read took = given from to read.0 read.1 read.2 took.0
+  of_outcome words from to (Completed r) read took = given from to read.0 read.1 read.2 took.0
+  of_outcome words from to (WrittenAgain answer) read took = given from to read.0 read.1 read.2 took.0
+  of_outcome words from to (Checked script) read took = given from to read.0 read.1 read.2 took.0
+  of_outcome words from to ReadFault (bytes, mid, asked, calls, few, room, last) took = record { bytes = bytes; calls = inr (mid, asked, calls, last); few = omega (arith, few); taken = more LONGEST_TEXT (LONGEST_TEXT + 1) (left from) (left to) (omega arith) took }
+  of_outcome words from to Usage same took = subst (GaveAtMost left takes (LONGEST_TEXT + 1) from) same (gave_nothing (LONGEST_TEXT + 1) from)
+
+  pub gave_for : {words : List (List ℕ)} {kinds : List Kind} {faults : S → ℕ} (from to : S) (o : Outcome) → IsOutcomeOf words kinds left faults takes from to o → GaveAtMost left takes (LONGEST_TEXT + 1) from to
+  gave_for {words} from to o h = of_outcome words from to o h.read h.taken
+
+  pub whatever_error : {X E : Type 0} (most : ℕ) (from to : S) (r : Result X E) → GaveAtMost left takes most from to → IfErr r (λ e. GaveAtMost left takes most from to)
+  whatever_error most from to (Ok x) h = tt
+  whatever_error most from to (Err e) h = h

@@ -2,7 +2,7 @@
 -- parameters, where no value is deeper than 64.
 use Rattle.std.specs.Prelude.{◌≡◌, ℕ, suc, ◌≤◌, max, List, [], ◌∷◌, ◌++◌, if◌then◌else◌, bytes_eq}
 use Rattle.lois_meaning.specs.Store.{depth_limit}
-use Rattle.lois_meaning.specs.Tree.{ExprD, atoms, var, tag, tuple, listed, ExprsD, no_exprs, expr, StmtD, «let», print, StmtsD, no_stmts, stmt, ScriptD}
+use Rattle.lois_script.specs.Tree.{ExprD, atoms, var, tag, tuple, listed, ExprsD, no_exprs, expr, StmtD, «let», print, StmtsD, no_stmts, stmt, ScriptD}
 
 abbrev mutual
   pub IsBuiltExpr : ExprD → Type 0

@@ -1,18 +1,21 @@
 -- When each outcome comes, and what the sink is told.
-use Rattle.std.specs.Prelude.{◌≡◌, ◌≤◌, ◌⊎◌, ◌↔◌, ℕ, List, length, Option, IfSome}
+use Rattle.std.specs.Prelude.{◌≡◌, ◌+◌, ◌≤◌, ◌⊎◌, ◌↔◌, ℕ, List, [], length, Option, None, IfSome}
 use Rattle.std.specs.Io.KnownBytes.{Appends, IsAtEnd}
 use Rattle.lois_base.specs.declared.deciding.Kind.{Kind}
-use Rattle.lois_meaning.specs.Limits.{Spells}
-use Rattle.lois_meaning.specs.Scope.{IsWellScoped}
-use Rattle.lois_meaning.specs.Tree.{ScriptD}
-use Rattle.lois_meaning.specs.View.{script_tree}
-use Rattle.lois_meaning.specs.declared.faults.Answer.{Answer}
+use Rattle.lois_script.specs.Limits.{Spells}
+use Rattle.lois_script.specs.Scope.{IsWellScoped}
+use Rattle.lois_script.specs.Tree.{ScriptD}
+use Rattle.lois_script.specs.View.{script_tree}
+use Rattle.lois_answers.specs.declared.faults.Answer.{Answer}
+use Rattle.lois_outside.specs.Calls.{Reads, Writes}
 use Rattle.lois_outside.specs.Faults.{Rose}
-use Rattle.lois_outside.specs.Reading.{TookAtMost, TookExactly}
-use Rattle.lois_outside.specs.Writing.{AppendsProperPrefix}
+use Rattle.lois_outside.specs.Reading.{TookAtMost, TookExactly, ReadsToEnd, GivesUp}
+use Rattle.lois_outside.specs.Writing.{AppendsProperPrefix, FailsWriting}
+use Rattle.lois_outside.specs.declared.reading.ReadError.TheVariants as unread
 use Rattle.lois_reader.specs.Refusal.{IsAnswerOf}
 use Rattle.lois_run.specs.BuiltForms.{IsBuilt}
-use Rattle.lois_run.specs.Headline.{Headline, IsAnswer, longest_text}
+use Rattle.lois_base.specs.declared.limits.TheConstants.{LONGEST_TEXT}
+use Rattle.lois_run.specs.Headline.{Headline, IsAnswer}
 use Rattle.lois_run.specs.Outcomes.{status_of, outcome_text}
 use Rattle.lois_run.specs.Refusals.{IsRefusedAs, IsNoAnswer}
 use Rattle.lois_run.specs.Words.{Asks, IsUsage}
@@ -26,12 +29,12 @@ use Rattle.lois_run.specs.declared.words.Command.TheVariants as commands
 
 -- the input was taken to its end, and is no longer than a script may be
 abbrev pub TookAll : Option (List ℕ) → Option (List ℕ) → Type 0
-TookAll before after = TookAtMost longest_text before after × IsAtEnd after
+TookAll before after = TookAtMost LONGEST_TEXT before after × IsAtEnd after
 
 -- How many bytes the outcome has taken: too long means exactly one more than a script may have, and only it took so many.
 abbrev pub HasTaken : Option (List ℕ) → Option (List ℕ) → Outcome → Type 0
 HasTaken before after (Refused TooLong) = TookExactly 1048577 before after
-HasTaken before after ReadFault = TookAtMost longest_text before after
+HasTaken before after ReadFault = TookAtMost LONGEST_TEXT before after
 HasTaken before after Usage = before ≡ after
 HasTaken before after _ = TookAll before after
 
@@ -44,8 +47,8 @@ IsRefusedBy commands.Reread text _ = ⊥
 IsRefusedBy Check text NotBuilt = ⊥
 IsRefusedBy command text refusal = IsRefusedAs text refusal
 
--- Why the outcome comes, of the text that was to be read. A text that is no well-scoped script never completes. No two
--- of these facts hold of one text and one command.
+-- Why the outcome comes, of the text that was to be read. A text that is no well-scoped script never completes. Read
+-- faults, usage and texts that are too long have their causes elsewhere: in the calls of the source, and in the words.
 abbrev pub HasCause : Command → List ℕ → Outcome → Type 0
 HasCause (Run kind) text (Completed r) = (s : ScriptD) × Spells text s × IsWellScoped s × IsBuilt s × IsAnswer s r
 HasCause Check text (Checked script) = Spells text (script_tree script) × IsWellScoped (script_tree script)
@@ -61,7 +64,7 @@ IsChecked _ = ⊥
 
 -- each well-scoped script within the limits passes `check`
 abbrev pub Checks : List ℕ → Type 0 → Outcome → Type 0
-Checks text fault o = length text ≤ longest_text → (s : ScriptD) → Spells text s → IsWellScoped s → IsChecked o ⊎ ((o ≡ ReadFault) × fault)
+Checks text fault o = length text ≤ LONGEST_TEXT → (s : ScriptD) → Spells text s → IsWellScoped s → IsChecked o ⊎ ((o ≡ ReadFault) × fault)
 
 abbrev pub IsReread : Outcome → Type 0
 IsReread (Reread answer) = Unit {0}
@@ -69,7 +72,7 @@ IsReread _ = ⊥
 
 -- the text of each sound answer passes `reread` within the limit
 abbrev pub Rereads : List ℕ → Type 0 → Outcome → Type 0
-Rereads text fault o = length text ≤ longest_text → (answer : Answer) → IsAnswerOf text answer → IsReread o ⊎ ((o ≡ ReadFault) × fault)
+Rereads text fault o = length text ≤ LONGEST_TEXT → (answer : Answer) → IsAnswerOf text answer → IsReread o ⊎ ((o ≡ ReadFault) × fault)
 
 -- what the command promises of a text that was to be read
 abbrev pub Promises : Command → List ℕ → Type 0 → Outcome → Type 0
@@ -77,24 +80,58 @@ Promises (Run kind) text fault o = Headline text fault o
 Promises Check text fault o = Checks text fault o
 Promises commands.Reread text fault o = Rereads text fault o
 
--- The outcome of a call with these words and deciders of these kinds: of what the source had left and has left, and of its
--- count of faults.
-pub record IsOutcomeOf (words : List (List ℕ)) (kinds : List Kind) (before after : Option (List ℕ)) (faults_before faults_after : ℕ) (o : Outcome) : Type 0 where
-  -- usage comes exactly where the words aren't taken or lack their decider, and then the source was asked nothing
+-- one call of a source: how many bytes it asked for, and what it was given, or `None` where it failed
+abbrev pub Takes : Type 0 → Type 1
+Takes S = S → ℕ → Option (List ℕ) → S → Type 0
+
+-- the outcome has its cause in the text, and keeps what the command that the words ask for promises of it
+abbrev pub Serves : List (List ℕ) → List ℕ → Outcome → Type 0
+Serves words text o = (command : Command) → Asks command words → HasCause command text o × Promises command text ⊥ o
+
+-- What the calls of the source gave, whether or not it tells what is left: too many bytes; or some, and then the last call
+-- failed; or the whole text that the outcome is about, up to its end. For usage there was no call.
+abbrev pub HasRead : {S : Type 0} → Takes S → List (List ℕ) → S → S → Outcome → Type 0
+HasRead {S} takes words from to (Refused TooLong) = GivesUp takes LONGEST_TEXT from (unread.TooLong (LONGEST_TEXT + 1)) to
+HasRead {S} takes words from to ReadFault = GivesUp takes LONGEST_TEXT from unread.ReadFault to
+HasRead {S} takes words from to Usage = from ≡ to
+HasRead {S} takes words from to o = (text : List ℕ) × ReadsToEnd takes (LONGEST_TEXT + 1) from text to × (length text ≤ LONGEST_TEXT) × Serves words text o
+
+-- The outcome of a call with these words and deciders of these kinds, which led from a source to a source: what each has
+-- left, where it tells that, its count of faults, and what one of its calls is.
+pub record IsOutcomeOf {S : Type 0} (words : List (List ℕ)) (kinds : List Kind) (left : S → Option (List ℕ)) (faults : S → ℕ) (takes : Takes S) (from to : S) (o : Outcome) : Type 0 where
+  -- usage comes exactly where the words aren't taken or lack their decider
   pub usage : (o ≡ Usage) ↔ IsUsage words kinds
-  pub usage_asks_nothing : o ≡ Usage → faults_after ≡ faults_before
-  pub read_fault : o ≡ ReadFault → Rose faults_before faults_after
-  pub taken : HasTaken before after o
-  pub cause : (command : Command) → Asks command words → IfSome before (λ text. HasCause command text o)
+  pub read_fault : o ≡ ReadFault → Rose (faults from) (faults to)
+  pub read : HasRead takes words from to o
+  -- the same of a source that tells what it has left; there the text is also that of which too many bytes or too few were read
+  pub taken : HasTaken (left from) (left to) o
+  pub cause : (command : Command) → Asks command words → IfSome (left from) (λ text. HasCause command text o)
   -- unless it is usage, the outcome keeps what the command promises
-  pub promise : (command : Command) → Asks command words → (IsUsage words kinds → ⊥) → IfSome before (λ text. Promises command text (Rose faults_before faults_after) o)
+  pub promise : (command : Command) → Asks command words → (IsUsage words kinds → ⊥) → IfSome (left from) (λ text. Promises command text (Rose (faults from) (faults to)) o)
+
+-- calls that gave these bytes, of which the last one may have failed
+abbrev pub Gave : {S : Type 0} → Takes S → S → List ℕ → S → Type 0
+Gave {S} takes from bytes to =
+    Reads takes (LONGEST_TEXT + 1) from bytes to ⊎
+    ((mid : S) × (asked : ℕ) × Reads takes (LONGEST_TEXT + 1) from bytes mid × takes mid asked None to)
+
+-- the source has given at most so many bytes, by its calls and by what it has left
+pub record GaveAtMost {S : Type 0} (left : S → Option (List ℕ)) (takes : Takes S) (most : ℕ) (from to : S) : Type 0 where
+  pub bytes : List ℕ
+  pub calls : Gave takes from bytes to
+  pub few : length bytes ≤ most
+  pub taken : TookAtMost most (left from) (left to)
+
+-- one call of a sink: the piece that it was handed, and how many of its bytes it took, or `None` where it failed
+abbrev pub Puts : Type 0 → Type 1
+Puts K = K → List ℕ → Option ℕ → K → Type 0
 
 -- The status is the outcome's, and the sink has its text whole; or it is 7, the sink's count of faults rose, and the sink
--- has a first part of the text, but not all of it.
-abbrev pub IsTold : Outcome → ℕ → Option (List ℕ) → Option (List ℕ) → ℕ → ℕ → Type 0
-IsTold o status before after faults_before faults_after =
-    ((status ≡ status_of o) × Appends before after (outcome_text o)) ⊎
-    ((status ≡ 7) × Rose faults_before faults_after × AppendsProperPrefix before after (outcome_text o))
+-- has a first part of the text, but not all of it. The same of the calls, where the sink doesn't tell what it holds.
+abbrev pub IsTold : {K : Type 0} → (K → Option (List ℕ)) → (K → ℕ) → Puts K → K → K → Outcome → ℕ → Type 0
+IsTold {K} held faults puts from to o status =
+    ((status ≡ status_of o) × Appends (held from) (held to) (outcome_text o) × Writes puts from (outcome_text o) [] to) ⊎
+    ((status ≡ 7) × Rose (faults from) (faults to) × AppendsProperPrefix (held from) (held to) (outcome_text o) × FailsWriting puts from (outcome_text o) to)
 
 -- a text comes to one of these
 abbrev pub IsOfText : Outcome → Type 0

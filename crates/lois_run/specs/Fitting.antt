@@ -5,9 +5,9 @@ use Rattle.lois_base.specs.Data.{TermD}
 use Rattle.lois_base.specs.Fits.{Fits}
 use Rattle.lois_base.specs.Names.{IsName}
 use Rattle.lois_base.specs.Validity.{AdmitsTerm, HasUsualWidths}
-use Rattle.lois_meaning.specs.Limits.{width}
-use Rattle.lois_meaning.specs.Sound.{HasTags, IsFreeName}
-use Rattle.lois_meaning.specs.Tree.{ExprD, tag, tuple, listed, ExprsD, no_exprs, expr, StmtD, «let», print, StmtsD, no_stmts, stmt}
+use Rattle.lois_script.specs.Limits.{width}
+use Rattle.lois_answers.specs.Sound.{HasTags, IsFreeName}
+use Rattle.lois_script.specs.Tree.{ExprD, tag, tuple, listed, ExprsD, no_exprs, expr, StmtD, «let», print, StmtsD, no_stmts, stmt}
 use Rattle.lois_run.specs.Values.{HeldD}
 
 -- a tuple has 2 to 8 parts, and a tag the form of a name

@@ -1,24 +1,21 @@
 -- The headline: every script of the forms that run so far completes with what the infinite run prints.
 use Rattle.std.specs.Prelude.{◌≡◌, ℕ, ◌≤◌, ◌⊎◌, List, [], ◌∷◌, ◌++◌, length, map, IsTrue}
 use Rattle.std.specs.List.{All}
+use Rattle.lois_base.specs.declared.limits.TheConstants.{LONGEST_TEXT}
 use Rattle.lois_base.specs.Atom.{Atom}
 use Rattle.lois_base.specs.Truth.{holds}
 use Rattle.lois_base.specs.Values.{point}
-use Rattle.lois_meaning.specs.Limits.{Spells}
-use Rattle.lois_meaning.specs.ResultsData.{LineD, CaseD}
+use Rattle.lois_script.specs.Limits.{Spells}
+use Rattle.lois_answers.specs.ResultsData.{LineD, CaseD}
 use Rattle.lois_meaning.specs.Runs.{ScriptEnds}
-use Rattle.lois_meaning.specs.Scope.{IsWellScoped}
-use Rattle.lois_meaning.specs.Sound.{IsSound}
+use Rattle.lois_script.specs.Scope.{IsWellScoped}
+use Rattle.lois_answers.specs.Sound.{IsSound}
 use Rattle.lois_meaning.specs.Store.{NamedValues, named, AreSameNamed}
-use Rattle.lois_meaning.specs.Tree.{ParamD, ScriptD}
-use Rattle.lois_meaning.specs.declared.results.Results.{Results}
+use Rattle.lois_script.specs.Tree.{ParamD, ScriptD}
+use Rattle.lois_answers.specs.declared.results.Results.{Results}
 use Rattle.lois_run.specs.BuiltForms.{IsBuilt}
 use Rattle.lois_run.specs.declared.outcomes.Outcome.{Outcome}
 use Rattle.lois_run.specs.declared.outcomes.Outcome.TheVariants.{Completed, ReadFault}
-
--- a script has at most so many bytes
-abbrev pub longest_text : ℕ
-longest_text = 1048576
 
 -- the values of lines at a choice of the parameters
 abbrev pub line_values : List Atom → List LineD → NamedValues
@@ -73,5 +70,5 @@ IsRight text _ = Unit {0}
 
 -- For a text that was to be read. A fault is that the source's count of faults rose.
 pub record Headline (text : List ℕ) (fault : Type 0) (o : Outcome) : Type 0 where
-  pub completes : length text ≤ longest_text → (s : ScriptD) → Spells text s → IsWellScoped s → IsBuilt s → IsCompleted o ⊎ ((o ≡ ReadFault) × fault)
+  pub completes : length text ≤ LONGEST_TEXT → (s : ScriptD) → Spells text s → IsWellScoped s → IsBuilt s → IsCompleted o ⊎ ((o ≡ ReadFault) × fault)
   pub right : IsRight text o

@@ -10,3 +10,4 @@ pub mod Read
 pub mod Outcomes
 pub mod Headline
 pub mod Causes
+pub mod Laws

@@ -1,11 +1,11 @@
 -- The status and the text of each outcome.
 use Rattle.std.specs.Prelude.{◌≤◌, ℕ, Bool, List, [], ◌∷◌, codes}
-use Rattle.lois_meaning.specs.ResultsData.{LineD}
-use Rattle.lois_meaning.specs.ResultsText.{lined, results_text}
-use Rattle.lois_meaning.specs.Sound.{IsSound}
-use Rattle.lois_meaning.specs.TraceText.{answer_text}
-use Rattle.lois_meaning.specs.View.{script_tree}
-use Rattle.lois_meaning.specs.declared.results.Results.{Results}
+use Rattle.lois_answers.specs.ResultsData.{LineD}
+use Rattle.lois_answers.specs.ResultsText.{lined, results_text}
+use Rattle.lois_answers.specs.Sound.{IsSound}
+use Rattle.lois_answers.specs.TraceText.{answer_text}
+use Rattle.lois_script.specs.View.{script_tree}
+use Rattle.lois_answers.specs.declared.results.Results.{Results}
 use Rattle.lois_reader.specs.Refusal.{IsSoundAnswer}
 use Rattle.lois_script_printer.specs.Printed.{printed_script}
 use Rattle.lois_script_printer.specs.Unplaced.{IsSpelled}

@@ -1,9 +1,9 @@
 -- What the reading of a text comes to.
 use Rattle.std.specs.Prelude.{List, ℕ}
-use Rattle.lois_meaning.specs.Limits.{Spells}
-use Rattle.lois_meaning.specs.Scope.{IsWellScoped}
-use Rattle.lois_meaning.specs.Tree.{ScriptD}
-use Rattle.lois_meaning.specs.View.{script_tree}
+use Rattle.lois_script.specs.Limits.{Spells}
+use Rattle.lois_script.specs.Scope.{IsWellScoped}
+use Rattle.lois_script.specs.Tree.{ScriptD}
+use Rattle.lois_script.specs.View.{script_tree}
 use Rattle.lois_run.specs.Outcomes.{HasNumber}
 use Rattle.lois_run.specs.Refusals.{IsRefusedAs}
 use Rattle.lois_run.specs.declared.reading.Read.{Read}

@@ -7,9 +7,9 @@ use Rattle.lois_lexer.specs.declared.LexError.{LexError}
 use Rattle.lois_lexer.specs.declared.LexError.TheVariants.{BadByte, LongName, BadNumber}
 use Rattle.lois_lexer.specs.declared.Place.{Place}
 use Rattle.lois_lexer.specs.declared.Token.{Token}
-use Rattle.lois_meaning.specs.Limits.{Spells}
-use Rattle.lois_meaning.specs.Scope.{IsWellScoped}
-use Rattle.lois_meaning.specs.Tree.{ScriptD}
+use Rattle.lois_script.specs.Limits.{Spells}
+use Rattle.lois_script.specs.Scope.{IsWellScoped}
+use Rattle.lois_script.specs.Tree.{ScriptD}
 use Rattle.lois_reader.specs.Pieces.{answer_pieces}
 use Rattle.lois_reader.specs.Refusal.{HasNone, IsAnswerOf, IsInside, IsPlace}
 use Rattle.lois_reader.specs.Shape.{HasAnswerShape, SpellsAnswer}

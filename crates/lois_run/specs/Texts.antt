@@ -1,24 +1,34 @@
 -- The words that a refusal is told by.
 use Rattle.std.specs.Prelude.{ℕ, List, ◌++◌, codes, if◌then◌else◌, ◌==◌}
 use Rattle.std.specs.Fmt.{decimal}
+use Rattle.lois_script.specs.declared.syntax.Pos.{Pos}
+use Rattle.lois_lexer.specs.Causes.{cause_text as lexical_cause}
+use Rattle.lois_lexer.specs.declared.LexError.TheVariants.{BadByte, LongName, BadNumber}
 use Rattle.lois_lexer.specs.declared.Place.{Place}
+use Rattle.lois_scope.specs.Causes.{cause_text as scope_cause}
+use Rattle.lois_scope.specs.declared.checking.ScopeError.TheVariants.{Unknown, Again, OuterAssign, PrintInLoop, OrderInEquality}
+use Rattle.lois_syntax.specs.Causes.{cause_text as syntax_cause}
+use Rattle.lois_syntax.specs.declared.SyntaxError.TheVariants.{NoScript, TooNested, WideTuple, TurnsTooMany}
 
--- each refusal by its number in its table; the last words are those of the last number
+-- each refusal by its number; the last words are those of the last number
 abbrev pub lexical_text : ℕ → List ℕ
-lexical_text n = if (n == 1) then (codes "bad byte") else (if (n == 2) then (codes "long name") else (codes "bad number"))
+lexical_text n = if (n == 1) then (lexical_cause (BadByte 0)) else (if (n == 2) then (lexical_cause (LongName 0)) else (lexical_cause (BadNumber 0)))
 
 abbrev pub syntax_text : ℕ → List ℕ
 syntax_text n =
-    if (n == 1) then (codes "not a script") else
-    (if (n == 2) then (codes "nesting over 64") else
-    (if (n == 3) then (codes "tuple over 8") else (codes "turns over 1000000")))
+    if (n == 1) then (syntax_cause (NoScript 0)) else
+    (if (n == 2) then (syntax_cause (TooNested 0)) else
+    (if (n == 3) then (syntax_cause (WideTuple 0)) else (syntax_cause (TurnsTooMany 0))))
+
+abbrev pub start : Pos
+start = record { offset = 0 }
 
 abbrev pub scope_text : ℕ → List ℕ
 scope_text n =
-    if (n == 1) then (codes "unknown name") else
-    (if (n == 2) then (codes "name declared again") else
-    (if (n == 3) then (codes "assignment to outer variable") else
-    (if (n == 4) then (codes "print in a loop") else (codes "order in an equality script"))))
+    if (n == 1) then (scope_cause (Unknown start)) else
+    (if (n == 2) then (scope_cause (Again start)) else
+    (if (n == 3) then (scope_cause (OuterAssign start)) else
+    (if (n == 4) then (scope_cause (PrintInLoop start)) else (scope_cause (OrderInEquality start)))))
 
 abbrev pub placed_text : Place → List ℕ → List ℕ
 placed_text place cause = codes "refused at " ++ decimal place.line ++ codes ":" ++ decimal place.column ++ codes ": " ++ cause

@@ -1,8 +1,8 @@
 -- The terms that the run makes of expressions, and the lines that it makes of statements.
 use Rattle.std.specs.Prelude.{◌≡◌, ℕ, List, [], ◌∷◌, ◌++◌, map, Option, Some, None, IsSome, if◌then◌else◌, bytes_eq, unwrap_or}
 use Rattle.lois_base.specs.Data.{TermD, var as level, tag as tag_term, tup, coll, TermsD, no_terms, term, CompD, comp, CompsD, no_comps, more, depth}
-use Rattle.lois_meaning.specs.ResultsData.{LineD}
-use Rattle.lois_meaning.specs.Tree.{ExprD, atoms, var, tag, tuple, listed, ExprsD, no_exprs, expr, StmtD, «let», print, StmtsD, no_stmts, stmt}
+use Rattle.lois_answers.specs.ResultsData.{LineD}
+use Rattle.lois_script.specs.Tree.{ExprD, atoms, var, tag, tuple, listed, ExprsD, no_exprs, expr, StmtD, «let», print, StmtsD, no_stmts, stmt}
 use Rattle.lois_run.specs.BuiltForms.{HeightD}
 
 -- a name with its value

@@ -2,15 +2,16 @@
 
 ghost use Rattle.std.specs.Prelude.{◌≡◌, IfOk};
 ghost use Rattle.lois_run.specs.Outcomes.{status_of, refusal_text, outcome_text, HasText};
-ghost use Rattle.lois_meaning.specs.ResultsText.{lined};
-ghost use Rattle.lois_meaning.specs.TraceText.{answer_text};
+ghost use Rattle.lois_answers.specs.ResultsText.{lined};
+ghost use Rattle.lois_answers.specs.TraceText.{answer_text};
 ghost use Rattle.lois_reader.specs.Refusal.{IsSoundAnswer};
 
 use crate::texts::{lexical_text, refused_line, scope_text, syntax_text, text_line};
+use lois_answers::{Answer, Results};
 use lois_base::NoMemory;
 use lois_lexer::Place;
-use lois_meaning::{Answer, Results, Script};
 use lois_printer::{print_results, print_trace};
+use lois_script::Script;
 use lois_script_printer::print_script;
 use std::alloc::Global;
 
@@ -89,9 +90,21 @@ impl Refusal {
     {
         match self {
             Refusal::TooLong => text_line(alloc, b"refused: input over 1048576 bytes"),
-            Refusal::Lexical(number, place) => refused_line(alloc, *place, lexical_text(*number)),
-            Refusal::Syntax(number, place) => refused_line(alloc, *place, syntax_text(*number)),
-            Refusal::Scope(number, place) => refused_line(alloc, *place, scope_text(*number)),
+            Refusal::Lexical(number, place) => refused_line(
+                alloc,
+                *place,
+                lexical_text(*number).as_bytes(),
+            ),
+            Refusal::Syntax(number, place) => refused_line(
+                alloc,
+                *place,
+                syntax_text(*number).as_bytes(),
+            ),
+            Refusal::Scope(number, place) => refused_line(
+                alloc,
+                *place,
+                scope_text(*number).as_bytes(),
+            ),
             Refusal::NotResults(place) => refused_line(alloc, *place, b"not results"),
             Refusal::NotBuilt => text_line(alloc, b"refused: not built yet"),
         }

@@ -62,9 +62,9 @@ fn lexical_refusal(text: &[u8], error: LexError) -> Result<Refusal, NoMemory>
     ensures { MatchResult result (LexicalTells text.now error) (λ e. error ≡ LexError.NoMemory) }
 {
     match error {
-        LexError::BadByte(at) => Ok(Refusal::Lexical(1, place_at(text, at))),
-        LexError::LongName(at) => Ok(Refusal::Lexical(2, place_at(text, at))),
-        LexError::BadNumber(at) => Ok(Refusal::Lexical(3, place_at(text, at))),
+        LexError::BadByte(at) | LexError::LongName(at) | LexError::BadNumber(at) => {
+            Ok(Refusal::Lexical(error.number(), place_at(text, at)))
+        }
         LexError::NoMemory => Err(NoMemory),
     }
 }
@@ -73,18 +73,13 @@ fn syntax_refusal(text: &[u8], tokens: &[Token], error: SyntaxError) -> Result<R
     ensures { MatchResult result (SyntaxTells text.now tokens.now error) (λ e. error ≡ SyntaxError.NoMemory) }
 {
     match error {
-        SyntaxError::NoScript(index) => {
-            Ok(Refusal::Syntax(1, place_of_token(text, tokens, index)))
-        }
-        SyntaxError::TooNested(index) => {
-            Ok(Refusal::Syntax(2, place_of_token(text, tokens, index)))
-        }
-        SyntaxError::WideTuple(index) => {
-            Ok(Refusal::Syntax(3, place_of_token(text, tokens, index)))
-        }
-        SyntaxError::TurnsTooMany(index) => {
-            Ok(Refusal::Syntax(4, place_of_token(text, tokens, index)))
-        }
+        SyntaxError::NoScript(index)
+        | SyntaxError::TooNested(index)
+        | SyntaxError::WideTuple(index)
+        | SyntaxError::TurnsTooMany(index) => Ok(Refusal::Syntax(
+            error.number(),
+            place_of_token(text, tokens, index),
+        )),
         SyntaxError::NoMemory => Err(NoMemory),
     }
 }
@@ -92,12 +87,15 @@ fn syntax_refusal(text: &[u8], tokens: &[Token], error: SyntaxError) -> Result<R
 fn scope_refusal(text: &[u8], error: ScopeError) -> Result<Refusal, NoMemory>
     ensures { MatchResult result (ScopeTells text.now error) (λ e. error ≡ ScopeError.NoMemory) }
 {
+    let number = error.number();
     match error {
-        ScopeError::Unknown(pos) => Ok(Refusal::Scope(1, place_at(text, pos.offset))),
-        ScopeError::Again(pos) => Ok(Refusal::Scope(2, place_at(text, pos.offset))),
-        ScopeError::OuterAssign(pos) => Ok(Refusal::Scope(3, place_at(text, pos.offset))),
-        ScopeError::PrintInLoop(pos) => Ok(Refusal::Scope(4, place_at(text, pos.offset))),
-        ScopeError::OrderInEquality(pos) => Ok(Refusal::Scope(5, place_at(text, pos.offset))),
+        ScopeError::Unknown(pos)
+        | ScopeError::Again(pos)
+        | ScopeError::OuterAssign(pos)
+        | ScopeError::PrintInLoop(pos)
+        | ScopeError::OrderInEquality(pos) => {
+            Ok(Refusal::Scope(number, place_at(text, pos.offset)))
+        }
         ScopeError::NoMemory => Err(NoMemory),
     }
 }

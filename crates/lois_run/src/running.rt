@@ -1,16 +1,17 @@
 //! Runs scripts of the forms that are built.
 
 ghost use Rattle.std.specs.Prelude.{◌≡◌, [], ◌∷◌, ◌++◌, IfOk, MatchOption, MatchBool};
-ghost use Rattle.lois_meaning.specs.Scope.{IsWellScoped};
-ghost use Rattle.lois_meaning.specs.View.{stmt_tree, script_tree};
+ghost use Rattle.lois_script.specs.Scope.{IsWellScoped};
+ghost use Rattle.lois_script.specs.View.{stmt_tree, script_tree};
 ghost use Rattle.lois_run.specs.BuiltForms.{IsBuiltStmt, IsBuilt};
 ghost use Rattle.lois_run.specs.Fitting.{IsFitStmt, AreFit, AreGood};
 ghost use Rattle.lois_run.specs.Held.{held_by};
 ghost use Rattle.lois_run.specs.Values.{heights, IsReady, held_behind, lines_of, all_lines};
 
-use crate::values::{Store, always};
-use lois_base::{Names, NoMemory};
-use lois_meaning::{Case, Cases, Line, Lines, Results, Script, Stmt, is_sound_term};
+use crate::values::Store;
+use lois_answers::{Case, Cases, Line, Lines, Results, is_sound_term};
+use lois_base::{Constraint, Names, NoMemory};
+use lois_script::{Script, Stmt};
 use std::alloc::Global;
 
 /// The lines that the script prints, or `None` where it is none of those that run so far.
@@ -83,7 +84,7 @@ pub(crate) fn made_results(alloc: Global, order: bool, lines: Lines) -> Result<R
 {
     let mut cases = Cases::new(alloc);
     cases.push(Case {
-        when: always(alloc)?,
+        when: Constraint::always(alloc)?,
         lines,
     })?;
     Ok(Results {

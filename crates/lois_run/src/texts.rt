@@ -2,11 +2,14 @@
 
 ghost use Rattle.std.specs.Prelude.{◌≡◌, ◌++◌, IfOk, OnOk};
 ghost use Rattle.std.specs.Fmt.{decimal};
-ghost use Rattle.lois_meaning.specs.ResultsText.{lined};
+ghost use Rattle.lois_answers.specs.ResultsText.{lined};
 ghost use Rattle.lois_run.specs.Texts.{lexical_text, syntax_text, scope_text, placed_text};
 
 use lois_base::NoMemory;
-use lois_lexer::Place;
+use lois_lexer::{LexError, Place};
+use lois_scope::ScopeError;
+use lois_script::Pos;
+use lois_syntax::SyntaxError;
 use std::alloc::Global;
 
 fn append(text: &mut Vec<u8>, piece: &[u8]) -> Result<(), NoMemory>
@@ -47,35 +50,36 @@ pub(crate) fn refused_line(alloc: Global, place: Place, cause: &[u8]) -> Result<
     Ok(text)
 }
 
-pub(crate) fn lexical_text(number: u8) -> &'static [u8]
+pub(crate) fn lexical_text(number: u8) -> &'static str
     ensures { result.now ≡ lexical_text number }
 {
     match number {
-        1 => b"bad byte",
-        2 => b"long name",
-        _ => b"bad number",
+        1 => LexError::BadByte(0).text(),
+        2 => LexError::LongName(0).text(),
+        _ => LexError::BadNumber(0).text(),
     }
 }
 
-pub(crate) fn syntax_text(number: u8) -> &'static [u8]
+pub(crate) fn syntax_text(number: u8) -> &'static str
     ensures { result.now ≡ syntax_text number }
 {
     match number {
-        1 => b"not a script",
-        2 => b"nesting over 64",
-        3 => b"tuple over 8",
-        _ => b"turns over 1000000",
+        1 => SyntaxError::NoScript(0).text(),
+        2 => SyntaxError::TooNested(0).text(),
+        3 => SyntaxError::WideTuple(0).text(),
+        _ => SyntaxError::TurnsTooMany(0).text(),
     }
 }
 
-pub(crate) fn scope_text(number: u8) -> &'static [u8]
+pub(crate) fn scope_text(number: u8) -> &'static str
     ensures { result.now ≡ scope_text number }
 {
+    let start = Pos { offset: 0 };
     match number {
-        1 => b"unknown name",
-        2 => b"name declared again",
-        3 => b"assignment to outer variable",
-        4 => b"print in a loop",
-        _ => b"order in an equality script",
+        1 => ScopeError::Unknown(start).text(),
+        2 => ScopeError::Again(start).text(),
+        3 => ScopeError::OuterAssign(start).text(),
+        4 => ScopeError::PrintInLoop(start).text(),
+        _ => ScopeError::OrderInEquality(start).text(),
     }
 }

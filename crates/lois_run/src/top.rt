@@ -1,9 +1,10 @@
 //! The top call.
 
-ghost use Rattle.std.specs.Prelude.{◌≡◌, ◌≤◌, ◌⊎◌, ◌↔◌, Option, IfOk, IsTrue, Ok, map, string_bytes};
+ghost use Rattle.std.specs.Prelude.{◌≡◌, ◌+◌, ◌≤◌, ◌⊎◌, ◌↔◌, Option, IfOk, IfErr, IsTrue, Ok, map, string_bytes};
 ghost use Rattle.lois_base.specs.declared.deciding.Kind.{Kind};
 ghost use Rattle.lois_outside.specs.Faults.{Rose};
-ghost use Rattle.lois_run.specs.Causes.{AnswersText, IsOutcomeOf, IsTold};
+ghost use Rattle.lois_run.specs.Causes.{AnswersText, IsOutcomeOf, GaveAtMost, IsTold};
+ghost use Rattle.lois_base.specs.declared.limits.TheConstants.{LONGEST_TEXT};
 ghost use Rattle.lois_run.specs.Outcomes.{HasText};
 ghost use Rattle.lois_run.specs.Words.{IsUsage, Lacks};
 ghost use Rattle.lois_run.specs.declared.outcomes.Outcome.{Outcome};
@@ -13,14 +14,12 @@ use crate::reading::{Read, place_at, read_text};
 use crate::running::{made_results, run};
 use crate::words::{Command, asked};
 use crate::{Outcome, Refusal};
+use lois_base::limits::LONGEST_TEXT;
 use lois_base::{Decider, NoMemory};
 use lois_deciders::Chosen;
 use lois_outside::{ReadError, Sink, Source, read_all, write_all};
 use lois_reader::{ResultError, read_answer};
 use std::alloc::Global;
-
-/// A text that is read has at most so many bytes.
-const LONGEST_TEXT: usize = 1_048_576;
 
 const WRITE_FAULT: u8 = 7;
 
@@ -103,13 +102,16 @@ pub fn outcome<S: Source>(
     source: &mut S,
     deciders: Vec<Box<dyn Decider>>,
 ) -> Result<Outcome, NoMemory>
-    ensures outcome { IfOk result (IsOutcomeOf (map string_bytes words.now) (map (λ b. kind_of b) deciders.items) (S.left source.old) (S.left source.new) (S.faults source.old) (S.faults source.new)) }
+    ensures outcome { IfOk result (IsOutcomeOf (map string_bytes words.now) (map (λ b. kind_of b) deciders.items) S.left S.faults S.takes source.old source.new) }
 
     // After usage the source is as it was, also where memory ran out.
     ensures source_untouched { IsUsage (map string_bytes words.now) (map (λ b. kind_of b) deciders.items) → source.new ≡ source.old }
     ensures count_never_falls { S.faults source.old ≤ S.faults source.new }
 
     ensures written { IfOk result HasText }
+
+    // Where memory ran out, no more was read than a script may have.
+    ensures no_memory { IfErr result (λ e. GaveAtMost S.left S.takes LONGEST_TEXT source.old source.new) }
 {
     let Some(command) = asked(alloc, words)? else {
         return Ok(Outcome::Usage);
@@ -135,11 +137,13 @@ pub fn lois<S: Source, K: Sink>(
     deciders: Vec<Box<dyn Decider>>,
 ) -> u8
     // Either memory ran out before the first call of the sink, or some outcome of the words and the source is told.
-    ensures answer { ((result ≡ 8) × (sink.new ≡ sink.old)) ⊎ ((o : Outcome) × IsOutcomeOf (map string_bytes words.now) (map (λ b. kind_of b) deciders.items) (S.left source.old) (S.left source.new) (S.faults source.old) (S.faults source.new) o × IsTold o result (K.held sink.old) (K.held sink.new) (K.faults sink.old) (K.faults sink.new)) }
+    ensures answer { ((result ≡ 8) × (sink.new ≡ sink.old) × GaveAtMost S.left S.takes (LONGEST_TEXT + 1) source.old source.new) ⊎ ((o : Outcome) × IsOutcomeOf (map string_bytes words.now) (map (λ b. kind_of b) deciders.items) S.left S.faults S.takes source.old source.new o × HasText o × IsTold K.held K.faults K.puts sink.old sink.new o result) }
 
     // After usage the source is as it was, whatever becomes of the answer.
     ensures source_untouched { IsUsage (map string_bytes words.now) (map (λ b. kind_of b) deciders.items) → source.new ≡ source.old }
     ensures write_fault { result ≡ 7 → Rose (K.faults sink.old) (K.faults sink.new) }
+    ensures reads_never_fall { S.faults source.old ≤ S.faults source.new }
+    ensures writes_never_fall { K.faults sink.old ≤ K.faults sink.new }
 {
     let Ok(outcome) = outcome(alloc, words, source, deciders) else {
         return NO_MEMORY;

@@ -2,14 +2,14 @@
 
 ghost use Rattle.std.specs.Prelude.{◌≡◌, [], ◌∷◌, ◌++◌, IfOk, OnOk, MatchOption, None, option_map, map};
 ghost use Rattle.lois_base.specs.Tree.{tree as term_tree};
-ghost use Rattle.lois_meaning.specs.View.{tree, exprs_of, exprs_list};
+ghost use Rattle.lois_script.specs.View.{tree, exprs_of, exprs_list};
 ghost use Rattle.lois_run.specs.BuiltForms.{IsBuiltExpr, AreBuiltExprs};
 ghost use Rattle.lois_run.specs.Values.{held, all_atoms, AreHeld, AreAllHeld, value_of, item_of};
 ghost use Rattle.lois_run.specs.Held.{held_by};
 
 use indexmap::IndexMap;
-use lois_base::{Comp, Comps, Constraint, Cube, Name, NoMemory, Term, Terms};
-use lois_meaning::{Expr, Exprs};
+use lois_base::{Comp, Comps, Constraint, Name, NoMemory, Term, Terms};
+use lois_script::{Expr, Exprs};
 use std::alloc::Global;
 
 /// The names that were made so far, each with its value.
@@ -18,22 +18,13 @@ pub(crate) struct Store<'a> {
     values: IndexMap<&'a [u8], Term>,
 }
 
-/// The constraint that holds at every choice.
-pub(crate) fn always(alloc: Global) -> Result<Constraint, NoMemory>
-    ensures { IfOk result (λ c. c ≡ [] ∷ []) }
-{
-    let mut constraint = Constraint::new(alloc);
-    constraint.push(Cube::new(alloc))?;
-    Ok(constraint)
-}
-
 fn all_atoms(alloc: Global) -> Result<Term, NoMemory>
     ensures { IfOk result (λ t. term_tree t ≡ all_atoms) }
 {
     let mut comps = Comps::new(alloc);
     comps.push(Comp {
         binders: 1,
-        guard: always(alloc)?,
+        guard: Constraint::always(alloc)?,
         item: Term::Var(0),
     })?;
     Ok(Term::Coll(comps))
@@ -120,7 +111,7 @@ impl<'a> Store<'a> {
             };
             comps.push(Comp {
                 binders: 0,
-                guard: always(alloc)?,
+                guard: Constraint::always(alloc)?,
                 item: value,
             })?;
         }

@@ -1,7 +1,7 @@
 use Rattle.std.proofs.Common.{◌≡◌, sym, subst, List}
 use Rattle.lois_lexer.specs.Tokens.{HasTokens}
 use Rattle.lois_lexer.specs.declared.Token.{Token}
-use Rattle.lois_meaning.specs.View.{script_tree}
+use Rattle.lois_script.specs.View.{script_tree}
 use Rattle.lois_run.specs.Refusals.{SyntaxTells}
 use Rattle.lois_run.proofs.Answered.{syntax_refused, scope_refused, no_syntax_memory, no_scope_memory, none_scoped}
 use Rattle.lois_run.proofs.reading.read_text.Goals as goal

@@ -1,6 +1,6 @@
 use Rattle.std.proofs.Common.{◌≡◌, true, List, [], ◌∷◌, length, ◌≤◌, refl, sym, ap, subst, arith}
-use Rattle.lois_meaning.specs.ResultsData.{LineD}
-use Rattle.lois_meaning.specs.View.{script_tree, params_list, stmts_of}
+use Rattle.lois_answers.specs.ResultsData.{LineD}
+use Rattle.lois_script.specs.View.{script_tree, params_list, stmts_of}
 use Rattle.lois_run.specs.Held.{held_by}
 use Rattle.lois_run.specs.Values.{HeldD}
 use Rattle.lois_run.proofs.Bodies.{RunsOn, run_starts, run_steps}

@@ -1,4 +1,4 @@
-use Rattle.lois_meaning.specs.View.{script_tree}
+use Rattle.lois_script.specs.View.{script_tree}
 use Rattle.lois_run.specs.Held.{held_by}
 use Rattle.lois_run.proofs.Bodies.{RunsOn}
 use Rattle.lois_run.proofs.running.run.Given as goal

@@ -1,7 +1,12 @@
-use Rattle.std.proofs.Common.{◌≡◌, refl, subst, inr}
-use Rattle.lois_outside.specs.Writing.{AppendsProperPrefix}
+use Rattle.std.proofs.Common.{◌≡◌, List, ℕ, refl, subst, inl, inr}
+use Rattle.lois_outside.specs.Writing.{AppendsProperPrefix, FailsWriting}
 use Rattle.lois_run.specs.Outcomes.{outcome_text}
+use Rattle.lois_run.proofs.Told.{gave_for}
 use Rattle.lois_run.proofs.top.lois.Goals as goal
+
+pub returns-in_default-text-clause-answer : goal.returns-in_default-text-clause-answer
+returns-in_default-text-clause-answer g c =
+    inl (refl, refl, gave_for g.S.Source.left g.S.Source.takes c.args.source.now c.outcome.new.source c.in-Ok.outcome c.in-Ok.ensures.outcome)
 
 pub returns-clause-answer : goal.returns-clause-answer
 returns-clause-answer g c =
@@ -9,9 +14,11 @@ returns-clause-answer g c =
     inr (
       c.in-Ok.outcome,
       c.in-Ok.ensures.outcome,
+      c.in-Ok.ensures.written,
       inr (
         refl,
         c.in-Err.ensures.fault,
-        subst (λ bytes. AppendsProperPrefix (g.K.Sink.held c.args.sink.now) (g.K.Sink.held c.write_all.new.sink) bytes) text c.in-Err.ensures.proper_prefix,
+        subst (λ (bytes : List ℕ). AppendsProperPrefix (g.K.Sink.held c.args.sink.now) (g.K.Sink.held c.write_all.new.sink) bytes) text c.in-Err.ensures.proper_prefix,
+        subst (λ (bytes : List ℕ). FailsWriting g.K.Sink.puts c.args.sink.now bytes c.write_all.new.sink) text c.in-Err.ensures.calls_to_fault,
       ),
     )

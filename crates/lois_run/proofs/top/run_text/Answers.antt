@@ -1,9 +1,9 @@
 use Rattle.std.proofs.Common.{List, sym, ap, subst, ◌∙◌}
-use Rattle.lois_meaning.specs.Limits.{Spells}
-use Rattle.lois_meaning.specs.ResultsData.{LineD}
-use Rattle.lois_meaning.specs.Scope.{IsWellScoped}
-use Rattle.lois_meaning.specs.View.{script_tree}
-use Rattle.lois_meaning.specs.declared.script.Script.{Script}
+use Rattle.lois_script.specs.Limits.{Spells}
+use Rattle.lois_answers.specs.ResultsData.{LineD}
+use Rattle.lois_script.specs.Scope.{IsWellScoped}
+use Rattle.lois_script.specs.View.{script_tree}
+use Rattle.lois_script.specs.declared.script.Script.{Script}
 use Rattle.lois_run.specs.Outcomes.{plain_results}
 use Rattle.lois_run.proofs.Answered.{refused_is_run, completed_is_answered, not_built_is_answered}
 use Rattle.lois_run.proofs.Fit.{spelled_fits}

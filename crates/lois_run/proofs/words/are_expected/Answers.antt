@@ -1,4 +1,4 @@
-use Rattle.std.proofs.Common.{◌≡◌, ◌≤◌, true, false, List, [], length, map, drop, drop_of_length-le, Some, None, string_bytes, Global, sym, ap, ◌∙◌, arith, ℕ}
+use Rattle.std.proofs.Common.{◌≡◌, ◌≤◌, List, [], length, map, drop, drop_of_length-le, Some, None, string_bytes, Global, sym, ap, ◌∙◌, arith, ℕ}
 use Rattle.std.proofs.lemmas.List.{length-map}
 use Rattle.lois_run.specs.CommandLine.{are_expected, seen_behind}
 use Rattle.lois_run.proofs.CommandLine.{expected_step, expected_stop}

@@ -3,7 +3,7 @@ use Rattle.std.proofs.lemmas.Result.{IfOk-weaker}
 use Rattle.clap.specs.Simple.{app_of_fields, on_top}
 use Rattle.clap.specs.Words.{App, app_of, new_app, rule_of, with_rule, with_subcommand}
 use Rattle.clap.specs.declared.builder.command.Command.TheViews.{out-Command}
-use Rattle.lois_run.specs.CommandLine.{bare_program, decider_option, program}
+use Rattle.lois_run.specs.CommandLine.{bare_program, decider_option}
 use Rattle.lois_run.proofs.words.program.Goals as goal
 
 abbrev settings : App → App

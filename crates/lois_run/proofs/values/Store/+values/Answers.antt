@@ -1,7 +1,7 @@
 use Rattle.std.proofs.Common.{ap, ◌∙◌, List}
 use Rattle.lois_base.specs.Data.{CompD, TermD, TermsD, CompsD, tup, coll, terms_of, comps_of}
-use Rattle.lois_meaning.specs.View.{exprs_list}
-use Rattle.lois_meaning.proofs.Views.{tree_Tuple, tree_Listed}
+use Rattle.lois_script.specs.View.{exprs_list}
+use Rattle.lois_script.proofs.Views.{tree_Tuple, tree_Listed}
 use Rattle.lois_run.specs.Held.{held_by}
 use Rattle.lois_run.proofs.Made.{values_made, items_made}
 use Rattle.lois_run.proofs.values.Store.+values.Goals as goal

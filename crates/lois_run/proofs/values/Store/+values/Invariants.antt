@@ -1,5 +1,5 @@
 use Rattle.std.proofs.Common.{◌≡◌, ◌++◌, ◌↔◌, drop, map}
-use Rattle.lois_meaning.specs.View.{tree, exprs_of, exprs_list}
+use Rattle.lois_script.specs.View.{tree, exprs_of, exprs_list}
 use Rattle.lois_run.specs.BuiltForms.{AreBuiltExprs}
 use Rattle.lois_run.specs.Held.{held_by}
 use Rattle.lois_run.specs.Values.{AreAllHeld, value_of, item_of}

@@ -1,10 +1,10 @@
 use Rattle.std.proofs.Common.{◌≡◌, ◌++◌, ◌∷◌, [], true, sym, ap, subst, ◌∙◌, append-nil}
 use Rattle.lois_base.specs.Data.{TermD}
 use Rattle.lois_base.specs.Tree.{tree as term_tree}
-use Rattle.lois_meaning.specs.Sound.{IsSoundTerm}
-use Rattle.lois_meaning.specs.Tree.{StmtD, «let»}
-use Rattle.lois_meaning.specs.View.{tree, stmt_tree}
-use Rattle.lois_meaning.proofs.Views.{stmt_Let}
+use Rattle.lois_answers.specs.Sound.{IsSoundTerm}
+use Rattle.lois_script.specs.Tree.{StmtD, «let»}
+use Rattle.lois_script.specs.View.{tree, stmt_tree}
+use Rattle.lois_script.proofs.Views.{stmt_Let}
 use Rattle.lois_run.specs.BuiltForms.{IsBuiltStmt}
 use Rattle.lois_run.specs.Fitting.{IsFitStmt}
 use Rattle.lois_run.specs.Held.{held_by}

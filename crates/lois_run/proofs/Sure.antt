@@ -1,0 +1,231 @@
+-- What is refused comes to that refusal alone.
+use Rattle.std.proofs.Common.{◌≡◌, ◌≢◌, ℕ, List, Option, Some, refl, sym, ap, ◌∙◌, subst, ⊎_elim, arith}
+use Rattle.std.proofs.lemmas.Bool.{cases_lt}
+use Rattle.lois_base.specs.declared.deciding.Kind.{Kind}
+use Rattle.lois_lexer.proofs.OneReading.{one_list, one_refusal as one_lexical, never_both as tokens_or_refusal}
+use Rattle.lois_lexer.specs.Tokens.{HasTokens}
+use Rattle.lois_lexer.specs.declared.LexError.{LexError}
+use Rattle.lois_lexer.specs.declared.LexError.TheVariants.{BadByte, LongName, BadNumber, NoMemory as LexMemory}
+use Rattle.lois_lexer.specs.declared.Place.{Place}
+use Rattle.lois_lexer.specs.declared.Token.{Token}
+use Rattle.lois_script.specs.Limits.{Spells}
+use Rattle.lois_script.specs.Scope.{RuleD, rule_number, ScriptBreaks, IsWellScoped, BreaksFirst, unknown, again, outer_assign, print_in_loop, order_in_equality}
+use Rattle.lois_script.specs.Tree.{ScriptD}
+use Rattle.lois_reader.specs.Pieces.{answer_pieces}
+use Rattle.lois_reader.specs.Shape.{HasAnswerShape, SpellsAnswer, LeavesShapeAt, BreaksRuleAt}
+use Rattle.lois_scope.proofs.First.{same_first}
+use Rattle.lois_scope.specs.Refusals.{Refuses as ScopeRefuses}
+use Rattle.lois_scope.specs.declared.checking.ScopeError.{ScopeError}
+use Rattle.lois_scope.specs.declared.checking.ScopeError.TheVariants.{Unknown, Again, OuterAssign, PrintInLoop, OrderInEquality, NoMemory as ScopeMemory}
+use Rattle.lois_syntax.proofs.OneStatement.{one_script_of_text}
+use Rattle.lois_syntax.proofs.Refusing.{one_refusal as one_syntax, never_both as script_or_refusal}
+use Rattle.lois_syntax.specs.Refusals.{tokens_in, Refuses as SyntaxRefuses}
+use Rattle.lois_syntax.specs.declared.SyntaxError.{SyntaxError}
+use Rattle.lois_syntax.specs.declared.SyntaxError.TheVariants.{NoScript, TooNested, WideTuple, TurnsTooMany, NoMemory as SyntaxMemory}
+use Rattle.lois_run.specs.BuiltForms.{IsBuilt}
+use Rattle.lois_run.specs.Causes.{IsRefusedBy, HasCause, IsOfText}
+use Rattle.lois_run.specs.Laws.{RefusalsAreSure}
+use Rattle.lois_run.specs.Read.{SpellsNone}
+use Rattle.lois_run.specs.Refusals.{IsPlaceOf, token_place, IsLexical, LexicalTells, IsSyntax, SyntaxTells, IsScope, ScopeTells, IsRefusedAs, IsNoAnswer, IsNoAnswerAt}
+use Rattle.lois_run.specs.declared.outcomes.Outcome.{Outcome}
+use Rattle.lois_run.specs.declared.outcomes.Outcome.TheVariants.{Completed, Reread as WrittenAgain, Checked, Refused, ReadFault, Usage}
+use Rattle.lois_run.specs.declared.outcomes.Refusal.{Refusal}
+use Rattle.lois_run.specs.declared.outcomes.Refusal.TheVariants.{TooLong, Lexical, Syntax, Scope, NotResults, NotBuilt}
+use Rattle.lois_run.specs.declared.words.Command.TheVariants.{Run, Check, Reread}
+
+-- ---- one number, one place
+
+one_place : (text : List ℕ) (at : ℕ) (p q : Place) → IsPlaceOf text at p → IsPlaceOf text at q → p ≡ q
+one_place text at p q a b = λ i. record { line = (a.line ∙ sym b.line) i; column = (a.column ∙ sym b.column) i }
+
+lexical_once : (text : List ℕ) (number at n m : ℕ) (p q : Place) → IsLexical text number at (Lexical n p) → IsLexical text number at (Lexical m q) → Lexical n p ≡ Lexical m q
+lexical_once text number at n m p q a b = λ i. Lexical ((a.0 ∙ sym b.0) i) (one_place text at p q a.1 b.1 i)
+
+syntax_once : (text : List ℕ) (tokens : List Token) (number index n m : ℕ) (p q : Place) → IsSyntax text tokens number index (Syntax n p) → IsSyntax text tokens number index (Syntax m q) → Syntax n p ≡ Syntax m q
+syntax_once text tokens number index n m p q a b = λ i. Syntax ((a.0 ∙ sym b.0) i) (one_place text (token_place text tokens index) p q a.1 b.1 i)
+
+scope_once : (text : List ℕ) (number at n m : ℕ) (p q : Place) → IsScope text number at (Scope n p) → IsScope text number at (Scope m q) → Scope n p ≡ Scope m q
+scope_once text number at n m p q a b = λ i. Scope ((a.0 ∙ sym b.0) i) (one_place text at p q a.1 b.1 i)
+
+-- ---- an error is told in one way
+
+lexical_told : (text : List ℕ) (e : LexError) (n m : ℕ) (p q : Place) → LexicalTells text e (Lexical n p) → LexicalTells text e (Lexical m q) → Lexical n p ≡ Lexical m q
+lexical_told text (BadByte at) n m p q a b = lexical_once text 1 at n m p q a b
+lexical_told text (LongName at) n m p q a b = lexical_once text 2 at n m p q a b
+lexical_told text (BadNumber at) n m p q a b = lexical_once text 3 at n m p q a b
+lexical_told text LexMemory n m p q a b = absurd a
+
+syntax_told : (text : List ℕ) (tokens : List Token) (e : SyntaxError) (n m : ℕ) (p q : Place) → SyntaxTells text tokens e (Syntax n p) → SyntaxTells text tokens e (Syntax m q) → Syntax n p ≡ Syntax m q
+syntax_told text tokens (NoScript k) n m p q a b = syntax_once text tokens 1 k n m p q a b
+syntax_told text tokens (TooNested k) n m p q a b = syntax_once text tokens 2 k n m p q a b
+syntax_told text tokens (WideTuple k) n m p q a b = syntax_once text tokens 3 k n m p q a b
+syntax_told text tokens (TurnsTooMany k) n m p q a b = syntax_once text tokens 4 k n m p q a b
+syntax_told text tokens SyntaxMemory n m p q a b = absurd a
+
+-- what a refusal for scope tells: a rule that is broken first, and the place
+abbrev FirstBreak : List ℕ → ScriptD → Refusal → Type 0
+FirstBreak text s r = (rule : RuleD) × (at : ℕ) × BreaksFirst s rule at × IsScope text (rule_number rule) at r
+
+first_break : (text : List ℕ) (s : ScriptD) (e : ScopeError) (r : Refusal) → ScopeRefuses s e → ScopeTells text e r → FirstBreak text s r
+first_break text s (Unknown x) r h a = (unknown, x.offset, h, a)
+first_break text s (Again x) r h a = (again, x.offset, h, a)
+first_break text s (OuterAssign x) r h a = (outer_assign, x.offset, h, a)
+first_break text s (PrintInLoop x) r h a = (print_in_loop, x.offset, h, a)
+first_break text s (OrderInEquality x) r h a = (order_in_equality, x.offset, h, a)
+first_break text s ScopeMemory r h a = absurd a
+
+scope_told : (text : List ℕ) (s : ScriptD) (n m : ℕ) (p q : Place) → FirstBreak text s (Scope n p) → FirstBreak text s (Scope m q) → Scope n p ≡ Scope m q
+scope_told text s n m p q (one, at, h, a) (other, there, g, b) =
+    let e = same_first s one other at there h g in
+    let number : IsScope text (rule_number other) at (Scope n p) = subst (λ (rule : RuleD). IsScope text (rule_number rule) at (Scope n p)) e.0 a in
+    scope_once text (rule_number other) there n m p q (subst (λ k. IsScope text (rule_number other) k (Scope n p)) e.1 number) b
+
+-- ---- two refusals of one text
+
+module _ (text : List ℕ) where
+  no_tokens : (n : ℕ) (p : Place) → IsRefusedAs text (Lexical n p) → (tokens : List Token) → HasTokens text tokens → ⊥
+  no_tokens n p (e, refuses, told) tokens cut = tokens_or_refusal text tokens e cut refuses
+
+  no_script : (n : ℕ) (p : Place) → IsRefusedAs text (Syntax n p) → (s : ScriptD) → Spells text s → ⊥
+  no_script n p (tokens, e, cut, refuses, told) s spells = script_or_refusal text tokens s e cut spells refuses
+
+  not_scoped : (n : ℕ) (p : Place) → IsRefusedAs text (Scope n p) → (s : ScriptD) → Spells text s → IsWellScoped s → ⊥
+  not_scoped n p (t, e, spells, refuses, told) s spelled scoped =
+      let broken = first_break text t e (Scope n p) refuses told in
+      let rule = broken.0 in let at = broken.1 in
+      scoped rule at (subst (λ (x : ScriptD). ScriptBreaks x rule at) (one_script_of_text text t s spells spelled) broken.2.broken)
+
+  pub refused_spell_none : (r : Refusal) → IsRefusedAs text r → r ≢ NotBuilt → SpellsNone text
+  refused_spell_none TooLong why built s spells scoped = absurd why
+  refused_spell_none (NotResults p) why built s spells scoped = absurd why
+  refused_spell_none (Lexical n p) why built s spells scoped = no_tokens n p why spells.tokens spells.cut
+  refused_spell_none (Syntax n p) why built s spells scoped = no_script n p why s spells
+  refused_spell_none (Scope n p) why built s spells scoped = not_scoped n p why s spells scoped
+  refused_spell_none NotBuilt why built s spells scoped = built refl
+
+  same_lexical : (n m : ℕ) (p q : Place) → IsRefusedAs text (Lexical n p) → IsRefusedAs text (Lexical m q) → Lexical n p ≡ Lexical m q
+  same_lexical n m p q (e, refuses, told) (f, refused, tells) =
+      lexical_told text f n m p q (subst (λ (x : LexError). LexicalTells text x (Lexical n p)) (one_lexical text e f refuses refused) told) tells
+
+  same_syntax : (n m : ℕ) (p q : Place) → IsRefusedAs text (Syntax n p) → IsRefusedAs text (Syntax m q) → Syntax n p ≡ Syntax m q
+  same_syntax n m p q (tokens, e, cut, refuses, told) (others, f, cuts, refused, tells) =
+      let same = one_list text others tokens cuts cut in
+      let refused_here : SyntaxRefuses (tokens_in text tokens) f = subst (λ (ts : List Token). SyntaxRefuses (tokens_in text ts) f) same refused in
+      let tells_here : SyntaxTells text tokens f (Syntax m q) = subst (λ (ts : List Token). SyntaxTells text ts f (Syntax m q)) same tells in
+      syntax_told text tokens f n m p q (subst (λ (x : SyntaxError). SyntaxTells text tokens x (Syntax n p)) (one_syntax (tokens_in text tokens) e f refuses refused_here) told) tells_here
+
+  same_scope : (n m : ℕ) (p q : Place) → IsRefusedAs text (Scope n p) → IsRefusedAs text (Scope m q) → Scope n p ≡ Scope m q
+  same_scope n m p q (s, e, spells, refuses, told) (t, f, spelled, refused, tells) =
+      let other = first_break text t f (Scope m q) refused tells in
+      scope_told text s n m p q (first_break text s e (Scope n p) refuses told) (subst (λ (x : ScriptD). FirstBreak text x (Scope m q)) (one_script_of_text text t s spelled spells) other)
+
+  same_refusal : (r q : Refusal) → IsRefusedAs text r → IsRefusedAs text q → q ≡ r
+  same_refusal TooLong q a b = absurd a
+  same_refusal (NotResults p) q a b = absurd a
+  same_refusal r TooLong a b = absurd b
+  same_refusal r (NotResults p) a b = absurd b
+  same_refusal (Lexical n p) (Lexical m q) a b = same_lexical m n q p b a
+  same_refusal (Lexical n p) (Syntax m q) a (tokens, e, cut, refuses, told) = absurd (no_tokens n p a tokens cut)
+  same_refusal (Lexical n p) (Scope m q) a (s, e, spells, refuses, told) = absurd (no_tokens n p a spells.tokens spells.cut)
+  same_refusal (Lexical n p) NotBuilt a (s, spells, scoped, never) = absurd (no_tokens n p a spells.tokens spells.cut)
+  same_refusal (Syntax n p) (Lexical m q) (tokens, e, cut, refuses, told) b = absurd (no_tokens m q b tokens cut)
+  same_refusal (Syntax n p) (Syntax m q) a b = same_syntax m n q p b a
+  same_refusal (Syntax n p) (Scope m q) a (s, e, spells, refuses, told) = absurd (no_script n p a s spells)
+  same_refusal (Syntax n p) NotBuilt a (s, spells, scoped, never) = absurd (no_script n p a s spells)
+  same_refusal (Scope n p) (Lexical m q) (s, e, spells, refuses, told) b = absurd (no_tokens m q b spells.tokens spells.cut)
+  same_refusal (Scope n p) (Syntax m q) (s, e, spells, refuses, told) b = absurd (no_script m q b s spells)
+  same_refusal (Scope n p) (Scope m q) a b = same_scope m n q p b a
+  same_refusal (Scope n p) NotBuilt a (s, spells, scoped, never) = absurd (not_scoped n p a s spells scoped)
+  same_refusal NotBuilt (Lexical m q) (s, spells, scoped, never) b = absurd (no_tokens m q b spells.tokens spells.cut)
+  same_refusal NotBuilt (Syntax m q) (s, spells, scoped, never) b = absurd (no_script m q b s spells)
+  same_refusal NotBuilt (Scope m q) (s, spells, scoped, never) b = absurd (not_scoped m q b s spells scoped)
+  same_refusal NotBuilt NotBuilt a b = refl
+
+  -- ---- no results
+
+  left_once : (k m : ℕ) → LeavesShapeAt HasAnswerShape text k → LeavesShapeAt HasAnswerShape text m → k ≡ m
+  left_once k m h g =
+      ⊎_elim (λ less. absurd (h.longest m less g.within g.begins))
+      (λ most. ⊎_elim (λ less. absurd (g.longest k less h.within h.begins)) (λ least. omega arith) (cases_lt m k)) (cases_lt k m)
+
+  leaves_or_breaks : (k m : ℕ) → LeavesShapeAt HasAnswerShape text k → BreaksRuleAt (SpellsAnswer text) answer_pieces m → ⊥
+  leaves_or_breaks k m h g = h.outside (g.draft, g.spelled)
+
+  some_once : (k m : ℕ) → Some k ≡ Some m → k ≡ m
+  some_once k m e = cc e
+
+  one_end : (k m : ℕ) → IsNoAnswerAt text k → IsNoAnswerAt text m → k ≡ m
+  one_end k m h g =
+      ⊎_elim
+      (λ left. ⊎_elim (λ leaves. left_once k m left leaves) (λ breaks. absurd (leaves_or_breaks k m left breaks)) g.place)
+      (λ broken. ⊎_elim (λ leaves. absurd (leaves_or_breaks m k leaves broken)) (λ breaks. some_once k m (sym (broken.first broken.draft broken.spelled) ∙ breaks.first broken.draft broken.spelled)) g.place)
+      h.place
+
+  same_answer : (p q : Place) → IsNoAnswer text p → IsNoAnswer text q → NotResults q ≡ NotResults p
+  same_answer p q (k, none, here) (m, never, there) = ap NotResults (one_place text k q p (subst (λ x. IsPlaceOf text x q) (one_end m k never none) there) here)
+
+  -- ---- whatever else a text comes to
+
+  never_complete : (r : Refusal) (s : ScriptD) → IsRefusedAs text r → Spells text s → IsWellScoped s → IsBuilt s → ⊥
+  never_complete NotBuilt s (t, spells, scoped, never) spelled well built = never (subst IsBuilt (one_script_of_text text s t spelled spells) built)
+  never_complete TooLong s a spells scoped built = absurd a
+  never_complete (NotResults p) s a spells scoped built = absurd a
+  never_complete (Lexical n p) s a spells scoped built = no_tokens n p a spells.tokens spells.cut
+  never_complete (Syntax n p) s a spells scoped built = no_script n p a s spells
+  never_complete (Scope n p) s a spells scoped built = not_scoped n p a s spells scoped
+
+  run_refusal : (kind : Option Kind) (r : Refusal) → IsOfText (Refused r) → IsRefusedBy (Run kind) text r → IsRefusedAs text r
+  run_refusal kind TooLong is a = absurd is
+  run_refusal kind (Lexical n p) is a = a
+  run_refusal kind (Syntax n p) is a = a
+  run_refusal kind (Scope n p) is a = a
+  run_refusal kind (NotResults p) is a = absurd a
+  run_refusal kind NotBuilt is a = a
+
+  check_refusal : (r : Refusal) → IsOfText (Refused r) → IsRefusedBy Check text r → IsRefusedAs text r × (r ≢ NotBuilt)
+  check_refusal TooLong is a = absurd is
+  check_refusal (Lexical n p) is a = (a, λ e. cc e)
+  check_refusal (Syntax n p) is a = (a, λ e. cc e)
+  check_refusal (Scope n p) is a = (a, λ e. cc e)
+  check_refusal (NotResults p) is a = absurd a
+  check_refusal NotBuilt is a = absurd a
+
+  reread_refusal : (r : Refusal) → IsOfText (Refused r) → IsRefusedBy Reread text r → (p : Place) × (r ≡ NotResults p) × IsNoAnswer text p
+  reread_refusal TooLong is a = absurd is
+  reread_refusal (NotResults p) is a = (p, refl, a)
+  reread_refusal _ is a = absurd a
+
+  surely_run : (kind : Option Kind) (r : Refusal) (o : Outcome) → IsRefusedAs text r → IsOfText o → HasCause (Run kind) text o → o ≡ Refused r
+  surely_run kind r (Completed results) a is (s, spells, scoped, built, answer) = absurd (never_complete r s a spells scoped built)
+  surely_run kind r (Refused q) a is b = ap Refused (same_refusal r q a (run_refusal kind q is b))
+  surely_run kind r (WrittenAgain answer) a is b = absurd b
+  surely_run kind r (Checked script) a is b = absurd b
+  surely_run kind r ReadFault a is b = absurd is
+  surely_run kind r Usage a is b = absurd is
+
+  surely_checked : (r : Refusal) (o : Outcome) → IsRefusedAs text r → (r ≢ NotBuilt) → IsOfText o → HasCause Check text o → o ≡ Refused r
+  surely_checked r (Checked script) a built is (spells, scoped) = absurd (refused_spell_none r a built _ spells scoped)
+  surely_checked r (Refused q) a built is b = ap Refused (same_refusal r q a (check_refusal q is b).0)
+  surely_checked r (WrittenAgain answer) a built is b = absurd b
+  surely_checked r (Completed results) a built is b = absurd b
+  surely_checked r ReadFault a built is b = absurd is
+  surely_checked r Usage a built is b = absurd is
+
+  surely_reread : (p : Place) (o : Outcome) → IsNoAnswer text p → IsOfText o → HasCause Reread text o → o ≡ Refused (NotResults p)
+  surely_reread p (WrittenAgain answer) (k, none, at) is b = absurd (none.none answer b)
+  surely_reread p (Refused q) a is b =
+      let other = reread_refusal q is b in
+      ap Refused (other.1 ∙ same_answer p other.0 a other.2)
+  surely_reread p (Checked script) a is b = absurd b
+  surely_reread p (Completed results) a is b = absurd b
+  surely_reread p ReadFault a is b = absurd is
+  surely_reread p Usage a is b = absurd is
+
+pub refusals_are_sure : RefusalsAreSure
+refusals_are_sure (Run kind) text r o of_text refused is cause = surely_run text kind r o (run_refusal text kind r of_text refused) is cause
+refusals_are_sure Check text r o of_text refused is cause =
+    let why = check_refusal text r of_text refused in
+    surely_checked text r o why.0 why.1 is cause
+refusals_are_sure Reread text r o of_text refused is cause =
+    let why = reread_refusal text r of_text refused in
+    surely_reread text why.0 o why.2 is cause ∙ ap Refused (sym why.1)
