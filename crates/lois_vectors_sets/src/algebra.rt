@@ -1,0 +1,218 @@
+//! Worked sets, over atoms with an order.
+
+ghost use Rattle.std.specs.Prelude.{length, IfOk};
+ghost use Rattle.lois_base.specs.FormulaData.{FormulaFits};
+ghost use Rattle.lois_base.specs.FormulaView.{view};
+ghost use Rattle.lois_base.specs.Tree.{tree};
+ghost use Rattle.lois_algebra.specs.Sets.{IsSetOfSets};
+
+use crate::making::{comps_of, each, guard_of, lit};
+use lois_algebra::{
+    all_atoms, collect_over, depth_formula, inter, minus, project, put, selected_guard, union,
+};
+use lois_base::{Comp, Comps, Constraint, Formula, Lit, NoMemory, Op, Term, Terms};
+use lois_elim::quantifier_free;
+use lois_order::OrderAtoms;
+use lois_relate::equal_formula;
+use std::alloc::Global;
+use std::process::Abort;
+use std::test::Fail;
+
+// the set of the one item, for so many binders, where the literals hold
+fn set_of(alloc: Global, binders: usize, literals: &[Lit], item: Term) -> Result<Comps, NoMemory> {
+    comps_of(alloc, [each(alloc, binders, literals, item)?])
+}
+
+// the same of sets
+fn sets_of(alloc: Global, binders: usize, literals: &[Lit], items: Comps) -> Result<Term, NoMemory>
+    ensures { IfOk result (λ r. IsSetOfSets (tree r)) }
+{
+    let comp = Comp {
+        binders,
+        guard: guard_of(alloc, literals)?,
+        item: Term::Coll(items),
+    };
+    let mut comps = Comps::new(alloc);
+    comps.push(comp)?;
+    Ok(Term::Coll(comps))
+}
+
+// the set `{$0}`
+fn only_a(alloc: Global) -> Result<Comps, NoMemory> {
+    set_of(alloc, 0, &[], Term::Var(0))
+}
+
+// the set `{$1 for $1}`
+fn everything(alloc: Global) -> Result<Comps, NoMemory> {
+    set_of(alloc, 1, &[], Term::Var(1))
+}
+
+// the set `{$1 for $1}` where $1 stands so to $0
+fn those(alloc: Global, op: Op, left: usize, right: usize) -> Result<Comps, NoMemory> {
+    set_of(alloc, 1, &[lit(op, left, right)], Term::Var(1))
+}
+
+fn holds_at(alloc: Global, f: &Formula, sample: &[u64]) -> Result<bool, NoMemory>
+    requires { FormulaFits (length sample.now) (view f.now) }
+{
+    let constraint = quantifier_free::<OrderAtoms>(alloc, f, sample.len())?;
+    Ok(constraint.at(sample))
+}
+
+// whether both have the same value where the one parameter is 5
+fn same(rt: &impl Abort, alloc: Global, s: &Term, t: &Term) -> Result<bool, NoMemory> {
+    assert!(rt; s.fits(1) && t.fits(1));
+    holds_at(alloc, &equal_formula(alloc, s, t, 1)?, &[5])
+}
+
+fn common(rt: &impl Abort, alloc: Global, s: Comps, t: Comps) -> Result<Term, NoMemory> {
+    let (left, right) = (Term::Coll(s), Term::Coll(t));
+    assert!(rt; left.fits(1) && right.fits(1));
+    inter::<OrderAtoms>(alloc, &left, &right, 1)
+}
+
+fn others(rt: &impl Abort, alloc: Global, s: Comps, t: Comps) -> Result<Term, NoMemory> {
+    let (left, right) = (Term::Coll(s), Term::Coll(t));
+    assert!(rt; left.fits(1) && right.fits(1));
+    minus::<OrderAtoms>(alloc, &left, &right, 1)
+}
+
+// whether the value is deeper than 0, 1, 2 and 64
+fn depths(
+    rt: &impl Abort,
+    alloc: Global,
+    t: &Term,
+    sample: [u64; 2],
+) -> Result<[bool; 4], NoMemory> {
+    assert!(rt; t.fits(2));
+    Ok([
+        holds_at(alloc, &depth_formula(alloc, t, 0, 2)?, &sample)?,
+        holds_at(alloc, &depth_formula(alloc, t, 1, 2)?, &sample)?,
+        holds_at(alloc, &depth_formula(alloc, t, 2, 2)?, &sample)?,
+        holds_at(alloc, &depth_formula(alloc, t, 64, 2)?, &sample)?,
+    ])
+}
+
+#[test]
+fn members_of_both(rt: HostRuntime) -> Result<(), Fail> {
+    let alloc = rt.alloc();
+    let both = common(&rt, alloc, everything(alloc)?, only_a(alloc)?)?;
+    assert!(rt; same(&rt, alloc, &both, &Term::Coll(only_a(alloc)?))?);
+    let turned = common(&rt, alloc, only_a(alloc)?, everything(alloc)?)?;
+    assert!(rt; same(&rt, alloc, &turned, &both)?);
+    let none = common(&rt, alloc, only_a(alloc)?, those(alloc, Op::Lt, 0, 1)?)?;
+    assert!(rt; same(&rt, alloc, &none, &Term::Coll(Comps::new(alloc)))?);
+    Ok(())
+}
+
+#[test]
+fn members_of_one_alone(rt: HostRuntime) -> Result<(), Fail> {
+    let alloc = rt.alloc();
+    let rest = others(&rt, alloc, everything(alloc)?, only_a(alloc)?)?;
+    let different = Term::Coll(those(alloc, Op::Ne, 0, 1)?);
+    assert!(rt; same(&rt, alloc, &rest, &different)?);
+    let none = others(&rt, alloc, only_a(alloc)?, everything(alloc)?)?;
+    assert!(rt; matches!(&none, Term::Coll(comps) if comps.len() == 0));
+    Ok(())
+}
+
+#[test]
+fn members_of_either(rt: HostRuntime) -> Result<(), Fail> {
+    let alloc = rt.alloc();
+    let below = Term::Coll(those(alloc, Op::Lt, 1, 0)?);
+    let above = Term::Coll(those(alloc, Op::Lt, 0, 1)?);
+    let apart = union(alloc, &below, &above)?;
+    let different = Term::Coll(those(alloc, Op::Ne, 0, 1)?);
+    assert!(rt; same(&rt, alloc, &apart, &different)?);
+    let all = all_atoms(alloc, 1)?;
+    assert!(rt; same(&rt, alloc, &all, &Term::Coll(everything(alloc)?))?);
+    Ok(())
+}
+
+fn guard_apart(
+    rt: &impl Abort,
+    alloc: Global,
+    comp: &Comp,
+    others: &Comps,
+) -> Result<Constraint, NoMemory> {
+    assert!(rt; comp.fits(1) && others.fits(1));
+    selected_guard::<OrderAtoms>(alloc, comp, others, 1, false)
+}
+
+// the item of `$1 for $1` is not in `{$0}` where it is another atom
+#[test]
+fn items_outside_of_a_set(rt: HostRuntime) -> Result<(), Fail> {
+    let alloc = rt.alloc();
+    let comp = each(alloc, 1, &[], Term::Var(1))?;
+    let guard = guard_apart(&rt, alloc, &comp, &only_a(alloc)?)?;
+    assert!(rt; guard.fits(2));
+    assert!(rt; guard.at(&[5, 7]) && !guard.at(&[5, 5]));
+    Ok(())
+}
+
+#[test]
+fn empty_comprehensions_are_not_put(rt: HostRuntime) -> Result<(), Fail> {
+    let alloc = rt.alloc();
+    let mut comps = only_a(alloc)?;
+    put(
+        &mut comps,
+        Comp {
+            binders: 0,
+            guard: Constraint::new(alloc),
+            item: Term::Var(0),
+        },
+    )?;
+    assert_eq!(rt; comps.len(), 1);
+    put(&mut comps, each(alloc, 0, &[], Term::Var(0))?)?;
+    assert_eq!(rt; comps.len(), 2);
+    Ok(())
+}
+
+// the members of `{{$2 for $2 if $1<$2} for $1}` are all atoms together
+#[test]
+fn members_of_members(rt: HostRuntime) -> Result<(), Fail> {
+    let alloc = rt.alloc();
+    let above = set_of(alloc, 1, &[lit(Op::Lt, 1, 2)], Term::Var(2))?;
+    let sets = sets_of(alloc, 1, &[], above)?;
+    assert!(rt; sets.fits(1));
+    let gathered = collect_over(alloc, &sets, 1)?;
+    assert!(rt; same(&rt, alloc, &gathered, &Term::Coll(everything(alloc)?))?);
+    Ok(())
+}
+
+#[test]
+fn values_are_deep(rt: HostRuntime) -> Result<(), Fail> {
+    let alloc = rt.alloc();
+    let empty = Term::Coll(Comps::new(alloc));
+    let one = Term::Coll(only_a(alloc)?);
+    let mut parts = Terms::new(alloc);
+    parts.push(Term::Var(0))?;
+    parts.push(Term::Coll(only_a(alloc)?))?;
+    let sometimes = sets_of(alloc, 0, &[lit(Op::Lt, 0, 1)], only_a(alloc)?)?;
+    let rows = [
+        (Term::Var(0), [1, 2], [false, false, false, false]),
+        (empty, [1, 2], [true, false, false, false]),
+        (one, [1, 2], [true, false, false, false]),
+        (Term::Tup(parts), [1, 2], [true, true, false, false]),
+        (sometimes.copy(alloc)?, [1, 2], [true, true, false, false]),
+        (sometimes, [2, 1], [true, false, false, false]),
+    ];
+    for (t, sample, wanted) in &rows {
+        assert_eq!(rt; depths(&rt, alloc, t, *sample)?, *wanted);
+    }
+    Ok(())
+}
+
+#[test]
+fn tuples_have_parts(rt: HostRuntime) -> Result<(), Fail> {
+    let alloc = rt.alloc();
+    let mut parts = Terms::new(alloc);
+    parts.push(Term::Var(7))?;
+    parts.push(Term::Var(8))?;
+    let pair = Term::Tup(parts);
+    assert!(rt; matches!(project(&pair, 1), Some(Term::Var(7))));
+    assert!(rt; matches!(project(&pair, 2), Some(Term::Var(8))));
+    assert!(rt; project(&pair, 0).is_none() && project(&pair, 3).is_none());
+    assert!(rt; project(&Term::Var(7), 1).is_none());
+    Ok(())
+}
