@@ -138,9 +138,8 @@ fn several_levels_are_bound(rt: HostRuntime) -> Result<(), Fail> {
     between.push(cube_of(alloc, &[below(0, 2), below(2, 3), below(3, 1)])?)?;
     let bound = with_two_between(alloc, between)?;
     assert!(rt; bound.fits(2));
-    for (sample, holds) in [([0, 1], true), ([0, 0], false), ([1, 0], false)] {
-        assert_eq!(rt; bound.at(&sample), holds, "at {sample:?}");
-    }
+    assert!(rt; bound.at(&[0, 1]));
+    assert!(rt; !bound.at(&[0, 0]) && !bound.at(&[1, 0]));
     Ok(())
 }
 

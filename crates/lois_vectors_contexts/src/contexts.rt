@@ -26,7 +26,7 @@ fn sides(
     Ok(split(alloc, context, condition, &mut chosen)?)
 }
 
-fn inside(
+pub(crate) fn inside(
     rt: &impl Abort,
     alloc: Global,
     context: &Context,

@@ -2,9 +2,10 @@
 
 ghost use Rattle.std.specs.Prelude.{◌<◌};
 
+use crate::contexts::inside;
 use crate::making::{admits, chosen, compared, each, guard_of, name_of, opening, set_of};
 use lois_base::{Constraint, Lit, Op, Term};
-use lois_context::{Context, enter_loop, merge_equal, side, split};
+use lois_context::{Context, merge_equal, side, split};
 use std::alloc::Global;
 use std::process::Abort;
 use std::test::Fail;
@@ -27,11 +28,8 @@ fn holding(rt: &impl Abort, alloc: Global, size: usize, depth: usize) -> Result<
     let elements = set_of(alloc, [one])?;
     let before = opening(rt, alloc, size)?;
     let name = name_of(rt, alloc, b"s")?;
-    assert!(rt; elements.fits(before.size) && matches!(elements, Term::Coll(_)));
-    assert!(rt; !before.store.has_name(&name));
-    let mut chosen = chosen(alloc)?;
-    let mut inside = enter_loop(alloc, &before, &elements, &name, &mut chosen)?;
-    Ok(inside.pop().ok_or("the set has a member")?)
+    let mut entered = inside(rt, alloc, &before, &elements, &name)?;
+    Ok(entered.pop().ok_or("the set has a member")?)
 }
 
 fn part(
