@@ -8,6 +8,7 @@ A run without names is the whole gate. What the machine has kept of earlier runs
 nothing is that of all runs that added to one file. Each half second the processes below `rt` are asked for their times.
 """
 import os
+import signal
 import subprocess
 import sys
 import time
@@ -71,13 +72,16 @@ def sample(root, spent):
         spent[key] = max(spent.get(key, 0), ticks)
 
 
-def measured(names):
+def measured(names, spent):
     run = subprocess.Popen(["rt", "ci", *names])
-    spent = {}
     while run.poll() is None:
         sample(run.pid, spent)
         time.sleep(0.5)
-    return run.returncode, spent
+    return run.returncode
+
+
+def ended(signal_number, frame):
+    sys.exit(128 + signal_number)
 
 
 def read_times(path):
@@ -108,10 +112,15 @@ def main(words):
     if words[:1] == ["--times"]:
         path, words = words[1], words[2:]
     begun = time.time()
-    status, spent = measured(words)
-    with open(path, "a") as file:
-        for (_, (crate, stage)), ticks in spent.items():
-            file.write(f"{crate} {stage} {ticks / TICKS:.2f}\n")
+    spent = {}
+    signal.signal(signal.SIGTERM, ended)
+    try:
+        status = measured(words, spent)
+    finally:
+        # also of a run that was cut off
+        with open(path, "a") as file:
+            for (_, (crate, stage)), ticks in spent.items():
+                file.write(f"{crate} {stage} {ticks / TICKS:.2f}\n")
     print(f"{(time.time() - begun) / 60:.1f} minutes; rt ci ended with {status}")
     return status
 
