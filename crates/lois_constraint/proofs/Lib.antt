@@ -10,7 +10,8 @@ pub mod Pruned
 pub mod Shifting
 pub mod Uses
 pub mod Tightened
-pub mod Inserted
 pub mod Ordered
 pub mod Normals
 pub mod Sides
+pub mod Alike
+pub mod Sorted

@@ -80,11 +80,11 @@ cube_before_trans (x ∷ a) (y ∷ b) (z ∷ c) h k =
     (three_same_trans x.left x.right (op_rank x.op) y.left y.right (op_rank y.op) z.left z.right (op_rank z.op))
     (cube_before_trans a b c) h k
 
-pub or_first : (p q : Bool) → (p || q) ≡ false → p ≡ false
+or_first : (p q : Bool) → (p || q) ≡ false → p ≡ false
 or_first true q h = h
 or_first false q h = refl
 
-pub or_second : (p q : Bool) → (p || q) ≡ false → q ≡ false
+or_second : (p q : Bool) → (p || q) ≡ false → q ≡ false
 or_second true q h = absurd (cc)
 or_second false q h = h
 
@@ -123,6 +123,9 @@ lit_from_same a b h =
 three_irrefl : (a b c : ℕ) → three_before a b c a b c ≡ false
 three_irrefl a b c = grind (arith, nat_tests)
 
+pub lit_before_irrefl : (a : Lit) → lit_before a a ≡ false
+lit_before_irrefl a = three_irrefl a.left a.right (op_rank a.op)
+
 neither_before : (p s q : Bool) → p ≡ false → q ≡ false → (p || (s && q)) ≡ false
 neither_before true s q e f = e
 neither_before false true q e f = f
@@ -131,4 +134,4 @@ neither_before false false q e f = refl
 pub cube_before_irrefl : (a : List Lit) → cube_before a a ≡ false
 cube_before_irrefl [] = refl
 cube_before_irrefl (x ∷ a) =
-    neither_before (lit_before x x) (lit_same x x) (cube_before a a) (three_irrefl x.left x.right (op_rank x.op)) (cube_before_irrefl a)
+    neither_before (lit_before x x) (lit_same x x) (cube_before a a) (lit_before_irrefl x) (cube_before_irrefl a)

@@ -1,27 +1,19 @@
 -- Cubes of which none lies within another.
-use Rattle.std.proofs.Common.{◌≡◌, ℕ, ◌+◌, ◌<◌, ◌≤◌, Bool, true, false, ◌||◌, List, [], ◌∷◌, ◌++◌, length, length-append, get_or, refl, sym, ap, ◌∙◌, subst, arith}
+use Rattle.std.proofs.Common.{◌≡◌, ℕ, ◌+◌, ◌<◌, ◌≤◌, Bool, true, false, ◌||◌, List, [], ◌∷◌, ◌++◌, length, length-append, get_or, take, refl, sym, ap, ◌∙◌, subst, arith}
 use Rattle.std.specs.List.{All}
-use Rattle.std.proofs.lemmas.List.{get_or_append_left, get_or_push}
+use Rattle.std.proofs.lemmas.List.{get_or_append_left, get_or_default, get_or_push}
 use Rattle.std.specs.declared.option.Option.TheVariants.{Some}
-use Rattle.std.proofs.lemmas.List.Elements.{All-nil, All-cons, All-push, All-pop, All-weaker, All-filter}
+use Rattle.std.proofs.lemmas.List.Elements.{All-nil, All-cons, All-push, All-pop}
 use Rattle.std.proofs.lemmas.List.Quantifiers.{all_pairs_push}
 use Rattle.std.proofs.lemmas.List.Folds.{list_any-append}
+use Rattle.std.proofs.lemmas.List.Sorted.{All-permutation}
+use Rattle.std.specs.List.Sorted.{IsPermutation}
 use Rattle.lois_base.specs.Atom.{Atom}
 use Rattle.lois_base.specs.Truth.{cube_holds, holds}
 use Rattle.lois_base.specs.declared.guards.Lit.{Lit}
 use Rattle.lois_constraint.specs.Met.{CanBeMet, LiesWithin, AreApart, IsPruned}
-use Rattle.lois_constraint.proofs.Inserted.{apart_inserted}
-use Rattle.lois_constraint.proofs.Normals.{earlier, later, not_both, cubes_with, cubes_with_all}
-
-pub none_pruned : IsPruned []
-none_pruned = record { met = All-nil CanBeMet; apart = λ i j d l m. absurd (omega arith) }
-
--- the cube without literals alone
-pub whole_pruned : IsPruned ([] ∷ [])
-whole_pruned = record {
-  met = All-cons CanBeMet [] [] ([], refl) (All-nil CanBeMet);
-  apart = λ i j d l m. absurd (omega arith);
-}
+use Rattle.lois_constraint.proofs.Sorted.{pairs_permuted}
+use Rattle.lois_constraint.proofs.Tightened.{constraint_grows}
 
 -- the kept cubes are apart from each of the cubes from i on
 abbrev pub ApartFrom : List (List Lit) → ℕ → List (List Lit) → Type 0
@@ -95,11 +87,33 @@ module _ (a b : List Lit) (e : (c : List Atom) → cube_holds c a ≡ cube_holds
 pub apart_swapped : (a b : List Lit) → AreApart a b → AreApart b a
 apart_swapped a b h = (h.1, h.0)
 
--- one more cube in its place
-pub cubes_with_pruned : (x : List Lit) (g : List (List Lit)) → IsPruned g → CanBeMet x → All (λ k. AreApart k x) g → IsPruned (cubes_with x g)
-cubes_with_pruned x g p met h =
-    let from_x : All (AreApart x) g = All-weaker (λ k. AreApart k x) (AreApart x) (λ k. apart_swapped k x) g h in
-    record {
-      met = cubes_with_all CanBeMet x g met p.met;
-      apart = apart_inserted AreApart (λ a b. apart_swapped a b) (earlier x) (later x) (not_both x) x g p.apart (All-filter (earlier x) (AreApart x) g from_x) (All-filter (later x) (AreApart x) g from_x);
-    }
+-- ---- cubes with the same truth, as far as the cubes of a pruned constraint were read
+module _ (g xs : List (List Lit)) (x y : List Lit) (i : ℕ) (b : i < length xs) (is : x ≡ get_or xs i x) (same : (c : List Atom) → cube_holds c y ≡ cube_holds c x) where
+  pub read_holds : (c : List Atom) → holds c g ≡ holds c (take i xs) → holds c (g ++ y ∷ []) ≡ holds c (take (i + 1) xs)
+  read_holds c t =
+      constraint_grows c g (g ++ y ∷ []) xs x i b is t (list_any-append (cube_holds c) g (y ∷ []) ∙ (ap (λ p. holds c g || p) (or_nothing (cube_holds c y)) ∙ ap (λ p. holds c g || p) (same c)))
+    where
+      or_nothing : (p : Bool) → (p || false) ≡ p
+      or_nothing true = refl
+      or_nothing false = refl
+
+  module _ (whole : IsPruned xs) (later : ApartFrom xs i g) where
+    pub read_pruned : IsPruned g → IsPruned (g ++ y ∷ [])
+    read_pruned p =
+        let met : CanBeMet x = subst CanBeMet (sym is) (whole.met i x b) in
+        let apart : All (λ k. AreApart k x) g = subst (λ z. All (λ k. AreApart k z) g) (sym is) (later i x (omega arith) b) in
+        kept_pruned g y p (same_met y x same met) (λ k d l. apart_swapped y (get_or g k d) (same_apart y x same (get_or g k d) (apart_swapped (get_or g k d) x (apart k d l))))
+
+    pub read_apart : ApartFrom xs (i + 1) (g ++ y ∷ [])
+    read_apart j d l m =
+        let z : List Lit = get_or xs j d in
+        let apart : AreApart (get_or xs i d) z = whole.apart i j d (omega arith) m in
+        let is_x : x ≡ get_or xs i d = is ∙ get_or_default xs i x d b in
+        All-push (λ k. AreApart k z) g y (later j d (omega arith) m) (same_apart y x same z (subst (λ k. AreApart k z) (sym is_x) apart))
+
+-- the cubes in another order
+pub pruned_permuted : (xs ys : List (List Lit)) → IsPermutation xs ys → IsPruned xs → IsPruned ys
+pruned_permuted xs ys p h = record {
+  met = All-permutation CanBeMet xs ys p h.met;
+  apart = pairs_permuted AreApart apart_swapped xs ys p h.apart;
+}

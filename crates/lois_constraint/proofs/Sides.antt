@@ -1,6 +1,7 @@
--- Two cubes compared side by side.
-use Rattle.std.proofs.Common.{◌≡◌, ℕ, zero, suc, ◌+◌, ◌<◌, ◌≤◌, true, false, ◌&&◌, ◌||◌, nat_lt, List, [], ◌∷◌, length, get_or, drop, refl, sym, ap, ◌∙◌, subst, arith, add-one}
+-- Two cubes compared literal by literal.
+use Rattle.std.proofs.Common.{◌≡◌, ℕ, zero, suc, ◌+◌, ◌<◌, ◌≤◌, Bool, true, false, cond, Ordering, Less, Equal, Greater, ◌&&◌, ◌||◌, ◌==◌, nat_lt, List, [], ◌∷◌, length, get_or, drop, refl, sym, ap, ◌∙◌, subst, arith, add-one}
 use Rattle.std.specs.List.{slice_get}
+use Rattle.std.specs.Ordering.{is_lt, is_eq, is_ne, nat_cmp}
 use Rattle.std.specs.declared.option.Option.TheVariants.{Some, None}
 use Rattle.std.proofs.lemmas.List.{drop_all}
 use Rattle.std.proofs.lemmas.Bool.Decides.{nat_tests}
@@ -27,6 +28,24 @@ left_over (y ∷ b) zero = grind (arith, nat_tests)
 left_over (y ∷ b) (suc i) =
     let e : nat_lt (suc i) (length (y ∷ b)) ≡ nat_lt i (length b) = grind (arith, nat_tests) in e ∙ left_over b i
 
+unequal : (o : Ordering) (p s q : Bool) → is_lt o ≡ p → is_eq o ≡ s → true ≡ is_ne o → is_lt o ≡ (p || (s && q))
+unequal Less p s q e f ne = ap (λ w. w || (s && q)) e
+unequal Equal p s q e f ne = absurd (cc)
+unequal Greater p s q e f ne = ap (λ w. w && q) f ∙ ap (λ w. w || (s && q)) e
+
+equal : (o : Ordering) (p s : Bool) → is_lt o ≡ p → is_eq o ≡ s → false ≡ is_ne o → (false ≡ p) × (true ≡ s)
+equal Less p s e f ne = absurd (cc)
+equal Equal p s e f ne = (e, f)
+equal Greater p s e f ne = absurd (cc)
+
+pub lt_by_cmp : (x y : ℕ) → is_lt (nat_cmp x y) ≡ nat_lt x y
+lt_by_cmp x y = go (nat_lt x y) (x == y)
+  where
+    go : (p q : Bool) → is_lt (cond p Less (cond q Equal Greater)) ≡ p
+    go true q = refl
+    go false true = refl
+    go false false = refl
+
 module _ (a b xs : List Lit) (i : ℕ) (d : Lit) (is : xs ≡ a) (l : i < length xs) (same : cube_before a b ≡ cube_before (drop i a) (drop i b)) where
   cut : drop i a ≡ get_or xs i d ∷ drop (i + 1) a
   cut = subst (λ (z : List Lit). drop i z ≡ get_or xs i d ∷ drop (i + 1) z) is (cut_at xs i d l)
@@ -39,14 +58,17 @@ module _ (a b xs : List Lit) (i : ℕ) (d : Lit) (is : xs ≡ a) (l : i < length
     step : cube_before a b ≡ (lit_before (get_or xs i d) y || (lit_same (get_or xs i d) y && cube_before (drop (i + 1) a) (drop (i + 1) b)))
     step = same ∙ (ap (λ z. cube_before z (drop i b)) cut ∙ ap (cube_before (get_or xs i d ∷ drop (i + 1) a)) (drop_at b i y e))
 
-    pub is_first : true ≡ lit_before (get_or xs i d) y → true ≡ cube_before a b
-    is_first h = sym (step ∙ ap (λ p. p || (lit_same (get_or xs i d) y && cube_before (drop (i + 1) a) (drop (i + 1) b))) (sym h))
+    -- the literals at the index decide
+    pub decided : (o : Ordering) → is_lt o ≡ lit_before (get_or xs i d) y → is_eq o ≡ lit_same (get_or xs i d) y → true ≡ is_ne o → is_lt o ≡ cube_before a b
+    decided o before same_lits ne =
+        unequal o (lit_before (get_or xs i d) y) (lit_same (get_or xs i d) y) (cube_before (drop (i + 1) a) (drop (i + 1) b)) before same_lits ne ∙ sym step
 
-    pub is_second : false ≡ lit_before (get_or xs i d) y → false ≡ lit_same (get_or xs i d) y → false ≡ cube_before a b
-    is_second h k = sym (step ∙ (ap (λ p. p || (lit_same (get_or xs i d) y && cube_before (drop (i + 1) a) (drop (i + 1) b))) (sym h) ∙ ap (λ p. p && cube_before (drop (i + 1) a) (drop (i + 1) b)) (sym k)))
-
-    pub goes_on : false ≡ lit_before (get_or xs i d) y → true ≡ lit_same (get_or xs i d) y → cube_before a b ≡ cube_before (drop (i + 1) a) (drop (i + 1) b)
-    goes_on h k = step ∙ (ap (λ p. p || (lit_same (get_or xs i d) y && cube_before (drop (i + 1) a) (drop (i + 1) b))) (sym h) ∙ ap (λ p. p && cube_before (drop (i + 1) a) (drop (i + 1) b)) (sym k))
+    pub goes_on : (o : Ordering) → is_lt o ≡ lit_before (get_or xs i d) y → is_eq o ≡ lit_same (get_or xs i d) y → false ≡ is_ne o → cube_before a b ≡ cube_before (drop (i + 1) a) (drop (i + 1) b)
+    goes_on o before same_lits eq =
+        let tied = equal o (lit_before (get_or xs i d) y) (lit_same (get_or xs i d) y) before same_lits eq in
+        let h : false ≡ lit_before (get_or xs i d) y = tied.0 in
+        let k : true ≡ lit_same (get_or xs i d) y = tied.1 in
+        step ∙ (ap (λ p. p || (lit_same (get_or xs i d) y && cube_before (drop (i + 1) a) (drop (i + 1) b))) (sym h) ∙ ap (λ p. p && cube_before (drop (i + 1) a) (drop (i + 1) b)) (sym k))
 
 pub at_end : (a b : List Lit) (i : ℕ) → i ≡ length a → cube_before a b ≡ cube_before (drop i a) (drop i b) → nat_lt (length a) (length b) ≡ cube_before a b
 at_end a b i e same =

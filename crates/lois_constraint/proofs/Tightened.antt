@@ -72,6 +72,29 @@ module _ (c : List Atom) (s : Bool) (known xs : List Lit) (i : ℕ) (d : Lit) (b
       go true f = sym (ap (cube_holds c) (sym is) ∙ part_fails (lit_holds c) xs (i + 1) f)
       go false f = refl
 
+-- ---- the literals that were read and don't follow, beside what holds where k does
+module _ (c : List Atom) (k : Bool) (kept xs : List Lit) (i : ℕ) (d : Lit) (b : i < length xs) (same : (k && cube_holds c kept) ≡ (k && cube_holds c (take i xs))) where
+  pub beside_grows : (r : List Lit) → r ≡ kept ++ get_or xs i d ∷ [] → (k && cube_holds c r) ≡ (k && cube_holds c (take (i + 1) xs))
+  beside_grows r e =
+      ap (λ z. k && cube_holds c z) e ∙ (ap (λ p. k && p) (list_all-append (lit_holds c) kept (get_or xs i d ∷ [])) ∙ (split k (cube_holds c kept) (lit_holds c (get_or xs i d)) ∙ (ap (λ p. p && lit_holds c (get_or xs i d)) same ∙ (joined k (cube_holds c (take i xs)) (lit_holds c (get_or xs i d)) ∙ ap (λ p. k && p) (sym (list_all_more (lit_holds c) xs i d b))))))
+    where
+      split : (p q r : Bool) → (p && (q && (r && true))) ≡ ((p && q) && r)
+      split true q r = last_of_and q r
+      split false q r = refl
+
+      joined : (p q r : Bool) → ((p && q) && r) ≡ (p && (q && r))
+      joined true q r = refl
+      joined false q r = refl
+
+  pub beside_stays : (k ≡ true → lit_holds c (get_or xs i d) ≡ true) → (k && cube_holds c kept) ≡ (k && cube_holds c (take (i + 1) xs))
+  beside_stays f =
+      same ∙ (more k (cube_holds c (take i xs)) (lit_holds c (get_or xs i d)) f ∙ ap (λ p. k && p) (sym (list_all_more (lit_holds c) xs i d b)))
+    where
+      more : (p q r : Bool) → (p ≡ true → r ≡ true) → (p && q) ≡ (p && (q && r))
+      more true true r f = sym (f refl)
+      more true false r f = refl
+      more false q r f = refl
+
 -- ---- a cube with each of the cubes that were read, beside what holds where s does
 pub product_grows : (c : List Atom) (s k : Bool) (g xs : List (List Lit)) (i : ℕ) (x : List Lit) → i < length xs → x ≡ get_or xs i x → holds c g ≡ (s || (k && holds c (take i xs))) → (found : Bool) → found ≡ (k && cube_holds c x) → (holds c g || found) ≡ (s || (k && holds c (take (i + 1) xs)))
 product_grows c s k g xs i x b is t found e =

@@ -9,6 +9,6 @@ pub item_obeys : (rule : Rule) (g xs : List (List Lit)) (i : ℕ) (x : List Lit)
 item_obeys rule g xs i x e b is h =
     subst (CubeObeys rule) (sym is) (All-get_or (CubeObeys rule) xs i x b (subst (ConstraintObeys rule) (sym e) h))
 
--- what holds of the constraint that is the answer
-pub same_answer : {E : Type 0} (result : Result (List (List Lit)) E) (g : List (List Lit)) (P : List (List Lit) → Type 0) → IfOk result (λ r. r ≡ g) → P g → IfOk result P
-same_answer result g P same h = IfOk-weaker result (λ r. r ≡ g) P (λ r e. subst P (sym e) h) same
+-- what holds of the value that is the answer
+pub same_answer : {X E : Type 0} (result : Result X E) (x : X) (P : X → Type 0) → IfOk result (λ r. r ≡ x) → P x → IfOk result P
+same_answer result x P same h = IfOk-weaker result (λ r. r ≡ x) P (λ r e. subst P (sym e) h) same

@@ -121,19 +121,31 @@ impl Known {
         Ok(Some(self.with_literal(alloc, lit)?))
     }
 
-    /// Both cubes, or `None` where they can't be met.
-    pub(crate) fn and(self, alloc: Global, other: &Cube) -> Result<Option<Self>, NoMemory>
-        ensures truth { IfOk result (λ o. (c : List Atom) → some_holds c o ≡ (cube_holds c self && cube_holds c other.now)) }
-        ensures rules { IfOk result (λ o. (rule : Rule) → CubeObeys rule self → CubeObeys rule other.now → SomeObeys rule o) }
+    /// The cube and the literals, or `None` where they can't be met.
+    pub(crate) fn and_literals(
+        self,
+        alloc: Global,
+        literals: &[Lit],
+    ) -> Result<Option<Self>, NoMemory>
+        ensures truth { IfOk result (λ o. (c : List Atom) → some_holds c o ≡ (cube_holds c self && cube_holds c literals.now)) }
+        ensures rules { IfOk result (λ o. (rule : Rule) → CubeObeys rule self → CubeObeys rule literals.now → SomeObeys rule o) }
     {
         let mut known = self;
-        for lit in other.as_slice() {
+        for lit in literals {
             let Some(more) = known.and_literal(alloc, *lit)? else {
                 return Ok(None);
             };
             known = more;
         }
         Ok(Some(known))
+    }
+
+    /// Both cubes, or `None` where they can't be met.
+    pub(crate) fn and(self, alloc: Global, other: &Cube) -> Result<Option<Self>, NoMemory>
+        ensures truth { IfOk result (λ o. (c : List Atom) → some_holds c o ≡ (cube_holds c self && cube_holds c other.now)) }
+        ensures rules { IfOk result (λ o. (rule : Rule) → CubeObeys rule self → CubeObeys rule other.now → SomeObeys rule o) }
+    {
+        self.and_literals(alloc, other.as_slice())
     }
 
     /// The cube without the literals that follow from earlier ones, or `None` where it can't be met.

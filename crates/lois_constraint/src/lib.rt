@@ -13,6 +13,7 @@ mod piles;
 mod products;
 mod pruning;
 mod rows;
+mod sorting;
 
 pub use conflicts::{conflict, implies, within};
 pub use levels::{shift, substitute, substitute_cube};
