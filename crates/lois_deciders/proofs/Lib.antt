@@ -11,3 +11,4 @@ pub mod Staged
 pub mod Remembered
 pub mod Queued
 pub mod OnlyAsked
+pub mod Reached

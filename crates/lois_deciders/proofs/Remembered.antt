@@ -1,5 +1,5 @@
 -- Answers that are right for questions that are equal.
-use Rattle.std.proofs.Common.{◌≡◌, ℕ, ◌-◌, ◌<◌, ◌⊎◌, inl, inr, Bool, true, false, not, ◌&&◌, List, [], ◌∷◌, length, get_or, take, eqb, Option, Some, None, Result, Ok, Err, OnOk, OnErr, IfSome, IsNone, ◌↔◌, refl, sym, ap, ◌∙◌, subst, arith, rules, length-take}
+use Rattle.std.proofs.Common.{◌≡◌, ℕ, ◌-◌, ◌<◌, ◌⊎◌, inl, inr, Bool, true, false, not, ◌&&◌, List, [], ◌∷◌, length, get_or, take, eqb, Option, Some, None, Result, Ok, Err, OnOk, OnErr, IfSome, IsNone, ◌↔◌, refl, sym, ap, ◌∙◌, subst, arith, length-take}
 use Rattle.std.proofs.lemmas.Bool.{eqb-true}
 use Rattle.std.proofs.lemmas.List.{get_or-take}
 use Rattle.std.proofs.lemmas.List.Elements.{All-contains, Contains-get_or}
@@ -12,15 +12,13 @@ use Rattle.std.specs.List.{All, Contains, list_all}
 use Rattle.std.specs.List.Sorted.{IsPermutation}
 use Rattle.std.specs.Map.{lookup}
 use Rattle.std.specs.Option.{option_map}
-use denote.Enum.Bare.{sameb, same_true}
-use Rattle.lois_base.specs.contracts.guards.Op.{the_type}
 use Rattle.lois_base.specs.Atom.{Atom}
 use Rattle.lois_base.specs.Theory.{IsSampleOf}
 use Rattle.lois_base.specs.Truth.{lit_holds, cube_holds, sampled}
 use Rattle.lois_base.specs.declared.guards.Lit.{Lit}
-use Rattle.lois_base.specs.declared.guards.Op.{Op}
 use Rattle.lois_base.proofs.Order.{same_truth}
 use Rattle.lois_base.proofs.Samples.{satisfied_by}
+use Rattle.lois_constraint.proofs.Alike.{lit_eq, lits_same}
 use Rattle.lru.specs.LruCache.{LruCache, lru_cache, promoted, put_entries}
 use Rattle.lru.proofs.CallerLemmas.{Contains-lookup, Contains-promoted, Contains-put_entries, IsPut}
 use Rattle.lois_deciders.specs.Kept.{Answers, IsRight}
@@ -29,7 +27,7 @@ use Rattle.lois_deciders.specs.Remembering.{Kept, HasPut, IsAbout, KeepsAnswers}
 use Rattle.lois_deciders.specs.contracts.questions.QuestionPartialEq.TheImpl.{eq-value}
 use Rattle.lois_deciders.specs.declared.questions.Question.{Question}
 
--- ---- literals that the code calls equal
+-- ---- cubes that the code calls equal
 first_and : (p q : Bool) → (p && q) ≡ true → p ≡ true
 first_and true q h = refl
 first_and false q h = h
@@ -37,20 +35,6 @@ first_and false q h = h
 second_and : (p q : Bool) → (p && q) ≡ true → q ≡ true
 second_and true q h = h
 second_and false q h = absurd (cc)
-
-abbrev pub lit_eq : Lit → Lit → Bool
-lit_eq a b = sameb the_type a.op b.op && (eqb a.left b.left && eqb a.right b.right)
-
-abbrev literal : Op → ℕ → ℕ → Lit
-literal o x y = record { op = o; left = x; right = y }
-
-parts_same : (o o' : Op) (x x' y y' : ℕ) → o ≡ o' → x ≡ x' → y ≡ y' → literal o x y ≡ literal o' x' y'
-parts_same o o' x x' y y' e f g = rw (e, f, g) refl
-
-pub lits_same : (a b : Lit) → lit_eq a b ≡ true → a ≡ b
-lits_same a b h =
-    let rest : (eqb a.left b.left && eqb a.right b.right) ≡ true = second_and (sameb the_type a.op b.op) _ h in
-    parts_same a.op b.op a.left b.left a.right b.right (same_true the_type (search rules) _ _ (first_and (sameb the_type a.op b.op) _ h)) (eqb-true a.left b.left (first_and (eqb a.left b.left) _ rest)) (eqb-true a.right b.right (second_and (eqb a.left b.left) _ rest))
 
 pub cubes_same : (a b : List Lit) → pointwise lit_eq a b ≡ true → a ≡ b
 cubes_same [] [] h = refl

@@ -4,6 +4,7 @@ pub mod Asked
 pub mod Met
 pub mod Choice
 pub mod OnlyAsked
+pub mod Reached
 pub mod Stages
 pub mod Places
 pub mod Kept

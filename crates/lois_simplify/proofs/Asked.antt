@@ -68,9 +68,6 @@ sample_is_apart n b a h s m l k d =
       subst (λ z. IsFalse (equal z (atom_at (sampled s) a))) (sym at_b) (subst (λ z. IsFalse (equal (whole (get_or s b 0)) z)) (sym at_a) (numbers_differ (get_or s b 0) (get_or s a 0) d)),
     )
 
-pub small_sample_meets : (n : ℕ) (h : List (List Lit)) (s : List ℕ) → Meets n h s → CanBeMet n h
-small_sample_meets n h s m = (sampled s, length-map s whole ∙ m.0.count, m.1)
-
 -- ---- what `is_none` tells
 pub none_there : {X : Type 0} (o : Option X) (b : Bool) → is_some o ≡ not b → IsTrue b → IsNone o
 none_there None b e t = refl
@@ -79,12 +76,6 @@ none_there (Some x) b e t = absurd (cc)
 pub some_there : {X : Type 0} (P : X → Type 0) (o : Option X) (b : Bool) → is_some o ≡ not b → IsFalse b → IfSome o P → (x : X) × P x
 some_there P None b e f h = absurd (cc)
 some_there P (Some x) b e f h = (x, h)
-
-pub some_is : {X : Type 0} (P : X → Type 0) (o : Option X) (x : X) → o ≡ Some x → IfSome o P → P x
-some_is P o x e h = subst (λ z. IfSome z P) e h
-
-pub none_is : {X : Type 0} (o : Option X) → o ≡ None → IsNone o
-none_is o e = ap is_some e
 
 pub ok_both : {X E : Type 0} (P Q R : X → Type 0) (r : Result X E) → ((x : X) → P x → Q x → R x) → IfOk r P → IfOk r Q → IfOk r R
 ok_both P Q R (Ok x) f p q = f x p q

@@ -1,3 +1,4 @@
+pub mod Asking
 pub mod Covered
 pub mod Fixed
 pub mod Kept

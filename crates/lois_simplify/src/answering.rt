@@ -7,10 +7,16 @@ ghost use Rattle.lois_deciders.specs.Asked.{Meets, CanBeMet, Parts, IsEntailed};
 ghost use Rattle.lois_deciders.specs.Met.{AreMet, ExcludeEachOther};
 
 use lois_base::{Constraint, NoMemory};
-use lois_deciders::{Chosen, Met};
+use lois_deciders::Met;
 use std::alloc::Global;
 
 pub(crate) trait Answers {
+    // what is needed for its answers to be right
+    ghost sound: { Type 0 };
+
+    // questions lead from one to the other
+    ghost reaches: { Self → Self → Type 0 };
+
     /// `size` numbers at which the constraint holds, or `None` where it holds at no choice of atoms.
     fn sample(
         &mut self,
@@ -18,9 +24,11 @@ pub(crate) trait Answers {
         c: &Constraint,
         size: usize,
     ) -> Result<Option<Vec<u64>>, NoMemory>
-        requires { ConstraintFits size c.now }
+        requires sound { sound }
+        requires levels { ConstraintFits size c.now }
         ensures some { IfOk result (λ o. IfSome o (λ s. Meets size c.now s.items)) }
-        ensures none { IfOk result (λ o. IsNone o ↔ (CanBeMet size c.now → ⊥)) };
+        ensures none { IfOk result (λ o. IsNone o ↔ (CanBeMet size c.now → ⊥)) }
+        ensures asked { reaches self.old self.new };
 
     /// The pruned constraint that holds where `a` and `b` both do, with `size` numbers at which it holds, or `None` where the two
     /// exclude each other.
@@ -31,10 +39,12 @@ pub(crate) trait Answers {
         b: &Constraint,
         size: usize,
     ) -> Result<Option<Met>, NoMemory>
+        requires sound { sound }
         requires first { ConstraintFits size a.now }
         requires second { ConstraintFits size b.now }
         ensures met { IfOk result (λ o. IfSome o (λ m. AreMet size a.now b.now m.constraint m.sample)) }
-        ensures none { IfOk result (λ o. IsNone o ↔ ExcludeEachOther size a.now b.now) };
+        ensures none { IfOk result (λ o. IsNone o ↔ ExcludeEachOther size a.now b.now) }
+        ensures asked { reaches self.old self.new };
 
     /// `size` numbers at which `c` holds and `d` doesn't, or `None` where `d` holds wherever `c` does.
     fn counterexample(
@@ -44,20 +54,55 @@ pub(crate) trait Answers {
         d: &Constraint,
         size: usize,
     ) -> Result<Option<Vec<u64>>, NoMemory>
+        requires sound { sound }
         requires first { ConstraintFits size c.now }
         requires second { ConstraintFits size d.now }
         ensures some { IfOk result (λ o. IfSome o (λ s. Parts size c.now d.now s.items)) }
-        ensures none { IfOk result (λ o. IsNone o ↔ IsEntailed size c.now d.now) };
+        ensures none { IfOk result (λ o. IsNone o ↔ IsEntailed size c.now d.now) }
+        ensures asked { reaches self.old self.new };
+
+    ghost reaches_itself: { (a : Self) → reaches a a };
+
+    ghost reaches_then: { (a b c : Self) → reaches a b → reaches b c → reaches a c };
 }
 
-impl Answers for Chosen {
+/// A decider, and functions that ask it. Its type isn't named.
+#[derive(Drop)]
+pub(crate) struct Asking<'a, D, S, B, C> {
+    pub(crate) decider: &'a mut D,
+    pub(crate) sample: S,
+    pub(crate) both: B,
+    pub(crate) counterexample: C,
+}
+
+impl<
+    'a,
+    D,
+    S: Fn(&mut D, Global, &Constraint, usize) -> Result<Option<Vec<u64>>, NoMemory>,
+    B: Fn(&mut D, Global, &Constraint, &Constraint, usize) -> Result<Option<Met>, NoMemory>,
+    C: Fn(&mut D, Global, &Constraint, &Constraint, usize) -> Result<Option<Vec<u64>>, NoMemory>,
+> Answers for Asking<'a, D, S, B, C> {
+    ghost use Rattle.std.specs.Prelude.{◌≡◌, ◌⊎◌};
+    ghost use Rattle.lois_deciders.specs.Asked.{Parts, IsEntailed};
+    ghost use Rattle.lois_deciders.specs.Met.{AreMet, ExcludeEachOther};
+    ghost use Rattle.lois_simplify.specs.Asking.{FindsSamples, AnswersPairs, LeadsByOne, LeadsByTwo};
+    ghost use Rattle.lois_deciders.specs.Reached.{IsReached, still_reached, reached_further};
+
+    ghost sound = { FindsSamples S.pre S.post × AnswersPairs B.pre B.post (λ n a b m. AreMet n a b m.constraint m.sample) ExcludeEachOther × AnswersPairs C.pre C.post (λ n c d s. Parts n c d s.items) IsEntailed };
+
+    ghost reaches = { λ a b. IsReached (λ p q. LeadsByOne S.post p q ⊎ (LeadsByTwo B.post p q ⊎ LeadsByTwo C.post p q)) a.decider.now b.decider.now × (b.decider.ghost_name ≡ a.decider.ghost_name) };
+
+    ghost reaches_itself = { λ a. still_reached _ a.decider };
+
+    ghost reaches_then = { λ a b c h k. reached_further _ a.decider b.decider c.decider h k };
+
     fn sample(
         &mut self,
         alloc: Global,
         c: &Constraint,
         size: usize,
     ) -> Result<Option<Vec<u64>>, NoMemory> {
-        self.ask(alloc, c, size)
+        (self.sample)(self.decider, alloc, c, size)
     }
 
     fn both(
@@ -67,7 +112,7 @@ impl Answers for Chosen {
         b: &Constraint,
         size: usize,
     ) -> Result<Option<Met>, NoMemory> {
-        self.meet(alloc, a, b, size)
+        (self.both)(self.decider, alloc, a, b, size)
     }
 
     fn counterexample(
@@ -77,6 +122,6 @@ impl Answers for Chosen {
         d: &Constraint,
         size: usize,
     ) -> Result<Option<Vec<u64>>, NoMemory> {
-        self.entails(alloc, c, d, size)
+        (self.counterexample)(self.decider, alloc, c, d, size)
     }
 }

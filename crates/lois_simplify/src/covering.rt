@@ -50,6 +50,7 @@ fn is_covered<T: Structure, D: Answers>(
     size: usize,
     decider: &mut D,
 ) -> Result<bool, NoMemory>
+    requires sound { D.sound }
     requires levels { CompFits size (comp_of comp.now) }
     requires kept_levels { ItemsFit size (comps_of kept.now) }
     requires coming_levels { ItemsFit size (comps_of (map comp_of coming.now)) }
@@ -59,6 +60,7 @@ fn is_covered<T: Structure, D: Answers>(
     requires coming_operators { AdmitsItems T.ordered (comps_of (map comp_of coming.now)) }
     ensures covered { IfOk result (λ b. IsTrue b → IsCovered under.now size (kept.now ++ map comp_of coming.now) (comp_of comp.now)) }
     ensures own { IfOk result (λ b. IsFalse b → HasOwn under.now size (kept.now ++ map comp_of coming.now) (comp_of comp.now)) }
+    ensures asked { D.reaches decider.old decider.new }
 {
     let inner = size + comp.binders;
     let membership = item_among(alloc, comp, kept, coming, size)?;
@@ -77,12 +79,14 @@ pub(crate) fn uncovered<T: Structure, D: Answers>(
     size: usize,
     decider: &mut D,
 ) -> Result<Comps, NoMemory>
+    requires sound { D.sound }
     requires levels { ItemsFit size (comps_of comps.now) }
     requires under_levels { ConstraintFits size under.now }
     requires operators { AdmitsItems T.ordered (comps_of comps.now) }
     ensures kept { IfOk result (λ r. IsKept under.now size (set_of comps.now) (set_of r)) }
     ensures only { IfOk result (λ r. (k : CompD) → Contains r k → Contains comps.now k) }
     ensures own { IfOk result (λ r. EachHasOwn under.now size [] r []) }
+    ensures asked { D.reaches decider.old decider.new }
 {
     let items = comps.as_slice();
     let mut kept = Comps::new(alloc);

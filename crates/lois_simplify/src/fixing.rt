@@ -47,12 +47,14 @@ fn is_fixed<D: Answers>(
     sample: &[u64],
     decider: &mut D,
 ) -> Result<bool, NoMemory>
+    requires sound { D.sound }
     requires here { ConstraintFits size here.now }
     requires binder { binder < size }
     requires level { level < size }
     requires sample { Meets size here.now sample.now }
     ensures fixed { IfOk result (λ b. IsTrue b → IsFixed size here.now binder level) }
     ensures free { IfOk result (λ b. IsFalse b → CanBeApart size here.now binder level) }
+    ensures asked { D.reaches decider.old decider.new }
 {
     if sample[level] != sample[binder] {
         return Ok(false);
@@ -70,11 +72,13 @@ fn fixed_level<D: Answers>(
     sample: &[u64],
     decider: &mut D,
 ) -> Result<Option<usize>, NoMemory>
+    requires sound { D.sound }
     requires here { ConstraintFits size here.now }
     requires binder { binder < size }
     requires sample { Meets size here.now sample.now }
     ensures some { IfOk result (λ o. IfSome o (λ a. (a < binder) × IsFixed size here.now binder a)) }
     ensures none { IfOk result (λ o. IsNone o → (a : ℕ) → a < binder → CanBeApart size here.now binder a) }
+    ensures asked { D.reaches decider.old decider.new }
 {
     for level in 0..binder {
         if is_fixed(alloc, here, size, binder, level, sample, decider)? {
@@ -93,11 +97,13 @@ pub(crate) fn fixed_binder<D: Answers>(
     sample: &[u64],
     decider: &mut D,
 ) -> Result<Option<Fixed>, NoMemory>
+    requires sound { D.sound }
     requires here { ConstraintFits size here.now }
     requires sample { Meets size here.now sample.now }
     ensures range { IfOk result (λ o. IfSome o (λ f. (from ≤ f.binder) × (f.binder < size) × (f.level < f.binder))) }
     ensures some { IfOk result (λ o. IfSome o (λ f. IsFixed size here.now f.binder f.level)) }
     ensures none { IfOk result (λ o. IsNone o → (b : ℕ) → from ≤ b → b < size → (a : ℕ) → a < b → CanBeApart size here.now b a) }
+    ensures asked { D.reaches decider.old decider.new }
 {
     for binder in from..size {
         if let Some(level) = fixed_level(alloc, here, size, binder, sample, decider)? {

@@ -58,10 +58,12 @@ pub(crate) fn open_round<T: Structure, D: Answers>(
     size: usize,
     decider: &mut D,
 ) -> Result<Opening, NoMemory>
+    requires sound { D.sound }
     requires levels { CompFits size (comp_of comp) }
     requires under_levels { ConstraintFits size under.now }
     requires operators { AdmitsComp T.ordered (comp_of comp) }
-    ensures { IfOk result (IsOpeningOf under.now size comp) }
+    ensures opening { IfOk result (IsOpeningOf under.now size comp) }
+    ensures asked { D.reaches decider.old decider.new }
 {
     let comp = with_used_binders::<T>(alloc, comp, size)?;
     let inner = size + comp.binders;

@@ -1,21 +1,24 @@
 //! Normal terms.
 
-ghost use Rattle.std.specs.Prelude.{◌+◌, ◌<◌, ◌≤◌, Bool, IfOk, IfSome};
+ghost use Rattle.std.specs.Prelude.{◌+◌, ◌<◌, ◌≤◌, ◌↔◌, Bool, IfOk, IfSome, IsNone};
 ghost use Rattle.std.specs.List.{All};
 ghost use Rattle.lois_base.specs.Data.{depth, tup, terms_of, comps_of};
 ghost use Rattle.lois_base.specs.Fits.{ConstraintFits, Fits, PartsFit, CompFits, ItemsFit};
 ghost use Rattle.lois_base.specs.Normal.{IsNormal, PartsAreNormal};
 ghost use Rattle.lois_base.specs.Tree.{tree, comp_of};
 ghost use Rattle.lois_base.specs.Validity.{AdmitsConstraint, AdmitsTerm, AdmitsParts, AdmitsComp, AdmitsItems, HasUsualWidths};
+ghost use Rattle.lois_deciders.specs.Asked.{Meets, CanBeMet, Parts, IsEntailed};
+ghost use Rattle.lois_deciders.specs.Met.{AreMet, ExcludeEachOther};
+ghost use Rattle.lois_deciders.specs.OnlyAsked.{HasOnlyAsked};
 ghost use Rattle.lois_simplify.specs.Kept.{IsKept, IsSameWhere, set_of};
 ghost use Rattle.lois_simplify.specs.Lean.{HasNormalGuards, PartsHaveNormalGuards, IsLeanComp};
 ghost use Rattle.lois_simplify.specs.Rounds.{only, listed, IsRoundOf};
 
-use crate::answering::Answers;
+use crate::answering::{Answers, Asking};
 use crate::covering::uncovered;
 use crate::distinct::distinct;
 use crate::rounds::{Open, Opening, Round, close_round, open_round};
-use lois_base::{Comp, Comps, Constraint, NoMemory, Structure, Term, Terms};
+use lois_base::{Comp, Comps, Constraint, Decider, NoMemory, Structure, Term, Terms};
 use lois_deciders::Chosen;
 use std::alloc::Global;
 
@@ -40,8 +43,34 @@ pub fn simplify<T: Structure>(
     ensures operators { IfOk result (λ r. (ordered : Bool) → AdmitsTerm ordered (tree term.now) → AdmitsTerm ordered (tree r)) }
     ensures widths { IfOk result (λ r. HasUsualWidths (tree term.now) → HasUsualWidths (tree r)) }
     ensures depth { IfOk result (λ r. depth (tree r) ≤ depth (tree term.now)) }
+
+    // whatever is answered
+    ensures only_asked { HasOnlyAsked (λ b. (⟦<dyn Decider as Decider>⟧ b.vtable).kind_of b.value) (λ b. (⟦<dyn Decider as Decider>⟧ b.vtable).questions b.value) chosen.old chosen.new }
 {
-    simplified::<T, Chosen>(alloc, term, under, size, chosen)
+    let mut asking = Asking {
+        decider: chosen,
+        sample: |asked: &mut Chosen, alloc: Global, c: &Constraint, size: usize|
+            requires levels { ConstraintFits size c.now }
+            ensures some { IfOk result (λ o. IfSome o (λ s. Meets size c.now s.items)) }
+            ensures none { IfOk result (λ o. IsNone o ↔ (CanBeMet size c.now → ⊥)) }
+            ensures only_asked { HasOnlyAsked (λ b. kind_of (b.vtable, b.value)) (λ b. questions (b.vtable, b.value)) asked.old asked.new }
+        { asked.ask(alloc, c, size) },
+        both: |asked: &mut Chosen, alloc: Global, a: &Constraint, b: &Constraint, size: usize|
+            requires first { ConstraintFits size a.now }
+            requires second { ConstraintFits size b.now }
+            ensures met { IfOk result (λ o. IfSome o (λ m. AreMet size a.now b.now m.constraint m.sample)) }
+            ensures none { IfOk result (λ o. IsNone o ↔ ExcludeEachOther size a.now b.now) }
+            ensures only_asked { HasOnlyAsked (λ b. kind_of (b.vtable, b.value)) (λ b. questions (b.vtable, b.value)) asked.old asked.new }
+        { asked.meet(alloc, a, b, size) },
+        counterexample: |asked: &mut Chosen, alloc: Global, c: &Constraint, d: &Constraint, size: usize|
+            requires first { ConstraintFits size c.now }
+            requires second { ConstraintFits size d.now }
+            ensures some { IfOk result (λ o. IfSome o (λ s. Parts size c.now d.now s.items)) }
+            ensures none { IfOk result (λ o. IsNone o ↔ IsEntailed size c.now d.now) }
+            ensures only_asked { HasOnlyAsked (λ b. kind_of (b.vtable, b.value)) (λ b. questions (b.vtable, b.value)) asked.old asked.new }
+        { asked.entails(alloc, c, d, size) },
+    };
+    simplified::<T, _>(alloc, term, under, size, &mut asking)
 }
 
 #[cycle(simplifying)]
@@ -52,6 +81,7 @@ fn simplified<T: Structure, D: Answers>(
     size: usize,
     decider: &mut D,
 ) -> Result<Term, NoMemory>
+    requires sound { D.sound }
     requires levels { Fits size (tree term.now) }
     requires under_levels { ConstraintFits size under.now }
     requires operators { AdmitsTerm T.ordered (tree term.now) }
@@ -59,6 +89,7 @@ fn simplified<T: Structure, D: Answers>(
     ensures kept { IfOk result (λ r. IsKept under.now size (tree term.now) (tree r)) }
     ensures normal { IfOk result (λ r. IsNormal (tree r) under.now size) }
     ensures guards { IfOk result (λ r. HasNormalGuards (tree r)) }
+    ensures asked { D.reaches decider.old decider.new }
 {
     match term {
         Term::Var(level) => Ok(Term::Var(*level)),
@@ -81,6 +112,7 @@ fn simplified_parts<T: Structure, D: Answers>(
     size: usize,
     decider: &mut D,
 ) -> Result<Terms, NoMemory>
+    requires sound { D.sound }
     requires levels { PartsFit size (terms_of parts.now) }
     requires under_levels { ConstraintFits size under.now }
     requires operators { AdmitsParts T.ordered (terms_of parts.now) }
@@ -88,6 +120,7 @@ fn simplified_parts<T: Structure, D: Answers>(
     ensures kept { IfOk result (λ r. IsKept under.now size (tup (terms_of parts.now)) (tup (terms_of r))) }
     ensures normal { IfOk result (λ r. PartsAreNormal (terms_of r) under.now size) }
     ensures guards { IfOk result (λ r. PartsHaveNormalGuards (terms_of r)) }
+    ensures asked { D.reaches decider.old decider.new }
 {
     let mut simple = Terms::new(alloc);
     for part in parts.as_slice() {
@@ -106,12 +139,14 @@ fn lean_comps<T: Structure, D: Answers>(
     size: usize,
     decider: &mut D,
 ) -> Result<Comps, NoMemory>
+    requires sound { D.sound }
     requires levels { ItemsFit size (comps_of comps.now) }
     requires under_levels { ConstraintFits size under.now }
     requires operators { AdmitsItems T.ordered (comps_of comps.now) }
     requires under_operators { AdmitsConstraint T.ordered under.now }
     ensures kept { IfOk result (λ r. IsKept under.now size (set_of comps.now) (set_of r)) }
     ensures lean { IfOk result (All (IsLeanComp under.now size)) }
+    ensures asked { D.reaches decider.old decider.new }
 {
     let several = distinct(alloc, comps)?;
     let mut found = Comps::new(alloc);
@@ -132,12 +167,14 @@ fn lean_comp<T: Structure, D: Answers>(
     size: usize,
     decider: &mut D,
 ) -> Result<Option<Comp>, NoMemory>
+    requires sound { D.sound }
     requires levels { CompFits size (comp_of comp.now) }
     requires under_levels { ConstraintFits size under.now }
     requires operators { AdmitsComp T.ordered (comp_of comp.now) }
     requires under_operators { AdmitsConstraint T.ordered under.now }
     ensures kept { IfOk result (λ o. IsKept under.now size (set_of (only (comp_of comp.now))) (set_of (listed o))) }
     ensures lean { IfOk result (λ o. IfSome o (λ k. IsLeanComp under.now size (comp_of k))) }
+    ensures asked { D.reaches decider.old decider.new }
 {
     let mut current = comp.copy(alloc)?;
     'rounds: loop {
@@ -158,11 +195,13 @@ fn one_round<T: Structure, D: Answers>(
     size: usize,
     decider: &mut D,
 ) -> Result<Round, NoMemory>
+    requires sound { D.sound }
     requires levels { CompFits size (comp_of comp) }
     requires under_levels { ConstraintFits size under.now }
     requires operators { AdmitsComp T.ordered (comp_of comp) }
     requires under_operators { AdmitsConstraint T.ordered under.now }
-    ensures { IfOk result (IsRoundOf under.now size comp) }
+    ensures round { IfOk result (IsRoundOf under.now size comp) }
+    ensures asked { D.reaches decider.old decider.new }
 {
     let Open { comp, here } = match open_round::<T, D>(alloc, comp, under, size, decider)? {
         Opening::Over(round) => return Ok(round),

@@ -3,7 +3,8 @@ use Rattle.lois_base.specs.Truth.{cube_holds}
 use Rattle.lois_base.specs.declared.guards.Lit.{Lit}
 use Rattle.lois_base.specs.declared.guards.Op.TheVariants.{Eq}
 use Rattle.lois_constraint.proofs.Tightened.{tight_grows, tight_stays}
-use Rattle.lois_deciders.proofs.Remembered.{stands_before, lits_same, is_not}
+use Rattle.lois_constraint.proofs.Alike.{lits_same}
+use Rattle.lois_deciders.proofs.Remembered.{stands_before, is_not}
 use Rattle.lois_deciders.proofs.questions.distinct.Goals as goal
 use Rattle.lois_deciders.proofs.questions.distinct.Goals.{then-index-eq0+in_ok-push, else-index-eq0+else-ne}
 

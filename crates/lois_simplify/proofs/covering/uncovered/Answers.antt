@@ -12,8 +12,11 @@ use Rattle.lois_simplify.proofs.covering.uncovered.Goals.{then-not-branch+in_ok-
 
 pub loop-index-init : goal.loop-index-init
 loop-index-init g c =
-    subst (λ z. UncoveredSoFar c.args.under.now c.args.size c.args.comps.now z (map comp_of c.as_slice-items.result.now)) (sym c.new-kept.ensures)
-    (subst (UncoveredSoFar c.args.under.now c.args.size c.args.comps.now []) (sym c.as_slice-items.ensures) (uncovered_begin c.args.under.now c.args.size c.args.comps.now))
+    record {
+      so_far = subst (λ z. UncoveredSoFar c.args.under.now c.args.size c.args.comps.now z (map comp_of c.as_slice-items.result.now)) (sym c.new-kept.ensures)
+          (subst (UncoveredSoFar c.args.under.now c.args.size c.args.comps.now []) (sym c.as_slice-items.ensures) (uncovered_begin c.args.under.now c.args.size c.args.comps.now));
+      asked = g.met.D.Answers.reaches_itself c.args.decider.now;
+    }
 
 pub is_covered-requires-clause-levels : goal.is_covered-requires-clause-levels
 is_covered-requires-clause-levels g c =
@@ -22,7 +25,7 @@ is_covered-requires-clause-levels g c =
     let items = c.as_slice-items.result.now in
     let i = c.loop-index.index in
     let k = c.index-items-index.result in
-    let so_far = next_of u n c.args.comps.now c.loop-index.kept items i k c.loop-index-test.true c.index-items-index.is c.loop-index.invariant in
+    let so_far = next_of u n c.args.comps.now c.loop-index.kept items i k c.loop-index-test.true c.index-items-index.is c.loop-index.invariant.so_far in
     items_fit_each n c.args.comps.now (comp_of k) c.requires.levels (next_is_there u n c.args.comps.now c.loop-index.kept (map comp_of (drop (i + 1) items)) (comp_of k) so_far)
 
 pub is_covered-requires-clause-kept_levels : goal.is_covered-requires-clause-kept_levels
@@ -32,7 +35,7 @@ is_covered-requires-clause-kept_levels g c =
     let items = c.as_slice-items.result.now in
     let i = c.loop-index.index in
     let k = c.index-items-index.result in
-    let so_far = next_of u n c.args.comps.now c.loop-index.kept items i k c.loop-index-test.true c.index-items-index.is c.loop-index.invariant in
+    let so_far = next_of u n c.args.comps.now c.loop-index.kept items i k c.loop-index-test.true c.index-items-index.is c.loop-index.invariant.so_far in
     kept_fit u n c.args.comps.now c.loop-index.kept (map comp_of (drop (i + 1) items)) (comp_of k) so_far c.requires.levels
 
 pub is_covered-requires-clause-coming_levels : goal.is_covered-requires-clause-coming_levels
@@ -42,7 +45,7 @@ is_covered-requires-clause-coming_levels g c =
     let items = c.as_slice-items.result.now in
     let i = c.loop-index.index in
     let k = c.index-items-index.result in
-    let so_far = next_of u n c.args.comps.now c.loop-index.kept items i k c.loop-index-test.true c.index-items-index.is c.loop-index.invariant in
+    let so_far = next_of u n c.args.comps.now c.loop-index.kept items i k c.loop-index-test.true c.index-items-index.is c.loop-index.invariant.so_far in
     subst (λ z. ItemsFit n (comps_of (map comp_of z))) (sym (to_the_end items (i + 1))) (coming_fit u n c.args.comps.now c.loop-index.kept (map comp_of (drop (i + 1) items)) (comp_of k) so_far c.requires.levels)
 
 pub is_covered-requires-clause-operators : goal.is_covered-requires-clause-operators
@@ -52,7 +55,7 @@ is_covered-requires-clause-operators g c =
     let items = c.as_slice-items.result.now in
     let i = c.loop-index.index in
     let k = c.index-items-index.result in
-    let so_far = next_of u n c.args.comps.now c.loop-index.kept items i k c.loop-index-test.true c.index-items-index.is c.loop-index.invariant in
+    let so_far = next_of u n c.args.comps.now c.loop-index.kept items i k c.loop-index-test.true c.index-items-index.is c.loop-index.invariant.so_far in
     items_admit_each g.T.Structure.ordered c.args.comps.now (comp_of k) c.requires.operators (next_is_there u n c.args.comps.now c.loop-index.kept (map comp_of (drop (i + 1) items)) (comp_of k) so_far)
 
 pub is_covered-requires-clause-kept_operators : goal.is_covered-requires-clause-kept_operators
@@ -62,7 +65,7 @@ is_covered-requires-clause-kept_operators g c =
     let items = c.as_slice-items.result.now in
     let i = c.loop-index.index in
     let k = c.index-items-index.result in
-    let so_far = next_of u n c.args.comps.now c.loop-index.kept items i k c.loop-index-test.true c.index-items-index.is c.loop-index.invariant in
+    let so_far = next_of u n c.args.comps.now c.loop-index.kept items i k c.loop-index-test.true c.index-items-index.is c.loop-index.invariant.so_far in
     kept_admit u n c.args.comps.now c.loop-index.kept (map comp_of (drop (i + 1) items)) (comp_of k) so_far g.T.Structure.ordered c.requires.operators
 
 pub is_covered-requires-clause-coming_operators : goal.is_covered-requires-clause-coming_operators
@@ -72,7 +75,7 @@ is_covered-requires-clause-coming_operators g c =
     let items = c.as_slice-items.result.now in
     let i = c.loop-index.index in
     let k = c.index-items-index.result in
-    let so_far = next_of u n c.args.comps.now c.loop-index.kept items i k c.loop-index-test.true c.index-items-index.is c.loop-index.invariant in
+    let so_far = next_of u n c.args.comps.now c.loop-index.kept items i k c.loop-index-test.true c.index-items-index.is c.loop-index.invariant.so_far in
     subst (λ z. AdmitsItems g.T.Structure.ordered (comps_of (map comp_of z))) (sym (to_the_end items (i + 1))) (coming_admit u n c.args.comps.now c.loop-index.kept (map comp_of (drop (i + 1) items)) (comp_of k) so_far g.T.Structure.ordered c.requires.operators)
 
 pub loop-index-preserved : goal.loop-index-preserved
@@ -85,13 +88,17 @@ loop-index-preserved g c =
     let i = c.loop-index.index in
     let k = c.index-items-index.result in
     let coming : List CompD = map comp_of (drop (i + 1) items) in
-    let so_far = next_of u n whole kept items i k c.loop-index-test.true c.index-items-index.is c.loop-index.invariant in
-    elim c.if-not-branch.branch [
-      | then-not-branch+in_ok-copy+in_ok-push w ↦
-          let pushed : c.if-not-branch.kept ≡ kept ++ comp_of k ∷ [] = w.kept-is ∙ (w.in_ok-push.ensures.ok ∙ ap (λ z. kept ++ comp_of z ∷ []) w.in_ok-copy.ensures) in
-          let own = subst (λ z. HasOwn u n z (comp_of k)) (ap (λ z. c.loop-index.kept ++ map comp_of z) (to_the_end items (i + 1))) (c.in_ok-is_covered.ensures.own w.if-not-branch.true) in
-          subst (λ z. UncoveredSoFar u n whole z coming) (sym pushed) (next_kept u n whole kept coming (comp_of k) so_far own)
-      | else-not-branch w ↦
-          let covered = subst (λ z. IsCovered u n z (comp_of k)) (ap (λ z. c.loop-index.kept ++ map comp_of z) (to_the_end items (i + 1))) (c.in_ok-is_covered.ensures.covered w.if-not-branch.false) in
-          subst (λ z. UncoveredSoFar u n whole z coming) (sym w.kept-is) (next_dropped u n whole kept coming (comp_of k) so_far covered)
-    ]
+    let so_far = next_of u n whole kept items i k c.loop-index-test.true c.index-items-index.is c.loop-index.invariant.so_far in
+    record {
+      so_far =
+          elim c.if-not-branch.branch [
+            | then-not-branch+in_ok-copy+in_ok-push w ↦
+                let pushed : c.if-not-branch.kept ≡ kept ++ comp_of k ∷ [] = w.kept-is ∙ (w.in_ok-push.ensures.ok ∙ ap (λ z. kept ++ comp_of z ∷ []) w.in_ok-copy.ensures) in
+                let own = subst (λ z. HasOwn u n z (comp_of k)) (ap (λ z. c.loop-index.kept ++ map comp_of z) (to_the_end items (i + 1))) (c.in_ok-is_covered.ensures.own w.if-not-branch.true) in
+                subst (λ z. UncoveredSoFar u n whole z coming) (sym pushed) (next_kept u n whole kept coming (comp_of k) so_far own)
+            | else-not-branch w ↦
+                let covered = subst (λ z. IsCovered u n z (comp_of k)) (ap (λ z. c.loop-index.kept ++ map comp_of z) (to_the_end items (i + 1))) (c.in_ok-is_covered.ensures.covered w.if-not-branch.false) in
+                subst (λ z. UncoveredSoFar u n whole z coming) (sym w.kept-is) (next_dropped u n whole kept coming (comp_of k) so_far covered)
+          ];
+      asked = g.met.D.Answers.reaches_then c.args.decider.now c.loop-index.decider c.is_covered.new.decider c.loop-index.invariant.asked c.is_covered.ensures.asked;
+    }

@@ -4,5 +4,7 @@ use Rattle.lois_simplify.proofs.Pass.{UncoveredSoFar}
 use Rattle.lois_simplify.proofs.covering.uncovered.Given as goal
 
 abbrev pub invariant-loop-index : goal.invariant-loop-index
-invariant-loop-index g l =
-    UncoveredSoFar l.under l.size l.comps l.kept (map comp_of (drop l.index l.items))
+invariant-loop-index g l = record {
+  so_far : UncoveredSoFar l.under l.size l.comps l.kept (map comp_of (drop l.index l.items));
+  asked : g.D.Answers.reaches l.fn.decider l.decider;
+}

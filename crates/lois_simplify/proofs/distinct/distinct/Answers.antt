@@ -2,7 +2,8 @@ use Rattle.std.proofs.Common.{◌≡◌, [], ◌∷◌, ◌++◌, ◌+◌, take,
 use Rattle.std.specs.List.{Contains}
 use Rattle.lois_base.specs.Data.{CompD}
 use Rattle.lois_base.specs.Tree.{comp_of}
-use Rattle.lois_simplify.proofs.Seen.{HasSeen, seen_again, seen_new, one_more, contains_item}
+use Rattle.lois_base.proofs.Viewed.{one_more, contains_item}
+use Rattle.lois_simplify.proofs.Seen.{HasSeen, seen_again, seen_new}
 use Rattle.lois_simplify.proofs.distinct.distinct.Goals as goal
 use Rattle.lois_simplify.proofs.distinct.distinct.Goals.{then-not-is_written_in+in_ok-copy+in_ok-push, else-not-is_written_in}
 

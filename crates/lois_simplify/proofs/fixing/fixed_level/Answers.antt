@@ -4,7 +4,10 @@ use Rattle.lois_simplify.proofs.fixing.fixed_level.Goals as goal
 
 pub loop-level-preserved : goal.loop-level-preserved
 loop-level-preserved g c =
-    below_more (CanBeApart c.args.size c.args.here.now c.args.binder) c.loop-level.level c.loop-level.invariant (c.in_ok-is_fixed.ensures.free c.if-branch.false)
+    record {
+      apart = below_more (CanBeApart c.args.size c.args.here.now c.args.binder) c.loop-level.level c.loop-level.invariant.apart (c.in_ok-is_fixed.ensures.free c.if-branch.false);
+      asked = g.met.D.Answers.reaches_then c.args.decider.now c.loop-level.decider c.is_fixed.new.decider c.loop-level.invariant.asked c.is_fixed.ensures.asked;
+    }
 
 pub returns-clause-none : goal.returns-clause-none
-returns-clause-none g c = λ e a l. c.loop-level.invariant a (omega arith)
+returns-clause-none g c = λ e a l. c.loop-level.invariant.apart a (omega arith)

@@ -8,10 +8,10 @@ use Rattle.lois_base.proofs.Both.{holds_both}
 use Rattle.lois_base.proofs.Validity.{fits_longer}
 use Rattle.lois_deciders.specs.Asked.{Meets}
 use Rattle.lois_deciders.specs.Met.{AreMet}
+use Rattle.lois_deciders.proofs.Asking.{some_is, none_is, is_met}
 use Rattle.lois_simplify.specs.Fixed.{IsFixed}
 use Rattle.lois_simplify.specs.Kept.{set_of}
 use Rattle.lois_simplify.specs.Rounds.{only}
-use Rattle.lois_simplify.proofs.Asked.{some_is, none_is, small_sample_meets}
 use Rattle.lois_simplify.proofs.Kept.{kept_trans}
 use Rattle.lois_simplify.proofs.OneRound.{nothing_kept, binder_less, fixed_can_leave, prepared_fits, prepared_admits, prepared_kept}
 use Rattle.lois_simplify.proofs.rounds.open_round.Goals as goal
@@ -28,8 +28,8 @@ both-requires-clause-second g c =
     let whole = prepared_fits n (comp_of c.args.comp) k.binders k.guard h (tree k.item) c.in_ok-comp.ensures.kept c.in_ok-normalise.ensures.fits c.requires.levels in
     whole.1
 
-pub returns-in_default : goal.returns-in_default
-returns-in_default g c =
+pub returns-in_default-clause-opening : goal.returns-in_default-clause-opening
+returns-in_default-clause-opening g c =
     let u = c.args.under.now in
     let n = c.args.size in
     let k = c.in_ok-comp.comp in
@@ -59,8 +59,8 @@ fixed_binder-requires-clause-sample g c =
     let met = some_is (λ m. AreMet (n + k.binders) u h m.constraint m.sample) c.in_ok-met.field-0 c.in-Some.met c.in-Some.is c.in_ok-met.ensures.met in
     subst (Meets (n + k.binders) c.in-Some.met.constraint) (sym c.as_slice-sample.ensures) met.sample
 
-pub returns-in_default-2 : goal.returns-in_default-2
-returns-in_default-2 g c =
+pub returns-in_default-2-clause-opening : goal.returns-in_default-2-clause-opening
+returns-in_default-2-clause-opening g c =
     let u = c.args.under.now in
     let n = c.args.size in
     let k = c.in_ok-comp.comp in
@@ -73,7 +73,7 @@ returns-in_default-2 g c =
         operators = met.operators;
         here = met.truth;
         guard = c.in_ok-normalise.ensures.normalised;
-        met = small_sample_meets (n + k.binders) c.in-Some.met.constraint c.in-Some.met.sample met.sample;
+        met = is_met (n + k.binders) c.in-Some.met.constraint c.in-Some.met.sample met.sample;
         free = c.in_ok-fixed.ensures.none (none_is c.in_ok-fixed.field-0 c.in_default-2.is);
       },
     )
@@ -91,8 +91,8 @@ without_binder-requires-clause-operators g c =
     let k = c.in_ok-comp.comp in
     prepared_admits c.args.size (comp_of c.args.comp) k.binders k.guard c.in_ok-normalise.field-0 (tree k.item) c.in_ok-comp.ensures.kept g.T.Structure.ordered (c.in_ok-normalise.ensures.operators g.T.Structure.ordered) c.requires.operators
 
-pub returns : goal.returns
-returns g c =
+pub returns-clause-opening : goal.returns-clause-opening
+returns-clause-opening g c =
     let u = c.args.under.now in
     let n = c.args.size in
     let k = c.in_ok-comp.comp in
@@ -110,3 +110,7 @@ returns g c =
           (binder_less u n k.binders r.binders b a h r.guard (tree k.item) (tree r.item) e.binders e.item c.requires.under_levels range.0 range.1 e.guard e.guard_levels e.guard_operators whole (fixed_can_leave u n (n + k.binders) b a h c.in-Some.met.constraint (tree k.item) met.truth range.2 fixed)),
       omega (arith, e.binders, c.in_ok-comp.ensures.binders),
     )
+
+pub returns-clause-asked : goal.returns-clause-asked
+returns-clause-asked g c =
+    g.met.D.Answers.reaches_then c.args.decider.now c.both.new.self c.fixed_binder.new.decider c.both.ensures.asked c.fixed_binder.ensures.asked

@@ -5,46 +5,53 @@ use Rattle.std.proofs.lemmas.Result.{IfOk-weaker}
 use Rattle.lois_base.specs.Data.{TermD, CompD}
 use Rattle.lois_base.specs.Tree.{tree, comp_of}
 use Rattle.lois_base.specs.declared.values.Comp.{Comp}
+use Rattle.lois_deciders.proofs.Asking.{some_is}
 use Rattle.lois_relate.proofs.Parts.{is_part_of}
 use Rattle.lois_simplify.specs.Kept.{IsKept, set_of}
 use Rattle.lois_simplify.specs.Lean.{IsLeanComp}
 use Rattle.lois_simplify.specs.Rounds.{only, listed, IsRoundOf, IsOpeningOf, IsClosingOf}
-use Rattle.lois_simplify.proofs.Asked.{some_is, ok_both}
+use Rattle.lois_simplify.proofs.Asked.{ok_both}
 use Rattle.lois_simplify.proofs.Kept.{kept_refl, kept_trans}
 use Rattle.lois_simplify.proofs.Members.{items_fit_each, items_admit_each, comp_depth_le}
 use Rattle.lois_simplify.proofs.OneRound.{item_kept, round_closed}
 use Rattle.lois_simplify.proofs.Tuples.{IsSimplified, PartsSimplified, part_behind, tuple_kept, parts_normal, parts_guards}
 use Rattle.lois_simplify.proofs.LeanComps.{LeanSoFar, lean_found, lean_none, lean_kept, fewer_lean}
 use Rattle.lois_simplify.proofs.Under.{set_is_normal, set_has_normal_guards}
-use Rattle.lois_simplify.proofs.Seen.{one_more, contains_item, all_taken}
+use Rattle.lois_base.proofs.Viewed.{one_more, contains_item, all_taken}
 use Rattle.lois_simplify.proofs.simplifying.+simplifying.Goals as goal
 use Rattle.lois_simplify.proofs.simplifying.+simplifying.Goals.{lean_comps-in-Some+in_ok-push, lean_comps-in_default}
 
 pub lean_comp-rounds-init : goal.lean_comp-rounds-init
 lean_comp-rounds-init g t c =
     let whole : TermD = set_of (only (comp_of c.args.comp.now)) in
-    subst (λ z. IsKept c.args.under.now c.args.size whole (set_of (only (comp_of z)))) (sym c.in_ok-current.ensures) (kept_refl c.args.under.now c.args.size whole)
+    record {
+      kept = subst (λ z. IsKept c.args.under.now c.args.size whole (set_of (only (comp_of z)))) (sym c.in_ok-current.ensures) (kept_refl c.args.under.now c.args.size whole);
+      asked = g.met.D.Answers.reaches_itself c.args.decider.now;
+    }
 
 pub lean_comp-returns-in-Lean-clause-kept : goal.lean_comp-returns-in-Lean-clause-kept
 lean_comp-returns-in-Lean-clause-kept g t c =
     let u = c.args.under.now in
     let n = c.args.size in
-    let round = subst (IsRoundOf u n c.rounds.current) c.in-Lean.is c.in_ok-simple.ensures in
-    kept_trans u n (set_of (only (comp_of c.args.comp.now))) (set_of (only (comp_of c.rounds.current))) (set_of (only (comp_of c.in-Lean.simple))) c.rounds.invariant round.0
+    let round = subst (IsRoundOf u n c.rounds.current) c.in-Lean.is c.in_ok-simple.ensures.round in
+    kept_trans u n (set_of (only (comp_of c.args.comp.now))) (set_of (only (comp_of c.rounds.current))) (set_of (only (comp_of c.in-Lean.simple))) c.rounds.invariant.kept round.0
 
 pub lean_comp-rounds-preserved : goal.lean_comp-rounds-preserved
 lean_comp-rounds-preserved g t c =
     let u = c.args.under.now in
     let n = c.args.size in
-    let round = subst (IsRoundOf u n c.rounds.current) c.in-Shorter.is c.in_ok-simple.ensures in
-    kept_trans u n (set_of (only (comp_of c.args.comp.now))) (set_of (only (comp_of c.rounds.current))) (set_of (only (comp_of c.in-Shorter.shorter))) c.rounds.invariant round.0
+    let round = subst (IsRoundOf u n c.rounds.current) c.in-Shorter.is c.in_ok-simple.ensures.round in
+    record {
+      kept = kept_trans u n (set_of (only (comp_of c.args.comp.now))) (set_of (only (comp_of c.rounds.current))) (set_of (only (comp_of c.in-Shorter.shorter))) c.rounds.invariant.kept round.0;
+      asked = g.met.D.Answers.reaches_then c.args.decider.now c.rounds.decider c.one_round.new.decider c.rounds.invariant.asked c.one_round.ensures.asked;
+    }
 
 pub lean_comps-lean_comp-requires : goal.lean_comps-lean_comp-requires
 lean_comps-lean_comp-requires g t c κs within =
     let comps = c.args.comps.now in
     let k : CompD = comp_of c.comp-item.result in
     let there : Contains comps k = c.in_ok-several.ensures.only k (contains_item comp_of c.as_slice-comp-items.result.now c.in_ok-several.several c.loop-comp.comp-index c.comp-item.result c.as_slice-comp-items.ensures c.loop-comp-test.true c.comp-item.is) in
-    (omega (arith, comp_depth_le comps k there), (within.0, (within.1, (items_fit_each c.args.size comps k c.requires.levels there, (c.requires.under_levels, (items_admit_each g.T.Structure.ordered comps k c.requires.operators there, c.requires.under_operators))))))
+    (omega (arith, comp_depth_le comps k there), (within.0, (within.1, (c.requires.sound, (items_fit_each c.args.size comps k c.requires.levels there, (c.requires.under_levels, (items_admit_each g.T.Structure.ordered comps k c.requires.operators there, c.requires.under_operators)))))))
 
 pub lean_comps-loop-comp-preserved : goal.lean_comps-loop-comp-preserved
 lean_comps-loop-comp-preserved g t c =
@@ -54,16 +61,20 @@ lean_comps-loop-comp-preserved g t c =
     let i = c.loop-comp.comp-index in
     let k : CompD = comp_of c.comp-item.result in
     let done : List CompD = map comp_of (take i items) in
-    subst (λ z. LeanSoFar u n z c.match-branch-3.found) (sym (one_more comp_of items i c.comp-item.result c.loop-comp-test.true c.comp-item.is))
-    (elim c.match-branch-3.branch [
-      | lean_comps-in-Some+in_ok-push w ↦
-          let kept = subst (λ o. IsKept u n (set_of (only k)) (set_of (listed o))) w.in-Some.is c.in_ok-simple.ensures.kept in
-          let lean = some_is (λ j. IsLeanComp u n (comp_of j)) c.in_ok-simple.field-0 w.in-Some.simple w.in-Some.is c.in_ok-simple.ensures.lean in
-          lean_found u n done c.loop-comp.found w.push.new.self c.match-branch-3.found k (comp_of w.in-Some.simple) w.in_ok-push.ensures.ok w.found-is c.loop-comp.invariant kept lean
-      | lean_comps-in_default w ↦
-          let kept = subst (λ o. IsKept u n (set_of (only k)) (set_of (listed o))) w.in_default.is c.in_ok-simple.ensures.kept in
-          subst (LeanSoFar u n (done ++ k ∷ [])) (sym w.found-is) (lean_none u n done c.loop-comp.found k c.loop-comp.invariant kept)
-    ])
+    record {
+      lean =
+          subst (λ z. LeanSoFar u n z c.match-branch-3.found) (sym (one_more comp_of items i c.comp-item.result c.loop-comp-test.true c.comp-item.is))
+          (elim c.match-branch-3.branch [
+            | lean_comps-in-Some+in_ok-push w ↦
+                let kept = subst (λ o. IsKept u n (set_of (only k)) (set_of (listed o))) w.in-Some.is c.in_ok-simple.ensures.kept in
+                let lean = some_is (λ j. IsLeanComp u n (comp_of j)) c.in_ok-simple.field-0 w.in-Some.simple w.in-Some.is c.in_ok-simple.ensures.lean in
+                lean_found u n done c.loop-comp.found w.push.new.self c.match-branch-3.found k (comp_of w.in-Some.simple) w.in_ok-push.ensures.ok w.found-is c.loop-comp.invariant.lean kept lean
+            | lean_comps-in_default w ↦
+                let kept = subst (λ o. IsKept u n (set_of (only k)) (set_of (listed o))) w.in_default.is c.in_ok-simple.ensures.kept in
+                subst (LeanSoFar u n (done ++ k ∷ [])) (sym w.found-is) (lean_none u n done c.loop-comp.found k c.loop-comp.invariant.lean kept)
+          ]);
+      asked = g.met.D.Answers.reaches_then c.args.decider.now c.loop-comp.decider c.lean_comp.new.decider c.loop-comp.invariant.asked c.lean_comp.ensures.asked;
+    }
 
 pub lean_comps-returns-clause-kept : goal.lean_comps-returns-clause-kept
 lean_comps-returns-clause-kept g t c =
@@ -71,23 +82,23 @@ lean_comps-returns-clause-kept g t c =
     let n = c.args.size in
     let several = c.in_ok-several.several in
     let found = c.loop-comp.found in
-    let so_far = subst (λ z. LeanSoFar u n z found) (all_taken comp_of c.as_slice-comp-items.result.now several c.loop-comp.comp-index c.as_slice-comp-items.ensures c.loop-comp-test.false) c.loop-comp.invariant in
+    let so_far = subst (λ z. LeanSoFar u n z found) (all_taken comp_of c.as_slice-comp-items.result.now several c.loop-comp.comp-index c.as_slice-comp-items.ensures c.loop-comp-test.false) c.loop-comp.invariant.lean in
     ok_both (λ r. (k : CompD) → Contains found k → Contains r k) (λ r. (k : CompD) → Contains r k → Contains found k) (λ r. IsKept u n (set_of c.args.comps.now) (set_of r)) c.distinct-2.result
     (λ r all only. lean_kept u n c.args.comps.now several found r c.in_ok-several.ensures.all c.in_ok-several.ensures.only so_far all only) c.distinct-2.ensures.all c.distinct-2.ensures.only
 
 pub lean_comps-returns-clause-lean : goal.lean_comps-returns-clause-lean
 lean_comps-returns-clause-lean g t c =
-    IfOk-weaker c.distinct-2.result (λ r. (k : CompD) → Contains r k → Contains c.loop-comp.found k) (All (IsLeanComp c.args.under.now c.args.size)) (λ r only. fewer_lean c.args.under.now c.args.size c.loop-comp.found r c.loop-comp.invariant.lean only) c.distinct-2.ensures.only
+    IfOk-weaker c.distinct-2.result (λ r. (k : CompD) → Contains r k → Contains c.loop-comp.found k) (All (IsLeanComp c.args.under.now c.args.size)) (λ r only. fewer_lean c.args.under.now c.args.size c.loop-comp.found r c.loop-comp.invariant.lean.lean only) c.distinct-2.ensures.only
 
-pub one_round-returns : goal.one_round-returns
-one_round-returns g t c =
+pub one_round-returns-clause-round : goal.one_round-returns-clause-round
+one_round-returns-clause-round g t c =
     let u = c.args.under.now in
     let n = c.args.size in
     let k = c.args.comp in
     let r = c.in-Open.open in
     let item = c.in_ok-simplified.field-0 in
     let now : Comp = record { binders = r.comp.binders; guard = r.comp.guard; item = item } in
-    let opened = subst (IsOpeningOf u n k) c.in-Open.is c.in_ok-round.ensures in
+    let opened = subst (IsOpeningOf u n k) c.in-Open.is c.in_ok-round.ensures.opening in
     let kept = kept_trans u n (set_of (only (comp_of k))) (set_of (only (comp_of r.comp))) (set_of (only (comp_of now))) opened.0
     (item_kept u n r.comp.binders r.comp.guard r.here (tree r.comp.item) (tree item) c.requires.under_levels (opened.2).here c.in_ok-simplified.ensures.kept) in
     IfOk-weaker c.close_round.result (IsClosingOf n now) (IsRoundOf u n k)
@@ -120,7 +131,7 @@ simplified-returns-in_ok-uncovered-in-Coll-clause-guards g t c =
 pub simplified_parts-simplified-requires : goal.simplified_parts-simplified-requires
 simplified_parts-simplified-requires g t c κs within =
     let p = is_part_of c.as_slice-part-items.result.now c.args.parts.now c.loop-part.part-index c.part-item.result c.as_slice-part-items.ensures c.loop-part-test.true c.part-item.is in
-    (omega (arith, p.depth), (within.0, (within.1, (p.fits c.args.size c.requires.levels, (c.requires.under_levels, (p.admits g.T.Structure.ordered c.requires.operators, c.requires.under_operators))))))
+    (omega (arith, p.depth), (within.0, (within.1, (c.requires.sound, (p.fits c.args.size c.requires.levels, (c.requires.under_levels, (p.admits g.T.Structure.ordered c.requires.operators, c.requires.under_operators)))))))
 
 pub simplified_parts-loop-part-preserved : goal.simplified_parts-loop-part-preserved
 simplified_parts-loop-part-preserved g t c =
@@ -133,15 +144,19 @@ simplified_parts-loop-part-preserved g t c =
     let done : List TermD = map tree (take i items) in
     let pushed : c.push.new.self ≡ c.loop-part.simple ++ tree s ∷ [] = c.in_ok-push.ensures.ok in
     let one : IsSimplified u n (tree p) (tree s) = record { kept = c.in_ok-simplified.ensures.kept; normal = c.in_ok-simplified.ensures.normal; guards = c.in_ok-simplified.ensures.guards } in
-    subst (λ z. PartsSimplified u n z c.push.new.self) (sym (one_more tree items i p c.loop-part-test.true c.part-item.is))
-    (subst (PartsSimplified u n (done ++ tree p ∷ [])) (sym pushed) (part_behind u n done c.loop-part.simple (tree p) (tree s) c.loop-part.invariant one))
+    record {
+      simplified =
+          subst (λ z. PartsSimplified u n z c.push.new.self) (sym (one_more tree items i p c.loop-part-test.true c.part-item.is))
+          (subst (PartsSimplified u n (done ++ tree p ∷ [])) (sym pushed) (part_behind u n done c.loop-part.simple (tree p) (tree s) c.loop-part.invariant.simplified one));
+      asked = g.met.D.Answers.reaches_then c.args.decider.now c.loop-part.decider c.simplified.new.decider c.loop-part.invariant.asked c.simplified.ensures.asked;
+    }
 
 pub simplified_parts-returns-clause-kept : goal.simplified_parts-returns-clause-kept
 simplified_parts-returns-clause-kept g t c =
     let u = c.args.under.now in
     let n = c.args.size in
     let parts = c.args.parts.now in
-    let all = subst (λ z. PartsSimplified u n z c.loop-part.simple) (all_taken tree c.as_slice-part-items.result.now parts c.loop-part.part-index c.as_slice-part-items.ensures c.loop-part-test.false) c.loop-part.invariant in
+    let all = subst (λ z. PartsSimplified u n z c.loop-part.simple) (all_taken tree c.as_slice-part-items.result.now parts c.loop-part.part-index c.as_slice-part-items.ensures c.loop-part-test.false) c.loop-part.invariant.simplified in
     tuple_kept u n parts c.loop-part.simple all
 
 pub simplified_parts-returns-clause-normal : goal.simplified_parts-returns-clause-normal
@@ -149,7 +164,7 @@ simplified_parts-returns-clause-normal g t c =
     let u = c.args.under.now in
     let n = c.args.size in
     let parts = c.args.parts.now in
-    let all = subst (λ z. PartsSimplified u n z c.loop-part.simple) (all_taken tree c.as_slice-part-items.result.now parts c.loop-part.part-index c.as_slice-part-items.ensures c.loop-part-test.false) c.loop-part.invariant in
+    let all = subst (λ z. PartsSimplified u n z c.loop-part.simple) (all_taken tree c.as_slice-part-items.result.now parts c.loop-part.part-index c.as_slice-part-items.ensures c.loop-part-test.false) c.loop-part.invariant.simplified in
     parts_normal u n parts c.loop-part.simple all
 
 pub simplified_parts-returns-clause-guards : goal.simplified_parts-returns-clause-guards
@@ -157,5 +172,5 @@ simplified_parts-returns-clause-guards g t c =
     let u = c.args.under.now in
     let n = c.args.size in
     let parts = c.args.parts.now in
-    let all = subst (λ z. PartsSimplified u n z c.loop-part.simple) (all_taken tree c.as_slice-part-items.result.now parts c.loop-part.part-index c.as_slice-part-items.ensures c.loop-part-test.false) c.loop-part.invariant in
+    let all = subst (λ z. PartsSimplified u n z c.loop-part.simple) (all_taken tree c.as_slice-part-items.result.now parts c.loop-part.part-index c.as_slice-part-items.ensures c.loop-part-test.false) c.loop-part.invariant.simplified in
     parts_guards u n parts c.loop-part.simple all

@@ -25,15 +25,24 @@ decreases-one_round g l = 6 * depth (tree l.comp.item) + 1
 
 abbrev pub invariant-simplified_parts-loop-part : goal.invariant-simplified_parts-loop-part
 invariant-simplified_parts-loop-part g l =
-    PartsSimplified l.under l.size (map tree (take l.part-index l.part-items)) l.simple
+    record {
+      simplified : PartsSimplified l.under l.size (map tree (take l.part-index l.part-items)) l.simple;
+      asked : g.D.Answers.reaches l.fn.decider l.decider;
+    }
 
 abbrev pub invariant-lean_comps-loop-comp : goal.invariant-lean_comps-loop-comp
 invariant-lean_comps-loop-comp g l =
-    LeanSoFar l.under l.size (map comp_of (take l.comp-index l.comp-items)) l.found
+    record {
+      lean : LeanSoFar l.under l.size (map comp_of (take l.comp-index l.comp-items)) l.found;
+      asked : g.D.Answers.reaches l.fn.decider l.decider;
+    }
 
 abbrev pub invariant-lean_comp-rounds : goal.invariant-lean_comp-rounds
 invariant-lean_comp-rounds g l =
-    IsKept l.under l.size (set_of (only (comp_of l.comp))) (set_of (only (comp_of l.current)))
+    record {
+      kept : IsKept l.under l.size (set_of (only (comp_of l.comp))) (set_of (only (comp_of l.current)));
+      asked : g.D.Answers.reaches l.fn.decider l.decider;
+    }
 
 abbrev pub decreases-lean_comp-rounds : goal.decreases-lean_comp-rounds
 decreases-lean_comp-rounds g l = l.current.binders
