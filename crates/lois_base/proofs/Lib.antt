@@ -20,3 +20,4 @@ pub mod Validity
 pub mod TheLaws
 pub mod Truths
 pub mod Twins
+pub mod Viewed

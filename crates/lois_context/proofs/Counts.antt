@@ -8,7 +8,7 @@ use Rattle.lois_base.specs.Atom.{Atom}
 use Rattle.lois_base.specs.Truth.{holds}
 use Rattle.lois_context.specs.Choices.{IsAdmitted}
 use Rattle.lois_context.specs.declared.contexts.Context.{Context}
-use Rattle.lois_context.proofs.Seen.{first_or_later}
+use Rattle.lois_context.proofs.Later.{first_or_later}
 use Rattle.lois_context.specs.Counted.{admits, times, AdmitAlike}
 
 both_true : (a b : Bool) → a ≡ true → IsTrue b → (a && b) ≡ true

@@ -17,7 +17,7 @@ use Rattle.lois_context.specs.Slots.{IsNew, SlotD, slot_name, store_at, lines_at
 use Rattle.lois_context.specs.declared.contexts.Context.{Context}
 use Rattle.lois_context.proofs.Carried.{lines_same, store_same, carried_new, held_last, carried_admits, carried_widths, lines_admit, lines_widths}
 use Rattle.lois_context.proofs.Longer.{holds_at_start}
-use Rattle.lois_context.proofs.Seen.{first_or_later}
+use Rattle.lois_context.proofs.Later.{first_or_later}
 use Rattle.lois_context.proofs.Sides.{and_true}
 
 pub listed_of : (ks : List CompD) → items_listed (comps_of ks) ≡ ks

@@ -26,7 +26,7 @@ use Rattle.lois_context.specs.Slots.{IsNew, SlotD, slot_name, count_of_items, co
 use Rattle.lois_context.specs.declared.contexts.Context.{Context}
 use Rattle.lois_context.proofs.Carried.{raised_same, count_of}
 use Rattle.lois_context.proofs.Entered.{listed_of, all_entries, goes_on}
-use Rattle.lois_context.proofs.Seen.{first_or_later}
+use Rattle.lois_context.proofs.Later.{first_or_later}
 use Rattle.lois_context.proofs.Longer.{holds_at_start}
 use Rattle.lois_context.proofs.Sides.{and_true}
 

@@ -1,4 +1,4 @@
-pub mod Seen
+pub mod Later
 pub mod Sides
 pub mod Longer
 pub mod Carried

@@ -1,30 +1,20 @@
 -- What a look-up in the store finds.
 use Rattle.std.proofs.Common.{◌≡◌, ℕ, Bool, true, false, List, [], ◌∷◌, ◌++◌, map, Option, Some, None, refl, sym, ap, ◌∙◌, cond, if◌then◌else◌, Bor, bytes_eq}
 use Rattle.std.proofs.lemmas.List.{map-append}
-use Rattle.std.specs.Cmp.Lexicographic.{nat_list_eq_equiv}
 use Rattle.std.specs.Map.{lookup}
 use Rattle.std.specs.Option.{option_map, option_copied}
 use Rattle.lois_base.specs.Data.{TermD}
 use Rattle.lois_base.specs.Tree.{tree}
 use Rattle.lois_base.specs.declared.values.Term.{Term}
 use Rattle.lois_run.specs.Values.{HeldD, held}
+use Rattle.lois_script.proofs.Lookup.{has, turned, looked_step}
 
 abbrev pub entry : Bor (List ℕ) × Term → HeldD
 entry e = record { name = e.0.now; term = tree e.1 }
 
-abbrev pub has : List ℕ → Bor (List ℕ) → Bool
-has x k = bytes_eq x k.now
-
-turned : (x y : List ℕ) → bytes_eq x y ≡ bytes_eq y x
-turned x y = nat_list_eq_equiv.symm x y
-
-step : (t : Term) (b : Bool) (o : Option TermD) (p : Option Term) → o ≡ option_map tree p → (if b then (Some (tree t)) else o) ≡ option_map tree (cond b (Some t) p)
-step t true o p e = refl
-step t false o p e = e
-
 pub held_looked : (x : List ℕ) (es : List (Bor (List ℕ) × Term)) → held x (map entry es) ≡ option_map tree (lookup (has x) es)
 held_looked x [] = refl
-held_looked x (e ∷ es) = rw (turned e.0.now x) (step e.1 (bytes_eq x e.0.now) _ (lookup (has x) es) (held_looked x es))
+held_looked x (e ∷ es) = rw (turned e.0.now x) (looked_step tree e.1 (bytes_eq x e.0.now) _ (lookup (has x) es) (held_looked x es))
 
 pub found : (x q : List ℕ) (es : List (Bor (List ℕ) × Term)) (o : Option Term) → o ≡ lookup (has q) es → q ≡ x → option_map tree o ≡ held x (map entry es)
 found x q es o e same = ap (option_map tree) (e ∙ ap (λ (y : List ℕ). lookup (has y) es) same) ∙ sym (held_looked x es)

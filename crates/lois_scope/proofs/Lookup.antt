@@ -1,31 +1,21 @@
 -- What a look-up among the names in scope finds.
 use Rattle.std.proofs.Common.{◌≡◌, ℕ, Bool, true, false, List, [], ◌∷◌, ◌++◌, map, Option, Some, None, is_some, refl, sym, ap, ◌∙◌, cond, if◌then◌else◌, Bor, bytes_eq, ◌||◌}
 use Rattle.std.proofs.lemmas.List.{map-append}
-use Rattle.std.specs.Cmp.Lexicographic.{nat_list_eq_equiv}
 use Rattle.std.specs.List.{list_any}
 use Rattle.std.specs.Map.{lookup}
 use Rattle.std.specs.Option.{option_map}
 use Rattle.lois_script.specs.Scope.{role_of}
+use Rattle.lois_script.proofs.Lookup.{has, turned, looked_step}
 use Rattle.lois_scope.specs.InScope.{MadeD, role_inside, roles_inside, is_named, with_name}
 use Rattle.lois_scope.specs.declared.names.Made.{Made}
 
 abbrev pub entry : Bor (List ℕ) × Made → MadeD
 entry e = record { name = e.0.now; made = e.1 }
 
-abbrev pub has : List ℕ → Bor (List ℕ) → Bool
-has x k = bytes_eq x k.now
-
-turned : (x y : List ℕ) → bytes_eq x y ≡ bytes_eq y x
-turned x y = nat_list_eq_equiv.symm x y
-
-role_step : {X Y : Type 0} (f : X → Y) (v : X) (b : Bool) (o : Option Y) (p : Option X) → o ≡ option_map f p → (if b then (Some (f v)) else o) ≡ option_map f (cond b (Some v) p)
-role_step f v true o p e = refl
-role_step f v false o p e = e
-
 role_found : (x : List ℕ) (loops : ℕ) (es : List (Bor (List ℕ) × Made)) → role_of x (roles_inside loops (map entry es)) ≡ option_map (role_inside loops) (lookup (has x) es)
 role_found x loops [] = refl
 role_found x loops (e ∷ es) =
-    rw (turned e.0.now x) (role_step (role_inside loops) e.1 (bytes_eq x e.0.now) _ (lookup (has x) es) (role_found x loops es))
+    rw (turned e.0.now x) (looked_step (role_inside loops) e.1 (bytes_eq x e.0.now) _ (lookup (has x) es) (role_found x loops es))
 
 named_step : {X : Type 0} (v : X) (b c : Bool) (p : Option X) → c ≡ is_some p → (b || c) ≡ is_some (cond b (Some v) p)
 named_step v true c p e = refl

@@ -2,3 +2,4 @@ pub mod Views
 pub mod Numbers
 pub mod Printable
 pub mod Names
+pub mod Lookup

@@ -12,11 +12,9 @@ use crate::grammar::Grammar;
 use crate::halt::Halt;
 use crate::lexemes::{ExprForm, Lead, Terminal, has_two_operands};
 use crate::rest::Rest;
+use lois_base::limits::GREATEST_WIDTH;
 use lois_script::{Binding, Bindings, Cond, Expr, Exprs, Operation, Pos};
 use std::alloc::Global;
-
-/// How many parts a tuple may have.
-const MOST_PARTS: usize = 8;
 
 impl<
     'a,
@@ -75,7 +73,7 @@ impl<
         parts.push(first)?;
         let mut rest = at;
         while rest.begins(Terminal::Comma) {
-            if parts.len() == MOST_PARTS {
+            if parts.len() == GREATEST_WIDTH {
                 return Err(Halt::WideTuple(rest.len()));
             }
             let (part, behind) = self.inner_expression(rest.behind())?;

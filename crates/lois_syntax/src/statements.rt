@@ -12,11 +12,9 @@ use crate::halt::Halt;
 use crate::lexemes::{Keyword, Lead, Lexeme, StmtForm, Terminal};
 use crate::nesting::{binding, condition, expression};
 use crate::rest::Rest;
+use lois_base::limits::MOST_TURNS;
 use lois_script::{Cond, Stmt, Stmts};
 use std::alloc::Global;
-
-/// How many turns a loop may have.
-const MOST_TURNS: u32 = 1_000_000;
 
 /// Reads statements where `room` more brackets may be open. `block` reads the statements of a block, with its `}`.
 #[derive(Clone, Copy)]

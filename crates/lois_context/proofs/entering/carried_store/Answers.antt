@@ -3,7 +3,7 @@ use Rattle.std.proofs.lemmas.List.Elements.{All-push}
 use Rattle.lois_context.specs.Entered.{carried}
 use Rattle.lois_context.specs.Kept.{IsSlot, AreSlots}
 use Rattle.lois_context.specs.SlotView.{slot_of}
-use Rattle.lois_context.proofs.Seen.{item_has, mapped_more}
+use Rattle.lois_base.proofs.Viewed.{item_has, mapped_more}
 use Rattle.lois_context.proofs.entering.carried_store.Goals as goal
 
 pub carried_slot-requires-clause-fits : goal.carried_slot-requires-clause-fits

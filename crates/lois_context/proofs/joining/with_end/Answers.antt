@@ -7,7 +7,7 @@ use Rattle.lois_context.specs.Joined.{AreJoinedSlots}
 use Rattle.lois_context.specs.Kept.{IsSlot, AreSlots}
 use Rattle.lois_context.specs.SlotView.{slot_of}
 use Rattle.lois_context.proofs.Joined.{joined_count, slots_more}
-use Rattle.lois_context.proofs.Seen.{item_has, item_at}
+use Rattle.lois_base.proofs.Viewed.{item_has, item_at}
 use Rattle.lois_context.proofs.joining.with_end.Goals as goal
 
 pub joined_slot-requires-clause-slot : goal.joined_slot-requires-clause-slot

@@ -3,7 +3,7 @@ use Rattle.lois_base.specs.Tree.{comp_of}
 use Rattle.lois_relate.proofs.Parts.{is_comp_of}
 use Rattle.lois_context.specs.Joined.{IsWithMoved}
 use Rattle.lois_context.proofs.Joined.{with_none, with_more}
-use Rattle.lois_context.proofs.Seen.{one_more}
+use Rattle.lois_base.proofs.Viewed.{one_more}
 use Rattle.lois_context.proofs.joining.with_moved.Goals as goal
 
 pub loop-comp-init : goal.loop-comp-init

@@ -6,7 +6,7 @@ use Rattle.std.specs.Bool.{IsFalse}
 use Rattle.lois_context.specs.Slots.{IsNew}
 use Rattle.lois_context.specs.SlotView.{slot_of}
 use Rattle.lois_context.specs.declared.slots.Slot.{Slot}
-use Rattle.lois_context.proofs.Seen.{one_more, item_has, item_there}
+use Rattle.lois_base.proofs.Viewed.{one_more, item_has, item_there}
 use Rattle.lois_context.proofs.slots.Store.place_of.Goals as goal
 
 pub returns-then-eq-clause-found : goal.returns-then-eq-clause-found

@@ -2,7 +2,8 @@ use Rattle.std.proofs.Common.{sym, ◌∙◌, ap, nat_eq, List, ℕ, Bor, Bool}
 use Rattle.std.specs.Cmp.Lexicographic.{pointwise}
 use Rattle.std.specs.Map.{lookup}
 use Rattle.indexmap.proofs.CallerLemmas.{insert_entry-new}
-use Rattle.lois_scope.proofs.Lookup.{has, present, absent, none_there}
+use Rattle.lois_script.proofs.Lookup.{has}
+use Rattle.lois_scope.proofs.Lookup.{present, absent, none_there}
 use Rattle.lois_scope.proofs.names.Names.declare.Goals as goal
 
 abbrev same_key : Bor (List ℕ) → Bor (List ℕ) → Bool

@@ -16,19 +16,19 @@ loop-parts-init g c = record {
 pub returns-in_err-part-clause-read : goal.returns-in_err-part-clause-read
 returns-in_err-part-clause-read g c =
     let p = err_from_is_err_and c.from_residual-in_err-part.result c.from_residual-in_err-part.ensures.1 in
-    rw (p.1, p.2) (parts_halt (inner_expr c.args.self.now.room) c.in_err-part.field-0.0 (exprs_list c.loop-parts.parts) (ahead c.loop-parts.rest) (parts (inner_expr c.args.self.now.room) (tree c.args.first) (ahead c.args.at)) (sym c.begins.ensures ∙ c.loop-parts-test.true) (λ full. c.if-len-eq-MOST_PARTS.false (c.len.ensures.counted ∙ full))
+    rw (p.1, p.2) (parts_halt (inner_expr c.args.self.now.room) c.in_err-part.field-0.0 (exprs_list c.loop-parts.parts) (ahead c.loop-parts.rest) (parts (inner_expr c.args.self.now.room) (tree c.args.first) (ahead c.args.at)) (sym c.begins.ensures ∙ c.loop-parts-test.true) (λ full. c.if-len-eq-GREATEST_WIDTH.false (c.len.ensures.counted ∙ full))
     (subst (λ s. Stops c.in_err-part.field-0.0 ((inner_expr c.args.self.now.room) s)) c.behind.ensures.rest c.in_err-part.ensures.read) c.loop-parts.invariant.read)
 
-pub returns-then-len-eq-MOST_PARTS-clause-read : goal.returns-then-len-eq-MOST_PARTS-clause-read
-returns-then-len-eq-MOST_PARTS-clause-read g c =
-    rw c.len-then-len-eq-MOST_PARTS.ensures (parts_full (inner_expr c.args.self.now.room) (exprs_list c.loop-parts.parts) (ahead c.loop-parts.rest) (parts (inner_expr c.args.self.now.room) (tree c.args.first) (ahead c.args.at)) (sym c.begins.ensures ∙ c.loop-parts-test.true) (sym c.len.ensures.counted ∙ c.if-len-eq-MOST_PARTS.true) c.loop-parts.invariant.read)
+pub returns-then-len-eq-GREATEST_WIDTH-clause-read : goal.returns-then-len-eq-GREATEST_WIDTH-clause-read
+returns-then-len-eq-GREATEST_WIDTH-clause-read g c =
+    rw c.len-then-len-eq-GREATEST_WIDTH.ensures (parts_full (inner_expr c.args.self.now.room) (exprs_list c.loop-parts.parts) (ahead c.loop-parts.rest) (parts (inner_expr c.args.self.now.room) (tree c.args.first) (ahead c.args.at)) (sym c.begins.ensures ∙ c.loop-parts-test.true) (sym c.len.ensures.counted ∙ c.if-len-eq-GREATEST_WIDTH.true) c.loop-parts.invariant.read)
 
 pub loop-parts-smaller : goal.loop-parts-smaller
 loop-parts-smaller g c = omega (arith, c.in_ok-part.ensures.shorter, c.behind.ensures.longer)
 
 pub loop-parts-preserved : goal.loop-parts-preserved
 loop-parts-preserved g c = record {
-  read = rw c.in_ok-push-2.ensures.appended (parts_next (inner_expr c.args.self.now.room) (exprs_list c.loop-parts.parts) (ahead c.loop-parts.rest) (tree c.in_ok-part.part) (ahead c.in_ok-part.behind) (parts (inner_expr c.args.self.now.room) (tree c.args.first) (ahead c.args.at)) (sym c.begins.ensures ∙ c.loop-parts-test.true) (λ full. c.if-len-eq-MOST_PARTS.false (c.len.ensures.counted ∙ full))
+  read = rw c.in_ok-push-2.ensures.appended (parts_next (inner_expr c.args.self.now.room) (exprs_list c.loop-parts.parts) (ahead c.loop-parts.rest) (tree c.in_ok-part.part) (ahead c.in_ok-part.behind) (parts (inner_expr c.args.self.now.room) (tree c.args.first) (ahead c.args.at)) (sym c.begins.ensures ∙ c.loop-parts-test.true) (λ full. c.if-len-eq-GREATEST_WIDTH.false (c.len.ensures.counted ∙ full))
       (ap (inner_expr c.args.self.now.room) (sym c.behind.ensures.rest) ∙ c.in_ok-part.ensures.read) c.loop-parts.invariant.read);
   shorter = omega (arith, c.in_ok-part.ensures.shorter, c.behind.ensures.longer, c.loop-parts.invariant.shorter);
 }

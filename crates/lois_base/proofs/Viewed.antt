@@ -1,7 +1,6 @@
 -- Lists that are seen through a view, item by item.
-use Rattle.std.proofs.Common.{◌≡◌, ℕ, ◌+◌, ◌<◌, ◌⊎◌, inl, inr, List, [], ◌∷◌, ◌++◌, length, get_or, take, map, sym, ap, ◌∙◌, subst, arith}
-use Rattle.std.proofs.lemmas.List.{take_more, map-append, get_or-map, get_or_default, length-map}
-use Rattle.std.proofs.lemmas.List.Elements.{Contains-append_cases, Contains-push_cases}
+use Rattle.std.proofs.Common.{◌≡◌, ℕ, ◌+◌, ◌<◌, ◌≤◌, List, [], ◌∷◌, ◌++◌, length, get_or, take, map, sym, ap, ◌∙◌, subst, arith}
+use Rattle.std.proofs.lemmas.List.{take_all, take_more, map-append, get_or-map, get_or_default, length-map}
 use Rattle.std.specs.List.{All, Contains, HoldsAt}
 
 module _ {X Y : Type 0} (f : X → Y) where
@@ -9,6 +8,14 @@ module _ {X Y : Type 0} (f : X → Y) where
   pub one_more : (xs : List X) (i : ℕ) (x : X) → i < length xs → x ≡ get_or xs i x → map f (take (i + 1) xs) ≡ map f (take i xs) ++ f x ∷ []
   one_more xs i x l e =
       ap (map f) (take_more xs i x l) ∙ (map-append f (take i xs) (get_or xs i x ∷ []) ∙ ap (λ z. map f (take i xs) ++ f z ∷ []) (sym e))
+
+  -- all items have been seen
+  pub all_taken : (xs : List X) (vs : List Y) (i : ℕ) → map f xs ≡ vs → length xs ≤ i → map f (take i xs) ≡ vs
+  all_taken xs vs i m l = ap (map f) (take_all i xs l) ∙ m
+
+  pub contains_item : (xs : List X) (vs : List Y) (i : ℕ) (x : X) → map f xs ≡ vs → i < length xs → x ≡ get_or xs i x → Contains vs (f x)
+  contains_item xs vs i x m l e =
+      subst (λ us. Contains us (f x)) m (i, omega (arith, length-map xs f), get_or-map f xs i x (f x) l ∙ ap f (sym e))
 
   -- what is true of all items is true of one of them
   pub item_has : (P : Y → Type 0) (xs : List X) (vs : List Y) (i : ℕ) (x : X) → map f xs ≡ vs → i < length xs → x ≡ get_or xs i x → All P vs → P (f x)
@@ -30,10 +37,3 @@ module _ {X Y : Type 0} (f : X → Y) where
   pub mapped_more : {Z : Type 0} (g : Y → Z) (xs : List X) (i : ℕ) (x : X) (before after : List Z) (z : Z) → after ≡ before ++ z ∷ [] → z ≡ g (f x) → before ≡ map g (map f (take i xs)) → i < length xs → x ≡ get_or xs i x → after ≡ map g (map f (take (i + 1) xs))
   mapped_more g xs i x before after z pushed is so_far l e =
       pushed ∙ (ap (λ y. before ++ y ∷ []) is ∙ (ap (λ y. y ++ g (f x) ∷ []) so_far ∙ (sym (map-append g (map f (take i xs)) (f x ∷ [])) ∙ sym (ap (map g) (one_more xs i x l e)))))
-
--- the first item of a list, or a later one
-pub first_or_later : {X : Type 0} (x : X) (xs : List X) (y : X) → Contains (x ∷ xs) y → (x ≡ y) ⊎ Contains xs y
-first_or_later x xs y h = elim (Contains-append_cases (x ∷ []) xs y h) [
-  | inl p ↦ elim (Contains-push_cases [] x y p) [ inl q ↦ absurd (omega (arith, q.1)) | inr e ↦ inl e ]
-  | inr p ↦ inr p
-]
