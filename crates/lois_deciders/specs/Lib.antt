@@ -5,6 +5,7 @@ pub mod Met
 pub mod Choice
 pub mod OnlyAsked
 pub mod Reached
+pub mod Asking
 pub mod Stages
 pub mod Places
 pub mod Kept

@@ -1,4 +1,3 @@
-pub mod Asking
 pub mod Covered
 pub mod Fixed
 pub mod Kept

@@ -85,7 +85,7 @@ impl<
     ghost use Rattle.std.specs.Prelude.{◌≡◌, ◌⊎◌};
     ghost use Rattle.lois_deciders.specs.Asked.{Parts, IsEntailed};
     ghost use Rattle.lois_deciders.specs.Met.{AreMet, ExcludeEachOther};
-    ghost use Rattle.lois_simplify.specs.Asking.{FindsSamples, AnswersPairs, LeadsByOne, LeadsByTwo};
+    ghost use Rattle.lois_deciders.specs.Asking.{FindsSamples, AnswersPairs, LeadsByOne, LeadsByTwo};
     ghost use Rattle.lois_deciders.specs.Reached.{IsReached, still_reached, reached_further};
 
     ghost sound = { FindsSamples S.pre S.post × AnswersPairs B.pre B.post (λ n a b m. AreMet n a b m.constraint m.sample) ExcludeEachOther × AnswersPairs C.pre C.post (λ n c d s. Parts n c d s.items) IsEntailed };

@@ -1,5 +1,5 @@
 use Rattle.std.proofs.Common.{inl, refl}
-use Rattle.lois_simplify.specs.Asking.{at_once, after}
+use Rattle.lois_deciders.specs.Reached.{at_once, after}
 use Rattle.lois_simplify.proofs.answering.AskingAnswers.sample.Goals as goal
 
 pub returns-clause-asked : goal.returns-clause-asked
