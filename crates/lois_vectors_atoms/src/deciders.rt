@@ -61,8 +61,9 @@ fn all_say(
     met: bool,
 ) -> Result<(), NoMemory> {
     let mut memo = MemoDecider::new(alloc, 2)?;
-    assert_eq!(rt; is_met(rt, alloc, &mut memo, cube, size)?, met);
-    assert_eq!(rt; is_met(rt, alloc, &mut memo, cube, size)?, met);
+    for _ in 0..2 {
+        assert_eq!(rt; is_met(rt, alloc, &mut memo, cube, size)?, met);
+    }
     assert_eq!(rt;
         is_met(rt, alloc, &mut GraphDecider::new(), cube, size)?,
         met
@@ -77,35 +78,41 @@ fn all_say(
 #[test]
 fn short_cubes_are_decided(rt: HostRuntime) -> Result<(), Fail> {
     let alloc = rt.alloc();
-    let met = cube_of(
-        alloc,
-        &[lit(Op::Lt, 0, 1), lit(Op::Lt, 1, 2), lit(Op::Ne, 0, 3)],
-    )?;
-    all_say(&rt, alloc, &met, 4, true)?;
-    let round = cube_of(
-        alloc,
-        &[lit(Op::Lt, 0, 1), lit(Op::Eq, 1, 2), lit(Op::Lt, 2, 0)],
-    )?;
-    all_say(&rt, alloc, &round, 3, false)?;
-    let apart = cube_of(alloc, &[lit(Op::Eq, 0, 1), lit(Op::Ne, 1, 0)])?;
-    all_say(&rt, alloc, &apart, 2, false)?;
-    all_say(&rt, alloc, &Cube::new(alloc), 0, true)?;
+    let rows: [(&[Lit], usize, bool); 4] = [
+        (
+            &[lit(Op::Lt, 0, 1), lit(Op::Lt, 1, 2), lit(Op::Ne, 0, 3)],
+            4,
+            true,
+        ),
+        (
+            &[lit(Op::Lt, 0, 1), lit(Op::Eq, 1, 2), lit(Op::Lt, 2, 0)],
+            3,
+            false,
+        ),
+        (&[lit(Op::Eq, 0, 1), lit(Op::Ne, 1, 0)], 2, false),
+        (&[], 0, true),
+    ];
+    for (literals, size, met) in rows {
+        let cube = cube_of(alloc, literals)?;
+        all_say(&rt, alloc, &cube, size, met)?;
+    }
     Ok(())
 }
 
 #[test]
 fn long_chains_are_decided(rt: HostRuntime) -> Result<(), Fail> {
     let alloc = rt.alloc();
-    let up = chain(alloc, Op::Lt, 199, lit(Op::Ne, 0, 199))?;
-    all_say(&rt, alloc, &up, 200, true)?;
-    let round = chain(alloc, Op::Lt, 199, lit(Op::Lt, 199, 0))?;
-    all_say(&rt, alloc, &round, 200, false)?;
-    let equal = chain(alloc, Op::Eq, 199, lit(Op::Eq, 199, 0))?;
-    all_say(&rt, alloc, &equal, 200, true)?;
-
-    // the one fault: the first of the equal levels is apart from the last
-    let apart = chain(alloc, Op::Eq, 199, lit(Op::Ne, 0, 199))?;
-    all_say(&rt, alloc, &apart, 200, false)?;
+    let rows = [
+        (Op::Lt, lit(Op::Ne, 0, 199), true),
+        (Op::Lt, lit(Op::Lt, 199, 0), false),
+        (Op::Eq, lit(Op::Eq, 199, 0), true),
+        // the one fault: the first of the equal levels is apart from the last
+        (Op::Eq, lit(Op::Ne, 0, 199), false),
+    ];
+    for (op, last, met) in rows {
+        let cube = chain(alloc, op, 199, last)?;
+        all_say(&rt, alloc, &cube, 200, met)?;
+    }
     Ok(())
 }
 

@@ -28,35 +28,26 @@ fn eliminates(
 #[test]
 fn levels_are_eliminated(rt: HostRuntime) -> Result<(), Fail> {
     let alloc = rt.alloc();
-    // the atoms between $0 and $1
-    eliminates(
-        &rt,
-        alloc,
-        &[below(0, 2), below(2, 1)],
-        2,
-        Some(&[below(0, 1)]),
-    )?;
-    eliminates(&rt, alloc, &[below(0, 2), apart(2, 1)], 2, Some(&[]))?;
-    eliminates(&rt, alloc, &[below(1, 0), below(0, 1)], 1, None)?;
-    eliminates(
-        &rt,
-        alloc,
-        &[equal(2, 0), below(2, 1)],
-        2,
-        Some(&[below(0, 1)]),
-    )?;
-    eliminates(&rt, alloc, &[equal(2, 0), below(2, 0)], 2, None)?;
-    eliminates(&rt, alloc, &[equal(1, 1), below(0, 1)], 1, Some(&[]))?;
-    eliminates(&rt, alloc, &[below(0, 1), below(2, 2)], 2, None)?;
-    // what stands there already isn't added
-    eliminates(
-        &rt,
-        alloc,
-        &[below(0, 1), below(0, 2), below(2, 1), apart(1, 0)],
-        2,
-        Some(&[below(0, 1), apart(1, 0)]),
-    )?;
-    eliminates(&rt, alloc, &[], 0, Some(&[]))?;
+    let rows: [(&[Lit], usize, Option<&[Lit]>); 9] = [
+        // the atoms between $0 and $1
+        (&[below(0, 2), below(2, 1)], 2, Some(&[below(0, 1)])),
+        (&[below(0, 2), apart(2, 1)], 2, Some(&[])),
+        (&[below(1, 0), below(0, 1)], 1, None),
+        (&[equal(2, 0), below(2, 1)], 2, Some(&[below(0, 1)])),
+        (&[equal(2, 0), below(2, 0)], 2, None),
+        (&[equal(1, 1), below(0, 1)], 1, Some(&[])),
+        (&[below(0, 1), below(2, 2)], 2, None),
+        // what stands there already isn't added
+        (
+            &[below(0, 1), below(0, 2), below(2, 1), apart(1, 0)],
+            2,
+            Some(&[below(0, 1), apart(1, 0)]),
+        ),
+        (&[], 0, Some(&[])),
+    ];
+    for (literals, level, answer) in rows {
+        eliminates(&rt, alloc, literals, level, answer)?;
+    }
     assert!(rt; OrderAtoms::admits(Op::Lt));
     Ok(())
 }
