@@ -13,7 +13,7 @@ use Rattle.lois_base.specs.declared.guards.Lit.{Lit}
 use Rattle.lois_base.specs.declared.values.Comp.{Comp}
 use Rattle.lois_base.proofs.Members.{same_in, same_refl}
 use Rattle.lois_base.proofs.Truths.{holds_longer}
-use Rattle.lois_elim.proofs.Truth.{both_true}
+use Rattle.lois_base.proofs.Connectives.{both_true}
 use Rattle.lois_relate.proofs.Parts.{comp_has}
 use Rattle.lois_terms.specs.Guarded.{IsSet}
 use Rattle.lois_base.proofs.Validity.{fits_longer}

@@ -1,6 +1,5 @@
 -- The members of one set that are, or aren't, in another.
-use Rattle.std.proofs.Common.{◌≡◌, ℕ, ◌+◌, Bool, true, false, not, ◌&&◌, ◌⊎◌, inl, inr, ◌↔◌, List, ◌++◌, length, length-append, refl, sym, subst, ◌∙◌, arith}
-use Rattle.std.proofs.lemmas.Bool.{false≢true}
+use Rattle.std.proofs.Common.{◌≡◌, ℕ, ◌+◌, Bool, true, false, not, ◌&&◌, ◌⊎◌, inl, inr, ◌↔◌, List, ◌++◌, length, length-append, sym, subst, ◌∙◌, arith}
 use Rattle.std.specs.Bool.{IsTrue}
 use Rattle.lois_base.specs.Atom.{Atom}
 use Rattle.lois_base.specs.Data.{TermD, coll, comp, CompsD, no_comps, more}
@@ -12,7 +11,7 @@ use Rattle.lois_base.specs.Values.{PointValue, point, IsExtension, SameAt, IsSam
 use Rattle.lois_base.specs.declared.guards.Lit.{Lit}
 use Rattle.lois_base.proofs.Members.{same_sym, in_same}
 use Rattle.lois_elim.specs.Bound.{AgreesWith}
-use Rattle.lois_elim.proofs.Truth.{both_true}
+use Rattle.lois_base.proofs.Connectives.{both_true, not_true}
 use Rattle.lois_relate.specs.Relations.{HoldsWhereItemIn}
 use Rattle.lois_algebra.specs.Gathered.{IsAmong, IsMadeBy, IsPut}
 use Rattle.lois_algebra.specs.Selected.{IsWanted, IsSelection, IsSelectedGuard, IsNarrowed}
@@ -26,10 +25,6 @@ wanted_there false P Q h p = λ q. p (h.1 q)
 wanted_back : (b : Bool) (P Q : Type 0) → P ↔ Q → IsWanted b Q → IsWanted b P
 wanted_back true P Q h p = h.1 p
 wanted_back false P Q h p = λ q. p (h.0 q)
-
-not_true : (a : Bool) → IsTrue (not a) ↔ (IsTrue a → ⊥)
-not_true true = (λ h. absurd (false≢true h), λ h. absurd (h refl))
-not_true false = (λ h k. false≢true k, λ h. refl)
 
 pub narrowed_found : (wanted : Bool) (g q r : List (List Lit)) → wanted ≡ true → ((d : List Atom) → holds d r ≡ (holds d g && holds d q)) → IsNarrowed wanted g q r
 narrowed_found wanted g q r e met = subst (λ b. IsNarrowed b g q r) (sym e) (λ d.

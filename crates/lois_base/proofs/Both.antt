@@ -1,6 +1,8 @@
 -- The constraint of two constraints holds where both do, and has the literals of both.
-use Rattle.std.proofs.Common.{◌≡◌, Bool, true, false, ◌&&◌, ◌||◌, List, [], ◌∷◌, ◌++◌, get_or, map, refl, sym}
+use Rattle.std.proofs.Common.{◌≡◌, ℕ, ◌+◌, ◌<◌, Bool, true, false, ◌&&◌, ◌||◌, List, [], ◌∷◌, ◌++◌, length, get_or, map, take, append-nil, refl, sym, subst}
 use Rattle.std.specs.List.{All}
+use Rattle.std.proofs.lemmas.Grind.{flat_map-append}
+use Rattle.std.proofs.lemmas.List.{take_more}
 use Rattle.std.proofs.lemmas.List.Elements.{All-nil, All-head, All-tail, All-append, All-map}
 use Rattle.std.proofs.lemmas.List.Folds.{list_all-append, list_any-append}
 use Rattle.lois_base.specs.Atom.{Atom}
@@ -46,3 +48,11 @@ all_both P (x ∷ u) g h k =
     All-append (All P) (map (λ d. x ++ d) g) (both u g)
     (All-map (All P) (λ d. x ++ d) g (λ i d l. All-append P x (get_or g i d) (All-head (All P) x u h) (k i d l)))
     (all_both P u g (All-tail (All P) x u h) k)
+
+-- a further cube of the first
+both_more : (a b : List (List Lit)) (i : ℕ) (d : List Lit) → i < length a → both (take (i + 1) a) b ≡ both (take i a) b ++ map (λ e. get_or a i d ++ e) b
+both_more a b i d l = rw (take_more a i d l) (simp (flat_map-append, append-nil))
+
+pub both_step : (a b p r : List (List Lit)) (i : ℕ) (x : List Lit) → p ≡ both (take i a) b → x ≡ get_or a i x → i < length a → r ≡ p ++ map (λ e. x ++ e) b → r ≡ both (take (i + 1) a) b
+both_step a b p r i x e is l f =
+    rw (both_more a b i x l) (subst (λ (y : List Lit). r ≡ both (take i a) b ++ map (λ e. y ++ e) b) is (subst (λ (q : List (List Lit)). r ≡ q ++ map (λ e. x ++ e) b) e f))

@@ -1,5 +1,6 @@
 pub mod Both
 pub mod Choices
+pub mod Connectives
 pub mod Depths
 pub mod FormulaViews
 pub mod Gaps

@@ -17,7 +17,7 @@ use Rattle.lois_base.specs.declared.guards.Op.TheVariants.{Eq, Ne, Lt}
 use Rattle.lois_base.proofs.Order.{below_irrefl, below_asym, below_trans, below_at_most, equals_from, same_truth, test}
 use Rattle.lois_base.proofs.Truths.{cube_ordered}
 
-abbrev one_where : Bool → ℕ
+abbrev pub one_where : Bool → ℕ
 one_where b = cond b 1 0
 
 abbrev rank : Atom → List Atom → ℕ
@@ -27,7 +27,7 @@ rank a (b ∷ c) = one_where (below b a) + rank a c
 abbrev pub ranks : List Atom → List ℕ
 ranks c = map (λ a. rank a c) c
 
-at_most_where : (p q : Bool) → (IsTrue p → IsTrue q) → one_where p ≤ one_where q
+pub at_most_where : (p q : Bool) → (IsTrue p → IsTrue q) → one_where p ≤ one_where q
 at_most_where false q h = omega arith
 at_most_where true q h = rw (h refl) (omega arith)
 
@@ -65,7 +65,7 @@ ranks_small c =
     All-from_get_or (λ n. n < length c) (ranks c) 0
     (λ i l. let m : i < length c = omega (arith, length_ranks c) in rw (get_or-map (λ a. rank a c) c i (whole 0) 0 m) (rank_short c i m))
 
-below_whole : (m n : ℕ) → below (whole m) (whole n) ≡ ltb m n
+pub below_whole : (m n : ℕ) → below (whole m) (whole n) ≡ ltb m n
 below_whole m n = same_truth (below (whole m) (whole n)) (ltb m n) (λ h. lt-ltb m n (grind (arith, ints))) (λ h. let l : m < n = ltb-true m n h in grind (arith, ints))
 
 rank_at : (c : List Atom) (i : ℕ) → i < length c → atom_at (sampled (ranks c)) i ≡ whole (rank (atom_at c i) c)

@@ -1,7 +1,18 @@
--- Lists that are seen through a view, item by item.
-use Rattle.std.proofs.Common.{◌≡◌, ℕ, ◌+◌, ◌<◌, ◌≤◌, List, [], ◌∷◌, ◌++◌, length, get_or, take, map, sym, ap, ◌∙◌, subst, arith}
+-- Lists that a loop goes through, item by item, also where they are seen through a view.
+use Rattle.std.proofs.Common.{◌≡◌, ℕ, suc, ◌+◌, ◌<◌, ◌≤◌, List, [], ◌∷◌, ◌++◌, length, get_or, take, drop, map, drop-cons, sym, ap, ◌∙◌, subst, arith}
 use Rattle.std.proofs.lemmas.List.{take_all, take_more, map-append, get_or-map, get_or_default, length-map}
 use Rattle.std.specs.List.{All, Contains, HoldsAt}
+
+-- what is left of a list at an item
+pub rest_is : {X : Type 0} (xs : List X) (i : ℕ) (x : X) → i < length xs → x ≡ get_or xs i x → drop i xs ≡ x ∷ drop (i + 1) xs
+rest_is xs i x l is =
+    let next : suc i ≡ i + 1 = omega arith in
+    drop-cons xs i x l ∙ ap (λ y. y ∷ drop (suc i) xs) (sym is) ∙ ap (λ j. x ∷ drop j xs) next
+
+pub rest_at : {X : Type 0} (xs : List X) (i : ℕ) (d : X) → i < length xs → drop i xs ≡ get_or xs i d ∷ drop (i + 1) xs
+rest_at xs i d l =
+    let next : suc i ≡ i + 1 = omega arith in
+    drop-cons xs i d l ∙ ap (λ j. get_or xs i d ∷ drop j xs) next
 
 module _ {X Y : Type 0} (f : X → Y) where
   -- the items before an index, and one more

@@ -1,8 +1,7 @@
 -- One more atom beside numbers.
 use Rattle.std.proofs.Common.{◌≡◌, ℕ, zero, suc, ◌+◌, ◌<◌, ◌≤◌, ◌⊎◌, inl, inr, not, List, [], ◌∷◌, ◌++◌, map, length, get_or, ltb, refl, sym, ap, ◌∙◌, subst, arith, length-append}
-use Rattle.std.proofs.lemmas.Bool.{lt-ltb, ltb-true, cases_lt}
+use Rattle.std.proofs.lemmas.Bool.{lt-ltb, cases_lt}
 use Rattle.std.proofs.lemmas.Bool.Decides.{nat_tests}
-use Rattle.std.proofs.lemmas.Int.{ints}
 use Rattle.std.proofs.lemmas.List.{get_or-map, get_or_append_left, get_or_push, length-map, map-id}
 use Rattle.std.proofs.lemmas.List.Elements.{All-append, All-cons, All-nil, All-map, All-weaker}
 use Rattle.std.specs.Bool.{IsTrue, IsFalse}
@@ -14,13 +13,11 @@ use Rattle.lois_base.specs.Truth.{atom_at, holds, sampled}
 use Rattle.lois_base.specs.declared.guards.Lit.{Lit}
 use Rattle.lois_base.specs.declared.guards.Op.{Op}
 use Rattle.lois_base.specs.declared.guards.Op.TheVariants.{Eq, Ne, Lt}
-use Rattle.lois_base.proofs.Order.{below_irrefl, below_asym, below_trans, below_respects, equal_refl, equals_from, same_truth, trichotomy}
+use Rattle.lois_base.proofs.Samples.{below_whole}
+use Rattle.lois_base.proofs.Order.{below_irrefl, below_asym, below_trans, below_respects, equal_refl, equals_from, trichotomy}
 use Rattle.lois_base.proofs.Truths.{holds_ordered}
 use Rattle.lois_deciders.specs.Asked.{IsSmall}
 use Rattle.lois_deciders.specs.Places.{raised_from}
-
-whole_below : (m n : ℕ) → below (whole m) (whole n) ≡ ltb m n
-whole_below m n = same_truth (below (whole m) (whole n)) (ltb m n) (λ h. lt-ltb m n (grind (arith, ints))) (λ h. let l : m < n = ltb-true m n h in grind (arith, ints))
 
 -- ---- numbers that stand to x as those before stand to an atom
 module _ (s t : List ℕ) (a : Atom) (f : ℕ → ℕ) (x : ℕ) (moved : t ≡ map f s) (small : All (λ i. i < length s) s) (keeps : (y z : ℕ) → ltb (f y) (f z) ≡ ltb y z) (under : (y : ℕ) → y < length s → below (whole y) a ≡ ltb (f y) x) (over : (y : ℕ) → y < length s → below a (whole y) ≡ ltb x (f y)) where
@@ -66,15 +63,15 @@ module _ (s t : List ℕ) (a : Atom) (f : ℕ → ℕ) (x : ℕ) (moved : t ≡ 
 
   inside : (i j : ℕ) → i < length s → j < length s → SameBelow i j
   inside i j l m =
-      rw (old_at i l, old_at j m, new_at i l, new_at j m) (whole_below (number i) (number j) ∙ (sym (keeps (number i) (number j)) ∙ sym (whole_below (f (number i)) (f (number j)))))
+      rw (old_at i l, old_at j m, new_at i l, new_at j m) (below_whole (number i) (number j) ∙ (sym (keeps (number i) (number j)) ∙ sym (below_whole (f (number i)) (f (number j)))))
 
   to_end : (i : ℕ) → i < length s → SameBelow i (length s)
   to_end i l =
-      rw (old_at i l, old_end, new_at i l, new_end) (under (number i) (small i 0 l) ∙ sym (whole_below (f (number i)) x))
+      rw (old_at i l, old_end, new_at i l, new_end) (under (number i) (small i 0 l) ∙ sym (below_whole (f (number i)) x))
 
   from_end : (j : ℕ) → j < length s → SameBelow (length s) j
   from_end j l =
-      rw (old_at j l, old_end, new_at j l, new_end) (over (number j) (small j 0 l) ∙ sym (whole_below x (f (number j))))
+      rw (old_at j l, old_end, new_at j l, new_end) (over (number j) (small j 0 l) ∙ sym (below_whole x (f (number j))))
 
   at_both : SameBelow (length s) (length s)
   at_both = rw (old_end, new_end) (below_irrefl a ∙ sym (below_irrefl (whole x)))
@@ -135,7 +132,7 @@ place a (suc n) = go (place a n)
         above : (y : ℕ) → p ≤ y → y < suc n → (y < n) ⊎ (n ≤ y) → IsTrue (below a (whole y))
         above y k m (inl b) = g.over y k b
         above y k m (inr b) =
-            below_trans a (whole p) (whole y) (g.over p (omega arith) l) (whole_below p y ∙ lt-ltb p y (omega arith))
+            below_trans a (whole p) (whole y) (g.over p (omega arith) l) (below_whole p y ∙ lt-ltb p y (omega arith))
 
     go : Place n a → Place (suc n) a
     go (inl (y, at)) = inl (y, (omega (arith, at.0), at.1))
@@ -159,8 +156,8 @@ module _ (s : List ℕ) (small : All (λ i. i < length s) s) (g : List (List Lit
   at_same : (y : ℕ) → IsTrue (equal (whole y) a) → holds (sampled s ++ a ∷ []) g ≡ holds (sampled (same_number s y)) g
   at_same y e =
       placed_holds s s a (λ i. i) y (sym (map-id s)) small (λ i j. refl)
-      (λ z l. sym (below_respects (whole z) (whole z) (whole y) a (equal_refl (whole z)) e) ∙ whole_below z y)
-      (λ z l. sym (below_respects (whole y) a (whole z) (whole z) e (equal_refl (whole z))) ∙ whole_below y z)
+      (λ z l. sym (below_respects (whole z) (whole z) (whole y) a (equal_refl (whole z)) e) ∙ below_whole z y)
+      (λ z l. sym (below_respects (whole y) a (whole z) (whole z) e (equal_refl (whole z))) ∙ below_whole y z)
       g fits
 
   in_gap : (p : ℕ) → Gap (length s) a p → holds (sampled s ++ a ∷ []) g ≡ holds (sampled (new_number s p)) g

@@ -1,5 +1,5 @@
 -- What holds as a loop goes over the cubes of a constraint, or over the parts of a formula.
-use Rattle.std.proofs.Common.{◌≡◌, ℕ, suc, ◌+◌, ◌<◌, ◌≤◌, Bool, true, false, ◌&&◌, ◌||◌, ◌⊎◌, inl, inr, ◌↔◌, List, [], ◌∷◌, ◌++◌, length, get_or, drop, map, refl, sym, ap, subst, ◌∙◌, drop-cons, arith}
+use Rattle.std.proofs.Common.{◌≡◌, ℕ, ◌+◌, ◌<◌, ◌≤◌, Bool, true, false, ◌||◌, ◌⊎◌, inl, inr, ◌↔◌, List, [], ◌∷◌, ◌++◌, length, get_or, drop, map, refl, sym, ap, subst, ◌∙◌, arith}
 use Rattle.std.specs.Bool.{IsTrue}
 use Rattle.std.specs.List.{All}
 use Rattle.std.proofs.lemmas.Bool.{false≢true}
@@ -16,15 +16,10 @@ use Rattle.lois_base.specs.Truth.{cube_holds, holds}
 use Rattle.lois_base.specs.Validity.{AdmitsCube, AdmitsConstraint, AdmitsFormula, AdmitsFormulas, IsOrderFreeCube, IsOrderFree}
 use Rattle.lois_base.specs.declared.guards.Lit.{Lit}
 use Rattle.lois_base.specs.declared.logic.Formula.{Formula}
+use Rattle.lois_base.proofs.Connectives.{either_true}
 use Rattle.lois_base.proofs.Validity.{constraint_admitted}
+use Rattle.lois_base.proofs.Viewed.{rest_is}
 use Rattle.lois_elim.specs.Bound.{AgreesWith, AgreesWithBoth, HoldsForSome}
-use Rattle.lois_elim.proofs.Truth.{both_true, either_true}
-
--- what is left of a list at an item
-rest_is : {X : Type 0} (xs : List X) (i : ℕ) (x : X) → i < length xs → x ≡ get_or xs i x → drop i xs ≡ x ∷ drop (i + 1) xs
-rest_is xs i x l is =
-    let next : suc i ≡ i + 1 = omega arith in
-    drop-cons xs i x l ∙ ap (λ y. y ∷ drop (suc i) xs) (sym is) ∙ ap (λ j. x ∷ drop j xs) next
 
 appended : (c : List Atom) (found part r : List (List Lit)) → r ≡ found ++ part → holds c r ≡ (holds c found || holds c part)
 appended c found part r e = ap (holds c) e ∙ list_any-append (cube_holds c) found part

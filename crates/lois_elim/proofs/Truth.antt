@@ -1,26 +1,14 @@
 -- What the answer for each kind of formula says.
-use Rattle.std.proofs.Common.{◌≡◌, ℕ, suc, Bool, true, false, not, ◌&&◌, ◌||◌, ◌⊎◌, inl, inr, ◌↔◌, List, [], ◌∷◌, ◌++◌, length, length-append, refl, sym, subst, ◌∙◌, arith}
+use Rattle.std.proofs.Common.{◌≡◌, ℕ, suc, Bool, true, false, not, ◌&&◌, ◌||◌, List, [], ◌∷◌, ◌++◌, length, length-append, refl, sym, subst, ◌∙◌, arith}
 use Rattle.std.specs.Bool.{IsTrue}
 use Rattle.std.specs.List.{All}
 use Rattle.std.proofs.lemmas.List.Elements.{All-nil, All-cons}
-use Rattle.std.proofs.lemmas.Bool.{false≢true}
 use Rattle.lois_base.specs.Atom.{Atom}
 use Rattle.lois_base.specs.FormulaData.{FormulaD, lit, neg, exists, forall}
 use Rattle.lois_base.specs.Truth.{lit_holds, holds}
 use Rattle.lois_base.specs.declared.guards.Lit.{Lit}
+use Rattle.lois_base.proofs.Connectives.{both_true, not_true}
 use Rattle.lois_elim.specs.Bound.{AgreesWith, AgreesWithBoth, HoldsForSome, HoldsForEach}
-
-pub both_true : (a b : Bool) → IsTrue (a && b) ↔ (IsTrue a × IsTrue b)
-both_true true b = (λ h. (refl, h), λ h. h.1)
-both_true false b = (λ h. absurd (false≢true h), λ h. h.0)
-
-pub either_true : (a b : Bool) → IsTrue (a || b) ↔ (IsTrue a ⊎ IsTrue b)
-either_true true b = (λ h. inl refl, λ h. refl)
-either_true false b = (λ h. inr h, λ h. elim h [ inl e ↦ absurd (false≢true e) | inr e ↦ e ])
-
-not_true : (a : Bool) → IsTrue (not a) ↔ (IsTrue a → ⊥)
-not_true true = (λ h. absurd (false≢true h), λ h. absurd (h refl))
-not_true false = (λ h k. false≢true k, λ h. refl)
 
 not_refuted : (a : Bool) → (IsTrue (not a) → ⊥) → IsTrue a
 not_refuted true h = refl

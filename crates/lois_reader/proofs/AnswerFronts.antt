@@ -131,7 +131,7 @@ entry_last : (t r : List ℕ) → entry_at t ≡ Ok (false, r) → EntriesEnd t 
 entry_last t r e zero enough = absurd (omega arith)
 entry_last t r e (suc n) enough = rw e refl
 
-line_longer : (s : Scope) (n : ℕ) (l : LineDraft) (r : List ℕ) → length r < length (text_of (line_pieces s n l) ++ r)
+pub line_longer : (s : Scope) (n : ℕ) (l : LineDraft) (r : List ℕ) → length r < length (text_of (line_pieces s n l) ++ r)
 line_longer s n l r =
     let t : List ℕ = text_of (term_pieces s n l.term) ++ (codes "\n" ++ r) in
     omega (arith, ap length (line_text s n l r), length-append l.name (codes " = " ++ t), length-append (codes " = ") t, length-append (text_of (term_pieces s n l.term)) (codes "\n" ++ r), length-append (codes "\n") r)

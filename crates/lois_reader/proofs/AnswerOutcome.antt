@@ -22,7 +22,7 @@ use Rattle.lois_reader.proofs.Fronts.{EndsWord, word_front}
 use Rattle.lois_reader.proofs.Outcome.{size, size_is, out, bind_out, map_out, part_step, text_split, many_out}
 use Rattle.lois_reader.proofs.ConstraintOutcome.{constraint_of, constraint_out}
 use Rattle.lois_reader.proofs.TermOutcome.{value_of, term_out}
-use Rattle.lois_reader.proofs.AnswerFronts.{name_text, names_end_word, head_rest, head_text, line_closes, line_text, lines_of, case_text, scope_of, results_rest, results_rest_is}
+use Rattle.lois_reader.proofs.AnswerFronts.{name_text, names_end_word, head_rest, head_text, line_closes, line_text, line_longer, lines_of, case_text, scope_of, results_rest, results_rest_is}
 
 -- the values that drafts stand for, where they break no rule
 abbrev pub line_of : Scope → ℕ → LineDraft → LineD
@@ -36,7 +36,7 @@ results_of d = record { order = d.ordered; parameters = d.parameters; cases = ma
 
 -- ---- names
 
-pick : {A : Type 0} (b : Bool) (l m : ℕ) (x y : Result A ℕ) → l ≡ m → x ≡ y → cond b x (Err l) ≡ cond (not b) (Err m) y
+pub pick : {A : Type 0} (b : Bool) (l m : ℕ) (x y : Result A ℕ) → l ≡ m → x ≡ y → cond b x (Err l) ≡ cond (not b) (Err m) y
 pick true l m x y e h = h
 pick false l m x y e h = ap (λ (n : ℕ). Err n) e
 
@@ -172,14 +172,9 @@ case_ends_lines : (r : List ℕ) → EndsLines (codes "case when " ++ r)
 unfolding line_follows
 case_ends_lines r = refl
 
-each_enough : {A : Type 0} (pieces : A → List Piece) (longer : (x : A) (r : List ℕ) → length r < length (text_of (pieces x) ++ r)) (xs : List A) (r : List ℕ) → length xs < suc (length (text_of (each pieces xs) ++ r))
+pub each_enough : {A : Type 0} (pieces : A → List Piece) (longer : (x : A) (r : List ℕ) → length r < length (text_of (pieces x) ++ r)) (xs : List A) (r : List ℕ) → length xs < suc (length (text_of (each pieces xs) ++ r))
 each_enough pieces longer [] r = omega arith
 each_enough pieces longer (x ∷ xs) r = omega (arith, ap length (text_split (pieces x) (each pieces xs) r), longer x (text_of (each pieces xs) ++ r), each_enough pieces longer xs r)
-
-line_longer : (s : Scope) (n : ℕ) (l : LineDraft) (r : List ℕ) → length r < length (text_of (line_pieces s n l) ++ r)
-line_longer s n l r =
-    let t : List ℕ = text_of (term_pieces s n l.term) ++ (codes "\n" ++ r) in
-    omega (arith, ap length (line_text s n l r), length-append l.name (codes " = " ++ t), length-append (codes " = ") t, length-append (text_of (term_pieces s n l.term)) (codes "\n" ++ r), length-append (codes "\n") r)
 
 lines_is : (s : Scope) (n : ℕ) (u : List ℕ) → lines_at s n u ≡ many_at line_follows (line_at s n) (suc (length u)) u
 unfolding lines_at

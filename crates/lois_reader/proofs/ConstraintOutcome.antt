@@ -31,6 +31,17 @@ cube_of s = map (lit_of s)
 abbrev pub constraint_of : Scope → ConstraintDraft → List (List Lit)
 constraint_of s = map (cube_of s)
 
+-- behind an operator no word goes on
+pub op_begins_word : (s : Scope) (op : Op) (r : List ℕ) → EndsWord ((op_piece s op).bytes ++ r)
+op_begins_word s Eq r = refl
+op_begins_word s Ne r = refl
+op_begins_word s Lt r = refl
+
+pub op_begins : (s : Scope) (op : Op) (r : List ℕ) → begins_op ((op_piece s op).bytes ++ r) ≡ true
+op_begins s Eq r = refl
+op_begins s Ne r = refl
+op_begins s Lt r = refl
+
 -- what is given on a test
 given_out : (b : Bool) (v l m : ℕ) (r : List ℕ) → l ≡ m → ◌>>=◌ {A = ℕ} {B = ℕ × List ℕ} (given (cond b (Some v) None) l) (λ i. Ok (i, r)) ≡ cond (not b) (Err m) (Ok (v, r))
 given_out true v l m r e = refl
@@ -74,10 +85,6 @@ op_out s Ne r = refl
 op_out s Lt r = less_out s.ordered r
 
 -- no byte of a word stands in front of an operator
-op_ends : (s : Scope) (op : Op) (r : List ℕ) → EndsWord ((op_piece s op).bytes ++ r)
-op_ends s Eq r = refl
-op_ends s Ne r = refl
-op_ends s Lt r = refl
 
 pub literal_out : (s : Scope) (n : ℕ) (l : LitDraft) → IsLitDraft l → (r : List ℕ) → EndsWord r → literal_at s n (text_of (literal_pieces s n l) ++ r) ≡ out (literal_pieces s n l) (lit_of s l) r
 unfolding literal_at
@@ -87,7 +94,7 @@ literal_out s n l form r ends =
     let right : Piece = operand_piece s n l.right in
     let made : ℕ × List ℕ → Op × List ℕ → ℕ × List ℕ → Result (Lit × List ℕ) ℕ = λ a o b. Ok (record { op = o.0; left = a.0; right = b.0 }, b.1) in
     let behind_left : List ℕ = text_of (op ∷ right ∷ []) ++ r in
-    let ends_left : EndsWord (text_of (op_piece s l.op ∷ operand_piece s n l.right ∷ []) ++ r) = rw (append_assoc op.bytes (text_of (right ∷ [])) r) (op_ends s l.op (text_of (right ∷ []) ++ r)) in
+    let ends_left : EndsWord (text_of (op_piece s l.op ∷ operand_piece s n l.right ∷ []) ++ r) = rw (append_assoc op.bytes (text_of (right ∷ [])) r) (op_begins_word s l.op (text_of (right ∷ []) ++ r)) in
     let a : ℕ × List ℕ = (level_of s l.left, behind_left) in
     let o : Op × List ℕ = (l.op, text_of (right ∷ []) ++ r) in
     step (operand_at s n) left (op ∷ right ∷ []) (level_of s l.left) (lit_of s l) r (λ a. op_at s.ordered a.1 >>= λ o. operand_at s n o.1 >>= made a o)
@@ -148,14 +155,9 @@ dollar_no_word : (r : List ℕ) → word_at (36 ∷ r) ≡ Err (suc (length r))
 unfolding word_at
 dollar_no_word r = refl
 
-op_begins : (s : Scope) (op : Op) (r : List ℕ) → begins_op ((op_piece s op).bytes ++ r) ≡ true
-op_begins s Eq r = refl
-op_begins s Ne r = refl
-op_begins s Lt r = refl
-
 operand_no_keyword : (s : Scope) (n : ℕ) (k : List ℕ) (o : Operand) (op : Op) (r : List ℕ) → IsOperand o → keyword k ((operand_piece s n o).bytes ++ ((op_piece s op).bytes ++ r)) ≡ None
 operand_no_keyword s n k (word w) op r form =
-    word_is_no_keyword k w (w ++ ((op_piece s op).bytes ++ r)) (w, (op_piece s op).bytes ++ r) (word_front w ((op_piece s op).bytes ++ r) form (op_ends s op r)) (op_begins s op r)
+    word_is_no_keyword k w (w ++ ((op_piece s op).bytes ++ r)) (w, (op_piece s op).bytes ++ r) (word_front w ((op_piece s op).bytes ++ r) form (op_begins_word s op r)) (op_begins s op r)
 operand_no_keyword s n k (level ds) op r form = no_word_no_keyword k (codes "$" ++ ds ++ ((op_piece s op).bytes ++ r)) (suc (length (ds ++ ((op_piece s op).bytes ++ r)))) (dollar_no_word (ds ++ ((op_piece s op).bytes ++ r)))
 
 pub literal_no_keyword : (s : Scope) (n : ℕ) (k : List ℕ) (l : LitDraft) (qs : List Piece) (r : List ℕ) → IsLitDraft l → keyword k (text_of (literal_pieces s n l ++ qs) ++ r) ≡ None

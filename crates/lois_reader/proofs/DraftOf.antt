@@ -388,7 +388,7 @@ mutual
 
 -- ---- their form
 
-small_inside : (ps : List (List ℕ)) (n : ℕ) → n < 2 ^ 64 → Small ps n
+pub small_inside : (ps : List (List ℕ)) (n : ℕ) → n < 2 ^ 64 → Small ps n
 small_inside ps n lt i le below = omega arith
 
 numbers_form : (n m : ℕ) → n + m < 2 ^ 64 → AllByRecursion IsNumber (numbers_from n m)

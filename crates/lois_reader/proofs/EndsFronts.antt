@@ -15,7 +15,7 @@ use Rattle.lois_reader.specs.Reading.{◌>>=◌, End, first, begins}
 use Rattle.lois_reader.specs.Ends.{fixed_end, level_end, operand_end, op_end, tag_end, many_end, joint_at, or_at, begins_op, is_and, comparison_at, piece_at, pieces_end, constraint_end, guard_end, binders_end, tail_end, more_parts_end, tuple_end, comp_end, more_comps_end, items_end, set_end, term_end}
 use Rattle.lois_reader.proofs.Fronts.{EndsWord, EndsNumber, ends_number, word_front, word_ends, number_ends, word_begins}
 use Rattle.lois_reader.proofs.Outcome.{text_split}
-use Rattle.lois_reader.proofs.ConstraintOutcome.{Closes}
+use Rattle.lois_reader.proofs.ConstraintOutcome.{Closes, op_begins_word, op_begins}
 
 pub level_front : (b t : List ℕ) → IsNumber b → EndsNumber t → level_end (codes "$" ++ (b ++ t)) ≡ Ok t
 unfolding level_end
@@ -31,16 +31,6 @@ unfolding op_end
 op_front s Eq r = refl
 op_front s Ne r = refl
 op_front s Lt r = refl
-
-op_begins_word : (s : Scope) (op : Op) (r : List ℕ) → EndsWord ((op_piece s op).bytes ++ r)
-op_begins_word s Eq r = refl
-op_begins_word s Ne r = refl
-op_begins_word s Lt r = refl
-
-op_begins : (s : Scope) (op : Op) (r : List ℕ) → begins_op ((op_piece s op).bytes ++ r) ≡ true
-op_begins s Eq r = refl
-op_begins s Ne r = refl
-op_begins s Lt r = refl
 
 comparison_front : (s : Scope) (n : ℕ) (op : Op) (o : Operand) (r : List ℕ) → IsOperand o → EndsWord r → comparison_at ((op_piece s op).bytes ++ ((operand_piece s n o).bytes ++ r)) ≡ joint_at r
 unfolding comparison_at

@@ -25,7 +25,7 @@ use Rattle.lois_reader.specs.Reading.{◌>>=◌}
 use Rattle.lois_reader.proofs.Outcome.{text_append}
 use Rattle.lois_reader.proofs.AnswerFronts.{head_rest}
 use Rattle.lois_reader.proofs.AnswerOutcome.{line_of}
-use Rattle.lois_reader.proofs.DraftOf.{Unbroken, unbroken_append, out_unbroken, Small, value_decimal, decimal_is_number, term_draft, term_text, each_map, le_test, lt_test}
+use Rattle.lois_reader.proofs.DraftOf.{Unbroken, unbroken_append, out_unbroken, Small, small_inside, value_decimal, decimal_is_number, term_draft, term_text, each_map, le_test, lt_test}
 use Rattle.lois_reader.proofs.ResultsBack.{line_draft, results_draft, each_flat, line_regroup, head_rest_text, results_text_is, parameters_of, head_whole, lines_form, lines_whole, lines_value, results_form, results_whole, results_value}
 use Rattle.lois_reader.proofs.TraceFronts.{trace_scope, number_pieces, choice_line, element_pieces, elements_of, trace_rest_is, trace_of, length_map, answer_of, answer_reading_is}
 use Rattle.lois_reader.proofs.Unbroken.{unbroken_split}
@@ -90,9 +90,6 @@ choice_form (a ∷ as_) h = (decimal_is_number a h.0, choice_form as_ h.1)
 place_small : (n : ℕ) → IsPlaceNumber n → n < 2 ^ 64
 place_small n h = omega (arith, h.1)
 
-small_sample : (ps : List (List ℕ)) (n : ℕ) → n < 2 ^ 64 → Small ps n
-small_sample ps n lt i le below = omega arith
-
 pub trace_form : (t : Trace) → IsSoundTrace t → length t.sample < 2 ^ 64 → IsTraceDraft (trace_draft t)
 trace_form t sound short =
     let good = parameters_of t.parameters sound.parameters in
@@ -101,7 +98,7 @@ trace_form t sound short =
       line = decimal_is_number t.line (place_small t.line sound.line);
       column = decimal_is_number t.column (place_small t.column sound.column);
       choice = choice_form t.sample (recursion_from_All (λ a. a < 2 ^ 64) t.sample sound.numbers);
-      elements = lines_form t.parameters t.order (length t.sample) t.elements good (small_sample t.parameters (length t.sample) short) (recursion_from_All (IsSoundLine t.order (length t.sample)) t.elements sound.elements);
+      elements = lines_form t.parameters t.order (length t.sample) t.elements good (small_inside t.parameters (length t.sample) short) (recursion_from_All (IsSoundLine t.order (length t.sample)) t.elements sound.elements);
     }
 
 place_whole : (v n : ℕ) → v ≡ n → IsPlaceNumber n → not (nat_le 1 v && nat_le v 1048577) ≡ false
@@ -124,7 +121,7 @@ trace_whole t sound short =
     let d : TraceDraft = trace_draft t in
     let s : Scope = trace_scope (trace_draft t) in
     let e : length t.sample ≡ length (map decimal t.sample) = sym (length_map decimal t.sample) in
-    let small : Small t.parameters (length t.sample) = small_sample t.parameters (length t.sample) short in
+    let small : Small t.parameters (length t.sample) = small_inside t.parameters (length t.sample) short in
     let elements : Unbroken (each (line_pieces (trace_scope (trace_draft t)) (length (map decimal t.sample))) (map (line_draft t.parameters (length t.sample)) t.elements)) =
     subst (λ (k : ℕ). Unbroken (each (line_pieces s k) (map (line_draft t.parameters (length t.sample)) t.elements))) e (lines_whole s (length t.sample) t.elements small (recursion_from_All (IsSoundLine t.order (length t.sample)) t.elements sound.elements)) in
     let holds : nat_le (length t.parameters) (length (map decimal t.sample)) ≡ true = rw (length_map decimal t.sample) (le_test (length t.parameters) (length t.sample) sound.enough) in
@@ -154,7 +151,7 @@ trace_value t sound short =
     let s : Scope = trace_scope (trace_draft t) in
     same_trace t.order t.parameters t.kind (value (decimal t.line)) t.line (value (decimal t.column)) t.column (map value (map decimal t.sample)) t.sample (map (line_of s (length (map decimal t.sample))) (map (line_draft t.parameters (length t.sample)) t.elements)) t.elements
     (value_decimal t.line (place_small t.line sound.line)) (value_decimal t.column (place_small t.column sound.column)) (sample_value t.sample (recursion_from_All (λ a. a < 2 ^ 64) t.sample sound.numbers))
-    (lines_value s (length t.sample) t.elements (parameters_of t.parameters sound.parameters) (small_sample t.parameters (length t.sample) short) (recursion_from_All (IsSoundLine t.order (length t.sample)) t.elements sound.elements))
+    (lines_value s (length t.sample) t.elements (parameters_of t.parameters sound.parameters) (small_inside t.parameters (length t.sample) short) (recursion_from_All (IsSoundLine t.order (length t.sample)) t.elements sound.elements))
 
 -- ---- a choice has no more numbers than the text has bytes
 

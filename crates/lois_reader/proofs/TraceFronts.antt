@@ -27,7 +27,7 @@ use Rattle.lois_reader.proofs.Fronts.{EndsNumber, word_ends, number_front, numbe
 use Rattle.lois_reader.proofs.Outcome.{size, out, part_step, text_append, text_split, many_out}
 use Rattle.lois_reader.proofs.EndsFronts.{many_front}
 use Rattle.lois_reader.proofs.AnswerFronts.{head_rest, head_front, line_text, body_front, results_rest, results_rest_is, results_front}
-use Rattle.lois_reader.proofs.AnswerOutcome.{line_of, head_out, line_out, results_of, results_out}
+use Rattle.lois_reader.proofs.AnswerOutcome.{line_of, pick, head_out, line_out, each_enough, results_of, results_out}
 
 abbrev pub trace_scope : TraceDraft → Scope
 trace_scope t = record { names = t.parameters; ordered = t.ordered }
@@ -173,10 +173,6 @@ trace_front t form =
 
 -- ---- what places, choices and elements stand for
 
-pick : {A : Type 0} (b : Bool) (l m : ℕ) (x y : Result A ℕ) → l ≡ m → x ≡ y → cond b x (Err l) ≡ cond (not b) (Err m) y
-pick true l m x y e h = h
-pick false l m x y e h = ap (λ (n : ℕ). Err n) e
-
 given_out : (b c : Bool) (v l m : ℕ) (r : List ℕ) → b ≡ c → l ≡ m → ◌>>=◌ {A = ℕ} {B = ℕ × List ℕ} (given (cond b (Some v) None) l) (λ i. Ok (i, r)) ≡ cond (not c) (Err m) (Ok (v, r))
 given_out true true v l m r e f = refl
 given_out false false v l m r e f = ap (λ (n : ℕ). Err n) f
@@ -227,10 +223,6 @@ number_out : (ds r : List ℕ) → IsNumber ds → EndsNumber r → number_of_ch
 number_out ds r form ends =
     ap number_of_choice_at (number_text ds r) ∙ number_is ds r form ends
     ∙ given_out (nat_le 0 (value ds) && nat_lt (value ds) (2 ^ 64)) (nat_lt (value ds) (2 ^ 64)) (value ds) (length (ds ++ r)) (length ds + (0 + length r)) r (number_test (value ds)) (omega (arith, length-append ds r))
-
-each_enough : {A : Type 0} (pieces : A → List Piece) (longer : (x : A) (r : List ℕ) → length r < length (text_of (pieces x) ++ r)) (xs : List A) (r : List ℕ) → length xs < suc (length (text_of (each pieces xs) ++ r))
-each_enough pieces longer [] r = omega arith
-each_enough pieces longer (x ∷ xs) r = omega (arith, ap length (text_split (pieces x) (each pieces xs) r), longer x (text_of (each pieces xs) ++ r), each_enough pieces longer xs r)
 
 numbers_at_is : (u : List ℕ) → numbers_at u ≡ many_at (begins 32) number_of_choice_at (suc (length u)) u
 unfolding numbers_at

@@ -1,7 +1,6 @@
 -- At each choice a formula holds or doesn't: an atom that is looked for stands to those of the choice as one of finitely many numbers does.
-use Rattle.std.proofs.Common.{◌≡◌, ℕ, zero, suc, ◌+◌, ◌-◌, ◌*◌, ◌<◌, ◌≤◌, ◌⊎◌, inl, inr, Bool, true, false, not, cond, List, [], ◌∷◌, ◌++◌, map, length, length-append, ltb, refl, sym, ap, ◌∙◌, subst, arith}
+use Rattle.std.proofs.Common.{◌≡◌, ℕ, zero, suc, ◌+◌, ◌-◌, ◌*◌, ◌<◌, ◌≤◌, ◌⊎◌, inl, inr, Bool, true, false, not, List, [], ◌∷◌, ◌++◌, map, length, length-append, refl, sym, ap, ◌∙◌, subst, arith}
 use Rattle.std.proofs.lemmas.Bool.{cases_lt, lt-ltb, ltb-true}
-use Rattle.std.proofs.lemmas.Int.{ints}
 use Rattle.std.proofs.lemmas.List.{get_or-map, length-map, map-append, get_or_append_left, get_or-append_right}
 use Rattle.std.specs.Bool.{IsTrue, IsFalse}
 use Rattle.lois_base.specs.Atom.{Atom, below, whole}
@@ -9,16 +8,14 @@ use Rattle.lois_base.specs.FormulaData.{FormulaD, lit, all, any, neg, exists, fo
 use Rattle.lois_base.specs.FormulaTruth.{FormulaHolds, AllHold, AnyHolds}
 use Rattle.lois_base.specs.Patterns.{Agree, AreAlike}
 use Rattle.lois_base.specs.Truth.{atom_at, lit_holds}
-use Rattle.lois_base.specs.Validity.{is_admitted, AdmitsFormula, AdmitsFormulas}
 use Rattle.lois_base.specs.declared.guards.Op.{Op}
 use Rattle.lois_base.specs.declared.guards.Op.TheVariants.{Eq, Ne, Lt}
 use Rattle.lois_base.proofs.Moves.{alike_sym, formula_alike}
+use Rattle.lois_base.proofs.Samples.{one_where, at_most_where, below_whole}
+use Rattle.lois_base.proofs.Validity.{formula_admitted}
 use Rattle.lois_base.proofs.Order.{test, same_truth, equals_from, below_asym, below_irrefl, below_at_most, at_most_below}
 
 -- ---- a number for each atom, by where it stands among those of a choice
-abbrev one_where : Bool → ℕ
-one_where b = cond b 1 0
-
 -- how many atoms of c are below a, and how many aren't above it
 abbrev spot : Atom → List Atom → ℕ
 spot a [] = 0
@@ -26,10 +23,6 @@ spot a (x ∷ c) = (one_where (below x a) + one_where (not (below a x))) + spot 
 
 abbrev spotted : List Atom → Atom → Atom
 spotted c a = whole (spot a c)
-
-at_most_where : (p q : Bool) → (IsTrue p → IsTrue q) → one_where p ≤ one_where q
-at_most_where false q h = omega arith
-at_most_where true q h = rw (h refl) (omega arith)
 
 at_least_where : (p q : Bool) → (IsTrue q → IsTrue p) → one_where (not p) ≤ one_where (not q)
 at_least_where true q h = omega arith
@@ -76,9 +69,6 @@ spot_above (x ∷ c) zero b l h =
     omega (arith, p, q, r, s, spot_at_most b x c (below_asym b x h))
 spot_above (x ∷ c) (suc i) b l h =
     omega (arith, one_step b (atom_at c i) x (below_asym b (atom_at c i) h), spot_above c i b (omega arith) h)
-
-below_whole : (m n : ℕ) → below (whole m) (whole n) ≡ ltb m n
-below_whole m n = same_truth (below (whole m) (whole n)) (ltb m n) (λ h. lt-ltb m n (grind (arith, ints))) (λ h. let l : m < n = ltb-true m n h in grind (arith, ints))
 
 -- two atoms stand as their numbers do
 abbrev Stand : List Atom → Atom → Atom → Type 0
@@ -158,25 +148,6 @@ some_below P decides (suc n) = pick (decides n) (some_below P decides n)
         each : (x : ℕ) → x < suc n → P x → x < n ⊎ n ≤ x → ⊥
         each x l p (inl m) = none x m p
         each x l p (inr m) = let e : x ≡ n = omega arith in lacks (subst P e p)
-
--- ---- with an order every operator is admitted
-admitted : (op : Op) → IsTrue (is_admitted true op)
-admitted Eq = refl
-admitted Ne = refl
-admitted Lt = refl
-
-mutual
-  formula_admitted : (f : FormulaD) → AdmitsFormula true f
-  formula_admitted (lit l) = admitted l.op
-  formula_admitted (all fs) = formulas_admitted fs
-  formula_admitted (any fs) = formulas_admitted fs
-  formula_admitted (neg f) = formula_admitted f
-  formula_admitted (exists f) = formula_admitted f
-  formula_admitted (forall f) = formula_admitted f
-
-  formulas_admitted : (fs : FormulasD) → AdmitsFormulas true fs
-  formulas_admitted no_formulas = tt
-  formulas_admitted (formula f fs) = (formula_admitted f, formulas_admitted fs)
 
 module _ (f : FormulaD) (c : List Atom) where
   moved_there : FormulaFits (length c) f → FormulaHolds c f → FormulaHolds (map (spotted c) c) f

@@ -1,31 +1,10 @@
 -- What holds as a loop goes over parts that are all to hold, or of which one is to hold.
-use Rattle.std.proofs.Common.{◌≡◌, ℕ, suc, ◌+◌, ◌<◌, Bool, true, false, ◌&&◌, ◌||◌, ◌⊎◌, inl, inr, ◌↔◌, List, ◌∷◌, length, get_or, drop, refl, sym, ap, subst, ◌∙◌, drop-cons, arith}
-use Rattle.std.proofs.lemmas.Bool.{false≢true}
-use Rattle.std.specs.Bool.{IsTrue}
+use Rattle.std.proofs.Common.{◌≡◌, ℕ, Bool, true, false, ◌⊎◌, inl, inr, ◌↔◌, List, length, sym, subst}
 use Rattle.lois_base.specs.Atom.{Atom}
 use Rattle.lois_base.specs.FormulaData.{FormulaD, all, any, no_formulas, FormulaFits}
 use Rattle.lois_base.specs.FormulaTruth.{FormulaHolds}
 use Rattle.lois_base.specs.Validity.{AdmitsFormula}
 use Rattle.lois_relate.specs.Built.{Says, IsBoth, IsEither}
-
--- what is left of a list at an item
-pub rest_is : {X : Type 0} (xs : List X) (i : ℕ) (x : X) → i < length xs → x ≡ get_or xs i x → drop i xs ≡ x ∷ drop (i + 1) xs
-rest_is xs i x l is =
-    let next : suc i ≡ i + 1 = omega arith in
-    drop-cons xs i x l ∙ ap (λ y. y ∷ drop (suc i) xs) (sym is) ∙ ap (λ j. x ∷ drop j xs) next
-
-pub rest_at : {X : Type 0} (xs : List X) (i : ℕ) (d : X) → i < length xs → drop i xs ≡ get_or xs i d ∷ drop (i + 1) xs
-rest_at xs i d l =
-    let next : suc i ≡ i + 1 = omega arith in
-    drop-cons xs i d l ∙ ap (λ j. get_or xs i d ∷ drop j xs) next
-
-pub both_true : (a b : Bool) → IsTrue (a && b) ↔ (IsTrue a × IsTrue b)
-both_true true b = (λ h. (refl, h), λ h. h.1)
-both_true false b = (λ h. absurd (false≢true h), λ h. h.0)
-
-pub either_true : (a b : Bool) → IsTrue (a || b) ↔ (IsTrue a ⊎ IsTrue b)
-either_true true b = (λ h. inl refl, λ h. refl)
-either_true false b = (λ h. inr h, λ h. elim h [ inl e ↦ absurd (false≢true e) | inr e ↦ e ])
 
 -- f says what the parts before the rest say
 pub record AllSoFar (n : ℕ) (Rest Whole : List Atom → Type 0) (A : Bool → Type 0) (f : FormulaD) : Type 0 where

@@ -7,7 +7,7 @@ use Rattle.lois_base.specs.Tree.{tree, comp_of}
 use Rattle.lois_base.specs.Validity.{AdmitsTerm, AdmitsParts, AdmitsComp, AdmitsItems, HasUsualWidths, PartsHaveUsualWidths, CompHasUsualWidths, ItemsHaveUsualWidths}
 use Rattle.lois_base.specs.declared.values.Comp.{Comp}
 use Rattle.lois_base.specs.declared.values.Term.{Term}
-use Rattle.lois_relate.proofs.Loops.{rest_is}
+use Rattle.lois_base.proofs.Viewed.{rest_is}
 
 -- the parts from an index on
 abbrev pub terms_from : List Term → ℕ → TermsD

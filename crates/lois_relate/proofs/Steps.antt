@@ -15,7 +15,7 @@ use Rattle.lois_base.specs.declared.guards.Lit.{Lit}
 use Rattle.lois_base.specs.declared.values.Term.{Term}
 use Rattle.lois_relate.specs.Built.{Says, IsBoth}
 use Rattle.lois_relate.specs.Named.{chosen, AreBelow, levels_from, named_lit}
-use Rattle.lois_relate.proofs.Loops.{both_true, either_true}
+use Rattle.lois_base.proofs.Connectives.{both_true, either_true}
 use Rattle.lois_relate.proofs.Names.{lit_named, lit_named_fits, atom_named, below_entered, below_more, length-entered}
 use Rattle.lois_relate.proofs.Parts.{as_many_items}
 use Rattle.lois_relate.proofs.Sets.{sets_same, parts_as_many}

@@ -1,6 +1,5 @@
 -- What clap makes of the words is what they ask for.
 use Rattle.std.proofs.Common.{◌≡◌, ◌⊎◌, inl, inr, ℕ, Bool, true, false, true≢false, not, ◌||◌, List, [], ◌∷◌, ◌++◌, Some, None, codes, refl, sym, ap, ap₂, ◌∙◌, subst, bytes_eq, nat_eq, if◌then◌else◌, find, fold, map, String, string_bytes, length, zero, suc, ◌+◌, ◌<◌, arith, take, drop, take-append-drop, slice_index_or, append-nil, append_assoc}
-use Rattle.std.specs.Cmp.Lexicographic.{nat_list_eq_equiv}
 use Rattle.std.specs.List.{starts_with}
 use Rattle.std.specs.Option.{option_map_or}
 use Rattle.std.proofs.lemmas.Slice.Eq.{bytes_eq-Decides}
@@ -16,6 +15,7 @@ use Rattle.clap.specs.declared.error.kind.ErrorKind.TheVariants.{OutOfMemory}
 use Rattle.clap.specs.declared.parser.matches.ArgMatches.{ArgMatches}
 use Rattle.clap.proofs.FaultLemmas.{stopped_fault}
 use Rattle.clap.proofs.OnLiterals.{clap_on_literals}
+use Rattle.lois_script.proofs.Lookup.{turned}
 use Rattle.lois_run.specs.CommandLine.{is_dashed, is_option, seen_behind, are_expected, program, command_found}
 use Rattle.lois_run.specs.Words.{command_of}
 
@@ -283,9 +283,6 @@ reread_verdict (o ∷ more) h =
     none [] = refl
     none (k ∷ []) = refl
     none (k ∷ x ∷ l) = refl
-
-turned : (x y : List ℕ) → bytes_eq x y ≡ bytes_eq y x
-turned x y = nat_list_eq_equiv.symm x y
 
 -- what clap makes of words that it is asked about
 pub verdict : (ws : List Text) → are_expected false ws ≡ true → Verdict ws

@@ -1,11 +1,7 @@
 -- What the tokens of a text and the limits keep of the script that they spell.
-use Rattle.std.proofs.Common.{ℕ, ◌≤◌, List, [], ◌∷◌, length, map, arith}
-use Rattle.std.specs.List.{All}
+use Rattle.std.proofs.Common.{ℕ, ◌≤◌, List, ◌∷◌, length, map, arith}
 use Rattle.std.proofs.lemmas.Bool.{leb-true}
-use Rattle.std.proofs.lemmas.List.Elements.{All-head, All-tail}
 use Rattle.lois_base.specs.Names.{IsName}
-use Rattle.lois_lexer.specs.Tokens.{IsTokenOf}
-use Rattle.lois_lexer.specs.declared.Token.{Token}
 use Rattle.lois_lexer.specs.declared.TokenKind.TheVariants.{Name, Tag}
 use Rattle.lois_lexer.proofs.OneReading.{tokens_of_cut}
 use Rattle.lois_script.specs.Grammar.{placed, IsWide}
@@ -14,7 +10,7 @@ use Rattle.lois_answers.specs.Sound.{IsFreeName}
 use Rattle.lois_script.specs.Tree.{ExprD, tag, tuple, listed, ExprsD, no_exprs, expr, StmtD, «let», print, StmtsD, no_stmts, stmt, ScriptD}
 use Rattle.lois_script.proofs.Names.{word_is_name}
 use Rattle.lois_script.proofs.Numbers.{IsToken}
-use Rattle.lois_script.proofs.Printable.{ExprPrints, ExprsPrint, StmtPrints, StmtsPrint, AreTokens, script_prints}
+use Rattle.lois_script.proofs.Printable.{ExprPrints, ExprsPrint, StmtPrints, StmtsPrint, are_tokens, script_prints}
 use Rattle.lois_run.specs.Fitting.{IsFitExpr, AreFitExprs, IsFitStmt, AreFit}
 
 -- ---- tokens
@@ -26,12 +22,6 @@ tag_name : (x : List ℕ) → IsToken Tag (39 ∷ x) → IsName x
 tag_name x t =
     let short : length (39 ∷ x) ≤ 65 = leb-true (length (39 ∷ x)) 65 t.limits in
     word_is_name x t.form.1 (omega (arith, short))
-
-are_tokens : (text : List ℕ) (ts : List Token) → All (IsTokenOf text) ts → AreTokens (map (placed text) ts)
-are_tokens text [] h = tt
-are_tokens text (t ∷ ts) h =
-    let one : IsTokenOf text t = All-head (IsTokenOf text) t ts h in
-    (record { form = one.form; limits = one.limits }, are_tokens text ts (All-tail (IsTokenOf text) t ts h))
 
 -- ---- what they spell
 

@@ -1,12 +1,11 @@
 -- What is written of a script is read again as the script, positions left aside.
 use Rattle.std.proofs.Common.{◌≡◌, ℕ, zero, suc, ◌-◌, ◌≤◌, Bool, true, false, List, [], ◌∷◌, map, codes, refl, sym, ap, ◌∙◌, subst, inl, inr, arith, lit<}
-use Rattle.std.specs.Prelude.{All}
 use Rattle.std.specs.Fmt as writing
-use Rattle.std.proofs.lemmas.List.Elements.{All-head, All-tail, All-nil}
+use Rattle.std.proofs.lemmas.List.Elements.{All-nil}
 use Rattle.lois_lexer.specs.declared.TokenKind.{TokenKind}
 use Rattle.lois_lexer.specs.declared.TokenKind.TheVariants.{Name, Word, Tag, Number, Symbol}
 use Rattle.lois_lexer.specs.declared.Token.{Token}
-use Rattle.lois_lexer.specs.Tokens.{IsTokenOf, Spelled, spelled, bytes_of}
+use Rattle.lois_lexer.specs.Tokens.{Spelled, spelled, bytes_of}
 use Rattle.lois_lexer.specs.Laws.{Written}
 use Rattle.lois_lexer.proofs.OneReading.{tokens_of_cut}
 use Rattle.lois_lexer.proofs.Written.{written_is_read}
@@ -15,7 +14,7 @@ use Rattle.lois_script.specs.Grammar.{PlacedToken, placed, Spelling, IsWide, Are
 use Rattle.lois_script.specs.Limits.{open_after, IsNestedWithin, StmtsAreWithin}
 use Rattle.lois_script_printer.specs.Printed.{spaced, enclosed, where_clause, block, else_clause, written_expr, written_exprs, written_more_exprs, written_binding, written_bindings, written_more_bindings, written_cond, written_units, written_more_units, written_conjunctions, written_more_conjunctions, written_stmt, written_stmts, written_more_names, written_parameters, written_script, printed_script}
 use Rattle.lois_script_printer.specs.Unplaced.{unplaced_expr, unplaced_exprs, unplaced_binding, unplaced_bindings, unplaced_cond, unplaced_conds, unplaced_stmt, unplaced_stmts, unplaced_param, unplaced, IsSpelled, SpellsUnplaced}
-use Rattle.lois_script.proofs.Printable.{HasSomeExpr, HasSomeBinding, Opens, ExprPrints, ExprsPrint, BindingPrints, BindingsPrint, CondPrints, UnitsPrint, ConjunctionsPrint, EnclosedPrints, StmtPrints, StmtsPrint, NamesPrint, ScriptPrints, AreTokens, Left, one_back, script_prints}
+use Rattle.lois_script.proofs.Printable.{HasSomeExpr, HasSomeBinding, Opens, ExprPrints, ExprsPrint, BindingPrints, BindingsPrint, CondPrints, UnitsPrint, ConjunctionsPrint, EnclosedPrints, StmtPrints, StmtsPrint, NamesPrint, ScriptPrints, are_tokens, Left, one_back, script_prints}
 use Rattle.lois_script_printer.proofs.WrittenTokens.{AreWritten, script_writes}
 use Rattle.lois_script_printer.proofs.Places.{carried, wide_un, many_un, arity_un, is_base_un, is_unit_un, is_conjunction_un, stmts_un}
 
@@ -755,12 +754,6 @@ again_script s h ts is =
       (λ i. record { ordered = s.ordered; parameters = p.same_tree i; body = b.same_tree i }),
       nest 0 0 ts w.after w.is refl low_zero (nest 0 0 w.after o.after o.is refl low_zero (nest 0 0 o.after m.after m.is refl low_zero (p.nested (b.nested (subst (IsNestedWithin 0) (sym none) tt))))),
     )
-
-are_tokens : (text : List ℕ) (ts : List Token) → All (IsTokenOf text) ts → AreTokens (map (placed text) ts)
-are_tokens text [] h = tt
-are_tokens text (t ∷ ts) h =
-    let one = All-head (IsTokenOf text) t ts h in
-    (record { form = one.form; limits = one.limits }, are_tokens text ts (All-tail (IsTokenOf text) t ts h))
 
 placed_bare : (text : List ℕ) (ts : List Token) → map bare (map (placed text) ts) ≡ spelled text ts
 placed_bare text [] = refl

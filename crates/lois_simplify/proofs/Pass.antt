@@ -10,7 +10,7 @@ use Rattle.lois_base.specs.Tree.{comp_of}
 use Rattle.lois_base.specs.Validity.{AdmitsItems}
 use Rattle.lois_base.specs.declared.guards.Lit.{Lit}
 use Rattle.lois_base.specs.declared.values.Comp.{Comp}
-use Rattle.lois_relate.proofs.Loops.{rest_is}
+use Rattle.lois_base.proofs.Viewed.{rest_is}
 use Rattle.lois_simplify.specs.Covered.{IsCovered}
 use Rattle.lois_simplify.specs.Kept.{IsKept, set_of}
 use Rattle.lois_simplify.specs.Lean.{HasOwn, EachHasOwn}

@@ -28,6 +28,7 @@ use Rattle.lois_syntax.specs.Machine.{Ending, token, one, Item, terminal, expres
 use Rattle.lois_syntax.specs.Steps.{lexeme_at, place_at}
 use Rattle.lois_syntax.proofs.Descends.{Comes, done, alike, and_then, led, told, taken, behind_word, passing, closing, entering, entering_call, relation_reads, separated_reads}
 use Rattle.lois_syntax.proofs.DescendsExpressions.{ReadsExpr, ReadsCond, AnExpr, ACond, binding_reads, test_reads, expression_reads}
+use Rattle.lois_syntax.proofs.OneExpression.{base_is_unit}
 use Rattle.lois_syntax.proofs.TokenForms.{base_is, unit_is, word_at, sign_at, word_moves}
 use Rattle.lois_syntax.proofs.TokenSteps.{same_alone, same_behind}
 
@@ -49,14 +50,6 @@ enclosed : (b d : Bool) (P : Spelling) (x y : Tokens) → (IsTrue b → IsTrue d
 enclosed b d P x y wider (n, form, spelled) = (n, ⊎_elim (λ h. inl (wider h)) inr form, spelled)
 
 -- a base is a unit too, and a unit a conjunction
-base_is_unit : (c : CondD) → IsTrue (is_base c) → IsTrue (is_unit c)
-base_is_unit (not c) h = absurd (cc)
-base_is_unit (exists b c) h = absurd (cc)
-base_is_unit (every b c) h = absurd (cc)
-base_is_unit (all cs) h = absurd (cc)
-base_is_unit (any cs) h = absurd (cc)
-base_is_unit _ h = refl
-
 unit_is_conjunction : (c : CondD) → IsTrue (is_unit c) → IsTrue (is_conjunction c)
 unit_is_conjunction (all cs) h = absurd (cc)
 unit_is_conjunction (any cs) h = absurd (cc)

@@ -50,7 +50,7 @@ pub record Decides (k : ℕ) : Type 0 where
   pub exprs : (e f : ExprD) (b m n : Tokens) → length b < k → SpellsExpr e b m → SpellsExpr f b n → (e ≡ f) × (m ≡ n)
   pub units : (c d : CondD) (b m n : Tokens) → length b < k → UnitCond c b m → UnitCond d b n → (c ≡ d) × (m ≡ n)
 
-base_is_unit : (c : CondD) → IsTrue (is_base c) → IsTrue (is_unit c)
+pub base_is_unit : (c : CondD) → IsTrue (is_base c) → IsTrue (is_unit c)
 base_is_unit (all cs) h = h
 base_is_unit (any cs) h = h
 base_is_unit c h = refl

@@ -1,8 +1,6 @@
 -- What a set is under a further guard.
-use Rattle.std.proofs.Common.{◌≡◌, ℕ, suc, ◌+◌, ◌<◌, Bool, true, false, ◌&&◌, List, [], ◌∷◌, ◌++◌, length, get_or, map, take, append-nil, refl, ap, ◌∙◌, sym, subst, inl, inr}
+use Rattle.std.proofs.Common.{◌≡◌, ℕ, suc, ◌+◌, Bool, true, false, ◌&&◌, List, [], ◌∷◌, ◌++◌, length, map, refl, ap, ◌∙◌, sym, subst, inl, inr}
 use Rattle.std.specs.Bool.{IsTrue, IsFalse}
-use Rattle.std.proofs.lemmas.List.{take_more}
-use Rattle.std.proofs.lemmas.Grind.{flat_map-append}
 use Rattle.lois_base.specs.Atom.{Atom}
 use Rattle.lois_base.specs.Data.{TermD, var, tag, tup, coll, CompD, comp, CompsD, no_comps, more, comps_of, depth, depth_of_items}
 use Rattle.lois_base.specs.Fits.{LitFits, ConstraintFits, Fits, ItemsFit}
@@ -20,14 +18,6 @@ use Rattle.lois_terms.specs.Guarded.{IsSet, KeepsWhere, IsEmptyElsewhere, guarde
 pub guarded_items_of : (c : List (List Lit)) (cs : List CompD) → comps_of (map (guarded_comp c) cs) ≡ guarded_items c (comps_of cs)
 guarded_items_of c [] = refl
 guarded_items_of c (k ∷ cs) = ap (more (guarded_comp c k)) (guarded_items_of c cs)
-
--- a further cube of the first
-both_more : (a b : List (List Lit)) (i : ℕ) (d : List Lit) → i < length a → both (take (i + 1) a) b ≡ both (take i a) b ++ map (λ e. get_or a i d ++ e) b
-both_more a b i d l = rw (take_more a i d l) (simp (flat_map-append, append-nil))
-
-pub both_step : (a b p r : List (List Lit)) (i : ℕ) (x : List Lit) → p ≡ both (take i a) b → x ≡ get_or a i x → i < length a → r ≡ p ++ map (λ e. x ++ e) b → r ≡ both (take (i + 1) a) b
-both_step a b p r i x e is l f =
-    rw (both_more a b i x l) (subst (λ (y : List Lit). r ≡ both (take i a) b ++ map (λ e. y ++ e) b) is (subst (λ (q : List (List Lit)). r ≡ q ++ map (λ e. x ++ e) b) e f))
 
 module _ (c : List (List Lit)) (d : List Atom) (fits : ConstraintFits (length d) c) where
   guard_at : (e : List Atom) (g : List (List Lit)) → holds (d ++ e) (both c g) ≡ (holds d c && holds (d ++ e) g)

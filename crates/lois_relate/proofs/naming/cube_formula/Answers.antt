@@ -4,7 +4,8 @@ use Rattle.lois_base.specs.FormulaView.{view}
 use Rattle.lois_base.specs.Validity.{AdmitsCube}
 use Rattle.lois_relate.specs.Named.{chosen}
 use Rattle.lois_base.proofs.FormulaViews.{view_Lit}
-use Rattle.lois_relate.proofs.Loops.{all_go_on, all_end, rest_at}
+use Rattle.lois_base.proofs.Viewed.{rest_at}
+use Rattle.lois_relate.proofs.Loops.{all_go_on, all_end}
 use Rattle.lois_relate.proofs.Steps.{literal_says, literals_split, no_literals}
 use Rattle.lois_relate.proofs.naming.cube_formula.Goals as goal
 

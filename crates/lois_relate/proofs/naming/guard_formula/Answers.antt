@@ -3,7 +3,8 @@ use Rattle.lois_base.specs.Fits.{ConstraintFits, CubeFits}
 use Rattle.lois_base.specs.FormulaView.{view}
 use Rattle.lois_base.specs.Validity.{AdmitsConstraint, AdmitsCube}
 use Rattle.lois_relate.specs.Named.{chosen}
-use Rattle.lois_relate.proofs.Loops.{any_go_on, any_end, rest_is}
+use Rattle.lois_base.proofs.Viewed.{rest_is}
+use Rattle.lois_relate.proofs.Loops.{any_go_on, any_end}
 use Rattle.lois_relate.proofs.Steps.{cubes_split, no_cubes}
 use Rattle.lois_relate.proofs.naming.guard_formula.Goals as goal
 

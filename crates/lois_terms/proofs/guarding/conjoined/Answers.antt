@@ -1,5 +1,5 @@
 use Rattle.std.proofs.Common.{arith}
-use Rattle.lois_terms.proofs.UnderGuard.{both_step}
+use Rattle.lois_base.proofs.Both.{both_step}
 use Rattle.lois_terms.proofs.guarding.conjoined.Goals as goal
 
 pub loop-cube-preserved : goal.loop-cube-preserved
