@@ -1,0 +1,80 @@
+-- Comparisons of two expressions: the values of their sides, and how they fail.
+use Rattle.std.proofs.Common.{◌≡◌, ℕ, Bool, inl, inr, List, [], ◌∷◌, refl, sym, subst}
+use Rattle.lois_base.specs.Atom.{Atom}
+use Rattle.lois_base.specs.Data.{TermD}
+use Rattle.lois_base.specs.Truth.{sampled}
+use Rattle.lois_base.specs.Values.{point}
+use Rattle.lois_meaning.specs.Expressions.{Gives}
+use Rattle.lois_meaning.specs.Faults.{IsNoAtom, IsNoSet, OperandFails, CondFails}
+use Rattle.lois_meaning.specs.declared.faults.Fault.{Fault}
+use Rattle.lois_script.specs.Tree.{ExprD, CondD, truth, falsity, same, differ, below, member, included, empty, not, all, any, exists, every, pos}
+use Rattle.lois_context.specs.Choices.{IsAdmitted}
+use Rattle.lois_context.specs.Slots.{store_at}
+use Rattle.lois_context.specs.declared.contexts.Context.{Context}
+use Rattle.lois_eval.specs.Checks.{IsSetFault, IsAtomFault}
+use Rattle.lois_eval.specs.Compared.{IsBelowFault}
+use Rattle.lois_eval.specs.Evaluated.{AreTermsOf}
+use Rattle.lois_eval.specs.Forms.{two, sides_of, IsComparison}
+use Rattle.lois_eval.specs.Standing.{Stands, AllStand, CondStands, count_of, names_of}
+use Rattle.lois_eval.specs.Throughout.{IsFaultOf}
+use Rattle.lois_eval.proofs.Conditions.{sides, no_set_fails}
+use Rattle.lois_eval.proofs.FaultsAt.{fault_weaker}
+use Rattle.lois_eval.proofs.TermKinds.{atom_term}
+
+pub two_sides : (c : CondD) → IsComparison c → count_of (sides_of c) ≡ 2
+two_sides (same e f) h = refl
+two_sides (differ e f) h = refl
+two_sides (below p e f) h = refl
+two_sides (member e f) h = refl
+two_sides (included e f) h = refl
+two_sides truth h = absurd h
+two_sides falsity h = absurd h
+two_sides (empty e) h = absurd h
+two_sides (not c) h = absurd h
+two_sides (all cs) h = absurd h
+two_sides (any cs) h = absurd h
+two_sides (exists b c) h = absurd h
+two_sides (every b c) h = absurd h
+
+-- the values of the sides of a condition that is this one
+pub sides_as : (k : Context) (c d : CondD) (ts : List TermD) → c ≡ d → AreTermsOf k (sides_of c) (CondStands c) ts → AreTermsOf k (sides_of d) (CondStands d) ts
+sides_as k c d ts is h = subst (λ z. AreTermsOf k (sides_of z) (CondStands z) ts) is h
+
+-- an operand that is no atom
+no_atom_fails : (k : Context) (e : ExprD) (t : TermD) (f : Fault) → ((c : List Atom) → IsAdmitted c k → Gives e (store_at c k.store) (point t c)) → IsAtomFault k t (pos e) f → IsFaultOf k (OperandFails IsNoAtom e) f
+no_atom_fails k e t f given h = record {
+  admitted = h.fault.admitted;
+  failure = (h.fault.place, point t (sampled f.sample.items), given (sampled f.sample.items) h.fault.admitted, (h.kind, λ a is. let (i, e) = atom_term t (sampled f.sample.items) a is in h.no_atom i e));
+  elements = h.fault.elements;
+}
+
+module _ (k : Context) (e f : ExprD) (s t : TermD) (stands : Bool → List (List ℕ) → Type 0) (both : AreTermsOf k (two e f) stands (s ∷ t ∷ [])) (x : Fault) where
+  pub below_fails : (p : ℕ) → IsBelowFault k s (pos e) t (pos f) x → IsFaultOf k (CondFails (below p e f)) x
+  below_fails p (inl h) =
+      fault_weaker k (OperandFails IsNoAtom e) (CondFails (below p e f)) x (λ s at kind h. inr (inr (inl h))) (no_atom_fails k e s x (λ c a. (sides k e f s t stands both c a).0) h)
+  below_fails p (inr h) =
+      fault_weaker k (OperandFails IsNoAtom f) (CondFails (below p e f)) x (λ s at kind h. inr (inr (inr h))) (no_atom_fails k f t x (λ c a. (sides k e f s t stands both c a).1) h)
+
+  pub member_fails : IsSetFault k t (pos f) x → IsFaultOf k (CondFails (member e f)) x
+  member_fails h =
+      fault_weaker k (OperandFails IsNoSet f) (CondFails (member e f)) x (λ s at kind h. inr (inr h)) (no_set_fails k f t x (λ c a. (sides k e f s t stands both c a).1) h)
+
+  pub included_fails_left : IsSetFault k s (pos e) x → IsFaultOf k (CondFails (included e f)) x
+  included_fails_left h =
+      fault_weaker k (OperandFails IsNoSet e) (CondFails (included e f)) x (λ s at kind h. inr (inr (inl h))) (no_set_fails k e s x (λ c a. (sides k e f s t stands both c a).0) h)
+
+  pub included_fails_right : IsSetFault k t (pos f) x → IsFaultOf k (CondFails (included e f)) x
+  included_fails_right h =
+      fault_weaker k (OperandFails IsNoSet f) (CondFails (included e f)) x (λ s at kind h. inr (inr (inr h))) (no_set_fails k f t x (λ c a. (sides k e f s t stands both c a).1) h)
+
+-- the values of two expressions that are the sides of a condition
+pub sides_from : (k : Context) (c d : CondD) (e f : ExprD) (ts : List TermD) → c ≡ d → sides_of d ≡ two e f → ((o : Bool) (xs : List (List ℕ)) → CondStands d o xs → Stands e o xs × Stands f o xs) → AreTermsOf k (two e f) (AllStand (two e f)) ts → AreTermsOf k (sides_of c) (CondStands c) ts
+sides_from k c d e f ts is both stands h =
+    subst (λ z. AreTermsOf k (sides_of z) (CondStands z) ts) (sym is)
+    (subst (λ z. AreTermsOf k z (CondStands d) ts) (sym both) (record {
+      count = h.count;
+      values = h.values;
+      levels = h.levels;
+      operators = λ o p. let q = stands o (names_of k.store) p.names in h.operators o (record { names = (q.0, (q.1, tt)); operators = p.operators });
+      widths = h.widths;
+    }))

@@ -1,0 +1,54 @@
+-- Answers that are handed on, from a call and from inside of a loop.
+use Rattle.std.proofs.Common.{◌≡◌, ℕ, ◌<◌, List, length, get_or, Some, None, Ok, Err, refl, sym, subst}
+use Rattle.std.proofs.lemmas.List.Elements.{Contains-get_or}
+use Rattle.std.specs.List.{Contains}
+use Rattle.std.specs.Prelude.{Option, Result, IfOk, IfErr, IsOkAnd, IsErrAnd}
+use Rattle.lois_meaning.specs.declared.faults.Fault.{Fault}
+use Rattle.lois_meaning.specs.declared.faults.Stop.{Stop}
+use Rattle.lois_meaning.specs.declared.faults.Stop.TheVariants as Stops
+use Rattle.lois_eval.specs.Checks.{IsTruncated, IsTruncatedFrom}
+use Rattle.lois_eval.specs.Throughout.{IfFault}
+use Rattle.lois_eval.proofs.FaultsAt.{if_fault}
+
+pub handed_fault : {A B : Type 0} (r : Result A Stop) (given : Result B Stop) (n : ℕ) (P Q : Fault → Type 0) → IfErr r (λ s. IfFault s (λ f. IsErrAnd given (λ t. IsTruncated n f t))) → IfErr given (λ t. IfFault t P) → ((f g : Fault) → P g → IsTruncatedFrom n f g → Q f) → IfErr r (λ s. IfFault s Q)
+handed_fault (Ok x) given n P Q h i to = tt
+handed_fault (Err Stops.NoMemory) given n P Q h i to = tt
+handed_fault (Err (Stops.Fault f)) (Ok y) n P Q h i to = absurd h
+handed_fault (Err (Stops.Fault f)) (Err (Stops.Fault g)) n P Q h i to = to f g i h
+handed_fault (Err (Stops.Fault f)) (Err Stops.NoMemory) n P Q h i to = absurd h
+
+pub handed_same : {A : Type 0} (r given : Result A Stop) (P Q : A → Type 0) → IfOk r (λ x. IsOkAnd given (λ y. x ≡ y)) → IfOk given P → ((x : A) → P x → Q x) → IfOk r Q
+handed_same (Ok x) (Ok y) P Q h i to = to x (subst P (sym h) i)
+handed_same (Ok x) (Err t) P Q h i to = absurd h
+handed_same (Err s) given P Q h i to = tt
+
+pub handed_ok : {A B : Type 0} (r : Result A Stop) (given : Result B Stop) (One Two Three : A → B → Type 0) (P : B → Type 0) (Q : A → Type 0) → IfOk r (λ x. IsOkAnd given (One x)) → IfOk r (λ x. IsOkAnd given (Two x)) → IfOk r (λ x. IsOkAnd given (Three x)) → IfOk given P →
+    ((x : A) (y : B) → One x y → Two x y → Three x y → P y → Q x) → IfOk r Q
+handed_ok (Ok x) (Ok y) One Two Three P Q a b c i to = to x y a b c i
+handed_ok (Ok x) (Err t) One Two Three P Q a b c i to = absurd a
+handed_ok (Err s) given One Two Three P Q a b c i to = tt
+
+-- an error that `?` hands on
+pub passed_on : {A : Type 0} (r : Result A Stop) (s : Stop) (P Q : Fault → Type 0) → IsErrAnd r (λ t. t ≡ s) → ((f : Fault) → P f → Q f) → IfFault s P → IfErr r (λ t. IfFault t Q)
+passed_on (Ok x) s P Q same to h = absurd same
+passed_on (Err t) s P Q same to h = if_fault t P Q to (subst (λ z. IfFault z P) (sym same) h)
+
+pub both_ok : {A E : Type 0} (r : Result A E) (P Q R : A → Type 0) → IfOk r P → IfOk r Q → ((x : A) → P x → Q x → R x) → IfOk r R
+both_ok (Ok x) P Q R p q to = to x p q
+both_ok (Err e) P Q R p q to = tt
+
+pub three_ok : {A E : Type 0} (r : Result A E) (P Q R S : A → Type 0) → IfOk r P → IfOk r Q → IfOk r R → ((x : A) → P x → Q x → R x → S x) → IfOk r S
+three_ok (Ok x) P Q R S p q s to = to x p q s
+three_ok (Err e) P Q R S p q s to = tt
+
+pub four_ok : {A E : Type 0} (r : Result A E) (P Q R S T : A → Type 0) → IfOk r P → IfOk r Q → IfOk r R → IfOk r S → ((x : A) → P x → Q x → R x → S x → T x) → IfOk r T
+four_ok (Ok x) P Q R S T p q s u to = to x p q s u
+four_ok (Err e) P Q R S T p q s u to = tt
+
+pub is_none : {A : Type 0} (o : Option A) → ((x : A) → o ≡ Some x → ⊥) → o ≡ None
+is_none None h = refl
+is_none (Some x) h = absurd (h x refl)
+
+-- an item of a list is one of its items
+pub item_there : {A : Type 0} (xs : List A) (i : ℕ) (x : A) → i < length xs → x ≡ get_or xs i x → Contains xs x
+item_there xs i x l is = subst (Contains xs) (sym is) (Contains-get_or xs i x l)

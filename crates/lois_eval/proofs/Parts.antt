@@ -1,0 +1,111 @@
+-- Lists of expressions and of conditions, item by item.
+use Rattle.std.proofs.Common.{◌≡◌, ℕ, zero, suc, ◌<◌, ◌≤◌, Bool, true, false, ◌&&◌, ◌||◌, inl, inr, List, [], ◌∷◌, ◌++◌, length, get_or, map, refl, sym, ap, subst, arith}
+use Rattle.std.proofs.lemmas.List.Folds.{list_all-append, list_any-append}
+use Rattle.std.specs.List.{list_all, list_any}
+use Rattle.lois_base.specs.Atom.{Atom}
+use Rattle.lois_base.specs.Data.{TermD, terms_of}
+use Rattle.lois_base.specs.Fits.{Fits, PartsFit}
+use Rattle.lois_base.specs.Validity.{AdmitsTerm, AdmitsParts, HasUsualWidths, PartsHaveUsualWidths}
+use Rattle.lois_base.specs.Values.{PointValue, point}
+use Rattle.lois_meaning.specs.Expressions.{Gives, GiveAll, HasTruth, HaveTruths}
+use Rattle.lois_meaning.specs.Faults.{Fails, SomeFails, CondFails, SomeCondFails}
+use Rattle.lois_meaning.specs.Kinds.{parts_at}
+use Rattle.lois_meaning.specs.Store.{NamedValues}
+use Rattle.lois_script.specs.Tree.{ExprD, ExprsD, CondD, CondsD}
+use Rattle.lois_script.specs.View.{tree, cond_tree, exprs_of, conds_of}
+use Rattle.lois_answers.specs.declared.faults.FaultKind.{FaultKind}
+use Rattle.lois_script.specs.declared.syntax.Cond.{Cond}
+use Rattle.lois_script.specs.declared.syntax.Expr.{Expr}
+use Rattle.lois_eval.specs.Standing.{Stands, AllStand, CondStands, AllCondsStand, count_of}
+use Rattle.lois_eval.proofs.Weights.{weight, weight_of_exprs, weight_of_cond, weight_of_conds}
+
+-- ---- expressions
+
+-- an item of a list of expressions
+pub record IsExprOf (es : ExprsD) (e : ExprD) : Type 0 where
+  pub weight : weight e ≤ weight_of_exprs es
+  pub stands : (o : Bool) (xs : List (List ℕ)) → AllStand es o xs → Stands e o xs
+  pub fails : (s : NamedValues) (at : ℕ) (k : FaultKind) → Fails e s at k → SomeFails es s at k
+
+expr_at : (es : List Expr) (i : ℕ) (d : Expr) → i < length es → IsExprOf (exprs_of (map tree es)) (tree (get_or es i d))
+expr_at [] i d l = absurd (omega arith)
+expr_at (e ∷ es) zero d l = record {
+  weight = omega arith;
+  stands = λ o xs h. h.0;
+  fails = λ s at k h. inl h;
+}
+expr_at (e ∷ es) (suc i) d l =
+    let rest = expr_at es i d (omega arith) in
+    record {
+      weight = omega (arith, rest.weight);
+      stands = λ o xs h. rest.stands o xs h.1;
+      fails = λ s at k h. inr (rest.fails s at k h);
+    }
+
+pub is_expr_of : (es : List Expr) (vs : List ExprD) (i : ℕ) (e : Expr) → map tree es ≡ vs → i < length es → e ≡ get_or es i e → IsExprOf (exprs_of vs) (tree e)
+is_expr_of es vs i e m l is =
+    subst (λ z. IsExprOf (exprs_of z) (tree e)) m (subst (λ z. IsExprOf (exprs_of (map tree es)) (tree z)) (sym is) (expr_at es i e l))
+
+pub give_all_more : (es : List ExprD) (e : ExprD) (s : NamedValues) (vs : List PointValue) (v : PointValue) → GiveAll (exprs_of es) s vs → Gives e s v → GiveAll (exprs_of (es ++ e ∷ [])) s (vs ++ v ∷ [])
+give_all_more [] e s vs v h g = (v, [], ap (λ z. z ++ v ∷ []) h, g, refl)
+give_all_more (d ∷ es) e s vs v (w, more, is, own, rest) g =
+    (w, more ++ v ∷ [], ap (λ z. z ++ v ∷ []) is, own, give_all_more es e s more v rest g)
+
+pub parts_at-append : (ts : List TermD) (t : TermD) (c : List Atom) → parts_at (terms_of (ts ++ t ∷ [])) c ≡ parts_at (terms_of ts) c ++ point t c ∷ []
+parts_at-append [] t c = refl
+parts_at-append (s ∷ ts) t c = ap (λ z. point s c ∷ z) (parts_at-append ts t c)
+
+pub parts_fit-more : (n : ℕ) (ts : List TermD) (t : TermD) → PartsFit n (terms_of ts) → Fits n t → PartsFit n (terms_of (ts ++ t ∷ []))
+parts_fit-more n [] t h f = (f, tt)
+parts_fit-more n (s ∷ ts) t h f = (h.0, parts_fit-more n ts t h.1 f)
+
+pub parts_admit-more : (o : Bool) (ts : List TermD) (t : TermD) → AdmitsParts o (terms_of ts) → AdmitsTerm o t → AdmitsParts o (terms_of (ts ++ t ∷ []))
+parts_admit-more o [] t h f = (f, tt)
+parts_admit-more o (s ∷ ts) t h f = (h.0, parts_admit-more o ts t h.1 f)
+
+pub parts_widths-more : (ts : List TermD) (t : TermD) → PartsHaveUsualWidths (terms_of ts) → HasUsualWidths t → PartsHaveUsualWidths (terms_of (ts ++ t ∷ []))
+parts_widths-more [] t h f = (f, tt)
+parts_widths-more (s ∷ ts) t h f = (h.0, parts_widths-more ts t h.1 f)
+
+pub count_of-more : (es : List ExprD) → count_of (exprs_of es) ≡ length es
+count_of-more [] = refl
+count_of-more (e ∷ es) = ap suc (count_of-more es)
+
+-- ---- conditions
+
+pub record IsCondOf (cs : CondsD) (c : CondD) : Type 0 where
+  pub weight : weight_of_cond c ≤ weight_of_conds cs
+  pub stands : (o : Bool) (xs : List (List ℕ)) → AllCondsStand cs o xs → CondStands c o xs
+  pub fails : (s : NamedValues) (at : ℕ) (k : FaultKind) → CondFails c s at k → SomeCondFails cs s at k
+
+cond_at : (cs : List Cond) (i : ℕ) (d : Cond) → i < length cs → IsCondOf (conds_of (map cond_tree cs)) (cond_tree (get_or cs i d))
+cond_at [] i d l = absurd (omega arith)
+cond_at (c ∷ cs) zero d l = record {
+  weight = omega arith;
+  stands = λ o xs h. h.0;
+  fails = λ s at k h. inl h;
+}
+cond_at (c ∷ cs) (suc i) d l =
+    let rest = cond_at cs i d (omega arith) in
+    record {
+      weight = omega (arith, rest.weight);
+      stands = λ o xs h. rest.stands o xs h.1;
+      fails = λ s at k h. inr (rest.fails s at k h);
+    }
+
+pub is_cond_of : (cs : List Cond) (vs : List CondD) (i : ℕ) (c : Cond) → map cond_tree cs ≡ vs → i < length cs → c ≡ get_or cs i c → IsCondOf (conds_of vs) (cond_tree c)
+is_cond_of cs vs i c m l is =
+    subst (λ z. IsCondOf (conds_of z) (cond_tree c)) m (subst (λ z. IsCondOf (conds_of (map cond_tree cs)) (cond_tree z)) (sym is) (cond_at cs i c l))
+
+pub have_truths_more : (cs : List CondD) (c : CondD) (s : NamedValues) (bs : List Bool) (b : Bool) → HaveTruths (conds_of cs) s bs → HasTruth c s b → HaveTruths (conds_of (cs ++ c ∷ [])) s (bs ++ b ∷ [])
+have_truths_more [] c s bs b h g = (b, [], ap (λ z. z ++ b ∷ []) h, g, refl)
+have_truths_more (d ∷ cs) c s bs b (k, more, is, own, rest) g =
+    (k, more ++ b ∷ [], ap (λ z. z ++ b ∷ []) is, own, have_truths_more cs c s more b rest g)
+
+pub list_all-more : (bs : List Bool) (b : Bool) → list_all (λ k. k) (bs ++ b ∷ []) ≡ (list_all (λ k. k) bs && b)
+list_all-more bs true = list_all-append (λ k. k) bs (true ∷ [])
+list_all-more bs false = list_all-append (λ k. k) bs (false ∷ [])
+
+pub list_any-more : (bs : List Bool) (b : Bool) → list_any (λ k. k) (bs ++ b ∷ []) ≡ (list_any (λ k. k) bs || b)
+list_any-more bs true = list_any-append (λ k. k) bs (true ∷ [])
+list_any-more bs false = list_any-append (λ k. k) bs (false ∷ [])

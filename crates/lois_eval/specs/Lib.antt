@@ -1,0 +1,10 @@
+pub mod Standing
+pub mod Throughout
+pub mod Checks
+pub mod Made
+pub mod Operands
+pub mod Compared
+pub mod Evaluated
+pub mod Folded
+pub mod Forms
+pub mod Asking

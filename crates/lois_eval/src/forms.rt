@@ -1,0 +1,138 @@
+//! Single forms of expressions and conditions, whose operands have their values.
+
+ghost use Rattle.std.specs.Prelude.{[], ◌∷◌, Bool, IfOk, IfErr};
+ghost use Rattle.lois_base.specs.Fits.{Fits};
+ghost use Rattle.lois_base.specs.Tree.{tree as term_tree};
+ghost use Rattle.lois_base.specs.Validity.{AdmitsTerm, HasUsualWidths};
+ghost use Rattle.lois_algebra.specs.Sets.{HasAllAtoms};
+ghost use Rattle.lois_terms.specs.Guarded.{IsSet};
+ghost use Rattle.lois_meaning.specs.Expressions.{Makes, HasTruth};
+ghost use Rattle.lois_meaning.specs.Faults.{Breaks, CondFails};
+ghost use Rattle.lois_script.specs.View.{tree, cond_tree};
+ghost use Rattle.lois_eval.specs.Evaluated.{IsTermOf, AreTermsOf, IsConstraintOf};
+ghost use Rattle.lois_eval.specs.Forms.{parts_of, sides_of, IsSimple, IsComposed, IsComparison};
+ghost use Rattle.lois_eval.specs.Standing.{IsPlaced, Stands, CondStands};
+ghost use Rattle.lois_eval.specs.Throughout.{IsFaultOf, IfFault};
+
+use crate::asking::Asks;
+use crate::checks::check_set;
+use crate::making::{held, set_of};
+use crate::operands::two_terms;
+use crate::operations::applied;
+use crate::relations::{below, equal, included, unequal, within};
+use lois_algebra::all_atoms;
+use lois_base::{Constraint, NoMemory, Structure, Term, Terms};
+use lois_context::Context;
+use lois_meaning::Stop;
+use lois_script::{Cond, Expr};
+use std::alloc::Global;
+
+// The greatest usize can't be a binder's level.
+fn atoms(alloc: Global, size: usize) -> Result<Term, NoMemory>
+    ensures members { IfOk result (λ r. HasAllAtoms size (term_tree r)) }
+    ensures set { IfOk result (λ r. IsSet (term_tree r)) }
+    ensures levels { IfOk result (λ r. Fits size (term_tree r)) }
+    ensures operators { IfOk result (λ r. (ordered : Bool) → AdmitsTerm ordered (term_tree r)) }
+    ensures widths { IfOk result (λ r. HasUsualWidths (term_tree r)) }
+{
+    if size == usize::MAX {
+        return Err(NoMemory);
+    }
+    all_atoms(alloc, size)
+}
+
+/// What an expression without parts makes.
+pub(crate) fn simple<T: Structure>(alloc: Global, e: &Expr, context: &Context) -> Result<Term, Stop>
+    requires form { IsSimple (tree e.now) }
+    requires placed { IsPlaced (Stands (tree e.now)) T.ordered context.now }
+    ensures term { IfOk result (λ t. IsTermOf context.now (Makes (tree e.now)) (Stands (tree e.now)) (term_tree t)) }
+    ensures fault { IfErr result (λ s. IfFault s (IsFaultOf context.now (Breaks (tree e.now)))) }
+{
+    match e {
+        Expr::Atoms(_) => Ok(atoms(alloc, context.size)?),
+        Expr::Var(_, name) => Ok(held(alloc, name, context)?),
+        Expr::Tag(_, name) => Ok(Term::Tag(name.copy(alloc)?)),
+        _ => unreachable!(),
+    }
+}
+
+/// What a tuple, a list or an operation makes of operands with these values.
+pub(crate) fn composed<T: Structure, D: Asks>(
+    alloc: Global,
+    e: &Expr,
+    values: Terms,
+    context: &Context,
+    decider: &mut D,
+) -> Result<Term, Stop>
+    requires sound { D.sound }
+    requires form { IsComposed (tree e.now) }
+    requires placed { IsPlaced (Stands (tree e.now)) T.ordered context.now }
+    requires values { AreTermsOf context.now (parts_of (tree e.now)) (Stands (tree e.now)) values }
+    ensures term { IfOk result (λ t. IsTermOf context.now (Makes (tree e.now)) (Stands (tree e.now)) (term_tree t)) }
+    ensures fault { IfErr result (λ s. IfFault s (IsFaultOf context.now (Breaks (tree e.now)))) }
+    ensures asked { D.reaches decider.old decider.new }
+{
+    match e {
+        Expr::Tuple(_, _) => Ok(Term::Tup(values)),
+        Expr::Listed(_, _) => {
+            // read, since each member stands over that many levels
+            let _size = context.size;
+            Ok(set_of(alloc, &values)?)
+        }
+        Expr::Apply(_, operation, operands) => {
+            applied::<T, D>(alloc, *operation, operands, &values, context, decider)
+        }
+        _ => unreachable!(),
+    }
+}
+
+/// Where a comparison is true whose sides have these values. Errors: a fault at a side that is unfit for it.
+pub(crate) fn compared<T: Structure>(
+    alloc: Global,
+    c: &Cond,
+    values: &Terms,
+    context: &Context,
+) -> Result<Constraint, Stop>
+    requires form { IsComparison (cond_tree c.now) }
+    requires placed { IsPlaced (CondStands (cond_tree c.now)) T.ordered context.now }
+    requires values { AreTermsOf context.now (sides_of (cond_tree c.now)) (CondStands (cond_tree c.now)) values.now }
+    ensures constraint { IfOk result (IsConstraintOf context.now (HasTruth (cond_tree c.now)) (CondStands (cond_tree c.now))) }
+    ensures fault { IfErr result (λ s. IfFault s (IsFaultOf context.now (CondFails (cond_tree c.now)))) }
+{
+    let (s, t) = two_terms(values);
+    compared_with::<T>(alloc, c, s, t, context)
+}
+
+// The same of the two values by themselves.
+fn compared_with<T: Structure>(
+    alloc: Global,
+    c: &Cond,
+    s: &Term,
+    t: &Term,
+    context: &Context,
+) -> Result<Constraint, Stop>
+    requires form { IsComparison (cond_tree c.now) }
+    requires values { AreTermsOf context.now (sides_of (cond_tree c.now)) (CondStands (cond_tree c.now)) (term_tree s.now ∷ term_tree t.now ∷ []) }
+    requires left { Fits context.now.size (term_tree s.now) }
+    requires left_operators { AdmitsTerm T.ordered (term_tree s.now) }
+    requires right { Fits context.now.size (term_tree t.now) }
+    requires right_operators { AdmitsTerm T.ordered (term_tree t.now) }
+    ensures constraint { IfOk result (IsConstraintOf context.now (HasTruth (cond_tree c.now)) (CondStands (cond_tree c.now))) }
+    ensures fault { IfErr result (λ s. IfFault s (IsFaultOf context.now (CondFails (cond_tree c.now)))) }
+{
+    match c {
+        Cond::Same(_, _) => Ok(equal::<T>(alloc, s, t, context.size)?),
+        Cond::Differ(_, _) => Ok(unequal::<T>(alloc, s, t, context.size)?),
+        Cond::Below(_, e, f) => below(alloc, s, e.pos(), t, f.pos(), context),
+        Cond::Member(_, f) => {
+            check_set(alloc, f.pos(), t, context)?;
+            Ok(within::<T>(alloc, s, t, context.size)?)
+        }
+        Cond::Included(e, f) => {
+            check_set(alloc, e.pos(), s, context)?;
+            check_set(alloc, f.pos(), t, context)?;
+            Ok(included::<T>(alloc, s, t, context.size)?)
+        }
+        _ => unreachable!(),
+    }
+}

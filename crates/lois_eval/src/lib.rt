@@ -1,0 +1,18 @@
+//! What expressions give and which truth conditions have, at all choices that a context admits at once.
+#![tactic(auto)]
+
+mod asking;
+mod checks;
+mod entering;
+mod evaluating;
+mod faults;
+mod flattening;
+mod folding;
+mod forms;
+mod joining;
+mod making;
+mod operands;
+mod operations;
+mod relations;
+
+pub use evaluating::{decide, eval};
