@@ -11,7 +11,14 @@ cp -r "$top/crates" "$room/crates"
   cat "$top/crates.txt"
   echo 'merging_time: anyhow lois_answers lois_base lois_context lois_deciders'
 } >"$room/crates.txt"
-mkdir -p "$room/crates/merging_time/src"
+mkdir -p "$room/crates/merging_time/src" "$room/crates/merging_time/proofs/opening"
+cat >"$room/crates/merging_time/proofs/opening/Answers.antt" <<'END'
+use Rattle.lois_context.proofs.Carried.{no_names}
+use Rattle.merging_time.proofs.opening.Goals as goal
+
+pub invariant_of-result-clause-names : goal.invariant_of-result-clause-names
+invariant_of-result-clause-names g c = no_names c.new-store.result c.new-store.ensures.empty
+END
 cat >"$room/crates/merging_time/src/main.rt" <<'END'
 //! Times the merging of many contexts.
 #![tactic(auto)]
@@ -37,20 +44,22 @@ fn set_of(alloc: Global, item: Term) -> Result<Term, NoMemory> {
     Ok(Term::Coll(comps))
 }
 
-fn opening(rt: &impl Abort, alloc: Global) -> Result<Context, NoMemory> {
+fn opening(rt: &impl Abort, alloc: Global, size: usize) -> Result<Context, NoMemory> {
     let when = Constraint::always(alloc)?;
     let mut sample = Numbers::new(alloc);
-    for number in 0..SIZE {
+    for number in 0..size {
         sample.push(number as u64)?;
     }
-    assert!(rt; when.fits(SIZE) && sample.len() == SIZE);
+    assert!(rt; when.fits(size) && sample.len() == size);
     assert!(rt; when.at(sample.as_slice()));
+    let store = Store::new(alloc);
+    let lines = Lines::new(alloc);
     Ok(Context {
-        size: SIZE,
+        size,
         when,
         sample,
-        store: Store::new(alloc),
-        lines: Lines::new(alloc),
+        store,
+        lines,
     })
 }
 
@@ -61,7 +70,7 @@ fn holding(rt: &impl Abort, alloc: Global, chosen: &mut Chosen, depth: usize) ->
         held = set_of(alloc, held)?;
     }
     let elements = set_of(alloc, held)?;
-    let before = opening(rt, alloc)?;
+    let before = opening(rt, alloc, SIZE)?;
     assert!(rt; is_name(b"s"));
     let name = Name::from_bytes(alloc, b"s")?;
     assert!(rt; elements.fits(before.size) && matches!(elements, Term::Coll(_)));
