@@ -3,23 +3,9 @@
 # The program is made from crates/ in a temporary repository, built and run there.
 #   bench/merging.sh
 set -eu
-top=$(cd "$(dirname "${BASH_SOURCE[0]}")/.." && pwd)
-room=$(mktemp -d)
-trap 'rm -rf "$room"' EXIT
-cp -r "$top/crates" "$room/crates"
-{
-  cat "$top/crates.txt"
-  echo 'merging_time: anyhow lois_answers lois_base lois_context lois_deciders'
-} >"$room/crates.txt"
-mkdir -p "$room/crates/merging_time/src" "$room/crates/merging_time/proofs/opening"
-cat >"$room/crates/merging_time/proofs/opening/Answers.antt" <<'END'
-use Rattle.lois_context.proofs.Carried.{no_names}
-use Rattle.merging_time.proofs.opening.Goals as goal
+. "$(dirname "${BASH_SOURCE[0]}")/program.sh"
 
-pub invariant_of-result-clause-names : goal.invariant_of-result-clause-names
-invariant_of-result-clause-names g c = no_names c.new-store.result c.new-store.ensures.empty
-END
-cat >"$room/crates/merging_time/src/main.rt" <<'END'
+program merging_time anyhow lois_answers lois_base lois_context lois_deciders <<'END'
 //! Times the merging of many contexts.
 #![tactic(auto)]
 
@@ -139,5 +125,11 @@ fn main(rt: HostRuntime) -> anyhow::Result<()> {
     Ok(())
 }
 END
-cd "$room/crates/merging_time"
-rt run
+answers merging_time opening <<'END'
+use Rattle.lois_context.proofs.Carried.{no_names}
+use Rattle.merging_time.proofs.opening.Goals as goal
+
+pub invariant_of-result-clause-names : goal.invariant_of-result-clause-names
+invariant_of-result-clause-names g c = no_names c.new-store.result c.new-store.ensures.empty
+END
+built_and_run merging_time

@@ -4,16 +4,9 @@
 # built and run there.
 #   bench/simplifying.sh
 set -eu
-top=$(cd "$(dirname "${BASH_SOURCE[0]}")/.." && pwd)
-room=$(mktemp -d)
-trap 'rm -rf "$room"' EXIT
-cp -r "$top/crates" "$room/crates"
-{
-  cat "$top/crates.txt"
-  echo 'simplifying_time: anyhow lois_base lois_deciders lois_order lois_simplify'
-} >"$room/crates.txt"
-mkdir -p "$room/crates/simplifying_time/src"
-cat >"$room/crates/simplifying_time/src/main.rt" <<'END'
+. "$(dirname "${BASH_SOURCE[0]}")/program.sh"
+
+program simplifying_time anyhow lois_base lois_deciders lois_order lois_simplify <<'END'
 //! Times the simplification of sets of many comprehensions.
 #![tactic(auto)]
 
@@ -116,5 +109,4 @@ fn main(rt: HostRuntime) -> anyhow::Result<()> {
     Ok(())
 }
 END
-cd "$room/crates/simplifying_time"
-rt run
+built_and_run simplifying_time

@@ -1,0 +1,120 @@
+-- A loop fails as the fault says that comes from inside of it.
+use Rattle.std.proofs.Common.{◌≡◌, ℕ, zero, suc, ◌≤◌, inl, inr, ◌↔◌, Bool, true, List, [], ◌∷◌, ◌++◌, length, take, drop, Some, refl, sym, ap, ◌∙◌, subst, arith}
+use Rattle.std.specs.List.{All, Contains}
+use Rattle.std.proofs.lemmas.List.{length-map, map-append, take-append-drop, length-take}
+use Rattle.std.proofs.Math.Seq.{take-length}
+use Rattle.std.proofs.lemmas.List.Elements.{All-contains, All-nil}
+use Rattle.lois_base.specs.Atom.{Atom, whole}
+use Rattle.lois_base.specs.Data.{TermD, depth}
+use Rattle.lois_base.specs.Fits.{Fits}
+use Rattle.lois_base.specs.Validity.{AdmitsTerm, HasUsualWidths}
+use Rattle.lois_base.specs.Truth.{sampled}
+use Rattle.lois_base.specs.Values.{PointValue, point, IsMember}
+use Rattle.lois_context.specs.Choices.{IsAdmitted, ContextHasUsualWidths}
+use Rattle.lois_context.specs.Entered.{IsHeldInside, GoesOn}
+use Rattle.lois_context.specs.Slots.{store_at, lines_at}
+use Rattle.lois_context.specs.declared.contexts.Context.{Context}
+use Rattle.lois_eval.specs.Standing.{IsPlaced}
+use Rattle.lois_eval.specs.Throughout.{Failure, IsFaultOf}
+use Rattle.lois_answers.specs.ResultsData.{LineD}
+use Rattle.lois_interp.specs.Failed.{AreElements, FailsWithin}
+use Rattle.lois_interp.specs.Standing.{StmtMayStand, TurnMayStand}
+use Rattle.lois_interp.proofs.Compose.{elements_from}
+use Rattle.lois_interp.specs.Run.{Run, stmt_run}
+use Rattle.lois_interp.specs.Looped.{FailsInside}
+use Rattle.lois_meaning.specs.Expressions.{Gives, HasTruth}
+use Rattle.lois_meaning.specs.Faults.{CondFails}
+use Rattle.lois_meaning.specs.Runs.{ListFails}
+use Rattle.lois_meaning.specs.Store.{NamedValues, named, looked_up, stored, AreSameNamed}
+use Rattle.lois_script.specs.Tree.{ExprD, CondD, StmtsD, binding, for}
+use Rattle.lois_meaning.specs.declared.faults.Fault.{Fault}
+use Rattle.lois_answers.specs.declared.faults.FaultKind.{FaultKind}
+use Rattle.lois_meaning.proofs.Failures.{cond_fails_move}
+use Rattle.lois_meaning.proofs.Moves.{truth_from}
+use Rattle.lois_meaning.proofs.Runs.{list_fails_move}
+
+pub take_in : {X : Type 0} (n m : ℕ) (s : List X) → n ≤ m → take n (take m s) ≡ take n s
+take_in zero m s le = refl
+take_in (suc n) zero s le = absurd (omega arith)
+take_in (suc n) (suc m) [] le = refl
+take_in (suc n) (suc m) (x ∷ s) le = ap (λ z. x ∷ z) (take_in n m s (omega arith))
+
+-- the first n numbers of a sample, and those behind them up to the m-th
+pub sample_parts : (n m : ℕ) (s : List ℕ) → n ≤ m → sampled (take m s) ≡ sampled (take n s) ++ sampled (drop n (take m s))
+sample_parts n m s le =
+    ap sampled (sym (take-append-drop n (take m s)) ∙ ap (λ z. z ++ drop n (take m s)) (take_in n m s le)) ∙ map-append whole (take n s) (drop n (take m s))
+
+pub length_first : (n m : ℕ) (s : List ℕ) → n ≤ m → length (sampled (take m s)) ≡ m → length (sampled (take n s)) ≡ n
+length_first n m s le e =
+    omega (arith, length-map (take m s) whole, length-map (take n s) whole, length-take m s, length-take n s)
+
+pub whole_sample : (n : ℕ) (s : List ℕ) → length (sampled s) ≡ n → take n s ≡ s
+whole_sample n s e =
+    let count : n ≡ length s = omega (arith, length-map s whole) in
+    subst (λ k. take k s ≡ s) (sym count) (take-length s)
+
+-- no elements
+pub no_elements : (stands : Bool → List (List ℕ) → Type 0) (k : Context) (n : ℕ) → AreElements stands k n []
+no_elements stands k n = record {
+  levels = All-nil (λ (l : LineD). Fits n l.term);
+  brackets = All-nil (λ (l : LineD). depth l.term ≤ 64);
+  operators = λ o p. All-nil (λ (l : LineD). AdmitsTerm o l.term);
+  widths = λ w. All-nil (λ (l : LineD). HasUsualWidths l.term);
+}
+
+-- a failure outside of every loop
+pub bare_within : (fails : Failure) (more : Run) (k : Context) (f : Fault) → ((s : NamedValues) (at : ℕ) (kind : FaultKind) → fails s at kind → more.fails s at kind []) → IsFaultOf k fails f → FailsWithin more k f
+bare_within fails more k f to h =
+    let all : take k.size f.sample.items ≡ f.sample.items = whole_sample k.size f.sample.items h.admitted.0 in
+    record {
+      admitted = subst (λ z. IsAdmitted (sampled z) k) (sym all) h.admitted;
+      path = [];
+      failed = subst (λ z. more.fails (store_at (sampled z) k.store) f.pos.offset f.kind []) (sym all) (to (store_at (sampled f.sample.items) k.store) f.pos.offset f.kind h.failure);
+      named = subst (λ z. AreSameNamed [] (lines_at (sampled f.sample.items) z)) (sym h.elements) tt;
+      elements = subst (AreElements more.stands k (length f.sample.items)) (sym h.elements) (no_elements more.stands k (length f.sample.items));
+    }
+
+module _ (e : ExprD) (x : List ℕ) (c : CondD) (body : StmtsD) (p : ℕ) (before : Context) (t : TermD) (inside : List Context)
+    (gives : (a : List Atom) → IsAdmitted a before → Gives e (store_at a before.store) (point t a))
+    (members : (a : List Atom) → IsAdmitted a before → (u : PointValue) → IsMember u (point t a) ↔ IsHeldInside inside x a u)
+    (goes_on : All (GoesOn before x) inside) where
+  pub loop_fails : (d : Context) (f : Fault) → Contains inside d → before.size ≤ d.size →
+      ((o : Bool) → IsPlaced (StmtMayStand (for (binding p x e) c body)) o before → IsPlaced (TurnMayStand c body) o d) → (ContextHasUsualWidths before → ContextHasUsualWidths d) →
+      FailsInside x c body d f → FailsWithin (stmt_run (for (binding p x e) c body)) before f
+  loop_fails d f there le placed widths h =
+      let a = sampled (take before.size f.sample.items) in
+      let further = sampled (drop before.size (take d.size f.sample.items)) in
+      let parts : sampled (take d.size f.sample.items) ≡ a ++ further = sample_parts before.size d.size f.sample.items le in
+      let count : length a ≡ before.size = length_first before.size d.size f.sample.items le h.admitted.0 in
+      let adm_d : IsAdmitted (a ++ further) d = subst (λ z. IsAdmitted z d) parts h.admitted in
+      let goes : GoesOn before x d = All-contains (GoesOn before x) inside d goes_on there in
+      let adm : IsAdmitted a before = goes.outside a further count adm_d in
+      let held = subst (λ z. looked_up x (store_at z d.store) ≡ Some h.member) parts h.held in
+      let member : IsMember h.member (point t a) = (members a adm h.member).1 (d, there, further, adm_d, held) in
+      let same : AreSameNamed (store_at (a ++ further) d.store) (stored x h.member (store_at a before.store)) = goes.store a further count adm_d h.member held in
+      record {
+        admitted = adm;
+        path = named x h.member ∷ h.rest;
+        failed = elim h.failed [
+          | inl q ↦ inr (inr (inl (
+            point t a,
+            h.member,
+            gives a adm,
+            member,
+            cond_fails_move c (store_at (a ++ further) d.store) (stored x h.member (store_at a before.store)) f.pos.offset f.kind same (subst (λ z. CondFails c (store_at z d.store) f.pos.offset f.kind) parts q.0),
+            ap (λ z. named x h.member ∷ z) q.1,
+          )))
+          | inr q ↦ inr (inr (inr (
+            point t a,
+            h.member,
+            h.rest,
+            gives a adm,
+            member,
+            truth_from c (store_at (a ++ further) d.store) (stored x h.member (store_at a before.store)) true same (subst (λ z. HasTruth c (store_at z d.store) true) parts q.0),
+            list_fails_move body (store_at (a ++ further) d.store) (stored x h.member (store_at a before.store)) f.pos.offset f.kind h.rest same (subst (λ z. ListFails body (store_at z d.store) f.pos.offset f.kind h.rest) parts q.1),
+            refl,
+          )))
+        ];
+        named = h.path;
+        elements = elements_from (TurnMayStand c body) (StmtMayStand (for (binding p x e) c body)) before d (length f.sample.items) f.elements placed widths h.elements;
+      }

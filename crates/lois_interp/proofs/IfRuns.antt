@@ -1,0 +1,94 @@
+-- Both sides of a condition.
+use Rattle.std.proofs.Common.{ℕ, inl, inr, Bool, true, false, List, [], ◌++◌, Option, Some, None, IfSome, refl, arith}
+use Rattle.std.specs.List.{All}
+use Rattle.std.proofs.lemmas.List.Elements.{Contains-append_cases, Contains-push, All-append, All-nil}
+use Rattle.lois_script.specs.Tree.{CondD, StmtsD, if}
+use Rattle.lois_meaning.specs.Faults.{CondFails}
+use Rattle.lois_meaning.specs.declared.faults.Fault.{Fault}
+use Rattle.lois_context.specs.Choices.{AdmitsContext, ContextHasUsualWidths}
+use Rattle.lois_context.specs.declared.contexts.Context.{Context}
+use Rattle.lois_context.specs.declared.contexts.Split.{Split}
+use Rattle.lois_context.proofs.Counts.{times_append}
+use Rattle.lois_eval.specs.Standing.{names_of, IsPlaced, CondStands}
+use Rattle.lois_eval.specs.Throughout.{IsFaultOf}
+use Rattle.lois_interp.specs.Decided.{listed, IsTrueSide, IsDecided}
+use Rattle.lois_interp.specs.Failed.{FailsWithin, FailsFrom}
+use Rattle.lois_interp.specs.Reached.{RunsFrom, RunsAs}
+use Rattle.lois_interp.specs.Run.{stmt_run, block_run}
+use Rattle.lois_interp.specs.Standing.{CondMayStand, StmtMayStand, BlockMayStand}
+use Rattle.lois_interp.proofs.ForFails.{bare_within}
+use Rattle.lois_interp.proofs.Lists.{all_one, of_one}
+use Rattle.lois_interp.proofs.Parted.{cond_placed, listed_side, side_placed, from_side, side_fails}
+
+-- what is true of each side that there is
+pub all_sides : (P : Context → Type 0) (o : Option Context) → IfSome o P → All P (listed o)
+all_sides P None h = All-nil P
+all_sides P (Some y) h = all_one P y h
+
+pub some_side : (P Q : Context → Type 0) (o : Option Context) → ((y : Context) → P y → Q y) → IfSome o P → IfSome o Q
+some_side P Q None to h = tt
+some_side P Q (Some y) to h = to y h
+
+module _ (c : CondD) (first second : StmtsD) where
+  if_cond : (o : Bool) (names : List (List ℕ)) → StmtMayStand ((if) c first second) o names → CondMayStand c o names
+  if_cond o names h = record { scope = h.scope; named = h.named; order = h.order; unbroken = λ rule at bad. h.unbroken rule at (inl bad); form = h.form.0 }
+
+  if_first : (o : Bool) (names : List (List ℕ)) → StmtMayStand ((if) c first second) o names → BlockMayStand first o names
+  if_first o names h = record { scope = h.scope; named = h.named; order = h.order; unbroken = λ rule at bad. h.unbroken rule at (inr (inl bad)); form = h.form.1 }
+
+  if_second : (o : Bool) (names : List (List ℕ)) → StmtMayStand ((if) c first second) o names → BlockMayStand second o names
+  if_second o names h = record { scope = h.scope; named = h.named; order = h.order; unbroken = λ rule at bad. h.unbroken rule at (inr (inr bad)); form = h.form.2 }
+
+  module _ (k : Context) where
+    pub if_placed : (o : Bool) → IsPlaced (StmtMayStand ((if) c first second)) o k → IsPlaced (CondStands c) o k
+    if_placed o h = cond_placed c (StmtMayStand ((if) c first second)) o k (if_cond o (names_of k.store)) h
+
+    yes_placed : (o : Bool) (y : Context) → IsPlaced (StmtMayStand ((if) c first second)) o k → IsTrueSide c true k y → IsPlaced (BlockMayStand first) o y
+    yes_placed o y h side = side_placed c true k (StmtMayStand ((if) c first second)) (BlockMayStand first) o y side (if_cond o) (if_first o) h
+
+    no_placed : (o : Bool) (y : Context) → IsPlaced (StmtMayStand ((if) c first second)) o k → IsTrueSide c false k y → IsPlaced (BlockMayStand second) o y
+    no_placed o y h side = side_placed c false k (StmtMayStand ((if) c first second)) (BlockMayStand second) o y side (if_cond o) (if_second o) h
+
+    pub if_may_yes : (o : Bool) (side : Option Context) → IsPlaced (StmtMayStand ((if) c first second)) o k → IfSome side (IsTrueSide c true k) → IfSome side (IsPlaced (BlockMayStand first) o)
+    if_may_yes o side h s = some_side (IsTrueSide c true k) (IsPlaced (BlockMayStand first) o) side (λ y. yes_placed o y h) s
+
+    pub if_may_no : (o : Bool) (side : Option Context) → IsPlaced (StmtMayStand ((if) c first second)) o k → IfSome side (IsTrueSide c false k) → IfSome side (IsPlaced (BlockMayStand second) o)
+    if_may_no o side h s = some_side (IsTrueSide c false k) (IsPlaced (BlockMayStand second) o) side (λ y. no_placed o y h) s
+
+    pub if_runs : (s : Split) (es fs : List Context) → IsDecided c k s → RunsFrom (block_run first) (listed s.yes) es → RunsFrom (block_run second) (listed s.no) fs → RunsAs (stmt_run ((if) c first second)) k (es ++ fs)
+    if_runs s es fs decided h q = record {
+      choices = λ x. omega (arith, times_append x es fs, h.choices x, q.choices x, times_append x (listed s.yes) (listed s.no), decided.choices x);
+      reached = λ d there x adm. (
+        k,
+        Contains-push [] k,
+        elim (Contains-append_cases es fs d there) [
+          | inl p ↦ let r = h.reached d p x adm in
+              from_side c true k (block_run first) (stmt_run ((if) c first second)) r.0 d x (listed_side c true k s.yes r.0 decided.yes r.1) (λ a t l truth e. inl (truth, e)) (λ z w. inl w) (λ names. refl) r.2
+          | inr p ↦ let r = q.reached d p x adm in
+              from_side c false k (block_run second) (stmt_run ((if) c first second)) r.0 d x (listed_side c false k s.no r.0 decided.no r.1) (λ a t l truth e. inr (truth, e)) (λ z w. inr w) (λ names. refl) r.2
+        ],
+      );
+      operators = λ o placed.
+          let own = of_one (IsPlaced (StmtMayStand ((if) c first second)) o) k placed in
+          All-append (AdmitsContext o) es fs
+          (h.operators o (all_sides (IsPlaced (BlockMayStand first) o) s.yes (if_may_yes o s.yes own decided.yes)))
+          (q.operators o (all_sides (IsPlaced (BlockMayStand second) o) s.no (if_may_no o s.no own decided.no)));
+      widths = λ w.
+          let own = of_one ContextHasUsualWidths k w in
+          All-append ContextHasUsualWidths es fs
+          (h.widths (all_sides ContextHasUsualWidths s.yes (some_side (IsTrueSide c true k) ContextHasUsualWidths s.yes (λ y side. side.widths own) decided.yes)))
+          (q.widths (all_sides ContextHasUsualWidths s.no (some_side (IsTrueSide c false k) ContextHasUsualWidths s.no (λ y side. side.widths own) decided.no)));
+    }
+
+    pub if_cond_fails : (f : Fault) → IsFaultOf k (CondFails c) f → FailsWithin (stmt_run ((if) c first second)) k f
+    if_cond_fails f h = bare_within (CondFails c) (stmt_run ((if) c first second)) k f (λ s at kind bad. inl (bad, refl)) h
+
+    pub if_yes_fails : (s : Split) (f : Fault) → IsDecided c k s → FailsFrom (block_run first) (listed s.yes) f → FailsWithin (stmt_run ((if) c first second)) k f
+    if_yes_fails s f decided (y, there, h) =
+        let side = listed_side c true k s.yes y decided.yes there in
+        side_fails c true k (block_run first) (stmt_run ((if) c first second)) y f side (λ a at kind path truth bad. inr (inl (truth, bad))) (λ o p. yes_placed o y p side) h
+
+    pub if_no_fails : (s : Split) (f : Fault) → IsDecided c k s → FailsFrom (block_run second) (listed s.no) f → FailsWithin (stmt_run ((if) c first second)) k f
+    if_no_fails s f decided (y, there, h) =
+        let side = listed_side c false k s.no y decided.no there in
+        side_fails c false k (block_run second) (stmt_run ((if) c first second)) y f side (λ a at kind path truth bad. inr (inr (truth, bad))) (λ o p. no_placed o y p side) h

@@ -1,0 +1,56 @@
+-- What is found under a name.
+use Rattle.std.proofs.Common.{◌≡◌, ℕ, zero, suc, Bool, true, false, List, [], ◌∷◌, ◌++◌, length, take, map, Some, refl, sym, ap, ◌∙◌, if◌then◌else◌, bytes_eq}
+use Rattle.std.proofs.lemmas.Slice.Eq.{bytes_eq-Decides}
+use Rattle.lois_base.specs.Values.{PointValue}
+use Rattle.lois_meaning.specs.Store.{named, name_of, NamedValues, looked_up, stored}
+
+-- what the first part of a store holds, the whole holds
+pub looked_up_take : (y : List ℕ) (k : ℕ) (s : NamedValues) (v : PointValue) → looked_up y (take k s) ≡ Some v → looked_up y s ≡ Some v
+looked_up_take y zero s v h = absurd (cc)
+looked_up_take y (suc k) [] v h = absurd (cc)
+looked_up_take y (suc k) (b ∷ s) v h = go (bytes_eq b.name y) (looked_up_take y k s v) h
+  where
+    go : (p : Bool) → (looked_up y (take k s) ≡ Some v → looked_up y s ≡ Some v) → (if p then Some b.holds else looked_up y (take k s)) ≡ Some v → (if p then Some b.holds else looked_up y s) ≡ Some v
+    go true later e = e
+    go false later e = later e
+
+-- and what the whole holds under a name of the first part, the first part holds
+pub looked_up_front : (y : List ℕ) (a full : NamedValues) (made : List (List ℕ)) (v w : PointValue) → map name_of full ≡ map name_of a ++ made → looked_up y a ≡ Some w → looked_up y full ≡ Some v → looked_up y (take (length a) full) ≡ Some v
+looked_up_front y [] full made v w names here h = absurd (cc)
+looked_up_front y (b ∷ a) [] made v w names here h = absurd (cc)
+looked_up_front y (b ∷ a) (f ∷ full) made v w names here h =
+    let same : f.name ≡ b.name = cc in
+    let later : map name_of full ≡ map name_of a ++ made = cc in
+    go (bytes_eq f.name y) (bytes_eq b.name y) (ap (λ n. bytes_eq n y) same) (λ k l. looked_up_front y a full made v w later k l) here h
+  where
+    go : (p q : Bool) → p ≡ q → (looked_up y a ≡ Some w → looked_up y full ≡ Some v → looked_up y (take (length a) full) ≡ Some v) →
+        (if q then Some b.holds else looked_up y a) ≡ Some w → (if p then Some f.holds else looked_up y full) ≡ Some v → (if p then Some f.holds else looked_up y (take (length a) full)) ≡ Some v
+    go true q e later here h = h
+    go false true e later here h = absurd (cc)
+    go false false e later here h = later here h
+
+-- a name that is held is held still where a value is stored
+pub held_still : (y x : List ℕ) (m : PointValue) (s : NamedValues) (v : PointValue) → looked_up y s ≡ Some v → (w : PointValue) × (looked_up y (stored x m s) ≡ Some w)
+held_still y x m [] v h = absurd (cc)
+held_still y x m (b ∷ s) v h = go (bytes_eq b.name x) refl (bytes_eq b.name y) refl (held_still y x m s v) h
+  where
+    here : (p : Bool) → looked_up y s ≡ Some v → (w : PointValue) × ((if p then Some m else looked_up y s) ≡ Some w)
+    here true k = (m, refl)
+    here false k = (v, k)
+
+    named_so : (q : Bool) → bytes_eq b.name x ≡ true → bytes_eq b.name y ≡ q → (if q then Some b.holds else looked_up y s) ≡ Some v → (w : PointValue) × ((if (bytes_eq x y) then Some m else looked_up y s) ≡ Some w)
+    named_so true is e k =
+        let one : b.name ≡ x = (bytes_eq-Decides b.name x).0 is in
+        let at : bytes_eq x y ≡ true = ap (λ z. bytes_eq z y) (sym one) ∙ e in
+        (m, ap (λ p. if p then Some m else looked_up y s) at)
+    named_so false is e k = here (bytes_eq x y) k
+
+    other : (q : Bool) → (looked_up y s ≡ Some v → (w : PointValue) × (looked_up y (stored x m s) ≡ Some w)) → (if q then Some b.holds else looked_up y s) ≡ Some v → (w : PointValue) × ((if q then Some b.holds else looked_up y (stored x m s)) ≡ Some w)
+    other true later k = (b.holds, refl)
+    other false later k = later k
+
+    go : (p : Bool) → bytes_eq b.name x ≡ p → (q : Bool) → bytes_eq b.name y ≡ q → (looked_up y s ≡ Some v → (w : PointValue) × (looked_up y (stored x m s) ≡ Some w)) → (if q then Some b.holds else looked_up y s) ≡ Some v →
+        (w : PointValue) × (looked_up y (if p then named x m ∷ s else (b ∷ stored x m s)) ≡ Some w)
+    go true is q e later k = named_so q is e k
+    go false is q e later k =
+        let r = other q later k in (r.0, ap (λ z. if z then Some b.holds else looked_up y (stored x m s)) e ∙ r.1)

@@ -1,0 +1,65 @@
+use Rattle.std.proofs.Common.{◌≡◌, IfErr, refl, sym, subst}
+use Rattle.lois_script.specs.Limits.{Spells}
+use Rattle.lois_script.specs.Scope.{IsWellScoped}
+use Rattle.lois_script.specs.View.{script_tree}
+use Rattle.lois_eval.specs.Standing.{IsPlaced}
+use Rattle.lois_eval.specs.Throughout.{IfFault}
+use Rattle.lois_interp.specs.Failed.{FailsWithin}
+use Rattle.lois_interp.specs.Interpreted.{AreResultsOf, IsFailureOf}
+use Rattle.lois_interp.specs.Run.{block_run}
+use Rattle.lois_interp.specs.Standing.{BlockMayStand}
+use Rattle.lois_interp.proofs.Lists.{all_one}
+use Rattle.lois_interp.proofs.Opened.{parameters_distinct, body_placed}
+use Rattle.lois_interp.proofs.ScriptRuns.{interpreted, failure_of}
+use Rattle.lois_eval.proofs.Handed.{passed_on}
+use Rattle.lois_interp.proofs.interpreting.interpret.Goals as goal
+
+-- what is known of the script is known of its tree where it is held
+pub opening-requires : goal.opening-requires
+opening-requires g c =
+    let same = sym c.script-script.ensures.same in
+    let s = script_tree c.script-script.result.now in
+    parameters_distinct s (subst (λ x. IsWellScoped (script_tree x)) same c.script-script.ensures.scoped)
+
+pub run_block-requires : goal.run_block-requires
+run_block-requires g c =
+    let same = sym c.script-script.ensures.same in
+    let s = script_tree c.script-script.result.now in
+    let text = c.requires.spelled.0 in
+    let order = g.T.Structure.ordered in
+    body_placed s text c.in_ok-opening.opening (subst (λ x. Spells text (script_tree x)) same c.requires.spelled.1) (subst (λ x. IsWellScoped (script_tree x)) same c.script-script.ensures.scoped) c.in_ok-opening.ensures order (subst (λ x. (script_tree x).ordered ≡ order) same c.requires.structure)
+
+pub returns-in_err-ends-clause-fault : goal.returns-in_err-ends-clause-fault
+returns-in_err-ends-clause-fault g c =
+    let same = c.script-script.ensures.same in
+    let s = script_tree c.script-script.result.now in
+    let o = c.in_ok-opening.opening in
+    let text = c.requires.spelled.0 in
+    let spelled = subst (λ x. Spells text (script_tree x)) (sym same) c.requires.spelled.1 in
+    let scoped = subst (λ x. IsWellScoped (script_tree x)) (sym same) c.script-script.ensures.scoped in
+    let r = c.from_residual-in_err-ends.result in
+    subst (λ x. IfErr r (λ z. IfFault z (IsFailureOf (script_tree x)))) same
+    (passed_on r c.in_err-ends.field-0.0 (FailsWithin (block_run s.body) o) (IsFailureOf s) c.from_residual-in_err-ends.ensures.1 (failure_of text s spelled scoped o c.in_ok-opening.ensures) c.in_err-ends.ensures.fault)
+
+pub all_printed-requires : goal.all_printed-requires
+all_printed-requires g c =
+    let same = sym c.script-script.ensures.same in
+    let s = script_tree c.script-script.result.now in
+    let o = c.in_ok-opening.opening in
+    let text = c.requires.spelled.0 in
+    let order = g.T.Structure.ordered in
+    c.in_ok-ends.ensures.runs.operators order
+    (all_one (IsPlaced (BlockMayStand s.body) order) o (body_placed s text o (subst (λ x. Spells text (script_tree x)) same c.requires.spelled.1) (subst (λ x. IsWellScoped (script_tree x)) same c.script-script.ensures.scoped) c.in_ok-opening.ensures order (subst (λ x. (script_tree x).ordered ≡ order) same c.requires.structure)))
+
+pub returns-clause-results : goal.returns-clause-results
+returns-clause-results g c =
+    let same = c.script-script.ensures.same in
+    let s = script_tree c.script-script.result.now in
+    let o = c.in_ok-opening.opening in
+    let text = c.requires.spelled.0 in
+    let spelled = subst (λ x. Spells text (script_tree x)) (sym same) c.requires.spelled.1 in
+    let scoped = subst (λ x. IsWellScoped (script_tree x)) (sym same) c.script-script.ensures.scoped in
+    let made = c.in_ok-results.field-0 in
+    let made_of = c.in_ok-results.ensures in
+    subst (λ x. AreResultsOf (script_tree x) made) same
+    (interpreted text s spelled scoped o c.in_ok-opening.ensures c.in_ok-ends.ends.items c.in_ok-ends.ensures.runs c.in_ok-printed.printed.items c.in_ok-merged.merged.items c.in_ok-printed.ensures.printed c.in_ok-merged.ensures made.cases made_of.cases made made_of.order made_of.parameters refl)

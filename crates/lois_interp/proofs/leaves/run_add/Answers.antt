@@ -1,0 +1,98 @@
+use Rattle.std.proofs.Common.{[], ◌∷◌, sym, refl, subst, ◌∙◌, arith}
+use Rattle.lois_answers.specs.declared.faults.FaultKind.TheVariants.{NotASet}
+use Rattle.lois_base.specs.Tree.{tree as term_tree}
+use Rattle.lois_deciders.proofs.Asking.{none_is}
+use Rattle.lois_script.specs.Tree.{add}
+use Rattle.lois_script.specs.View.{tree}
+use Rattle.lois_meaning.specs.Faults.{Fails}
+use Rattle.lois_context.specs.Slots.{SlotD}
+use Rattle.lois_context.specs.SlotView.{slot_of}
+use Rattle.lois_eval.specs.Throughout.{IsFaultOf}
+use Rattle.lois_eval.proofs.FaultsAt.{if_fault}
+use Rattle.lois_eval.proofs.Handed.{passed_on}
+use Rattle.lois_eval.proofs.Names.{not_new, held_value}
+use Rattle.lois_eval.specs.Checks.{IsFaultWith, IsDepthFault}
+use Rattle.lois_interp.specs.Failed.{FailsWithin}
+use Rattle.lois_interp.specs.Leaves.{IsExtended}
+use Rattle.lois_interp.specs.Reached.{RunsAs}
+use Rattle.lois_interp.specs.Run.{stmt_run}
+use Rattle.lois_interp.proofs.Extended.{in_slots, slot_there, slot_held, set_fits, set_from, set_admits, set_widths, set_joined}
+use Rattle.lois_interp.proofs.LeafGlue.{add_set, add_named, add_fails, add_no_set, add_too_deep}
+use Rattle.lois_interp.proofs.LeafRuns.{add_runs}
+use Rattle.lois_interp.proofs.leaves.run_add.Goals as goal
+
+pub normal_value-requires : goal.normal_value-requires
+normal_value-requires g c = add_set c.args.pos.offset c.args.name.now (tree c.args.e.now) g.T.Structure.ordered c.args.context c.requires
+
+pub returns-in_err-item-clause-fault : goal.returns-in_err-item-clause-fault
+returns-in_err-item-clause-fault g c =
+    let p = c.args.pos.offset in let x = c.args.name.now in let e = tree c.args.e.now in let k = c.args.context in
+    passed_on c.from_residual.result c.in_err-item.field-0.0 (IsFaultOf k (Fails e)) (FailsWithin (stmt_run (add e p x)) k) c.from_residual.ensures.1 (λ f h. add_fails p x e k f h) c.in_err-item.ensures.fault
+
+pub unreachable-requires : goal.unreachable-requires
+unreachable-requires g c =
+    let p = c.args.pos.offset in let x = c.args.name.now in let e = tree c.args.e.now in let k = c.args.context in
+    not_new x k.store (add_named p x e g.T.Structure.ordered k c.requires) (c.place_of.ensures.none.0 (none_is c.place_of.result c.in_default.is))
+
+pub bounds-slots-index : goal.bounds-slots-index
+bounds-slots-index g c = in_slots c.args.context c.as_slice-slots.result.now c.in-Some.index c.as_slice-slots.ensures.items c.in-Some.ensures.found.0
+
+pub returns-in_default-extended-clause-fault : goal.returns-in_default-extended-clause-fault
+returns-in_default-extended-clause-fault g c =
+    let x = c.args.name.now in let e = tree c.args.e.now in let k = c.args.context in let i = c.in-Some.index in let slot = c.index-slots-index.result in let t = term_tree slot.term in
+    let held = slot_held k x c.as_slice-slots.result.now i slot c.as_slice-slots.ensures.items c.in-Some.ensures.found c.index-slots-index.is in
+    let none = subst (IsExtended t (term_tree c.in_ok-item.item)) (c.in_default-extended.is) c.in_ok-extended.ensures in
+    if_fault c.fault_under.result (IsFaultWith c.args.pos NotASet k.sample) (FailsWithin (stmt_run (add e c.args.pos.offset x)) k)
+    (λ f h. add_no_set c.args.pos x e k t (λ a. held_value x k.store t a held) f none h) c.fault_under.ensures
+
+pub check_depth-requires-clause-levels : goal.check_depth-requires-clause-levels
+check_depth-requires-clause-levels g c =
+    let k = c.args.context in let slot = c.index-slots-index.result in let item = term_tree c.in_ok-item.item in
+    let more = subst (IsExtended (term_tree slot.term) item) c.in-Some-extended.is c.in_ok-extended.ensures in
+    set_fits k c.args.name.now c.as_slice-slots.result.now c.in-Some.index slot c.as_slice-slots.ensures.items c.in-Some.ensures.found c.index-slots-index.is item (term_tree c.in-Some-extended.set) more (omega arith) c.in_ok-item.ensures.levels
+
+pub check_depth-requires-clause-operators : goal.check_depth-requires-clause-operators
+check_depth-requires-clause-operators g c =
+    let x = c.args.name.now in let e = tree c.args.e.now in let k = c.args.context in let o = g.T.Structure.ordered in
+    let slot = c.index-slots-index.result in let item = term_tree c.in_ok-item.item in
+    let more = subst (IsExtended (term_tree slot.term) item) c.in-Some-extended.is c.in_ok-extended.ensures in
+    set_admits k x c.as_slice-slots.result.now c.in-Some.index slot c.as_slice-slots.ensures.items c.in-Some.ensures.found c.index-slots-index.is item (term_tree c.in-Some-extended.set) more o c.requires.operators
+    (c.in_ok-item.ensures.operators o (add_set c.args.pos.offset x e o k c.requires))
+
+pub returns-in_err-check_depth-clause-fault : goal.returns-in_err-check_depth-clause-fault
+returns-in_err-check_depth-clause-fault g c =
+    let x = c.args.name.now in let e = tree c.args.e.now in let k = c.args.context in let i = c.in-Some.index in
+    let slots = c.as_slice-slots.result.now in let seen = c.as_slice-slots.ensures.items in let found = c.in-Some.ensures.found in
+    let slot = c.index-slots-index.result in let is = c.index-slots-index.is in let t = term_tree slot.term in
+    let item = term_tree c.in_ok-item.item in let set = term_tree c.in-Some-extended.set in
+    let more = subst (IsExtended t item) c.in-Some-extended.is c.in_ok-extended.ensures in
+    passed_on c.from_residual-in_err-check_depth.result c.in_err-check_depth.field-0.0 (IsDepthFault k set c.args.pos.offset) (FailsWithin (stmt_run (add e c.args.pos.offset x)) k) c.from_residual-in_err-check_depth.ensures.1
+    (λ f h. add_too_deep c.args.pos x e k t (λ a. held_value x k.store t a (slot_held k x slots i slot seen found is)) f item set c.in_ok-item.ensures.value (set_joined k x slots i slot seen found is item set more) h) c.in_err-check_depth.ensures.fault
+
+pub with_slot_at-requires-clause-levels : goal.with_slot_at-requires-clause-levels
+with_slot_at-requires-clause-levels g c =
+    let k = c.args.context in let slot = c.index-slots-index.result in let item = term_tree c.in_ok-item.item in
+    let more = subst (IsExtended (term_tree slot.term) item) c.in-Some-extended.is c.in_ok-extended.ensures in
+    set_fits k c.args.name.now c.as_slice-slots.result.now c.in-Some.index slot c.as_slice-slots.ensures.items c.in-Some.ensures.found c.index-slots-index.is item (term_tree c.in-Some-extended.set) more (omega arith) c.in_ok-item.ensures.levels
+
+pub with_slot_at-requires-clause-from : goal.with_slot_at-requires-clause-from
+with_slot_at-requires-clause-from g c =
+    let k = c.args.context in let slot = c.index-slots-index.result in let item = term_tree c.in_ok-item.item in
+    let more = subst (IsExtended (term_tree slot.term) item) c.in-Some-extended.is c.in_ok-extended.ensures in
+    set_from k c.args.name.now c.as_slice-slots.result.now c.in-Some.index slot c.as_slice-slots.ensures.items c.in-Some.ensures.found c.index-slots-index.is item (term_tree c.in-Some-extended.set) more
+
+pub returns-clause-runs : goal.returns-clause-runs
+returns-clause-runs g c =
+    let p = c.args.pos.offset in let x = c.args.name.now in let e = tree c.args.e.now in let k = c.args.context in let i = c.in-Some.index in
+    let slots = c.as_slice-slots.result.now in let seen = c.as_slice-slots.ensures.items in let found = c.in-Some.ensures.found in
+    let slot = c.index-slots-index.result in let is = c.index-slots-index.is in let t = term_tree slot.term in
+    let item = term_tree c.in_ok-item.item in let set = term_tree c.in-Some-extended.set in
+    let more = subst (IsExtended t item) c.in-Some-extended.is c.in_ok-extended.ensures in
+    let V = c.in_ok-item.ensures in
+    let s : SlotD = record { name = c.in_ok-copy.field-0; term = set; from = slot.from } in
+    let d = c.with_slot_at.result in
+    subst (RunsAs (stmt_run (add e p x)) k) (sym c.in_ok-one.ensures)
+    (subst (λ z. RunsAs (stmt_run (add e p z)) k (d ∷ [])) c.in_ok-copy.ensures
+    (add_runs (slot_of slot) s item i k d c.with_slot_at.ensures found.0 (λ q. found.1 q ∙ sym c.in_ok-copy.ensures) (slot_there k x slots i slot seen found is) more.0.0 more.0.1 refl more.1 p e V.value c.in_ok-check_depth.ensures.shallow
+    (λ o h. set_admits k x slots i slot seen found is item set more o h.operators (V.operators o (add_set p s.name e o k h)))
+    (λ w. set_widths k x slots i slot seen found is item set more w (V.widths w))))

@@ -1,0 +1,36 @@
+-- What a fault says of the context that a run began in.
+use Rattle.std.specs.Prelude.{ℕ, ◌≤◌, Bool, List, take, length}
+use Rattle.std.specs.List.{All, Contains}
+use Rattle.lois_base.specs.Data.{depth}
+use Rattle.lois_base.specs.Truth.{sampled}
+use Rattle.lois_base.specs.Validity.{AdmitsTerm, HasUsualWidths}
+use Rattle.lois_answers.specs.ResultsData.{LineD}
+use Rattle.lois_meaning.specs.Store.{NamedValues, AreSameNamed}
+use Rattle.lois_meaning.specs.declared.faults.Fault.{Fault}
+use Rattle.lois_context.specs.Choices.{IsAdmitted, ContextHasUsualWidths}
+use Rattle.lois_context.specs.Kept.{LinesFit}
+use Rattle.lois_context.specs.Slots.{store_at, lines_at}
+use Rattle.lois_context.specs.declared.contexts.Context.{Context}
+use Rattle.lois_eval.specs.Standing.{IsPlaced}
+use Rattle.lois_interp.specs.Run.{Run}
+
+-- The elements fit n levels, are written within 64 brackets, and have no operator or width that the context and what is run
+-- haven't.
+pub record AreElements (stands : Bool → List (List ℕ) → Type 0) (k : Context) (n : ℕ) (elements : List LineD) : Type 0 where
+  pub levels : LinesFit n elements
+  pub brackets : All (λ l. depth l.term ≤ 64) elements
+  pub operators : (ordered : Bool) → IsPlaced stands ordered k → All (λ l. AdmitsTerm ordered l.term) elements
+  pub widths : ContextHasUsualWidths k → All (λ l. HasUsualWidths l.term) elements
+
+-- The sample begins with a choice that the context admits. Under it the run fails at this place and in this way, along a path
+-- that the elements name at the whole sample.
+pub record FailsWithin (run : Run) (k : Context) (f : Fault) : Type 0 where
+  pub admitted : IsAdmitted (sampled (take k.size f.sample.items)) k
+  pub path : NamedValues
+  pub failed : run.fails (store_at (sampled (take k.size f.sample.items)) k.store) f.pos.offset f.kind path
+  pub named : AreSameNamed path (lines_at (sampled f.sample.items) f.elements)
+  pub elements : AreElements run.stands k (length f.sample.items) f.elements
+
+-- the fault is one of a run from one of the contexts
+abbrev pub FailsFrom : Run → List Context → Fault → Type 0
+FailsFrom run before f = (k : Context) × Contains before k × FailsWithin run k f

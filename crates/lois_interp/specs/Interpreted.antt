@@ -1,0 +1,77 @@
+-- What the results of a script say, and what its failure says.
+use Rattle.std.specs.Prelude.{◌≡◌, ℕ, ◌≤◌, List, ◌∷◌, ◌++◌, length, map, take, IsTrue}
+use Rattle.std.specs.List.{All, AllPairs}
+use Rattle.lois_base.specs.Atom.{Atom}
+use Rattle.lois_base.specs.Data.{depth}
+use Rattle.lois_base.specs.Normal.{IsNormal}
+use Rattle.lois_base.specs.Truth.{holds, sampled}
+use Rattle.lois_base.specs.Validity.{AdmitsTerm, HasUsualWidths}
+use Rattle.lois_constraint.specs.Normalised.{IsNormalised}
+use Rattle.lois_answers.specs.ResultsData.{LineD, CaseD}
+use Rattle.lois_answers.specs.Sound.{IsSound}
+use Rattle.lois_answers.specs.declared.results.Results.{Results}
+use Rattle.lois_script.specs.Tree.{ParamD, ScriptD}
+use Rattle.lois_meaning.specs.Runs.{ScriptEnds, ScriptFails}
+use Rattle.lois_meaning.specs.Store.{NamedValues, AreSameNamed}
+use Rattle.lois_meaning.specs.declared.faults.Fault.{Fault}
+use Rattle.lois_context.specs.Kept.{LinesFit}
+use Rattle.lois_context.specs.Slots.{lines_at}
+
+abbrev pub parameter_name : ParamD → List ℕ
+parameter_name x = x.name
+
+-- an atom for each parameter
+abbrev pub IsChoiceOf : ScriptD → List Atom → Type 0
+IsChoiceOf s choice = length choice ≡ length s.parameters
+
+abbrev pub HoldsAt : List Atom → CaseD → Type 0
+HoldsAt choice c = IsTrue (holds choice c.«when»)
+
+-- The script ends at the choice with as many lines, of equal names and the same values.
+pub record PrintsAt (s : ScriptD) (choice : List Atom) (lines : List LineD) : Type 0 where
+  pub printed : NamedValues
+  pub ends : ScriptEnds s choice printed
+  pub values : AreSameNamed (lines_at choice lines) printed
+
+-- Exactly one case holds at the choice, and its lines are those that the script prints there.
+pub record IsRightAt (s : ScriptD) (cases : List CaseD) (choice : List Atom) : Type 0 where
+  pub before : List CaseD
+  pub one : CaseD
+  pub behind : List CaseD
+  pub among : cases ≡ before ++ one ∷ behind
+  pub here : HoldsAt choice one
+  pub none_before : All (λ c. HoldsAt choice c → ⊥) before
+  pub none_behind : All (λ c. HoldsAt choice c → ⊥) behind
+  pub lines : PrintsAt s choice one.lines
+
+abbrev pub HoldsSomewhere : ScriptD → CaseD → Type 0
+HoldsSomewhere s c = (choice : List Atom) × IsChoiceOf s choice × HoldsAt choice c
+
+-- the constraint is normalised, and each line's term is normal where it holds
+abbrev pub IsNormalCase : ℕ → CaseD → Type 0
+IsNormalCase n c = IsNormalised c.«when» × All (λ l. IsNormal l.term c.«when» n) c.lines
+
+abbrev pub lines_of : CaseD → List LineD
+lines_of c = c.lines
+
+-- The results are those of the script. No two cases have equal lines.
+pub record AreResultsOf (s : ScriptD) (r : Results) : Type 0 where
+  pub sound : IsSound r
+  pub structure : r.order ≡ s.ordered
+  pub parameters : r.parameters ≡ map parameter_name s.parameters
+  pub met : All (HoldsSomewhere s) r.cases
+  pub choices : (choice : List Atom) → IsChoiceOf s choice → IsRightAt s r.cases choice
+  pub normal : All (IsNormalCase (length s.parameters)) r.cases
+  pub different : AllPairs (λ x y. x ≡ y → ⊥) (map lines_of r.cases)
+
+-- The sample begins with a choice of the parameters, under which the script fails with this place and kind along a path that
+-- the elements name at the whole sample.
+pub record IsFailureOf (s : ScriptD) (f : Fault) : Type 0 where
+  pub enough : length s.parameters ≤ length f.sample.items
+  pub path : NamedValues
+  pub failed : ScriptFails s (sampled (take (length s.parameters) f.sample.items)) f.pos.offset f.kind path
+  pub named : AreSameNamed path (lines_at (sampled f.sample.items) f.elements)
+  pub levels : LinesFit (length f.sample.items) f.elements
+  pub brackets : All (λ l. depth l.term ≤ 64) f.elements
+  pub operators : All (λ l. AdmitsTerm s.ordered l.term) f.elements
+  pub widths : All (λ l. HasUsualWidths l.term) f.elements

@@ -1,0 +1,87 @@
+//! Whole scripts.
+
+ghost use Rattle.std.specs.Prelude.{◌≡◌, ℕ, List, length, map, bytes_eq, IfOk, IfErr};
+ghost use Rattle.std.specs.List.{IsDistinct};
+ghost use Rattle.lois_deciders.specs.OnlyAsked.{HasOnlyAsked};
+ghost use Rattle.lois_script.specs.Limits.{Spells};
+ghost use Rattle.lois_script.specs.View.{params_list, script_tree};
+ghost use Rattle.lois_eval.specs.Throughout.{IfFault};
+ghost use Rattle.lois_interp.specs.Interpreted.{AreResultsOf, IsFailureOf, parameter_name};
+ghost use Rattle.lois_interp.specs.Opened.{IsOpening, opening_slots};
+
+use crate::cases::results;
+use crate::printing::all_printed;
+use crate::running::run_block;
+use lois_answers::{Lines, Results};
+use lois_base::{Constraint, Decider, NoMemory, Numbers, Structure, Term};
+use lois_context::{Context, Slot, Store, merge_equal};
+use lois_deciders::Chosen;
+use lois_meaning::Stop;
+use lois_scope::Scoped;
+use lois_script::Params;
+use std::alloc::Global;
+
+/// Runs a script at all choices of its parameters. At each choice exactly one case of the results holds, and its lines are those
+/// that the script prints there. The constraints are normalised, each term is normal under its case, and no two cases have equal
+/// lines. Ok comes exactly where no choice fails. Errors: a fault at some choice, and `NoMemory`, also where a level would pass
+/// the greatest usize.
+pub fn interpret<T: Structure>(
+    alloc: Global,
+    script: &Scoped,
+    chosen: &mut Chosen,
+) -> Result<Results, Stop>
+    requires spelled { (text : List ℕ) × Spells text (script_tree script.now) }
+    requires structure { (script_tree script.now).ordered ≡ T.ordered }
+    ensures results { IfOk result (AreResultsOf (script_tree script.now)) }
+    ensures fault { IfErr result (λ s. IfFault s (IsFailureOf (script_tree script.now))) }
+
+    // whatever is answered
+    ensures only_asked { HasOnlyAsked (λ b. (⟦<dyn Decider as Decider>⟧ b.vtable).kind_of b.value) (λ b. (⟦<dyn Decider as Decider>⟧ b.vtable).questions b.value) chosen.old chosen.new }
+{
+    let script = script.script();
+    let opening = opening(alloc, &script.parameters)?;
+    let ends = run_block::<T>(alloc, &script.body, opening, chosen)?;
+    let printed = all_printed::<T>(alloc, ends, chosen)?;
+    let merged = merge_equal(alloc, printed)?;
+    Ok(results(alloc, script, merged)?)
+}
+
+// Nothing is known of the parameters, of which each holds a level of its own.
+fn opening(alloc: Global, parameters: &Params) -> Result<Context, NoMemory>
+    requires { IsDistinct bytes_eq (map parameter_name (params_list parameters.now)) }
+    ensures { IfOk result (IsOpening (params_list parameters.now)) }
+{
+    let size = parameters.len();
+    Ok(Context {
+        size,
+        when: Constraint::always(alloc)?,
+        sample: zeros(alloc, size)?,
+        store: opening_store(alloc, parameters)?,
+        lines: Lines::new(alloc),
+    })
+}
+
+fn opening_store(alloc: Global, parameters: &Params) -> Result<Store, NoMemory>
+    ensures { IfOk result (λ r. r ≡ opening_slots (params_list parameters.now) 0) }
+{
+    let mut store = Store::new(alloc);
+    for parameter in parameters.as_slice() {
+        let level = store.len();
+        store.push(Slot {
+            name: parameter.name.copy(alloc)?,
+            term: Term::Var(level),
+            from: 0,
+        })?;
+    }
+    Ok(store)
+}
+
+fn zeros(alloc: Global, count: usize) -> Result<Numbers, NoMemory>
+    ensures { IfOk result (λ r. length r ≡ count) }
+{
+    let mut numbers = Numbers::new(alloc);
+    for _place in 0..count {
+        numbers.push(0)?;
+    }
+    Ok(numbers)
+}

@@ -1,0 +1,260 @@
+//! Statements that hold no others.
+
+ghost use Rattle.std.specs.Prelude.{◌≡◌, ◌<◌, ◌≤◌, Bool, [], ◌∷◌, ◌++◌, length, slice_set, IfOk, IfErr};
+ghost use Rattle.std.specs.List.{HoldsAt};
+ghost use Rattle.lois_base.specs.Fits.{Fits};
+ghost use Rattle.lois_base.specs.Tree.{tree as term_tree};
+ghost use Rattle.lois_deciders.specs.OnlyAsked.{HasOnlyAsked};
+ghost use Rattle.lois_script.specs.Tree.{«let», assign, add, assert, print};
+ghost use Rattle.lois_script.specs.View.{tree, cond_tree, stmt_tree};
+ghost use Rattle.lois_context.specs.Slots.{IsNew, comps_in};
+ghost use Rattle.lois_context.specs.SlotView.{slot_of};
+ghost use Rattle.lois_eval.specs.Standing.{IsPlaced};
+ghost use Rattle.lois_eval.specs.Throughout.{IfFault};
+ghost use Rattle.lois_interp.specs.Failed.{FailsWithin};
+ghost use Rattle.lois_interp.specs.Leaves.{IsWithStore, IsWithLine, IsExtended, IsLeaf};
+ghost use Rattle.lois_interp.specs.Reached.{RunsAs};
+ghost use Rattle.lois_interp.specs.Run.{stmt_run};
+ghost use Rattle.lois_interp.specs.Standing.{StmtMayStand};
+
+use crate::blocks::one;
+use crate::checks::{check_depth, fault, fault_under};
+use crate::elements::item_of;
+use crate::values::normal_value;
+use lois_answers::{FaultKind, Line};
+use lois_base::{Comp, Constraint, Decider, Name, NoMemory, Structure, Term};
+use lois_context::{Context, Slot};
+use lois_deciders::Chosen;
+use lois_eval::decide;
+use lois_meaning::Stop;
+use lois_script::{Cond, Expr, Pos, Stmt};
+use std::alloc::Global;
+
+/// Runs a statement that holds no others.
+pub(crate) fn run_simple<T: Structure>(
+    alloc: Global,
+    stmt: &Stmt,
+    context: Context,
+    chosen: &mut Chosen,
+) -> Result<Vec<Context>, Stop>
+    requires leaf { IsLeaf (stmt_tree stmt.now) }
+    requires placed { IsPlaced (StmtMayStand (stmt_tree stmt.now)) T.ordered context }
+    ensures runs { IfOk result (λ r. RunsAs (stmt_run (stmt_tree stmt.now)) context r.items) }
+    ensures fault { IfErr result (λ s. IfFault s (FailsWithin (stmt_run (stmt_tree stmt.now)) context)) }
+
+    // whatever is answered
+    ensures only_asked { HasOnlyAsked (λ b. (⟦<dyn Decider as Decider>⟧ b.vtable).kind_of b.value) (λ b. (⟦<dyn Decider as Decider>⟧ b.vtable).questions b.value) chosen.old chosen.new }
+{
+    match stmt {
+        Stmt::Let(pos, name, e) => run_let::<T>(alloc, *pos, name, e, context, chosen),
+        Stmt::Assign(pos, name, e) => run_assign::<T>(alloc, *pos, name, e, context, chosen),
+        Stmt::Add(e, pos, name) => run_add::<T>(alloc, e, *pos, name, context, chosen),
+        Stmt::Assert(pos, condition) => run_assert::<T>(alloc, *pos, condition, context, chosen),
+        Stmt::Print(pos, place, name) => run_print(alloc, *pos, *place, name, context),
+        Stmt::For(_, _, _) | Stmt::If(_, _, _) | Stmt::While(_, _, _, _) => unreachable!(),
+    }
+}
+
+fn run_let<T: Structure>(
+    alloc: Global,
+    pos: Pos,
+    name: &Name,
+    e: &Expr,
+    context: Context,
+    chosen: &mut Chosen,
+) -> Result<Vec<Context>, Stop>
+    requires { IsPlaced (StmtMayStand («let» pos.offset name.now (tree e.now))) T.ordered context }
+    ensures runs { IfOk result (λ r. RunsAs (stmt_run («let» pos.offset name.now (tree e.now))) context r.items) }
+    ensures fault { IfErr result (λ s. IfFault s (FailsWithin (stmt_run («let» pos.offset name.now (tree e.now))) context)) }
+    ensures only_asked { HasOnlyAsked (λ b. (⟦<dyn Decider as Decider>⟧ b.vtable).kind_of b.value) (λ b. (⟦<dyn Decider as Decider>⟧ b.vtable).questions b.value) chosen.old chosen.new }
+{
+    let term = normal_value::<T>(alloc, e, &context, chosen)?;
+    let slot = Slot {
+        name: name.copy(alloc)?,
+        term,
+        from: 0,
+    };
+    Ok(one(alloc, with_slot(context, slot)?)?)
+}
+
+fn run_assign<T: Structure>(
+    alloc: Global,
+    pos: Pos,
+    name: &Name,
+    e: &Expr,
+    context: Context,
+    chosen: &mut Chosen,
+) -> Result<Vec<Context>, Stop>
+    requires { IsPlaced (StmtMayStand (assign pos.offset name.now (tree e.now))) T.ordered context }
+    ensures runs { IfOk result (λ r. RunsAs (stmt_run (assign pos.offset name.now (tree e.now))) context r.items) }
+    ensures fault { IfErr result (λ s. IfFault s (FailsWithin (stmt_run (assign pos.offset name.now (tree e.now))) context)) }
+    ensures only_asked { HasOnlyAsked (λ b. (⟦<dyn Decider as Decider>⟧ b.vtable).kind_of b.value) (λ b. (⟦<dyn Decider as Decider>⟧ b.vtable).questions b.value) chosen.old chosen.new }
+{
+    let term = normal_value::<T>(alloc, e, &context, chosen)?;
+    let Some(index) = context.store.place_of(name) else {
+        unreachable!();
+    };
+    let slot = Slot {
+        name: name.copy(alloc)?,
+        term,
+        from: 0,
+    };
+    Ok(one(alloc, with_slot_at(context, index, slot))?)
+}
+
+fn run_add<T: Structure>(
+    alloc: Global,
+    e: &Expr,
+    pos: Pos,
+    name: &Name,
+    context: Context,
+    chosen: &mut Chosen,
+) -> Result<Vec<Context>, Stop>
+    requires { IsPlaced (StmtMayStand (add (tree e.now) pos.offset name.now)) T.ordered context }
+    ensures runs { IfOk result (λ r. RunsAs (stmt_run (add (tree e.now) pos.offset name.now)) context r.items) }
+    ensures fault { IfErr result (λ s. IfFault s (FailsWithin (stmt_run (add (tree e.now) pos.offset name.now)) context)) }
+    ensures only_asked { HasOnlyAsked (λ b. (⟦<dyn Decider as Decider>⟧ b.vtable).kind_of b.value) (λ b. (⟦<dyn Decider as Decider>⟧ b.vtable).questions b.value) chosen.old chosen.new }
+{
+    let item = normal_value::<T>(alloc, e, &context, chosen)?;
+    let Some(index) = context.store.place_of(name) else {
+        unreachable!();
+    };
+    let slots = context.store.as_slice();
+    let slot = &slots[index];
+    let from = slot.from;
+    let extended = with_member(alloc, &slot.term, item)?;
+    let Some(set) = extended else {
+        return Err(fault_under(alloc, pos, FaultKind::NotASet, &context.sample));
+    };
+    check_depth::<T>(alloc, pos, &set, &context, chosen)?;
+    let slot = Slot {
+        name: name.copy(alloc)?,
+        term: set,
+        from,
+    };
+    Ok(one(alloc, with_slot_at(context, index, slot))?)
+}
+
+fn run_assert<T: Structure>(
+    alloc: Global,
+    pos: Pos,
+    condition: &Cond,
+    context: Context,
+    chosen: &mut Chosen,
+) -> Result<Vec<Context>, Stop>
+    requires { IsPlaced (StmtMayStand (assert pos.offset (cond_tree condition.now))) T.ordered context }
+    ensures runs { IfOk result (λ r. RunsAs (stmt_run (assert pos.offset (cond_tree condition.now))) context r.items) }
+    ensures fault { IfErr result (λ s. IfFault s (FailsWithin (stmt_run (assert pos.offset (cond_tree condition.now))) context)) }
+    ensures only_asked { HasOnlyAsked (λ b. (⟦<dyn Decider as Decider>⟧ b.vtable).kind_of b.value) (λ b. (⟦<dyn Decider as Decider>⟧ b.vtable).questions b.value) chosen.old chosen.new }
+{
+    let decided = decide::<T>(alloc, condition, &context, chosen)?;
+    match chosen.entails(alloc, &context.when, &decided, context.size)? {
+        Some(sample) => Err(fault(alloc, pos, FaultKind::Assertion, sample)),
+        None => Ok(one(alloc, context)?),
+    }
+}
+
+fn run_print(
+    alloc: Global,
+    pos: Pos,
+    place: Pos,
+    name: &Name,
+    context: Context,
+) -> Result<Vec<Context>, Stop>
+    requires { (ordered : Bool) × IsPlaced (StmtMayStand (print pos.offset place.offset name.now)) ordered context }
+    ensures runs { IfOk result (λ r. RunsAs (stmt_run (print pos.offset place.offset name.now)) context r.items) }
+    ensures fault { IfErr result (λ s. IfFault s (FailsWithin (stmt_run (print pos.offset place.offset name.now)) context)) }
+{
+    let line = Line {
+        name: name.copy(alloc)?,
+        term: item_of(alloc, &context.store, name)?,
+    };
+    Ok(one(alloc, with_line(context, line)?)?)
+}
+
+// The set with one member more, or `None` where the term is no set.
+fn with_member(alloc: Global, term: &Term, item: Term) -> Result<Option<Term>, NoMemory>
+    ensures { IfOk result (IsExtended (term_tree term.now) (term_tree item)) }
+{
+    let Term::Coll(comps) = term else {
+        return Ok(None);
+    };
+    let mut comps = comps.copy(alloc)?;
+    comps.push(Comp {
+        binders: 0,
+        guard: Constraint::always(alloc)?,
+        item,
+    })?;
+    Ok(Some(Term::Coll(comps)))
+}
+
+// The context with a slot more.
+fn with_slot(context: Context, slot: Slot) -> Result<Context, NoMemory>
+    requires levels { Fits context.size (term_tree slot.term) }
+    requires from { slot.from ≤ comps_in (term_tree slot.term) }
+    requires new_name { IsNew slot.name context.store }
+    ensures { IfOk result (IsWithStore (context.store ++ slot_of slot ∷ []) context) }
+{
+    let Context {
+        size,
+        when,
+        sample,
+        mut store,
+        lines,
+    } = context;
+    store.push(slot)?;
+    Ok(Context {
+        size,
+        when,
+        sample,
+        store,
+        lines,
+    })
+}
+
+// The context with another term under a name.
+fn with_slot_at(context: Context, index: usize, slot: Slot) -> Context
+    requires levels { Fits context.size (term_tree slot.term) }
+    requires from { slot.from ≤ comps_in (term_tree slot.term) }
+    requires index { index < length context.store }
+    requires name { HoldsAt (λ s. s.name ≡ slot.name) context.store index }
+    ensures { IsWithStore (slice_set context.store index (slot_of slot)) context result }
+{
+    let Context {
+        size,
+        when,
+        sample,
+        mut store,
+        lines,
+    } = context;
+    store.set(index, slot);
+    Context {
+        size,
+        when,
+        sample,
+        store,
+        lines,
+    }
+}
+
+// The context with a line more.
+fn with_line(context: Context, line: Line) -> Result<Context, NoMemory>
+    requires { Fits context.size (term_tree line.term) }
+    ensures { IfOk result (IsWithLine line context) }
+{
+    let Context {
+        size,
+        when,
+        sample,
+        store,
+        mut lines,
+    } = context;
+    lines.push(line)?;
+    Ok(Context {
+        size,
+        when,
+        sample,
+        store,
+        lines,
+    })
+}

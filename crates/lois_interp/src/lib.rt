@@ -1,0 +1,19 @@
+//! Statements at all choices of a context.
+#![tactic(auto)]
+
+mod asking;
+mod blocks;
+mod cases;
+mod checks;
+mod elements;
+mod interpreting;
+mod joining;
+mod leaves;
+mod printing;
+mod running;
+mod sides;
+mod turns;
+mod values;
+
+pub use interpreting::interpret;
+pub use running::run_block;
