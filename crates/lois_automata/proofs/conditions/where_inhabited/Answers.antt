@@ -1,0 +1,32 @@
+use Rattle.std.proofs.Common.{subst, sym, arith}
+use Rattle.std.proofs.lemmas.List.Elements.{All-nil}
+use Rattle.lois_base.specs.Fits.{CubeFits, ConstraintFits}
+use Rattle.lois_relate.proofs.Parts.{is_comp_of}
+use Rattle.lois_automata.proofs.Telling.{some_begin, some_more, some_end}
+use Rattle.lois_automata.proofs.conditions.where_inhabited.Goals as goal
+
+pub where_making-requires-clause-levels : goal.where_making-requires-clause-levels
+where_making-requires-clause-levels g c =
+    let k = is_comp_of c.as_slice-comp-items.result.now c.args.items.now c.loop-comp.comp-index c.comp-item.result c.as_slice-comp-items.ensures c.loop-comp-test.true c.comp-item.is in
+    k.fits c.args.size c.requires.levels
+
+pub where_making-requires-clause-operators : goal.where_making-requires-clause-operators
+where_making-requires-clause-operators g c =
+    let k = is_comp_of c.as_slice-comp-items.result.now c.args.items.now c.loop-comp.comp-index c.comp-item.result c.as_slice-comp-items.ensures c.loop-comp-test.true c.comp-item.is in
+    k.admits g.T.Structure.ordered c.requires.operators
+
+pub loop-comp-init : goal.loop-comp-init
+loop-comp-init g c = (
+  some_begin c.args.size c.args.items.now c.as_slice-comp-items.result.now c.new-found.result c.as_slice-comp-items.ensures c.new-found.ensures,
+  subst (λ z. ConstraintFits c.args.size z) (sym c.new-found.ensures) (All-nil (CubeFits c.args.size)),
+)
+
+pub loop-comp-preserved : goal.loop-comp-preserved
+loop-comp-preserved g c = (
+  some_more c.args.size c.args.items.now c.as_slice-comp-items.result.now c.loop-comp.comp-index c.comp-item.result c.loop-comp.found c.in_ok-made.made c.in_ok-found.found c.loop-comp-test.true c.comp-item.is c.in_ok-made.ensures.truth c.in_ok-found.ensures.truth c.loop-comp.invariant.0,
+  c.in_ok-found.ensures.fits c.args.size c.loop-comp.invariant.1 c.in_ok-made.ensures.levels,
+)
+
+pub returns-clause-truth : goal.returns-clause-truth
+returns-clause-truth g c =
+    some_end c.args.size c.args.items.now c.as_slice-comp-items.result.now c.loop-comp.comp-index c.loop-comp.found (omega (arith, c.loop-comp-test.false)) c.loop-comp.invariant.0

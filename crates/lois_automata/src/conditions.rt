@@ -1,0 +1,275 @@
+//! Where a value is an automaton, deterministic, complete, as constraints.
+
+ghost use Rattle.std.specs.Prelude.{◌≡◌, ℕ, ◌+◌, Bool, List, IfOk, OnOk};
+ghost use Rattle.lois_base.specs.Atom.{Atom};
+ghost use Rattle.lois_base.specs.Data.{coll, comps_of};
+ghost use Rattle.lois_base.specs.Fits.{ConstraintFits, Fits, CompFits, ItemsFit};
+ghost use Rattle.lois_base.specs.Tree.{tree, comp_of};
+ghost use Rattle.lois_base.specs.Validity.{AdmitsConstraint, AdmitsTerm, AdmitsComp, AdmitsItems};
+ghost use Rattle.lois_base.specs.Values.{PointValue, point, IsIn, IsIncluded, IsSame};
+ghost use Rattle.lois_algebra.specs.Gathered.{IsAmong, IsMadeBy};
+ghost use Rattle.lois_terms.specs.Guarded.{IsSet};
+ghost use Rattle.lois_automata.specs.Columns.{AllAgree, IsFunction, HasOneAtMost, LeadsOnce, AreTriples, ArePartsIn, StepsJoin};
+ghost use Rattle.lois_automata.specs.Throughout.{HoldsWhere, HoldsUnless};
+
+use crate::columns::{Shape, column, misfits};
+use crate::pairing::{beside, pairs};
+use crate::parts::{FiveSets, pair_parts};
+use lois_base::{Comp, Comps, Constraint, NoMemory, Structure, Term};
+use lois_constraint::{and_not, meet, negate, or};
+use lois_elim::{for_some_more, quantifier_free};
+use lois_relate::{equal_formula, included_formula};
+use std::alloc::Global;
+
+/// Where each member of `s` is in `t`.
+pub fn where_included<T: Structure>(
+    alloc: Global,
+    s: &Term,
+    t: &Term,
+    size: usize,
+) -> Result<Constraint, NoMemory>
+    requires levels { Fits size (tree s.now) }
+    requires set { IsSet (tree s.now) }
+    requires operators { AdmitsTerm T.ordered (tree s.now) }
+    requires other_levels { Fits size (tree t.now) }
+    requires other_set { IsSet (tree t.now) }
+    requires other_operators { AdmitsTerm T.ordered (tree t.now) }
+    ensures truth { IfOk result (HoldsWhere size (λ c. IsIncluded (point (tree s.now) c) (point (tree t.now) c))) }
+    ensures levels { IfOk result (ConstraintFits size) }
+{
+    let formula = included_formula(alloc, s, t, size)?;
+    quantifier_free::<T>(alloc, &formula, size)
+}
+
+/// Where the set has a member.
+pub fn where_inhabited<T: Structure>(
+    alloc: Global,
+    items: &Comps,
+    size: usize,
+) -> Result<Constraint, NoMemory>
+    requires levels { ItemsFit size (comps_of items.now) }
+    requires operators { AdmitsItems T.ordered (comps_of items.now) }
+    ensures truth { IfOk result (HoldsWhere size (λ c. (w : PointValue) × IsIn w (point (coll (comps_of items.now)) c))) }
+    ensures levels { IfOk result (ConstraintFits size) }
+{
+    let mut found = Constraint::new(alloc);
+    for comp in items.as_slice() {
+        let made = where_making::<T>(alloc, comp, size)?;
+        found = or(alloc, &found, &made)?;
+    }
+    Ok(found)
+}
+
+fn where_making<T: Structure>(
+    alloc: Global,
+    comp: &Comp,
+    size: usize,
+) -> Result<Constraint, NoMemory>
+    requires levels { CompFits size (comp_of comp.now) }
+    requires operators { AdmitsComp T.ordered (comp_of comp.now) }
+    ensures truth { IfOk result (HoldsWhere size (λ c. (w : PointValue) × IsMadeBy (comp_of comp.now) c w)) }
+    ensures levels { IfOk result (ConstraintFits size) }
+{
+    let guard = comp.guard.copy(alloc)?;
+    for_some_more::<T>(alloc, guard, size, comp.binders)
+}
+
+/// Where pairs in the set with the same first part have the same second part.
+pub fn where_function<T: Structure>(
+    alloc: Global,
+    items: &Comps,
+    size: usize,
+) -> Result<Constraint, NoMemory>
+    requires levels { ItemsFit size (comps_of items.now) }
+    requires operators { AdmitsItems T.ordered (comps_of items.now) }
+    ensures truth { IfOk result (HoldsWhere size (λ c. IsFunction (point (coll (comps_of items.now)) c))) }
+    ensures levels { IfOk result (ConstraintFits size) }
+{
+    let mut found = Constraint::new(alloc);
+    for first in items.as_slice() {
+        let clash = where_clashing::<T>(alloc, first, items, size)?;
+        found = or(alloc, &found, &clash)?;
+    }
+    negate(alloc, &found)
+}
+
+/// Where the set has at most one member.
+pub fn where_single<T: Structure>(
+    alloc: Global,
+    items: &Comps,
+    size: usize,
+) -> Result<Constraint, NoMemory>
+    requires levels { ItemsFit size (comps_of items.now) }
+    requires operators { AdmitsItems T.ordered (comps_of items.now) }
+    ensures truth { IfOk result (HoldsWhere size (λ c. HasOneAtMost (point (coll (comps_of items.now)) c))) }
+    ensures levels { IfOk result (ConstraintFits size) }
+{
+    // in pairs of members the first parts have one second part each only where there is one member
+    let Term::Coll(squared) = pairs(alloc, items, items, size)? else {
+        unreachable!()
+    };
+    where_function::<T>(alloc, &squared, size)
+}
+
+/// Where a state and a letter have at most one step.
+pub fn where_led_once<T: Structure>(
+    alloc: Global,
+    steps: &Comps,
+    size: usize,
+) -> Result<Constraint, NoMemory>
+    requires levels { ItemsFit size (comps_of steps.now) }
+    requires operators { AdmitsItems T.ordered (comps_of steps.now) }
+    ensures truth { IfOk result (HoldsWhere size (λ c. LeadsOnce (point (coll (comps_of steps.now)) c))) }
+    ensures levels { IfOk result (ConstraintFits size) }
+{
+    let Term::Coll(keyed) = column(alloc, steps, Shape::Keyed)? else {
+        unreachable!()
+    };
+    where_function::<T>(alloc, &keyed, size)
+}
+
+fn where_clashing<T: Structure>(
+    alloc: Global,
+    first: &Comp,
+    others: &Comps,
+    size: usize,
+) -> Result<Constraint, NoMemory>
+    requires first { CompFits size (comp_of first.now) }
+    requires first_operators { AdmitsComp T.ordered (comp_of first.now) }
+    requires second { ItemsFit size (comps_of others.now) }
+    requires second_operators { AdmitsItems T.ordered (comps_of others.now) }
+    ensures truth { IfOk result (HoldsUnless size (λ c. AllAgree (IsMadeBy (comp_of first.now) c) (IsAmong (comps_of others.now) c))) }
+    ensures levels { IfOk result (ConstraintFits size) }
+{
+    let mut found = Constraint::new(alloc);
+    for second in others.as_slice() {
+        let clash = where_differing::<T>(alloc, first, second, size)?;
+        found = or(alloc, &found, &clash)?;
+    }
+    Ok(found)
+}
+
+fn where_differing<T: Structure>(
+    alloc: Global,
+    first: &Comp,
+    second: &Comp,
+    size: usize,
+) -> Result<Constraint, NoMemory>
+    requires first { CompFits size (comp_of first.now) }
+    requires first_operators { AdmitsComp T.ordered (comp_of first.now) }
+    requires second { CompFits size (comp_of second.now) }
+    requires second_operators { AdmitsComp T.ordered (comp_of second.now) }
+    ensures truth { IfOk result (HoldsUnless size (λ c. AllAgree (IsMadeBy (comp_of first.now) c) (IsMadeBy (comp_of second.now) c))) }
+    ensures levels { IfOk result (ConstraintFits size) }
+{
+    let both = beside(alloc, first, second, size)?;
+    let Some((key, value)) = pair_parts(&both.first) else {
+        return Ok(Constraint::new(alloc));
+    };
+    let Some((other_key, other_value)) = pair_parts(&both.second) else {
+        return Ok(Constraint::new(alloc));
+    };
+    let inner = size + both.binders;
+    let same_key = where_same::<T>(alloc, key, other_key, inner)?;
+    let same_value = where_same::<T>(alloc, value, other_value, inner)?;
+    let keys = meet(alloc, &both.guard, &same_key)?;
+    let clash = and_not(alloc, &keys, &same_value)?;
+    for_some_more::<T>(alloc, clash, size, both.binders)
+}
+
+fn where_same<T: Structure>(
+    alloc: Global,
+    s: &Term,
+    t: &Term,
+    size: usize,
+) -> Result<Constraint, NoMemory>
+    requires levels { Fits size (tree s.now) }
+    requires operators { AdmitsTerm T.ordered (tree s.now) }
+    requires other_levels { Fits size (tree t.now) }
+    requires other_operators { AdmitsTerm T.ordered (tree t.now) }
+    ensures truth { IfOk result (HoldsWhere size (λ c. IsSame (point (tree s.now) c) (point (tree t.now) c))) }
+    ensures levels { IfOk result (ConstraintFits size) }
+    ensures operators { IfOk result (AdmitsConstraint T.ordered) }
+{
+    let formula = equal_formula(alloc, s, t, size)?;
+    quantifier_free::<T>(alloc, &formula, size)
+}
+
+/// Where each member of the one list is in the set with the other.
+pub fn where_inside<T: Structure>(
+    alloc: Global,
+    items: &Comps,
+    others: &Comps,
+    size: usize,
+) -> Result<Constraint, NoMemory>
+    requires levels { ItemsFit size (comps_of items.now) }
+    requires operators { AdmitsItems T.ordered (comps_of items.now) }
+    requires other_levels { ItemsFit size (comps_of others.now) }
+    requires other_operators { AdmitsItems T.ordered (comps_of others.now) }
+    ensures truth { IfOk result (HoldsWhere size (λ c. IsIncluded (point (coll (comps_of items.now)) c) (point (coll (comps_of others.now)) c))) }
+    ensures levels { IfOk result (ConstraintFits size) }
+{
+    let inner = Term::Coll(items.copy(alloc)?);
+    let outer = Term::Coll(others.copy(alloc)?);
+    where_included::<T>(alloc, &inner, &outer, size)
+}
+
+/// Where each step joins states by a letter.
+pub fn where_joined<T: Structure>(
+    alloc: Global,
+    sets: FiveSets<'_>,
+    size: usize,
+) -> Result<Constraint, NoMemory>
+    requires states { ItemsFit size (comps_of sets.states.now) }
+    requires states_operators { AdmitsItems T.ordered (comps_of sets.states.now) }
+    requires letters { ItemsFit size (comps_of sets.letters.now) }
+    requires letters_operators { AdmitsItems T.ordered (comps_of sets.letters.now) }
+    requires steps { ItemsFit size (comps_of sets.steps.now) }
+    requires steps_operators { AdmitsItems T.ordered (comps_of sets.steps.now) }
+    ensures truth { IfOk result (HoldsWhere size (λ c. StepsJoin (point (coll (comps_of sets.entry.states.now)) c) (point (coll (comps_of sets.entry.letters.now)) c) (point (coll (comps_of sets.entry.steps.now)) c))) }
+    ensures levels { IfOk result (ConstraintFits size) }
+{
+    let triples = where_triples::<T>(alloc, sets.steps, size)?;
+    let from = where_parts_in::<T>(alloc, sets.steps, Shape::Source, sets.states, size)?;
+    let by = where_parts_in::<T>(alloc, sets.steps, Shape::Label, sets.letters, size)?;
+    let to = where_parts_in::<T>(alloc, sets.steps, Shape::Target, sets.states, size)?;
+    let ends = meet(alloc, &from, &to)?;
+    let parts = meet(alloc, &ends, &by)?;
+    meet(alloc, &triples, &parts)
+}
+
+// Where each step is a triple.
+fn where_triples<T: Structure>(
+    alloc: Global,
+    steps: &Comps,
+    size: usize,
+) -> Result<Constraint, NoMemory>
+    requires levels { ItemsFit size (comps_of steps.now) }
+    requires operators { AdmitsItems T.ordered (comps_of steps.now) }
+    ensures truth { IfOk result (HoldsWhere size (λ c. AreTriples (point (coll (comps_of steps.now)) c))) }
+    ensures levels { IfOk result (ConstraintFits size) }
+{
+    let none = Term::Coll(Comps::new(alloc));
+    let others = misfits(alloc, steps)?;
+    where_included::<T>(alloc, &others, &none, size)
+}
+
+// Where all that the shape makes of the steps is in a set.
+fn where_parts_in<T: Structure>(
+    alloc: Global,
+    steps: &Comps,
+    shape: Shape,
+    whole: &Comps,
+    size: usize,
+) -> Result<Constraint, NoMemory>
+    requires levels { ItemsFit size (comps_of steps.now) }
+    requires operators { AdmitsItems T.ordered (comps_of steps.now) }
+    requires whole_levels { ItemsFit size (comps_of whole.now) }
+    requires whole_operators { AdmitsItems T.ordered (comps_of whole.now) }
+    ensures truth { IfOk result (HoldsWhere size (λ c. ArePartsIn shape (point (coll (comps_of steps.now)) c) (point (coll (comps_of whole.now)) c))) }
+    ensures levels { IfOk result (ConstraintFits size) }
+{
+    let parts = column(alloc, steps, shape)?;
+    let outer = Term::Coll(whole.copy(alloc)?);
+    where_included::<T>(alloc, &parts, &outer, size)
+}

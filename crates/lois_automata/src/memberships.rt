@@ -1,0 +1,80 @@
+//! Where items are in sets, as constraints.
+
+ghost use Rattle.std.specs.Prelude.{◌≡◌, ℕ, ◌+◌, ◌<◌, ◌^◌, Bool, IfOk};
+ghost use Rattle.lois_base.specs.Data.{coll, comps_of};
+ghost use Rattle.lois_base.specs.Fits.{ConstraintFits, Fits, CompFits};
+ghost use Rattle.lois_base.specs.Shift.{shift};
+ghost use Rattle.lois_base.specs.Tree.{tree, comp_of};
+ghost use Rattle.lois_base.specs.Validity.{AdmitsConstraint, AdmitsTerm, AdmitsComp, HasUsualWidths};
+ghost use Rattle.lois_terms.specs.Guarded.{IsSet};
+ghost use Rattle.lois_terms.specs.Raised.{IsRaised};
+ghost use Rattle.lois_automata.specs.Built.{HoldsWhereIn, HoldsWhereAdmittedIn};
+
+use lois_base::{Comp, Constraint, NoMemory, Structure, Term};
+use lois_constraint::meet;
+use lois_elim::quantifier_free;
+use lois_relate::member_formula;
+use lois_terms::shift_term;
+use std::alloc::Global;
+
+/// The term with `by` levels put in after the first `size`. Binders inside of it may come to lie above the greatest usize.
+pub fn among_more(alloc: Global, t: &Term, size: usize, by: usize) -> Result<Term, NoMemory>
+    requires fits { Fits size (tree t.now) }
+    requires levels { size + by < 2 ^ 64 }
+    ensures raised { IfOk result (λ r. tree r ≡ shift size by (tree t.now)) }
+    ensures value { IfOk result (λ r. IsRaised size by (tree t.now) (tree r)) }
+    ensures fits { IfOk result (λ r. Fits (size + by) (tree r)) }
+    ensures operators { IfOk result (λ r. (o : Bool) → AdmitsTerm o (tree t.now) → AdmitsTerm o (tree r)) }
+    ensures widths { IfOk result (λ r. HasUsualWidths (tree t.now) → HasUsualWidths (tree r)) }
+{
+    if !t.fits(size + by) {
+        return Err(NoMemory);
+    }
+    shift_term(alloc, t, size, by)
+}
+
+/// A constraint over `size + by` levels that holds exactly where the item is in the set `t`, whose levels are the first `size`.
+pub fn membership<T: Structure>(
+    alloc: Global,
+    item: &Term,
+    t: &Term,
+    size: usize,
+    by: usize,
+) -> Result<Constraint, NoMemory>
+    requires levels { size + by < 2 ^ 64 }
+    requires item { Fits (size + by) (tree item.now) }
+    requires item_operators { AdmitsTerm T.ordered (tree item.now) }
+    requires set_levels { Fits size (tree t.now) }
+    requires set { IsSet (tree t.now) }
+    requires set_operators { AdmitsTerm T.ordered (tree t.now) }
+    ensures truth { IfOk result (HoldsWhereIn size by (tree item.now) (tree t.now)) }
+    ensures fits { IfOk result (ConstraintFits (size + by)) }
+    ensures operators { IfOk result (λ r. (o : Bool) → AdmitsTerm o (tree item.now) → AdmitsTerm o (tree t.now) → AdmitsConstraint o r) }
+{
+    let raised = among_more(alloc, t, size, by)?;
+    let formula = member_formula(alloc, item, &raised, size + by)?;
+    quantifier_free::<T>(alloc, &formula, size + by)
+}
+
+/// Where `under` and the guard of the comprehension hold and its item is in the set `t`.
+pub fn admitted_in<T: Structure>(
+    alloc: Global,
+    comp: &Comp,
+    t: &Term,
+    under: &Constraint,
+    size: usize,
+) -> Result<Constraint, NoMemory>
+    requires levels { CompFits size (comp_of comp.now) }
+    requires operators { AdmitsComp T.ordered (comp_of comp.now) }
+    requires set_levels { Fits size (tree t.now) }
+    requires set { IsSet (tree t.now) }
+    requires set_operators { AdmitsTerm T.ordered (tree t.now) }
+    requires under { ConstraintFits size under.now }
+    ensures truth { IfOk result (HoldsWhereAdmittedIn size comp.now.binders under.now comp.now.guard (tree comp.now.item) (tree t.now)) }
+    ensures fits { IfOk result (ConstraintFits (size + comp.now.binders)) }
+    ensures operators { IfOk result (λ r. (o : Bool) → AdmitsComp o (comp_of comp.now) → AdmitsTerm o (tree t.now) → AdmitsConstraint o under.now → AdmitsConstraint o r) }
+{
+    let found = membership::<T>(alloc, &comp.item, t, size, comp.binders)?;
+    let admitted = meet(alloc, under, &comp.guard)?;
+    meet(alloc, &admitted, &found)
+}
