@@ -22,6 +22,7 @@ use Rattle.lois_script.specs.Tree.{ParamD, ScriptD}
 use Rattle.lois_meaning.specs.Runs.{ListEnds, ListFails}
 use Rattle.lois_meaning.specs.Store.{NamedValues, AreSameNamed, IsShallow, opening_from, opening}
 use Rattle.lois_meaning.specs.declared.faults.Fault.{Fault}
+use Rattle.lois_simplify.specs.Lean.{HasNormalGuards}
 use Rattle.lois_context.specs.Choices.{IsAdmitted, AdmitsContext, ContextHasUsualWidths}
 use Rattle.lois_context.specs.Counted.{times}
 use Rattle.lois_context.specs.Merged.{AreApart, IsLike, IsLikeOneOf, AreMerged}
@@ -30,7 +31,7 @@ use Rattle.lois_context.specs.Slots.{SlotD, lines_at}
 use Rattle.lois_context.specs.declared.contexts.Context.{Context}
 use Rattle.lois_eval.specs.Standing.{IsPlaced}
 use Rattle.lois_interp.specs.Failed.{FailsWithin}
-use Rattle.lois_interp.specs.Interpreted.{parameter_name, lines_of, IsChoiceOf, PrintsAt, IsRightAt, HoldsSomewhere, IsNormalCase, AreResultsOf, IsFailureOf}
+use Rattle.lois_interp.specs.Interpreted.{parameter_name, lines_of, IsChoiceOf, PrintsAt, IsRightAt, HoldsSomewhere, IsNormalLine, IsNormalCase, AreResultsOf, IsFailureOf}
 use Rattle.lois_interp.specs.Opened.{IsOpening}
 use Rattle.lois_interp.specs.Printed.{IsPrintedLine, IsPrinted, IsCaseOf}
 use Rattle.lois_interp.specs.Reached.{IsReachedAt, RunsAs}
@@ -127,6 +128,9 @@ module _ (text : List ℕ) (s : ScriptD) (spelled : Spells text s) (scoped : IsW
       normal_there l inside =
           let from = zip_from (IsPrintedLine e.size e.«when») e.lines d.lines p.lines l inside in
           subst (λ k. IsNormal l.term d.«when» k) (sym p.size) (subst (λ u. IsNormal l.term u e.size) (sym p.«when») from.2.normal)
+
+      pub guards_there : (l : LineD) → Contains d.lines l → HasNormalGuards l.term
+      guards_there l inside = (zip_from (IsPrintedLine e.size e.«when») e.lines d.lines p.lines l inside).2.guards
 
       module _ (admits : AdmitsContext s.ordered e) (wide : ContextHasUsualWidths e) where
         pub line_sound : (l : LineD) → Contains d.lines l → IsSoundLine s.ordered n l
@@ -270,10 +274,12 @@ module _ (text : List ℕ) (s : ScriptD) (spelled : Spells text s) (scoped : IsW
             let d = home m.0 m.1 in
             let e = printed_from d.0 d.1 in
             let weaker : IsWeaker n d.0.«when» c.«when» = weaker_merged d.0 m.0 d.1 m.1 d.3 c.«when» (case_fits c m.0 m.1 m.2) m.2.truth in
-            let each : All (λ l. IsNormal l.term c.«when» n) d.0.lines = all_that_are (λ l. IsNormal l.term c.«when» n) d.0.lines (λ l inside.
-            normal_weaker l.term d.0.«when» c.«when» n weaker (sound_printed d.0 d.1 l inside).term.levels
-            (subst (λ k. IsNormal l.term d.0.«when» k) (e.2.size ∙ end_size e.0 e.1) (normal_there e.0 d.0 e.1 e.2 l inside))) in
-            (m.2.normalised, subst (All (λ l. IsNormal l.term c.«when» n)) (sym (m.2.lines ∙ like_lines d.0 m.0 d.3)) each)
+            let each : All (IsNormalLine n c.«when») d.0.lines = all_that_are (IsNormalLine n c.«when») d.0.lines (λ l inside. (
+              normal_weaker l.term d.0.«when» c.«when» n weaker (sound_printed d.0 d.1 l inside).term.levels
+                  (subst (λ k. IsNormal l.term d.0.«when» k) (e.2.size ∙ end_size e.0 e.1) (normal_there e.0 d.0 e.1 e.2 l inside)),
+              guards_there e.0 d.0 e.1 e.2 l inside,
+            )) in
+            (m.2.normalised, subst (All (IsNormalLine n c.«when»)) (sym (m.2.lines ∙ like_lines d.0 m.0 d.3)) each)
 
         pub interpreted : (r : Results) → r.order ≡ s.ordered → r.parameters ≡ map parameter_name s.parameters → r.cases ≡ cases → AreResultsOf s r
         interpreted r order parameters is = record {

@@ -6,7 +6,9 @@ use Rattle.lois_base.specs.Data.{depth}
 use Rattle.lois_base.specs.Normal.{IsNormal}
 use Rattle.lois_base.specs.Truth.{holds, sampled}
 use Rattle.lois_base.specs.Validity.{AdmitsTerm, HasUsualWidths}
+use Rattle.lois_base.specs.declared.guards.Lit.{Lit}
 use Rattle.lois_constraint.specs.Normalised.{IsNormalised}
+use Rattle.lois_simplify.specs.Lean.{HasNormalGuards}
 use Rattle.lois_answers.specs.ResultsData.{LineD, CaseD}
 use Rattle.lois_answers.specs.Sound.{IsSound}
 use Rattle.lois_answers.specs.declared.results.Results.{Results}
@@ -47,9 +49,13 @@ pub record IsRightAt (s : ScriptD) (cases : List CaseD) (choice : List Atom) : T
 abbrev pub HoldsSomewhere : ScriptD → CaseD → Type 0
 HoldsSomewhere s c = (choice : List Atom) × IsChoiceOf s choice × HoldsAt choice c
 
+-- the term is normal where the constraint holds, and its guards are normalised
+abbrev pub IsNormalLine : ℕ → List (List Lit) → LineD → Type 0
+IsNormalLine n u l = IsNormal l.term u n × HasNormalGuards l.term
+
 -- the constraint is normalised, and each line's term is normal where it holds
 abbrev pub IsNormalCase : ℕ → CaseD → Type 0
-IsNormalCase n c = IsNormalised c.«when» × All (λ l. IsNormal l.term c.«when» n) c.lines
+IsNormalCase n c = IsNormalised c.«when» × All (IsNormalLine n c.«when») c.lines
 
 abbrev pub lines_of : CaseD → List LineD
 lines_of c = c.lines

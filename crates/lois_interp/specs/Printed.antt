@@ -11,13 +11,15 @@ use Rattle.lois_constraint.specs.Normalised.{IsNormalised}
 use Rattle.lois_answers.specs.ResultsData.{LineD, CaseD}
 use Rattle.lois_answers.specs.Sound.{HasTags}
 use Rattle.lois_simplify.specs.Kept.{IsSameWhere}
+use Rattle.lois_simplify.specs.Lean.{HasNormalGuards}
 use Rattle.lois_context.specs.declared.contexts.Context.{Context}
 
--- r has the value of l at each choice of n atoms at which u holds, and is normal there
+-- r has the value of l at each choice of n atoms at which u holds, and is normal there, with normalised guards
 pub record IsPrintedLine (n : ℕ) (u : List (List Lit)) (l r : LineD) : Type 0 where
   pub name : r.name ≡ l.name
   pub value : IsSameWhere u n l.term r.term
   pub normal : IsNormal r.term u n
+  pub guards : HasNormalGuards r.term
   pub levels : Fits n r.term
   pub tags : HasTags r.term
   pub operators : (ordered : Bool) → AdmitsTerm ordered l.term → AdmitsTerm ordered r.term
