@@ -5,6 +5,7 @@ use Rattle.std.proofs.lemmas.List.Elements.{All-nil, All-cons}
 use Rattle.lois_base.specs.Data.{TermD}
 use Rattle.lois_base.specs.Validity.{AdmitsLit, AdmitsCube, AdmitsTerm}
 use Rattle.lois_base.specs.declared.guards.Lit.{Lit}
+use Rattle.lois_base.proofs.Validity.{term_admitted}
 use Rattle.lois_script.specs.Limits.{Spells}
 use Rattle.lois_script.specs.Scope.{inner, declare, opening_scope, with_parameters, StmtsBreak, IsWellScoped}
 use Rattle.lois_script.specs.Tree.{ExprD, CondD, StmtD, «let», if, StmtsD, no_stmts, stmt, ScriptD}
@@ -39,12 +40,12 @@ module _ (s : ScriptD) (text : List ℕ) (spelled : Spells text s) (scoped : IsW
       }
 
   pub side_placed : (p : ℕ) (x : List ℕ) (e : ExprD) (c : CondD) (side other rest : StmtsD) → s.body ≡ stmt («let» p x e) (stmt ((if) c side other) rest) → s.ordered ≡ true →
-      (k : Context) (t : TermD) (from : ℕ) → k.«when» ≡ [] ∷ [] → k.store ≡ record { name = x; term = t; from = from } ∷ [] → k.lines ≡ [] → AdmitsTerm true t → IsPlaced (BlockMayStand side) true k
-  side_placed p x e c side other rest is order k t from always store lines admits = record {
+      (k : Context) (t : TermD) (from : ℕ) → k.«when» ≡ [] ∷ [] → k.store ≡ record { name = x; term = t; from = from } ∷ [] → k.lines ≡ [] → IsPlaced (BlockMayStand side) true k
+  side_placed p x e c side other rest is order k t from always store lines = record {
     names = subst (BlockMayStand side true) (sym (ap (map slot_name) store)) (subst (λ o. BlockMayStand side o (x ∷ [])) order (side_stands p x e c side other rest is));
     operators = record {
       «when» = subst (All (AdmitsCube true)) (sym always) (All-cons (AdmitsCube true) [] [] (All-nil (AdmitsLit true)) (All-nil (AdmitsCube true)));
-      store = subst (All (λ z. AdmitsTerm true z.term)) (sym store) (All-cons (λ z. AdmitsTerm true z.term) _ [] admits (All-nil (λ z. AdmitsTerm true z.term)));
+      store = subst (All (λ z. AdmitsTerm true z.term)) (sym store) (All-cons (λ z. AdmitsTerm true z.term) _ [] (term_admitted t) (All-nil (λ z. AdmitsTerm true z.term)));
       lines = subst (All (λ l. AdmitsTerm true l.term)) (sym lines) (All-nil (λ l. AdmitsTerm true l.term));
     };
   }

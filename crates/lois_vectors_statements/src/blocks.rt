@@ -3,7 +3,6 @@
 ghost use Rattle.std.specs.Prelude.{◌≡◌, ◌≤◌, true, List, [], ◌∷◌, ℕ, IfOk, IfSome};
 ghost use Rattle.lois_base.specs.Fits.{Fits};
 ghost use Rattle.lois_base.specs.Tree.{tree};
-ghost use Rattle.lois_base.specs.Validity.{AdmitsTerm};
 ghost use Rattle.lois_context.specs.Slots.{comps_in};
 ghost use Rattle.lois_script.specs.Limits.{Spells};
 ghost use Rattle.lois_script.specs.Tree.{ExprD, CondD, StmtsD, «let», if};
@@ -117,19 +116,27 @@ fn context_of(alloc: Global, name: &Name, set: Term, from: usize) -> Result<Cont
     })
 }
 
-// Runs the first side of the `if` of a script `let NAME = ..; if .. { .. }` without parameters, in the context of that name.
+// How many comprehensions a set has.
+fn count_of(set: &Term) -> usize
+    ensures { result ≡ comps_in (tree set.now) }
+{
+    match set {
+        Term::Coll(comps) => comps.len(),
+        _ => 0,
+    }
+}
+
+// Runs the first side of the `if` of a script `let NAME = ..; if .. { .. }` without parameters, where the name holds a set from
+// outside of a loop.
 fn side_ran(
     alloc: Global,
     script: &Scoped,
     set: Term,
-    from: usize,
     chosen: &mut Chosen,
 ) -> Result<Option<Vec<Context>>, Stop>
     requires spelled { (text : List ℕ) × Spells text (script_tree script.now) }
     requires structure { (script_tree script.now).ordered ≡ true }
     requires levels { Fits 0 (tree set) }
-    requires operators { AdmitsTerm true (tree set) }
-    requires from { from ≤ comps_in (tree set) }
 {
     let script = script.script();
     if script.parameters.len() > 0 {
@@ -141,6 +148,7 @@ fn side_ran(
     let (Some(name), Some(side)) = (let_name(first), if_side(second)) else {
         return Ok(None);
     };
+    let from = count_of(&set);
     let context = context_of(alloc, name, set, from)?;
     Ok(Some(run_block::<OrderAtoms>(alloc, side, context, chosen)?))
 }
@@ -253,7 +261,7 @@ fn slots_keep_what_stood_outside(rt: HostRuntime) -> Result<(), Fail> {
         };
         let set = two_tags(&rt, alloc)?;
         assert!(rt; script.script().order && set.fits(0));
-        let Ok(Some(contexts)) = side_ran(alloc, &script, set, 2, &mut chosen) else {
+        let Ok(Some(contexts)) = side_ran(alloc, &script, set, &mut chosen) else {
             return Err("it didn't run".into());
         };
         let Some(comps) = kept_comprehensions(&contexts, 2) else {

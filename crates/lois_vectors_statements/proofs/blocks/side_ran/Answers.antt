@@ -19,4 +19,4 @@ run_block-requires g c =
     let body = body_is (stmts_list r.body) (stmt_tree c.in-Some-Some.first.now) (stmt_tree c.in-Some-Some.second.now) forms.ensures.0 forms.name.now forms.ensures.1 forms.ensures'.0 side forms.ensures'.1 (sym c.in-Some-Some.ensures.item) (sym c.in-Some-Some.ensures'.item) forms.ensures.2 forms.ensures'.2 in
     side_placed s text (subst (λ x. Spells text (script_tree x)) same c.requires.spelled.1) (subst (λ x. IsWellScoped (script_tree x)) same c.script-script.ensures.scoped) (nil_from_length (params_list r.parameters) none)
     forms.ensures.0 forms.name.now forms.ensures.1 forms.ensures'.0 side forms.ensures'.1 body.0 body.1 (subst (λ x. (script_tree x).ordered ≡ true) same c.requires.structure)
-    c.in_ok-context.context (tree c.args.set) c.args.from c.in_ok-context.ensures.always c.in_ok-context.ensures.store c.in_ok-context.ensures.lines c.requires.operators
+    c.in_ok-context.context (tree c.args.set) c.count_of-from.result c.in_ok-context.ensures.always c.in_ok-context.ensures.store c.in_ok-context.ensures.lines
