@@ -24,32 +24,8 @@ use Rattle.lois_context.proofs.Carried.{count_of}
 use Rattle.lois_context.proofs.Joined.{of_listed}
 use Rattle.lois_eval.specs.Made.{bare, IsHeldBy}
 use Rattle.lois_eval.proofs.Names.{held_at}
-use Rattle.lois_interp.specs.Leaves.{with_item}
-use Rattle.lois_interp.proofs.LeafRuns.{set_with}
-
--- ---- what the set may use, and how many comprehensions it has
-item_fits : (n : ℕ) (item : TermD) → n < 2 ^ 64 → Fits n item → CompFits n (bare item)
-item_fits n item room h =
-    let same : n ≡ n + 0 = omega arith in
-    (omega arith, All-cons (CubeFits (n + 0)) [] [] (All-nil (LitFits (n + 0))) (All-nil (CubeFits (n + 0))), subst (λ z. Fits z item) same h)
-
-with_fits : (n : ℕ) (t item : TermD) (ks : CompsD) → t ≡ coll ks → n < 2 ^ 64 → Fits n t → Fits n item → Fits n (with_item t item)
-with_fits n t item ks is room old new = subst (λ z. Fits n z → Fits n (with_item z item)) (sym is)
-    (λ h. items_fit-append n (items_listed ks) (bare item ∷ []) (subst (ItemsFit n) (sym (of_listed ks)) h) (item_fits n item room new, tt)) old
-
-with_admits : (o : Bool) (t item : TermD) (ks : CompsD) → t ≡ coll ks → AdmitsTerm o t → AdmitsTerm o item → AdmitsTerm o (with_item t item)
-with_admits o t item ks is old new = subst (λ z. AdmitsTerm o z → AdmitsTerm o (with_item z item)) (sym is)
-    (λ h. admits_items-append o (items_listed ks) (bare item ∷ []) (subst (AdmitsItems o) (sym (of_listed ks)) h) ((All-cons (AdmitsCube o) [] [] (All-nil (AdmitsLit o)) (All-nil (AdmitsCube o)), new), tt)) old
-
-with_widths : (t item : TermD) (ks : CompsD) → t ≡ coll ks → HasUsualWidths t → HasUsualWidths item → HasUsualWidths (with_item t item)
-with_widths t item ks is old new = subst (λ z. HasUsualWidths z → HasUsualWidths (with_item z item)) (sym is)
-    (λ h. widths-append (items_listed ks) (bare item ∷ []) (subst ItemsHaveUsualWidths (sym (of_listed ks)) h) (new, tt)) old
-
-with_count : (t item : TermD) (ks : CompsD) → t ≡ coll ks → comps_in t ≤ comps_in (with_item t item)
-with_count t item ks is = subst (λ z. comps_in z ≤ comps_in (with_item z item)) (sym is) (
-    let before : comps_in (coll ks) ≡ length (items_listed ks) = ap count_of_items (sym (of_listed ks)) ∙ count_of (items_listed ks) in
-    let after = count_of (items_listed ks ++ bare item ∷ []) in
-    omega (arith, before, after, length-append (items_listed ks) (bare item ∷ [])))
+use Rattle.lois_interp.specs.Members.{IsWithItem}
+use Rattle.lois_interp.proofs.PutOnce.{with_fits, with_admits, with_widths, with_count, set_with}
 
 -- ---- the slot with the name
 pub in_slots : (k : Context) (slots : List Slot) (i : ℕ) → map slot_of slots ≡ k.store → i < length k.store → i < length slots
@@ -68,18 +44,18 @@ module _ (k : Context) (x : List ℕ) (slots : List Slot) (i : ℕ) (slot : Slot
   old_slot : IsSlot k.size (slot_of slot)
   old_slot = item_has slot_of (IsSlot k.size) slots k.store i slot seen within is k.slots
 
-  module _ (item set : TermD) (more : IsSet (tree slot.term) × (set ≡ with_item (tree slot.term) item)) where
+  module _ (item set : TermD) (more : IsSet (tree slot.term) × IsWithItem (tree slot.term) item set) where
     pub set_fits : k.size < 2 ^ 64 → Fits k.size item → Fits k.size set
-    set_fits room h = subst (Fits k.size) (sym more.1) (with_fits k.size (tree slot.term) item more.0.0 more.0.1 room old_slot.0 h)
+    set_fits room h = with_fits (tree slot.term) item set more.0.0 more.0.1 more.1 k.size room old_slot.0 h
 
     pub set_from : slot.from ≤ comps_in set
-    set_from = subst (λ z. slot.from ≤ comps_in z) (sym more.1) (omega (arith, old_slot.1, with_count (tree slot.term) item more.0.0 more.0.1))
+    set_from = omega (arith, old_slot.1, with_count (tree slot.term) item set more.0.0 more.0.1 more.1)
 
     pub set_admits : (o : Bool) → AdmitsContext o k → AdmitsTerm o item → AdmitsTerm o set
-    set_admits o old h = subst (AdmitsTerm o) (sym more.1) (with_admits o (tree slot.term) item more.0.0 more.0.1 (item_has slot_of (λ s. AdmitsTerm o s.term) slots k.store i slot seen within is old.store) h)
+    set_admits o old h = with_admits (tree slot.term) item set more.0.0 more.0.1 more.1 o (item_has slot_of (λ s. AdmitsTerm o s.term) slots k.store i slot seen within is old.store) h
 
     pub set_widths : ContextHasUsualWidths k → HasUsualWidths item → HasUsualWidths set
-    set_widths old h = subst HasUsualWidths (sym more.1) (with_widths (tree slot.term) item more.0.0 more.0.1 (item_has slot_of (λ s. HasUsualWidths s.term) slots k.store i slot seen within is old.store) h)
+    set_widths old h = with_widths (tree slot.term) item set more.0.0 more.0.1 more.1 (item_has slot_of (λ s. HasUsualWidths s.term) slots k.store i slot seen within is old.store) h
 
     pub set_joined : (a : List Atom) → IsSetWith (point set a) (point (tree slot.term) a) (point item a)
-    set_joined a = subst (λ z. IsSetWith (point z a) (point (tree slot.term) a) (point item a)) (sym more.1) (set_with (tree slot.term) item more.0.0 more.0.1 a)
+    set_joined a = set_with (tree slot.term) item set more.0.0 more.0.1 more.1 a

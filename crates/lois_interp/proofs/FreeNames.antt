@@ -20,7 +20,7 @@ use Rattle.lois_interp.specs.Interpreted.{parameter_name}
 use Rattle.lois_interp.proofs.Opened.{parameters_distinct}
 use Rattle.lois_interp.proofs.Spelled.{spelled_prints}
 
-free_name : (bytes : List ℕ) → IsToken Name bytes → IsFreeName bytes
+pub free_name : (bytes : List ℕ) → IsToken Name bytes → IsFreeName bytes
 free_name bytes t = record { form = word_is_name bytes t.form.0 (leb-true (length bytes) 64 t.limits); free = t.form.1 }
 
 -- ---- what is printed

@@ -30,13 +30,14 @@ use Rattle.lois_eval.specs.Made.{bare, IsHeldBy}
 use Rattle.lois_eval.specs.Standing.{IsPlaced}
 use Rattle.lois_eval.proofs.Names.{held_at, held_value}
 use Rattle.lois_interp.specs.Assigned.{StmtAssigns}
-use Rattle.lois_interp.specs.Leaves.{IsWithStore, with_item}
+use Rattle.lois_interp.specs.Leaves.{IsWithStore}
 use Rattle.lois_interp.specs.Looped.{Holds}
+use Rattle.lois_interp.specs.Members.{IsWithItem}
 use Rattle.lois_interp.specs.Reached.{EndsAt, IsReachedAt, RunsAs}
 use Rattle.lois_interp.specs.Run.{Run, stmt_run}
 use Rattle.lois_interp.specs.Slots.{IsKeptTerm, IsKeptSlot, AreKept}
-use Rattle.lois_interp.proofs.Added.{in_append, in_one, append_included}
 use Rattle.lois_interp.proofs.Kept.{kept_weaker}
+use Rattle.lois_interp.proofs.PutOnce.{item_kept, item_included, set_with}
 use Rattle.lois_interp.proofs.Lists.{only_one, all_one, of_one}
 use Rattle.lois_interp.proofs.Sequence.{kept_refl}
 
@@ -190,36 +191,8 @@ print_runs p q l k d size is store lines held =
     held_has P all = subst P held.slot.2 (All-contains (λ (q : SlotD). P q.term) k.store held.slot.0 all held.slot.1)
 
 -- ---- a member more
-item_kept : (from : ℕ) (t item : TermD) (ks : CompsD) → t ≡ coll ks → from ≤ comps_in t → IsKeptTerm from t (with_item t item)
-item_kept from t item ks is le = subst (λ z. from ≤ comps_in z → IsKeptTerm from z (with_item z item)) (sym is) (λ short.
-    let count : comps_in (coll ks) ≡ length (items_listed ks) = ap count_of_items (sym (of_listed ks)) ∙ count_of (items_listed ks) in
-    (comps_of (items_listed ks ++ bare item ∷ []), refl, ap (take from) (listed_of (items_listed ks ++ bare item ∷ [])) ∙ take-append-le from (items_listed ks) (bare item ∷ []) (omega arith))) le
-
-item_included : (t item : TermD) (ks : CompsD) → t ≡ coll ks → (c : List Atom) → IsIncluded (point t c) (point (with_item t item) c)
-item_included t item ks is c = subst (λ z. IsIncluded (point z c) (point (with_item z item) c)) (sym is)
-    (subst (λ z. IsIncluded (point (coll z) c) (point (with_item (coll ks) item) c)) (of_listed ks) (append_included (items_listed ks) (bare item ∷ []) c))
-
--- the set has its old members and the item
-pub set_with : (t item : TermD) (ks : CompsD) → t ≡ coll ks → (c : List Atom) → IsSetWith (point (with_item t item) c) (point t c) (point item c)
-set_with t item ks is c = subst (λ z. IsSetWith (point (with_item z item) c) (point z c) (point item c)) (sym is) (
-  tt,
-  (
-    tt,
-    λ w. (
-      λ h. elim ((in_append (items_listed ks) (bare item ∷ []) c w).0 h) [
-        | inl p ↦ inl (subst (λ z. IsIn w (point (coll z) c)) (of_listed ks) p)
-        | inr p ↦ inr ((in_one item c w).0 p)
-      ],
-      λ h. (in_append (items_listed ks) (bare item ∷ []) c w).1 (elim h [
-        | inl p ↦ inl (subst (λ z. IsIn w (point (coll z) c)) (sym (of_listed ks)) p)
-        | inr p ↦ inr ((in_one item c w).1 p)
-      ]),
-    ),
-  ),
-)
-
 module _ (q s : SlotD) (item : TermD) (i : ℕ) (k d : Context) (is : IsWithStore (set k.store i s) k d) (lt : i < length k.store) (at : (r : SlotD) → (get_or k.store i r).name ≡ s.name)
-    (old : q ≡ get_or k.store i q) (ks : CompsD) (set_is : q.term ≡ coll ks) (from : s.from ≡ q.from) (term : s.term ≡ with_item q.term item) where
+    (old : q ≡ get_or k.store i q) (ks : CompsD) (set_is : q.term ≡ coll ks) (from : s.from ≡ q.from) (more : IsWithItem q.term item s.term) where
   old_held : IsHeldBy s.name k.store q.term
   old_held = subst (λ (r : SlotD). IsHeldBy s.name k.store r.term) (sym old) (held_at s.name k.store i q k.names lt (at q))
 
@@ -229,8 +202,8 @@ module _ (q s : SlotD) (item : TermD) (i : ℕ) (k d : Context) (is : IsWithStor
   kept_slot : IsKeptSlot (λ a. IsAdmitted a k) (get_or k.store i s) s
   kept_slot = subst (λ z. IsKeptSlot (λ a. IsAdmitted a k) z s) (old ∙ get_or_default k.store i q s lt) (record {
     from = from;
-    term = subst (IsKeptTerm q.from q.term) (sym term) (item_kept q.from q.term item ks set_is old_slot.1);
-    members = λ c p. subst (λ z. IsIncluded (point q.term c) (point z c)) (sym term) (item_included q.term item ks set_is c);
+    term = item_kept q.term item s.term ks set_is more q.from old_slot.1;
+    members = λ c p. item_included q.term item s.term ks set_is more c;
   })
 
   pub add_runs : (p : ℕ) (e : ExprD) → ((a : List Atom) → IsAdmitted a k → Gives e (store_at a k.store) (point item a)) → ((a : List Atom) → IsAdmitted a k → IsShallow (point s.term a)) →
@@ -243,7 +216,7 @@ module _ (q s : SlotD) (item : TermD) (i : ℕ) (k d : Context) (is : IsWithStor
         point s.term a,
         held_value s.name k.store q.term a old_held,
         gives a adm,
-        subst (λ z. IsSetWith (point z a) (point q.term a) (point item a)) (sym term) (set_with q.term item ks set_is a),
+        set_with q.term item s.term ks set_is more a,
         shallow a adm,
         subst (λ z. AreSameNamed z (stored s.name (point s.term a) (store_at a k.store))) (sym (stored_there s i k d is lt at a)) (named_refl (stored s.name (point s.term a) (store_at a k.store))),
         refl,

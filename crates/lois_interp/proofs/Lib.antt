@@ -20,6 +20,7 @@ pub mod ForGlue
 pub mod IfRuns
 pub mod WhileRuns
 pub mod Added
+pub mod PutOnce
 pub mod LeafRuns
 pub mod Extended
 pub mod LeafGlue

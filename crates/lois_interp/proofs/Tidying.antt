@@ -1,8 +1,8 @@
 -- Terms in which the last comprehensions are simplified.
-use Rattle.std.proofs.Common.{◌≡◌, ℕ, zero, suc, ◌+◌, ◌<◌, ◌≤◌, Bool, List, [], ◌∷◌, ◌++◌, length, get_or, take, drop, IsTrue, refl, sym, ap, ◌∙◌, subst, arith}
-use Rattle.std.specs.List.{All}
+use Rattle.std.proofs.Common.{◌≡◌, ℕ, zero, suc, ◌+◌, ◌<◌, ◌≤◌, inl, inr, Bool, List, [], ◌∷◌, ◌++◌, length, get_or, take, drop, IsTrue, refl, sym, ap, ◌∙◌, subst, arith}
+use Rattle.std.specs.List.{All, Contains}
 use Rattle.std.proofs.lemmas.List.{length-append, length-take-le, take_more, take-append-drop}
-use Rattle.std.proofs.lemmas.List.Elements.{All-head, All-tail, All-cons, All-nil}
+use Rattle.std.proofs.lemmas.List.Elements.{All-head, All-tail, All-cons, All-nil, Contains-append_left, Contains-append_right, Contains-append_cases}
 use Rattle.std.proofs.Math.Seq.{take-append_seam}
 use Rattle.lois_base.specs.Atom.{Atom}
 use Rattle.lois_base.specs.Data.{TermD, var, tag, tup, coll, CompD, CompsD, comps_of}
@@ -11,9 +11,11 @@ use Rattle.lois_base.specs.Truth.{holds}
 use Rattle.lois_base.specs.Validity.{AdmitsTerm, AdmitsItems, HasUsualWidths, ItemsHaveUsualWidths}
 use Rattle.lois_base.specs.Values.{point, IsSame}
 use Rattle.lois_base.specs.declared.guards.Lit.{Lit}
-use Rattle.lois_base.proofs.Members.{same_refl, same_as_set}
+use Rattle.lois_base.proofs.Members.{same_refl, same_trans, same_as_set}
 use Rattle.lois_algebra.proofs.Among.{items_fit-append, admits_items-append, widths-append}
 use Rattle.lois_deciders.specs.Asked.{CanBeMet}
+use Rattle.lois_simplify.proofs.Kept.{alike_kept}
+use Rattle.lois_simplify.proofs.Members.{items_fit_each, each_fits_items, items_admit_each, each_admits_items, items_wide_each, each_wide_items}
 use Rattle.lois_terms.specs.Guarded.{IsSet}
 use Rattle.lois_context.specs.Entered.{items_listed, comps_listed}
 use Rattle.lois_context.specs.Kept.{IsSlot, AreSlots}
@@ -21,6 +23,7 @@ use Rattle.lois_context.specs.Slots.{SlotD, comps_in, count_of_items}
 use Rattle.lois_context.proofs.Carried.{count_of}
 use Rattle.lois_context.proofs.Entered.{listed_of}
 use Rattle.lois_context.proofs.Joined.{of_listed}
+use Rattle.lois_interp.specs.Members.{ArePutBehind}
 use Rattle.lois_interp.specs.Slots.{IsKeptTerm}
 use Rattle.lois_interp.specs.Tidied.{IsTidied, IsTidiedSlot, AreTidied, counts_in, AreCounted}
 use Rattle.lois_interp.proofs.Added.{append_same}
@@ -73,7 +76,7 @@ items_widths_last (x ∷ xs) ys h = items_widths_last xs ys h.1
 
 -- the first ones and what stands for the last ones
 module _ (n : ℕ) (g : List (List Lit)) (xs ys zs : List CompD) where
-  tidied_both : ItemsFit n (comps_of xs) → Fits n (coll (comps_of zs)) → ((c : List Atom) → length c ≡ n → IsTrue (holds c g) → IsSame (point (coll (comps_of ys)) c) (point (coll (comps_of zs)) c)) →
+  tidied_both : ItemsFit n (comps_of xs) → Fits n (coll (comps_of zs)) → ((c : List Atom) → length c ≡ n → IsTrue (holds c g) → IsSame (point (coll (comps_of (xs ++ ys))) c) (point (coll (comps_of (xs ++ zs))) c)) →
       ((o : Bool) → AdmitsItems o (comps_of ys) → AdmitsItems o (comps_of zs)) → (ItemsHaveUsualWidths (comps_of ys) → ItemsHaveUsualWidths (comps_of zs)) →
       IsTidied n g (length xs) (coll (comps_of (xs ++ ys))) (coll (comps_of (xs ++ zs)))
   tidied_both fits levels same operators widths = record {
@@ -82,29 +85,37 @@ module _ (n : ℕ) (g : List (List Lit)) (xs ys zs : List CompD) where
       refl,
       ap (take (length xs)) (listed_of (xs ++ zs)) ∙ (take-append_seam xs zs ∙ sym (ap (take (length xs)) (listed_of (xs ++ ys)) ∙ take-append_seam xs ys)),
     );
-    value = λ c l o. append_same xs ys zs c (same c l o);
+    value = same;
     levels = items_fit-append n xs zs fits levels;
     count = λ l. let e = count_of (xs ++ zs) in omega (arith, e, length-append xs zs);
     operators = λ o h. admits_items-append o xs zs (items_admit_first o xs ys h) (operators o (items_admit_last o xs ys h));
     widths = λ h. widths-append xs zs (items_widths_first xs ys h) (widths (items_widths_last xs ys h));
   }
 
-pub set_tidied : (n : ℕ) (g : List (List Lit)) (first : ℕ) (ks : List CompD) (lean r : TermD) → first ≤ length ks → ItemsFit n (comps_of ks) → IsSet lean → r ≡ coll (comps_of (take first ks ++ comps_listed lean)) →
+-- what is put behind the first ones makes the same set as all of it
+behind_same : (first added more : List CompD) (c : List Atom) → ((k : CompD) → Contains more k → Contains added k) → ((k : CompD) → Contains added k → Contains (first ++ more) k) →
+    IsSame (point (coll (comps_of (first ++ added))) c) (point (coll (comps_of (first ++ more))) c)
+behind_same first added more c only whole = (alike_kept ([] ∷ []) (length c) (first ++ added) (first ++ more)
+    (λ k h. elim (Contains-append_cases first added k h) [ inl a ↦ Contains-append_left first more k a | inr a ↦ whole k a ])
+    (λ k h. elim (Contains-append_cases first more k h) [ inl a ↦ Contains-append_left first added k a | inr a ↦ Contains-append_right first added k (only k a) ])).value c refl refl
+
+pub set_tidied : (n : ℕ) (g : List (List Lit)) (first : ℕ) (ks : List CompD) (lean r : TermD) → first ≤ length ks → ItemsFit n (comps_of ks) → IsSet lean → ArePutBehind (take first ks) (comps_listed lean) r →
     Fits n lean → ((c : List Atom) → length c ≡ n → IsTrue (holds c g) → IsSame (point (coll (comps_of (drop first ks))) c) (point lean c)) →
     ((o : Bool) → AdmitsTerm o (coll (comps_of (drop first ks))) → AdmitsTerm o lean) → (HasUsualWidths (coll (comps_of (drop first ks))) → HasUsualWidths lean) → IsTidied n g first (coll (comps_of ks)) r
-set_tidied n g first ks lean r le fits (ls, set) is levels same operators widths =
+set_tidied n g first ks lean r le fits (ls, set) (all, (more, together, only, rest), is) levels same operators widths =
     let whole : take first ks ++ drop first ks ≡ ks = take-append-drop first ks in
-    let lean_is : lean ≡ coll (comps_of (items_listed ls)) = set ∙ ap coll (sym (of_listed ls)) in
-    let listed : comps_listed lean ≡ items_listed ls = ap comps_listed set in
-    let both = tidied_both n g (take first ks) (drop first ks) (items_listed ls)
+    let lean_is : lean ≡ coll (comps_of (comps_listed lean)) = set ∙ (ap coll (sym (of_listed ls)) ∙ ap (λ z. coll (comps_of (comps_listed z))) (sym set)) in
+    let both = tidied_both n g (take first ks) (drop first ks) more
     (items_fit_first n (take first ks) (drop first ks) (subst (λ z. ItemsFit n (comps_of z)) (sym whole) fits))
-    (subst (Fits n) lean_is levels)
-    (λ c l o. subst (λ z. IsSame (point (coll (comps_of (drop first ks))) c) (point z c)) lean_is (same c l o))
-    (λ o h. subst (AdmitsTerm o) lean_is (operators o h))
-    (λ h. subst HasUsualWidths lean_is (widths h)) in
-    let whole_set = subst (λ z. IsTidied n g (length (take first ks)) (coll (comps_of z)) (coll (comps_of (take first ks ++ items_listed ls)))) whole both in
-    let counted = subst (λ z. IsTidied n g z (coll (comps_of ks)) (coll (comps_of (take first ks ++ items_listed ls)))) (length-take-le first ks le) whole_set in
-    subst (IsTidied n g first (coll (comps_of ks))) (sym (is ∙ ap (λ z. coll (comps_of (take first ks ++ z))) listed)) counted
+    (each_fits_items n more (λ k h. items_fit_each n (comps_listed lean) k (subst (Fits n) lean_is levels) (only k h)))
+    (λ c l o. same_trans (point (coll (comps_of (take first ks ++ drop first ks))) c) (point (coll (comps_of (take first ks ++ comps_listed lean))) c) (point (coll (comps_of (take first ks ++ more))) c)
+    (append_same (take first ks) (drop first ks) (comps_listed lean) c (subst (λ z. IsSame (point (coll (comps_of (drop first ks))) c) (point z c)) lean_is (same c l o)))
+    (behind_same (take first ks) (comps_listed lean) more c only rest))
+    (λ o h. each_admits_items o more (λ k i. items_admit_each o (comps_listed lean) k (subst (AdmitsTerm o) lean_is (operators o h)) (only k i)))
+    (λ h. each_wide_items more (λ k i. items_wide_each (comps_listed lean) k (subst HasUsualWidths lean_is (widths h)) (only k i))) in
+    let whole_set = subst (λ z. IsTidied n g (length (take first ks)) (coll (comps_of z)) (coll (comps_of (take first ks ++ more)))) whole both in
+    let counted = subst (λ z. IsTidied n g z (coll (comps_of ks)) (coll (comps_of (take first ks ++ more)))) (length-take-le first ks le) whole_set in
+    subst (IsTidied n g first (coll (comps_of ks))) (sym (is ∙ ap (λ z. coll (comps_of z)) together)) counted
 
 -- ---- all slots
 tidied_more : (n : ℕ) (g : List (List Lit)) (ns : List ℕ) (ss es : List SlotD) (i : ℕ) (s e : SlotD) → AreTidied n g ns ss es → IsTidiedSlot n g i s e → AreTidied n g (ns ++ i ∷ []) (ss ++ s ∷ []) (es ++ e ∷ [])

@@ -12,6 +12,7 @@ pub mod Looped
 pub mod Entered
 pub mod Tidied
 pub mod Turned
+pub mod Members
 pub mod Leaves
 pub mod Asking
 pub mod Interpreted

@@ -31,8 +31,9 @@ pub(crate) fn results(
     })
 }
 
-fn parameter_names(alloc: Global, parameters: &Params) -> Result<Names, NoMemory>
-    ensures { IfOk result (λ r. r ≡ map parameter_name (params_list parameters.now)) }
+/// The names of a script's parameters. Errors: `NoMemory`.
+pub fn parameter_names(alloc: Global, parameters: &Params) -> Result<Names, NoMemory>
+    ensures names { IfOk result (λ r. r ≡ map parameter_name (params_list parameters.now)) }
 {
     let mut names = Names::new(alloc);
     for parameter in parameters.as_slice() {

@@ -14,8 +14,10 @@ ghost use Rattle.lois_context.specs.Joined.{IsEnd};
 ghost use Rattle.lois_context.specs.Entered.{comps_listed};
 ghost use Rattle.lois_context.specs.Kept.{AreSlots};
 ghost use Rattle.lois_context.specs.Slots.{comps_in};
+ghost use Rattle.lois_interp.specs.Members.{ArePutBehind};
 ghost use Rattle.lois_interp.specs.Tidied.{IsTidied, AreTidied, AreCounted, counts_in, IsBehindLoop};
 
+use crate::members::put_once;
 use lois_base::{Comp, Comps, Constraint, Decider, NoMemory, Structure, Term};
 use lois_context::{Context, Slot, Store, join_loop};
 use lois_deciders::Chosen;
@@ -169,17 +171,17 @@ fn copied(alloc: Global, comps: &[Comp]) -> Result<Comps, NoMemory>
     Ok(copy)
 }
 
-// The comprehensions of a set behind others.
+// The comprehensions of a set behind others, without those that are written there already.
 fn with_items(first: Comps, set: Term) -> Result<Term, NoMemory>
     requires { IsSet (tree set) }
-    ensures { IfOk result (λ r. tree r ≡ coll (comps_of (first ++ comps_listed (tree set)))) }
+    ensures { IfOk result (λ r. ArePutBehind first (comps_listed (tree set)) (tree r)) }
 {
     let Term::Coll(more) = set else {
         unreachable!();
     };
     let mut all = first;
     for comp in more.into_vec() {
-        all.push(comp)?;
+        put_once(&mut all, comp)?;
     }
     Ok(Term::Coll(all))
 }

@@ -12,7 +12,7 @@ ghost use Rattle.lois_context.specs.SlotView.{slot_of};
 ghost use Rattle.lois_eval.specs.Standing.{IsPlaced};
 ghost use Rattle.lois_eval.specs.Throughout.{IfFault};
 ghost use Rattle.lois_interp.specs.Failed.{FailsWithin};
-ghost use Rattle.lois_interp.specs.Leaves.{IsWithStore, IsWithLine, IsExtended, IsLeaf};
+ghost use Rattle.lois_interp.specs.Leaves.{IsWithStore, IsWithLine, IsLeaf};
 ghost use Rattle.lois_interp.specs.Reached.{RunsAs};
 ghost use Rattle.lois_interp.specs.Run.{stmt_run};
 ghost use Rattle.lois_interp.specs.Standing.{StmtMayStand};
@@ -20,9 +20,10 @@ ghost use Rattle.lois_interp.specs.Standing.{StmtMayStand};
 use crate::blocks::one;
 use crate::checks::{check_depth, fault, fault_under};
 use crate::elements::item_of;
+use crate::members::with_member;
 use crate::values::normal_value;
 use lois_answers::{FaultKind, Line};
-use lois_base::{Comp, Constraint, Decider, Name, NoMemory, Structure, Term};
+use lois_base::{Decider, Name, NoMemory, Structure, Term};
 use lois_context::{Context, Slot};
 use lois_deciders::Chosen;
 use lois_eval::decide;
@@ -170,22 +171,6 @@ fn run_print(
         term: item_of(alloc, &context.store, name)?,
     };
     Ok(one(alloc, with_line(context, line)?)?)
-}
-
-// The set with one member more, or `None` where the term is no set.
-fn with_member(alloc: Global, term: &Term, item: Term) -> Result<Option<Term>, NoMemory>
-    ensures { IfOk result (IsExtended (term_tree term.now) (term_tree item)) }
-{
-    let Term::Coll(comps) = term else {
-        return Ok(None);
-    };
-    let mut comps = comps.copy(alloc)?;
-    comps.push(Comp {
-        binders: 0,
-        guard: Constraint::always(alloc)?,
-        item,
-    })?;
-    Ok(Some(Term::Coll(comps)))
 }
 
 // The context with a slot more.

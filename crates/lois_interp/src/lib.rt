@@ -9,11 +9,13 @@ mod elements;
 mod interpreting;
 mod joining;
 mod leaves;
+mod members;
 mod printing;
 mod running;
 mod sides;
 mod turns;
 mod values;
 
+pub use cases::parameter_names;
 pub use interpreting::interpret;
 pub use running::run_block;

@@ -10,6 +10,7 @@ use Rattle.lois_base.specs.Validity.{AdmitsItems, AdmitsTerm, HasUsualWidths}
 use Rattle.lois_base.specs.Values.{point, IsSame}
 use Rattle.lois_base.specs.declared.values.Comp.{Comp}
 use Rattle.lois_context.specs.Entered.{comps_listed}
+use Rattle.lois_interp.specs.Members.{ArePutBehind}
 use Rattle.lois_interp.specs.Tidied.{IsTidied}
 use Rattle.lois_interp.proofs.Tidying.{set_tidied, still_set, items_fit_last, items_admit_last}
 use Rattle.lois_interp.proofs.joining.tidied_set.Goals as goal
@@ -48,11 +49,11 @@ returns-clause-tidied g c =
     let items = c.as_slice-items.result.now in
     let added = c.in_ok-copied.ensures ∙ behind items ks first c.as_slice-items.ensures in
     let old = c.in_ok-copied-2.ensures ∙ front items ks first c.as_slice-items.ensures in
-    IfOk-weaker c.with_items.result (λ r. tree r ≡ coll (comps_of (c.in_ok-copied-2.field-0 ++ comps_listed lean))) (λ r. IsTidied n u first (coll (comps_of ks)) (tree r))
+    IfOk-weaker c.with_items.result (λ r. ArePutBehind c.in_ok-copied-2.field-0 (comps_listed lean) (tree r)) (λ r. IsTidied n u first (coll (comps_of ks)) (tree r))
     (λ r is.
     set_tidied n u first ks lean (tree r) c.requires.count c.requires.levels
     (still_set n u (comps_of c.in_ok-copied.field-0) lean c.requires.met E.value)
-    (is ∙ ap (λ z. coll (comps_of (z ++ comps_listed lean))) old)
+    (subst (λ z. ArePutBehind z (comps_listed lean) (tree r)) old is)
     E.levels
     (subst (λ z. (a : List Atom) → length a ≡ n → IsTrue (holds a u) → IsSame (point (coll (comps_of z)) a) (point lean a)) added E.value)
     (subst (λ z. (o : Bool) → AdmitsTerm o (coll (comps_of z)) → AdmitsTerm o lean) added E.operators)

@@ -13,7 +13,7 @@ use Rattle.lois_eval.proofs.Handed.{passed_on}
 use Rattle.lois_eval.proofs.Names.{not_new, held_value}
 use Rattle.lois_eval.specs.Checks.{IsFaultWith, IsDepthFault}
 use Rattle.lois_interp.specs.Failed.{FailsWithin}
-use Rattle.lois_interp.specs.Leaves.{IsExtended}
+use Rattle.lois_interp.specs.Members.{IsExtended}
 use Rattle.lois_interp.specs.Reached.{RunsAs}
 use Rattle.lois_interp.specs.Run.{stmt_run}
 use Rattle.lois_interp.proofs.Extended.{in_slots, slot_there, slot_held, set_fits, set_from, set_admits, set_widths, set_joined}
