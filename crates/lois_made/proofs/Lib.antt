@@ -1,0 +1,10 @@
+pub mod MadeScript
+pub mod Pieces
+pub mod MadePieces
+pub mod MadeSpelled
+pub mod MadeScoped
+pub mod MadeSets
+pub mod MadeEnds
+pub mod MadeOrbits
+pub mod MadeCounts
+pub mod MadeResults
