@@ -1,13 +1,21 @@
 -- The answer to a text.
-use Rattle.std.proofs.Common.{◌≡◌, ◌≢◌, ℕ, ◌≤◌, List, [], Option, sym, subst, inl, arith}
+use Rattle.std.proofs.Common.{◌≡◌, ◌≢◌, ℕ, ◌≤◌, List, Option, Result, Ok, Err, IfOk, length, take, sym, ap, subst, inl, inr, arith}
+use Rattle.std.proofs.lemmas.List.{length-map, length-take}
+use Rattle.lois_base.specs.Atom.{whole}
+use Rattle.lois_base.specs.Truth.{sampled}
 use Rattle.lois_base.specs.declared.deciding.Kind.{Kind}
+use Rattle.lois_base.specs.declared.memory.NoMemory.{NoMemory}
 use Rattle.lois_lexer.specs.Tokens.{HasTokens}
 use Rattle.lois_lexer.specs.declared.Place.{Place}
 use Rattle.lois_lexer.specs.declared.Token.{Token}
 use Rattle.lois_script.specs.Limits.{Spells}
 use Rattle.lois_script.specs.Scope.{IsWellScoped}
 use Rattle.lois_script.specs.Tree.{ScriptD}
+use Rattle.lois_answers.specs.declared.faults.Trace.{Trace}
 use Rattle.lois_answers.specs.declared.results.Results.{Results}
+use Rattle.lois_meaning.proofs.TheLaws.{never_both}
+use Rattle.lois_interp.specs.Interpreted.{parameter_name, AreResultsOf}
+use Rattle.lois_reader.proofs.Told.{results_are_told}
 use Rattle.lois_scope.specs.Refusals.{Refuses as ScopeRefuses}
 use Rattle.lois_scope.specs.declared.checking.ScopeError.{ScopeError}
 use Rattle.lois_scope.specs.declared.checking.ScopeError.TheVariants.{Unknown, Again, OuterAssign, PrintInLoop, OrderInEquality, NoMemory as ScopeMemory}
@@ -17,18 +25,18 @@ use Rattle.lois_syntax.specs.declared.SyntaxError.TheVariants.{NoScript, TooNest
 use Rattle.lois_syntax.proofs.OneStatement.{one_script_of_text}
 use Rattle.lois_run.specs.BuiltForms.{IsBuilt}
 use Rattle.lois_run.specs.Causes.{AnswersText}
-use Rattle.lois_run.specs.Headline.{IsAnswer}
-use Rattle.lois_run.specs.Outcomes.{HasNumber, HasText, plain_results}
+use Rattle.lois_run.specs.Headline.{Completes, NamesFailure, FailsSomewhere, IsToRun, Headline}
+use Rattle.lois_run.specs.Outcomes.{HasNumber, HasText}
+use Rattle.lois_run.specs.Places.{IsPlaceOf}
 use Rattle.lois_run.specs.Read.{IsReadOf, SpellsNone}
-use Rattle.lois_run.specs.Refusals.{SyntaxTells, ScopeTells, IsRefusedAs, IsNoAnswerAt, IsPlaceOf}
-use Rattle.lois_run.specs.Values.{all_lines}
-use Rattle.lois_run.specs.declared.outcomes.Outcome.TheVariants.{Completed, Refused}
+use Rattle.lois_run.specs.Refusals.{SyntaxTells, ScopeTells, IsRefusedAs, IsNoAnswerAt}
+use Rattle.lois_run.specs.Run.{IsRunOf}
+use Rattle.lois_run.specs.declared.outcomes.Outcome.{Outcome}
+use Rattle.lois_run.specs.declared.outcomes.Outcome.TheVariants.{Completed, Failed, Refused}
 use Rattle.lois_run.specs.declared.outcomes.Refusal.{Refusal}
 use Rattle.lois_run.specs.declared.outcomes.Refusal.TheVariants.{TooLong, Lexical, Syntax, Scope, NotResults, NotBuilt}
 use Rattle.lois_run.specs.declared.reading.Read.TheVariants.{Refused as NotRead}
 use Rattle.lois_run.specs.declared.words.Command.TheVariants.{Run, Check, Reread}
-use Rattle.lois_run.proofs.Bodies.{answers}
-use Rattle.lois_run.proofs.Fit.{spelled_fits}
 
 -- ---- refusals
 
@@ -64,12 +72,21 @@ none_scoped text s spells never other h w = never (subst IsWellScoped (one_scrip
 -- ---- outcomes
 
 module _ (text : List ℕ) where
+  -- a text that spells no well-scoped script spells none to run
+  refused_headline : (r : Refusal) → SpellsNone text → Headline text ⊥ (Refused r)
+  refused_headline r none = record {
+    runs = λ s h. absurd (none s h.spelled h.scoped);
+    completes = λ s h never. absurd (none s h.spelled h.scoped);
+    fails = λ s h some. absurd (none s h.spelled h.scoped);
+    right = λ s h. tt;
+  }
+
   refused_run : (kind : Option Kind) (r : Refusal) → IsRefusedAs text r → SpellsNone text → AnswersText (Run kind) text (Refused r)
   refused_run kind TooLong why none = absurd why
   refused_run kind (NotResults p) why none = absurd why
-  refused_run kind (Lexical n p) why none = record { cause = why; promise = record { completes = λ l s h w b. absurd (none s h w); right = tt }; kind = tt }
-  refused_run kind (Syntax n p) why none = record { cause = why; promise = record { completes = λ l s h w b. absurd (none s h w); right = tt }; kind = tt }
-  refused_run kind (Scope n p) why none = record { cause = why; promise = record { completes = λ l s h w b. absurd (none s h w); right = tt }; kind = tt }
+  refused_run kind (Lexical n p) why none = record { cause = why; promise = refused_headline (Lexical n p) none; kind = tt }
+  refused_run kind (Syntax n p) why none = record { cause = why; promise = refused_headline (Syntax n p) none; kind = tt }
+  refused_run kind (Scope n p) why none = record { cause = why; promise = refused_headline (Scope n p) none; kind = tt }
   refused_run kind NotBuilt (s, spells, scoped, never) none = absurd (none s spells scoped)
 
   pub refused_is_run : (r : Refusal) → IsReadOf text (NotRead r) → (kind : Option Kind) → AnswersText (Run kind) text (Refused r)
@@ -90,21 +107,69 @@ module _ (text : List ℕ) where
   not_results_is_answered k place refused at = record { cause = (k, refused, at); promise = λ l answer h. absurd (refused.none answer h); kind = tt }
 
   module _ (s : ScriptD) (spells : Spells text s) (scoped : IsWellScoped s) where
+    -- the text spells no other script
+    only_one : (other : ScriptD) → Spells text other → other ≡ s
+    only_one other h = one_script_of_text text other s h spells
+
     pub not_built_is_answered : (IsBuilt s → ⊥) → (kind : Option Kind) → AnswersText (Run kind) text (Refused NotBuilt)
     not_built_is_answered never kind = record {
       cause = (s, spells, scoped, never);
-      promise = record { completes = λ l other h w b. absurd (never (subst IsBuilt (one_script_of_text text other s h spells) b)); right = tt };
+      promise = record {
+        runs = λ other h. absurd (none other h);
+        completes = λ other h fine. absurd (none other h);
+        fails = λ other h some. absurd (none other h);
+        right = λ other h. tt;
+      };
+      kind = tt;
+    }
+      where
+        none : (other : ScriptD) → IsToRun text other → ⊥
+        none other h = never (subst IsBuilt (only_one other h.spelled) h.built)
+
+    -- nothing fails that completes
+    never_fails : (r : Results) → AreResultsOf s r → FailsSomewhere s → ⊥
+    never_fails r h (choice, count, at, kind, path, fails) =
+        let lines = (h.choices choice count).lines in
+        never_both.scripts s choice lines.printed at kind path lines.ends fails
+
+    completed : (r : Results) → IsBuilt s → AreResultsOf s r → (kind : Option Kind) → AnswersText (Run kind) text (Completed r)
+    completed r built h kind =
+        let all : Completes s r = record { results = h; read_again = λ q sound same. results_are_told q r sound h.sound same } in
+        record {
+          cause = (s, spells, scoped, built, all);
+          promise = record {
+            runs = λ other g. inl (inl tt);
+            completes = λ other g fine. inl tt;
+            fails = λ other g some. absurd (never_fails r h (subst FailsSomewhere (only_one other g.spelled) some));
+            right = λ other g. subst (λ x. Completes x r) (sym (only_one other g)) all;
+          };
+          kind = tt;
+        }
+
+    fails_there : (t : Trace) → NamesFailure text s t → FailsSomewhere s
+    fails_there t h =
+        let n = length s.parameters in
+        let count : length (sampled (take n t.sample)) ≡ n = omega (arith, length-map (take n t.sample) whole, length-take n t.sample, h.sound.enough, ap length h.parameters, length-map s.parameters parameter_name) in
+        (sampled (take n t.sample), count, h.at, t.kind, h.path, h.failed)
+
+    failed : (t : Trace) → IsBuilt s → NamesFailure text s t → (kind : Option Kind) → AnswersText (Run kind) text (Failed t)
+    failed t built h kind = record {
+      cause = (s, spells, scoped, built, h);
+      promise = record {
+        runs = λ other g. inl (inr tt);
+        completes = λ other g fine. absurd (fine (subst FailsSomewhere (sym (only_one other g.spelled)) (fails_there t h)));
+        fails = λ other g some. inl tt;
+        right = λ other g. subst (λ x. NamesFailure text x t) (sym (only_one other g)) h;
+      };
       kind = tt;
     }
 
-    completed : (r : Results) → IsBuilt s → IsAnswer s r → (kind : Option Kind) → AnswersText (Run kind) text (Completed r)
-    completed r built answer kind = record {
-      cause = (s, spells, scoped, built, answer);
-      promise = record { completes = λ l other h w b. inl tt; right = λ other h. subst (λ x. IsAnswer x r) (one_script_of_text text s other spells h) answer };
-      kind = tt;
-    }
+    pub run_is_answered : IsBuilt s → (o : Outcome) → IsRunOf text s o → ((kind : Option Kind) → AnswersText (Run kind) text o) × HasText o
+    run_is_answered built (Completed r) h = (completed r built h, h.sound)
+    run_is_answered built (Failed t) h = (failed t built h, h.sound)
+    run_is_answered built _ h = absurd h
 
-    pub completed_is_answered : (r : Results) → IsBuilt s → r ≡ plain_results s.ordered (all_lines s.body []) → ((kind : Option Kind) → AnswersText (Run kind) text (Completed r)) × HasText (Completed r)
-    completed_is_answered r built made =
-        let answer : IsAnswer s r = subst (IsAnswer s) (sym made) (answers s built scoped (spelled_fits text s spells)) in
-        (completed r built answer, answer.sound)
+    -- the same of a call
+    pub run_answered : IsBuilt s → (r : Result Outcome NoMemory) → IfOk r (IsRunOf text s) → IfOk r (λ o. (kind : Option Kind) → AnswersText (Run kind) text o)
+    run_answered built (Ok o) h = (run_is_answered built o h).0
+    run_answered built (Err e) h = tt

@@ -1,8 +1,6 @@
 pub mod CommandLine
 pub mod Told
-pub mod Lookup
-pub mod Made
-pub mod Bodies
-pub mod Fit
+pub mod PathNames
+pub mod Traced
 pub mod Answered
 pub mod Sure

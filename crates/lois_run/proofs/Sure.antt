@@ -26,9 +26,10 @@ use Rattle.lois_run.specs.BuiltForms.{IsBuilt}
 use Rattle.lois_run.specs.Causes.{IsRefusedBy, HasCause, IsOfText}
 use Rattle.lois_run.specs.Laws.{RefusalsAreSure}
 use Rattle.lois_run.specs.Read.{SpellsNone}
-use Rattle.lois_run.specs.Refusals.{IsPlaceOf, token_place, IsLexical, LexicalTells, IsSyntax, SyntaxTells, IsScope, ScopeTells, IsRefusedAs, IsNoAnswer, IsNoAnswerAt}
+use Rattle.lois_run.specs.Places.{IsPlaceOf}
+use Rattle.lois_run.specs.Refusals.{token_place, IsLexical, LexicalTells, IsSyntax, SyntaxTells, IsScope, ScopeTells, IsRefusedAs, IsNoAnswer, IsNoAnswerAt}
 use Rattle.lois_run.specs.declared.outcomes.Outcome.{Outcome}
-use Rattle.lois_run.specs.declared.outcomes.Outcome.TheVariants.{Completed, Reread as WrittenAgain, Checked, Refused, ReadFault, Usage}
+use Rattle.lois_run.specs.declared.outcomes.Outcome.TheVariants.{Completed, Failed, Reread as WrittenAgain, Checked, Refused, ReadFault, Usage}
 use Rattle.lois_run.specs.declared.outcomes.Refusal.{Refusal}
 use Rattle.lois_run.specs.declared.outcomes.Refusal.TheVariants.{TooLong, Lexical, Syntax, Scope, NotResults, NotBuilt}
 use Rattle.lois_run.specs.declared.words.Command.TheVariants.{Run, Check, Reread}
@@ -166,13 +167,13 @@ module _ (text : List ℕ) where
 
   -- ---- whatever else a text comes to
 
-  never_complete : (r : Refusal) (s : ScriptD) → IsRefusedAs text r → Spells text s → IsWellScoped s → IsBuilt s → ⊥
-  never_complete NotBuilt s (t, spells, scoped, never) spelled well built = never (subst IsBuilt (one_script_of_text text s t spelled spells) built)
-  never_complete TooLong s a spells scoped built = absurd a
-  never_complete (NotResults p) s a spells scoped built = absurd a
-  never_complete (Lexical n p) s a spells scoped built = no_tokens n p a spells.tokens spells.cut
-  never_complete (Syntax n p) s a spells scoped built = no_script n p a s spells
-  never_complete (Scope n p) s a spells scoped built = not_scoped n p a s spells scoped
+  never_runs : (r : Refusal) (s : ScriptD) → IsRefusedAs text r → Spells text s → IsWellScoped s → IsBuilt s → ⊥
+  never_runs NotBuilt s (t, spells, scoped, never) spelled well built = never (subst IsBuilt (one_script_of_text text s t spelled spells) built)
+  never_runs TooLong s a spells scoped built = absurd a
+  never_runs (NotResults p) s a spells scoped built = absurd a
+  never_runs (Lexical n p) s a spells scoped built = no_tokens n p a spells.tokens spells.cut
+  never_runs (Syntax n p) s a spells scoped built = no_script n p a s spells
+  never_runs (Scope n p) s a spells scoped built = not_scoped n p a s spells scoped
 
   run_refusal : (kind : Option Kind) (r : Refusal) → IsOfText (Refused r) → IsRefusedBy (Run kind) text r → IsRefusedAs text r
   run_refusal kind TooLong is a = absurd is
@@ -196,7 +197,8 @@ module _ (text : List ℕ) where
   reread_refusal _ is a = absurd a
 
   surely_run : (kind : Option Kind) (r : Refusal) (o : Outcome) → IsRefusedAs text r → IsOfText o → HasCause (Run kind) text o → o ≡ Refused r
-  surely_run kind r (Completed results) a is (s, spells, scoped, built, answer) = absurd (never_complete r s a spells scoped built)
+  surely_run kind r (Completed results) a is (s, spells, scoped, built, answer) = absurd (never_runs r s a spells scoped built)
+  surely_run kind r (Failed t) a is (s, spells, scoped, built, answer) = absurd (never_runs r s a spells scoped built)
   surely_run kind r (Refused q) a is b = ap Refused (same_refusal r q a (run_refusal kind q is b))
   surely_run kind r (WrittenAgain answer) a is b = absurd b
   surely_run kind r (Checked script) a is b = absurd b
@@ -208,6 +210,7 @@ module _ (text : List ℕ) where
   surely_checked r (Refused q) a built is b = ap Refused (same_refusal r q a (check_refusal q is b).0)
   surely_checked r (WrittenAgain answer) a built is b = absurd b
   surely_checked r (Completed results) a built is b = absurd b
+  surely_checked r (Failed t) a built is b = absurd b
   surely_checked r ReadFault a built is b = absurd is
   surely_checked r Usage a built is b = absurd is
 
@@ -218,6 +221,7 @@ module _ (text : List ℕ) where
       ap Refused (other.1 ∙ same_answer p other.0 a other.2)
   surely_reread p (Checked script) a is b = absurd b
   surely_reread p (Completed results) a is b = absurd b
+  surely_reread p (Failed t) a is b = absurd b
   surely_reread p ReadFault a is b = absurd is
   surely_reread p Usage a is b = absurd is
 

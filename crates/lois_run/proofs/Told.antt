@@ -1,6 +1,8 @@
 -- The outcome of a call, by what became of the reading.
-use Rattle.std.proofs.Common.{◌≡◌, ℕ, ◌+◌, ◌≤◌, List, [], ◌++◌, length, refl, sym, ap, ◌∙◌, subst, ◌⊎◌, inl, inr, Option, Some, None, arith, length-append, append-nil}
-use Rattle.std.specs.Prelude.{IfSome, IfOk, IfErr, Result, Ok, Err}
+use Rattle.std.proofs.Common.{◌≡◌, ℕ, ◌+◌, ◌≤◌, List, [], ◌++◌, length, refl, sym, ap, ◌∙◌, subst, ◌⊎◌, inl, inr, ◌↔◌, Option, Some, None, true≢false, arith, length-append, append-nil}
+use Rattle.std.specs.List.{All}
+use Rattle.std.specs.Prelude.{IfSome, IsSome, IsNone, IsTrue, IfOk, IfErr, Result, Ok, Err}
+use Rattle.std.proofs.lemmas.Bool.{false≢true}
 use Rattle.lois_base.specs.declared.deciding.Kind.{Kind}
 use Rattle.lois_base.specs.declared.memory.NoMemory.{NoMemory}
 use Rattle.std.specs.Io.KnownBytes.{Consumes, IsAtEnd}
@@ -10,9 +12,10 @@ use Rattle.lois_outside.specs.Reading.{TookAtMost, TookExactly, ReadsToEnd, Give
 use Rattle.lois_outside.specs.declared.reading.ReadError.TheVariants as unread
 use Rattle.lois_run.specs.Causes.{Takes, Serves, HasRead, HasTaken, HasCause, Promises, IsOutcomeOf, GaveAtMost, IsOfText, AnswersText}
 use Rattle.lois_base.specs.declared.limits.TheConstants.{LONGEST_TEXT}
-use Rattle.lois_run.specs.Words.{Asks, Lacks, IsUsage}
+use Rattle.lois_deciders.specs.Choice.{IsUnwanted}
+use Rattle.lois_run.specs.Words.{Asks, Lacks, IsUsage, runs_script, wanted_kind}
 use Rattle.lois_run.specs.declared.outcomes.Outcome.{Outcome}
-use Rattle.lois_run.specs.declared.outcomes.Outcome.TheVariants.{Completed, Reread as WrittenAgain, Checked, Refused, ReadFault, Usage}
+use Rattle.lois_run.specs.declared.outcomes.Outcome.TheVariants.{Completed, Failed, Reread as WrittenAgain, Checked, Refused, ReadFault, Usage}
 use Rattle.lois_run.specs.declared.outcomes.Refusal.TheVariants.{TooLong, Lexical, Syntax, Scope, NotResults, NotBuilt}
 use Rattle.lois_run.specs.declared.words.Command.{Command}
 use Rattle.lois_run.specs.declared.words.Command.TheVariants.{Run, Check, Reread}
@@ -34,6 +37,25 @@ one_command c d words a b = some_is (sym a ∙ b)
   where
     some_is : Some c ≡ Some d → c ≡ d
     some_is e = cc e
+
+-- ---- the decider of a command
+
+module _ {X : Type 0} (kinds : List Kind) (command : Command) (chosen : Option X) (choice : IsNone chosen ↔ All (IsUnwanted (wanted_kind command)) kinds) where
+  has_none : (c : Command) → (IsNone chosen → All (IsUnwanted (wanted_kind c)) kinds) → IsTrue (runs_script c) → IsNone chosen → Lacks c kinds
+  has_none (Run kind) unwanted runs none = unwanted none
+  has_none Check unwanted runs none = absurd (false≢true runs)
+  has_none Reread unwanted runs none = absurd (false≢true runs)
+
+  has_one : (c : Command) → (All (IsUnwanted (wanted_kind c)) kinds → IsNone chosen) → (IsTrue (runs_script c) → IsSome chosen) → Lacks c kinds → ⊥
+  has_one (Run kind) none some lacks = true≢false (sym (some refl) ∙ none lacks)
+  has_one Check none some lacks = lacks
+  has_one Reread none some lacks = lacks
+
+  pub lacks_decider : (words : List (List ℕ)) → Asks command words → IsTrue (runs_script command) → IsNone chosen → IsUsage words kinds
+  lacks_decider words asks runs none other asked = subst (λ c. Lacks c kinds) (one_command command other words asks asked) (has_none command choice.0 runs none)
+
+  pub has_decider : (IsTrue (runs_script command) → IsSome chosen) → Lacks command kinds → ⊥
+  has_decider some lacks = has_one command choice.1 some lacks
 
 module _ {S : Type 0} (words : List (List ℕ)) (kinds : List Kind) (left : S → Option (List ℕ)) (faults : S → ℕ) (takes : Takes S) (from to : S) where
   abbrev before : Option (List ℕ)
@@ -74,7 +96,7 @@ module _ {S : Type 0} (words : List (List ℕ)) (kinds : List Kind) (left : S �
     for_command P p c a = subst P (one_command command c words asks a) p
 
     fault_promise : Rose faults_before faults_after → (c : Command) (text : List ℕ) → Promises c text (Rose faults_before faults_after) ReadFault
-    fault_promise rose (Run kind) text = record { completes = λ l s h w k. inr (refl, rose); right = tt }
+    fault_promise rose (Run kind) text = record { runs = λ s h. inr (refl, rose); completes = λ s h fine. inr (refl, rose); fails = λ s h some. inr (refl, rose); right = λ s h. tt }
     fault_promise rose Check text = λ l s h w. inr (refl, rose)
     fault_promise rose Reread text = λ l answer h. inr (refl, rose)
 
@@ -108,7 +130,12 @@ module _ {S : Type 0} (words : List (List ℕ)) (kinds : List Kind) (left : S �
 
     long_promise : (c : Command) (from : Option (List ℕ)) → TookExactly 1048577 from after → IfSome from (λ text. Promises c text (Rose faults_before faults_after) (Refused TooLong))
     long_promise c None took = tt
-    long_promise (Run kind) (Some text) took = record { completes = λ l s h w k. absurd (long_text text after took l); right = tt }
+    long_promise (Run kind) (Some text) took = record {
+      runs = λ s h. absurd (long_text text after took h.fits);
+      completes = λ s h fine. absurd (long_text text after took h.fits);
+      fails = λ s h some. absurd (long_text text after took h.fits);
+      right = λ s h. tt;
+    }
     long_promise Check (Some text) took = λ l s h w. absurd (long_text text after took l)
     long_promise Reread (Some text) took = λ l answer h. absurd (long_text text after took l)
 
@@ -143,7 +170,12 @@ module _ {S : Type 0} (words : List (List ℕ)) (kinds : List Kind) (left : S �
     no_fault o (inr (e, none)) = absurd none
 
     text_promise : (c : Command) (text : List ℕ) (o : Outcome) → Promises c text ⊥ o → Promises c text (Rose faults_before faults_after) o
-    text_promise (Run kind) text o h = record { completes = λ l s sp w k. no_fault o (h.completes l s sp w k); right = h.right }
+    text_promise (Run kind) text o h = record {
+      runs = λ s g. no_fault o (h.runs s g);
+      completes = λ s g fine. no_fault o (h.completes s g fine);
+      fails = λ s g some. no_fault o (h.fails s g some);
+      right = h.right;
+    }
     text_promise Check text o h = λ l s sp w. no_fault o (h l s sp w)
     text_promise Reread text o h = λ l answer is. no_fault o (h l answer is)
 
@@ -212,6 +244,7 @@ module _ {S : Type 0} (left : S → Option (List ℕ)) (takes : Takes S) where
   of_outcome words from to (Refused (NotResults p)) read took = given from to read.0 read.1 read.2 took.0
   of_outcome words from to (Refused NotBuilt) read took = given from to read.0 read.1 read.2 took.0
   of_outcome words from to (Completed r) read took = given from to read.0 read.1 read.2 took.0
+  of_outcome words from to (Failed t) read took = given from to read.0 read.1 read.2 took.0
   of_outcome words from to (WrittenAgain answer) read took = given from to read.0 read.1 read.2 took.0
   of_outcome words from to (Checked script) read took = given from to read.0 read.1 read.2 took.0
   of_outcome words from to ReadFault (bytes, mid, asked, calls, few, room, last) took = record { bytes = bytes; calls = inr (mid, asked, calls, last); few = omega (arith, few); taken = more LONGEST_TEXT (LONGEST_TEXT + 1) (left from) (left to) (omega arith) took }

@@ -1,58 +1,68 @@
--- The scripts that run so far: `let` and `print` over `atoms`, names, tags, tuples and sets that are listed, without
--- parameters, where no value is deeper than 64.
-use Rattle.std.specs.Prelude.{◌≡◌, ℕ, suc, ◌≤◌, max, List, [], ◌∷◌, ◌++◌, if◌then◌else◌, bytes_eq}
-use Rattle.lois_meaning.specs.Store.{depth_limit}
-use Rattle.lois_script.specs.Tree.{ExprD, atoms, var, tag, tuple, listed, ExprsD, no_exprs, expr, StmtD, «let», print, StmtsD, no_stmts, stmt, ScriptD}
+-- The scripts that run so far: those without an operation on automata.
+use Rattle.std.specs.Prelude.{◌&&◌, Bool, true, false, IsTrue}
+use Rattle.lois_script.specs.Tree.{ExprD, tuple, listed, each, part, apply, ExprsD, no_exprs, expr, BindingD, binding, BindingsD, no_bindings, bind, CondD, same, differ, below, member, included, empty, not, all, any, exists, every, CondsD, no_conds, cond, StmtD, «let», assign, add, for, if, while, assert, StmtsD, no_stmts, stmt, ScriptD}
+use Rattle.lois_script.specs.declared.syntax.Operation.{Operation}
+use Rattle.lois_script.specs.declared.syntax.Operation.TheVariants.{Union, Inter, Minus, Flatten}
+
+abbrev pub is_on_sets : Operation → Bool
+is_on_sets Union = true
+is_on_sets Inter = true
+is_on_sets Minus = true
+is_on_sets Flatten = true
+is_on_sets _ = false
 
 abbrev mutual
-  pub IsBuiltExpr : ExprD → Type 0
-  IsBuiltExpr (atoms p) = Unit {0}
-  IsBuiltExpr (var p x) = Unit {0}
-  IsBuiltExpr (tag p x) = Unit {0}
-  IsBuiltExpr (tuple p es) = AreBuiltExprs es
-  IsBuiltExpr (listed p es) = AreBuiltExprs es
-  IsBuiltExpr _ = ⊥
+  pub expr_is_built : ExprD → Bool
+  expr_is_built (tuple p es) = exprs_are_built es
+  expr_is_built (listed p es) = exprs_are_built es
+  expr_is_built (each p e bs c) = expr_is_built e && (bindings_are_built bs && cond_is_built c)
+  expr_is_built (part p e n) = expr_is_built e
+  expr_is_built (apply p op es) = is_on_sets op && exprs_are_built es
+  expr_is_built _ = true
 
-  pub AreBuiltExprs : ExprsD → Type 0
-  AreBuiltExprs no_exprs = Unit {0}
-  AreBuiltExprs (expr e es) = IsBuiltExpr e × AreBuiltExprs es
+  pub exprs_are_built : ExprsD → Bool
+  exprs_are_built no_exprs = true
+  exprs_are_built (expr e es) = expr_is_built e && exprs_are_built es
 
--- a name, and how deep its value is
-pub record HeightD : Type 0 where
-  pub name : List ℕ
-  pub height : ℕ
+  pub binding_is_built : BindingD → Bool
+  binding_is_built (binding p x e) = expr_is_built e
 
-abbrev pub height_held : List ℕ → List HeightD → ℕ
-height_held x [] = 0
-height_held x (h ∷ hs) = if (bytes_eq h.name x) then h.height else (height_held x hs)
+  pub bindings_are_built : BindingsD → Bool
+  bindings_are_built no_bindings = true
+  bindings_are_built (bind b bs) = binding_is_built b && bindings_are_built bs
 
--- how deep the expression's value is, where the names hold values so deep
+  pub cond_is_built : CondD → Bool
+  cond_is_built (same e f) = expr_is_built e && expr_is_built f
+  cond_is_built (differ e f) = expr_is_built e && expr_is_built f
+  cond_is_built (below p e f) = expr_is_built e && expr_is_built f
+  cond_is_built (member e f) = expr_is_built e && expr_is_built f
+  cond_is_built (included e f) = expr_is_built e && expr_is_built f
+  cond_is_built (empty e) = false
+  cond_is_built (not c) = cond_is_built c
+  cond_is_built (all cs) = conds_are_built cs
+  cond_is_built (any cs) = conds_are_built cs
+  cond_is_built (exists b c) = binding_is_built b && cond_is_built c
+  cond_is_built (every b c) = binding_is_built b && cond_is_built c
+  cond_is_built _ = true
+
+  pub conds_are_built : CondsD → Bool
+  conds_are_built no_conds = true
+  conds_are_built (cond c cs) = cond_is_built c && conds_are_built cs
+
 abbrev mutual
-  pub height : ExprD → List HeightD → ℕ
-  height (atoms p) hs = 1
-  height (var p x) hs = height_held x hs
-  height (tag p x) hs = 0
-  height (tuple p es) hs = suc (greatest_height es hs)
-  height (listed p es) hs = suc (greatest_height es hs)
-  height _ hs = 0
+  pub stmt_is_built : StmtD → Bool
+  stmt_is_built («let» p x e) = expr_is_built e
+  stmt_is_built (assign p x e) = expr_is_built e
+  stmt_is_built (add e p x) = expr_is_built e
+  stmt_is_built (for b c body) = binding_is_built b && (cond_is_built c && stmts_are_built body)
+  stmt_is_built ((if) c yes_block no_block) = cond_is_built c && (stmts_are_built yes_block && stmts_are_built no_block)
+  stmt_is_built (while p c n body) = cond_is_built c && stmts_are_built body
+  stmt_is_built (assert p c) = cond_is_built c
+  stmt_is_built _ = true
 
-  pub greatest_height : ExprsD → List HeightD → ℕ
-  greatest_height no_exprs hs = 0
-  greatest_height (expr e es) hs = max (height e hs) (greatest_height es hs)
+  pub stmts_are_built : StmtsD → Bool
+  stmts_are_built no_stmts = true
+  stmts_are_built (stmt a rest) = stmt_is_built a && stmts_are_built rest
 
-abbrev pub IsBuiltStmt : StmtD → List HeightD → Type 0
-IsBuiltStmt («let» p x e) hs = IsBuiltExpr e × (height e hs ≤ depth_limit)
-IsBuiltStmt (print p q x) hs = Unit {0}
-IsBuiltStmt _ hs = ⊥
-
-abbrev pub heights_behind : StmtD → List HeightD → List HeightD
-heights_behind («let» p x e) hs = hs ++ record { name = x; height = height e hs } ∷ []
-heights_behind _ hs = hs
-
-abbrev pub AreBuilt : StmtsD → List HeightD → Type 0
-AreBuilt no_stmts hs = Unit {0}
-AreBuilt (stmt a rest) hs = IsBuiltStmt a hs × AreBuilt rest (heights_behind a hs)
-
-pub record IsBuilt (s : ScriptD) : Type 0 where
-  pub parameters : s.parameters ≡ []
-  pub body : AreBuilt s.body []
+abbrev pub IsBuilt : ScriptD → Type 0
+IsBuilt s = IsTrue (stmts_are_built s.body)

@@ -15,12 +15,12 @@ use Rattle.lois_outside.specs.declared.reading.ReadError.TheVariants as unread
 use Rattle.lois_reader.specs.Refusal.{IsAnswerOf}
 use Rattle.lois_run.specs.BuiltForms.{IsBuilt}
 use Rattle.lois_base.specs.declared.limits.TheConstants.{LONGEST_TEXT}
-use Rattle.lois_run.specs.Headline.{Headline, IsAnswer}
+use Rattle.lois_run.specs.Headline.{Headline, Completes, NamesFailure}
 use Rattle.lois_run.specs.Outcomes.{status_of, outcome_text}
 use Rattle.lois_run.specs.Refusals.{IsRefusedAs, IsNoAnswer}
 use Rattle.lois_run.specs.Words.{Asks, IsUsage}
 use Rattle.lois_run.specs.declared.outcomes.Outcome.{Outcome}
-use Rattle.lois_run.specs.declared.outcomes.Outcome.TheVariants.{Completed, Reread, Checked, Refused, ReadFault, Usage}
+use Rattle.lois_run.specs.declared.outcomes.Outcome.TheVariants.{Completed, Failed, Reread, Checked, Refused, ReadFault, Usage}
 use Rattle.lois_run.specs.declared.outcomes.Refusal.{Refusal}
 use Rattle.lois_run.specs.declared.outcomes.Refusal.TheVariants.{TooLong, NotResults, NotBuilt}
 use Rattle.lois_run.specs.declared.words.Command.{Command}
@@ -47,10 +47,11 @@ IsRefusedBy commands.Reread text _ = ⊥
 IsRefusedBy Check text NotBuilt = ⊥
 IsRefusedBy command text refusal = IsRefusedAs text refusal
 
--- Why the outcome comes, of the text that was to be read. A text that is no well-scoped script never completes. Read
+-- Why the outcome comes, of the text that was to be read. A text that is no well-scoped script never completes, and never fails. Read
 -- faults, usage and texts that are too long have their causes elsewhere: in the calls of the source, and in the words.
 abbrev pub HasCause : Command → List ℕ → Outcome → Type 0
-HasCause (Run kind) text (Completed r) = (s : ScriptD) × Spells text s × IsWellScoped s × IsBuilt s × IsAnswer s r
+HasCause (Run kind) text (Completed r) = (s : ScriptD) × Spells text s × IsWellScoped s × IsBuilt s × Completes s r
+HasCause (Run kind) text (Failed t) = (s : ScriptD) × Spells text s × IsWellScoped s × IsBuilt s × NamesFailure text s t
 HasCause Check text (Checked script) = Spells text (script_tree script) × IsWellScoped (script_tree script)
 HasCause commands.Reread text (Reread answer) = IsAnswerOf text answer
 HasCause command text (Refused refusal) = IsRefusedBy command text refusal

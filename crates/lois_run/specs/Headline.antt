@@ -1,74 +1,76 @@
--- The headline: every script of the forms that run so far completes with what the infinite run prints.
-use Rattle.std.specs.Prelude.{◌≡◌, ℕ, ◌≤◌, ◌⊎◌, List, [], ◌∷◌, ◌++◌, length, map, IsTrue}
-use Rattle.std.specs.List.{All}
-use Rattle.lois_base.specs.declared.limits.TheConstants.{LONGEST_TEXT}
+-- The headline: a script either completes, and the results list for every choice of the parameters exactly one case, whose values
+-- are those that the infinite run prints; or a place, a kind, a choice and the elements of loops are named with which that run fails.
+use Rattle.std.specs.Prelude.{◌≡◌, ℕ, ◌≤◌, ◌⊎◌, List, length, map, take}
 use Rattle.lois_base.specs.Atom.{Atom}
-use Rattle.lois_base.specs.Truth.{holds}
-use Rattle.lois_base.specs.Values.{point}
-use Rattle.lois_script.specs.Limits.{Spells}
-use Rattle.lois_answers.specs.ResultsData.{LineD, CaseD}
-use Rattle.lois_meaning.specs.Runs.{ScriptEnds}
-use Rattle.lois_script.specs.Scope.{IsWellScoped}
-use Rattle.lois_answers.specs.Sound.{IsSound}
-use Rattle.lois_meaning.specs.Store.{NamedValues, named, AreSameNamed}
-use Rattle.lois_script.specs.Tree.{ParamD, ScriptD}
+use Rattle.lois_base.specs.Truth.{sampled}
+use Rattle.lois_base.specs.declared.limits.TheConstants.{LONGEST_TEXT}
+use Rattle.lois_answers.specs.ResultsText.{results_text}
+use Rattle.lois_answers.specs.Sound.{IsSound, IsSoundTrace}
+use Rattle.lois_answers.specs.declared.faults.FaultKind.{FaultKind}
+use Rattle.lois_answers.specs.declared.faults.Trace.{Trace}
 use Rattle.lois_answers.specs.declared.results.Results.{Results}
+use Rattle.lois_script.specs.Limits.{Spells}
+use Rattle.lois_script.specs.Scope.{IsWellScoped}
+use Rattle.lois_script.specs.Tree.{ScriptD}
+use Rattle.lois_meaning.specs.Runs.{ScriptFails}
+use Rattle.lois_meaning.specs.Store.{NamedValues, AreSameNamed}
+use Rattle.lois_context.specs.Slots.{lines_at}
+use Rattle.lois_interp.specs.Interpreted.{parameter_name, IsChoiceOf, AreResultsOf}
 use Rattle.lois_run.specs.BuiltForms.{IsBuilt}
+use Rattle.lois_run.specs.Places.{IsPlaceOf}
 use Rattle.lois_run.specs.declared.outcomes.Outcome.{Outcome}
-use Rattle.lois_run.specs.declared.outcomes.Outcome.TheVariants.{Completed, ReadFault}
+use Rattle.lois_run.specs.declared.outcomes.Outcome.TheVariants.{Completed, Failed, ReadFault}
 
--- the values of lines at a choice of the parameters
-abbrev pub line_values : List Atom → List LineD → NamedValues
-line_values choice [] = []
-line_values choice (l ∷ ls) = named l.name (point l.term choice) ∷ line_values choice ls
+-- The results are those of the script, and what is written of them is read again as these results: it is the text of no others.
+pub record Completes (s : ScriptD) (r : Results) : Type 0 where
+  pub results : AreResultsOf s r
+  pub read_again : (q : Results) → IsSound q → results_text q ≡ results_text r → q ≡ r
 
--- The script ends at the choice with as many lines, of equal names and the same values.
-pub record PrintsAt (s : ScriptD) (choice : List Atom) (lines : List LineD) : Type 0 where
-  pub printed : NamedValues
-  pub ends : ScriptEnds s choice printed
-  pub values : AreSameNamed (line_values choice lines) printed
+-- The trace names where the script that the text spells fails, how, and under which choice: the first numbers of its sample,
+-- one for each parameter. The path of the failure has the names of the trace's elements, and their values at the whole sample.
+pub record NamesFailure (text : List ℕ) (s : ScriptD) (t : Trace) : Type 0 where
+  pub sound : IsSoundTrace t
+  pub structure : t.order ≡ s.ordered
+  pub parameters : t.parameters ≡ map parameter_name s.parameters
+  pub at : ℕ
+  pub place : IsPlaceOf text at (record { line = t.line; column = t.column })
+  pub path : NamedValues
+  pub failed : ScriptFails s (sampled (take (length s.parameters) t.sample)) at t.kind path
+  pub named : AreSameNamed path (lines_at (sampled t.sample) t.elements)
 
-abbrev pub HoldsAt : List Atom → CaseD → Type 0
-HoldsAt choice c = IsTrue (holds choice c.«when»)
-
--- Exactly one case holds at the choice, and its lines are those that the script prints there.
-pub record IsRightAt (s : ScriptD) (cases : List CaseD) (choice : List Atom) : Type 0 where
-  pub before : List CaseD
-  pub one : CaseD
-  pub behind : List CaseD
-  pub among : cases ≡ before ++ one ∷ behind
-  pub holds : HoldsAt choice one
-  pub none_before : All (λ c. HoldsAt choice c → ⊥) before
-  pub none_behind : All (λ c. HoldsAt choice c → ⊥) behind
-  pub lines : PrintsAt s choice one.lines
-
-abbrev pub IsChoiceOf : ScriptD → List Atom → Type 0
-IsChoiceOf s choice = length choice ≡ length s.parameters
-
-abbrev pub HoldsSomewhere : ScriptD → CaseD → Type 0
-HoldsSomewhere s c = (choice : List Atom) × IsChoiceOf s choice × HoldsAt choice c
-
-abbrev pub parameter_name : ParamD → List ℕ
-parameter_name x = x.name
-
--- The results are those of the script.
-pub record IsAnswer (s : ScriptD) (r : Results) : Type 0 where
-  pub sound : IsSound r
-  pub structure : r.order ≡ s.ordered
-  pub parameters : r.parameters ≡ map parameter_name s.parameters
-  pub cases : All (HoldsSomewhere s) r.cases
-  pub choices : (choice : List Atom) → IsChoiceOf s choice → IsRightAt s r.cases choice
+-- under some choice of the parameters
+abbrev pub FailsSomewhere : ScriptD → Type 0
+FailsSomewhere s =
+    (choice : List Atom) × IsChoiceOf s choice × (at : ℕ) × (kind : FaultKind) × (path : NamedValues) × ScriptFails s choice at kind path
 
 abbrev pub IsCompleted : Outcome → Type 0
 IsCompleted (Completed r) = Unit {0}
 IsCompleted _ = ⊥
 
--- whatever script the text spells, completed results are those of that script
-abbrev pub IsRight : List ℕ → Outcome → Type 0
-IsRight text (Completed r) = (s : ScriptD) → Spells text s → IsAnswer s r
-IsRight text _ = Unit {0}
+abbrev pub IsFailed : Outcome → Type 0
+IsFailed (Failed t) = Unit {0}
+IsFailed _ = ⊥
 
--- For a text that was to be read. A fault is that the source's count of faults rose.
+abbrev pub IsRunOrFault : Type 0 → Type 0 → Outcome → Type 0
+IsRunOrFault ran fault o = ran ⊎ ((o ≡ ReadFault) × fault)
+
+-- what completed or failed is that script
+abbrev pub IsRight : List ℕ → ScriptD → Outcome → Type 0
+IsRight text s (Completed r) = Completes s r
+IsRight text s (Failed t) = NamesFailure text s t
+IsRight text s _ = Unit {0}
+
+-- the text spells this well-scoped script, within the limits, and its forms run
+pub record IsToRun (text : List ℕ) (s : ScriptD) : Type 0 where
+  pub fits : length text ≤ LONGEST_TEXT
+  pub spelled : Spells text s
+  pub scoped : IsWellScoped s
+  pub built : IsBuilt s
+
+-- For a text that was to be run. A fault is that the source's count of faults rose. Nothing fails and completes; that a script
+-- does one of the two isn't told by whether some choice fails, so it is said by itself.
 pub record Headline (text : List ℕ) (fault : Type 0) (o : Outcome) : Type 0 where
-  pub completes : length text ≤ LONGEST_TEXT → (s : ScriptD) → Spells text s → IsWellScoped s → IsBuilt s → IsCompleted o ⊎ ((o ≡ ReadFault) × fault)
-  pub right : IsRight text o
+  pub runs : (s : ScriptD) → IsToRun text s → IsRunOrFault (IsCompleted o ⊎ IsFailed o) fault o
+  pub completes : (s : ScriptD) → IsToRun text s → (FailsSomewhere s → ⊥) → IsRunOrFault (IsCompleted o) fault o
+  pub fails : (s : ScriptD) → IsToRun text s → FailsSomewhere s → IsRunOrFault (IsFailed o) fault o
+  pub right : (s : ScriptD) → Spells text s → IsRight text s o

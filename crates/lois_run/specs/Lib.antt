@@ -1,13 +1,12 @@
 pub mod Words
 pub mod CommandLine
 pub mod BuiltForms
-pub mod Values
-pub mod Held
-pub mod Fitting
+pub mod Places
 pub mod Texts
 pub mod Refusals
 pub mod Read
 pub mod Outcomes
 pub mod Headline
+pub mod Run
 pub mod Causes
 pub mod Laws

@@ -1,22 +1,30 @@
 -- The status and the text of each outcome.
-use Rattle.std.specs.Prelude.{◌≤◌, ℕ, Bool, List, [], ◌∷◌, codes}
-use Rattle.lois_answers.specs.ResultsData.{LineD}
+use Rattle.std.specs.Prelude.{◌≤◌, ℕ, List, [], codes}
 use Rattle.lois_answers.specs.ResultsText.{lined, results_text}
-use Rattle.lois_answers.specs.Sound.{IsSound}
-use Rattle.lois_answers.specs.TraceText.{answer_text}
+use Rattle.lois_answers.specs.Sound.{IsSound, IsSoundTrace}
+use Rattle.lois_answers.specs.TraceText.{trace_text, answer_text}
+use Rattle.lois_answers.specs.declared.faults.FaultKind.{FaultKind}
+use Rattle.lois_answers.specs.declared.faults.FaultKind.TheVariants.{Assertion, TurnLimit, DepthLimit}
 use Rattle.lois_script.specs.View.{script_tree}
-use Rattle.lois_answers.specs.declared.results.Results.{Results}
 use Rattle.lois_reader.specs.Refusal.{IsSoundAnswer}
 use Rattle.lois_script_printer.specs.Printed.{printed_script}
 use Rattle.lois_script_printer.specs.Unplaced.{IsSpelled}
 use Rattle.lois_run.specs.Texts.{lexical_text, syntax_text, scope_text, placed_text}
 use Rattle.lois_run.specs.declared.outcomes.Outcome.{Outcome}
-use Rattle.lois_run.specs.declared.outcomes.Outcome.TheVariants.{Completed, Reread, Checked, Refused, ReadFault, Usage}
+use Rattle.lois_run.specs.declared.outcomes.Outcome.TheVariants.{Completed, Failed, Reread, Checked, Refused, ReadFault, Usage}
 use Rattle.lois_run.specs.declared.outcomes.Refusal.{Refusal}
 use Rattle.lois_run.specs.declared.outcomes.Refusal.TheVariants.{TooLong, Lexical, Syntax, Scope, NotResults, NotBuilt}
 
+-- a false assertion, a limit of turns, a limit of depth; any other is a value of the wrong kind
+abbrev pub failure_status : FaultKind → ℕ
+failure_status Assertion = 1
+failure_status TurnLimit = 3
+failure_status DepthLimit = 4
+failure_status _ = 2
+
 abbrev pub status_of : Outcome → ℕ
 status_of (Completed r) = 0
+status_of (Failed t) = failure_status t.kind
 status_of (Reread answer) = 0
 status_of (Checked script) = 0
 status_of (Refused refusal) = 5
@@ -34,6 +42,7 @@ refusal_text NotBuilt = codes "refused: not built yet"
 -- a read fault writes nothing
 abbrev pub outcome_text : Outcome → List ℕ
 outcome_text (Completed r) = results_text r
+outcome_text (Failed t) = trace_text t
 outcome_text (Reread answer) = answer_text answer
 outcome_text (Checked script) = printed_script (script_tree script)
 outcome_text (Refused refusal) = lined (refusal_text refusal)
@@ -50,11 +59,8 @@ HasNumber _ = Unit {0}
 -- the outcome can be written
 abbrev pub HasText : Outcome → Type 0
 HasText (Completed r) = IsSound r
+HasText (Failed t) = IsSoundTrace t
 HasText (Reread answer) = IsSoundAnswer answer
 HasText (Checked script) = IsSpelled (script_tree script)
 HasText (Refused refusal) = HasNumber refusal
 HasText _ = Unit {0}
-
--- the results without parameters that have these lines
-abbrev pub plain_results : Bool → List LineD → Results
-plain_results ordered lines = record { order = ordered; parameters = []; cases = record { «when» = [] ∷ []; lines = lines } ∷ [] }

@@ -1,6 +1,5 @@
 -- Why a text is refused: each refusal with the fact that it comes for.
-use Rattle.std.specs.Prelude.{◌≡◌, ℕ, ◌+◌, ◌==◌, List, length, take, not, count_by, slice_get, option_map, unwrap_or}
-use Rattle.std.specs.List.{suffix_len}
+use Rattle.std.specs.Prelude.{◌≡◌, ℕ, List, length, slice_get, option_map, unwrap_or}
 use Rattle.lois_lexer.specs.Refusals.{Refuses as LexRefuses}
 use Rattle.lois_lexer.specs.Tokens.{HasTokens}
 use Rattle.lois_lexer.specs.declared.LexError.{LexError}
@@ -21,13 +20,9 @@ use Rattle.lois_syntax.specs.Refusals.{tokens_in, Refuses as SyntaxRefuses}
 use Rattle.lois_syntax.specs.declared.SyntaxError.{SyntaxError}
 use Rattle.lois_syntax.specs.declared.SyntaxError.TheVariants.{NoScript, TooNested, WideTuple, TurnsTooMany}
 use Rattle.lois_run.specs.BuiltForms.{IsBuilt}
+use Rattle.lois_run.specs.Places.{IsPlaceOf}
 use Rattle.lois_run.specs.declared.outcomes.Refusal.{Refusal}
 use Rattle.lois_run.specs.declared.outcomes.Refusal.TheVariants.{TooLong, Lexical, Syntax, Scope, NotResults, NotBuilt}
-
--- the line is one more than the LFs (10) before the offset, and the column one more than the bytes since the last of them
-pub record IsPlaceOf (text : List ℕ) (offset : ℕ) (place : Place) : Type 0 where
-  pub line : place.line ≡ 1 + count_by (λ b. b == 10) (take offset text)
-  pub column : place.column ≡ 1 + suffix_len (λ b. not (b == 10)) (take offset text)
 
 -- the offset of the token's first byte, or the end of the text where there is no such token
 abbrev pub token_place : List ℕ → List Token → ℕ → ℕ

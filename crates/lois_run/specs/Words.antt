@@ -1,6 +1,6 @@
 -- The words that the program takes, each the list of its bytes: `run`, `check`, `reread`, and `run` with the option
 -- `--decider plain`, `--decider=plain` or the like.
-use Rattle.std.specs.Prelude.{◌≡◌, ◌&&◌, List, [], ◌∷◌, Option, Some, None, option_map, codes, if◌then◌else◌, bytes_eq, ℕ}
+use Rattle.std.specs.Prelude.{◌≡◌, ◌&&◌, Bool, true, false, List, [], ◌∷◌, Option, Some, None, option_map, codes, if◌then◌else◌, bytes_eq, ℕ}
 use Rattle.std.specs.List.{All}
 use Rattle.lois_base.specs.declared.deciding.Kind.{Kind}
 use Rattle.lois_base.specs.declared.deciding.Kind.TheVariants.{Plain, Graph, Memo}
@@ -43,6 +43,15 @@ command_of _ = None
 -- the words ask for this
 abbrev pub Asks : Command → List (List ℕ) → Type 0
 Asks command words = command_of words ≡ Some command
+
+-- which decider the command wants, of which kind where one is named
+abbrev pub wanted_kind : Command → Option Kind
+wanted_kind (Run kind) = kind
+wanted_kind _ = None
+
+abbrev pub runs_script : Command → Bool
+runs_script (Run kind) = true
+runs_script _ = false
 
 -- `run` has no decider of the named kind, or none at all
 abbrev pub Lacks : Command → List Kind → Type 0

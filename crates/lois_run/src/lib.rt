@@ -1,13 +1,13 @@
 //! The top call: from words and bytes to the answer, its text and the status.
 #![tactic(auto)]
 
+mod built;
 pub mod laws;
 mod outcomes;
 mod reading;
 mod running;
 mod texts;
 mod top;
-mod values;
 mod words;
 
 pub use outcomes::{Outcome, Refusal};

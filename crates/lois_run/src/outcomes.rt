@@ -1,13 +1,13 @@
 //! What the top call comes to.
 
 ghost use Rattle.std.specs.Prelude.{◌≡◌, IfOk};
-ghost use Rattle.lois_run.specs.Outcomes.{status_of, refusal_text, outcome_text, HasText};
+ghost use Rattle.lois_run.specs.Outcomes.{status_of, failure_status, refusal_text, outcome_text, HasText};
 ghost use Rattle.lois_answers.specs.ResultsText.{lined};
 ghost use Rattle.lois_answers.specs.TraceText.{answer_text};
 ghost use Rattle.lois_reader.specs.Refusal.{IsSoundAnswer};
 
 use crate::texts::{lexical_text, refused_line, scope_text, syntax_text, text_line};
-use lois_answers::{Answer, Results};
+use lois_answers::{Answer, FaultKind, Results, Trace};
 use lois_base::NoMemory;
 use lois_lexer::Place;
 use lois_printer::{print_results, print_trace};
@@ -38,6 +38,8 @@ pub enum Refusal {
 pub enum Outcome {
     /// What the script printed.
     Completed(Results),
+    /// Where and how it fails, under which choice of the parameters and for which elements of its loops.
+    Failed(Trace),
     /// The results or the trace that the text is.
     Reread(Answer),
     /// A well-scoped script.
@@ -50,13 +52,14 @@ pub enum Outcome {
 }
 
 impl Outcome {
-    /// The exit status: 0 where the script has completed or was checked, or the text was read again, 5 where the text is
-    /// refused, 6 after a read fault, and 9 where the words are none that the program takes.
+    /// The exit status: 0 where the script has completed or was checked, or the text was read again, 1 to 4 where the script
+    /// fails, 5 where the text is refused, 6 after a read fault, and 9 where the words are none that the program takes.
     pub fn status(&self) -> u8
         ensures { result ≡ status_of self.now }
     {
         match self {
             Outcome::Completed(_) => 0,
+            Outcome::Failed(trace) => failure_status(trace.kind),
             Outcome::Reread(_) => 0,
             Outcome::Checked(_) => 0,
             Outcome::Refused(_) => 5,
@@ -72,6 +75,7 @@ impl Outcome {
     {
         match self {
             Outcome::Completed(results) => print_results(alloc, results),
+            Outcome::Failed(trace) => print_trace(alloc, trace),
             Outcome::Reread(answer) => print_answer(alloc, answer),
             Outcome::Checked(script) => print_script(alloc, script),
             Outcome::Refused(refusal) => refusal.text(alloc),
@@ -81,6 +85,24 @@ impl Outcome {
                 b"usage: lois run|check|reread|make N [--decider plain|graph|memo]",
             ),
         }
+    }
+}
+
+// 1 for a false assertion, 3 and 4 for the limits of turns and of depth, and 2 for a value of the wrong kind.
+fn failure_status(kind: FaultKind) -> u8
+    ensures { result ≡ failure_status kind }
+{
+    match kind {
+        FaultKind::Assertion => 1,
+        FaultKind::TurnLimit => 3,
+        FaultKind::DepthLimit => 4,
+        FaultKind::NotASet
+        | FaultKind::NotAtoms
+        | FaultKind::NotATuple
+        | FaultKind::NoSuchPart
+        | FaultKind::NotAutomaton
+        | FaultKind::NotDeterministic
+        | FaultKind::NotComplete => 2,
     }
 }
 

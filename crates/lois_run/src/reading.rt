@@ -4,7 +4,8 @@ ghost use Rattle.std.specs.Prelude.{◌≡◌, IfOk, MatchResult};
 ghost use Rattle.lois_lexer.specs.declared.LexError.{LexError};
 ghost use Rattle.lois_scope.specs.declared.checking.ScopeError.{ScopeError};
 ghost use Rattle.lois_syntax.specs.declared.SyntaxError.{SyntaxError};
-ghost use Rattle.lois_run.specs.Refusals.{IsPlaceOf, token_place, LexicalTells, SyntaxTells, ScopeTells};
+ghost use Rattle.lois_run.specs.Places.{IsPlaceOf};
+ghost use Rattle.lois_run.specs.Refusals.{token_place, LexicalTells, SyntaxTells, ScopeTells};
 ghost use Rattle.lois_run.specs.Read.{IsReadOf};
 
 use crate::Refusal;

@@ -1,95 +1,106 @@
-//! Runs scripts of the forms that are built.
+//! Runs scripts: what is printed at every choice of the parameters, or the trace of a failure.
 
-ghost use Rattle.std.specs.Prelude.{◌≡◌, [], ◌∷◌, ◌++◌, IfOk, MatchOption, MatchBool};
-ghost use Rattle.lois_script.specs.Scope.{IsWellScoped};
-ghost use Rattle.lois_script.specs.View.{stmt_tree, script_tree};
-ghost use Rattle.lois_run.specs.BuiltForms.{IsBuiltStmt, IsBuilt};
-ghost use Rattle.lois_run.specs.Fitting.{IsFitStmt, AreFit, AreGood};
-ghost use Rattle.lois_run.specs.Held.{held_by};
-ghost use Rattle.lois_run.specs.Values.{heights, IsReady, held_behind, lines_of, all_lines};
+ghost use Rattle.std.specs.Prelude.{◌≡◌, ◌≤◌, ◌<◌, ◌^◌, ℕ, List, length, map, IfOk, IfErr};
+ghost use Rattle.std.specs.List.{All};
+ghost use Rattle.lois_answers.specs.Sound.{HasTags};
+ghost use Rattle.lois_base.specs.declared.limits.TheConstants.{LONGEST_TEXT};
+ghost use Rattle.lois_eval.specs.Throughout.{IfFault};
+ghost use Rattle.lois_interp.specs.Interpreted.{AreResultsOf, IsFailureOf, parameter_name};
+ghost use Rattle.lois_run.specs.Headline.{NamesFailure};
+ghost use Rattle.lois_run.specs.Run.{IsRunOf};
+ghost use Rattle.lois_script.specs.Limits.{Spells};
+ghost use Rattle.lois_script.specs.View.{script_tree, params_list};
 
-use crate::values::Store;
-use lois_answers::{Case, Cases, Line, Lines, Results, is_sound_term};
-use lois_base::{Constraint, Names, NoMemory};
-use lois_script::{Script, Stmt};
+use crate::Outcome;
+use crate::reading::place_at;
+use lois_answers::{Lines, Results, Trace, tags_are_names};
+use lois_base::{Names, NoMemory, Numbers};
+use lois_deciders::Chosen;
+use lois_equality::EqualityAtoms;
+use lois_interp::interpret;
+use lois_meaning::{Fault, Stop};
+use lois_order::OrderAtoms;
+use lois_scope::Scoped;
+use lois_script::Params;
 use std::alloc::Global;
 
-/// The lines that the script prints, or `None` where it is none of those that run so far.
-pub(crate) fn run(alloc: Global, script: &Script) -> Result<Option<Lines>, NoMemory>
-    requires scoped { IsWellScoped (script_tree script.now) }
-    requires fit { AreFit (script_tree script.now).body }
-    ensures { IfOk result (λ o. MatchOption o (IsBuilt (script_tree script.now) → ⊥) (λ lines. IsBuilt (script_tree script.now) × (lines ≡ all_lines (script_tree script.now).body []))) }
+/// What the script that the text spells comes to.
+pub(crate) fn run(
+    alloc: Global,
+    text: &[u8],
+    script: &Scoped,
+    chosen: &mut Chosen,
+) -> Result<Outcome, NoMemory>
+    requires fits { length text.now ≤ LONGEST_TEXT }
+    requires spelled { Spells text.now (script_tree script.now) }
+    ensures { IfOk result (IsRunOf text.now (script_tree script.now)) }
 {
-    if script.parameters.len() > 0 {
-        return Ok(None);
-    }
-    let mut store = Store::new(alloc);
-    let mut lines = Lines::new(alloc);
-    for statement in script.body.as_slice() {
-        if !store.step(alloc, statement, script.order, &mut lines)? {
-            return Ok(None);
-        }
-    }
-    Ok(Some(lines))
-}
-
-impl<'a> Store<'a> {
-    // Whether the statement runs so far. A term that can't be written is a value that is too deep.
-    fn step(
-        &mut self,
-        alloc: Global,
-        statement: &'a Stmt,
-        ordered: bool,
-        lines: &mut Lines,
-    ) -> Result<bool, NoMemory>
-        requires ready { IsReady (stmt_tree statement.now) (held_by self.old) }
-        requires fit { IsFitStmt (stmt_tree statement.now) }
-        requires good { AreGood (held_by self.old) }
-        ensures { IfOk result (λ b. MatchBool b (IsBuiltStmt (stmt_tree statement.now) (heights (held_by self.old)) × (held_by self.new ≡ held_behind (stmt_tree statement.now) (held_by self.old)) × (lines.new ≡ lines.old ++ lines_of (stmt_tree statement.now) (held_by self.old))) (IsBuiltStmt (stmt_tree statement.now) (heights (held_by self.old)) → ⊥)) }
-    {
-        match statement {
-            Stmt::Let(_, name, expression) => {
-                let Some(value) = self.value(alloc, expression)? else {
-                    return Ok(false);
-                };
-                if !is_sound_term(&value, ordered, 0) {
-                    return Ok(false);
-                }
-                self.hold(name, value)?;
-                Ok(true)
-            }
-            Stmt::Print(_, _, name) => match self.get(name) {
-                Some(value) => {
-                    lines.push(Line {
-                        name: name.copy(alloc)?,
-                        term: value.copy(alloc)?,
-                    })?;
-                    Ok(true)
-                }
-                None => unreachable!(),
-            },
-            Stmt::Assign(_, _, _) => Ok(false),
-            Stmt::Add(_, _, _) => Ok(false),
-            Stmt::For(_, _, _) => Ok(false),
-            Stmt::If(_, _, _) => Ok(false),
-            Stmt::While(_, _, _, _) => Ok(false),
-            Stmt::Assert(_, _) => Ok(false),
-        }
+    match interpreted(alloc, script, chosen) {
+        Ok(results) => Ok(Outcome::Completed(results)),
+        Err(Stop::Fault(fault)) => Ok(Outcome::Failed(trace(alloc, text, script, fault)?)),
+        Err(Stop::NoMemory) => Err(NoMemory),
     }
 }
 
-/// The results without parameters that have these lines.
-pub(crate) fn made_results(alloc: Global, order: bool, lines: Lines) -> Result<Results, NoMemory>
-    ensures { IfOk result (λ r. r ≡ record { order = order; parameters = []; cases = record { «when» = [] ∷ []; lines = lines } ∷ [] }) }
+// Over atoms of the script's structure.
+fn interpreted(alloc: Global, script: &Scoped, chosen: &mut Chosen) -> Result<Results, Stop>
+    requires { (text : List ℕ) × Spells text (script_tree script.now) }
+    ensures results { IfOk result (AreResultsOf (script_tree script.now)) }
+    ensures fault { IfErr result (λ s. IfFault s (IsFailureOf (script_tree script.now))) }
 {
-    let mut cases = Cases::new(alloc);
-    cases.push(Case {
-        when: Constraint::always(alloc)?,
-        lines,
-    })?;
-    Ok(Results {
-        order,
-        parameters: Names::new(alloc),
-        cases,
+    if script.script().order {
+        interpret::<OrderAtoms>(alloc, script, chosen)
+    } else {
+        interpret::<EqualityAtoms>(alloc, script, chosen)
+    }
+}
+
+// Where a fault is in the text, and the rest of it as it is.
+fn trace(alloc: Global, text: &[u8], script: &Scoped, fault: Fault) -> Result<Trace, NoMemory>
+    requires fits { length text.now ≤ LONGEST_TEXT }
+    requires spelled { Spells text.now (script_tree script.now) }
+    requires fault { IsFailureOf (script_tree script.now) fault }
+    ensures { IfOk result (NamesFailure text.now (script_tree script.now)) }
+{
+    let script = script.script();
+    let place = place_at(text, fault.pos.offset);
+    let sample = Numbers::from_vec(fault.sample);
+    let numbers = sample.as_slice();
+    numbers_are_small(numbers);
+    element_tags_are_names(&fault.elements);
+    Ok(Trace {
+        order: script.order,
+        parameters: parameter_names(alloc, &script.parameters)?,
+        line: place.line,
+        column: place.column,
+        kind: fault.kind,
+        sample,
+        elements: fault.elements,
     })
+}
+
+// Says of each number what its type says of each. It does nothing.
+fn numbers_are_small(numbers: &[u64])
+    ensures { All (λ a. a < 2 ^ 64) numbers.now }
+{
+    let _count = numbers.len();
+}
+
+// Says of each element what the type of a tag says of each. It does nothing.
+fn element_tags_are_names(elements: &Lines)
+    ensures { All (λ l. HasTags l.term) elements.now }
+{
+    for element in elements.as_slice() {
+        tags_are_names(&element.term);
+    }
+}
+
+fn parameter_names(alloc: Global, parameters: &Params) -> Result<Names, NoMemory>
+    ensures { IfOk result (λ r. r ≡ map parameter_name (params_list parameters.now)) }
+{
+    let mut names = Names::new(alloc);
+    for parameter in parameters.as_slice() {
+        names.push(parameter.name.copy(alloc)?)?;
+    }
+    Ok(names)
 }

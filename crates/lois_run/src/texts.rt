@@ -12,7 +12,7 @@ use lois_script::Pos;
 use lois_syntax::SyntaxError;
 use std::alloc::Global;
 
-fn append(text: &mut Vec<u8>, piece: &[u8]) -> Result<(), NoMemory>
+pub(crate) fn append(text: &mut Vec<u8>, piece: &[u8]) -> Result<(), NoMemory>
     ensures { OnOk result (text.new.items ≡ text.old.items ++ piece.now) }
 {
     text.extend_from_slice(piece).map_err(|_| NoMemory)

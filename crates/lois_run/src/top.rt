@@ -1,21 +1,22 @@
 //! The top call.
 
-ghost use Rattle.std.specs.Prelude.{◌≡◌, ◌+◌, ◌≤◌, ◌⊎◌, ◌↔◌, Option, IfOk, IfErr, IsTrue, Ok, map, string_bytes};
+ghost use Rattle.std.specs.Prelude.{◌≡◌, ◌+◌, ◌≤◌, ◌⊎◌, ◌↔◌, Option, IfOk, IfErr, IsSome, IsTrue, Ok, length, map, string_bytes};
 ghost use Rattle.lois_base.specs.declared.deciding.Kind.{Kind};
 ghost use Rattle.lois_outside.specs.Faults.{Rose};
 ghost use Rattle.lois_run.specs.Causes.{AnswersText, IsOutcomeOf, GaveAtMost, IsTold};
 ghost use Rattle.lois_base.specs.declared.limits.TheConstants.{LONGEST_TEXT};
 ghost use Rattle.lois_run.specs.Outcomes.{HasText};
-ghost use Rattle.lois_run.specs.Words.{IsUsage, Lacks};
+ghost use Rattle.lois_run.specs.Words.{IsUsage, wanted_kind, runs_script};
 ghost use Rattle.lois_run.specs.declared.outcomes.Outcome.{Outcome};
 ghost use Rattle.lois_run.specs.declared.words.Command.TheVariants.{Run, Check, Reread};
 
+use crate::built::is_built;
 use crate::reading::{Read, place_at, read_text};
-use crate::running::{made_results, run};
+use crate::running::run;
 use crate::words::{Command, asked};
 use crate::{Outcome, Refusal};
 use lois_base::limits::LONGEST_TEXT;
-use lois_base::{Decider, NoMemory};
+use lois_base::{Decider, Kind, NoMemory};
 use lois_deciders::Chosen;
 use lois_outside::{ReadError, Sink, Source, read_all, write_all};
 use lois_reader::{ResultError, read_answer};
@@ -25,18 +26,28 @@ const WRITE_FAULT: u8 = 7;
 
 const NO_MEMORY: u8 = 8;
 
-// Whether a script is to be run and no decider may be asked.
-fn lacks_decider(command: Command, deciders: Vec<Box<dyn Decider>>) -> bool
-    ensures { IsTrue result ↔ Lacks command (map (λ b. kind_of b) deciders.items) }
+// Which decider the command wants: the first of a kind, or the first of all.
+fn wanted_kind(command: Command) -> Option<Kind>
+    ensures { result ≡ wanted_kind command }
 {
     match command {
-        Command::Run(kind) => Chosen::choose(deciders, kind).is_none(),
+        Command::Run(kind) => kind,
+        Command::Check | Command::Reread => None,
+    }
+}
+
+fn runs_script(command: Command) -> bool
+    ensures { result ≡ runs_script command }
+{
+    match command {
+        Command::Run(_) => true,
         Command::Check | Command::Reread => false,
     }
 }
 
 // What a text comes to that is to be run.
-fn run_text(alloc: Global, text: &[u8]) -> Result<Outcome, NoMemory>
+fn run_text(alloc: Global, text: &[u8], chosen: &mut Chosen) -> Result<Outcome, NoMemory>
+    requires { length text.now ≤ LONGEST_TEXT }
     ensures answer { IfOk result (λ o. (kind : Option Kind) → AnswersText (Run kind) text.now o) }
     ensures written { IfOk result HasText }
 {
@@ -45,10 +56,10 @@ fn run_text(alloc: Global, text: &[u8]) -> Result<Outcome, NoMemory>
         Read::Refused(refusal) => return Ok(Outcome::Refused(refusal)),
     };
     let script = scoped.script();
-    match run(alloc, script)? {
-        Some(lines) => Ok(Outcome::Completed(made_results(alloc, script.order, lines)?)),
-        None => Ok(Outcome::Refused(Refusal::NotBuilt)),
+    if !is_built(script) {
+        return Ok(Outcome::Refused(Refusal::NotBuilt));
     }
+    run(alloc, text, &scoped, chosen)
 }
 
 // What a text comes to that is to be checked.
@@ -76,13 +87,23 @@ fn reread_text(alloc: Global, text: &[u8]) -> Result<Outcome, NoMemory>
     }
 }
 
-// What the text comes to, once it is taken.
-fn answer(alloc: Global, command: Command, text: &[u8]) -> Result<Outcome, NoMemory>
+// What the text comes to, once it is taken. A script is run with the decider that was chosen.
+fn answer(
+    alloc: Global,
+    command: Command,
+    text: &[u8],
+    chosen: Option<Chosen>,
+) -> Result<Outcome, NoMemory>
+    requires fits { length text.now ≤ LONGEST_TEXT }
+    requires decider { IsTrue (runs_script command) → IsSome chosen }
     ensures answer { IfOk result (AnswersText command text.now) }
     ensures written { IfOk result HasText }
 {
     match command {
-        Command::Run(_) => run_text(alloc, text),
+        Command::Run(_) => match chosen {
+            Some(mut chosen) => run_text(alloc, text, &mut chosen),
+            None => unreachable!(),
+        },
         Command::Check => check_text(alloc, text),
         Command::Reread => reread_text(alloc, text),
     }
@@ -90,11 +111,10 @@ fn answer(alloc: Global, command: Command, text: &[u8]) -> Result<Outcome, NoMem
 
 /// What the words ask for, of the text that the source has left; `NoMemory` where memory ran out.
 /// The words are those after the program's name. `run` runs a script with the first decider, or with the first of the
-/// kind that the option `--decider` names; `check` only reads it; `reread` reads results or a trace. No decider is asked
-/// yet.
+/// kind that the option `--decider` names; `check` only reads it; `reread` reads results or a trace.
 ///
-/// A text of at most 1,048,576 bytes is read. Until the whole language runs, scripts of other forms than `let` and
-/// `print` over `atoms`, names, tags, tuples and listed sets are refused by `run` as not built.
+/// A text of at most 1,048,576 bytes is read. A script either completes, or fails under some choice of its parameters.
+/// Until the whole language runs, scripts with an operation on automata are refused by `run` as not built.
 #[tactic(auto, using(crate::proofs::Told::usage_is_told, crate::proofs::Told::fault_is_told, crate::proofs::Told::long_is_told, crate::proofs::Told::answered_is_told))]
 pub fn outcome<S: Source>(
     alloc: Global,
@@ -116,11 +136,12 @@ pub fn outcome<S: Source>(
     let Some(command) = asked(alloc, words)? else {
         return Ok(Outcome::Usage);
     };
-    if lacks_decider(command, deciders) {
+    let chosen = Chosen::choose(deciders, wanted_kind(command));
+    if runs_script(command) && chosen.is_none() {
         return Ok(Outcome::Usage);
     }
     match read_all(alloc, source, LONGEST_TEXT) {
-        Ok(text) => answer(alloc, command, &text),
+        Ok(text) => answer(alloc, command, &text, chosen),
         Err(ReadError::ReadFault) => Ok(Outcome::ReadFault),
         Err(ReadError::TooLong(_)) => Ok(Outcome::Refused(Refusal::TooLong)),
         Err(ReadError::NoMemory) => Err(NoMemory),

@@ -411,16 +411,16 @@ fn scripts_of_other_forms_are_not_built(rt: HostRuntime) -> Result<(), Fail> {
     let alloc = rt.alloc();
     let rows: [(&str, &str); 3] = [
         (
-            "atoms equality; parameter a; print a;",
-            "atoms equality ;\nparameter a ;\nprint a ;\n",
+            "atoms equality; let r = reach({});",
+            "atoms equality ;\nlet r = reach ( { } ) ;\n",
         ),
         (
-            "atoms equality; # one\nlet a = {x for x in atoms where true};",
-            "atoms equality ;\nlet a = { x for x in atoms } ;\n",
+            "atoms equality; # one\nif empty({}) { }",
+            "atoms equality ;\nif empty ( { } ) {\n}\n",
         ),
         (
-            "atoms order; assert not [true];",
-            "atoms order ;\nassert not true ;\n",
+            "atoms order; let m = {minimise(x) for x in atoms};",
+            "atoms order ;\nlet m = { minimise ( x ) for x in atoms } ;\n",
         ),
     ];
     for (text, printed) in rows {
@@ -430,6 +430,40 @@ fn scripts_of_other_forms_are_not_built(rt: HostRuntime) -> Result<(), Fail> {
         let told = asked(alloc, &["check"], text.as_bytes())?;
         assert_eq!(rt; told.status, 0, "{text}");
         assert_eq!(rt; told.held.as_slice(), printed.as_bytes(), "{text}");
+    }
+    Ok(())
+}
+
+// The choice and the elements are the run's own.
+#[test]
+fn scripts_fail(rt: HostRuntime) -> Result<(), Fail> {
+    let alloc = rt.alloc();
+    let rows: [(&str, u8, &str); 4] = [
+        (
+            "atoms order; for x in atoms { for y in x { } }",
+            2,
+            "lois results 2\natoms order\nparameters\nfailed at 1:40: not a set\n",
+        ),
+        (
+            "atoms equality; for x in atoms { for y in atoms { assert x = y; } }",
+            1,
+            "lois results 2\natoms equality\nparameters\nfailed at 1:51: assertion failed\n",
+        ),
+        (
+            "atoms equality; while true turns 3 { }",
+            3,
+            "lois results 2\natoms equality\nparameters\nfailed at 1:17: turn limit\nchoice\nend\n",
+        ),
+        (
+            "atoms order; parameter a, b; assert a < b;",
+            1,
+            "lois results 2\natoms order\nparameters a b\nfailed at 1:30: assertion failed\n",
+        ),
+    ];
+    for (text, status, front) in rows {
+        let told = run(alloc, text.as_bytes())?;
+        assert_eq!(rt; told.status, status, "{text}");
+        assert!(rt; told.held.as_slice().starts_with(front.as_bytes()), "{text}");
     }
     Ok(())
 }
@@ -462,7 +496,7 @@ fn scripts_are_checked(rt: HostRuntime) -> Result<(), Fail> {
     Ok(())
 }
 
-// 64 brackets at one place run, and so do 20,000 statements; a 65th set around a value doesn't yet.
+// 64 brackets at one place run, and so do 20,000 statements; a 65th set around a value is too deep.
 #[test]
 fn deep_and_long_scripts_run(rt: HostRuntime) -> Result<(), Fail> {
     let alloc = rt.alloc();
@@ -470,7 +504,7 @@ fn deep_and_long_scripts_run(rt: HostRuntime) -> Result<(), Fail> {
     let mut deep = repeated(alloc, &front, b"}", 64, b"; ")?;
     assert_eq!(rt; run(alloc, &deep)?.status, 0);
     deep.extend_from_slice(b"let b = {a};")?;
-    assert_eq!(rt; run(alloc, &deep)?.held.as_slice(), NOT_BUILT);
+    assert_eq!(rt; run(alloc, &deep)?.status, 4);
     let mut long = b"atoms order;".to_vec(alloc)?;
     for index in 0..20_000u32 {
         let line = format!(in alloc; "let n{index} = {{}};")?;
