@@ -1,0 +1,11 @@
+pub mod ToldApart
+pub mod TheGraph
+pub mod Classes
+pub mod TheMinimal
+pub mod Seconds
+pub mod Covering
+pub mod SharedSets
+pub mod Splits
+pub mod ClassTerms
+pub mod StepMoves
+pub mod Quotients

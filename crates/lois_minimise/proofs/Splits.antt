@@ -1,0 +1,58 @@
+-- The pairs of nodes of which one is in a set and the other isn't; moves back from targets to sources.
+use Rattle.std.proofs.Common.{◌≡◌, ℕ, inl, inr, List, length}
+use Rattle.lois_base.specs.Atom.{Atom}
+use Rattle.lois_base.specs.Data.{TermD, coll, CompsD}
+use Rattle.lois_base.specs.Values.{PointValue, point, IsIn}
+use Rattle.lois_algebra.specs.Sets.{IsUnion}
+use Rattle.lois_meaning.specs.Automata.{IsPair, IsTriple}
+use Rattle.lois_meaning.proofs.Operations.{triple_both, triple_exists}
+use Rattle.lois_automata.specs.Built.{ArePairs}
+use Rattle.lois_automata.specs.Columns.{IsStep, AreShaped, AreSideBySide}
+use Rattle.lois_automata.specs.declared.columns.Shape.TheVariants.{Back}
+use Rattle.lois_automata.proofs.Tuples.{pair_parts}
+use Rattle.lois_minimise.specs.Classes.{AreShared, AreSplitPairs, AreBackward}
+
+module _ (n : ℕ) (nodes set one other r : TermD) (inside outside : CompsD) (c : List Atom) (l : length c ≡ n) (shared : AreShared (point nodes c) (point set c) (point (coll inside) c) (point (coll outside) c)) (first : ArePairs n (coll inside) (coll outside) one) (second : ArePairs n (coll outside) (coll inside) other) (all : IsUnion one other r) where
+  pub are_split_pairs : AreSplitPairs (point nodes c) (point set c) (point r c)
+  are_split_pairs = record {
+    pairs = λ x. (
+      λ i. elim ((all c x).0 i) [
+        | inl j ↦
+            let f = (first c l x).0 j in
+            let p = (shared.inner f.0).0 f.2 in
+            let q = (shared.outer f.1).0 f.3 in
+            (f.0, f.1, p.0, q.0, inl (p.1, q.1), f.4)
+        | inr j ↦
+            let f = (second c l x).0 j in
+            let p = (shared.outer f.0).0 f.2 in
+            let q = (shared.inner f.1).0 f.3 in
+            (f.0, f.1, p.0, q.0, inr (q.1, p.1), f.4)
+      ],
+      λ h. (all c x).1 (elim h.4 [
+        | inl s ↦ inl ((first c l x).1 (h.0, h.1, (shared.inner h.0).1 (h.2, s.0), (shared.outer h.1).1 (h.3, s.1), h.5))
+        | inr s ↦ inr ((second c l x).1 (h.0, h.1, (shared.outer h.0).1 (h.2, s.1), (shared.inner h.1).1 (h.3, s.0), h.5))
+      ]),
+    );
+    decided = λ q i. elim (shared.each q i) [
+      | inl j ↦ inl ((shared.inner q).0 j).1
+      | inr j ↦ inr ((shared.outer q).0 j).1
+    ];
+  }
+
+-- of the steps side by side the pairs (target, source)
+module _ (n : ℕ) (steps both r : TermD) (c : List Atom) (l : length c ≡ n) (along : AreSideBySide n steps steps both) (shaped : AreShaped n Back both r) where
+  pub are_backward : AreBackward (point steps c) (point r c)
+  are_backward y = (λ i. there ((shaped c l y).0 i), back)
+    where
+      there : ((P L Q : PointValue) × IsStep (point both c) P L Q × IsPair y Q P) → (x x' p a q p' q' : PointValue) × IsStep (point steps c) p a p' × IsStep (point steps c) q a q' × IsPair x' p' q' × IsPair x p q × IsPair y x' x
+      there (P, L, Q, (w, k, t), pair) = from ((along c l w).0 k)
+        where
+          from : ((p a p' q q' x x' : PointValue) × IsStep (point steps c) p a p' × IsStep (point steps c) q a q' × IsPair x p q × IsPair x' p' q' × IsTriple w x a x') → (x x' p a q p' q' : PointValue) × IsStep (point steps c) p a p' × IsStep (point steps c) q a q' × IsPair x' p' q' × IsPair x p q × IsPair y x' x
+          from (p, a, p', q, q', x, x', step, step', source, target, t') =
+              let both = triple_both w P L Q x a x' t t' in
+              (x, x', p, a, q, p', q', step, step', target, source, pair_parts y Q P x' x both.2 both.0 pair)
+
+      back : ((x x' p a q p' q' : PointValue) × IsStep (point steps c) p a p' × IsStep (point steps c) q a q' × IsPair x' p' q' × IsPair x p q × IsPair y x' x) → IsIn y (point r c)
+      back (x, x', p, a, q, p', q', step, step', target, source, pair) =
+          let t : (t : PointValue) × IsTriple t x a x' = triple_exists x a x' in
+          (shaped c l y).1 (x, a, x', (t.0, (along c l t.0).1 (p, a, p', q, q', x, x', step, step', source, target, t.1), t.1), pair)

@@ -1,0 +1,120 @@
+//! States with their classes.
+
+ghost use Rattle.std.specs.Prelude.{◌≡◌, ℕ, ◌+◌, ◌<◌, ◌^◌, Bool, List, length, IfOk, OnOk};
+ghost use Rattle.lois_base.specs.Atom.{Atom};
+ghost use Rattle.lois_base.specs.Data.{coll, comps_of};
+ghost use Rattle.lois_base.specs.Fits.{Fits, CompFits, ItemsFit};
+ghost use Rattle.lois_base.specs.Tree.{tree, comp_of};
+ghost use Rattle.lois_base.specs.Validity.{AdmitsTerm, AdmitsComp, AdmitsItems, HasUsualWidths, ItemsHaveUsualWidths};
+ghost use Rattle.lois_base.specs.Values.{point};
+ghost use Rattle.lois_terms.specs.Guarded.{IsSet};
+ghost use Rattle.lois_minimise.specs.Classes.{AreClassed, AddsClass, IsClassTerm, IsSingle};
+
+use crate::leading::led_from;
+use lois_algebra::{minus, put};
+use lois_automata::{among_more, pair};
+use lois_base::{Comp, Comps, Constraint, NoMemory, Structure, Term};
+use std::alloc::Global;
+
+/// Each member of the set `nodes` in a pair with its class: the set of the nodes that no pair of the set `apart` leads it to.
+pub fn with_classes<T: Structure>(
+    alloc: Global,
+    nodes: &Comps,
+    apart: &Term,
+    size: usize,
+) -> Result<Comps, NoMemory>
+    requires nodes { ItemsFit size (comps_of nodes.now) }
+    requires nodes_operators { AdmitsItems T.ordered (comps_of nodes.now) }
+    requires apart { Fits size (tree apart.now) }
+    requires apart_set { IsSet (tree apart.now) }
+    requires apart_operators { AdmitsTerm T.ordered (tree apart.now) }
+    ensures classed { IfOk result (λ r. (c : List Atom) → length c ≡ size → AreClassed (point (coll (comps_of nodes.now)) c) (point (tree apart.now) c) (point (coll (comps_of r)) c)) }
+    ensures levels { IfOk result (λ r. ItemsFit size (comps_of r)) }
+    ensures operators { IfOk result (λ r. (o : Bool) → AdmitsItems o (comps_of nodes.now) → AdmitsTerm o (tree apart.now) → AdmitsItems o (comps_of r)) }
+    ensures widths { IfOk result (λ r. ItemsHaveUsualWidths (comps_of nodes.now) → ItemsHaveUsualWidths (comps_of r)) }
+{
+    let mut classes = Comps::new(alloc);
+    for comp in nodes.as_slice() {
+        add_class::<T>(alloc, &mut classes, comp, nodes, apart, size)?;
+    }
+    Ok(classes)
+}
+
+fn add_class<T: Structure>(
+    alloc: Global,
+    classes: &mut Comps,
+    comp: &Comp,
+    nodes: &Comps,
+    apart: &Term,
+    size: usize,
+) -> Result<(), NoMemory>
+    requires levels { CompFits size (comp_of comp.now) }
+    requires operators { AdmitsComp T.ordered (comp_of comp.now) }
+    requires nodes { ItemsFit size (comps_of nodes.now) }
+    requires nodes_operators { AdmitsItems T.ordered (comps_of nodes.now) }
+    requires apart { Fits size (tree apart.now) }
+    requires apart_set { IsSet (tree apart.now) }
+    requires apart_operators { AdmitsTerm T.ordered (tree apart.now) }
+    ensures { OnOk result (AddsClass size (comp_of comp.now) (coll (comps_of nodes.now)) (tree apart.now) (comps_of classes.old) (comps_of classes.new)) }
+{
+    let class = class_of::<T>(alloc, &comp.item, nodes, apart, size, comp.binders)?;
+    let guard = comp.guard.copy(alloc)?;
+    let item = pair(alloc, &comp.item, &class)?;
+    put(
+        classes,
+        Comp {
+            binders: comp.binders,
+            guard,
+            item,
+        },
+    )
+}
+
+// The nodes that no pair of `apart` leads the item to, as a term among `by` more levels.
+fn class_of<T: Structure>(
+    alloc: Global,
+    item: &Term,
+    nodes: &Comps,
+    apart: &Term,
+    size: usize,
+    by: usize,
+) -> Result<Term, NoMemory>
+    requires room { size + by < 2 ^ 64 }
+    requires item { Fits (size + by) (tree item.now) }
+    requires item_operators { AdmitsTerm T.ordered (tree item.now) }
+    requires nodes { ItemsFit size (comps_of nodes.now) }
+    requires nodes_operators { AdmitsItems T.ordered (comps_of nodes.now) }
+    requires apart { Fits size (tree apart.now) }
+    requires apart_set { IsSet (tree apart.now) }
+    requires apart_operators { AdmitsTerm T.ordered (tree apart.now) }
+    ensures class { IfOk result (λ r. IsClassTerm size by (coll (comps_of nodes.now)) (tree apart.now) (tree item.now) (tree r)) }
+    ensures set { IfOk result (λ r. IsSet (tree r)) }
+    ensures levels { IfOk result (λ r. Fits (size + by) (tree r)) }
+    ensures operators { IfOk result (λ r. (o : Bool) → AdmitsTerm o (tree item.now) → AdmitsItems o (comps_of nodes.now) → AdmitsTerm o (tree apart.now) → AdmitsTerm o (tree r)) }
+    ensures widths { IfOk result (λ r. ItemsHaveUsualWidths (comps_of nodes.now) → HasUsualWidths (tree r)) }
+{
+    let states = Term::Coll(nodes.copy(alloc)?);
+    let all = among_more(alloc, &states, size, by)?;
+    let Term::Coll(told) = among_more(alloc, apart, size, by)? else {
+        unreachable!()
+    };
+    let own = single(alloc, item)?;
+    let others = led_from::<T>(alloc, &told, &own, size + by)?;
+    minus::<T>(alloc, &all, &others, size + by)
+}
+
+// The set of one item.
+fn single(alloc: Global, item: &Term) -> Result<Term, NoMemory>
+    ensures members { IfOk result (λ r. IsSingle (tree item.now) (tree r)) }
+    ensures set { IfOk result (λ r. IsSet (tree r)) }
+    ensures levels { IfOk result (λ r. (n : ℕ) → n < 2 ^ 64 → Fits n (tree item.now) → Fits n (tree r)) }
+    ensures operators { IfOk result (λ r. (o : Bool) → AdmitsTerm o (tree item.now) → AdmitsTerm o (tree r)) }
+{
+    let mut items = Comps::new(alloc);
+    items.push(Comp {
+        binders: 0,
+        guard: Constraint::always(alloc)?,
+        item: item.copy(alloc)?,
+    })?;
+    Ok(Term::Coll(items))
+}

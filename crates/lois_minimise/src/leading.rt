@@ -1,0 +1,105 @@
+//! What pairs lead to: from first parts to second parts.
+
+ghost use Rattle.std.specs.Prelude.{ℕ, Bool, IfOk, OnOk};
+ghost use Rattle.lois_base.specs.Data.{coll, comps_of};
+ghost use Rattle.lois_base.specs.Fits.{Fits, CompFits, ItemsFit};
+ghost use Rattle.lois_base.specs.Tree.{tree, comp_of};
+ghost use Rattle.lois_base.specs.Validity.{AdmitsTerm, AdmitsComp, AdmitsItems, HasUsualWidths, ItemsHaveUsualWidths};
+ghost use Rattle.lois_terms.specs.Guarded.{IsSet};
+ghost use Rattle.lois_automata.specs.Built.{AreTargets, AddsTarget};
+ghost use Rattle.lois_automata.specs.Columns.{AddsOfOne};
+ghost use Rattle.lois_minimise.specs.Classes.{AreSeconds, IsSecondOf};
+
+use lois_algebra::put;
+use lois_automata::{membership, pair_parts};
+use lois_base::{Comp, Comps, NoMemory, Structure, Term};
+use lois_constraint::meet;
+use std::alloc::Global;
+
+/// The second parts of the pairs whose first parts are in the set `from`. Members of `pairs` that are no pairs are left out.
+pub fn led_from<T: Structure>(
+    alloc: Global,
+    pairs: &Comps,
+    from: &Term,
+    size: usize,
+) -> Result<Term, NoMemory>
+    requires levels { ItemsFit size (comps_of pairs.now) }
+    requires operators { AdmitsItems T.ordered (comps_of pairs.now) }
+    requires from_levels { Fits size (tree from.now) }
+    requires from_set { IsSet (tree from.now) }
+    requires from_operators { AdmitsTerm T.ordered (tree from.now) }
+    ensures members { IfOk result (λ r. AreTargets size (coll (comps_of pairs.now)) (tree from.now) (tree r)) }
+    ensures set { IfOk result (λ r. IsSet (tree r)) }
+    ensures levels { IfOk result (λ r. Fits size (tree r)) }
+    ensures operators { IfOk result (λ r. (o : Bool) → AdmitsItems o (comps_of pairs.now) → AdmitsTerm o (tree from.now) → AdmitsTerm o (tree r)) }
+    ensures widths { IfOk result (λ r. ItemsHaveUsualWidths (comps_of pairs.now) → HasUsualWidths (tree r)) }
+{
+    let mut made = Comps::new(alloc);
+    for comp in pairs.as_slice() {
+        add_led::<T>(alloc, &mut made, comp, from, size)?;
+    }
+    Ok(Term::Coll(made))
+}
+
+fn add_led<T: Structure>(
+    alloc: Global,
+    made: &mut Comps,
+    comp: &Comp,
+    from: &Term,
+    size: usize,
+) -> Result<(), NoMemory>
+    requires levels { CompFits size (comp_of comp.now) }
+    requires operators { AdmitsComp T.ordered (comp_of comp.now) }
+    requires from_levels { Fits size (tree from.now) }
+    requires from_set { IsSet (tree from.now) }
+    requires from_operators { AdmitsTerm T.ordered (tree from.now) }
+    ensures { OnOk result (AddsTarget size (comp_of comp.now) (tree from.now) (comps_of made.old) (comps_of made.new)) }
+{
+    let Some((first, second)) = pair_parts(&comp.item) else {
+        return Ok(());
+    };
+    let found = membership::<T>(alloc, first, from, size, comp.binders)?;
+    let guard = meet(alloc, &comp.guard, &found)?;
+    let item = second.copy(alloc)?;
+    put(
+        made,
+        Comp {
+            binders: comp.binders,
+            guard,
+            item,
+        },
+    )
+}
+
+/// The second parts of the pairs.
+pub fn second_parts(alloc: Global, pairs: &Comps) -> Result<Term, NoMemory>
+    ensures members { IfOk result (λ r. (n : ℕ) → AreSeconds n (coll (comps_of pairs.now)) (tree r)) }
+    ensures set { IfOk result (λ r. IsSet (tree r)) }
+    ensures levels { IfOk result (λ r. (n : ℕ) → ItemsFit n (comps_of pairs.now) → Fits n (tree r)) }
+    ensures operators { IfOk result (λ r. (o : Bool) → AdmitsItems o (comps_of pairs.now) → AdmitsTerm o (tree r)) }
+    ensures widths { IfOk result (λ r. ItemsHaveUsualWidths (comps_of pairs.now) → HasUsualWidths (tree r)) }
+{
+    let mut made = Comps::new(alloc);
+    for comp in pairs.as_slice() {
+        add_second(alloc, &mut made, comp)?;
+    }
+    Ok(Term::Coll(made))
+}
+
+fn add_second(alloc: Global, made: &mut Comps, comp: &Comp) -> Result<(), NoMemory>
+    ensures { OnOk result ((n : ℕ) → AddsOfOne IsSecondOf n (comp_of comp.now) (comps_of made.old) (comps_of made.new)) }
+{
+    let Some((_, second)) = pair_parts(&comp.item) else {
+        return Ok(());
+    };
+    let guard = comp.guard.copy(alloc)?;
+    let item = second.copy(alloc)?;
+    put(
+        made,
+        Comp {
+            binders: comp.binders,
+            guard,
+            item,
+        },
+    )
+}

@@ -1,0 +1,11 @@
+//! The minimal automaton: its states are the classes of reachable states from which the same words are accepted.
+#![tactic(auto)]
+
+mod classing;
+mod leading;
+mod minimising;
+mod sharing;
+mod telling;
+mod transitions;
+
+pub use minimising::minimise;

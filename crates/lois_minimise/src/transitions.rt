@@ -1,0 +1,117 @@
+//! Steps between classes.
+
+ghost use Rattle.std.specs.Prelude.{◌≡◌, ℕ, Bool, List, length, IfOk, IfSome, IfNone, OnOk};
+ghost use Rattle.lois_base.specs.Atom.{Atom};
+ghost use Rattle.lois_base.specs.Data.{TermD, coll, comps_of};
+ghost use Rattle.lois_base.specs.Fits.{Fits, ItemsFit};
+ghost use Rattle.lois_base.specs.Tree.{tree, comp_of};
+ghost use Rattle.lois_base.specs.Validity.{AdmitsTerm, AdmitsItems, HasUsualWidths, ItemsHaveUsualWidths};
+ghost use Rattle.lois_base.specs.Values.{point};
+ghost use Rattle.lois_terms.specs.Guarded.{IsSet};
+ghost use Rattle.lois_automata.specs.Columns.{AddsOfOne, pair_of, triple_of};
+ghost use Rattle.lois_minimise.specs.Classes.{AreClassSteps, AreStepMoves, IsStepMove, transition_of};
+
+use crate::leading::led_from;
+use lois_algebra::put;
+use lois_automata::{pair, pair_parts, pairs, triple};
+use lois_base::{Comp, Comps, NoMemory, Structure, Term};
+use std::alloc::Global;
+
+// A pair of a state with its class and a letter, and a pair of a state with its class.
+#[derive(Clone, Copy)]
+struct Transition<'a> {
+    source: &'a Term,
+    class: &'a Term,
+    letter: &'a Term,
+    target: &'a Term,
+    next: &'a Term,
+}
+
+/// A step for each step between states: from the class that the pairs have for its source to the one that they have for its
+/// target.
+pub fn class_steps<T: Structure>(
+    alloc: Global,
+    classes: &Comps,
+    letters: &Comps,
+    steps: &Comps,
+    size: usize,
+) -> Result<Term, NoMemory>
+    requires classes { ItemsFit size (comps_of classes.now) }
+    requires classes_operators { AdmitsItems T.ordered (comps_of classes.now) }
+    requires letters { ItemsFit size (comps_of letters.now) }
+    requires letters_operators { AdmitsItems T.ordered (comps_of letters.now) }
+    requires steps { ItemsFit size (comps_of steps.now) }
+    requires steps_operators { AdmitsItems T.ordered (comps_of steps.now) }
+    ensures steps { IfOk result (λ r. (c : List Atom) → length c ≡ size → AreClassSteps (point (coll (comps_of classes.now)) c) (point (coll (comps_of letters.now)) c) (point (coll (comps_of steps.now)) c) (point (tree r) c)) }
+    ensures set { IfOk result (λ r. IsSet (tree r)) }
+    ensures levels { IfOk result (λ r. Fits size (tree r)) }
+    ensures operators { IfOk result (λ r. (o : Bool) → AdmitsItems o (comps_of classes.now) → AdmitsItems o (comps_of letters.now) → AdmitsItems o (comps_of steps.now) → AdmitsTerm o (tree r)) }
+    ensures widths { IfOk result (λ r. ItemsHaveUsualWidths (comps_of classes.now) → ItemsHaveUsualWidths (comps_of letters.now) → HasUsualWidths (tree r)) }
+{
+    let Term::Coll(reads) = pairs(alloc, classes, letters, size)? else {
+        unreachable!()
+    };
+    let Term::Coll(both) = pairs(alloc, &reads, classes, size)? else {
+        unreachable!()
+    };
+    let moves = step_moves(alloc, &both)?;
+    let all = Term::Coll(steps.copy(alloc)?);
+    led_from::<T>(alloc, &moves, &all, size)
+}
+
+// Of each transition, the pair of the step between its states and the step between their classes.
+fn step_moves(alloc: Global, transitions: &Comps) -> Result<Comps, NoMemory>
+    ensures moves { IfOk result (λ r. (n : ℕ) → AreStepMoves n (coll (comps_of transitions.now)) (coll (comps_of r))) }
+    ensures levels { IfOk result (λ r. (n : ℕ) → ItemsFit n (comps_of transitions.now) → ItemsFit n (comps_of r)) }
+    ensures operators { IfOk result (λ r. (o : Bool) → AdmitsItems o (comps_of transitions.now) → AdmitsItems o (comps_of r)) }
+    ensures widths { IfOk result (λ r. ItemsHaveUsualWidths (comps_of transitions.now) → ItemsHaveUsualWidths (comps_of r)) }
+{
+    let mut moves = Comps::new(alloc);
+    for comp in transitions.as_slice() {
+        add_move(alloc, &mut moves, comp)?;
+    }
+    Ok(moves)
+}
+
+fn add_move(alloc: Global, moves: &mut Comps, comp: &Comp) -> Result<(), NoMemory>
+    ensures { OnOk result ((n : ℕ) → AddsOfOne IsStepMove n (comp_of comp.now) (comps_of moves.old) (comps_of moves.new)) }
+{
+    let Some(parts) = transition_parts(&comp.item) else {
+        return Ok(());
+    };
+    let item = step_move(alloc, parts)?;
+    let guard = comp.guard.copy(alloc)?;
+    put(
+        moves,
+        Comp {
+            binders: comp.binders,
+            guard,
+            item,
+        },
+    )
+}
+
+fn step_move(alloc: Global, parts: Transition<'_>) -> Result<Term, NoMemory>
+    ensures { IfOk result (λ r. tree r ≡ pair_of (triple_of (tree parts.entry.source.now) (tree parts.entry.letter.now) (tree parts.entry.target.now)) (triple_of (tree parts.entry.class.now) (tree parts.entry.letter.now) (tree parts.entry.next.now))) }
+{
+    let step = triple(alloc, parts.source, parts.letter, parts.target)?;
+    let between = triple(alloc, parts.class, parts.letter, parts.next)?;
+    pair(alloc, &step, &between)
+}
+
+fn transition_parts(t: &Term) -> Option<Transition<'_>>
+    ensures some { IfSome result (λ p. tree t.now ≡ transition_of (tree p.source.now) (tree p.class.now) (tree p.letter.now) (tree p.target.now) (tree p.next.now)) }
+    ensures none { IfNone result ((q x l r z : TermD) → tree t.now ≡ transition_of q x l r z → ⊥) }
+{
+    let (read, to) = pair_parts(t)?;
+    let (from, letter) = pair_parts(read)?;
+    let (source, class) = pair_parts(from)?;
+    let (target, next) = pair_parts(to)?;
+    Some(Transition {
+        source,
+        class,
+        letter,
+        target,
+        next,
+    })
+}
