@@ -3,12 +3,11 @@
 #   tests/against_reference.sh [SEED..]
 # The seeds (7 and 11 where none is given) make random scripts, and changed texts: 1,000 of both for each. The reference lies
 # beside the checkout, or where REFERENCE says; without it, or without python3, everything is skipped. Scripts of forms that
-# don't run yet count as 'not built'. Texts for the commands of MISSING, a pattern, are left out, since these aren't built yet.
+# don't run yet count as 'not built'.
 # Results are judged as normal ones with merged cases, each within 20 seconds; FORM may say otherwise.
 set -u
 top=$(cd "$(dirname "${BASH_SOURCE[0]}")/.." && pwd)
 reference=${REFERENCE:-$top/../shared/reference}
-missing=${MISSING:-make}
 form=${FORM:---normal --merged --timeout 20}
 [ $# -gt 0 ] || set -- 7 11
 
@@ -21,22 +20,11 @@ work=$(mktemp -d)
 trap 'rm -rf "$work"' EXIT
 failed=0
 
-# suite NAME FOLDER: the texts of the folder, but for those with the words of a command that isn't built
 suite() {
-  local name=$1 folder=$2 texts=$work/texts text words
-  rm -rf "$texts"
-  mkdir -p "$texts"
-  for text in "$folder"/*.lois; do
-    words=${text%.lois}.json
-    if [ ! -f "$words" ]; then
-      cp "$text" "$texts"
-    elif ! tr -d ' \n' <"$words" | grep -qE "\"words\":\[\"($missing)\""; then
-      cp "$text" "$words" "$texts"
-    fi
-  done
+  local name=$1 folder=$2
   echo "$name:"
   # shellcheck disable=SC2086
-  python3 "$reference/run_suite.py" "$top/lois run" "$texts" --v2 --notbuilt $form || failed=1
+  python3 "$reference/run_suite.py" "$top/lois run" "$folder" --v2 --notbuilt $form || failed=1
 }
 
 printf 'atoms order;' | "$top/lois" run >/dev/null || exit 70

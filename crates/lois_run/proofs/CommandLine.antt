@@ -1,7 +1,8 @@
 -- What clap makes of the words is what they ask for.
-use Rattle.std.proofs.Common.{◌≡◌, ◌⊎◌, inl, inr, ℕ, Bool, true, false, true≢false, not, ◌||◌, List, [], ◌∷◌, ◌++◌, Some, None, codes, refl, sym, ap, ap₂, ◌∙◌, subst, bytes_eq, nat_eq, if◌then◌else◌, find, fold, map, String, string_bytes, length, zero, suc, ◌+◌, ◌<◌, arith, take, drop, take-append-drop, slice_index_or, append-nil, append_assoc}
+use Rattle.std.proofs.Common.{◌≡◌, ◌⊎◌, inl, inr, ℕ, Bool, true, false, true≢false, not, ◌||◌, List, [], ◌∷◌, ◌++◌, Option, Some, None, option_map, codes, refl, sym, ap, ap₂, ◌∙◌, subst, bytes_eq, nat_eq, if◌then◌else◌, find, fold, map, String, string_bytes, length, zero, suc, ◌+◌, ◌<◌, arith, take, drop, take-append-drop, slice_index_or, append-nil, append_assoc}
 use Rattle.std.specs.List.{starts_with}
-use Rattle.std.specs.Option.{option_map_or}
+use Rattle.std.specs.Option.{option_map_or, option_or}
+use Rattle.std.proofs.lemmas.Bool.Decides.{nat_tests}
 use Rattle.std.proofs.lemmas.Slice.Eq.{bytes_eq-Decides}
 use Rattle.clap.specs.Lexer.{long_of, short_of}
 use Rattle.clap.specs.Simple.{Shape, built, label_of, names_of}
@@ -17,7 +18,9 @@ use Rattle.clap.proofs.FaultLemmas.{stopped_fault}
 use Rattle.clap.proofs.OnLiterals.{clap_on_literals}
 use Rattle.lois_script.proofs.Lookup.{turned}
 use Rattle.lois_run.specs.CommandLine.{is_dashed, is_option, seen_behind, are_expected, program, command_found}
-use Rattle.lois_run.specs.Words.{command_of}
+use Rattle.lois_run.specs.Words.{command_alone, command_of, command_with_number, kind_chosen, number_first, number_last, number_named, option_named}
+use Rattle.lois_run.specs.declared.words.Command.{Command}
+use Rattle.lois_run.specs.declared.words.Command.TheVariants.{Run, Check, Reread}
 
 abbrev pub HasFault : Kinds → Type 0
 HasFault kinds = kinds ≡ [] → ⊥
@@ -71,9 +74,13 @@ once w ws h = go (is_dashed w) refl
 
 -- ---- the walk over the words of one level
 
+-- where words went to positional arguments before
+abbrev walk_at : ℕ → Held → Walk
+walk_at position h = record (walk_from h) { position = position }
+
 -- a word that starts with no hyphen, names no subcommand and goes to no positional argument
-stray : (s : Shape) (names : Names) (h : Held) (w : Text) → is_dashed w ≡ false → subcommand_met names idle w ≡ None → arg_by_index s.rules 1 ≡ None → turn_fault s names (walk_from h) w ≡ stray_fault s
-stray s names h w d none nowhere = rw (none, plain_apart w (45 ∷ []) d, plain_long w d, plain_short w d, nowhere) refl
+stray : (s : Shape) (names : Names) (position : ℕ) (h : Held) (w : Text) → is_dashed w ≡ false → subcommand_met names idle w ≡ None → arg_by_index s.rules position ≡ None → turn_fault s names (walk_at position h) w ≡ stray_fault s
+stray s names position h w d none nowhere = rw (none, plain_apart w (45 ∷ []) d, plain_long w d, plain_short w d, nowhere) refl
 
 stray_fails : (s : Shape) → HasFault (stray_fault s)
 stray_fails s = go s.is_leaf
@@ -117,7 +124,7 @@ other_fails w ws none h = first_fails w ws (go (is_dashed w) refl)
   where
     go : (b : Bool) → is_dashed w ≡ b → HasFault (turn_fault top names (walk_from nothing_held) w)
     go true d = unknown_option w (option_split w (dashed_next false w ws d h).1)
-    go false d = subst HasFault (sym (stray top names nothing_held w d none refl)) (stray_fails top)
+    go false d = subst HasFault (sym (stray top names 1 nothing_held w d none refl)) (stray_fails top)
 
 -- the first word names this subcommand
 module _ (n : Text) (s : Shape) (met : subcommand_met names idle n ≡ Some n) (found : find (λ x. answers_to n (label_of x)) subs ≡ Some s) (no_help : bytes_eq n (codes "help") ≡ false) where
@@ -168,30 +175,32 @@ module _ (n : Text) (s : Shape) (is : (rest : List Text) → fault_of program (n
 
       go : (b : Bool) → is_dashed o ≡ b → HasFault (turn_fault s [] (walk_from nothing_held) o)
       go true d = unknown (dashed_next false o more d h).1
-      go false d = subst HasFault (sym (stray s [] nothing_held o d refl (ap (λ rules. arg_by_index rules 1) none))) (stray_fails s)
+      go false d = subst HasFault (sym (stray s [] 1 nothing_held o d refl (ap (λ rules. arg_by_index rules 1) none))) (stray_fails s)
+
+-- ---- the walk over the words behind `run` or `make`
+
+or_later : (a b : Kinds) → HasFault b → HasFault (or_else a b)
+or_later [] b h = h
+or_later (k ∷ ks) b h = λ e. cc e
+
+-- a word that no argument takes, wherever it stands
+stray_at : (s : Shape) (position : ℕ) (h : Held) (k : Text) (more : List Text) → arg_by_index s.rules position ≡ None → is_dashed k ≡ false → HasFault (walk_fault s [] (walk_at position h) (k ∷ more))
+stray_at s position h k more nowhere d = walk_fails s [] (walk_at position h) k more (subst HasFault (sym (stray s [] position h k d refl nowhere)) (stray_fails s))
+
+later : (s : Shape) (w next : Walk) (o : Text) (rest : List Text) → walked s.rules [] w o ≡ next → HasFault (walk_fault s [] next rest) → HasFault (walk_fault s [] w (o ∷ rest))
+unfolding walk_fault
+later s w next o rest is fails = or_later _ _ (subst (λ (x : Walk). HasFault (walk_fault s [] x rest)) (sym is) fails)
 
 -- ---- `run`
 
 abbrev running : Shape
 running = slice_index_or subs 0 top
 
-or_later : (a b : Kinds) → HasFault b → HasFault (or_else a b)
-or_later [] b h = h
-or_later (k ∷ ks) b h = λ e. cc e
-
 run_is : (rest : List Text) → fault_of program (codes "run" ∷ rest) ≡ or_else (level_fault running [] nothing_held rest false []) []
 run_is rest = fault_is (codes "run") running refl refl refl rest
 
 run_fails : (rest : List Text) → HasFault (walk_fault running [] (walk_from nothing_held) rest) → HasFault (fault_of program (codes "run" ∷ rest))
 run_fails rest h = sub_fails (codes "run") running rest (run_is rest) h
-
--- a word that is no option, wherever it stands
-stray_at : (h : Held) (k : Text) (more : List Text) → is_dashed k ≡ false → HasFault (walk_fault running [] (walk_from h) (k ∷ more))
-stray_at h k more d = walk_fails running [] (walk_from h) k more (subst HasFault (sym (stray running [] h k d refl refl)) (stray_fails running))
-
-later : (w : Walk) (o : Text) (rest : List Text) (h : Held) → walked running.rules [] w o ≡ walk_from h → HasFault (walk_fault running [] (walk_from h) rest) → HasFault (walk_fault running [] w (o ∷ rest))
-unfolding walk_fault
-later w o rest h is fails = or_later _ _ (subst (λ (x : Walk). HasFault (walk_fault running [] x rest)) (sym is) fails)
 
 valued : (v : Text) → walked running.rules [] (walk_from nothing_held) (codes "--decider=" ++ v) ≡ walk_from (walked running.rules [] (walk_from nothing_held) (codes "--decider=" ++ v)).held
 unfolding walked
@@ -222,7 +231,7 @@ run_waits = refuses (λ e. cc e) refl
 
 -- behind `run`, a word that starts with no hyphen
 run_stray : (o : Text) (more : List Text) → is_dashed o ≡ false → Verdict (codes "run" ∷ o ∷ more)
-run_stray o more d = refuses (run_fails (o ∷ more) (stray_at nothing_held o more d)) (none more)
+run_stray o more d = refuses (run_fails (o ∷ more) (stray_at running 1 nothing_held o more refl d)) (none more)
   where
     none : (l : List Text) → command_of (codes "run" ∷ o ∷ l) ≡ None
     none [] = rw (plain_apart o (drop 1 (codes "--decider=plain")) d, plain_apart o (drop 1 (codes "--decider=graph")) d, plain_apart o (drop 1 (codes "--decider=memo")) d) refl
@@ -232,7 +241,7 @@ run_stray o more d = refuses (run_fails (o ∷ more) (stray_at nothing_held o mo
 -- behind the option and its value, a word that starts with no hyphen
 stray_behind : (k x : Text) (l : List Text) → is_dashed k ≡ false → is_dashed x ≡ false → HasFault (walk_fault running [] (walk_from nothing_held) (codes "--decider" ∷ k ∷ x ∷ l))
 unfolding walk_fault waiting
-stray_behind k x l d f = or_later (turn_fault running [] (walk_from nothing_held) (codes "--decider")) _ (later waiting k (x ∷ l) _ (separate k d) (stray_at _ x l f))
+stray_behind k x l d f = or_later (turn_fault running [] (walk_from nothing_held) (codes "--decider")) _ (later running waiting _ k (x ∷ l) (separate k d) (stray_at running 1 _ x l refl f))
 
 run_option : (o : Text) (more : List Text) → (o ≡ codes "--decider") ⊎ ((v : List ℕ) × (o ≡ codes "--decider=" ++ v)) → are_expected true more ≡ true → Verdict (codes "run" ∷ o ∷ more)
 run_option o more (inl e) h = subst (λ (x : Text). Verdict (codes "run" ∷ x ∷ more)) (sym e) (go more h)
@@ -252,7 +261,7 @@ run_option o more (inr (v, e)) h = subst (λ (x : Text). Verdict (codes "run" �
 
     go : (l : List Text) → are_expected true l ≡ true → Verdict (codes "run" ∷ (codes "--decider=" ++ v) ∷ l)
     go [] h = run_valued v
-    go (k ∷ l) h = refuses (run_fails ((codes "--decider=" ++ v) ∷ k ∷ l) (later (walk_from nothing_held) (codes "--decider=" ++ v) (k ∷ l) _ (valued v) (stray_at _ k l (once k l h).0))) (none k l)
+    go (k ∷ l) h = refuses (run_fails ((codes "--decider=" ++ v) ∷ k ∷ l) (later running (walk_from nothing_held) _ (codes "--decider=" ++ v) (k ∷ l) (valued v) (stray_at running 1 _ k l refl (once k l h).0))) (none k l)
 
 run_verdict : (rest : List Text) → are_expected false rest ≡ true → Verdict (codes "run" ∷ rest)
 run_verdict [] h = run_alone
@@ -262,52 +271,242 @@ run_verdict (o ∷ more) h = go (is_dashed o) refl
     go true d = let next = dashed_next false o more d h in run_option o more (option_split o next.1) next.2
     go false d = run_stray o more d
 
+-- ---- `make`
+
+abbrev making : Shape
+making = slice_index_or subs 1 top
+
+make_is : (rest : List Text) → fault_of program (codes "make" ∷ rest) ≡ or_else (level_fault making [] nothing_held rest false []) []
+make_is rest = fault_is (codes "make") making refl refl refl rest
+
+make_fails : (rest : List Text) → HasFault (walk_fault making [] (walk_from nothing_held) rest) → HasFault (fault_of program (codes "make" ∷ rest))
+make_fails rest h = sub_fails (codes "make") making rest (make_is rest) h
+
+-- the number
+counted : (h : Held) (k : Text) → is_dashed k ≡ false → walked making.rules [] (walk_from h) k ≡ walk_at 2 (walked making.rules [] (walk_from h) k).held
+unfolding walked
+counted h k d = rw (plain_apart k (45 ∷ []) d, plain_long k d, plain_short k d) refl
+
+-- the option in one word
+joined : (position : ℕ) (h : Held) (v : Text) → walked making.rules [] (walk_at position h) (codes "--decider=" ++ v) ≡ walk_at position (walked making.rules [] (walk_at position h) (codes "--decider=" ++ v)).held
+unfolding walked
+joined position h v = refl
+
+-- the option's first word
+open_at : ℕ → Held → Walk
+open_at position h = walked making.rules [] (walk_at position h) (codes "--decider")
+
+-- the option's second word
+closed : (position : ℕ) (h : Held) (k : Text) → is_dashed k ≡ false → walked making.rules [] (open_at position h) k ≡ walk_at position (walked making.rules [] (open_at position h) k).held
+unfolding walked open_at
+closed position h k d = rw (plain_apart k (45 ∷ []) d, plain_long k d, plain_short k d) refl
+
+-- the number was there, and one more word starts with no hyphen
+past_number : (h : Held) (x : Text) (l : List Text) → is_dashed x ≡ false → HasFault (walk_fault making [] (walk_at 2 h) (x ∷ l))
+past_number h x l d = stray_at making 2 h x l refl d
+
+past_joined : (h : Held) (v x : Text) (l : List Text) → is_dashed x ≡ false → HasFault (walk_fault making [] (walk_at 2 h) ((codes "--decider=" ++ v) ∷ x ∷ l))
+past_joined h v x l d = later making (walk_at 2 h) _ (codes "--decider=" ++ v) (x ∷ l) (joined 2 h v) (past_number _ x l d)
+
+past_separate : (h : Held) (k x : Text) (l : List Text) → is_dashed k ≡ false → is_dashed x ≡ false → HasFault (walk_fault making [] (walk_at 2 h) (codes "--decider" ∷ k ∷ x ∷ l))
+unfolding open_at
+past_separate h k x l d e = later making (walk_at 2 h) (open_at 2 h) (codes "--decider") (k ∷ x ∷ l) refl (later making (open_at 2 h) _ k (x ∷ l) (closed 2 h k d) (past_number _ x l e))
+
+behind_number : (h : Held) (k : Text) (rest : List Text) → is_dashed k ≡ false → ((after : Held) → HasFault (walk_fault making [] (walk_at 2 after) rest)) → HasFault (walk_fault making [] (walk_from h) (k ∷ rest))
+behind_number h k rest d fails = later making (walk_from h) _ k rest (counted h k d) (fails _)
+
+behind_joined : (v k x : Text) (l : List Text) → is_dashed k ≡ false → is_dashed x ≡ false → HasFault (walk_fault making [] (walk_from nothing_held) ((codes "--decider=" ++ v) ∷ k ∷ x ∷ l))
+behind_joined v k x l d e = later making (walk_from nothing_held) _ (codes "--decider=" ++ v) (k ∷ x ∷ l) (joined 1 nothing_held v) (behind_number _ k (x ∷ l) d (λ after. past_number after x l e))
+
+behind_separate : (n k x : Text) (l : List Text) → is_dashed n ≡ false → is_dashed k ≡ false → is_dashed x ≡ false → HasFault (walk_fault making [] (walk_from nothing_held) (codes "--decider" ∷ n ∷ k ∷ x ∷ l))
+unfolding open_at
+behind_separate n k x l c d e = later making (walk_from nothing_held) (open_at 1 nothing_held) (codes "--decider") (n ∷ k ∷ x ∷ l) refl
+    (later making (open_at 1 nothing_held) _ n (k ∷ x ∷ l) (closed 1 nothing_held n c) (behind_number _ k (x ∷ l) d (λ after. past_number after x l e)))
+
+-- ---- what `make` asks for
+
+or_none : {X : Type 0} (o : Option X) → option_or o None ≡ o
+or_none None = refl
+or_none (Some x) = refl
+
+no_option : (number : Option ℕ) → command_with_number number None ≡ None
+no_option None = refl
+no_option (Some n) = refl
+
+plain_kind : (k : Text) → is_dashed k ≡ false → kind_chosen k ≡ None
+plain_kind k d = rw (plain_apart k (drop 1 (codes "--decider=plain")) d, plain_apart k (drop 1 (codes "--decider=graph")) d, plain_apart k (drop 1 (codes "--decider=memo")) d) refl
+
+plain_option : (k : Text) (rest : List Text) → is_dashed k ≡ false → option_named (k ∷ rest) ≡ None
+plain_option k [] d = ap (option_map (λ kind. Some kind)) (plain_kind k d)
+plain_option k (x ∷ []) d = rw (plain_apart k (drop 1 (codes "--decider")) d) refl
+plain_option k (x ∷ y ∷ l) d = refl
+
+plain_last : (k : Text) (rest : List Text) → is_dashed k ≡ false → number_last (k ∷ rest) ≡ None
+plain_last k [] d = refl
+plain_last k (x ∷ []) d = ap (command_with_number (number_named x)) (plain_option k [] d) ∙ no_option (number_named x)
+plain_last k (x ∷ y ∷ []) d = ap (command_with_number (number_named y)) (plain_option k (x ∷ []) d) ∙ no_option (number_named y)
+plain_last k (x ∷ y ∷ z ∷ l) d = refl
+
+-- where the number stands first, what stands behind it counts alone
+asked_first : (k : Text) (rest : List Text) → is_dashed k ≡ false → command_of (codes "make" ∷ k ∷ rest) ≡ command_with_number (number_named k) (option_named rest)
+asked_first k rest d = ap (option_or (command_with_number (number_named k) (option_named rest))) (plain_last k rest d) ∙ or_none (command_with_number (number_named k) (option_named rest))
+
+asked_none : (k : Text) (rest : List Text) → is_dashed k ≡ false → option_named rest ≡ None → command_of (codes "make" ∷ k ∷ rest) ≡ None
+asked_none k rest d e = asked_first k rest d ∙ ap (command_with_number (number_named k)) e ∙ no_option (number_named k)
+
+-- ---- what clap makes of the words behind `make`
+
+make_alone : Verdict (codes "make" ∷ [])
+unfolding clap_on_literals
+make_alone = takes refl refl
+
+make_number : (k : Text) → is_dashed k ≡ false → Verdict (codes "make" ∷ k ∷ [])
+unfolding clap_on_literals
+make_number k d =
+    let found : command_found (subcommand_of program (codes "make" ∷ k ∷ [])) ≡ command_with_number (number_named k) (option_named []) = rw (plain_apart k (45 ∷ []) d, plain_long k d, plain_short k d) refl in
+    takes (rw (plain_apart k (45 ∷ []) d, plain_long k d, plain_short k d) refl) (found ∙ sym (asked_first k [] d))
+
+make_joined : (v : Text) → Verdict (codes "make" ∷ (codes "--decider=" ++ v) ∷ [])
+unfolding clap_on_literals
+make_joined v = takes refl refl
+
+make_waits : Verdict (codes "make" ∷ codes "--decider" ∷ [])
+unfolding clap_on_literals
+make_waits = refuses (λ e. cc e) refl
+
+make_separate : (k : Text) → is_dashed k ≡ false → Verdict (codes "make" ∷ codes "--decider" ∷ k ∷ [])
+unfolding clap_on_literals
+make_separate k d =
+    let found : command_found (subcommand_of program (codes "make" ∷ codes "--decider" ∷ k ∷ [])) ≡ command_with_number None (option_named (codes "--decider" ∷ k ∷ [])) = rw (plain_apart k (45 ∷ []) d, plain_long k d, plain_short k d) refl in
+    takes (rw (plain_apart k (45 ∷ []) d, plain_long k d, plain_short k d) refl) (found ∙ sym (no_option (number_named k)))
+
+number_joined : (k v : Text) → is_dashed k ≡ false → Verdict (codes "make" ∷ k ∷ (codes "--decider=" ++ v) ∷ [])
+unfolding clap_on_literals
+number_joined k v d =
+    let found : command_found (subcommand_of program (codes "make" ∷ k ∷ (codes "--decider=" ++ v) ∷ [])) ≡ command_with_number (number_named k) (option_named ((codes "--decider=" ++ v) ∷ [])) = rw (plain_apart k (45 ∷ []) d, plain_long k d, plain_short k d) refl in
+    takes (rw (plain_apart k (45 ∷ []) d, plain_long k d, plain_short k d) refl) (found ∙ sym (asked_first k ((codes "--decider=" ++ v) ∷ []) d))
+
+number_waits : (k : Text) → is_dashed k ≡ false → Verdict (codes "make" ∷ k ∷ codes "--decider" ∷ [])
+unfolding clap_on_literals
+number_waits k d = refuses (rw (plain_apart k (45 ∷ []) d, plain_long k d, plain_short k d) (λ e. cc e)) (asked_none k (codes "--decider" ∷ []) d refl)
+
+number_separate : (n k : Text) → is_dashed n ≡ false → is_dashed k ≡ false → Verdict (codes "make" ∷ n ∷ codes "--decider" ∷ k ∷ [])
+unfolding clap_on_literals
+number_separate n k c d =
+    let found : command_found (subcommand_of program (codes "make" ∷ n ∷ codes "--decider" ∷ k ∷ [])) ≡ command_with_number (number_named n) (option_named (codes "--decider" ∷ k ∷ [])) = rw (plain_apart n (45 ∷ []) c, plain_long n c, plain_short n c, plain_apart k (45 ∷ []) d, plain_long k d, plain_short k d) refl in
+    takes (rw (plain_apart n (45 ∷ []) c, plain_long n c, plain_short n c, plain_apart k (45 ∷ []) d, plain_long k d, plain_short k d) refl) (found ∙ sym (asked_first n (codes "--decider" ∷ k ∷ []) c))
+
+joined_number : (v k : Text) → is_dashed k ≡ false → Verdict (codes "make" ∷ (codes "--decider=" ++ v) ∷ k ∷ [])
+unfolding clap_on_literals
+joined_number v k d = takes (rw (plain_apart k (45 ∷ []) d, plain_long k d, plain_short k d) refl) (rw (plain_apart k (45 ∷ []) d, plain_long k d, plain_short k d) refl)
+
+separate_number : (k n : Text) → is_dashed k ≡ false → is_dashed n ≡ false → Verdict (codes "make" ∷ codes "--decider" ∷ k ∷ n ∷ [])
+unfolding clap_on_literals
+separate_number k n d c = takes (rw (plain_apart k (45 ∷ []) d, plain_long k d, plain_short k d, plain_apart n (45 ∷ []) c, plain_long n c, plain_short n c) refl)
+    (rw (plain_apart k (45 ∷ []) d, plain_long k d, plain_short k d, plain_apart n (45 ∷ []) c, plain_long n c, plain_short n c) refl)
+
+-- the number first, then the option
+number_option : (k o : Text) (more : List Text) → is_dashed k ≡ false → (o ≡ codes "--decider") ⊎ ((v : List ℕ) × (o ≡ codes "--decider=" ++ v)) → are_expected true more ≡ true → Verdict (codes "make" ∷ k ∷ o ∷ more)
+number_option k o more d (inl e) h = subst (λ (x : Text). Verdict (codes "make" ∷ k ∷ x ∷ more)) (sym e) (go more h)
+  where
+    go : (l : List Text) → are_expected true l ≡ true → Verdict (codes "make" ∷ k ∷ codes "--decider" ∷ l)
+    go [] h = number_waits k d
+    go (n ∷ []) h = number_separate k n d (once n [] h).0
+    go (n ∷ x ∷ l) h =
+        let first = once n (x ∷ l) h in
+        let second = once x l first.1 in
+        refuses (make_fails (k ∷ codes "--decider" ∷ n ∷ x ∷ l) (behind_number nothing_held k (codes "--decider" ∷ n ∷ x ∷ l) d (λ after. past_separate after n x l first.0 second.0))) (asked_none k (codes "--decider" ∷ n ∷ x ∷ l) d refl)
+number_option k o more d (inr (v, e)) h = subst (λ (x : Text). Verdict (codes "make" ∷ k ∷ x ∷ more)) (sym e) (go more h)
+  where
+    none : (x : Text) (l : List Text) → option_named ((codes "--decider=" ++ v) ∷ x ∷ l) ≡ None
+    none x [] = refl
+    none x (y ∷ l) = refl
+
+    go : (l : List Text) → are_expected true l ≡ true → Verdict (codes "make" ∷ k ∷ (codes "--decider=" ++ v) ∷ l)
+    go [] h = number_joined k v d
+    go (x ∷ l) h = refuses (make_fails (k ∷ (codes "--decider=" ++ v) ∷ x ∷ l) (behind_number nothing_held k ((codes "--decider=" ++ v) ∷ x ∷ l) d (λ after. past_joined after v x l (once x l h).0))) (asked_none k ((codes "--decider=" ++ v) ∷ x ∷ l) d (none x l))
+
+-- the option first
+make_option : (o : Text) (more : List Text) → (o ≡ codes "--decider") ⊎ ((v : List ℕ) × (o ≡ codes "--decider=" ++ v)) → are_expected true more ≡ true → Verdict (codes "make" ∷ o ∷ more)
+make_option o more (inl e) h = subst (λ (x : Text). Verdict (codes "make" ∷ x ∷ more)) (sym e) (go more h)
+  where
+    go : (l : List Text) → are_expected true l ≡ true → Verdict (codes "make" ∷ codes "--decider" ∷ l)
+    go [] h = make_waits
+    go (k ∷ []) h = make_separate k (once k [] h).0
+    go (k ∷ n ∷ []) h = let first = once k (n ∷ []) h in separate_number k n first.0 (once n [] first.1).0
+    go (k ∷ n ∷ x ∷ l) h =
+        let first = once k (n ∷ x ∷ l) h in
+        let second = once n (x ∷ l) first.1 in
+        let third = once x l second.1 in
+        refuses (make_fails (codes "--decider" ∷ k ∷ n ∷ x ∷ l) (behind_separate k n x l first.0 second.0 third.0)) refl
+make_option o more (inr (v, e)) h = subst (λ (x : Text). Verdict (codes "make" ∷ x ∷ more)) (sym e) (go more h)
+  where
+    none : (k x : Text) (l : List Text) → command_of (codes "make" ∷ (codes "--decider=" ++ v) ∷ k ∷ x ∷ l) ≡ None
+    none k x [] = no_option (number_named x)
+    none k x (y ∷ l) = refl
+
+    go : (l : List Text) → are_expected true l ≡ true → Verdict (codes "make" ∷ (codes "--decider=" ++ v) ∷ l)
+    go [] h = make_joined v
+    go (k ∷ []) h = joined_number v k (once k [] h).0
+    go (k ∷ x ∷ l) h =
+        let first = once k (x ∷ l) h in
+        let second = once x l first.1 in
+        refuses (make_fails ((codes "--decider=" ++ v) ∷ k ∷ x ∷ l) (behind_joined v k x l first.0 second.0)) (none k x l)
+
+-- a second word that starts with no hyphen
+make_stray : (k x : Text) (l : List Text) → is_dashed k ≡ false → is_dashed x ≡ false → Verdict (codes "make" ∷ k ∷ x ∷ l)
+make_stray k x l d e = refuses (make_fails (k ∷ x ∷ l) (behind_number nothing_held k (x ∷ l) d (λ after. past_number after x l e))) (asked_none k (x ∷ l) d (plain_option x l e))
+
+make_behind : (k : Text) (rest : List Text) → is_dashed k ≡ false → are_expected false rest ≡ true → Verdict (codes "make" ∷ k ∷ rest)
+make_behind k [] d h = make_number k d
+make_behind k (o ∷ more) d h = go (is_dashed o) refl
+  where
+    go : (b : Bool) → is_dashed o ≡ b → Verdict (codes "make" ∷ k ∷ o ∷ more)
+    go true e = let next = dashed_next false o more e h in number_option k o more d (option_split o next.1) next.2
+    go false e = make_stray k o more d e
+
+make_verdict : (rest : List Text) → are_expected false rest ≡ true → Verdict (codes "make" ∷ rest)
+make_verdict [] h = make_alone
+make_verdict (o ∷ more) h = go (is_dashed o) refl
+  where
+    go : (b : Bool) → is_dashed o ≡ b → Verdict (codes "make" ∷ o ∷ more)
+    go true d = let next = dashed_next false o more d h in make_option o more (option_split o next.1) next.2
+    go false d = make_behind o more d (plain_next false o more d h)
+
+-- ---- `check` and `reread`
+
 check_verdict : (rest : List Text) → are_expected false rest ≡ true → Verdict (codes "check" ∷ rest)
 unfolding clap_on_literals
 check_verdict [] h = takes refl refl
 check_verdict (o ∷ more) h =
-    refuses (leaf_fails (codes "check") (slice_index_or subs 1 top) (fault_is (codes "check") (slice_index_or subs 1 top) refl refl refl) refl o more h) (none more)
-  where
-    none : (l : List Text) → command_of (codes "check" ∷ o ∷ l) ≡ None
-    none [] = refl
-    none (k ∷ []) = refl
-    none (k ∷ x ∷ l) = refl
+    refuses (leaf_fails (codes "check") (slice_index_or subs 2 top) (fault_is (codes "check") (slice_index_or subs 2 top) refl refl refl) refl o more h) refl
 
 reread_verdict : (rest : List Text) → are_expected false rest ≡ true → Verdict (codes "reread" ∷ rest)
 unfolding clap_on_literals
 reread_verdict [] h = takes refl refl
 reread_verdict (o ∷ more) h =
-    refuses (leaf_fails (codes "reread") (slice_index_or subs 2 top) (fault_is (codes "reread") (slice_index_or subs 2 top) refl refl refl) refl o more h) (none more)
-  where
-    none : (l : List Text) → command_of (codes "reread" ∷ o ∷ l) ≡ None
-    none [] = refl
-    none (k ∷ []) = refl
-    none (k ∷ x ∷ l) = refl
+    refuses (leaf_fails (codes "reread") (slice_index_or subs 3 top) (fault_is (codes "reread") (slice_index_or subs 3 top) refl refl refl) refl o more h) refl
 
 -- what clap makes of words that it is asked about
 pub verdict : (ws : List Text) → are_expected false ws ≡ true → Verdict ws
 verdict [] h = refuses nothing_fails refl
-verdict (w ∷ ws) h = go (bytes_eq w (codes "run")) (bytes_eq w (codes "check")) (bytes_eq w (codes "reread")) refl refl refl
+verdict (w ∷ ws) h = go (bytes_eq w (codes "run")) (bytes_eq w (codes "make")) (bytes_eq w (codes "check")) (bytes_eq w (codes "reread")) refl refl refl refl
   where
     named : (n : Text) → bytes_eq w n ≡ true → Verdict (n ∷ ws) → Verdict (w ∷ ws)
     named n e v = subst (λ (x : Text). Verdict (x ∷ ws)) (sym ((bytes_eq-Decides w n).0 e)) v
 
-    none : (l : List Text) → bytes_eq w (codes "run") ≡ false → bytes_eq w (codes "check") ≡ false → bytes_eq w (codes "reread") ≡ false → command_of (w ∷ l) ≡ None
-    none [] r c a = rw (r, c, a) refl
-    none (o ∷ []) r c a = rw r refl
-    none (o ∷ k ∷ []) r c a = rw r refl
-    none (o ∷ k ∷ x ∷ l) r c a = refl
-
     behind : (n : Text) → bytes_eq w n ≡ true → is_dashed n ≡ false → are_expected false ws ≡ true
     behind n e d = plain_next false w ws (ap is_dashed ((bytes_eq-Decides w n).0 e) ∙ d) h
 
-    go : (r c a : Bool) → bytes_eq w (codes "run") ≡ r → bytes_eq w (codes "check") ≡ c → bytes_eq w (codes "reread") ≡ a → Verdict (w ∷ ws)
-    go true c a e f g = named (codes "run") e (run_verdict ws (behind (codes "run") e refl))
-    go false true a e f g = named (codes "check") f (check_verdict ws (behind (codes "check") f refl))
-    go false false true e f g = named (codes "reread") g (reread_verdict ws (behind (codes "reread") g refl))
-    go false false false e f g =
-        let unmet : subcommand_met names idle w ≡ None = rw (turned (codes "run") w, turned (codes "check") w, turned (codes "reread") w, e, f, g) refl in
-        refuses (other_fails w ws unmet h) (none ws e f g)
+    go : (r m c a : Bool) → bytes_eq w (codes "run") ≡ r → bytes_eq w (codes "make") ≡ m → bytes_eq w (codes "check") ≡ c → bytes_eq w (codes "reread") ≡ a → Verdict (w ∷ ws)
+    go true m c a e f g i = named (codes "run") e (run_verdict ws (behind (codes "run") e refl))
+    go false true c a e f g i = named (codes "make") f (make_verdict ws (behind (codes "make") f refl))
+    go false false true a e f g i = named (codes "check") g (check_verdict ws (behind (codes "check") g refl))
+    go false false false true e f g i = named (codes "reread") i (reread_verdict ws (behind (codes "reread") i refl))
+    go false false false false e f g i =
+        let unmet : subcommand_met names idle w ≡ None = rw (turned (codes "run") w, turned (codes "make") w, turned (codes "check") w, turned (codes "reread") w, e, f, g, i) refl in
+        let none : command_of (w ∷ ws) ≡ None = rw (e, f, g, i) refl in
+        refuses (other_fails w ws unmet h) none
 
 -- ---- words that clap isn't asked about ask for nothing
 
@@ -317,52 +516,93 @@ same x y e = (bytes_eq-Decides x y).0 e
 asked_about : (ws vs : List Text) → ws ≡ vs → are_expected false vs ≡ true → are_expected false ws ≡ false → ⊥
 asked_about ws vs e expected never = true≢false (sym expected ∙ sym (ap (are_expected false) e) ∙ never)
 
-alone : (w : Text) → are_expected false (w ∷ []) ≡ false → command_of (w ∷ []) ≡ None
-alone w h = go (bytes_eq w (codes "run")) (bytes_eq w (codes "check")) (bytes_eq w (codes "reread")) refl refl refl
+option_alone : (o : Text) → are_expected false (o ∷ []) ≡ false → option_named (o ∷ []) ≡ None
+option_alone o h = go (bytes_eq o (codes "--decider=plain")) (bytes_eq o (codes "--decider=graph")) (bytes_eq o (codes "--decider=memo")) refl refl refl
   where
-    known : (n : Text) → bytes_eq w n ≡ true → are_expected false (n ∷ []) ≡ true → ⊥
-    known n e expected = asked_about (w ∷ []) (n ∷ []) (ap (λ (x : Text). x ∷ []) (same w n e)) expected h
+    known : (n : Text) → bytes_eq o n ≡ true → are_expected false (n ∷ []) ≡ true → ⊥
+    known n e expected = asked_about (o ∷ []) (n ∷ []) (ap (λ (x : Text). x ∷ []) (same o n e)) expected h
 
-    go : (r c a : Bool) → bytes_eq w (codes "run") ≡ r → bytes_eq w (codes "check") ≡ c → bytes_eq w (codes "reread") ≡ a → command_of (w ∷ []) ≡ None
-    go true c a e f g = absurd (known (codes "run") e refl)
-    go false true a e f g = absurd (known (codes "check") f refl)
-    go false false true e f g = absurd (known (codes "reread") g refl)
-    go false false false e f g = rw (e, f, g) refl
+    go : (p g m : Bool) → bytes_eq o (codes "--decider=plain") ≡ p → bytes_eq o (codes "--decider=graph") ≡ g → bytes_eq o (codes "--decider=memo") ≡ m → option_named (o ∷ []) ≡ None
+    go true g m e f k = absurd (known (codes "--decider=plain") e refl)
+    go false true m e f k = absurd (known (codes "--decider=graph") f refl)
+    go false false true e f k = absurd (known (codes "--decider=memo") k refl)
+    go false false false e f k = rw (e, f, k) refl
 
-two : (w o : Text) → are_expected false (w ∷ o ∷ []) ≡ false → command_of (w ∷ o ∷ []) ≡ None
-two w o h = go (bytes_eq w (codes "run")) (bytes_eq o (codes "--decider=plain")) (bytes_eq o (codes "--decider=graph")) (bytes_eq o (codes "--decider=memo")) refl refl refl refl
+option_and_kind : (o k : Text) → are_expected false (o ∷ k ∷ []) ≡ false → option_named (o ∷ k ∷ []) ≡ None
+option_and_kind o k h = go (bytes_eq o (codes "--decider")) (bytes_eq k (codes "plain")) (bytes_eq k (codes "graph")) (bytes_eq k (codes "memo")) refl refl refl refl
   where
-    known : (n : Text) → bytes_eq w (codes "run") ≡ true → bytes_eq o n ≡ true → are_expected false (codes "run" ∷ n ∷ []) ≡ true → ⊥
-    known n d e expected = asked_about (w ∷ o ∷ []) (codes "run" ∷ n ∷ []) (ap₂ (λ (x y : Text). x ∷ y ∷ []) (same w (codes "run") d) (same o n e)) expected h
+    known : (n : Text) → bytes_eq o (codes "--decider") ≡ true → bytes_eq k n ≡ true → are_expected false (codes "--decider" ∷ n ∷ []) ≡ true → ⊥
+    known n d e expected = asked_about (o ∷ k ∷ []) (codes "--decider" ∷ n ∷ []) (ap₂ (λ (x y : Text). x ∷ y ∷ []) (same o (codes "--decider") d) (same k n e)) expected h
 
-    go : (r p g m : Bool) → bytes_eq w (codes "run") ≡ r → bytes_eq o (codes "--decider=plain") ≡ p → bytes_eq o (codes "--decider=graph") ≡ g → bytes_eq o (codes "--decider=memo") ≡ m → command_of (w ∷ o ∷ []) ≡ None
-    go false p g m d e f k = rw d refl
-    go true true g m d e f k = absurd (known (codes "--decider=plain") d e refl)
-    go true false true m d e f k = absurd (known (codes "--decider=graph") d f refl)
-    go true false false true d e f k = absurd (known (codes "--decider=memo") d k refl)
-    go true false false false d e f k = rw (d, e, f, k) refl
+    go : (d p g m : Bool) → bytes_eq o (codes "--decider") ≡ d → bytes_eq k (codes "plain") ≡ p → bytes_eq k (codes "graph") ≡ g → bytes_eq k (codes "memo") ≡ m → option_named (o ∷ k ∷ []) ≡ None
+    go false p g m b e f i = rw b refl
+    go true true g m b e f i = absurd (known (codes "plain") b e refl)
+    go true false true m b e f i = absurd (known (codes "graph") b f refl)
+    go true false false true b e f i = absurd (known (codes "memo") b i refl)
+    go true false false false b e f i = rw (b, e, f, i) refl
 
-three : (w o k : Text) → are_expected false (w ∷ o ∷ k ∷ []) ≡ false → command_of (w ∷ o ∷ k ∷ []) ≡ None
-three w o k h = go (bytes_eq w (codes "run")) (bytes_eq o (codes "--decider")) (bytes_eq k (codes "plain")) (bytes_eq k (codes "graph")) (bytes_eq k (codes "memo")) refl refl refl refl refl
+option_unexpected : (ws : List Text) → are_expected false ws ≡ false → option_named ws ≡ None
+option_unexpected [] h = cc h
+option_unexpected (o ∷ []) h = option_alone o h
+option_unexpected (o ∷ k ∷ []) h = option_and_kind o k h
+option_unexpected (o ∷ k ∷ x ∷ l) h = refl
+
+dashed_number : (w : Text) → is_dashed w ≡ true → number_named w ≡ None
+dashed_number [] d = refl
+dashed_number (b ∷ bs) d = let hyphen : b ≡ 45 = grind (arith, nat_tests) in rw hyphen refl
+
+-- a word that starts with no hyphen changes nothing, behind the others
+plain_behind : (seen : Bool) (ws : List Text) (n : Text) → is_dashed n ≡ false → are_expected seen (ws ++ n ∷ []) ≡ are_expected seen ws
+plain_behind seen [] n d = rw d refl
+plain_behind seen (w ∷ ws) n d = go (seen_behind seen w) (λ behind. plain_behind behind ws n d)
   where
-    known : (n : Text) → bytes_eq w (codes "run") ≡ true → bytes_eq o (codes "--decider") ≡ true → bytes_eq k n ≡ true → are_expected false (codes "run" ∷ codes "--decider" ∷ n ∷ []) ≡ true → ⊥
-    known n c d e expected =
-        asked_about (w ∷ o ∷ k ∷ []) (codes "run" ∷ codes "--decider" ∷ n ∷ []) (ap₂ (λ (x : Text) (l : List Text). x ∷ l) (same w (codes "run") c) (ap₂ (λ (x y : Text). x ∷ y ∷ []) (same o (codes "--decider") d) (same k n e))) expected h
+    go : (o : Option Bool) → ((behind : Bool) → are_expected behind (ws ++ n ∷ []) ≡ are_expected behind ws)
+        → option_map_or (λ behind. are_expected behind (ws ++ n ∷ [])) o false ≡ option_map_or (λ behind. are_expected behind ws) o false
+    go None same = refl
+    go (Some behind) same = same behind
 
-    go : (r d p g m : Bool) → bytes_eq w (codes "run") ≡ r → bytes_eq o (codes "--decider") ≡ d → bytes_eq k (codes "plain") ≡ p → bytes_eq k (codes "graph") ≡ g → bytes_eq k (codes "memo") ≡ m → command_of (w ∷ o ∷ k ∷ []) ≡ None
-    go false d p g m a b e f i = rw a refl
-    go true false p g m a b e f i = rw (a, b) refl
-    go true true true g m a b e f i = absurd (known (codes "plain") a b e refl)
-    go true true false true m a b e f i = absurd (known (codes "graph") a b f refl)
-    go true true false false true a b e f i = absurd (known (codes "memo") a b i refl)
-    go true true false false false a b e f i = rw (a, b, e, f, i) refl
+first_unexpected : (ws : List Text) → are_expected false ws ≡ false → number_first ws ≡ None
+first_unexpected [] h = refl
+first_unexpected (k ∷ rest) h = go (is_dashed k) refl
+  where
+    go : (b : Bool) → is_dashed k ≡ b → number_first (k ∷ rest) ≡ None
+    go true d = ap (λ (n : Option ℕ). command_with_number n (option_named rest)) (dashed_number k d)
+    go false d =
+        let behind : are_expected false rest ≡ false = rw d at h in
+        ap (command_with_number (number_named k)) (option_unexpected rest behind) ∙ no_option (number_named k)
+
+-- an option and then a number
+ends_unexpected : (ws : List Text) (n : Text) → are_expected false (ws ++ n ∷ []) ≡ false → command_with_number (number_named n) (option_named ws) ≡ None
+ends_unexpected ws n h = go (is_dashed n) refl
+  where
+    go : (b : Bool) → is_dashed n ≡ b → command_with_number (number_named n) (option_named ws) ≡ None
+    go true d = ap (λ (x : Option ℕ). command_with_number x (option_named ws)) (dashed_number n d)
+    go false d = ap (command_with_number (number_named n)) (option_unexpected ws (sym (plain_behind false ws n d) ∙ h)) ∙ no_option (number_named n)
+
+last_unexpected : (ws : List Text) → are_expected false ws ≡ false → number_last ws ≡ None
+last_unexpected [] h = refl
+last_unexpected (o ∷ []) h = refl
+last_unexpected (o ∷ n ∷ []) h = ends_unexpected (o ∷ []) n h
+last_unexpected (o ∷ k ∷ n ∷ []) h = ends_unexpected (o ∷ k ∷ []) n h
+last_unexpected (o ∷ k ∷ n ∷ x ∷ l) h = refl
+
+alone_unexpected : (command : Command) (ws : List Text) → are_expected false ws ≡ false → command_alone command ws ≡ None
+alone_unexpected command [] h = cc h
+alone_unexpected command (x ∷ l) h = refl
 
 pub unexpected : (ws : List Text) → are_expected false ws ≡ false → command_of ws ≡ None
 unexpected [] h = refl
-unexpected (w ∷ []) h = alone w h
-unexpected (w ∷ o ∷ []) h = two w o h
-unexpected (w ∷ o ∷ k ∷ []) h = three w o k h
-unexpected (w ∷ o ∷ k ∷ x ∷ l) h = refl
+unexpected (w ∷ ws) h = go (bytes_eq w (codes "run")) (bytes_eq w (codes "make")) (bytes_eq w (codes "check")) (bytes_eq w (codes "reread")) refl refl refl refl
+  where
+    behind : (n : Text) → bytes_eq w n ≡ true → is_dashed n ≡ false → are_expected false ws ≡ false
+    behind n e d = let plain : is_dashed w ≡ false = ap is_dashed (same w n e) ∙ d in rw plain at h
+
+    go : (r m c a : Bool) → bytes_eq w (codes "run") ≡ r → bytes_eq w (codes "make") ≡ m → bytes_eq w (codes "check") ≡ c → bytes_eq w (codes "reread") ≡ a → command_of (w ∷ ws) ≡ None
+    go true m c a e f g i = rw e (ap (option_map (λ kind. Run kind)) (option_unexpected ws (behind (codes "run") e refl)))
+    go false true c a e f g i = let after = behind (codes "make") f refl in rw (e, f) (ap₂ option_or (first_unexpected ws after) (last_unexpected ws after))
+    go false false true a e f g i = rw (e, f, g) (alone_unexpected Check ws (behind (codes "check") g refl))
+    go false false false true e f g i = rw (e, f, g, i) (alone_unexpected Reread ws (behind (codes "reread") i refl))
+    go false false false false e f g i = rw (e, f, g, i) refl
 
 -- ---- the walk over the words that clap is asked about
 

@@ -1,14 +1,11 @@
 -- The names of a path are those of loops of the script, and none is a word of the language.
 use Rattle.std.proofs.Common.{◌≡◌, ℕ, suc, inl, inr, List, [], ◌∷◌, length, sym, subst}
 use Rattle.std.specs.List.{All}
-use Rattle.std.proofs.lemmas.Bool.{leb-true}
 use Rattle.std.proofs.lemmas.List.Elements.{All-nil, All-cons}
 use Rattle.lois_base.specs.Atom.{Atom}
 use Rattle.lois_lexer.specs.declared.TokenKind.TheVariants.{Name}
 use Rattle.lois_script.specs.Limits.{Spells}
 use Rattle.lois_script.specs.Tree.{binding, StmtD, «let», assign, add, for, if, while, assert, print, StmtsD, no_stmts, stmt, ScriptD}
-use Rattle.lois_script.proofs.Names.{word_is_name}
-use Rattle.lois_script.proofs.Numbers.{IsToken}
 use Rattle.lois_script.proofs.Printable.{StmtPrints, StmtsPrint}
 use Rattle.lois_answers.specs.ResultsData.{LineD}
 use Rattle.lois_answers.specs.Sound.{IsFreeName}
@@ -16,11 +13,8 @@ use Rattle.lois_answers.specs.declared.faults.FaultKind.{FaultKind}
 use Rattle.lois_meaning.specs.Runs.{StmtFails, ListFails, ScriptFails}
 use Rattle.lois_meaning.specs.Store.{NamedValues, AreSameNamed}
 use Rattle.lois_context.specs.Slots.{lines_at}
-use Rattle.lois_interp.proofs.FreeNames.{AreFree}
+use Rattle.lois_interp.proofs.FreeNames.{AreFree, free_name}
 use Rattle.lois_interp.proofs.Spelled.{spelled_prints}
-
-free_name : (bytes : List ℕ) → IsToken Name bytes → IsFreeName bytes
-free_name bytes t = record { form = word_is_name bytes t.form.0 (leb-true (length bytes) 64 t.limits); free = t.form.1 }
 
 none_free : (path : NamedValues) → path ≡ [] → AreFree path
 none_free path e = subst AreFree (sym e) tt

@@ -29,10 +29,10 @@ use Rattle.lois_run.specs.Read.{SpellsNone}
 use Rattle.lois_run.specs.Places.{IsPlaceOf}
 use Rattle.lois_run.specs.Refusals.{token_place, IsLexical, LexicalTells, IsSyntax, SyntaxTells, IsScope, ScopeTells, IsRefusedAs, IsNoAnswer, IsNoAnswerAt}
 use Rattle.lois_run.specs.declared.outcomes.Outcome.{Outcome}
-use Rattle.lois_run.specs.declared.outcomes.Outcome.TheVariants.{Completed, Failed, Reread as WrittenAgain, Checked, Refused, ReadFault, Usage}
+use Rattle.lois_run.specs.declared.outcomes.Outcome.TheVariants.{Completed, Failed, Reread as WrittenAgain, Checked, Made as WasMade, Refused, ReadFault, Usage}
 use Rattle.lois_run.specs.declared.outcomes.Refusal.{Refusal}
 use Rattle.lois_run.specs.declared.outcomes.Refusal.TheVariants.{TooLong, Lexical, Syntax, Scope, NotResults, NotBuilt}
-use Rattle.lois_run.specs.declared.words.Command.TheVariants.{Run, Check, Reread}
+use Rattle.lois_run.specs.declared.words.Command.TheVariants.{Run, Check, Reread, Make}
 
 -- ---- one number, one place
 
@@ -202,6 +202,7 @@ module _ (text : List ℕ) where
   surely_run kind r (Refused q) a is b = ap Refused (same_refusal r q a (run_refusal kind q is b))
   surely_run kind r (WrittenAgain answer) a is b = absurd b
   surely_run kind r (Checked script) a is b = absurd b
+  surely_run kind r (WasMade counts) a is b = absurd is
   surely_run kind r ReadFault a is b = absurd is
   surely_run kind r Usage a is b = absurd is
 
@@ -211,6 +212,7 @@ module _ (text : List ℕ) where
   surely_checked r (WrittenAgain answer) a built is b = absurd b
   surely_checked r (Completed results) a built is b = absurd b
   surely_checked r (Failed t) a built is b = absurd b
+  surely_checked r (WasMade counts) a built is b = absurd is
   surely_checked r ReadFault a built is b = absurd is
   surely_checked r Usage a built is b = absurd is
 
@@ -222,11 +224,13 @@ module _ (text : List ℕ) where
   surely_reread p (Checked script) a is b = absurd b
   surely_reread p (Completed results) a is b = absurd b
   surely_reread p (Failed t) a is b = absurd b
+  surely_reread p (WasMade counts) a is b = absurd is
   surely_reread p ReadFault a is b = absurd is
   surely_reread p Usage a is b = absurd is
 
 pub refusals_are_sure : RefusalsAreSure
 refusals_are_sure (Run kind) text r o of_text refused is cause = surely_run text kind r o (run_refusal text kind r of_text refused) is cause
+refusals_are_sure (Make n kind) text r o of_text refused is cause = absurd refused
 refusals_are_sure Check text r o of_text refused is cause =
     let why = check_refusal text r of_text refused in
     surely_checked text r o why.0 why.1 is cause

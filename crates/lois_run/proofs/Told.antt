@@ -1,7 +1,7 @@
 -- The outcome of a call, by what became of the reading.
-use Rattle.std.proofs.Common.{◌≡◌, ℕ, ◌+◌, ◌≤◌, List, [], ◌++◌, length, refl, sym, ap, ◌∙◌, subst, ◌⊎◌, inl, inr, ◌↔◌, Option, Some, None, true≢false, arith, length-append, append-nil}
+use Rattle.std.proofs.Common.{◌≡◌, ℕ, ◌+◌, ◌≤◌, List, [], ◌++◌, length, refl, sym, ap, ◌∙◌, subst, ◌⊎◌, inl, inr, ◌↔◌, ◌&&◌, Bool, true, false, Option, Some, None, true≢false, arith, length-append, append-nil}
 use Rattle.std.specs.List.{All}
-use Rattle.std.specs.Prelude.{IfSome, IsSome, IsNone, IsTrue, IfOk, IfErr, Result, Ok, Err}
+use Rattle.std.specs.Prelude.{is_none, IfSome, IsSome, IsNone, IsTrue, IfOk, IfErr, Result, Ok, Err}
 use Rattle.std.proofs.lemmas.Bool.{false≢true}
 use Rattle.lois_base.specs.declared.deciding.Kind.{Kind}
 use Rattle.lois_base.specs.declared.memory.NoMemory.{NoMemory}
@@ -10,15 +10,17 @@ use Rattle.lois_outside.specs.Calls.{Reads, no_take, one_more_take}
 use Rattle.lois_outside.specs.Faults.{Rose}
 use Rattle.lois_outside.specs.Reading.{TookAtMost, TookExactly, ReadsToEnd, GivesUp}
 use Rattle.lois_outside.specs.declared.reading.ReadError.TheVariants as unread
-use Rattle.lois_run.specs.Causes.{Takes, Serves, HasRead, HasTaken, HasCause, Promises, IsOutcomeOf, GaveAtMost, IsOfText, AnswersText}
+use Rattle.lois_run.specs.Causes.{Takes, Serves, HasRead, HasTaken, HasCause, IsMadeBy, ReadsText, Promises, IsOutcomeOf, GaveAtMost, IsOfText, AnswersText}
+use Rattle.lois_run.specs.Outcomes.{made_counts}
+use Rattle.lois_run.specs.declared.outcomes.Made.{Made}
 use Rattle.lois_base.specs.declared.limits.TheConstants.{LONGEST_TEXT}
 use Rattle.lois_deciders.specs.Choice.{IsUnwanted}
 use Rattle.lois_run.specs.Words.{Asks, Lacks, IsUsage, runs_script, wanted_kind}
 use Rattle.lois_run.specs.declared.outcomes.Outcome.{Outcome}
-use Rattle.lois_run.specs.declared.outcomes.Outcome.TheVariants.{Completed, Failed, Reread as WrittenAgain, Checked, Refused, ReadFault, Usage}
+use Rattle.lois_run.specs.declared.outcomes.Outcome.TheVariants.{Completed, Failed, Reread as WrittenAgain, Checked, Made as WasMade, Refused, ReadFault, Usage}
 use Rattle.lois_run.specs.declared.outcomes.Refusal.TheVariants.{TooLong, Lexical, Syntax, Scope, NotResults, NotBuilt}
 use Rattle.lois_run.specs.declared.words.Command.{Command}
-use Rattle.lois_run.specs.declared.words.Command.TheVariants.{Run, Check, Reread}
+use Rattle.lois_run.specs.declared.words.Command.TheVariants.{Run, Check, Reread, Make}
 
 refused_is_not_usage : Refused TooLong ≡ Usage → ⊥
 refused_is_not_usage e = cc e
@@ -29,6 +31,12 @@ fault_is_not_usage e = cc e
 refused_is_not_fault : Refused TooLong ≡ ReadFault → ⊥
 refused_is_not_fault e = cc e
 
+made_is_not_usage : (counts : Made) → WasMade counts ≡ Usage → ⊥
+made_is_not_usage counts e = cc e
+
+made_is_not_fault : (counts : Made) → WasMade counts ≡ ReadFault → ⊥
+made_is_not_fault counts e = cc e
+
 usage_is_not_fault : Usage ≡ ReadFault → ⊥
 usage_is_not_fault e = cc e
 
@@ -38,16 +46,36 @@ one_command c d words a b = some_is (sym a ∙ b)
     some_is : Some c ≡ Some d → c ≡ d
     some_is e = cc e
 
+-- what doesn't lack its decider
+pub has_its_decider : {X : Type 0} (runs : Bool) (chosen : Option X) → (runs && is_none chosen) ≡ false → IsTrue runs → IsSome chosen
+has_its_decider true None e h = cc e
+has_its_decider true (Some x) e h = refl
+has_its_decider false chosen e h = absurd (false≢true h)
+
+pub lacks_its_decider : {X : Type 0} (runs : Bool) (chosen : Option X) → (runs && is_none chosen) ≡ true → IsTrue runs × IsNone chosen
+lacks_its_decider true None e = (refl, refl)
+lacks_its_decider true (Some x) e = cc e
+lacks_its_decider false chosen e = cc e
+
+-- a command that isn't `make`
+pub reads_text : (c : Command) → ((n : ℕ) (kind : Option Kind) → c ≡ Make n kind → ⊥) → ReadsText c
+reads_text (Run kind) none = tt
+reads_text Check none = tt
+reads_text Reread none = tt
+reads_text (Make n kind) none = none n kind refl
+
 -- ---- the decider of a command
 
 module _ {X : Type 0} (kinds : List Kind) (command : Command) (chosen : Option X) (choice : IsNone chosen ↔ All (IsUnwanted (wanted_kind command)) kinds) where
   has_none : (c : Command) → (IsNone chosen → All (IsUnwanted (wanted_kind c)) kinds) → IsTrue (runs_script c) → IsNone chosen → Lacks c kinds
   has_none (Run kind) unwanted runs none = unwanted none
+  has_none (Make n kind) unwanted runs none = unwanted none
   has_none Check unwanted runs none = absurd (false≢true runs)
   has_none Reread unwanted runs none = absurd (false≢true runs)
 
   has_one : (c : Command) → (All (IsUnwanted (wanted_kind c)) kinds → IsNone chosen) → (IsTrue (runs_script c) → IsSome chosen) → Lacks c kinds → ⊥
   has_one (Run kind) none some lacks = true≢false (sym (some refl) ∙ none lacks)
+  has_one (Make n kind) none some lacks = true≢false (sym (some refl) ∙ none lacks)
   has_one Check none some lacks = lacks
   has_one Reread none some lacks = lacks
 
@@ -77,12 +105,15 @@ module _ {S : Type 0} (words : List (List ℕ)) (kinds : List Kind) (left : S �
     read = same;
     taken = ap left same;
     cause = λ c asks. usage_cause c before;
+    made = λ n kind asks served. absurd (served lacking);
     promise = λ c asks served. absurd (served lacking);
   }
     where
       usage_cause : (c : Command) (at : Option (List ℕ)) → IfSome at (λ text. HasCause c text Usage)
       usage_cause (Run kind) None = tt
       usage_cause (Run kind) (Some text) = tt
+      usage_cause (Make n kind) None = tt
+      usage_cause (Make n kind) (Some text) = tt
       usage_cause Check None = tt
       usage_cause Check (Some text) = tt
       usage_cause Reread None = tt
@@ -95,58 +126,87 @@ module _ {S : Type 0} (words : List (List ℕ)) (kinds : List Kind) (left : S �
     for_command : (P : Command → Type 0) → P command → (c : Command) → Asks c words → P c
     for_command P p c a = subst P (one_command command c words asks a) p
 
-    fault_promise : Rose faults_before faults_after → (c : Command) (text : List ℕ) → Promises c text (Rose faults_before faults_after) ReadFault
-    fault_promise rose (Run kind) text = record { runs = λ s h. inr (refl, rose); completes = λ s h fine. inr (refl, rose); fails = λ s h some. inr (refl, rose); right = λ s h. tt }
-    fault_promise rose Check text = λ l s h w. inr (refl, rose)
-    fault_promise rose Reread text = λ l answer h. inr (refl, rose)
-
-    fault_cause : (c : Command) (text : List ℕ) → HasCause c text ReadFault
-    fault_cause (Run kind) text = tt
-    fault_cause Check text = tt
-    fault_cause Reread text = tt
-
     known : (P : List ℕ → Type 0) → ((text : List ℕ) → P text) → (at : Option (List ℕ)) → IfSome at P
     known P p None = tt
     known P p (Some text) = p text
 
-    pub fault_is_told : GivesUp takes LONGEST_TEXT from unread.ReadFault to → TookAtMost LONGEST_TEXT before after → Rose faults_before faults_after → IsOutcomeOf words kinds left faults takes from to ReadFault
-    fault_is_told calls took rose = record {
+    -- `make` that has its decider
+    pub made_is_told : (n : ℕ) (kind : Option Kind) → command ≡ Make n kind → from ≡ to → IsOutcomeOf words kinds left faults takes from to (WasMade (made_counts n))
+    made_is_told n kind is same = record {
+      usage = (λ e. absurd (made_is_not_usage (made_counts n) e), λ lacking. absurd (no_usage lacking));
+      read_fault = λ e. absurd (made_is_not_fault (made_counts n) e);
+      read = (same, λ c a. for_command (λ d. IsMadeBy d (made_counts n)) counts c a);
+      taken = ap left same;
+      cause = λ c a. known (λ text. HasCause c text (WasMade (made_counts n))) (λ text. for_command (λ d. HasCause d text (WasMade (made_counts n))) (subst (λ d. HasCause d text (WasMade (made_counts n))) (sym is) refl) c a) before;
+      made = λ m k a served. ap (λ j. WasMade (made_counts j)) (number_of (sym is ∙ one_command command (Make m k) words asks a));
+      promise = λ c a served. known (λ text. Promises c text (Rose faults_before faults_after) (WasMade (made_counts n)))
+          (λ text. for_command (λ d. Promises d text (Rose faults_before faults_after) (WasMade (made_counts n))) (subst (λ d. Promises d text (Rose faults_before faults_after) (WasMade (made_counts n))) (sym is) refl) c a) before;
+    }
+      where
+        counts : IsMadeBy command (made_counts n)
+        counts = subst (λ d. IsMadeBy d (made_counts n)) (sym is) refl
+
+        number_of : {m : ℕ} {k : Option Kind} → Make n kind ≡ Make m k → n ≡ m
+        number_of e = cc e
+
+    -- what reads a text isn't `make`
+    no_make : {P : Type 0} (n : ℕ) (kind : Option Kind) → ReadsText command → Asks (Make n kind) words → P
+    no_make n kind reads a = absurd (subst ReadsText (one_command command (Make n kind) words asks a) reads)
+
+    fault_promise : Rose faults_before faults_after → (c : Command) → ReadsText c → (text : List ℕ) → Promises c text (Rose faults_before faults_after) ReadFault
+    fault_promise rose (Run kind) reads text = record { runs = λ s h. inr (refl, rose); completes = λ s h fine. inr (refl, rose); fails = λ s h some. inr (refl, rose); right = λ s h. tt }
+    fault_promise rose (Make n kind) reads text = absurd reads
+    fault_promise rose Check reads text = λ l s h w. inr (refl, rose)
+    fault_promise rose Reread reads text = λ l answer h. inr (refl, rose)
+
+    fault_cause : (c : Command) (text : List ℕ) → HasCause c text ReadFault
+    fault_cause (Run kind) text = tt
+    fault_cause (Make n kind) text = tt
+    fault_cause Check text = tt
+    fault_cause Reread text = tt
+
+    pub fault_is_told : ReadsText command → GivesUp takes LONGEST_TEXT from unread.ReadFault to → TookAtMost LONGEST_TEXT before after → Rose faults_before faults_after → IsOutcomeOf words kinds left faults takes from to ReadFault
+    fault_is_told reads calls took rose = record {
       usage = (λ e. absurd (fault_is_not_usage e), λ lacking. absurd (no_usage lacking));
       read_fault = λ e. rose;
       read = calls;
       taken = took;
       cause = λ c a. known (λ text. HasCause c text ReadFault) (fault_cause c) before;
-      promise = λ c a served. known (λ text. Promises c text (Rose faults_before faults_after) ReadFault) (fault_promise rose c) before;
+      made = λ n kind a served. no_make n kind reads a;
+      promise = λ c a served. known (λ text. Promises c text (Rose faults_before faults_after) ReadFault) (fault_promise rose c (for_command ReadsText reads c a)) before;
     }
 
     long_text : (text : List ℕ) (at : Option (List ℕ)) → TookExactly 1048577 (Some text) at → length text ≤ LONGEST_TEXT → ⊥
     long_text text None (bytes, took, count) l = took
     long_text text (Some rest) (bytes, took, count) l = omega (arith, l, count, ap length took, length-append bytes rest)
 
-    long_cause : (c : Command) (text : List ℕ) → HasCause c text (Refused TooLong)
-    long_cause (Run kind) text = tt
-    long_cause Check text = tt
-    long_cause Reread text = tt
+    long_cause : (c : Command) → ReadsText c → (text : List ℕ) → HasCause c text (Refused TooLong)
+    long_cause (Run kind) reads text = tt
+    long_cause (Make n kind) reads text = absurd reads
+    long_cause Check reads text = tt
+    long_cause Reread reads text = tt
 
-    long_promise : (c : Command) (from : Option (List ℕ)) → TookExactly 1048577 from after → IfSome from (λ text. Promises c text (Rose faults_before faults_after) (Refused TooLong))
-    long_promise c None took = tt
-    long_promise (Run kind) (Some text) took = record {
+    long_promise : (c : Command) → ReadsText c → (from : Option (List ℕ)) → TookExactly 1048577 from after → IfSome from (λ text. Promises c text (Rose faults_before faults_after) (Refused TooLong))
+    long_promise c reads None took = tt
+    long_promise (Make n kind) reads (Some text) took = absurd reads
+    long_promise (Run kind) reads (Some text) took = record {
       runs = λ s h. absurd (long_text text after took h.fits);
       completes = λ s h fine. absurd (long_text text after took h.fits);
       fails = λ s h some. absurd (long_text text after took h.fits);
       right = λ s h. tt;
     }
-    long_promise Check (Some text) took = λ l s h w. absurd (long_text text after took l)
-    long_promise Reread (Some text) took = λ l answer h. absurd (long_text text after took l)
+    long_promise Check reads (Some text) took = λ l s h w. absurd (long_text text after took l)
+    long_promise Reread reads (Some text) took = λ l answer h. absurd (long_text text after took l)
 
-    pub long_is_told : (n : ℕ) → GivesUp takes LONGEST_TEXT from (unread.TooLong n) to → (n ≡ 1048577) × TookExactly n before after → IsOutcomeOf words kinds left faults takes from to (Refused TooLong)
-    long_is_told n calls (e, some) = let took : TookExactly 1048577 before after = subst (λ k. TookExactly k before after) e some in record {
+    pub long_is_told : ReadsText command → (n : ℕ) → GivesUp takes LONGEST_TEXT from (unread.TooLong n) to → (n ≡ 1048577) × TookExactly n before after → IsOutcomeOf words kinds left faults takes from to (Refused TooLong)
+    long_is_told reads n calls (e, some) = let took : TookExactly 1048577 before after = subst (λ k. TookExactly k before after) e some in record {
       usage = (λ e. absurd (refused_is_not_usage e), λ lacking. absurd (no_usage lacking));
       read_fault = λ e. absurd (refused_is_not_fault e);
       read = calls;
       taken = took;
-      cause = λ c a. known (λ text. HasCause c text (Refused TooLong)) (long_cause c) before;
-      promise = λ c a served. long_promise c before took;
+      cause = λ c a. known (λ text. HasCause c text (Refused TooLong)) (long_cause c (for_command ReadsText reads c a)) before;
+      made = λ n kind a served. no_make n kind reads a;
+      promise = λ c a served. long_promise c (for_command ReadsText reads c a) before took;
     }
 
     text_is_not_usage : (o : Outcome) → IsOfText o → o ≡ Usage → ⊥
@@ -159,6 +219,7 @@ module _ {S : Type 0} (words : List (List ℕ)) (kinds : List Kind) (left : S �
     text_taken (Refused TooLong) h took end = absurd h
     text_taken ReadFault h took end = absurd h
     text_taken Usage h took end = absurd h
+    text_taken (WasMade counts) h took end = absurd h
     text_taken _ h took end = (took, end)
 
     all_text : (text bytes : List ℕ) (at : Option (List ℕ)) → Consumes (Some text) at bytes → IsAtEnd at → text ≡ bytes
@@ -176,6 +237,7 @@ module _ {S : Type 0} (words : List (List ℕ)) (kinds : List Kind) (left : S �
       fails = λ s g some. no_fault o (h.fails s g some);
       right = h.right;
     }
+    text_promise (Make n kind) text o h = h
     text_promise Check text o h = λ l s sp w. no_fault o (h l s sp w)
     text_promise Reread text o h = λ l answer is. no_fault o (h l answer is)
 
@@ -187,25 +249,27 @@ module _ {S : Type 0} (words : List (List ℕ)) (kinds : List Kind) (left : S �
     text_read bytes (Refused TooLong) h calls fits serves = absurd h
     text_read bytes ReadFault h calls fits serves = absurd h
     text_read bytes Usage h calls fits serves = absurd h
+    text_read bytes (WasMade counts) h calls fits serves = absurd h
     text_read bytes _ h calls fits serves = (bytes, calls, fits, serves)
 
     served : (bytes : List ℕ) (o : Outcome) → AnswersText command bytes o → Serves words bytes o
     served bytes o h c a = for_command (λ d. HasCause d bytes o × Promises d bytes ⊥ o) (h.cause, h.promise) c a
 
-    pub text_is_told : (bytes : List ℕ) (o : Outcome) → ReadsToEnd takes (LONGEST_TEXT + 1) from bytes to → Consumes before after bytes → IsAtEnd after → length bytes ≤ LONGEST_TEXT → AnswersText command bytes o → IsOutcomeOf words kinds left faults takes from to o
-    text_is_told bytes o calls took end fits h = record {
+    pub text_is_told : ReadsText command → (bytes : List ℕ) (o : Outcome) → ReadsToEnd takes (LONGEST_TEXT + 1) from bytes to → Consumes before after bytes → IsAtEnd after → length bytes ≤ LONGEST_TEXT → AnswersText command bytes o → IsOutcomeOf words kinds left faults takes from to o
+    text_is_told reads bytes o calls took end fits h = record {
       usage = (λ e. absurd (text_is_not_usage o h.kind e), λ lacking. absurd (no_usage lacking));
       read_fault = λ e. absurd (text_is_not_fault o h.kind e);
       read = text_read bytes o h.kind calls fits (served bytes o h);
       taken = text_taken o h.kind (bytes, took, fits) end;
       cause = λ c a. for_command (λ d. IfSome before (λ text. HasCause d text o)) (of_text (λ text. HasCause command text o) before bytes took end h.cause) c a;
+      made = λ n kind a served. no_make n kind reads a;
       promise = λ c a served. for_command (λ d. IfSome before (λ text. Promises d text (Rose faults_before faults_after) o))
           (of_text (λ text. Promises command text (Rose faults_before faults_after) o) before bytes took end (text_promise command bytes o h.promise)) c a;
     }
 
-    pub answered_is_told : (bytes : List ℕ) (r : Result Outcome NoMemory) → ReadsToEnd takes (LONGEST_TEXT + 1) from bytes to → Consumes before after bytes → IsAtEnd after → length bytes ≤ LONGEST_TEXT → IfOk r (AnswersText command bytes) → IfOk r (IsOutcomeOf words kinds left faults takes from to)
-    answered_is_told bytes (Ok o) calls took end fits h = text_is_told bytes o calls took end fits h
-    answered_is_told bytes (Err e) calls took end fits h = tt
+    pub answered_is_told : ReadsText command → (bytes : List ℕ) (r : Result Outcome NoMemory) → ReadsToEnd takes (LONGEST_TEXT + 1) from bytes to → Consumes before after bytes → IsAtEnd after → length bytes ≤ LONGEST_TEXT → IfOk r (AnswersText command bytes) → IfOk r (IsOutcomeOf words kinds left faults takes from to)
+    answered_is_told reads bytes (Ok o) calls took end fits h = text_is_told reads bytes o calls took end fits h
+    answered_is_told reads bytes (Err e) calls took end fits h = tt
 
 -- ---- how much was read at most
 
@@ -248,6 +312,7 @@ module _ {S : Type 0} (left : S → Option (List ℕ)) (takes : Takes S) where
   of_outcome words from to (WrittenAgain answer) read took = given from to read.0 read.1 read.2 took.0
   of_outcome words from to (Checked script) read took = given from to read.0 read.1 read.2 took.0
   of_outcome words from to ReadFault (bytes, mid, asked, calls, few, room, last) took = record { bytes = bytes; calls = inr (mid, asked, calls, last); few = omega (arith, few); taken = more LONGEST_TEXT (LONGEST_TEXT + 1) (left from) (left to) (omega arith) took }
+  of_outcome words from to (WasMade counts) (same, by) took = subst (GaveAtMost left takes (LONGEST_TEXT + 1) from) same (gave_nothing (LONGEST_TEXT + 1) from)
   of_outcome words from to Usage same took = subst (GaveAtMost left takes (LONGEST_TEXT + 1) from) same (gave_nothing (LONGEST_TEXT + 1) from)
 
   pub gave_for : {words : List (List ℕ)} {kinds : List Kind} {faults : S → ℕ} (from to : S) (o : Outcome) → IsOutcomeOf words kinds left faults takes from to o → GaveAtMost left takes (LONGEST_TEXT + 1) from to

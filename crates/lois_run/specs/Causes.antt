@@ -16,15 +16,16 @@ use Rattle.lois_reader.specs.Refusal.{IsAnswerOf}
 use Rattle.lois_run.specs.BuiltForms.{IsBuilt}
 use Rattle.lois_base.specs.declared.limits.TheConstants.{LONGEST_TEXT}
 use Rattle.lois_run.specs.Headline.{Headline, Completes, NamesFailure}
-use Rattle.lois_run.specs.Outcomes.{status_of, outcome_text}
+use Rattle.lois_run.specs.Outcomes.{status_of, outcome_text, made_counts}
 use Rattle.lois_run.specs.Refusals.{IsRefusedAs, IsNoAnswer}
 use Rattle.lois_run.specs.Words.{Asks, IsUsage}
+use Rattle.lois_run.specs.declared.outcomes.Made.{Made}
 use Rattle.lois_run.specs.declared.outcomes.Outcome.{Outcome}
-use Rattle.lois_run.specs.declared.outcomes.Outcome.TheVariants.{Completed, Failed, Reread, Checked, Refused, ReadFault, Usage}
+use Rattle.lois_run.specs.declared.outcomes.Outcome.TheVariants.{Completed, Failed, Reread, Checked, Made as WasMade, Refused, ReadFault, Usage}
 use Rattle.lois_run.specs.declared.outcomes.Refusal.{Refusal}
 use Rattle.lois_run.specs.declared.outcomes.Refusal.TheVariants.{TooLong, NotResults, NotBuilt}
 use Rattle.lois_run.specs.declared.words.Command.{Command}
-use Rattle.lois_run.specs.declared.words.Command.TheVariants.{Run, Check}
+use Rattle.lois_run.specs.declared.words.Command.TheVariants.{Run, Check, Make}
 use Rattle.lois_run.specs.declared.words.Command.TheVariants as commands
 
 -- the input was taken to its end, and is no longer than a script may be
@@ -36,16 +37,28 @@ abbrev pub HasTaken : Option (List ℕ) → Option (List ℕ) → Outcome → Ty
 HasTaken before after (Refused TooLong) = TookExactly 1048577 before after
 HasTaken before after ReadFault = TookAtMost LONGEST_TEXT before after
 HasTaken before after Usage = before ≡ after
+HasTaken before after (WasMade counts) = before ≡ after
 HasTaken before after _ = TookAll before after
 
--- How much was taken is said elsewhere. `check` refuses no script for its forms, `reread` only what is no answer, and only
--- `reread` does.
+-- How much was taken is said elsewhere. `make` refuses nothing, `check` no script for its forms, `reread` only what is no answer,
+-- and only `reread` does.
 abbrev pub IsRefusedBy : Command → List ℕ → Refusal → Type 0
+IsRefusedBy (Make n kind) text refusal = ⊥
 IsRefusedBy command text TooLong = Unit {0}
 IsRefusedBy commands.Reread text (NotResults place) = IsNoAnswer text place
 IsRefusedBy commands.Reread text _ = ⊥
 IsRefusedBy Check text NotBuilt = ⊥
 IsRefusedBy command text refusal = IsRefusedAs text refusal
+
+-- the command is about the text of the source; `make` has a text of its own
+abbrev pub ReadsText : Command → Type 0
+ReadsText (Make n kind) = ⊥
+ReadsText _ = Unit {0}
+
+-- the counts are those of as many loops as `make` was asked for
+abbrev pub IsMadeBy : Command → Made → Type 0
+IsMadeBy (Make n kind) counts = counts ≡ made_counts n
+IsMadeBy _ counts = ⊥
 
 -- Why the outcome comes, of the text that was to be read. A text that is no well-scoped script never completes, and never fails. Read
 -- faults, usage and texts that are too long have their causes elsewhere: in the calls of the source, and in the words.
@@ -54,6 +67,7 @@ HasCause (Run kind) text (Completed r) = (s : ScriptD) × Spells text s × IsWel
 HasCause (Run kind) text (Failed t) = (s : ScriptD) × Spells text s × IsWellScoped s × IsBuilt s × NamesFailure text s t
 HasCause Check text (Checked script) = Spells text (script_tree script) × IsWellScoped (script_tree script)
 HasCause commands.Reread text (Reread answer) = IsAnswerOf text answer
+HasCause command text (WasMade counts) = IsMadeBy command counts
 HasCause command text (Refused refusal) = IsRefusedBy command text refusal
 HasCause command text ReadFault = Unit {0}
 HasCause command text Usage = Unit {0}
@@ -75,11 +89,12 @@ IsReread _ = ⊥
 abbrev pub Rereads : List ℕ → Type 0 → Outcome → Type 0
 Rereads text fault o = length text ≤ LONGEST_TEXT → (answer : Answer) → IsAnswerOf text answer → IsReread o ⊎ ((o ≡ ReadFault) × fault)
 
--- what the command promises of a text that was to be read
+-- what the command promises of a text that was to be read; `make` reads none, and comes to its counts
 abbrev pub Promises : Command → List ℕ → Type 0 → Outcome → Type 0
 Promises (Run kind) text fault o = Headline text fault o
 Promises Check text fault o = Checks text fault o
 Promises commands.Reread text fault o = Rereads text fault o
+Promises (Make n kind) text fault o = o ≡ WasMade (made_counts n)
 
 -- one call of a source: how many bytes it asked for, and what it was given, or `None` where it failed
 abbrev pub Takes : Type 0 → Type 1
@@ -90,11 +105,12 @@ abbrev pub Serves : List (List ℕ) → List ℕ → Outcome → Type 0
 Serves words text o = (command : Command) → Asks command words → HasCause command text o × Promises command text ⊥ o
 
 -- What the calls of the source gave, whether or not it tells what is left: too many bytes; or some, and then the last call
--- failed; or the whole text that the outcome is about, up to its end. For usage there was no call.
+-- failed; or the whole text that the outcome is about, up to its end. For usage and for `make` there was no call.
 abbrev pub HasRead : {S : Type 0} → Takes S → List (List ℕ) → S → S → Outcome → Type 0
 HasRead {S} takes words from to (Refused TooLong) = GivesUp takes LONGEST_TEXT from (unread.TooLong (LONGEST_TEXT + 1)) to
 HasRead {S} takes words from to ReadFault = GivesUp takes LONGEST_TEXT from unread.ReadFault to
 HasRead {S} takes words from to Usage = from ≡ to
+HasRead {S} takes words from to (WasMade counts) = (from ≡ to) × ((command : Command) → Asks command words → IsMadeBy command counts)
 HasRead {S} takes words from to o = (text : List ℕ) × ReadsToEnd takes (LONGEST_TEXT + 1) from text to × (length text ≤ LONGEST_TEXT) × Serves words text o
 
 -- The outcome of a call with these words and deciders of these kinds, which led from a source to a source: what each has
@@ -107,6 +123,8 @@ pub record IsOutcomeOf {S : Type 0} (words : List (List ℕ)) (kinds : List Kind
   -- the same of a source that tells what it has left; there the text is also that of which too many bytes or too few were read
   pub taken : HasTaken (left from) (left to) o
   pub cause : (command : Command) → Asks command words → IfSome (left from) (λ text. HasCause command text o)
+  -- `make` comes to its counts, whatever the source tells
+  pub made : (n : ℕ) (kind : Option Kind) → Asks (Make n kind) words → (IsUsage words kinds → ⊥) → o ≡ WasMade (made_counts n)
   -- unless it is usage, the outcome keeps what the command promises
   pub promise : (command : Command) → Asks command words → (IsUsage words kinds → ⊥) → IfSome (left from) (λ text. Promises command text (Rose (faults from) (faults to)) o)
 
@@ -139,6 +157,7 @@ abbrev pub IsOfText : Outcome → Type 0
 IsOfText (Refused TooLong) = ⊥
 IsOfText ReadFault = ⊥
 IsOfText Usage = ⊥
+IsOfText (WasMade counts) = ⊥
 IsOfText _ = Unit {0}
 
 -- the answer to a text, once it is read

@@ -1,12 +1,13 @@
 -- The command line as clap is told of it, which words clap is asked about, and what is read of what clap found.
-use Rattle.std.specs.Prelude.{◌&&◌, ◌||◌, ◌==◌, Bool, true, false, not, List, [], ◌∷◌, Option, Some, None, option_map, codes, if◌then◌else◌, bytes_eq, nat_eq, ℕ}
+use Rattle.std.specs.Prelude.{◌&&◌, ◌||◌, ◌==◌, Bool, true, false, not, List, [], ◌∷◌, Option, Some, None, option_map, option_and_then, codes, if◌then◌else◌, bytes_eq, nat_eq, ℕ}
 use Rattle.std.specs.List.{starts_with}
 use Rattle.std.specs.Option.{option_map_or}
 use Rattle.clap.specs.Simple.{on_top}
 use Rattle.clap.specs.Walk.{Row}
 use Rattle.clap.specs.Words.{App, Rule, first_of, new_app, new_rule, with_rule, with_subcommand}
 use Rattle.clap.specs.declared.builder.action.ArgAction.TheVariants.{Set}
-use Rattle.lois_run.specs.Words.{kind_named}
+use Rattle.lois_base.specs.declared.deciding.Kind.{Kind}
+use Rattle.lois_run.specs.Words.{kind_named, number_named, command_with_number}
 use Rattle.lois_run.specs.declared.words.Command.{Command}
 use Rattle.lois_run.specs.declared.words.Command.TheVariants.{Run, Check, Reread}
 
@@ -33,20 +34,30 @@ decider_option = record (new_rule (codes "decider")) { long = Some (codes "decid
 abbrev pub bare_program : App
 bare_program = on_top (λ s. record s { no_binary_name = true; disable_help_flag = true; disable_help_subcommand = true; subcommand_required = true }) (new_app (codes "lois"))
 
--- one command with three subcommands, of which `run` has an option
+abbrev pub run_command : App
+run_command = with_rule (new_app (codes "run")) decider_option
+
+abbrev pub make_command : App
+make_command = with_rule (with_rule (new_app (codes "make")) decider_option) (new_rule (codes "count"))
+
+-- one command with four subcommands, of which `run` and `make` have an option, and `make` a positional argument
 abbrev pub program : App
 program =
-    with_subcommand (with_subcommand (with_subcommand bare_program (with_rule (new_app (codes "run")) decider_option).top) (new_app (codes "check")).top) (new_app (codes "reread")).top
+    with_subcommand (with_subcommand (with_subcommand (with_subcommand bare_program run_command.top) make_command.top) (new_app (codes "check")).top) (new_app (codes "reread")).top
 
--- the command of a subcommand and the value of its option
-abbrev pub command_named : List ℕ → Option (List ℕ) → Option Command
-command_named name None =
-    if (bytes_eq name (codes "run")) then (Some (Run None)) else
+-- the kind that the value of the option names, where it was given
+abbrev pub kind_given : Option (List ℕ) → Option (Option Kind)
+kind_given None = Some None
+kind_given (Some word) = option_map (λ kind. Some kind) (kind_named word)
+
+-- the command of a subcommand, of the value of its option and of its positional argument
+abbrev pub command_named : List ℕ → Option (List ℕ) → Option (List ℕ) → Option Command
+command_named name decider count =
+    if (bytes_eq name (codes "run")) then (option_map (λ kind. Run kind) (kind_given decider)) else
+    (if (bytes_eq name (codes "make")) then (command_with_number (option_and_then number_named count) (kind_given decider)) else
     (if (bytes_eq name (codes "check")) then (Some Check) else
-    (if (bytes_eq name (codes "reread")) then (Some Reread) else None))
-command_named name (Some kind) =
-    if (bytes_eq name (codes "run")) then (option_map (λ k. Run (Some k)) (kind_named kind)) else None
+    (if (bytes_eq name (codes "reread")) then (Some Reread) else None)))
 
 abbrev pub command_found : Option (List ℕ × List Row) → Option Command
 command_found None = None
-command_found (Some p) = command_named p.0 (first_of (codes "decider") p.1)
+command_found (Some p) = command_named p.0 (first_of (codes "decider") p.1) (first_of (codes "count") p.1)

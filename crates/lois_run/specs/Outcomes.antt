@@ -1,5 +1,6 @@
 -- The status and the text of each outcome.
-use Rattle.std.specs.Prelude.{◌≤◌, ℕ, List, [], codes}
+use Rattle.std.specs.Prelude.{◌≤◌, ℕ, ◌+◌, ◌*◌, min, List, [], ◌++◌, codes}
+use Rattle.std.specs.Fmt.{decimal}
 use Rattle.lois_answers.specs.ResultsText.{lined, results_text}
 use Rattle.lois_answers.specs.Sound.{IsSound, IsSoundTrace}
 use Rattle.lois_answers.specs.TraceText.{trace_text, answer_text}
@@ -10,8 +11,9 @@ use Rattle.lois_reader.specs.Refusal.{IsSoundAnswer}
 use Rattle.lois_script_printer.specs.Printed.{printed_script}
 use Rattle.lois_script_printer.specs.Unplaced.{IsSpelled}
 use Rattle.lois_run.specs.Texts.{lexical_text, syntax_text, scope_text, placed_text}
+use Rattle.lois_run.specs.declared.outcomes.Made.{Made}
 use Rattle.lois_run.specs.declared.outcomes.Outcome.{Outcome}
-use Rattle.lois_run.specs.declared.outcomes.Outcome.TheVariants.{Completed, Failed, Reread, Checked, Refused, ReadFault, Usage}
+use Rattle.lois_run.specs.declared.outcomes.Outcome.TheVariants.{Completed, Failed, Reread, Checked, Made as WasMade, Refused, ReadFault, Usage}
 use Rattle.lois_run.specs.declared.outcomes.Refusal.{Refusal}
 use Rattle.lois_run.specs.declared.outcomes.Refusal.TheVariants.{TooLong, Lexical, Syntax, Scope, NotResults, NotBuilt}
 
@@ -27,6 +29,7 @@ status_of (Completed r) = 0
 status_of (Failed t) = failure_status t.kind
 status_of (Reread answer) = 0
 status_of (Checked script) = 0
+status_of (WasMade counts) = 0
 status_of (Refused refusal) = 5
 status_of ReadFault = 6
 status_of Usage = 9
@@ -39,12 +42,23 @@ refusal_text (Scope n place) = placed_text place (scope_text n)
 refusal_text (NotResults place) = placed_text place (codes "not results")
 refusal_text NotBuilt = codes "refused: not built yet"
 
+-- What the made script of n loops comes to: 37 bytes and 74 for each loop, one case, and a comprehension for each of its tags,
+-- of which there are seven.
+abbrev pub made_counts : ℕ → Made
+made_counts n = record { statements = n; bytes = 37 + 74 * n; cases = 1; comprehensions = min n 7 }
+
+abbrev pub made_text : Made → List ℕ
+made_text counts =
+    lined (codes "statements " ++ decimal counts.statements) ++ lined (codes "bytes " ++ decimal counts.bytes) ++
+    lined (codes "cases " ++ decimal counts.cases) ++ lined (codes "comprehensions " ++ decimal counts.comprehensions)
+
 -- a read fault writes nothing
 abbrev pub outcome_text : Outcome → List ℕ
 outcome_text (Completed r) = results_text r
 outcome_text (Failed t) = trace_text t
 outcome_text (Reread answer) = answer_text answer
 outcome_text (Checked script) = printed_script (script_tree script)
+outcome_text (WasMade counts) = made_text counts
 outcome_text (Refused refusal) = lined (refusal_text refusal)
 outcome_text ReadFault = []
 outcome_text Usage = lined (codes "usage: lois run|check|reread|make N [--decider plain|graph|memo]")

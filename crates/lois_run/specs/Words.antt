@@ -1,12 +1,16 @@
--- The words that the program takes, each the list of its bytes: `run`, `check`, `reread`, and `run` with the option
--- `--decider plain`, `--decider=plain` or the like.
-use Rattle.std.specs.Prelude.{◌≡◌, ◌&&◌, Bool, true, false, List, [], ◌∷◌, Option, Some, None, option_map, codes, if◌then◌else◌, bytes_eq, ℕ}
-use Rattle.std.specs.List.{All}
+-- The words that the program takes, each the list of its bytes: `run`, `check`, `reread`, and `make` with a number from
+-- 1 to 10,000. `run` and `make` take the option `--decider plain`, `--decider=plain` or the like, `make` behind the
+-- number or before it.
+use Rattle.std.specs.Prelude.{◌≡◌, ◌&&◌, Bool, true, false, not, List, [], ◌∷◌, Option, Some, None, option_map, option_and_then, codes, if◌then◌else◌, bytes_eq, nat_eq, nat_le, ℕ}
+use Rattle.std.specs.Char.{is_ascii_digit}
+use Rattle.std.specs.List.{All, list_all, starts_with}
+use Rattle.std.specs.Option.{option_or}
 use Rattle.lois_base.specs.declared.deciding.Kind.{Kind}
 use Rattle.lois_base.specs.declared.deciding.Kind.TheVariants.{Plain, Graph, Memo}
 use Rattle.lois_deciders.specs.Choice.{IsUnwanted}
+use Rattle.lois_script.specs.Grammar.{decimal}
 use Rattle.lois_run.specs.declared.words.Command.{Command}
-use Rattle.lois_run.specs.declared.words.Command.TheVariants.{Run, Check, Reread}
+use Rattle.lois_run.specs.declared.words.Command.TheVariants.{Run, Check, Reread, Make}
 
 abbrev pub kind_named : List ℕ → Option Kind
 kind_named word =
@@ -20,25 +24,46 @@ kind_chosen option =
     (if (bytes_eq option (codes "--decider=graph")) then (Some Graph) else
     (if (bytes_eq option (codes "--decider=memo")) then (Some Memo) else None))
 
-abbrev pub command_alone : List ℕ → Option Command
-command_alone word =
-    if (bytes_eq word (codes "run")) then (Some (Run None)) else
-    (if (bytes_eq word (codes "check")) then (Some Check) else
-    (if (bytes_eq word (codes "reread")) then (Some Reread) else None))
+-- decimal digits that don't begin with 0, for a number from 1 to 10,000
+abbrev pub is_number : List ℕ → Bool
+is_number word = list_all is_ascii_digit word && not (starts_with nat_eq word (codes "0")) && nat_le 1 (decimal word) && nat_le (decimal word) 10000
 
-abbrev pub command_with_option : List ℕ → List ℕ → Option Command
-command_with_option word option =
-    if (bytes_eq word (codes "run")) then (option_map (λ kind. Run (Some kind)) (kind_chosen option)) else None
+abbrev pub number_named : List ℕ → Option ℕ
+number_named word = if (is_number word) then (Some (decimal word)) else None
 
-abbrev pub command_with_kind : List ℕ → List ℕ → List ℕ → Option Command
-command_with_kind word option kind =
-    if (bytes_eq word (codes "run") && bytes_eq option (codes "--decider")) then (option_map (λ k. Run (Some k)) (kind_named kind)) else None
+-- the kind that is wanted by no option, by the option in one word and by the option in two words
+abbrev pub option_named : List (List ℕ) → Option (Option Kind)
+option_named [] = Some None
+option_named (option ∷ []) = option_map (λ kind. Some kind) (kind_chosen option)
+option_named (option ∷ kind ∷ []) = if (bytes_eq option (codes "--decider")) then (option_map (λ k. Some k) (kind_named kind)) else None
+option_named _ = None
+
+abbrev pub command_with_number : Option ℕ → Option (Option Kind) → Option Command
+command_with_number number kind = option_and_then (λ n. option_map (λ k. Make n k) kind) number
+
+-- the words behind `make`: a number, then no option or one
+abbrev pub number_first : List (List ℕ) → Option Command
+number_first [] = None
+number_first (number ∷ option) = command_with_number (number_named number) (option_named option)
+
+-- the words behind `make`: an option, then a number
+abbrev pub number_last : List (List ℕ) → Option Command
+number_last (option ∷ number ∷ []) = command_with_number (number_named number) (option_named (option ∷ []))
+number_last (option ∷ kind ∷ number ∷ []) = command_with_number (number_named number) (option_named (option ∷ kind ∷ []))
+number_last _ = None
+
+-- a command that takes no further words
+abbrev pub command_alone : Command → List (List ℕ) → Option Command
+command_alone command [] = Some command
+command_alone command _ = None
 
 abbrev pub command_of : List (List ℕ) → Option Command
-command_of (word ∷ []) = command_alone word
-command_of (word ∷ option ∷ []) = command_with_option word option
-command_of (word ∷ option ∷ kind ∷ []) = command_with_kind word option kind
-command_of _ = None
+command_of [] = None
+command_of (word ∷ words) =
+    if (bytes_eq word (codes "run")) then (option_map (λ kind. Run kind) (option_named words)) else
+    (if (bytes_eq word (codes "make")) then (option_or (number_first words) (number_last words)) else
+    (if (bytes_eq word (codes "check")) then (command_alone Check words) else
+    (if (bytes_eq word (codes "reread")) then (command_alone Reread words) else None)))
 
 -- the words ask for this
 abbrev pub Asks : Command → List (List ℕ) → Type 0
@@ -47,15 +72,18 @@ Asks command words = command_of words ≡ Some command
 -- which decider the command wants, of which kind where one is named
 abbrev pub wanted_kind : Command → Option Kind
 wanted_kind (Run kind) = kind
+wanted_kind (Make number kind) = kind
 wanted_kind _ = None
 
 abbrev pub runs_script : Command → Bool
 runs_script (Run kind) = true
+runs_script (Make number kind) = true
 runs_script _ = false
 
--- `run` has no decider of the named kind, or none at all
+-- `run` and `make` have no decider of the named kind, or none at all
 abbrev pub Lacks : Command → List Kind → Type 0
 Lacks (Run kind) kinds = All (IsUnwanted kind) kinds
+Lacks (Make number kind) kinds = All (IsUnwanted kind) kinds
 Lacks _ kinds = ⊥
 
 -- The words ask for nothing, or for something that lacks its decider. They ask for one thing at most.

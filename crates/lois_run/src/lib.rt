@@ -3,6 +3,7 @@
 
 mod built;
 pub mod laws;
+mod made;
 mod outcomes;
 mod reading;
 mod running;
@@ -10,5 +11,5 @@ mod texts;
 mod top;
 mod words;
 
-pub use outcomes::{Outcome, Refusal};
+pub use outcomes::{Made, Outcome, Refusal};
 pub use top::{lois, outcome};

@@ -1,12 +1,12 @@
 //! What the top call comes to.
 
 ghost use Rattle.std.specs.Prelude.{◌≡◌, IfOk};
-ghost use Rattle.lois_run.specs.Outcomes.{status_of, failure_status, refusal_text, outcome_text, HasText};
+ghost use Rattle.lois_run.specs.Outcomes.{status_of, failure_status, refusal_text, made_text, outcome_text, HasText};
 ghost use Rattle.lois_answers.specs.ResultsText.{lined};
 ghost use Rattle.lois_answers.specs.TraceText.{answer_text};
 ghost use Rattle.lois_reader.specs.Refusal.{IsSoundAnswer};
 
-use crate::texts::{lexical_text, refused_line, scope_text, syntax_text, text_line};
+use crate::texts::{append_count, lexical_text, refused_line, scope_text, syntax_text, text_line};
 use lois_answers::{Answer, FaultKind, Results, Trace};
 use lois_base::NoMemory;
 use lois_lexer::Place;
@@ -33,6 +33,16 @@ pub enum Refusal {
     NotBuilt,
 }
 
+/// What `make` counts: the loops of the made script, its bytes, the cases of its results, and the comprehensions of the set
+/// that it prints.
+#[derive(Clone, Copy, PartialEq, Eq, Debug)]
+pub struct Made {
+    pub statements: u32,
+    pub bytes: usize,
+    pub cases: usize,
+    pub comprehensions: usize,
+}
+
 /// What the top call comes to.
 #[derive(Drop)]
 pub enum Outcome {
@@ -44,6 +54,8 @@ pub enum Outcome {
     Reread(Answer),
     /// A well-scoped script.
     Checked(Script),
+    /// What the results of the made script come to.
+    Made(Made),
     Refused(Refusal),
     /// A call of the source failed.
     ReadFault,
@@ -52,7 +64,7 @@ pub enum Outcome {
 }
 
 impl Outcome {
-    /// The exit status: 0 where the script has completed or was checked, or the text was read again, 1 to 4 where the script
+    /// The exit status: 0 where the script has completed, was checked or was made, or the text was read again, 1 to 4 where the script
     /// fails, 5 where the text is refused, 6 after a read fault, and 9 where the words are none that the program takes.
     pub fn status(&self) -> u8
         ensures { result ≡ status_of self.now }
@@ -62,6 +74,7 @@ impl Outcome {
             Outcome::Failed(trace) => failure_status(trace.kind),
             Outcome::Reread(_) => 0,
             Outcome::Checked(_) => 0,
+            Outcome::Made(_) => 0,
             Outcome::Refused(_) => 5,
             Outcome::ReadFault => 6,
             Outcome::Usage => 9,
@@ -78,6 +91,7 @@ impl Outcome {
             Outcome::Failed(trace) => print_trace(alloc, trace),
             Outcome::Reread(answer) => print_answer(alloc, answer),
             Outcome::Checked(script) => print_script(alloc, script),
+            Outcome::Made(made) => made.text(alloc),
             Outcome::Refused(refusal) => refusal.text(alloc),
             Outcome::ReadFault => Ok(Vec::new(alloc)),
             Outcome::Usage => text_line(
@@ -103,6 +117,19 @@ fn failure_status(kind: FaultKind) -> u8
         | FaultKind::NotAutomaton
         | FaultKind::NotDeterministic
         | FaultKind::NotComplete => 2,
+    }
+}
+
+impl Made {
+    fn text(&self, alloc: Global) -> Result<Vec<u8>, NoMemory>
+        ensures { IfOk result (λ text. text.items ≡ made_text self.now) }
+    {
+        let mut text = Vec::new(alloc);
+        append_count(alloc, &mut text, b"statements ", self.statements as usize)?;
+        append_count(alloc, &mut text, b"bytes ", self.bytes)?;
+        append_count(alloc, &mut text, b"cases ", self.cases)?;
+        append_count(alloc, &mut text, b"comprehensions ", self.comprehensions)?;
+        Ok(text)
     }
 }
 

@@ -5,23 +5,22 @@ ghost use Rattle.std.specs.List.{All};
 ghost use Rattle.lois_answers.specs.Sound.{HasTags};
 ghost use Rattle.lois_base.specs.declared.limits.TheConstants.{LONGEST_TEXT};
 ghost use Rattle.lois_eval.specs.Throughout.{IfFault};
-ghost use Rattle.lois_interp.specs.Interpreted.{AreResultsOf, IsFailureOf, parameter_name};
+ghost use Rattle.lois_interp.specs.Interpreted.{AreResultsOf, IsFailureOf};
 ghost use Rattle.lois_run.specs.Headline.{NamesFailure};
 ghost use Rattle.lois_run.specs.Run.{IsRunOf};
 ghost use Rattle.lois_script.specs.Limits.{Spells};
-ghost use Rattle.lois_script.specs.View.{script_tree, params_list};
+ghost use Rattle.lois_script.specs.View.{script_tree};
 
 use crate::Outcome;
 use crate::reading::place_at;
 use lois_answers::{Lines, Results, Trace, tags_are_names};
-use lois_base::{Names, NoMemory, Numbers};
+use lois_base::{NoMemory, Numbers};
 use lois_deciders::Chosen;
 use lois_equality::EqualityAtoms;
-use lois_interp::interpret;
+use lois_interp::{interpret, parameter_names};
 use lois_meaning::{Fault, Stop};
 use lois_order::OrderAtoms;
 use lois_scope::Scoped;
-use lois_script::Params;
 use std::alloc::Global;
 
 /// What the script that the text spells comes to.
@@ -93,14 +92,4 @@ fn element_tags_are_names(elements: &Lines)
     for element in elements.as_slice() {
         tags_are_names(&element.term);
     }
-}
-
-fn parameter_names(alloc: Global, parameters: &Params) -> Result<Names, NoMemory>
-    ensures { IfOk result (λ r. r ≡ map parameter_name (params_list parameters.now)) }
-{
-    let mut names = Names::new(alloc);
-    for parameter in parameters.as_slice() {
-        names.push(parameter.name.copy(alloc)?)?;
-    }
-    Ok(names)
 }

@@ -25,6 +25,20 @@ fn append_number(alloc: Global, text: &mut Vec<u8>, number: usize) -> Result<(),
     append(text, digits.as_bytes())
 }
 
+/// A line of the words and the number.
+pub(crate) fn append_count(
+    alloc: Global,
+    text: &mut Vec<u8>,
+    words: &[u8],
+    number: usize,
+) -> Result<(), NoMemory>
+    ensures { OnOk result (text.new.items ≡ text.old.items ++ lined (words.now ++ decimal number)) }
+{
+    append(text, words)?;
+    append_number(alloc, text, number)?;
+    append(text, b"\n")
+}
+
 /// The words with the end of their line.
 pub(crate) fn text_line(alloc: Global, words: &[u8]) -> Result<Vec<u8>, NoMemory>
     ensures { IfOk result (λ text. text.items ≡ lined words.now) }

@@ -1,16 +1,17 @@
 //! The top call.
 
-ghost use Rattle.std.specs.Prelude.{◌≡◌, ◌+◌, ◌≤◌, ◌⊎◌, ◌↔◌, Option, IfOk, IfErr, IsSome, IsTrue, Ok, length, map, string_bytes};
+ghost use Rattle.std.specs.Prelude.{◌≡◌, ℕ, ◌+◌, ◌≤◌, ◌⊎◌, ◌↔◌, ◌&&◌, List, Option, is_none, IfOk, IfErr, IsSome, IsTrue, Ok, length, map, string_bytes};
 ghost use Rattle.lois_base.specs.declared.deciding.Kind.{Kind};
 ghost use Rattle.lois_outside.specs.Faults.{Rose};
-ghost use Rattle.lois_run.specs.Causes.{AnswersText, IsOutcomeOf, GaveAtMost, IsTold};
+ghost use Rattle.lois_run.specs.Causes.{AnswersText, ReadsText, IsOutcomeOf, GaveAtMost, IsTold};
 ghost use Rattle.lois_base.specs.declared.limits.TheConstants.{LONGEST_TEXT};
 ghost use Rattle.lois_run.specs.Outcomes.{HasText};
-ghost use Rattle.lois_run.specs.Words.{IsUsage, wanted_kind, runs_script};
+ghost use Rattle.lois_run.specs.Words.{Asks, IsUsage, Lacks, wanted_kind, runs_script};
 ghost use Rattle.lois_run.specs.declared.outcomes.Outcome.{Outcome};
-ghost use Rattle.lois_run.specs.declared.words.Command.TheVariants.{Run, Check, Reread};
+ghost use Rattle.lois_run.specs.declared.words.Command.TheVariants.{Run, Check, Reread, Make};
 
 use crate::built::is_built;
+use crate::made::made;
 use crate::reading::{Read, place_at, read_text};
 use crate::running::run;
 use crate::words::{Command, asked};
@@ -31,7 +32,7 @@ fn wanted_kind(command: Command) -> Option<Kind>
     ensures { result ≡ wanted_kind command }
 {
     match command {
-        Command::Run(kind) => kind,
+        Command::Run(kind) | Command::Make(_, kind) => kind,
         Command::Check | Command::Reread => None,
     }
 }
@@ -40,13 +41,20 @@ fn runs_script(command: Command) -> bool
     ensures { result ≡ runs_script command }
 {
     match command {
-        Command::Run(_) => true,
+        Command::Run(_) | Command::Make(_, _) => true,
         Command::Check | Command::Reread => false,
     }
 }
 
-// What a text comes to that is to be run.
-fn run_text(alloc: Global, text: &[u8], chosen: &mut Chosen) -> Result<Outcome, NoMemory>
+// Whether the command runs a script and has no decider for it.
+fn lacks_decider(command: Command, chosen: &Option<Chosen>) -> bool
+    ensures { result ≡ (runs_script command && is_none chosen.now) }
+{
+    runs_script(command) && chosen.is_none()
+}
+
+/// What a text comes to that is to be run.
+pub(crate) fn run_text(alloc: Global, text: &[u8], chosen: &mut Chosen) -> Result<Outcome, NoMemory>
     requires { length text.now ≤ LONGEST_TEXT }
     ensures answer { IfOk result (λ o. (kind : Option Kind) → AnswersText (Run kind) text.now o) }
     ensures written { IfOk result HasText }
@@ -95,6 +103,7 @@ fn answer(
     chosen: Option<Chosen>,
 ) -> Result<Outcome, NoMemory>
     requires fits { length text.now ≤ LONGEST_TEXT }
+    requires reads { ReadsText command }
     requires decider { IsTrue (runs_script command) → IsSome chosen }
     ensures answer { IfOk result (AnswersText command text.now) }
     ensures written { IfOk result HasText }
@@ -106,16 +115,44 @@ fn answer(
         },
         Command::Check => check_text(alloc, text),
         Command::Reread => reread_text(alloc, text),
+        Command::Make(_, _) => unreachable!(),
+    }
+}
+
+// What a command comes to that has its decider.
+fn served<S: Source>(
+    alloc: Global,
+    command: Command,
+    source: &mut S,
+    chosen: Option<Chosen>,
+) -> Result<Outcome, NoMemory>
+    requires number { (count : ℕ) → (kind : Option Kind) → command ≡ Make count kind → (1 ≤ count) × (count ≤ 10000) }
+    requires decider { IsTrue (runs_script command) → IsSome chosen }
+    ensures outcome { IfOk result (λ o. (words : List (List ℕ)) → (kinds : List Kind) → Asks command words → (Lacks command kinds → ⊥) → IsOutcomeOf words kinds S.left S.faults S.takes source.old source.new o) }
+    ensures make_asks_nothing { (count : ℕ) → (kind : Option Kind) → command ≡ Make count kind → source.new ≡ source.old }
+    ensures count_never_falls { S.faults source.old ≤ S.faults source.new }
+    ensures written { IfOk result HasText }
+    ensures no_memory { IfErr result (λ e. GaveAtMost S.left S.takes LONGEST_TEXT source.old source.new) }
+{
+    if let Command::Make(count, _) = command {
+        return made(alloc, count, chosen);
+    }
+    match read_all(alloc, source, LONGEST_TEXT) {
+        Ok(text) => answer(alloc, command, &text, chosen),
+        Err(ReadError::ReadFault) => Ok(Outcome::ReadFault),
+        Err(ReadError::TooLong(_)) => Ok(Outcome::Refused(Refusal::TooLong)),
+        Err(ReadError::NoMemory) => Err(NoMemory),
     }
 }
 
 /// What the words ask for, of the text that the source has left; `NoMemory` where memory ran out.
 /// The words are those after the program's name. `run` runs a script with the first decider, or with the first of the
-/// kind that the option `--decider` names; `check` only reads it; `reread` reads results or a trace.
+/// kind that the option `--decider` names; `check` only reads it; `reread` reads results or a trace; `make` asks the source
+/// nothing, and runs a script of its own.
 ///
 /// A text of at most 1,048,576 bytes is read. A script either completes, or fails under some choice of its parameters.
 /// Until the whole language runs, scripts with an operation on automata are refused by `run` as not built.
-#[tactic(auto, using(crate::proofs::Told::usage_is_told, crate::proofs::Told::fault_is_told, crate::proofs::Told::long_is_told, crate::proofs::Told::answered_is_told))]
+
 pub fn outcome<S: Source>(
     alloc: Global,
     words: &[String],
@@ -126,6 +163,8 @@ pub fn outcome<S: Source>(
 
     // After usage the source is as it was, also where memory ran out.
     ensures source_untouched { IsUsage (map string_bytes words.now) (map (λ b. kind_of b) deciders.items) → source.new ≡ source.old }
+    // So it is after `make`.
+    ensures make_asks_nothing { (count : ℕ) → (kind : Option Kind) → Asks (Make count kind) (map string_bytes words.now) → source.new ≡ source.old }
     ensures count_never_falls { S.faults source.old ≤ S.faults source.new }
 
     ensures written { IfOk result HasText }
@@ -137,15 +176,10 @@ pub fn outcome<S: Source>(
         return Ok(Outcome::Usage);
     };
     let chosen = Chosen::choose(deciders, wanted_kind(command));
-    if runs_script(command) && chosen.is_none() {
+    if lacks_decider(command, &chosen) {
         return Ok(Outcome::Usage);
     }
-    match read_all(alloc, source, LONGEST_TEXT) {
-        Ok(text) => answer(alloc, command, &text, chosen),
-        Err(ReadError::ReadFault) => Ok(Outcome::ReadFault),
-        Err(ReadError::TooLong(_)) => Ok(Outcome::Refused(Refusal::TooLong)),
-        Err(ReadError::NoMemory) => Err(NoMemory),
-    }
+    served(alloc, command, source, chosen)
 }
 
 /// Makes the outcome, writes its text and gives the exit status: that of the outcome, 7 where a call of the
@@ -160,8 +194,9 @@ pub fn lois<S: Source, K: Sink>(
     // Either memory ran out before the first call of the sink, or some outcome of the words and the source is told.
     ensures answer { ((result ≡ 8) × (sink.new ≡ sink.old) × GaveAtMost S.left S.takes (LONGEST_TEXT + 1) source.old source.new) ⊎ ((o : Outcome) × IsOutcomeOf (map string_bytes words.now) (map (λ b. kind_of b) deciders.items) S.left S.faults S.takes source.old source.new o × HasText o × IsTold K.held K.faults K.puts sink.old sink.new o result) }
 
-    // After usage the source is as it was, whatever becomes of the answer.
+    // After usage and after `make` the source is as it was, whatever becomes of the answer.
     ensures source_untouched { IsUsage (map string_bytes words.now) (map (λ b. kind_of b) deciders.items) → source.new ≡ source.old }
+    ensures make_asks_nothing { (count : ℕ) → (kind : Option Kind) → Asks (Make count kind) (map string_bytes words.now) → source.new ≡ source.old }
     ensures write_fault { result ≡ 7 → Rose (K.faults sink.old) (K.faults sink.new) }
     ensures reads_never_fall { S.faults source.old ≤ S.faults source.new }
     ensures writes_never_fall { K.faults sink.old ≤ K.faults sink.new }

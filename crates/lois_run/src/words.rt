@@ -1,9 +1,10 @@
 //! The words of the command line.
 
 ghost use Rattle.std.specs.Prelude.{◌≡◌, false, IfOk, map, option_map, string_bytes};
-ghost use Rattle.clap.specs.Words.{app_of, subcommand_rows_of};
-ghost use Rattle.lois_run.specs.CommandLine.{are_expected, seen_behind, is_dashed, is_option, program, command_named, command_found};
-ghost use Rattle.lois_run.specs.Words.{command_of, kind_named};
+ghost use Rattle.clap.specs.Words.{app_of, rule_of, subcommand_rows_of};
+ghost use Rattle.clap.specs.declared.builder.command.Command.TheViews.{out-Command};
+ghost use Rattle.lois_run.specs.CommandLine.{are_expected, seen_behind, is_dashed, is_option, decider_option, run_command, make_command, program, kind_given, command_named, command_found};
+ghost use Rattle.lois_run.specs.Words.{command_of, kind_named, number_named};
 
 use clap::error::ErrorKind;
 use clap::{Arg, ArgAction, ArgMatches};
@@ -19,6 +20,8 @@ pub(crate) enum Command {
     Check,
     /// To read a results text or a trace and to write it again.
     Reread,
+    /// To make the script of this number and to run it, with the first decider or the first of a kind.
+    Make(u32, Option<Kind>),
 }
 
 /// What these words ask for; `None` where they are none that the program takes.
@@ -74,47 +77,84 @@ fn is_option(word: &str) -> bool
     word == "--decider" || word.as_bytes().starts_with(b"--decider=")
 }
 
-// One command with one level of subcommands, of which `run` has an option.
+// One command with one level of subcommands.
 fn program<'a>(alloc: Global) -> Result<clap::Command<'a>, AllocError>
     ensures { IfOk result (λ c. app_of c ≡ program) }
 {
-    let decider = Arg::new(alloc, "decider")
-        .long("decider")
-        .action(ArgAction::Set);
-    let run = clap::Command::new(alloc, "run").arg(decider)?;
     clap::Command::new(alloc, "lois")
         .no_binary_name(true)
         .disable_help_flag(true)
         .disable_help_subcommand(true)
         .subcommand_required(true)
-        .subcommand(run)?
+        .subcommand(run_command(alloc)?)?
+        .subcommand(make_command(alloc)?)?
         .subcommand(clap::Command::new(alloc, "check"))?
         .subcommand(clap::Command::new(alloc, "reread"))
+}
+
+fn run_command<'a>(alloc: Global) -> Result<clap::Command<'a>, AllocError>
+    ensures shape { IfOk result (λ c. app_of c ≡ run_command) }
+    ensures local { IfOk result (λ c. (out-Command c).has_globals ≡ false) }
+{
+    clap::Command::new(alloc, "run").arg(decider(alloc))
+}
+
+// Its number is read by hand, as the kind of decider is.
+fn make_command<'a>(alloc: Global) -> Result<clap::Command<'a>, AllocError>
+    ensures shape { IfOk result (λ c. app_of c ≡ make_command) }
+    ensures local { IfOk result (λ c. (out-Command c).has_globals ≡ false) }
+{
+    clap::Command::new(alloc, "make")
+        .arg(decider(alloc))?
+        .arg(Arg::new(alloc, "count"))
+}
+
+fn decider<'a>(alloc: Global) -> Arg<'a>
+    ensures rule { rule_of result ≡ decider_option }
+    ensures local { result.global ≡ false }
+{
+    Arg::new(alloc, "decider")
+        .long("decider")
+        .action(ArgAction::Set)
 }
 
 fn command_found(matches: &ArgMatches) -> Option<Command>
     ensures { result ≡ command_found (subcommand_rows_of matches.now) }
 {
     match matches.subcommand() {
-        Some((name, given)) => command_named(name, given.get_str("decider")),
+        Some((name, given)) => command_named(
+            name,
+            given.get_str("decider"),
+            given.get_str("count"),
+        ),
         None => None,
     }
 }
 
-// The command of a subcommand and the value of its option.
-fn command_named(name: &str, decider: Option<&str>) -> Option<Command>
-    ensures { result ≡ command_named name.now (option_map (λ kind. kind.now) decider.entry) }
+// The command of a subcommand, of the value of its option and of its positional argument.
+fn command_named(name: &str, decider: Option<&str>, count: Option<&str>) -> Option<Command>
+    ensures { result ≡ command_named name.now (option_map (λ kind. kind.now) decider.entry) (option_map (λ word. word.now) count.entry) }
+{
+    if name == "run" {
+        Some(Command::Run(kind_given(decider)?))
+    } else if name == "make" {
+        Some(Command::Make(number_named(count?)?, kind_given(decider)?))
+    } else if name == "check" {
+        Some(Command::Check)
+    } else if name == "reread" {
+        Some(Command::Reread)
+    } else {
+        None
+    }
+}
+
+// The kind that the value of the option names, where it was given.
+fn kind_given(decider: Option<&str>) -> Option<Option<Kind>>
+    ensures { result ≡ kind_given (option_map (λ kind. kind.now) decider.entry) }
 {
     match decider {
-        Some(kind) if name == "run" => match kind_named(kind) {
-            Some(kind) => Some(Command::Run(Some(kind))),
-            None => None,
-        },
-        Some(_) => None,
-        None if name == "run" => Some(Command::Run(None)),
-        None if name == "check" => Some(Command::Check),
-        None if name == "reread" => Some(Command::Reread),
-        None => None,
+        Some(word) => Some(Some(kind_named(word)?)),
+        None => Some(None),
     }
 }
 
@@ -127,6 +167,24 @@ fn kind_named(word: &str) -> Option<Kind>
         Some(Kind::Graph)
     } else if word == "memo" {
         Some(Kind::Memo)
+    } else {
+        None
+    }
+}
+
+fn number_named(word: &str) -> Option<u32>
+    ensures { result ≡ number_named word.now }
+{
+    // `parse` takes a plus sign and leading zeros too
+    let bytes = word.as_bytes();
+    if bytes.starts_with(b"+") || bytes.starts_with(b"0") {
+        return None;
+    }
+    let Ok(number) = word.parse::<u32>() else {
+        return None;
+    };
+    if 1 <= number && number <= 10000 {
+        Some(number)
     } else {
         None
     }

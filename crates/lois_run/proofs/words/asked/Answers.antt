@@ -2,8 +2,14 @@ use Rattle.std.proofs.Common.{◌≡◌, ℕ, true, false, List, [], map, string
 use Rattle.clap.specs.Words.{App, HasKind, HasMatchesOf, fault_of, is_simple_and_free, kind_of}
 use Rattle.clap.specs.declared.error.kind.ErrorKind.TheVariants.{OutOfMemory}
 use Rattle.lois_run.specs.CommandLine.{are_expected, program}
-use Rattle.lois_run.proofs.CommandLine.{found_is_asked, refused_is_none}
+use Rattle.lois_run.proofs.CommandLine.{found_is_asked, refused_is_none, unexpected}
 use Rattle.lois_run.proofs.words.asked.Goals as goal
+
+pub returns-then-not-are_expected : goal.returns-then-not-are_expected
+returns-then-not-are_expected c =
+    let texts : List (List ℕ) = map (string_bytes {Z = Global}) c.args.words.now in
+    let never : are_expected false texts ≡ false = cc (c.are_expected.ensures, c.if-not-are_expected.true) in
+    sym (unexpected texts never)
 
 pub returns-in-Ok : goal.returns-in-Ok
 returns-in-Ok c =

@@ -20,5 +20,6 @@ pub returns-in-Some : goal.returns-in-Some
 returns-in-Some c =
     let rows : List Row = rows_of (found_of c.in-Some.given.now) in
     let entered : subcommand_rows_of c.args.matches.now ≡ Some (c.in-Some.name.now, rows) = entered_is (out-ArgMatches c.args.matches.now).subcommand c.in-Some.name.now rows c.in-Some.ensures.name c.in-Some.ensures.rows in
-    let value = c.get_str.ensures ∙ first_value-rows (found_of c.in-Some.given.now) (codes "decider") in
-    c.command_named.ensures ∙ ap (command_named c.in-Some.name.now) value ∙ sym (ap command_found entered)
+    let decider = c.get_str.ensures ∙ first_value-rows (found_of c.in-Some.given.now) (codes "decider") in
+    let count = c.get_str-in-Some.ensures ∙ first_value-rows (found_of c.in-Some.given.now) (codes "count") in
+    c.command_named.ensures ∙ ap₂ (command_named c.in-Some.name.now) decider count ∙ sym (ap command_found entered)
