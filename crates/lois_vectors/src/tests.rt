@@ -463,7 +463,10 @@ fn scripts_fail(rt: HostRuntime) -> Result<(), Fail> {
     for (text, status, front) in rows {
         let told = run(alloc, text.as_bytes())?;
         assert_eq!(rt; told.status, status, "{text}");
-        assert!(rt; told.held.as_slice().starts_with(front.as_bytes()), "{text}");
+        assert!(rt;
+            told.held.as_slice().starts_with(front.as_bytes()),
+            "{text}"
+        );
     }
     Ok(())
 }

@@ -1,0 +1,15 @@
+//! The rows of the language's description, from words and a text to the status and what is written.
+#![tactic(auto)]
+
+#[cfg(test)]
+mod asking;
+#[cfg(test)]
+mod calling;
+#[cfg(test)]
+mod completing;
+#[cfg(test)]
+mod failing;
+#[cfg(test)]
+mod made;
+#[cfg(test)]
+mod spelling;
