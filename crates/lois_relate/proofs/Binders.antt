@@ -1,5 +1,5 @@
 -- What a comprehension says of the atoms at its binders, and of each or some of them.
-use Rattle.std.proofs.Common.{◌≡◌, ℕ, ◌+◌, ◌⊎◌, inl, inr, List, ◌++◌, length, length-append, sym, subst, arith}
+use Rattle.std.proofs.Common.{◌≡◌, ℕ, Bool, ◌+◌, ◌⊎◌, inl, inr, List, ◌++◌, length, length-append, sym, subst, arith}
 use Rattle.std.specs.Bool.{IsTrue}
 use Rattle.lois_base.specs.Atom.{Atom}
 use Rattle.lois_base.specs.Data.{TermD, comp, CompsD}
@@ -7,9 +7,10 @@ use Rattle.lois_base.specs.FormulaData.{FormulaD, FormulaFits}
 use Rattle.lois_base.specs.FormulaTruth.{FormulaHolds}
 use Rattle.lois_base.specs.Truth.{holds}
 use Rattle.lois_base.specs.Validity.{AdmitsConstraint, AdmitsTerm, AdmitsComp, AdmitsItems}
-use Rattle.lois_base.specs.Values.{IsExtension, SameAt, EachInAt, InAt, SomeIsAt, OneIsAt}
+use Rattle.lois_base.specs.Values.{SameAt, EachInAt, InAt, SomeIsAt, OneIsAt}
 use Rattle.lois_base.specs.declared.guards.Lit.{Lit}
 use Rattle.lois_relate.specs.Built.{Says, IsBoth, IsNegation, IsForSome}
+use Rattle.lois_relate.specs.Compared.{IsForEach}
 use Rattle.lois_relate.specs.Named.{chosen, AreBelow, levels_from}
 use Rattle.lois_relate.proofs.Decided.{formula_decided}
 use Rattle.lois_relate.proofs.Names.{chosen_longer, chosen_entered}
@@ -55,35 +56,71 @@ module _ (n m inner : ℕ) (sum : inner ≡ n + m) (own outer names : List ℕ) 
             let u : SameAt t (chosen names (c ++ x)) s (chosen own (c ++ x)) = subst (λ z. SameAt t (chosen names (c ++ x)) s z) (sym (own_names c x k)) (subst (λ z. SameAt t z s (chosen own c)) (sym (comp_names c x k l)) i) in
             (some.truth c).1 (x, l, (both.truth (c ++ x)).1 ((equal.truth (c ++ x) (longer c x k l)).1 u, (guard.truth (c ++ x) (longer c x k l)).1 (guard_back g c x k l y.guard)))
 
-  module _ (g : List (List Lit)) (t : TermD) (ss : CompsD) (f d h b x r : FormulaD) where
-    -- no item that the guard admits is missing in the set
-    pub each_says : Says inner (λ c. SomeIsAt ss (chosen own c) t (chosen names c)) (λ o. AdmitsItems o ss × AdmitsTerm o t) f → IsNegation f d → Says inner (λ c. IsTrue (holds (chosen names c) g)) (λ o. AdmitsConstraint o g) h → IsBoth h d b → IsForSome m b x → IsNegation x r → Says n (λ c. EachInAt (comp m g t) (chosen outer c) ss (chosen own c)) (λ o. AdmitsComp o (comp m g t) × AdmitsItems o ss) r
-    each_says found absent guard both some none = record {
-      truth = λ c k. (λ p. there c k ((none.truth c).0 p), λ p. (none.truth c).1 (λ q. back c k p ((some.truth c).0 q)));
-      levels = none.levels n (some.levels n (subst (λ j. FormulaFits j b) sum (both.levels inner guard.levels (absent.levels inner found.levels))));
-      operators = λ o a. none.operators o (some.operators o (both.operators o (guard.operators o a.0.0) (absent.operators o (found.operators o (a.1, a.0.1)))));
+  module _ (g : List (List Lit)) (t : TermD) (ss : CompsD) (f r : FormulaD) where
+    -- each item that the guard admits is found in the set
+    pub each_says : Says inner (λ c. IsTrue (holds (chosen names c) g) × SomeIsAt ss (chosen own c) t (chosen names c)) (λ o. AdmitsComp o (comp m g t) × AdmitsItems o ss) f → IsForEach n m names g f r → Says n (λ c. EachInAt (comp m g t) (chosen outer c) ss (chosen own c)) (λ o. AdmitsComp o (comp m g t) × AdmitsItems o ss) r
+    each_says found each = record {
+      truth = λ c k. (
+        λ p e y. is_in c e k y.count ((each.truth c k).0 p e y.count (guard_back g c e k y.count y.guard)),
+        λ p. (each.truth c k).1 (λ e l y. is_found c e k l y (p e (record { count = l; guard = guard_there g c e k l y }))),
+      );
+      levels = each.levels;
+      operators = λ o a. each.operators o a.0.0 (found.operators o a);
     }
       where
         is_in : (c e : List Atom) → length c ≡ n → length e ≡ m → FormulaHolds (c ++ e) f → InAt t (chosen outer c ++ e) ss (chosen own c)
         is_in c e k l p =
-            let i : SomeIsAt ss (chosen own (c ++ e)) t (chosen names (c ++ e)) = (found.truth (c ++ e) (longer c e k l)).0 p in
+            let i : SomeIsAt ss (chosen own (c ++ e)) t (chosen names (c ++ e)) = ((found.truth (c ++ e) (longer c e k l)).0 p).1 in
             (some_is_in t (chosen outer c ++ e) ss (chosen own c)).0 (subst (λ z. SomeIsAt ss (chosen own c) t z) (comp_names c e k l) (subst (λ z. SomeIsAt ss z t (chosen names (c ++ e))) (own_names c e k) i))
 
-        is_found : (c e : List Atom) → length c ≡ n → length e ≡ m → InAt t (chosen outer c ++ e) ss (chosen own c) → FormulaHolds (c ++ e) f
-        is_found c e k l p =
+        is_found : (c e : List Atom) → length c ≡ n → length e ≡ m → IsTrue (holds (chosen names (c ++ e)) g) → InAt t (chosen outer c ++ e) ss (chosen own c) → FormulaHolds (c ++ e) f
+        is_found c e k l y p =
             let i : SomeIsAt ss (chosen own c) t (chosen outer c ++ e) = (some_is_in t (chosen outer c ++ e) ss (chosen own c)).1 p in
-            (found.truth (c ++ e) (longer c e k l)).1 (subst (λ z. SomeIsAt ss z t (chosen names (c ++ e))) (sym (own_names c e k)) (subst (λ z. SomeIsAt ss (chosen own c) t z) (sym (comp_names c e k l)) i))
+            (found.truth (c ++ e) (longer c e k l)).1 (y, subst (λ z. SomeIsAt ss z t (chosen names (c ++ e))) (sym (own_names c e k)) (subst (λ z. SomeIsAt ss (chosen own c) t z) (sym (comp_names c e k l)) i))
 
-        there : (c : List Atom) → length c ≡ n → (FormulaHolds c x → ⊥) → (e : List Atom) → IsExtension (chosen outer c) m g e → InAt t (chosen outer c ++ e) ss (chosen own c)
-        there c k refuted e y = pick (formula_decided f (c ++ e) (subst (λ j. FormulaFits j f) (sym (longer c e k y.count)) found.levels))
-          where
-            pick : FormulaHolds (c ++ e) f ⊎ (FormulaHolds (c ++ e) f → ⊥) → InAt t (chosen outer c ++ e) ss (chosen own c)
-            pick (inl p) = is_in c e k y.count p
-            pick (inr p) =
-                absurd (refuted ((some.truth c).1 (e, y.count, (both.truth (c ++ e)).1 ((guard.truth (c ++ e) (longer c e k y.count)).1 (guard_back g c e k y.count y.guard), (absent.truth (c ++ e)).1 p))))
+  -- the item of a pair is there, for some atoms at the other's binders
+  module _ (h g : List (List Lit)) (s t : TermD) (A : Bool → Type 0) (f r : FormulaD) where
+    pub paired_one : Says inner (λ c. IsTrue (holds (chosen own c) h) × IsTrue (holds (chosen names c) g) × SameAt t (chosen names c) s (chosen own c)) A f → IsForSome m f r → Says n (λ c. IsTrue (holds (chosen own c) h) × OneIsAt (comp m g t) (chosen outer c) s (chosen own c)) A r
+    paired_one pair some = record {
+      truth = λ c k. (λ x. there c k ((some.truth c).0 x), λ x. back c k x);
+      levels = some.levels n (subst (λ j. FormulaFits j f) sum pair.levels);
+      operators = λ o a. some.operators o (pair.operators o a);
+    }
+      where
+        there : (c : List Atom) → length c ≡ n → ((x : List Atom) × (length x ≡ m) × FormulaHolds (c ++ x) f) → IsTrue (holds (chosen own c) h) × OneIsAt (comp m g t) (chosen outer c) s (chosen own c)
+        there c k (x, l, p) =
+            let q = (pair.truth (c ++ x) (longer c x k l)).0 p in
+            let u : IsTrue (holds (chosen own c) h) = subst (λ z. IsTrue (holds z h)) (own_names c x k) q.0 in
+            (u, (x, record { count = l; guard = guard_there g c x k l q.1 }, subst (λ z. SameAt t z s (chosen own c)) (comp_names c x k l) (subst (λ z. SameAt t (chosen names (c ++ x)) s z) (own_names c x k) q.2)))
 
-        back : (c : List Atom) → length c ≡ n → ((e : List Atom) → IsExtension (chosen outer c) m g e → InAt t (chosen outer c ++ e) ss (chosen own c)) → ((e : List Atom) × (length e ≡ m) × FormulaHolds (c ++ e) b) → ⊥
-        back c k each (e, l, p) =
-            let q = (both.truth (c ++ e)).0 p in
-            let i : IsTrue (holds (chosen names (c ++ e)) g) = (guard.truth (c ++ e) (longer c e k l)).0 q.0 in
-            (absent.truth (c ++ e)).0 q.1 (is_found c e k l (each e (record { count = l; guard = guard_there g c e k l i })))
+        back : (c : List Atom) → length c ≡ n → IsTrue (holds (chosen own c) h) × OneIsAt (comp m g t) (chosen outer c) s (chosen own c) → FormulaHolds c r
+        back c k (v, (x, y, i)) =
+            let l = y.count in
+            let u : SameAt t (chosen names (c ++ x)) s (chosen own (c ++ x)) = subst (λ z. SameAt t (chosen names (c ++ x)) s z) (sym (own_names c x k)) (subst (λ z. SameAt t z s (chosen own c)) (sym (comp_names c x k l)) i) in
+            let w : IsTrue (holds (chosen own (c ++ x)) h) = subst (λ z. IsTrue (holds z h)) (sym (own_names c x k)) v in
+            (some.truth c).1 (x, l, (pair.truth (c ++ x) (longer c x k l)).1 (w, guard_back g c x k l y.guard, u))
+
+-- nothing that the guard admits is missing
+module _ (n m : ℕ) (names : List ℕ) (g : List (List Lit)) (f d h b x r : FormulaD) (fits : FormulaFits (n + m) f) where
+  pub each_met : IsNegation f d → Says (n + m) (λ c. IsTrue (holds (chosen names c) g)) (λ o. AdmitsConstraint o g) h → IsBoth h d b → IsForSome m b x → IsNegation x r → IsForEach n m names g f r
+  each_met absent guard both some none = record {
+    truth = λ c k. (λ p. there c k ((none.truth c).0 p), λ p. (none.truth c).1 (λ q. back c k p ((some.truth c).0 q)));
+    levels = none.levels n (some.levels n (both.levels (n + m) guard.levels (absent.levels (n + m) fits)));
+    operators = λ o a u. none.operators o (some.operators o (both.operators o (guard.operators o a) (absent.operators o u)));
+  }
+    where
+      long : (c e : List Atom) → length c ≡ n → length e ≡ m → length (c ++ e) ≡ n + m
+      long c e k l = omega (arith, length-append c e)
+
+      there : (c : List Atom) → length c ≡ n → (FormulaHolds c x → ⊥) → (e : List Atom) → length e ≡ m → IsTrue (holds (chosen names (c ++ e)) g) → FormulaHolds (c ++ e) f
+      there c k refuted e l y = pick (formula_decided f (c ++ e) (subst (λ j. FormulaFits j f) (sym (long c e k l)) fits))
+        where
+          pick : FormulaHolds (c ++ e) f ⊎ (FormulaHolds (c ++ e) f → ⊥) → FormulaHolds (c ++ e) f
+          pick (inl p) = p
+          pick (inr p) =
+              absurd (refuted ((some.truth c).1 (e, l, (both.truth (c ++ e)).1 ((guard.truth (c ++ e) (long c e k l)).1 y, (absent.truth (c ++ e)).1 p))))
+
+      back : (c : List Atom) → length c ≡ n → ((e : List Atom) → length e ≡ m → IsTrue (holds (chosen names (c ++ e)) g) → FormulaHolds (c ++ e) f) → ((e : List Atom) × (length e ≡ m) × FormulaHolds (c ++ e) b) → ⊥
+      back c k each (e, l, p) =
+          let q = (both.truth (c ++ e)).0 p in
+          (absent.truth (c ++ e)).0 q.1 (each e l ((guard.truth (c ++ e) (long c e k l)).0 q.0))

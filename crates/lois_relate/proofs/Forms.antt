@@ -114,6 +114,29 @@ both_pushed f g r fs rs e p k =
       operators = λ o h h'. admits_pushed o g fs h h';
     }))
 
+all_appended : (c : List Atom) (gs fs : List FormulaD) → AllHold c (formulas_of (fs ++ gs)) ↔ (AllHold c (formulas_of fs) × AllHold c (formulas_of gs))
+all_appended c gs [] = (λ h. (tt, h), λ h. h.1)
+all_appended c gs (f ∷ fs) = (
+  λ h. let r = (all_appended c gs fs).0 h.1 in ((h.0, r.0), r.1),
+  λ h. (h.0.0, (all_appended c gs fs).1 (h.0.1, h.1)),
+)
+
+fit_appended : (n : ℕ) (gs fs : List FormulaD) → FormulasFit n (formulas_of fs) → FormulasFit n (formulas_of gs) → FormulasFit n (formulas_of (fs ++ gs))
+fit_appended n gs [] h k = k
+fit_appended n gs (f ∷ fs) h k = (h.0, fit_appended n gs fs h.1 k)
+
+admits_appended : (o : Bool) (gs fs : List FormulaD) → AdmitsFormulas o (formulas_of fs) → AdmitsFormulas o (formulas_of gs) → AdmitsFormulas o (formulas_of (fs ++ gs))
+admits_appended o gs [] h k = k
+admits_appended o gs (f ∷ fs) h k = (h.0, admits_appended o gs fs h.1 k)
+
+pub both_appended : (g : FormulaD) (fs gs rs : List FormulaD) → g ≡ all (formulas_of gs) → rs ≡ fs ++ gs → IsBoth (all (formulas_of fs)) g (all (formulas_of rs))
+both_appended g fs gs rs e p =
+    subst (λ z. IsBoth (all (formulas_of fs)) z (all (formulas_of rs))) (sym e) (subst (λ z. IsBoth (all (formulas_of fs)) (all (formulas_of gs)) (all (formulas_of z))) (sym p) (record {
+      truth = λ c. all_appended c gs fs;
+      levels = λ n h k. fit_appended n gs fs h k;
+      operators = λ o h k. admits_appended o gs fs h k;
+    }))
+
 pub both_paired : (f g r : FormulaD) (rs : List FormulaD) → rs ≡ f ∷ g ∷ [] → r ≡ all (formulas_of rs) → IsBoth f g r
 both_paired f g r rs p k =
     let whole_is : all (formulas_of (f ∷ g ∷ [])) ≡ r = ap (λ z. all (formulas_of z)) (sym p) ∙ sym k in

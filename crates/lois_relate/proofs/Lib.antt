@@ -9,3 +9,6 @@ pub mod Steps
 pub mod Own
 pub mod AlikeSame
 pub mod Single
+pub mod Turned
+pub mod Rows
+pub mod Pairs

@@ -1,5 +1,5 @@
 -- What holds as a loop goes over parts that are all to hold, or of which one is to hold.
-use Rattle.std.proofs.Common.{◌≡◌, ℕ, Bool, true, false, ◌⊎◌, inl, inr, ◌↔◌, List, length, sym, subst}
+use Rattle.std.proofs.Common.{◌≡◌, ℕ, Bool, ◌⊎◌, inl, inr, ◌↔◌, List, length, sym, subst}
 use Rattle.lois_base.specs.Atom.{Atom}
 use Rattle.lois_base.specs.FormulaData.{FormulaD, all, any, no_formulas, FormulaFits}
 use Rattle.lois_base.specs.FormulaTruth.{FormulaHolds}

@@ -19,7 +19,7 @@ chosen_longer (i ∷ names) c e h =
     rw (get_or_append_left c e (whole 0) i l, chosen_longer names c e (All-tail (λ j. j < length c) i names h))
 
 -- the further atoms are those at the levels after the others
-chosen_levels : (m : ℕ) (c e : List Atom) → length e ≡ m → chosen (levels_from (length c) m) (c ++ e) ≡ e
+pub chosen_levels : (m : ℕ) (c e : List Atom) → length e ≡ m → chosen (levels_from (length c) m) (c ++ e) ≡ e
 chosen_levels zero c [] l = refl
 chosen_levels zero c (a ∷ e) l = absurd (omega arith)
 chosen_levels (suc m) c [] l = absurd (omega arith)
@@ -47,7 +47,7 @@ pub length-levels_from : (m n : ℕ) → length (levels_from n m) ≡ m
 length-levels_from zero n = refl
 length-levels_from (suc m) n = omega (arith, length-levels_from m (suc n))
 
-levels_below : (m n : ℕ) → AreBelow (n + m) (levels_from n m)
+pub levels_below : (m n : ℕ) → AreBelow (n + m) (levels_from n m)
 levels_below zero n = All-nil (λ i. i < n + 0)
 levels_below (suc m) n =
     let e : suc n + m ≡ n + suc m = omega arith in

@@ -3,3 +3,4 @@ pub mod Named
 pub mod Built
 pub mod Alike
 pub mod Singles
+pub mod Compared

@@ -1,7 +1,7 @@
 //! Formulas put together from smaller ones. What is seen to be true or false everywhere is absorbed.
 
-ghost use Rattle.std.specs.Prelude.{◌≡◌, IfOk, IsTrue, ◌↔◌, [], ◌∷◌};
-ghost use Rattle.lois_base.specs.FormulaData.{all, any, no_formulas};
+ghost use Rattle.std.specs.Prelude.{◌≡◌, IfOk, OnOk, IsTrue, ◌↔◌, [], ◌∷◌, ◌++◌};
+ghost use Rattle.lois_base.specs.FormulaData.{all, any, no_formulas, formulas_of};
 ghost use Rattle.lois_base.specs.FormulaView.{view, views};
 ghost use Rattle.lois_relate.specs.Built.{IsBoth, IsEither, IsNegation, IsImplied, IsForSome};
 
@@ -66,11 +66,30 @@ fn joined_by_all(alloc: Global, f: Formula, g: Formula) -> Result<Formula, NoMem
 {
     match f {
         Formula::All(mut parts) => {
-            parts.push(g)?;
+            add_parts(&mut parts, g)?;
             Ok(Formula::All(parts))
         }
         other => Ok(Formula::All(pair(alloc, other, g)?)),
     }
+}
+
+// The formula becomes a part, or its parts do, so that what takes the parts one by one meets no conjunction among them.
+fn add_parts(parts: &mut Formulas, g: Formula) -> Result<(), NoMemory>
+    ensures { OnOk result (IsBoth (all (formulas_of (views parts.old))) (view g) (all (formulas_of (views parts.new)))) }
+{
+    match g {
+        Formula::All(more) => append(parts, more),
+        other => parts.push(other),
+    }
+}
+
+fn append(parts: &mut Formulas, more: Formulas) -> Result<(), NoMemory>
+    ensures { OnOk result (views parts.new ≡ views parts.old ++ views more) }
+{
+    for part in more.into_vec() {
+        parts.push(part)?;
+    }
+    Ok(())
 }
 
 /// Where one of them holds.

@@ -2,6 +2,7 @@
 #![tactic(auto)]
 
 pub mod building;
+mod comparing;
 mod matching;
 mod naming;
 mod relating;

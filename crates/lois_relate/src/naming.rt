@@ -26,11 +26,11 @@ pub fn entered(
     size: usize,
     binders: usize,
 ) -> Result<Vec<usize>, NoMemory>
-    requires { size + binders < 2 ^ 64 }
     ensures { IfOk result (λ r. r.items ≡ names.now ++ levels_from size binders) }
 {
+    let inner = inner_size(size, binders)?;
     let mut longer = Vec::from_slice(alloc, names)?;
-    for level in size..size + binders {
+    for level in size..inner {
         longer.push(level)?;
     }
     Ok(longer)

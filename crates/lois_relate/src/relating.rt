@@ -1,27 +1,29 @@
 //! Equality, membership and inclusion, by recursion on both terms.
 
-ghost use Rattle.std.specs.Prelude.{◌≡◌, ℕ, ◌+◌, ◌<◌, Bool, [], ◌∷◌, length, map, IfOk, IfSome, IfNone, IsTrue};
+ghost use Rattle.std.specs.Prelude.{◌≡◌, ℕ, ◌+◌, ◌<◌, Bool, [], ◌∷◌, ◌++◌, length, map, IfOk, IfSome, IfNone, IsTrue};
 ghost use Rattle.lois_base.specs.Atom.{equal};
 ghost use Rattle.lois_base.specs.Data.{coll, more, no_comps, terms_of, comps_of};
-ghost use Rattle.lois_base.specs.Fits.{Fits, PartsFit, CompFits, ItemsFit};
+ghost use Rattle.lois_base.specs.Fits.{ConstraintFits, Fits, PartsFit, CompFits, ItemsFit};
 ghost use Rattle.lois_base.specs.FormulaData.{FormulaFits};
-ghost use Rattle.lois_base.specs.FormulaView.{view};
+ghost use Rattle.lois_base.specs.FormulaView.{view, views};
 ghost use Rattle.lois_base.specs.Truth.{atom_at};
 ghost use Rattle.lois_base.specs.Tree.{tree, comp_of};
 ghost use Rattle.lois_base.specs.Validity.{AdmitsTerm, AdmitsParts, AdmitsComp, AdmitsItems, AdmitsFormula};
 ghost use Rattle.lois_base.specs.Values.{SameAt, SamePartsAt, AllInAt, EachInAt, SomeIsAt, OneIsAt};
 ghost use Rattle.lois_terms.specs.Guarded.{IsSet};
 ghost use Rattle.lois_relate.specs.Built.{Says};
-ghost use Rattle.lois_relate.specs.Named.{chosen, AreBelow};
+ghost use Rattle.lois_relate.specs.Compared.{IsForEach, SaysPaired, SaysItem, SaysFound, IsKnown, IsRow, AreRows};
+ghost use Rattle.lois_relate.specs.Named.{chosen, AreBelow, levels_from};
 ghost use Rattle.lois_relate.specs.Singles.{IsSingle};
 ghost use Rattle.lois_relate.specs.Relations.{HoldsWhereSame, HoldsWhereIn, HoldsWhereItemIn, HoldsWhereIncluded};
 
 use crate::building::{
     always, both, either, for_some, implied, is_always, is_never, negated, never,
 };
+use crate::comparing::{Comparison, Known, both_ways};
 use crate::matching::{is_listed, sets_match};
 use crate::naming::{entered, guard_formula, inner_size};
-use lois_base::{Comp, Comps, Formula, Lit, NoMemory, Op, Term, Terms};
+use lois_base::{Comp, Comps, Formula, Formulas, Lit, NoMemory, Op, Term, Terms};
 use std::alloc::Global;
 
 /// A formula that holds at each choice of `size` atoms exactly where the two terms have the same value. It has `<` only where a term has it. Errors: `NoMemory`, also where a level would pass the greatest usize.
@@ -89,7 +91,7 @@ pub fn included_formula(alloc: Global, s: &Term, t: &Term, size: usize) -> Resul
     let own = levels.as_slice();
     match (s, t) {
         (Term::Coll(comps), Term::Coll(others)) => {
-            included(alloc, comps, own, others, own, size)
+            included(alloc, &[], comps, own, others, own, size)
         }
         _ => unreachable!(),
     }
@@ -175,7 +177,7 @@ fn same_parts(
     Ok(met)
 }
 
-// Sets are the same where each is included in the other.
+// Sets are the same where each is included in the other. Each pair of comprehensions is compared once.
 #[cycle(relating)]
 fn same_sets(
     alloc: Global,
@@ -199,12 +201,20 @@ fn same_sets(
             return same_singles(alloc, one, s_names, other, t_names, size);
         }
     }
-    let there = included(alloc, comps, s_names, others, t_names, size)?;
-    if is_never(&there) {
-        return Ok(there);
+    let there = sets_compared(alloc, comps, s_names, others, t_names, size)?;
+    if is_never(&there.included) {
+        return Ok(there.included);
     }
-    let back = included(alloc, others, t_names, comps, s_names, size)?;
-    both(alloc, there, back)
+    let back = included(
+        alloc,
+        there.rows.as_slice(),
+        others,
+        t_names,
+        comps,
+        s_names,
+        size,
+    )?;
+    both(alloc, there.included, back)
 }
 
 // The comprehension of a set that has no other, and no binders.
@@ -251,6 +261,7 @@ fn same_singles(
 #[cycle(relating)]
 fn included(
     alloc: Global,
+    rows: &[Formulas],
     comps: &Comps,
     s_names: &[usize],
     others: &Comps,
@@ -261,11 +272,14 @@ fn included(
     requires left_names { AreBelow size s_names.now }
     requires right { ItemsFit (length t_names.now) (comps_of others.now) }
     requires right_names { AreBelow size t_names.now }
+    requires rows { AreRows size others.now t_names.now comps.now s_names.now (map views rows.now) }
     ensures { IfOk result (λ f. Says size (λ c. AllInAt (comps_of comps.now) (chosen s_names.now c) (comps_of others.now) (chosen t_names.now c)) (λ o. AdmitsItems o (comps_of comps.now) × AdmitsItems o (comps_of others.now)) (view f)) }
 {
     let mut met = always(alloc);
-    for comp in comps.as_slice() {
-        let one = each_in(alloc, comp, s_names, others, t_names, size)?;
+    let items = comps.as_slice();
+    for (place, comp) in items.iter().enumerate() {
+        let known = Known { rows, place };
+        let one = each_in(alloc, known, comp, s_names, others, t_names, size)?;
         met = both(alloc, met, one)?;
         if is_never(&met) {
             return Ok(met);
@@ -278,6 +292,7 @@ fn included(
 #[cycle(relating)]
 fn each_in(
     alloc: Global,
+    known: Known<'_>,
     comp: &Comp,
     s_names: &[usize],
     others: &Comps,
@@ -288,22 +303,98 @@ fn each_in(
     requires left_names { AreBelow size s_names.now }
     requires right { ItemsFit (length t_names.now) (comps_of others.now) }
     requires right_names { AreBelow size t_names.now }
+    requires known { IsKnown size others.now t_names.now (comp_of comp.now) s_names.now (map views known.rows.now) known.place }
     ensures { IfOk result (λ f. Says size (λ c. EachInAt (comp_of comp.now) (chosen s_names.now c) (comps_of others.now) (chosen t_names.now c)) (λ o. AdmitsComp o (comp_of comp.now) × AdmitsItems o (comps_of others.now)) (view f)) }
 {
     if is_listed(comp, s_names, others, t_names) {
         return Ok(always(alloc));
     }
-    let inner = inner_size(size, comp.binders)?;
     let longer = entered(alloc, s_names, size, comp.binders)?;
-    let names = longer.as_slice();
-    let found = member(alloc, &comp.item, names, others.as_slice(), t_names, inner)?;
+    let found = found_in(
+        alloc,
+        known,
+        comp,
+        s_names,
+        others.as_slice(),
+        t_names,
+        size,
+    )?;
+    none_missing(alloc, found, comp, longer.as_slice())
+}
+
+// Where something is found for each choice of the binders that the guard admits.
+fn none_missing(
+    alloc: Global,
+    found: Formula,
+    comp: &Comp,
+    names: &[usize],
+) -> Result<Formula, NoMemory>
+    requires { ConstraintFits (length names.now) comp.now.guard }
+    ensures { IfOk result (λ r. (n : ℕ) → AreBelow (n + comp.now.binders) names.now → FormulaFits (n + comp.now.binders) (view found) → IsForEach n comp.now.binders names.now comp.now.guard (view found) (view r)) }
+{
     let guard = guard_formula(alloc, &comp.guard, names)?;
     let missing = both(alloc, guard, negated(alloc, found)?)?;
     negated(alloc, for_some(alloc, missing, comp.binders)?)
 }
 
-// Where the value is in the set of the comprehensions.
+// Where the guard admits the item of the comprehension, and it is in the set.
 #[cycle(relating)]
+fn found_in(
+    alloc: Global,
+    known: Known<'_>,
+    comp: &Comp,
+    s_names: &[usize],
+    others: &[Comp],
+    t_names: &[usize],
+    size: usize,
+) -> Result<Formula, NoMemory>
+    requires left { CompFits (length s_names.now) (comp_of comp.now) }
+    requires left_names { AreBelow size s_names.now }
+    requires right { ItemsFit (length t_names.now) (comps_of (map comp_of others.now)) }
+    requires right_names { AreBelow size t_names.now }
+    requires known { IsKnown size (map comp_of others.now) t_names.now (comp_of comp.now) s_names.now (map views known.rows.now) known.place }
+    ensures { IfOk result (λ f. SaysFound size s_names.now (comp_of comp.now) t_names.now (comps_of (map comp_of others.now)) (view f)) }
+{
+    let mut found = never(alloc);
+    for (i, other) in others.iter().enumerate() {
+        let one = one_found(alloc, known.of(i), comp, s_names, other, t_names, size)?;
+        found = either(alloc, found, one)?;
+        if is_always(&found) {
+            return Ok(found);
+        }
+    }
+    Ok(found)
+}
+
+// The same of one comprehension of the set.
+#[cycle(relating)]
+fn one_found(
+    alloc: Global,
+    known: Option<&Formula>,
+    comp: &Comp,
+    s_names: &[usize],
+    other: &Comp,
+    t_names: &[usize],
+    size: usize,
+) -> Result<Formula, NoMemory>
+    requires left { CompFits (length s_names.now) (comp_of comp.now) }
+    requires left_names { AreBelow size s_names.now }
+    requires right { CompFits (length t_names.now) (comp_of other.now) }
+    requires right_names { AreBelow size t_names.now }
+    requires known { IfSome known (λ f. SaysPaired size s_names.now (comp_of comp.now) t_names.now (comp_of other.now) (view f.now)) }
+    ensures { IfOk result (λ f. SaysItem size s_names.now (comp_of comp.now) t_names.now (comp_of other.now) (view f)) }
+{
+    if let Some(paired) = known {
+        return for_some(alloc, paired.copy(alloc)?, other.binders);
+    }
+    let inner = inner_size(size, comp.binders)?;
+    let longer = entered(alloc, s_names, size, comp.binders)?;
+    let names = longer.as_slice();
+    let one = is_item(alloc, &comp.item, names, other, t_names, inner)?;
+    both(alloc, guard_formula(alloc, &comp.guard, names)?, one)
+}
+
+// Where the value is in the set of the comprehensions.
 fn member(
     alloc: Global,
     s: &Term,
@@ -351,4 +442,146 @@ fn is_item(
     let equal = same(alloc, &comp.item, names, s, s_names, inner)?;
     let guard = guard_formula(alloc, &comp.guard, names)?;
     for_some(alloc, both(alloc, equal, guard)?, comp.binders)
+}
+
+// Where the one set is included in the other, and where each pair of comprehensions is there, as the other inclusion asks for it: a row for each of the one set's.
+#[derive(Drop)]
+struct Compared {
+    included: Formula,
+    rows: Vec<Formulas>,
+}
+
+// The same of one comprehension: where it is included, or found, and its row.
+#[derive(Drop)]
+struct Row {
+    there: Formula,
+    pairs: Formulas,
+}
+
+// The first of two inclusions of sets.
+#[cycle(relating)]
+fn sets_compared(
+    alloc: Global,
+    comps: &Comps,
+    s_names: &[usize],
+    others: &Comps,
+    t_names: &[usize],
+    size: usize,
+) -> Result<Compared, NoMemory>
+    requires left { ItemsFit (length s_names.now) (comps_of comps.now) }
+    requires left_names { AreBelow size s_names.now }
+    requires right { ItemsFit (length t_names.now) (comps_of others.now) }
+    requires right_names { AreBelow size t_names.now }
+    ensures included { IfOk result (λ r. Says size (λ c. AllInAt (comps_of comps.now) (chosen s_names.now c) (comps_of others.now) (chosen t_names.now c)) (λ o. AdmitsItems o (comps_of comps.now) × AdmitsItems o (comps_of others.now)) (view r.included)) }
+    ensures rows { IfOk result (λ r. AreRows size comps.now s_names.now others.now t_names.now (map views r.rows.items)) }
+{
+    let mut met = always(alloc);
+    let mut rows = Vec::new(alloc);
+    for comp in comps.as_slice() {
+        let Row { there, pairs } = each_compared(alloc, comp, s_names, others, t_names, size)?;
+        rows.push(pairs)?;
+        met = both(alloc, met, there)?;
+        if is_never(&met) {
+            return Ok(Compared {
+                included: met,
+                rows,
+            });
+        }
+    }
+    Ok(Compared {
+        included: met,
+        rows,
+    })
+}
+
+// A comprehension that is listed is in the other set, and no pair of it is compared.
+#[cycle(relating)]
+fn each_compared(
+    alloc: Global,
+    comp: &Comp,
+    s_names: &[usize],
+    others: &Comps,
+    t_names: &[usize],
+    size: usize,
+) -> Result<Row, NoMemory>
+    requires left { CompFits (length s_names.now) (comp_of comp.now) }
+    requires left_names { AreBelow size s_names.now }
+    requires right { ItemsFit (length t_names.now) (comps_of others.now) }
+    requires right_names { AreBelow size t_names.now }
+    ensures there { IfOk result (λ r. Says size (λ c. EachInAt (comp_of comp.now) (chosen s_names.now c) (comps_of others.now) (chosen t_names.now c)) (λ o. AdmitsComp o (comp_of comp.now) × AdmitsItems o (comps_of others.now)) (view r.there)) }
+    ensures pairs { IfOk result (λ r. IsRow size (comp_of comp.now) s_names.now others.now t_names.now (views r.pairs)) }
+{
+    if is_listed(comp, s_names, others, t_names) {
+        return Ok(Row {
+            there: always(alloc),
+            pairs: Formulas::new(alloc),
+        });
+    }
+    let longer = entered(alloc, s_names, size, comp.binders)?;
+    let found = item_compared(alloc, comp, s_names, others.as_slice(), t_names, size)?;
+    Ok(Row {
+        there: none_missing(alloc, found.there, comp, longer.as_slice())?,
+        pairs: found.pairs,
+    })
+}
+
+// The item beside those of a set: where it is one of them, and where it is each.
+#[cycle(relating)]
+fn item_compared(
+    alloc: Global,
+    comp: &Comp,
+    s_names: &[usize],
+    others: &[Comp],
+    t_names: &[usize],
+    size: usize,
+) -> Result<Row, NoMemory>
+    requires left { CompFits (length s_names.now) (comp_of comp.now) }
+    requires left_names { AreBelow size s_names.now }
+    requires right { ItemsFit (length t_names.now) (comps_of (map comp_of others.now)) }
+    requires right_names { AreBelow size t_names.now }
+    ensures there { IfOk result (λ r. SaysFound size s_names.now (comp_of comp.now) t_names.now (comps_of (map comp_of others.now)) (view r.there)) }
+    ensures pairs { IfOk result (λ r. IsRow size (comp_of comp.now) s_names.now (map comp_of others.now) t_names.now (views r.pairs)) }
+{
+    let mut found = never(alloc);
+    let mut pairs = Formulas::new(alloc);
+    for other in others {
+        let Comparison { forth, back } = pair_compared(alloc, comp, s_names, other, t_names, size)?;
+        pairs.push(back)?;
+        found = either(alloc, found, for_some(alloc, forth, other.binders)?)?;
+    }
+    Ok(Row {
+        there: found,
+        pairs,
+    })
+}
+
+// Where both guards hold and both items are the same, with the binders in either order. Whatever asks for it asks for the guards too, and where guards repeat those around them the items alone have a case for each literal that fails.
+#[cycle(relating)]
+fn pair_compared(
+    alloc: Global,
+    comp: &Comp,
+    s_names: &[usize],
+    other: &Comp,
+    t_names: &[usize],
+    size: usize,
+) -> Result<Comparison, NoMemory>
+    requires left { CompFits (length s_names.now) (comp_of comp.now) }
+    requires left_names { AreBelow size s_names.now }
+    requires right { CompFits (length t_names.now) (comp_of other.now) }
+    requires right_names { AreBelow size t_names.now }
+    ensures forth { IfOk result (λ r. SaysPaired size s_names.now (comp_of comp.now) t_names.now (comp_of other.now) (view r.forth)) }
+    ensures back { IfOk result (λ r. SaysPaired size t_names.now (comp_of other.now) s_names.now (comp_of comp.now) (view r.back)) }
+{
+    let inner = inner_size(size, comp.binders)?;
+    let whole = inner_size(inner, other.binders)?;
+    let own = entered(alloc, s_names, size, comp.binders)?;
+    let longer = entered(alloc, t_names, inner, other.binders)?;
+    let left = own.as_slice();
+    let right = longer.as_slice();
+    let equal = same(alloc, &other.item, right, &comp.item, left, whole)?;
+    let guard = guard_formula(alloc, &comp.guard, left)?;
+    let other_guard = guard_formula(alloc, &other.guard, right)?;
+    let there = both(alloc, guard, other_guard)?;
+    let paired = both(alloc, there, equal)?;
+    both_ways(alloc, &paired, size, comp.binders, other.binders)
 }

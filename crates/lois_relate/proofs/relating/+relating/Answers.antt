@@ -1,65 +1,123 @@
 use Rattle.std.proofs.Common.{◌≡◌, ◌+◌, ◌<◌, ◌++◌, length, map, subst, sym, refl, ap, ◌∙◌, arith}
+use Rattle.std.proofs.lemmas.Option.{IfSome_then}
 use Rattle.std.proofs.lemmas.Result.{IfOk-weaker}
+use Rattle.std.specs.Prelude.{IfSome}
 use Rattle.lois_base.specs.Data.{comps_of, depth_of_comps, coll, more, no_comps}
 use Rattle.lois_base.specs.Fits.{Fits, ItemsFit}
-use Rattle.lois_base.specs.FormulaView.{view}
+use Rattle.lois_base.specs.FormulaView.{view, views}
 use Rattle.lois_base.specs.Tree.{tree, comp_of}
-use Rattle.lois_base.specs.Validity.{AdmitsTerm, AdmitsComp, AdmitsItems}
-use Rattle.lois_base.specs.Values.{SameAt, AllInAt, SomeIsAt}
-use Rattle.lois_relate.specs.Built.{Says, IsBoth, IsNegation, IsForSome}
+use Rattle.lois_base.specs.Validity.{AdmitsComp}
+use Rattle.lois_base.specs.Values.{SameAt, AllInAt}
+use Rattle.lois_relate.specs.Built.{Says, IsBoth, IsForSome}
+use Rattle.lois_relate.specs.Compared.{IsForEach, SaysPaired, SaysFound, IsKnown}
 use Rattle.lois_relate.specs.Named.{chosen, levels_from}
 use Rattle.lois_relate.proofs.AlikeSame.{always_says, listed_each, sets_alike}
-use Rattle.lois_relate.proofs.Binders.{one_says, each_says}
-use Rattle.lois_relate.proofs.Loops.{all_go_on, all_cut, any_go_on}
+use Rattle.lois_relate.proofs.Binders.{one_says}
+use Rattle.lois_relate.proofs.Loops.{all_go_on, all_cut}
+use Rattle.lois_relate.proofs.Pairs.{item_got, found_goes_on, each_found, pair_item, guarded_item}
 use Rattle.lois_relate.proofs.Parts.{terms_from, terms_are, comps_from, comps_are, is_part_of, is_comp_of}
 use Rattle.lois_relate.proofs.Single.{singles_say, singles_sets, bare_say}
-use Rattle.lois_relate.proofs.Steps.{all_in_split, some_is_split, parts_split, names_below, item_fits, guard_fits, own_below_more, parts_apart, atoms_say, sets_say}
+use Rattle.lois_relate.proofs.Steps.{all_in_split, parts_split, names_below, item_fits, guard_fits, own_below_more, parts_apart, atoms_say, sets_say}
+use Rattle.lois_relate.proofs.Rows.{one_longer, mapped_pushed, rows_more, rows_known, row_more}
+use Rattle.lois_relate.proofs.Turned.{pair_says, pair_stays, pair_turns}
 use Rattle.lois_relate.proofs.relating.+relating.Goals as goal
 
-pub each_in-member-requires : goal.each_in-member-requires
-each_in-member-requires t c =
+pub each_in-found_in-requires : goal.each_in-found_in-requires
+each_in-found_in-requires t c =
+    let items : map comp_of c.as_slice.result.now ≡ c.args.others.now = c.as_slice.ensures in
+    let fits = subst (λ z. ItemsFit (length c.args.t_names.now) (comps_of z)) (sym items) c.requires.right in
+    let known = subst (λ z. IsKnown c.args.size z c.args.t_names.now (comp_of c.args.comp.now) c.args.s_names.now (map views c.args.known.rows.now) c.args.known.place) (sym items) c.requires.known in
+    (omega (arith, ap depth_of_comps items), (c.requires.left, (c.requires.left_names, (fits, (c.requires.right_names, known)))))
+
+pub each_in-none_missing-requires : goal.each_in-none_missing-requires
+each_in-none_missing-requires t c =
+    let comp = c.args.comp.now in
+    let e : c.as_slice-2.result.now ≡ c.args.s_names.now ++ levels_from c.args.size comp.binders = c.as_slice-2.ensures.value ∙ c.in_ok-longer.ensures in
+    guard_fits c.args.size comp.binders (c.args.size + comp.binders) refl c.args.s_names.now c.as_slice-2.result.now e comp.guard (tree comp.item) c.requires.left
+
+pub each_in-returns : goal.each_in-returns
+each_in-returns t c =
+    let comp = c.args.comp.now in
+    let n = c.args.size in
+    let sn = c.args.s_names.now in
+    let tn = c.args.t_names.now in
+    let names = c.as_slice-2.result.now in
+    let e : names ≡ sn ++ levels_from n comp.binders = c.as_slice-2.ensures.value ∙ c.in_ok-longer.ensures in
+    let below = names_below n comp.binders (n + comp.binders) refl sn names e c.requires.left_names in
+    let found = subst (λ z. SaysFound n sn (comp_of comp) tn (comps_of z) (view c.in_ok-found.found)) c.as_slice.ensures c.in_ok-found.ensures in
+    IfOk-weaker c.none_missing.result _ _ (λ r each. each_found n sn tn comp.binders comp.guard (tree comp.item) c.requires.left_names c.requires.right_names (comps_of c.args.others.now) (view c.in_ok-found.found) (view r) found (subst (λ z. IsForEach n comp.binders z comp.guard (view c.in_ok-found.found) (view r)) e (each n below found.levels))) c.none_missing.ensures
+
+pub found_in-one_found-requires : goal.found_in-one_found-requires
+found_in-one_found-requires t c =
+    let items = c.args.others.now in
+    let i = c.loop-i.i in
+    let k = is_comp_of items (map comp_of items) i c.index-others-i.result refl c.loop-i-test.true c.index-others-i.is in
+    let at = item_got items (map comp_of items) i c.index-others-i.result refl c.loop-i-test.true c.index-others-i.is in
+    let known = IfSome_then c.of.result c.of.ensures (λ f entry. c.requires.known i (comp_of c.index-others-i.result) (view f.now) at entry) in
+    (omega (arith, k.depth), (c.requires.left, (c.requires.left_names, (k.fits (length c.args.t_names.now) c.requires.right, (c.requires.right_names, known)))))
+
+pub found_in-loop-i-preserved : goal.found_in-loop-i-preserved
+found_in-loop-i-preserved t c =
+    let items = c.args.others.now in
+    let i = c.loop-i.i in
+    let comp = c.args.comp.now in
+    let k = is_comp_of items (map comp_of items) i c.index-others-i.result refl c.loop-i-test.true c.index-others-i.is in
+    found_goes_on c.args.size c.args.s_names.now c.args.t_names.now comp.binders comp.guard (tree comp.item) (comps_of (map comp_of items)) (comps_from items i) (comps_from items (i + 1)) (comp_of c.index-others-i.result) (comps_are items i c.index-others-i.result c.loop-i-test.true c.index-others-i.is) (view c.loop-i.found) (view c.in_ok-one.one) (view c.in_ok-found.found) c.loop-i.invariant c.in_ok-one.ensures k.admits c.in_ok-found.ensures
+
+pub one_found-returns-in-Some : goal.one_found-returns-in-Some
+one_found-returns-in-Some t c =
+    let comp = c.args.comp.now in
+    let other = c.args.other.now in
+    let known = subst (λ o. IfSome o (λ f. SaysPaired c.args.size c.args.s_names.now (comp_of comp) c.args.t_names.now (comp_of other) (view f.now))) c.in-Some.is c.requires.known in
+    let pair : SaysPaired c.args.size c.args.s_names.now (comp_of comp) c.args.t_names.now (comp_of other) (view c.in_ok-copy.field-0) = subst (SaysPaired c.args.size c.args.s_names.now (comp_of comp) c.args.t_names.now (comp_of other)) (sym c.in_ok-copy.ensures) known in
+    IfOk-weaker c.for_some.result (λ r. IsForSome other.binders (view c.in_ok-copy.field-0) (view r)) _ (λ r some. pair_item c.args.size c.args.s_names.now c.args.t_names.now comp.binders comp.guard (tree comp.item) c.requires.left_names c.requires.right_names other.binders other.guard (tree other.item) (view c.in_ok-copy.field-0) (view r) pair some) c.for_some.ensures
+
+pub one_found-is_item-requires : goal.one_found-is_item-requires
+one_found-is_item-requires t c =
     let comp = c.args.comp.now in
     let e : c.as_slice-names.result.now ≡ c.args.s_names.now ++ levels_from c.args.size comp.binders = c.as_slice-names.ensures.value ∙ c.in_ok-longer.ensures in
     let fits = item_fits c.args.size comp.binders c.in_ok-inner.inner c.in_ok-inner.ensures c.args.s_names.now c.as_slice-names.result.now e comp.guard (tree comp.item) c.requires.left in
     let below = names_below c.args.size comp.binders c.in_ok-inner.inner c.in_ok-inner.ensures c.args.s_names.now c.as_slice-names.result.now e c.requires.left_names in
     let others = own_below_more c.args.size comp.binders c.in_ok-inner.inner c.args.t_names.now c.in_ok-inner.ensures c.requires.right_names in
-    let items : map comp_of c.as_slice.result.now ≡ c.args.others.now = c.as_slice.ensures in
-    let others_fit = subst (λ z. ItemsFit (length c.args.t_names.now) (comps_of z)) (sym items) c.requires.right in
-    (omega (arith, ap depth_of_comps items), (fits, (below, (others_fit, others))))
+    (omega arith, (fits, (below, (c.requires.right, others))))
 
-pub each_in-guard_formula-requires : goal.each_in-guard_formula-requires
-each_in-guard_formula-requires t c =
+pub one_found-guard_formula-requires : goal.one_found-guard_formula-requires
+one_found-guard_formula-requires t c =
     let comp = c.args.comp.now in
     let e : c.as_slice-names.result.now ≡ c.args.s_names.now ++ levels_from c.args.size comp.binders = c.as_slice-names.ensures.value ∙ c.in_ok-longer.ensures in
     guard_fits c.args.size comp.binders c.in_ok-inner.inner c.in_ok-inner.ensures c.args.s_names.now c.as_slice-names.result.now e comp.guard (tree comp.item) c.requires.left
 
-pub each_in-returns : goal.each_in-returns
-each_in-returns t c =
+pub one_found-returns : goal.one_found-returns
+one_found-returns t c =
     let comp = c.args.comp.now in
-    let e : c.as_slice-names.result.now ≡ c.args.s_names.now ++ levels_from c.args.size comp.binders = c.as_slice-names.ensures.value ∙ c.in_ok-longer.ensures in
-    let below = names_below c.args.size comp.binders c.in_ok-inner.inner c.in_ok-inner.ensures c.args.s_names.now c.as_slice-names.result.now e c.requires.left_names in
-    let guard = c.in_ok-guard.ensures c.in_ok-inner.inner below in
-    let found = subst (λ z. Says c.in_ok-inner.inner (λ a. SomeIsAt (comps_of z) (chosen c.args.t_names.now a) (tree comp.item) (chosen c.as_slice-names.result.now a)) (λ o. AdmitsItems o (comps_of z) × AdmitsTerm o (tree comp.item)) (view c.in_ok-found.found)) c.as_slice.ensures c.in_ok-found.ensures in
-    IfOk-weaker c.negated-2.result (λ r. IsNegation (view c.in_ok-for_some.field-0) (view r)) _ (λ r none. each_says c.args.size comp.binders c.in_ok-inner.inner c.in_ok-inner.ensures c.args.t_names.now c.args.s_names.now c.as_slice-names.result.now e c.requires.right_names c.requires.left_names comp.guard (tree comp.item) (comps_of c.args.others.now) (view c.in_ok-found.found) (view c.in_ok-negated.field-0) (view c.in_ok-guard.guard) (view c.in_ok-missing.missing) (view c.in_ok-for_some.field-0) (view r) found c.in_ok-negated.ensures guard c.in_ok-missing.ensures c.in_ok-for_some.ensures none) c.negated-2.ensures
+    let other = c.args.other.now in
+    let names = c.as_slice-names.result.now in
+    let e : names ≡ c.args.s_names.now ++ levels_from c.args.size comp.binders = c.as_slice-names.ensures.value ∙ c.in_ok-longer.ensures in
+    let below = names_below c.args.size comp.binders c.in_ok-inner.inner c.in_ok-inner.ensures c.args.s_names.now names e c.requires.left_names in
+    IfOk-weaker c.both.result (λ r. IsBoth (view c.in_ok-guard_formula.field-0) (view c.in_ok-one.one) (view r)) _ (λ r both. guarded_item c.args.size c.args.s_names.now c.args.t_names.now comp.binders comp.guard (tree comp.item) c.in_ok-inner.inner c.in_ok-inner.ensures names e (comp_of other) (view c.in_ok-guard_formula.field-0) (view c.in_ok-one.one) (view r) (c.in_ok-guard_formula.ensures c.in_ok-inner.inner below) c.in_ok-one.ensures both) c.both.ensures
 
 pub included-each_in-requires : goal.included-each_in-requires
 included-each_in-requires t c =
-    let k = is_comp_of c.as_slice-comp-items.result.now c.args.comps.now c.loop-comp.comp-index c.comp-item.result c.as_slice-comp-items.ensures c.loop-comp-test.true c.comp-item.is in
-    (omega (arith, k.depth), (k.fits (length c.args.s_names.now) c.requires.left, (c.requires.left_names, (c.requires.right, c.requires.right_names))))
+    let items = c.as_slice-items.result.now in
+    let place = c.loop-place.place in
+    let k = is_comp_of items c.args.comps.now place c.index-items-place.result c.as_slice-items.ensures c.loop-place-test.true c.index-items-place.is in
+    let at = item_got items c.args.comps.now place c.index-items-place.result c.as_slice-items.ensures c.loop-place-test.true c.index-items-place.is in
+    let known = rows_known c.args.size c.args.others.now c.args.t_names.now c.args.comps.now c.args.s_names.now (map views c.args.rows.now) place (comp_of c.index-items-place.result) c.requires.rows at in
+    (omega (arith, k.depth), (k.fits (length c.args.s_names.now) c.requires.left, (c.requires.left_names, (c.requires.right, (c.requires.right_names, known)))))
 
-pub included-loop-comp-preserved : goal.included-loop-comp-preserved
-included-loop-comp-preserved t c =
-    let items = c.as_slice-comp-items.result.now in
-    let i = c.loop-comp.comp-index in
-    let k = is_comp_of items c.args.comps.now i c.comp-item.result c.as_slice-comp-items.ensures c.loop-comp-test.true c.comp-item.is in
-    all_go_on c.args.size _ _ _ _ _ _ (view c.loop-comp.met) (view c.in_ok-one.one) (view c.in_ok-met.met) c.loop-comp.invariant (λ a. all_in_split (comps_from items i) (comps_from items (i + 1)) (comp_of c.comp-item.result) (comps_are items i c.comp-item.result c.loop-comp-test.true c.comp-item.is) (chosen c.args.s_names.now a) (comps_of c.args.others.now) (chosen c.args.t_names.now a)) c.in_ok-one.ensures (λ o h. (k.admits o h.0, h.1)) c.in_ok-met.ensures
+pub included-loop-place-preserved : goal.included-loop-place-preserved
+included-loop-place-preserved t c =
+    let items = c.as_slice-items.result.now in
+    let i = c.loop-place.place in
+    let k = is_comp_of items c.args.comps.now i c.index-items-place.result c.as_slice-items.ensures c.loop-place-test.true c.index-items-place.is in
+    all_go_on c.args.size _ _ _ _ _ _ (view c.loop-place.met) (view c.in_ok-one.one) (view c.in_ok-met.met) c.loop-place.invariant (λ a. all_in_split (comps_from items i) (comps_from items (i + 1)) (comp_of c.index-items-place.result) (comps_are items i c.index-items-place.result c.loop-place-test.true c.index-items-place.is) (chosen c.args.s_names.now a) (comps_of c.args.others.now) (chosen c.args.t_names.now a)) c.in_ok-one.ensures (λ o h. (k.admits o h.0, h.1)) c.in_ok-met.ensures
 
 pub included-returns-then-is_never : goal.included-returns-then-is_never
 included-returns-then-is_never t c =
-    let items = c.as_slice-comp-items.result.now in
-    let i = c.loop-comp.comp-index in
-    let k = is_comp_of items c.args.comps.now i c.comp-item.result c.as_slice-comp-items.ensures c.loop-comp-test.true c.comp-item.is in
-    all_cut c.args.size (λ a. AllInAt (comps_from items (i + 1)) (chosen c.args.s_names.now a) (comps_of c.args.others.now) (chosen c.args.t_names.now a)) _ _ (view c.in_ok-met.met) (c.is_never.ensures.0 c.if-is_never.true) (all_go_on c.args.size _ _ _ _ _ _ (view c.loop-comp.met) (view c.in_ok-one.one) (view c.in_ok-met.met) c.loop-comp.invariant (λ a. all_in_split (comps_from items i) (comps_from items (i + 1)) (comp_of c.comp-item.result) (comps_are items i c.comp-item.result c.loop-comp-test.true c.comp-item.is) (chosen c.args.s_names.now a) (comps_of c.args.others.now) (chosen c.args.t_names.now a)) c.in_ok-one.ensures (λ o h. (k.admits o h.0, h.1)) c.in_ok-met.ensures)
+    let items = c.as_slice-items.result.now in
+    let i = c.loop-place.place in
+    let k = is_comp_of items c.args.comps.now i c.index-items-place.result c.as_slice-items.ensures c.loop-place-test.true c.index-items-place.is in
+    all_cut c.args.size (λ a. AllInAt (comps_from items (i + 1)) (chosen c.args.s_names.now a) (comps_of c.args.others.now) (chosen c.args.t_names.now a)) _ _ (view c.in_ok-met.met) (c.is_never.ensures.0 c.if-is_never.true) (all_go_on c.args.size _ _ _ _ _ _ (view c.loop-place.met) (view c.in_ok-one.one) (view c.in_ok-met.met) c.loop-place.invariant (λ a. all_in_split (comps_from items i) (comps_from items (i + 1)) (comp_of c.index-items-place.result) (comps_are items i c.index-items-place.result c.loop-place-test.true c.index-items-place.is) (chosen c.args.s_names.now a) (comps_of c.args.others.now) (chosen c.args.t_names.now a)) c.in_ok-one.ensures (λ o h. (k.admits o h.0, h.1)) c.in_ok-met.ensures)
 
 pub is_item-same-requires : goal.is_item-same-requires
 is_item-same-requires t c =
@@ -83,18 +141,6 @@ is_item-returns t c =
     let below = names_below c.args.size comp.binders c.in_ok-inner.inner c.in_ok-inner.ensures c.args.t_names.now c.as_slice-names.result.now e c.requires.right_names in
     let guard = c.in_ok-guard.ensures c.in_ok-inner.inner below in
     IfOk-weaker c.for_some.result (λ r. IsForSome comp.binders (view c.in_ok-both.field-0) (view r)) _ (λ r some. one_says c.args.size comp.binders c.in_ok-inner.inner c.in_ok-inner.ensures c.args.s_names.now c.args.t_names.now c.as_slice-names.result.now e c.requires.left_names c.requires.right_names comp.guard (tree comp.item) (tree c.args.s.now) (view c.in_ok-equal.equal) (view c.in_ok-guard.guard) (view c.in_ok-both.field-0) (view r) c.in_ok-equal.ensures guard c.in_ok-both.ensures some) c.for_some.ensures
-
-pub member-is_item-requires : goal.member-is_item-requires
-member-is_item-requires t c =
-    let k = is_comp_of c.args.comps.now (map comp_of c.args.comps.now) c.loop-comp.comp-index c.comp-item.result refl c.loop-comp-test.true c.comp-item.is in
-    (omega (arith, k.depth), (c.requires.left, (c.requires.left_names, (k.fits (length c.args.t_names.now) c.requires.right, c.requires.right_names))))
-
-pub member-loop-comp-preserved : goal.member-loop-comp-preserved
-member-loop-comp-preserved t c =
-    let items = c.args.comps.now in
-    let i = c.loop-comp.comp-index in
-    let k = is_comp_of items (map comp_of items) i c.comp-item.result refl c.loop-comp-test.true c.comp-item.is in
-    any_go_on c.args.size _ _ _ _ _ _ (view c.loop-comp.found) (view c.in_ok-one.one) (view c.in_ok-found.found) c.loop-comp.invariant (λ a. some_is_split (comps_from items i) (comps_from items (i + 1)) (comp_of c.comp-item.result) (comps_are items i c.comp-item.result c.loop-comp-test.true c.comp-item.is) (chosen c.args.t_names.now a) (tree c.args.s.now) (chosen c.args.s_names.now a)) c.in_ok-one.ensures (λ o h. (k.admits o h.0, h.1)) c.in_ok-found.ensures
 
 pub same-returns-in-Var-Var : goal.same-returns-in-Var-Var
 same-returns-in-Var-Var t c =
@@ -126,7 +172,7 @@ same_parts-loop-i-preserved t c =
 
 pub same_sets-returns : goal.same_sets-returns
 same_sets-returns t c =
-    IfOk-weaker c.both.result (λ r. IsBoth (view c.in_ok-there.there) (view c.in_ok-back.back) (view r)) _ (λ r both. sets_say c.args.size c.args.s_names.now c.args.t_names.now (comps_of c.args.comps.now) (comps_of c.args.others.now) (view c.in_ok-there.there) (view c.in_ok-back.back) (view r) c.in_ok-there.ensures c.in_ok-back.ensures both) c.both.ensures
+    IfOk-weaker c.both.result (λ r. IsBoth (view c.in_ok-there.there.included) (view c.in_ok-back.back) (view r)) _ (λ r both. sets_say c.args.size c.args.s_names.now c.args.t_names.now (comps_of c.args.comps.now) (comps_of c.args.others.now) (view c.in_ok-there.there.included) (view c.in_ok-back.back) (view r) c.in_ok-there.ensures.included c.in_ok-back.ensures both) c.both.ensures
 
 pub each_in-returns-then-is_listed : goal.each_in-returns-then-is_listed
 each_in-returns-then-is_listed t c =
@@ -149,3 +195,162 @@ same_singles-returns t c =
     let own = c.in_ok-one_there.ensures c.args.size c.requires.left_names in
     let else_there = c.in_ok-other_there.ensures c.args.size c.requires.right_names in
     IfOk-weaker c.both-2.result (λ r. IsBoth (view c.in_ok-forth.forth) (view c.in_ok-back.back) (view r)) _ (λ r all. bare_say c.args.size sn tn one.binders other.binders one.guard other.guard (tree one.item) (tree other.item) (view r) c.requires.left_binders c.requires.right_binders (singles_say c.args.size sn tn one.guard other.guard (tree one.item) (tree other.item) (view c.in_ok-equal.equal) (view c.in_ok-one_there.one_there) (view c.in_ok-other_there.other_there) (view c.in_ok-copy-2.field-0) (view c.in_ok-copy.field-0) (view c.in_ok-partner.partner) (view c.in_ok-forth.forth) (view c.in_ok-back.back) (view r) c.in_ok-equal.ensures own else_there c.in_ok-copy-2.ensures c.in_ok-copy.ensures c.in_ok-partner.ensures c.in_ok-forth.ensures c.in_ok-back.ensures all)) c.both-2.ensures
+
+pub sets_compared-each_compared-requires : goal.sets_compared-each_compared-requires
+sets_compared-each_compared-requires t c =
+    let k = is_comp_of c.as_slice-comp-items.result.now c.args.comps.now c.loop-comp.comp-index c.comp-item.result c.as_slice-comp-items.ensures c.loop-comp-test.true c.comp-item.is in
+    (omega (arith, k.depth), (k.fits (length c.args.s_names.now) c.requires.left, (c.requires.left_names, (c.requires.right, c.requires.right_names))))
+
+pub sets_compared-loop-comp-preserved : goal.sets_compared-loop-comp-preserved
+sets_compared-loop-comp-preserved t c =
+    let items = c.as_slice-comp-items.result.now in
+    let i = c.loop-comp.comp-index in
+    let k = is_comp_of items c.args.comps.now i c.comp-item.result c.as_slice-comp-items.ensures c.loop-comp-test.true c.comp-item.is in
+    let at = item_got items c.args.comps.now i c.comp-item.result c.as_slice-comp-items.ensures c.loop-comp-test.true c.comp-item.is in
+    let old = c.loop-comp.rows.items in
+    let more = mapped_pushed views old c.push.new.self.items _ c.in_ok-push.ensures.items in (
+      all_go_on c.args.size _ _ _ _ _ _ (view c.loop-comp.met) _ (view c.in_ok-met.met) c.loop-comp.invariant.0 (λ a. all_in_split (comps_from items i) (comps_from items (i + 1)) (comp_of c.comp-item.result) (comps_are items i c.comp-item.result c.loop-comp-test.true c.comp-item.is) (chosen c.args.s_names.now a) (comps_of c.args.others.now) (chosen c.args.t_names.now a)) c.in_ok-there.ensures.there (λ o h. (k.admits o h.0, h.1)) c.in_ok-met.ensures,
+      one_longer (map views old) _ (map views c.push.new.self.items) i c.loop-comp.invariant.1 more,
+      rows_more c.args.size c.args.comps.now c.args.s_names.now c.args.others.now c.args.t_names.now (map views old) (map views c.push.new.self.items) i (comp_of c.comp-item.result) _ c.loop-comp.invariant.2 c.loop-comp.invariant.1 at more c.in_ok-there.ensures.pairs,
+    )
+
+pub sets_compared-returns-then-is_never-clause-included : goal.sets_compared-returns-then-is_never-clause-included
+sets_compared-returns-then-is_never-clause-included t c =
+    let items = c.as_slice-comp-items.result.now in
+    let i = c.loop-comp.comp-index in
+    let k = is_comp_of items c.args.comps.now i c.comp-item.result c.as_slice-comp-items.ensures c.loop-comp-test.true c.comp-item.is in
+    all_cut c.args.size (λ a. AllInAt (comps_from items (i + 1)) (chosen c.args.s_names.now a) (comps_of c.args.others.now) (chosen c.args.t_names.now a)) _ _ (view c.in_ok-met.met) (c.is_never.ensures.0 c.if-is_never.true) (all_go_on c.args.size _ _ _ _ _ _ (view c.loop-comp.met) _ (view c.in_ok-met.met) c.loop-comp.invariant.0 (λ a. all_in_split (comps_from items i) (comps_from items (i + 1)) (comp_of c.comp-item.result) (comps_are items i c.comp-item.result c.loop-comp-test.true c.comp-item.is) (chosen c.args.s_names.now a) (comps_of c.args.others.now) (chosen c.args.t_names.now a)) c.in_ok-there.ensures.there (λ o h. (k.admits o h.0, h.1)) c.in_ok-met.ensures)
+
+pub sets_compared-returns-then-is_never-clause-rows : goal.sets_compared-returns-then-is_never-clause-rows
+sets_compared-returns-then-is_never-clause-rows t c =
+    let items = c.as_slice-comp-items.result.now in
+    let i = c.loop-comp.comp-index in
+    let at = item_got items c.args.comps.now i c.comp-item.result c.as_slice-comp-items.ensures c.loop-comp-test.true c.comp-item.is in
+    let old = c.loop-comp.rows.items in
+    let more = mapped_pushed views old c.push.new.self.items _ c.in_ok-push.ensures.items in
+    rows_more c.args.size c.args.comps.now c.args.s_names.now c.args.others.now c.args.t_names.now (map views old) (map views c.push.new.self.items) i (comp_of c.comp-item.result) _ c.loop-comp.invariant.2 c.loop-comp.invariant.1 at more c.in_ok-there.ensures.pairs
+
+pub each_compared-returns-then-is_listed-clause-there : goal.each_compared-returns-then-is_listed-clause-there
+each_compared-returns-then-is_listed-clause-there t c =
+    always_says c.args.size _ _ (view c.always.result) c.always.ensures (λ a. listed_each c.args.s_names.now c.args.t_names.now a (comp_of c.args.comp.now) (comps_of c.args.others.now) (c.is_listed.ensures.0 c.if-is_listed.true))
+
+pub each_compared-none_missing-requires : goal.each_compared-none_missing-requires
+each_compared-none_missing-requires t c =
+    let comp = c.args.comp.now in
+    let e : c.as_slice-2.result.now ≡ c.args.s_names.now ++ levels_from c.args.size comp.binders = c.as_slice-2.ensures.value ∙ c.in_ok-longer.ensures in
+    guard_fits c.args.size comp.binders (c.args.size + comp.binders) refl c.args.s_names.now c.as_slice-2.result.now e comp.guard (tree comp.item) c.requires.left
+
+pub each_compared-returns-clause-there : goal.each_compared-returns-clause-there
+each_compared-returns-clause-there t c =
+    let comp = c.args.comp.now in
+    let n = c.args.size in
+    let sn = c.args.s_names.now in
+    let tn = c.args.t_names.now in
+    let names = c.as_slice-2.result.now in
+    let e : names ≡ sn ++ levels_from n comp.binders = c.as_slice-2.ensures.value ∙ c.in_ok-longer.ensures in
+    let below = names_below n comp.binders (n + comp.binders) refl sn names e c.requires.left_names in
+    let found = subst (λ z. SaysFound n sn (comp_of comp) tn (comps_of z) (view c.in_ok-found.found.there)) c.as_slice.ensures c.in_ok-found.ensures.there in
+    let each = c.in_ok-none_missing.ensures n below found.levels in
+    each_found n sn tn comp.binders comp.guard (tree comp.item) c.requires.left_names c.requires.right_names (comps_of c.args.others.now) (view c.in_ok-found.found.there) (view c.in_ok-none_missing.field-0) found (subst (λ z. IsForEach n comp.binders z comp.guard (view c.in_ok-found.found.there) (view c.in_ok-none_missing.field-0)) e each)
+
+pub item_compared-pair_compared-requires : goal.item_compared-pair_compared-requires
+item_compared-pair_compared-requires t c =
+    let items = c.args.others.now in
+    let k = is_comp_of items (map comp_of items) c.loop-other.other-index c.other-item.result refl c.loop-other-test.true c.other-item.is in
+    (omega (arith, k.depth), (c.requires.left, (c.requires.left_names, (k.fits (length c.args.t_names.now) c.requires.right, c.requires.right_names))))
+
+pub item_compared-loop-other-preserved : goal.item_compared-loop-other-preserved
+item_compared-loop-other-preserved t c =
+    let items = c.args.others.now in
+    let i = c.loop-other.other-index in
+    let comp = c.args.comp.now in
+    let other = c.other-item.result in
+    let n = c.args.size in
+    let sn = c.args.s_names.now in
+    let tn = c.args.t_names.now in
+    let k = is_comp_of items (map comp_of items) i other refl c.loop-other-test.true c.other-item.is in
+    let at = item_got items (map comp_of items) i other refl c.loop-other-test.true c.other-item.is in
+    let one = pair_item n sn tn comp.binders comp.guard (tree comp.item) c.requires.left_names c.requires.right_names other.binders other.guard (tree other.item) _ (view c.in_ok-for_some.field-0) c.in_ok-forth.ensures.forth c.in_ok-for_some.ensures in (
+      found_goes_on n sn tn comp.binders comp.guard (tree comp.item) (comps_of (map comp_of items)) (comps_from items i) (comps_from items (i + 1)) (comp_of other) (comps_are items i other c.loop-other-test.true c.other-item.is) (view c.loop-other.found) (view c.in_ok-for_some.field-0) (view c.in_ok-found.found) c.loop-other.invariant.0 one k.admits c.in_ok-found.ensures,
+      one_longer (views c.loop-other.pairs) _ (views c.push.new.self) i c.loop-other.invariant.1 c.in_ok-push.ensures.ok,
+      row_more n (comp_of comp) sn (map comp_of items) tn (views c.loop-other.pairs) (views c.push.new.self) i (comp_of other) _ c.loop-other.invariant.2 c.loop-other.invariant.1 at c.in_ok-push.ensures.ok c.in_ok-forth.ensures.back,
+    )
+
+pub pair_compared-same-requires : goal.pair_compared-same-requires
+pair_compared-same-requires t c =
+    let comp = c.args.comp.now in
+    let other = c.args.other.now in
+    let n = c.args.size in
+    let inner = c.in_ok-inner.inner in
+    let whole = c.in_ok-whole.whole in
+    let left = c.as_slice-left.result.now in
+    let right = c.as_slice-right.result.now in
+    let left_is : left ≡ c.args.s_names.now ++ levels_from n comp.binders = c.as_slice-left.ensures.value ∙ c.in_ok-own.ensures in
+    let right_is : right ≡ c.args.t_names.now ++ levels_from inner other.binders = c.as_slice-right.ensures.value ∙ c.in_ok-longer.ensures in
+    let left_fits = item_fits n comp.binders inner c.in_ok-inner.ensures c.args.s_names.now left left_is comp.guard (tree comp.item) c.requires.left in
+    let right_fits = item_fits inner other.binders whole c.in_ok-whole.ensures c.args.t_names.now right right_is other.guard (tree other.item) c.requires.right in
+    let left_below = own_below_more inner other.binders whole left c.in_ok-whole.ensures (names_below n comp.binders inner c.in_ok-inner.ensures c.args.s_names.now left left_is c.requires.left_names) in
+    let right_below = names_below inner other.binders whole c.in_ok-whole.ensures c.args.t_names.now right right_is (own_below_more n comp.binders inner c.args.t_names.now c.in_ok-inner.ensures c.requires.right_names) in
+    (omega arith, (right_fits, (right_below, (left_fits, left_below))))
+
+pub pair_compared-guard_formula-requires : goal.pair_compared-guard_formula-requires
+pair_compared-guard_formula-requires t c =
+    let comp = c.args.comp.now in
+    let left = c.as_slice-left.result.now in
+    let left_is : left ≡ c.args.s_names.now ++ levels_from c.args.size comp.binders = c.as_slice-left.ensures.value ∙ c.in_ok-own.ensures in
+    guard_fits c.args.size comp.binders c.in_ok-inner.inner c.in_ok-inner.ensures c.args.s_names.now left left_is comp.guard (tree comp.item) c.requires.left
+
+pub pair_compared-guard_formula-requires-2 : goal.pair_compared-guard_formula-requires-2
+pair_compared-guard_formula-requires-2 t c =
+    let other = c.args.other.now in
+    let right = c.as_slice-right.result.now in
+    let right_is : right ≡ c.args.t_names.now ++ levels_from c.in_ok-inner.inner other.binders = c.as_slice-right.ensures.value ∙ c.in_ok-longer.ensures in
+    guard_fits c.in_ok-inner.inner other.binders c.in_ok-whole.whole c.in_ok-whole.ensures c.args.t_names.now right right_is other.guard (tree other.item) c.requires.right
+
+pub pair_compared-both_ways-requires-clause-levels : goal.pair_compared-both_ways-requires-clause-levels
+pair_compared-both_ways-requires-clause-levels t c =
+    let comp = c.args.comp.now in
+    let other = c.args.other.now in
+    let n = c.args.size in
+    let inner = c.in_ok-inner.inner in
+    let whole = c.in_ok-whole.whole in
+    let left = c.as_slice-left.result.now in
+    let right = c.as_slice-right.result.now in
+    let left_is : left ≡ c.args.s_names.now ++ levels_from n comp.binders = c.as_slice-left.ensures.value ∙ c.in_ok-own.ensures in
+    let right_is : right ≡ c.args.t_names.now ++ levels_from inner other.binders = c.as_slice-right.ensures.value ∙ c.in_ok-longer.ensures in
+    let left_below = own_below_more inner other.binders whole left c.in_ok-whole.ensures (names_below n comp.binders inner c.in_ok-inner.ensures c.args.s_names.now left left_is c.requires.left_names) in
+    let right_below = names_below inner other.binders whole c.in_ok-whole.ensures c.args.t_names.now right right_is (own_below_more n comp.binders inner c.args.t_names.now c.in_ok-inner.ensures c.requires.right_names) in
+    let pair : SaysPaired n c.args.s_names.now (comp_of comp) c.args.t_names.now (comp_of other) (view c.in_ok-paired.paired) = pair_says n comp.binders other.binders inner whole c.in_ok-inner.ensures c.in_ok-whole.ensures c.args.s_names.now c.args.t_names.now left right left_is right_is comp.guard other.guard (tree comp.item) (tree other.item) (view c.in_ok-guard.guard) (view c.in_ok-other_guard.other_guard) (view c.in_ok-there.there) (view c.in_ok-equal.equal) (view c.in_ok-paired.paired) (c.in_ok-guard.ensures whole left_below) (c.in_ok-other_guard.ensures whole right_below) c.in_ok-there.ensures c.in_ok-equal.ensures c.in_ok-paired.ensures in
+    pair.levels
+
+pub pair_compared-returns-clause-forth : goal.pair_compared-returns-clause-forth
+pair_compared-returns-clause-forth t c =
+    let comp = c.args.comp.now in
+    let other = c.args.other.now in
+    let n = c.args.size in
+    let inner = c.in_ok-inner.inner in
+    let whole = c.in_ok-whole.whole in
+    let left = c.as_slice-left.result.now in
+    let right = c.as_slice-right.result.now in
+    let left_is : left ≡ c.args.s_names.now ++ levels_from n comp.binders = c.as_slice-left.ensures.value ∙ c.in_ok-own.ensures in
+    let right_is : right ≡ c.args.t_names.now ++ levels_from inner other.binders = c.as_slice-right.ensures.value ∙ c.in_ok-longer.ensures in
+    let left_below = own_below_more inner other.binders whole left c.in_ok-whole.ensures (names_below n comp.binders inner c.in_ok-inner.ensures c.args.s_names.now left left_is c.requires.left_names) in
+    let right_below = names_below inner other.binders whole c.in_ok-whole.ensures c.args.t_names.now right right_is (own_below_more n comp.binders inner c.args.t_names.now c.in_ok-inner.ensures c.requires.right_names) in
+    let pair : SaysPaired n c.args.s_names.now (comp_of comp) c.args.t_names.now (comp_of other) (view c.in_ok-paired.paired) = pair_says n comp.binders other.binders inner whole c.in_ok-inner.ensures c.in_ok-whole.ensures c.args.s_names.now c.args.t_names.now left right left_is right_is comp.guard other.guard (tree comp.item) (tree other.item) (view c.in_ok-guard.guard) (view c.in_ok-other_guard.other_guard) (view c.in_ok-there.there) (view c.in_ok-equal.equal) (view c.in_ok-paired.paired) (c.in_ok-guard.ensures whole left_below) (c.in_ok-other_guard.ensures whole right_below) c.in_ok-there.ensures c.in_ok-equal.ensures c.in_ok-paired.ensures in
+    IfOk-weaker c.both_ways.result _ _ (λ r same. pair_stays c.args.size c.args.s_names.now c.args.t_names.now c.requires.left_names c.requires.right_names comp.binders other.binders comp.guard other.guard (tree comp.item) (tree other.item) (view c.in_ok-paired.paired) (view r.forth) pair same) c.both_ways.ensures.forth
+
+pub pair_compared-returns-clause-back : goal.pair_compared-returns-clause-back
+pair_compared-returns-clause-back t c =
+    let comp = c.args.comp.now in
+    let other = c.args.other.now in
+    let n = c.args.size in
+    let inner = c.in_ok-inner.inner in
+    let whole = c.in_ok-whole.whole in
+    let left = c.as_slice-left.result.now in
+    let right = c.as_slice-right.result.now in
+    let left_is : left ≡ c.args.s_names.now ++ levels_from n comp.binders = c.as_slice-left.ensures.value ∙ c.in_ok-own.ensures in
+    let right_is : right ≡ c.args.t_names.now ++ levels_from inner other.binders = c.as_slice-right.ensures.value ∙ c.in_ok-longer.ensures in
+    let left_below = own_below_more inner other.binders whole left c.in_ok-whole.ensures (names_below n comp.binders inner c.in_ok-inner.ensures c.args.s_names.now left left_is c.requires.left_names) in
+    let right_below = names_below inner other.binders whole c.in_ok-whole.ensures c.args.t_names.now right right_is (own_below_more n comp.binders inner c.args.t_names.now c.in_ok-inner.ensures c.requires.right_names) in
+    let pair : SaysPaired n c.args.s_names.now (comp_of comp) c.args.t_names.now (comp_of other) (view c.in_ok-paired.paired) = pair_says n comp.binders other.binders inner whole c.in_ok-inner.ensures c.in_ok-whole.ensures c.args.s_names.now c.args.t_names.now left right left_is right_is comp.guard other.guard (tree comp.item) (tree other.item) (view c.in_ok-guard.guard) (view c.in_ok-other_guard.other_guard) (view c.in_ok-there.there) (view c.in_ok-equal.equal) (view c.in_ok-paired.paired) (c.in_ok-guard.ensures whole left_below) (c.in_ok-other_guard.ensures whole right_below) c.in_ok-there.ensures c.in_ok-equal.ensures c.in_ok-paired.ensures in
+    IfOk-weaker c.both_ways.result _ _ (λ r turned. pair_turns c.args.size c.args.s_names.now c.args.t_names.now c.requires.left_names c.requires.right_names comp.binders other.binders comp.guard other.guard (tree comp.item) (tree other.item) (view c.in_ok-paired.paired) (view r.back) pair turned) c.both_ways.ensures.back

@@ -1,0 +1,68 @@
+-- What is known of the items of two sets before their inclusions are asked for.
+use Rattle.std.specs.Prelude.{◌≡◌, ℕ, ◌+◌, Some, List, ◌++◌, length, ◌↔◌, Bool, IsTrue, slice_get}
+use Rattle.lois_base.specs.Atom.{Atom}
+use Rattle.lois_base.specs.Data.{CompD, comp, CompsD}
+use Rattle.lois_base.specs.FormulaData.{FormulaD, FormulaFits}
+use Rattle.lois_base.specs.FormulaTruth.{FormulaHolds}
+use Rattle.lois_base.specs.Truth.{holds}
+use Rattle.lois_base.specs.Validity.{AdmitsConstraint, AdmitsComp, AdmitsItems, AdmitsFormula}
+use Rattle.lois_base.specs.Values.{SameAt, SomeIsAt, OneIsAt}
+use Rattle.lois_base.specs.declared.guards.Lit.{Lit}
+use Rattle.lois_relate.specs.Built.{Says}
+use Rattle.lois_relate.specs.Named.{chosen, levels_from}
+
+-- r holds where f does
+pub record IsEquivalent (n : ℕ) (f r : FormulaD) : Type 0 where
+  pub truth : (c : List Atom) → length c ≡ n → FormulaHolds c r ↔ FormulaHolds c f
+  pub levels : FormulaFits n r
+  pub operators : (o : Bool) → AdmitsFormula o f → AdmitsFormula o r
+
+-- r holds where f does with two blocks of further atoms in the other order
+pub record IsTurned (n m k : ℕ) (f r : FormulaD) : Type 0 where
+  pub truth : (c d e : List Atom) → length c ≡ n → length d ≡ m → length e ≡ k → FormulaHolds (c ++ e ++ d) r ↔ FormulaHolds (c ++ d ++ e) f
+  pub levels : FormulaFits ((n + k) + m) r
+  pub operators : (o : Bool) → AdmitsFormula o f → AdmitsFormula o r
+
+-- r holds where f does for all m further atoms at which a guard with these names holds
+pub record IsForEach (n m : ℕ) (names : List ℕ) (g : List (List Lit)) (f r : FormulaD) : Type 0 where
+  pub truth : (c : List Atom) → length c ≡ n → FormulaHolds c r ↔ ((e : List Atom) → length e ≡ m → IsTrue (holds (chosen names (c ++ e)) g) → FormulaHolds (c ++ e) f)
+  pub levels : FormulaFits n r
+  pub operators : (o : Bool) → AdmitsConstraint o g → AdmitsFormula o f → AdmitsFormula o r
+
+-- the names of n levels, of m behind k others, and of those k
+abbrev pub turned_names : ℕ → ℕ → ℕ → List ℕ
+turned_names n m k = (levels_from 0 n ++ levels_from (n + k) m) ++ levels_from n k
+
+-- over n levels, the binders of the one comprehension and then those of the other, f says where both guards hold and both items are the same
+abbrev pub SaysPaired : ℕ → List ℕ → CompD → List ℕ → CompD → FormulaD → Type 0
+SaysPaired n sn (comp k h s) tn (comp m g t) =
+    Says ((n + k) + m) (λ c. IsTrue (holds (chosen (sn ++ levels_from n k) c) h) × IsTrue (holds (chosen (tn ++ levels_from (n + k) m) c) g) × SameAt t (chosen (tn ++ levels_from (n + k) m) c) s (chosen (sn ++ levels_from n k) c)) (λ o. AdmitsComp o (comp k h s) × AdmitsComp o (comp m g t))
+
+-- over n levels and the binders of the first comprehension, f says where its guard holds and its item is one of the other's
+abbrev pub SaysItem : ℕ → List ℕ → CompD → List ℕ → CompD → FormulaD → Type 0
+SaysItem n sn (comp k h s) tn q =
+    Says (n + k) (λ c. IsTrue (holds (chosen (sn ++ levels_from n k) c) h) × OneIsAt q (chosen tn c) s (chosen (sn ++ levels_from n k) c)) (λ o. AdmitsComp o (comp k h s) × AdmitsComp o q)
+
+-- the same of a set
+abbrev pub SaysFound : ℕ → List ℕ → CompD → List ℕ → CompsD → FormulaD → Type 0
+SaysFound n sn (comp k h s) tn qs =
+    Says (n + k) (λ c. IsTrue (holds (chosen (sn ++ levels_from n k) c) h) × SomeIsAt qs (chosen tn c) s (chosen (sn ++ levels_from n k) c)) (λ o. AdmitsComp o (comp k h s) × AdmitsItems o qs)
+
+-- row i has f at place j
+abbrev pub IsEntry : List (List FormulaD) → ℕ → ℕ → FormulaD → Type 0
+IsEntry rows i j f = (row : List FormulaD) × (slice_get rows i ≡ Some row) × (slice_get row j ≡ Some f)
+
+-- what each row has at that place says where the comprehension q is paired with the row's
+abbrev pub IsKnown : ℕ → List CompD → List ℕ → CompD → List ℕ → List (List FormulaD) → ℕ → Type 0
+IsKnown n ks tn q sn rows j =
+    (i : ℕ) (k : CompD) (f : FormulaD) → slice_get ks i ≡ Some k → IsEntry rows i j f → SaysPaired n sn q tn k f
+
+-- what the row of the comprehension k has at a place says where it is paired with the one at that place
+abbrev pub IsRow : ℕ → CompD → List ℕ → List CompD → List ℕ → List FormulaD → Type 0
+IsRow n k tn qs sn row =
+    (j : ℕ) (q : CompD) (f : FormulaD) → slice_get qs j ≡ Some q → slice_get row j ≡ Some f → SaysPaired n sn q tn k f
+
+-- the rows of the comprehensions ks, each beside all of qs
+abbrev pub AreRows : ℕ → List CompD → List ℕ → List CompD → List ℕ → List (List FormulaD) → Type 0
+AreRows n ks tn qs sn rows =
+    (i : ℕ) (k : CompD) (row : List FormulaD) → slice_get ks i ≡ Some k → slice_get rows i ≡ Some row → IsRow n k tn qs sn row
