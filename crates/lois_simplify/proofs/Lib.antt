@@ -8,6 +8,7 @@ pub mod OneRound
 pub mod Pass
 pub mod Renaming
 pub mod Seen
+pub mod Shortened
 pub mod Single
 pub mod Tuples
 pub mod Under

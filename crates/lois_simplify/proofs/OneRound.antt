@@ -50,10 +50,10 @@ module _ (u : List (List Lit)) (n : ℕ) where
     depth = omega arith;
   }
 
-  -- another guard
-  pub guard_kept : (m : ℕ) (g h : List (List Lit)) (t : TermD) → ((c : List Atom) → holds c h ≡ holds c g) → ((k : ℕ) → ConstraintFits k g → ConstraintFits k h) → ((o : Bool) → AdmitsConstraint o g → AdmitsConstraint o h) → IsKept u n (set_of (only (comp m g t))) (set_of (only (comp m h t)))
-  guard_kept m g h t same fits admits =
-      comp_kept (comp m g t) (comp m h t) (guard_changed u n m g h t (λ c. sym (same c))) (λ f. (f.0, fits (n + m) f.1, f.2)) (λ o f. (admits o f.0, f.1)) (λ f. f) (omega arith)
+  -- another guard that is equally true where u holds
+  pub guard_kept : (m : ℕ) (g h : List (List Lit)) (t : TermD) → ConstraintFits n u → ((c : List Atom) → IsTrue (holds c u) → holds c h ≡ holds c g) → ((k : ℕ) → ConstraintFits k g → ConstraintFits k h) → ((o : Bool) → AdmitsConstraint o g → AdmitsConstraint o h) → IsKept u n (set_of (only (comp m g t))) (set_of (only (comp m h t)))
+  guard_kept m g h t whole same fits admits =
+      comp_kept (comp m g t) (comp m h t) (guard_changed u n m g h t whole (λ c o. sym (same c o))) (λ f. (f.0, fits (n + m) f.1, f.2)) (λ o f. (admits o f.0, f.1)) (λ f. f) (omega arith)
 
   -- another item
   pub item_kept : (m : ℕ) (g h : List (List Lit)) (t s : TermD) → ConstraintFits n u → ((d : List Atom) → holds d h ≡ (holds d u && holds d g)) → IsKept h (n + m) t s → IsKept u n (set_of (only (comp m g t))) (set_of (only (comp m g s)))
@@ -148,7 +148,7 @@ module _ (n : ℕ) where
   unused_less m m' b g h t s count e from below some levels admits whole unused u f =
       binder_less u n m m' b 0 g h t s count e f from below some levels admits whole (unused_can_leave u n (n + m) b 0 g t unused)
 
--- ---- unused binders are left out, and the guard is normalised
+-- ---- unused binders are left out, and the guard is shortened and normalised
 module _ (n : ℕ) (k : CompD) (m : ℕ) (g h : List (List Lit)) (t : TermD) (used : IsKeptEverywhere n k (comp m g t)) where
   pub prepared_fits : ((j : ℕ) → ConstraintFits j g → ConstraintFits j h) → CompFits n k → CompFits n (comp m h t)
   prepared_fits fits f =
@@ -157,9 +157,9 @@ module _ (n : ℕ) (k : CompD) (m : ℕ) (g h : List (List Lit)) (t : TermD) (us
   pub prepared_admits : (o : Bool) → (AdmitsConstraint o g → AdmitsConstraint o h) → AdmitsComp o k → AdmitsConstraint o h
   prepared_admits o admits f = admits (everywhere_admits n k (comp m g t) used o f).0
 
-  pub prepared_kept : (u : List (List Lit)) → ConstraintFits n u → ((c : List Atom) → holds c h ≡ holds c g) → ((j : ℕ) → ConstraintFits j g → ConstraintFits j h) → ((o : Bool) → AdmitsConstraint o g → AdmitsConstraint o h) → IsKept u n (set_of (only k)) (set_of (only (comp m h t)))
+  pub prepared_kept : (u : List (List Lit)) → ConstraintFits n u → ((c : List Atom) → IsTrue (holds c u) → holds c h ≡ holds c g) → ((j : ℕ) → ConstraintFits j g → ConstraintFits j h) → ((o : Bool) → AdmitsConstraint o g → AdmitsConstraint o h) → IsKept u n (set_of (only k)) (set_of (only (comp m h t)))
   prepared_kept u f same fits admits =
-      kept_trans u n (set_of (only k)) (set_of (only (comp m g t))) (set_of (only (comp m h t))) (used u f) (guard_kept u n m g h t same fits admits)
+      kept_trans u n (set_of (only k)) (set_of (only (comp m g t))) (set_of (only (comp m h t))) (used u f) (guard_kept u n m g h t f same fits admits)
 
 -- binders that were unused are left out
 pub record UsedSoFar (n : ℕ) (k r : Comp) : Type 0 where

@@ -40,18 +40,22 @@ matched_same c m g t k h s a = sets_same (only (comp m g t)) (only (comp k h s))
         (t, c ++ r.0, inl (r.0, r.1, refl, refl), subst (λ z. SameAt z x t (c ++ r.0)) (sym p) (subst (λ z. SameAt s z t (c ++ r.0)) (sym q) (same_at_sym t (c ++ r.0) s (c ++ d) r.2)))
     back w x (inr f) = absurd f
 
--- another guard with the same truth
-pub guard_changed : (u : List (List Lit)) (n m : ℕ) (g h : List (List Lit)) (t : TermD) → ((c : List Atom) → holds c g ≡ holds c h) → IsSameWhere u n (set_of (only (comp m g t))) (set_of (only (comp m h t)))
-guard_changed u n m g h t same c l o =
+-- where u holds at the first levels, it holds at more
+holds_longer : (u : List (List Lit)) (n : ℕ) (c e : List Atom) → ConstraintFits n u → length c ≡ n → IsTrue (holds c u) → IsTrue (holds (c ++ e) u)
+holds_longer u n c e f l o = holds_before c e u (subst (λ k. ConstraintFits k u) (sym l) f) ∙ o
+
+-- another guard that is equally true where u holds
+pub guard_changed : (u : List (List Lit)) (n m : ℕ) (g h : List (List Lit)) (t : TermD) → ConstraintFits n u → ((c : List Atom) → IsTrue (holds c u) → holds c g ≡ holds c h) → IsSameWhere u n (set_of (only (comp m g t))) (set_of (only (comp m h t)))
+guard_changed u n m g h t f same c l o =
+    let alike : (e : List Atom) → holds (c ++ e) g ≡ holds (c ++ e) h = λ e. same (c ++ e) (holds_longer u n c e f l o) in
     matched_same c m g t m h t (record {
-      there = λ e i. (e, record { count = i.count; guard = subst IsTrue (same (c ++ e)) i.guard }, same_at_refl t (c ++ e));
-      back = λ e i. (e, record { count = i.count; guard = subst IsTrue (sym (same (c ++ e))) i.guard }, same_at_refl t (c ++ e));
+      there = λ e i. (e, record { count = i.count; guard = subst IsTrue (alike e) i.guard }, same_at_refl t (c ++ e));
+      back = λ e i. (e, record { count = i.count; guard = subst IsTrue (sym (alike e)) i.guard }, same_at_refl t (c ++ e));
     })
 
 both_hold : (c e : List Atom) (n m : ℕ) (u g h : List (List Lit)) → length c ≡ n → ConstraintFits n u → ((d : List Atom) → holds d h ≡ (holds d u && holds d g)) → IsTrue (holds c u) → IsTrue (holds (c ++ e) g) → IsTrue (holds (c ++ e) h)
 both_hold c e n m u g h l f both o p =
-    let before : holds (c ++ e) u ≡ holds c u = holds_before c e u (subst (λ k. ConstraintFits k u) (sym l) f) in
-    both (c ++ e) ∙ (ap (λ b. b && holds (c ++ e) g) (before ∙ o) ∙ p)
+    both (c ++ e) ∙ (ap (λ b. b && holds (c ++ e) g) (holds_longer u n c e f l o) ∙ p)
 
 -- another item with the same value where the guard holds
 pub item_changed : (u h : List (List Lit)) (n m : ℕ) (g : List (List Lit)) (t s : TermD) → ConstraintFits n u → ((d : List Atom) → holds d h ≡ (holds d u && holds d g)) → IsSameWhere h (n + m) t s → IsSameWhere u n (set_of (only (comp m g t))) (set_of (only (comp m g s)))

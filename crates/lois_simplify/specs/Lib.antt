@@ -4,3 +4,4 @@ pub mod Kept
 pub mod Lean
 pub mod Moved
 pub mod Rounds
+pub mod Shortened

@@ -5,8 +5,10 @@ mod answering;
 mod covering;
 mod distinct;
 mod fixing;
+mod guessing;
 mod moving;
 mod rounds;
+mod shortening;
 mod simplifying;
 
 pub use simplifying::simplify;

@@ -9,6 +9,7 @@ ghost use Rattle.lois_simplify.specs.Rounds.{IsOpeningOf, IsClosingOf, IsKeptEve
 use crate::answering::Answers;
 use crate::fixing::{fixed_binder, unused_binder};
 use crate::moving::without_binder;
+use crate::shortening::shortened;
 use lois_base::{Comp, Constraint, NoMemory, Structure};
 use lois_constraint::normalise;
 use std::alloc::Global;
@@ -67,9 +68,10 @@ pub(crate) fn open_round<T: Structure, D: Answers>(
 {
     let comp = with_used_binders::<T>(alloc, comp, size)?;
     let inner = size + comp.binders;
+    let guard = shortened(alloc, &comp.guard, under)?;
     let comp = Comp {
         binders: comp.binders,
-        guard: normalise(alloc, &comp.guard)?,
+        guard: normalise(alloc, &guard)?,
         item: comp.item,
     };
     let Some(met) = decider.both(alloc, under, &comp.guard, inner)? else {

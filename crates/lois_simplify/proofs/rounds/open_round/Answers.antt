@@ -14,6 +14,7 @@ use Rattle.lois_simplify.specs.Kept.{set_of}
 use Rattle.lois_simplify.specs.Rounds.{only}
 use Rattle.lois_simplify.proofs.Kept.{kept_trans}
 use Rattle.lois_simplify.proofs.OneRound.{nothing_kept, binder_less, fixed_can_leave, prepared_fits, prepared_admits, prepared_kept}
+use Rattle.lois_simplify.proofs.Shortened.{equally_true}
 use Rattle.lois_simplify.proofs.rounds.open_round.Goals as goal
 
 pub both-requires-clause-first : goal.both-requires-clause-first
@@ -25,7 +26,7 @@ both-requires-clause-second g c =
     let n = c.args.size in
     let k = c.in_ok-comp.comp in
     let h = c.in_ok-normalise.field-0 in
-    let whole = prepared_fits n (comp_of c.args.comp) k.binders k.guard h (tree k.item) c.in_ok-comp.ensures.kept c.in_ok-normalise.ensures.fits c.requires.levels in
+    let whole = prepared_fits n (comp_of c.args.comp) k.binders k.guard h (tree k.item) c.in_ok-comp.ensures.kept (λ j f. c.in_ok-normalise.ensures.fits j (c.in_ok-guard.ensures.levels j f)) c.requires.levels in
     whole.1
 
 pub returns-in_default-clause-opening : goal.returns-in_default-clause-opening
@@ -36,7 +37,7 @@ returns-in_default-clause-opening g c =
     let h = c.in_ok-normalise.field-0 in
     let apart = c.in_ok-met.ensures.none.0 (none_is c.in_ok-met.field-0 c.in_default.is) in
     kept_trans u n (set_of (only (comp_of c.args.comp))) (set_of (only (comp k.binders h (tree k.item)))) (set_of [])
-    (prepared_kept n (comp_of c.args.comp) k.binders k.guard h (tree k.item) c.in_ok-comp.ensures.kept u c.requires.under_levels c.in_ok-normalise.ensures.truth c.in_ok-normalise.ensures.fits c.in_ok-normalise.ensures.operators)
+    (prepared_kept n (comp_of c.args.comp) k.binders k.guard h (tree k.item) c.in_ok-comp.ensures.kept u c.requires.under_levels (λ d o. c.in_ok-normalise.ensures.truth d ∙ equally_true u k.guard c.in_ok-guard.guard c.in_ok-guard.ensures d o) (λ j f. c.in_ok-normalise.ensures.fits j (c.in_ok-guard.ensures.levels j f)) (λ o f. c.in_ok-normalise.ensures.operators o (c.in_ok-guard.ensures.operators o f)))
     (nothing_kept u n k.binders h (both u h) (tree k.item) c.requires.under_levels (λ d. holds_both d u h) (λ p.
     let parts = and_parts (holds p.0 u) (holds p.0 h) (sym (holds_both p.0 u h) ∙ p.2) in
     apart p.0 p.1 parts.0 parts.1))
@@ -66,7 +67,7 @@ returns-in_default-2-clause-opening g c =
     let k = c.in_ok-comp.comp in
     let h = c.in_ok-normalise.field-0 in
     let met = some_is (λ m. AreMet (n + k.binders) u h m.constraint m.sample) c.in_ok-met.field-0 c.in-Some.met c.in-Some.is c.in_ok-met.ensures.met in (
-      prepared_kept n (comp_of c.args.comp) k.binders k.guard h (tree k.item) c.in_ok-comp.ensures.kept u c.requires.under_levels c.in_ok-normalise.ensures.truth c.in_ok-normalise.ensures.fits c.in_ok-normalise.ensures.operators,
+      prepared_kept n (comp_of c.args.comp) k.binders k.guard h (tree k.item) c.in_ok-comp.ensures.kept u c.requires.under_levels (λ d o. c.in_ok-normalise.ensures.truth d ∙ equally_true u k.guard c.in_ok-guard.guard c.in_ok-guard.ensures d o) (λ j f. c.in_ok-normalise.ensures.fits j (c.in_ok-guard.ensures.levels j f)) (λ o f. c.in_ok-normalise.ensures.operators o (c.in_ok-guard.ensures.operators o f)),
       c.in_ok-comp.ensures.binders,
       record {
         levels = met.levels;
@@ -83,13 +84,13 @@ without_binder-requires-clause-levels g c =
     let n = c.args.size in
     let k = c.in_ok-comp.comp in
     let h = c.in_ok-normalise.field-0 in
-    let whole = prepared_fits n (comp_of c.args.comp) k.binders k.guard h (tree k.item) c.in_ok-comp.ensures.kept c.in_ok-normalise.ensures.fits c.requires.levels in
+    let whole = prepared_fits n (comp_of c.args.comp) k.binders k.guard h (tree k.item) c.in_ok-comp.ensures.kept (λ j f. c.in_ok-normalise.ensures.fits j (c.in_ok-guard.ensures.levels j f)) c.requires.levels in
     whole
 
 pub without_binder-requires-clause-operators : goal.without_binder-requires-clause-operators
 without_binder-requires-clause-operators g c =
     let k = c.in_ok-comp.comp in
-    prepared_admits c.args.size (comp_of c.args.comp) k.binders k.guard c.in_ok-normalise.field-0 (tree k.item) c.in_ok-comp.ensures.kept g.T.Structure.ordered (c.in_ok-normalise.ensures.operators g.T.Structure.ordered) c.requires.operators
+    prepared_admits c.args.size (comp_of c.args.comp) k.binders k.guard c.in_ok-normalise.field-0 (tree k.item) c.in_ok-comp.ensures.kept g.T.Structure.ordered (λ f. c.in_ok-normalise.ensures.operators g.T.Structure.ordered (c.in_ok-guard.ensures.operators g.T.Structure.ordered f)) c.requires.operators
 
 pub returns-clause-opening : goal.returns-clause-opening
 returns-clause-opening g c =
@@ -102,15 +103,23 @@ returns-clause-opening g c =
     let e = c.in_ok-shorter.ensures in
     let b = c.in-Some-2.fixed.binder in
     let a = c.in-Some-2.fixed.level in
-    let whole = prepared_fits n (comp_of c.args.comp) k.binders k.guard h (tree k.item) c.in_ok-comp.ensures.kept c.in_ok-normalise.ensures.fits c.requires.levels in
+    let whole = prepared_fits n (comp_of c.args.comp) k.binders k.guard h (tree k.item) c.in_ok-comp.ensures.kept (λ j f. c.in_ok-normalise.ensures.fits j (c.in_ok-guard.ensures.levels j f)) c.requires.levels in
     let range = some_is (λ f. (n ≤ f.binder) × (f.binder < n + k.binders) × (f.level < f.binder)) c.in_ok-fixed.field-0 c.in-Some-2.fixed c.in-Some-2.is c.in_ok-fixed.ensures.range in
     let fixed = some_is (λ f. IsFixed (n + k.binders) c.in-Some.met.constraint f.binder f.level) c.in_ok-fixed.field-0 c.in-Some-2.fixed c.in-Some-2.is c.in_ok-fixed.ensures.some in (
       kept_trans u n (set_of (only (comp_of c.args.comp))) (set_of (only (comp k.binders h (tree k.item)))) (set_of (only (comp_of r)))
-          (prepared_kept n (comp_of c.args.comp) k.binders k.guard h (tree k.item) c.in_ok-comp.ensures.kept u c.requires.under_levels c.in_ok-normalise.ensures.truth c.in_ok-normalise.ensures.fits c.in_ok-normalise.ensures.operators)
+          (prepared_kept n (comp_of c.args.comp) k.binders k.guard h (tree k.item) c.in_ok-comp.ensures.kept u c.requires.under_levels (λ d o. c.in_ok-normalise.ensures.truth d ∙ equally_true u k.guard c.in_ok-guard.guard c.in_ok-guard.ensures d o) (λ j f. c.in_ok-normalise.ensures.fits j (c.in_ok-guard.ensures.levels j f)) (λ o f. c.in_ok-normalise.ensures.operators o (c.in_ok-guard.ensures.operators o f)))
           (binder_less u n k.binders r.binders b a h r.guard (tree k.item) (tree r.item) e.binders e.item c.requires.under_levels range.0 range.1 e.guard e.guard_levels e.guard_operators whole (fixed_can_leave u n (n + k.binders) b a h c.in-Some.met.constraint (tree k.item) met.truth range.2 fixed)),
       omega (arith, e.binders, c.in_ok-comp.ensures.binders),
     )
 
 pub returns-clause-asked : goal.returns-clause-asked
 returns-clause-asked g c =
+    g.met.D.Answers.reaches_then c.args.decider.now c.both.new.self c.fixed_binder.new.decider c.both.ensures.asked c.fixed_binder.ensures.asked
+
+pub returns-in_err-fixed-clause-asked : goal.returns-in_err-fixed-clause-asked
+returns-in_err-fixed-clause-asked g c =
+    g.met.D.Answers.reaches_then c.args.decider.now c.both.new.self c.fixed_binder.new.decider c.both.ensures.asked c.fixed_binder.ensures.asked
+
+pub returns-in_err-shorter-clause-asked : goal.returns-in_err-shorter-clause-asked
+returns-in_err-shorter-clause-asked g c =
     g.met.D.Answers.reaches_then c.args.decider.now c.both.new.self c.fixed_binder.new.decider c.both.ensures.asked c.fixed_binder.ensures.asked

@@ -1,0 +1,34 @@
+use Rattle.std.proofs.Common.{◌≡◌, ◌+◌, [], ◌∷◌, ◌++◌, List, get_or, drop, sym, ap, ◌∙◌, subst, append_assoc}
+use Rattle.std.specs.Bool.{IsTrue, IsFalse}
+use Rattle.lois_base.specs.Atom.{Atom}
+use Rattle.lois_base.specs.Truth.{lit_holds, cube_holds, holds}
+use Rattle.lois_base.specs.declared.guards.Lit.{Lit}
+use Rattle.lois_base.specs.declared.guards.Op.TheVariants.{Eq}
+use Rattle.lois_base.proofs.Viewed.{rest_at}
+use Rattle.lois_simplify.specs.Shortened.{IsWeakened}
+use Rattle.lois_simplify.proofs.Pass.{to_the_end}
+use Rattle.lois_simplify.proofs.Shortened.{literal_left_out}
+use Rattle.lois_simplify.proofs.shortening.weakened.Goals as goal
+use Rattle.lois_simplify.proofs.shortening.weakened.Goals.{then-not-branch+in_ok-push, else-not-branch}
+
+pub loop-index-preserved : goal.loop-index-preserved
+loop-index-preserved c =
+    let u = c.args.under.now in
+    let g = c.args.others.now in
+    let whole = c.args.cube.now in
+    let items = c.as_slice-literals.result.now in
+    let i = c.loop-index.index in
+    let unused : Lit = record { op = Eq; left = 0; right = 0 } in
+    let l = get_or items i unused in
+    let kept = c.loop-index.kept in
+    let coming = drop (i + 1) items in
+    let so_far = subst (λ z. IsWeakened u g whole (kept ++ z)) (rest_at items i unused c.loop-index-test.true) c.loop-index.invariant in
+    elim c.if-not-branch.branch [
+      | then-not-branch+in_ok-push w ↦
+          let pushed : c.if-not-branch.kept ≡ kept ++ l ∷ [] = w.kept-is ∙ w.in_ok-push.ensures.ok in
+          subst (IsWeakened u g whole) (sym (ap (λ z. z ++ coming) pushed ∙ append_assoc kept (l ∷ []) coming)) so_far
+      | else-not-branch w ↦
+          let rest : c.in_ok-without.without ≡ kept ++ coming = c.in_ok-without.ensures ∙ ap (λ z. kept ++ z) (to_the_end items (i + 1)) in
+          let gained = subst (λ z. (e : List Atom) → IsTrue (holds e u) → IsTrue (cube_holds e z) → IsFalse (lit_holds e l) → IsTrue (holds e g)) rest (c.in_ok-has_gained.ensures w.if-not-branch.false) in
+          subst (λ z. IsWeakened u g whole (z ++ coming)) (sym w.kept-is) (literal_left_out u g whole kept coming l so_far gained)
+    ]
