@@ -68,6 +68,25 @@ size_at (m ∷ f) (n ∷ g) (suc i) a b e l is is' = size_at f g i a b (rest (si
     rest : (xs ys : List ℕ) (x y : ℕ) → x ∷ xs ≡ y ∷ ys → xs ≡ ys
     rest xs ys x y e = cc
 
+-- ---- copied, and written alike
+abbrev pub CopiedSoFar : FamilyD → ℕ → FamilyD → Type 0
+CopiedSoFar f i done = Completes (λ rest. rest ≡ drop i f) (λ all. all ≡ f) done
+
+pub copied_more : (f done longer : FamilyD) (i : ℕ) (r : MemberD) (k : List (List Lit)) → i < length f → r ≡ get_or f i r → k ≡ r.1 → longer ≡ done ++ (r.0, k) ∷ [] → CopiedSoFar f i done → CopiedSoFar f (i + 1) longer
+copied_more f done longer i r k l is same e h =
+    completes_more (λ rest. rest ≡ drop i f) (λ rest. rest ≡ drop (i + 1) f) (λ all. all ≡ f) done longer r (subst (λ z. longer ≡ done ++ (r.0, z) ∷ []) same e) h (λ rest t. ap (λ z. r ∷ z) t ∙ sym (rest_is f i r l is))
+
+pub copied_end : (f done : FamilyD) (i : ℕ) → length f ≤ i → CopiedSoFar f i done → done ≡ f
+copied_end f done i l h = completes_end (λ rest. rest ≡ drop i f) (λ all. all ≡ f) done h (sym (drop_all i f l))
+
+pub alike_more : (f g : FamilyD) (i : ℕ) (a b : MemberD) → i < length f → i < length g → a ≡ get_or f i a → b ≡ get_or g i b → a ≡ b → (drop i f ≡ drop i g → f ≡ g) → drop (i + 1) f ≡ drop (i + 1) g → f ≡ g
+alike_more f g i a b l l' is is' same h rest =
+    let both : a ∷ drop (i + 1) f ≡ b ∷ drop (i + 1) g = rw (same, rest) in
+    h (rest_is f i a l is ∙ (both ∙ sym (rest_is g i b l' is')))
+
+pub alike_end : (f g : FamilyD) (i : ℕ) → length f ≤ i → length g ≤ i → (drop i f ≡ drop i g → f ≡ g) → f ≡ g
+alike_end f g i l l' h = h (drop_all i f l ∙ sym (drop_all i g l'))
+
 -- ---- blank
 pub blank_end : (f : FamilyD) (i : ℕ) → length f ≤ i → (IsBlank (drop i f) → IsBlank f) → IsBlank f
 blank_end f i l h = h (subst IsBlank (sym (drop_all i f l)) tt)

@@ -1,18 +1,17 @@
 -- Constraints that stand for memberships, and members of families.
 use Rattle.std.proofs.Common.{◌≡◌, ℕ, ◌+◌, not, ◌&&◌, ◌||◌, List, [], ◌++◌, length, length-append, append-nil, refl, sym, subst, ◌∙◌, arith}
 use Rattle.lois_base.specs.Atom.{Atom}
-use Rattle.lois_base.specs.Data.{TermD}
+use Rattle.lois_base.specs.Data.{TermD, coll, CompsD}
 use Rattle.lois_base.specs.Fits.{ConstraintFits}
 use Rattle.lois_base.specs.FormulaData.{FormulaD}
 use Rattle.lois_base.specs.Truth.{holds}
 use Rattle.lois_base.specs.Values.{point, SameAt, IsSame}
 use Rattle.lois_base.specs.declared.guards.Lit.{Lit}
-use Rattle.lois_base.proofs.Members.{same_sym, same_in}
 use Rattle.lois_base.proofs.Truths.{holds_longer}
 use Rattle.lois_constraint.specs.Met.{IsPruned}
 use Rattle.lois_elim.specs.Bound.{AgreesWith}
 use Rattle.lois_base.proofs.Connectives.{both_true, either_true, not_true}
-use Rattle.lois_relate.specs.Relations as relations
+use Rattle.lois_relate.specs.Relations.{HoldsWhereItemIn}
 use Rattle.lois_rounds.specs.Families.{MemberD}
 use Rattle.lois_terms.specs.Raised.{IsRaised}
 use Rattle.lois_automata.specs.Built.{HoldsWhereIn, HoldsWhereAdmittedIn, IsFreshMember, IsJoinedMember}
@@ -22,14 +21,13 @@ raised_same n m t raised is_raised c e k l =
     let here : SameAt raised (c ++ (e ++ [])) t (c ++ []) = is_raised c e [] k l in
     subst (λ z. SameAt raised (c ++ z) t c) (append-nil e) (subst (λ z. SameAt raised (c ++ (e ++ [])) t z) (append-nil c) here)
 
-pub found_is : (n m : ℕ) (t raised item : TermD) (f : FormulaD) (q : List (List Lit)) → IsRaised n m t raised → relations.HoldsWhereIn (n + m) item raised f → AgreesWith (n + m) f q → HoldsWhereIn n m item t q
-found_is n m t raised item f q is_raised member agrees c e k l =
+pub found_is : (n m : ℕ) (ks : CompsD) (item : TermD) (f : FormulaD) (q : List (List Lit)) → HoldsWhereItemIn n m item ks f → AgreesWith (n + m) f q → HoldsWhereIn n m item (coll ks) q
+found_is n m ks item f q member agrees c e k l =
     let longer : length (c ++ e) ≡ n + m = omega (arith, length-append c e) in
     let one = agrees (c ++ e) longer in
-    let two = member (c ++ e) longer in
-    let same = raised_same n m t raised is_raised c e k l in (
-      λ h. same_in (point item (c ++ e)) (point raised (c ++ e)) (point t c) same (two.0 (one.0 h)),
-      λ h. one.1 (two.1 (same_in (point item (c ++ e)) (point t c) (point raised (c ++ e)) (same_sym (point raised (c ++ e)) (point t c) same) h)),
+    let two = member c e k l in (
+      λ h. let i = two.0 (one.0 h) in (point i.0 i.1, i.2, i.3),
+      λ h. one.1 (two.1 ((h.0).term_of, (h.0).choice, h.1, h.2)),
     )
 
 -- further atoms don't count
@@ -50,27 +48,28 @@ admitted_is n m u g item t found admitted r fits is two one c e k l =
       λ h. one d ∙ outer.1 (two d ∙ inner.1 (longer ∙ h.0, h.1), there.1 h.2),
     )
 
-pub fresh_is : (n m : ℕ) (u g : List (List Lit)) (item t : TermD) (b : MemberD) (found absent r : List (List Lit)) → HoldsWhereAdmittedIn n m u g item t found →
-    ((d : List Atom) → holds d absent ≡ not (holds d b.1)) → ((d : List Atom) → holds d r ≡ (holds d found && holds d absent)) → IsPruned r → IsFreshMember n u t m g item b (b.0, r)
-fresh_is n m u g item t b found absent r is two one pruned = record {
+pub fresh_is : (n m : ℕ) (u g : List (List Lit)) (item t : TermD) (b : MemberD) (found r : List (List Lit)) → HoldsWhereAdmittedIn n m u g item t found →
+    ((d : List Atom) → holds d r ≡ (holds d found && not (holds d b.1))) → IsPruned r → IsFreshMember n u t m g item b (b.0, r)
+fresh_is n m u g item t b found r is one pruned = record {
   size = refl;
   truth = λ c e k l.
       let d = c ++ e in
-      let outer = both_true (holds d found) (holds d absent) in
+      let outer = both_true (holds d found) (not (holds d b.1)) in
       let other = not_true (holds d b.1) in
       let there = is c e k l in (
         λ h. let x = outer.0 (sym (one d) ∙ h) in
             let y = there.0 x.0 in
-            (y.0, y.1, y.2, other.0 (sym (two d) ∙ x.1)),
-        λ h. one d ∙ outer.1 (there.1 (h.0, h.1, h.2), two d ∙ other.1 h.3),
+            (y.0, y.1, y.2, other.0 x.1),
+        λ h. one d ∙ outer.1 (there.1 (h.0, h.1, h.2), other.1 h.3),
       );
   pruned = pruned;
 }
 
-pub joined_is : (a b : MemberD) (either r : List (List Lit)) → ((d : List Atom) → holds d either ≡ (holds d a.1 || holds d b.1)) → ((d : List Atom) → holds d r ≡ holds d either) → IsJoinedMember a b (a.0, r)
-joined_is a b either r one two = record {
+pub joined_is : (a b : MemberD) (r : List (List Lit)) → r ≡ a.1 ++ b.1 → ((d : List Atom) → holds d r ≡ (holds d a.1 || holds d b.1)) → IsJoinedMember a b (a.0, r)
+joined_is a b r cubes one = record {
   size = refl;
+  cubes = cubes;
   truth = λ d.
       let e = either_true (holds d a.1) (holds d b.1) in
-      (λ h. e.0 (sym (one d) ∙ (sym (two d) ∙ h)), λ h. two d ∙ (one d ∙ e.1 h));
+      (λ h. e.0 (sym (one d) ∙ h), λ h. one d ∙ e.1 h);
 }

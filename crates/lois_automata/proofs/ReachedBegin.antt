@@ -11,11 +11,11 @@ use Rattle.lois_base.proofs.Members.{in_same, same_sym}
 use Rattle.lois_algebra.specs.Gathered.{IsAmong}
 use Rattle.lois_algebra.proofs.Among.{among_in}
 use Rattle.lois_meaning.specs.Kinds.{IsSetOf}
-use Rattle.lois_rounds.specs.Families.{MemberD, FamilyD, AreWeakened, IsWeakened, AreEquivalent}
+use Rattle.lois_rounds.specs.Families.{MemberD, FamilyD, AreWeakened, IsWeakened}
 use Rattle.lois_rounds.specs.Rounds.{OnlyWeakens, IsFirstUnchanged}
 use Rattle.lois_automata.specs.Built.{AreFirstMembers}
 use Rattle.lois_automata.specs.Rounds.{Frame, is_over, held, IsSpreadMember, AreSpread, SpreadsIf, Spreads}
-use Rattle.lois_automata.specs.RoundsLaw.{IsOver, is_over_true}
+use Rattle.lois_automata.specs.RoundsLaw.{IsOver, is_over_true, equal_weakened}
 use Rattle.lois_automata.specs.Spread.{graph_at, IsReachedBy, IsReached}
 use Rattle.lois_automata.specs.Throughout.{HoldsThroughout}
 use Rattle.lois_automata.proofs.SpreadAfter.{holds_reached}
@@ -63,12 +63,6 @@ spread_weakened : (x : Frame) (f : FamilyD) (ks : CompsD) (b a : FamilyD) → Is
 spread_weakened x f no_comps [] [] over h = tt
 spread_weakened x f (more (comp m g t) ks) (p ∷ b) (q ∷ a) over h = (member_weakened x f m g t p q over.0 h.0, spread_weakened x f ks b a over.1 h.1)
 spread_weakened x f _ _ _ over h = absurd (assumption (over, h))
-
-equal_weakened : (f g : FamilyD) → AreEquivalent f g → AreWeakened f g
-equal_weakened [] [] h = tt
-equal_weakened [] (b ∷ g) h = absurd h
-equal_weakened (a ∷ f) [] h = absurd h
-equal_weakened (a ∷ f) (b ∷ g) h = (record { size = h.0.size; truth = λ c l p. sym (h.0.truth c l) ∙ p }, equal_weakened f g h.1)
 
 pub only_weakens : (x : Frame) → OnlyWeakens (Spreads x)
 only_weakens x f g fits led = go (is_over x.size x.nodes f) refl led

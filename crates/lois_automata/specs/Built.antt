@@ -50,9 +50,10 @@ AreFreshMembers n u t no_comps [] [] = Unit {0}
 AreFreshMembers n u t (more (comp m g item) ks) (b ∷ f) (r ∷ fresh) = IsFreshMember n u t m g item b r × AreFreshMembers n u t ks f fresh
 AreFreshMembers n u t _ _ _ = ⊥
 
--- the same size, and r holds where one of the two does
+-- the same size, and r holds where one of the two does: it has the cubes of both
 pub record IsJoinedMember (a b r : MemberD) : Type 0 where
   pub size : r.0 ≡ a.0
+  pub cubes : r.1 ≡ a.1 ++ b.1
   pub truth : (c : List Atom) → IsTrue (holds c r.1) ↔ (IsTrue (holds c a.1) ⊎ IsTrue (holds c b.1))
 
 abbrev pub AreJoinedMembers : FamilyD → FamilyD → FamilyD → Type 0

@@ -7,7 +7,7 @@ use Rattle.lois_base.specs.Truth.{holds}
 use Rattle.lois_base.specs.Values.{PointValue, point}
 use Rattle.lois_base.specs.declared.guards.Lit.{Lit}
 use Rattle.lois_algebra.specs.Gathered.{IsAmong}
-use Rattle.lois_rounds.specs.Families.{MemberD, FamilyD, AreEquivalent}
+use Rattle.lois_rounds.specs.Families.{MemberD, FamilyD, AdmitsFamily, AreEquivalent, AreWeakened}
 use Rattle.lois_automata.specs.Spread.{LeadsTo}
 
 -- what a round goes over: the number of levels, which choices are admitted, the nodes, and the set of the moves
@@ -53,3 +53,19 @@ SpreadsIf false x f g = AreEquivalent f g
 -- one round; a family that isn't one over the nodes is left as it is
 abbrev pub Spreads : Frame → FamilyD → FamilyD → Type 0
 Spreads x f g = SpreadsIf (is_over x.size x.nodes f) x f g
+
+-- where a move leads to the item from what f holds, the member for it holds, or a move leads to it from what g holds
+abbrev pub IsSettledMember : Frame → FamilyD → FamilyD → ℕ → List (List Lit) → TermD → MemberD → Type 0
+IsSettledMember x f g m q t b =
+    (c e : List Atom) → length c ≡ x.size → length e ≡ m → IsLedTo x f q t c e → (IsLedTo x g q t c e → ⊥) → IsTrue (holds (c ++ e) b.1)
+
+abbrev pub AreSettled : Frame → FamilyD → FamilyD → CompsD → FamilyD → Type 0
+AreSettled x f g no_comps b = Unit {0}
+AreSettled x f g (more (comp m q t) ks) [] = Unit {0}
+AreSettled x f g (more (comp m q t) ks) (r ∷ b) = IsSettledMember x f g m q t r × AreSettled x f g ks b
+
+-- f holds all that g does, and moves lead from the rest of f to nothing that f doesn't hold; g has `<` only where f has it
+pub record IsSettled (x : Frame) (f g : FamilyD) : Type 0 where
+  pub within : AreWeakened g f
+  pub settled : AreSettled x f g x.nodes f
+  pub operators : (o : Bool) → AdmitsFamily o f → AdmitsFamily o g

@@ -1,20 +1,23 @@
 -- The law of the rounds: equivalent families are led to equivalent families.
-use Rattle.std.specs.Prelude.{◌≡◌, ℕ, ◌+◌, nat_eq, Bool, true, false, List, [], ◌∷◌, ◌++◌, length, take, drop, refl}
+use Rattle.std.specs.Prelude.{IsTrue, ◌≡◌, ℕ, ◌+◌, nat_eq, Bool, true, false, List, [], ◌∷◌, ◌++◌, length, take, drop, refl}
 use Rattle.std.proofs.Common.{inl, inr, sym, ◌∙◌, subst, arith, length-append}
+use Rattle.std.specs.Coded.{×_prop, Unit-prop, Coded-set, coded_ℕ, coded_bool}
 use Rattle.std.proofs.lemmas.List.{take-append-drop, length-take, length-drop}
 use Rattle.std.proofs.lemmas.Bool.{eqb-true, false≢true}
 use Rattle.lois_base.proofs.Connectives.{both_true}
 use Rattle.lois_base.proofs.Order.{same_truth}
 use Rattle.lois_base.specs.Atom.{Atom}
+use Rattle.lois_base.specs.OneProof.{all_prop}
+use Rattle.lois_base.specs.Validity.{is_admitted, AdmitsLit, AdmitsCube, AdmitsConstraint}
 use Rattle.lois_base.specs.Data.{TermD, comp, CompsD, no_comps, more}
 use Rattle.lois_base.specs.Truth.{holds}
 use Rattle.lois_base.specs.Values.{PointValue}
 use Rattle.lois_base.specs.declared.guards.Lit.{Lit}
 use Rattle.lois_algebra.specs.Gathered.{IsAmong, IsMadeBy}
 use Rattle.lois_rounds.specs.Equivalences.{equivalent_sym, equivalent_trans}
-use Rattle.lois_rounds.specs.Families.{MemberD, FamilyD, IsEquivalent, AreEquivalent}
+use Rattle.lois_rounds.specs.Families.{MemberD, FamilyD, AdmitsFamily, IsEquivalent, AreEquivalent, IsWeakened, AreWeakened}
 use Rattle.lois_rounds.specs.Rounds.{RespectsEquivalence}
-use Rattle.lois_automata.specs.Rounds.{Frame, is_over, held, IsLedTo, IsSpreadMember, AreSpread, SpreadsIf, Spreads}
+use Rattle.lois_automata.specs.Rounds.{Frame, is_over, held, IsLedTo, IsSpreadMember, AreSpread, SpreadsIf, Spreads, IsSettledMember, AreSettled, IsSettled}
 
 -- each size is that of its comprehension
 abbrev pub IsOver : ℕ → CompsD → FamilyD → Type 0
@@ -40,18 +43,28 @@ over_same n (more (comp m q t) ks) [] (b ∷ g) h = absurd h
 over_same n (more (comp m q t) ks) (a ∷ f) [] h = absurd h
 over_same n (more (comp m q t) ks) (a ∷ f) (b ∷ g) h = rw (h.0.size, over_same n ks f g h.1)
 
--- what a family holds, an equivalent one holds
-pub held_same : (n : ℕ) (ks : CompsD) (f g : FamilyD) (c : List Atom) (w : PointValue) → length c ≡ n → IsOver n ks f → AreEquivalent f g → IsAmong (held ks f) c w → IsAmong (held ks g) c w
-held_same n no_comps f g c w l over same h = absurd h
-held_same n (more (comp m q t) ks) [] g c w l over same h = absurd over
-held_same n (more (comp m q t) ks) (a ∷ f) [] c w l over same h = absurd same
-held_same n (more (comp m q t) ks) (a ∷ f) (b ∷ g) c w l over same h =
-    elim h [ inl p ↦ inl (one p) | inr p ↦ inr (held_same n ks f g c w l over.1 same.1 p) ]
+-- what a family holds, a weaker one holds
+pub held_weaker : (n : ℕ) (ks : CompsD) (f g : FamilyD) (c : List Atom) (w : PointValue) → length c ≡ n → IsOver n ks f → AreWeakened f g → IsAmong (held ks f) c w → IsAmong (held ks g) c w
+held_weaker n no_comps f g c w l over weaker h = absurd h
+held_weaker n (more (comp m q t) ks) [] g c w l over weaker h = absurd over
+held_weaker n (more (comp m q t) ks) (a ∷ f) [] c w l over weaker h = absurd weaker
+held_weaker n (more (comp m q t) ks) (a ∷ f) (b ∷ g) c w l over weaker h =
+    elim h [ inl p ↦ inl (one p) | inr p ↦ inr (held_weaker n ks f g c w l over.1 weaker.1 p) ]
   where
     one : IsMadeBy (comp m a.1 t) c w → IsMadeBy (comp m b.1 t) c w
     one (e, x, s) =
         let k : length (c ++ e) ≡ a.0 = length-append c e ∙ (rw (l, x.count, over.0)) in
-        (e, record { count = x.count; guard = sym (same.0.truth (c ++ e) k) ∙ x.guard }, s)
+        (e, record { count = x.count; guard = weaker.0.truth (c ++ e) k x.guard }, s)
+
+pub equal_weakened : (f g : FamilyD) → AreEquivalent f g → AreWeakened f g
+equal_weakened [] [] h = tt
+equal_weakened [] (b ∷ g) h = absurd h
+equal_weakened (a ∷ f) [] h = absurd h
+equal_weakened (a ∷ f) (b ∷ g) h = (record { size = h.0.size; truth = λ c l p. sym (h.0.truth c l) ∙ p }, equal_weakened f g h.1)
+
+-- what a family holds, an equivalent one holds
+pub held_same : (n : ℕ) (ks : CompsD) (f g : FamilyD) (c : List Atom) (w : PointValue) → length c ≡ n → IsOver n ks f → AreEquivalent f g → IsAmong (held ks f) c w → IsAmong (held ks g) c w
+held_same n ks f g c w l over same h = held_weaker n ks f g c w l over (equal_weakened f g same) h
 
 -- a value that a family led to is one that an equivalent family led to
 led_same : (x : Frame) (f g : FamilyD) (q : List (List Lit)) (t : TermD) (c e : List Atom) → length c ≡ x.size → IsOver x.size x.nodes f → AreEquivalent f g → IsLedTo x f q t c e → IsLedTo x g q t c e
@@ -108,3 +121,33 @@ spreads_respect x f g f' g' f_fits g_fits same led led' =
         let g_over = is_over_true x.size x.nodes g (sym (over_same x.size x.nodes f g same) ∙ e) in
         spread_same x f g f_over g_over same (equivalent_sym f g same) x.nodes f g f' g' f_over same one two
     go false e one two = equivalent_trans f' f g' (equivalent_sym f f' one) (equivalent_trans f g g' same two)
+
+-- ---- what a round keeps has one proof at most
+true_prop : (b : Bool) → IsProp (IsTrue b)
+true_prop b = Coded-set coded_bool b true
+
+admits_prop : (o : Bool) (k : List (List Lit)) → IsProp (AdmitsConstraint o k)
+admits_prop o k = all_prop (AdmitsCube o) (λ q. all_prop (AdmitsLit o) (λ l. true_prop (is_admitted o l.op)) q) k
+
+member_prop : (a b : MemberD) → IsProp (IsWeakened a b)
+member_prop a b = hlevel (Coded-set coded_ℕ, true_prop)
+
+weakened_prop : (f g : FamilyD) → IsProp (AreWeakened f g)
+weakened_prop [] [] = Unit-prop
+weakened_prop [] (b ∷ g) = hlevel
+weakened_prop (a ∷ f) [] = hlevel
+weakened_prop (a ∷ f) (b ∷ g) = ×_prop (member_prop a b) (weakened_prop f g)
+
+settled_member_prop : (x : Frame) (f g : FamilyD) (m : ℕ) (q : List (List Lit)) (t : TermD) (b : MemberD) → IsProp (IsSettledMember x f g m q t b)
+settled_member_prop x f g m q t b = hlevel (true_prop)
+
+are_settled_prop : (x : Frame) (f g : FamilyD) (ks : CompsD) (b : FamilyD) → IsProp (AreSettled x f g ks b)
+are_settled_prop x f g no_comps b = Unit-prop
+are_settled_prop x f g (more (comp m q t) ks) [] = Unit-prop
+are_settled_prop x f g (more (comp m q t) ks) (r ∷ b) = ×_prop (settled_member_prop x f g m q t r) (are_settled_prop x f g ks b)
+
+family_prop : (o : Bool) (f : FamilyD) → IsProp (AdmitsFamily o f)
+family_prop o f = all_prop (λ m. AdmitsConstraint o m.1) (λ m. admits_prop o m.1) f
+
+pub settled_prop : (x : Frame) (f g : FamilyD) → IsProp (IsSettled x f g)
+settled_prop x f g = hlevel (weakened_prop g f, are_settled_prop x f g x.nodes f, family_prop)

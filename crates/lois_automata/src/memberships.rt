@@ -13,7 +13,7 @@ ghost use Rattle.lois_automata.specs.Built.{HoldsWhereIn, HoldsWhereAdmittedIn};
 use lois_base::{Comp, Constraint, NoMemory, Structure, Term};
 use lois_constraint::meet;
 use lois_elim::quantifier_free;
-use lois_relate::member_formula;
+use lois_relate::item_formula;
 use lois_terms::shift_term;
 use std::alloc::Global;
 
@@ -51,8 +51,10 @@ pub fn membership<T: Structure>(
     ensures fits { IfOk result (ConstraintFits (size + by)) }
     ensures operators { IfOk result (λ r. (o : Bool) → AdmitsTerm o (tree item.now) → AdmitsTerm o (tree t.now) → AdmitsConstraint o r) }
 {
-    let raised = among_more(alloc, t, size, by)?;
-    let formula = member_formula(alloc, item, &raised, size + by)?;
+    let Term::Coll(others) = t else {
+        unreachable!()
+    };
+    let formula = item_formula(alloc, item, others.as_slice(), size, by)?;
     quantifier_free::<T>(alloc, &formula, size + by)
 }
 

@@ -16,7 +16,7 @@ use crate::joining::{first_family, held_set};
 use crate::spreading::Spreading;
 use lois_base::{Comps, Constraint, NoMemory, Term};
 use lois_order::OrderAtoms;
-use lois_rounds::grow;
+use lois_rounds::{Family, grow};
 use std::alloc::Global;
 
 /// The members of the set `nodes` that moves lead to from those in the set `start`, over nodes alone. A move is a pair in the
@@ -46,6 +46,8 @@ pub fn reached(
         under: under.copy(alloc)?,
         nodes: nodes.copy(alloc)?,
         moves: moves.copy(alloc)?,
+        known: Family::new(alloc),
+        news: Family::new(alloc),
     };
     let family = grow(alloc, &mut round, first)?;
     held_set(alloc, nodes, &family)

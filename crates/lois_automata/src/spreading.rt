@@ -8,8 +8,12 @@ ghost use Rattle.lois_base.specs.Validity.{AdmitsConstraint, AdmitsTerm, AdmitsC
 ghost use Rattle.lois_terms.specs.Guarded.{IsSet};
 ghost use Rattle.lois_automata.specs.Built.{AreTargets, AddsTarget};
 ghost use Rattle.lois_base.specs.OneProof.{items_prop};
+ghost use Rattle.lois_automata.specs.Rounds.{Frame, IsSettled};
+ghost use Rattle.lois_automata.specs.RoundsLaw.{settled_prop};
 
-use crate::joining::{fresh_family, held_set, is_blank, is_over_nodes, joined_family};
+use crate::joining::{
+    copied_family, fresh_family, held_set, is_blank, is_over_nodes, is_same_family, joined_family,
+};
 use crate::memberships::membership;
 use crate::parts::pair_parts;
 use lois_algebra::put;
@@ -26,9 +30,13 @@ pub struct Spreading {
     pub under: Constraint,
     pub nodes: Comps,
     pub moves: Comps,
+    // what was answered last, and what was new in it: moves lead from the rest of it to nothing that it doesn't hold
+    pub known: Family,
+    pub news: Family,
     ghost under_fits: { ConstraintFits size under },
     ghost nodes_fit: { ItemsFit size (comps_of nodes) } by { items_prop size (comps_of nodes) },
     ghost moves_fit: { ItemsFit size (comps_of moves) } by { items_prop size (comps_of moves) },
+    ghost settled: { IsSettled (record { size = size; under = under; nodes = comps_of nodes; moves = coll (comps_of moves) }) known news } by { settled_prop (record { size = size; under = under; nodes = comps_of nodes; moves = coll (comps_of moves) }) known news },
 }
 
 impl Round for Spreading {
@@ -51,7 +59,9 @@ impl Round for Spreading {
         }
         // the slices are taken for what their clauses tell: levels are below sizes
         let _members = family.as_slice();
-        let held = held_set(alloc, &self.nodes, family)?;
+        let news = news_of(&self.known, &self.news, family);
+        let _news = news.as_slice();
+        let held = held_set(alloc, &self.nodes, news)?;
         let targets = targets_from::<OrderAtoms>(alloc, &self.moves, &held, self.size)?;
         let fresh = fresh_family::<OrderAtoms>(
             alloc,
@@ -65,8 +75,22 @@ impl Round for Spreading {
         if is_blank(&fresh) {
             return Ok(None);
         }
-        Ok(Some(joined_family(alloc, family, &fresh)?))
+        let joined = joined_family(alloc, family, &fresh)?;
+        let known = copied_family(alloc, &joined)?;
+        self.known = known;
+        self.news = fresh;
+        Ok(Some(joined))
     }
+}
+
+// What is new in a family: all of it, where it isn't the one that is known.
+fn news_of<'a>(known: &Family, news: &'a Family, family: &'a Family) -> &'a Family
+    ensures { (x : Frame) → IsSettled x known.now news.now → IsSettled x family.now result.now }
+{
+    if is_same_family(known, family) {
+        return news;
+    }
+    family
 }
 
 // What the moves lead to from members of the set `held`.

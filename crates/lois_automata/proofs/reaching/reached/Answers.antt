@@ -1,20 +1,20 @@
-use Rattle.std.proofs.Common.{◌≡◌, sym, subst, ◌∙◌}
+use Rattle.std.proofs.Common.{[], ◌≡◌, sym, subst, ◌∙◌}
 use Rattle.std.proofs.lemmas.Result.{IfOk-weaker}
 use Rattle.lois_base.specs.Data.{coll, comps_of}
-use Rattle.lois_base.specs.Fits.{Fits}
+use Rattle.lois_base.specs.Fits.{Fits, ItemsFit}
 use Rattle.lois_base.specs.Tree.{tree}
 use Rattle.lois_base.specs.Validity.{AdmitsTerm, AdmitsItems, AdmitsConstraint, HasUsualWidths}
 use Rattle.lois_base.proofs.Validity.{items_admitted, term_admitted}
 use Rattle.lois_base.specs.Values.{point}
 use Rattle.lois_meaning.specs.Kinds.{IsSetOf}
 use Rattle.lois_rounds.specs.Rounds.{IsFirstUnchanged}
-use Rattle.lois_automata.specs.Rounds.{Frame, held, Spreads}
+use Rattle.lois_automata.specs.Rounds.{Frame, held, Spreads, IsSettled}
 use Rattle.lois_automata.specs.RoundsLaw.{is_over_true}
 use Rattle.lois_automata.specs.Spread.{graph_at, IsReached}
 use Rattle.lois_automata.specs.Throughout.{HoldsThroughout}
 use Rattle.lois_automata.proofs.Families.{over_length}
 use Rattle.lois_automata.proofs.ReachedBegin.{first_over, only_weakens, is_reached_set}
-use Rattle.lois_automata.proofs.Rounding.{held_fits, held_admits, held_widths, over_sizes}
+use Rattle.lois_automata.proofs.Rounding.{all_new, held_fits, held_admits, held_widths, over_sizes}
 use Rattle.lois_automata.proofs.reaching.reached.Goals as goal
 
 pub first_family-requires-clause-operators : goal.first_family-requires-clause-operators
@@ -22,6 +22,17 @@ first_family-requires-clause-operators c = items_admitted (comps_of c.args.nodes
 
 pub first_family-requires-clause-set_operators : goal.first_family-requires-clause-set_operators
 first_family-requires-clause-set_operators c = term_admitted (tree c.args.start.now)
+
+pub invariant_of-round-clause-settled : goal.invariant_of-round-clause-settled
+invariant_of-round-clause-settled c =
+    let x : Frame = record { size = c.args.size; under = c.in_ok-copy.field-0; nodes = comps_of c.in_ok-copy-2.field-0; moves = coll (comps_of c.in_ok-copy-3.field-0) } in
+    subst (λ z. IsSettled x z c.new-2.result) (sym c.new.ensures) (subst (λ z. IsSettled x [] z) (sym c.new-2.ensures) (all_new x []))
+
+pub invariant_of-round-clause-nodes_fit : goal.invariant_of-round-clause-nodes_fit
+invariant_of-round-clause-nodes_fit c = subst (λ z. ItemsFit c.args.size (comps_of z)) (sym c.in_ok-copy-2.ensures) c.requires.nodes
+
+pub invariant_of-round-clause-moves_fit : goal.invariant_of-round-clause-moves_fit
+invariant_of-round-clause-moves_fit c = subst (λ z. ItemsFit c.args.size (comps_of z)) (sym c.in_ok-copy-3.ensures) c.requires.moves
 
 pub grow-requires : goal.grow-requires
 grow-requires c =
