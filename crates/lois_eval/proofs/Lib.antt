@@ -21,3 +21,6 @@ pub mod Comparing
 pub mod Unfit
 pub mod Bindings
 pub mod Handed
+pub mod Automata
+pub mod Inhabited
+pub mod Emptiness

@@ -21,6 +21,7 @@ use Rattle.lois_meaning.specs.Store.{NamedValues}
 use Rattle.lois_script.specs.Tree.{ExprD, atoms, var, tuple, listed, part, apply, ExprsD, no_exprs, expr, pos}
 use Rattle.lois_meaning.proofs.Alike.{are_same_refl}
 use Rattle.lois_context.specs.Slots.{store_at, comps_in}
+use Rattle.lois_context.specs.Choices.{AdmitsContext}
 use Rattle.lois_context.specs.declared.contexts.Context.{Context}
 use Rattle.lois_terms.specs.Guarded.{IsSet as IsSetTerm}
 use Rattle.lois_eval.specs.Evaluated.{IsTermOf, AreTermsOf}
@@ -140,11 +141,11 @@ module _ (k : Context) where
 
   -- ---- operations
   pub apply_made : (p : ℕ) (op : Operation) (es : ExprsD) (ts : List TermD) (t : TermD) → AreTermsOf k es (Stands (apply p op es)) ts → IsAppliedThroughout k op ts t → Fits k.size t →
-      ((o : Bool) → AdmitsParts o (terms_of ts) → AdmitsTerm o t) → (PartsHaveUsualWidths (terms_of ts) → HasUsualWidths t) → IsTermOf k (Makes (apply p op es)) (Stands (apply p op es)) t
+      ((o : Bool) → AdmitsContext o k → AdmitsParts o (terms_of ts) → AdmitsTerm o t) → (PartsHaveUsualWidths (terms_of ts) → HasUsualWidths t) → IsTermOf k (Makes (apply p op es)) (Stands (apply p op es)) t
   apply_made p op es ts t all applied fits admits widths = record {
     value = λ c a. (parts_at (terms_of ts) c, all.values c a, (applied c a).0, (applied c a).1);
     levels = fits;
-    operators = λ o h. admits o (all.operators o h);
+    operators = λ o h. admits o h.operators (all.operators o h);
     widths = λ h. widths (all.widths h);
   }
 

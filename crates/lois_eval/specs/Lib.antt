@@ -8,3 +8,4 @@ pub mod Evaluated
 pub mod Folded
 pub mod Forms
 pub mod Asking
+pub mod Automata

@@ -38,7 +38,7 @@ pub(crate) fn check_set(alloc: Global, pos: Pos, term: &Term, context: &Context)
 }
 
 /// The term again. Errors: a fault at the place where its value is too deep at some choice that the context admits.
-pub(crate) fn shallow<T: Structure, D: Asks>(
+pub(crate) fn shallow<T: Structure, D: Asks<T>>(
     alloc: Global,
     pos: Pos,
     term: Term,
@@ -57,7 +57,7 @@ pub(crate) fn shallow<T: Structure, D: Asks>(
     Ok(term)
 }
 
-fn check_depth<T: Structure, D: Asks>(
+fn check_depth<T: Structure, D: Asks<T>>(
     alloc: Global,
     pos: Pos,
     term: &Term,

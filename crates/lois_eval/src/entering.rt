@@ -15,7 +15,7 @@ ghost use Rattle.lois_eval.specs.Throughout.{IfFault};
 use crate::asking::Asks;
 use crate::checks::check_set;
 use crate::faults::outside;
-use lois_base::{Comps, Constraint, Name, Term};
+use lois_base::{Comps, Constraint, Name, Structure, Term};
 use lois_constraint::negate;
 use lois_context::Context;
 use lois_meaning::Stop;
@@ -23,7 +23,7 @@ use lois_script::Pos;
 use std::alloc::Global;
 
 /// The contexts for the members of a set. Errors: a fault at the place where the term is no set.
-pub(crate) fn entered<D: Asks>(
+pub(crate) fn entered<T: Structure, D: Asks<T>>(
     alloc: Global,
     name: &Name,
     pos: Pos,

@@ -3,7 +3,7 @@
 ghost use Rattle.std.specs.Prelude.{◌≡◌, ◌≤◌, ◌↔◌, Bool, true, false, List, length, map, drop, IfOk, IfErr, IfSome, IsNone, IsTrue};
 ghost use Rattle.std.specs.List.{All};
 ghost use Rattle.lois_base.specs.Atom.{Atom};
-ghost use Rattle.lois_base.specs.Data.{comps_of, coll};
+ghost use Rattle.lois_base.specs.Data.{comps_of, coll, terms_of};
 ghost use Rattle.lois_base.specs.Fits.{ConstraintFits, Fits};
 ghost use Rattle.lois_base.specs.Tree.{tree as term_tree};
 ghost use Rattle.lois_base.specs.Truth.{holds};
@@ -11,7 +11,7 @@ ghost use Rattle.lois_base.specs.Validity.{AdmitsConstraint, AdmitsTerm, HasUsua
 ghost use Rattle.lois_deciders.specs.Met.{ExcludeEachOther};
 ghost use Rattle.lois_deciders.specs.OnlyAsked.{HasOnlyAsked};
 ghost use Rattle.lois_meaning.specs.Expressions.{Gives, Makes, HasTruth};
-ghost use Rattle.lois_meaning.specs.Faults.{Fails, Breaks, SomeFails, CondFails};
+ghost use Rattle.lois_meaning.specs.Faults.{Fails, Breaks, SomeFails, CondFails, IsNoAutomaton};
 ghost use Rattle.lois_script.specs.Tree.{each};
 ghost use Rattle.lois_script.specs.View.{tree, cond_tree, binding_tree, exprs_of, exprs_list, bindings_of, conds_of, conds_list};
 ghost use Rattle.lois_terms.specs.Guarded.{IsSet};
@@ -19,10 +19,12 @@ ghost use Rattle.lois_context.specs.Choices.{IsAdmitted, IsAdmittedBy, AdmitsCon
 ghost use Rattle.lois_context.specs.Entered.{AreEntered};
 ghost use Rattle.lois_context.specs.Sides.{IsSide};
 ghost use Rattle.lois_context.specs.Slots.{IsNew};
+ghost use Rattle.lois_eval.specs.Automata.{AreOperands, IsEmptiness, IsMadeOf, IsValueFault};
 ghost use Rattle.lois_eval.specs.Checks.{MeetsBoth};
 ghost use Rattle.lois_eval.specs.Evaluated.{IsTermOf, AreTermsOf, IsConstraintOf, IsWithin};
 ghost use Rattle.lois_eval.specs.Folded.{IsGathered, IsFoundInside, IsFaultInside};
 ghost use Rattle.lois_eval.specs.Forms.{each_from, joint, quantifier, two};
+ghost use Rattle.lois_eval.specs.Operands.{IsUnfitFault};
 ghost use Rattle.lois_eval.specs.Standing.{IsPlaced, Stands, AllStand, CondStands};
 ghost use Rattle.lois_eval.specs.Throughout.{IsValueThroughout, IsTruthThroughout, FailsNowhere, IsFaultOf, IfFault};
 
@@ -30,15 +32,16 @@ use crate::asking::{Asking, Asks, sample};
 use crate::checks::shallow;
 use crate::entering::{entered, handed_comps, handed_constraint};
 use crate::folding::{found_too, put_outward};
-use crate::forms::{compared, composed, simple};
+use crate::forms::{compared, composed, simple, wordless};
 use crate::joining::{joined, unit};
+use crate::machines::{applied_to_automata, where_empty};
 use crate::making::{alone, part};
 use lois_base::{Comps, Constraint, Decider, Name, Structure, Term, Terms};
 use lois_constraint::negate;
 use lois_context::{Context, enter_loop, side};
 use lois_deciders::Chosen;
 use lois_meaning::Stop;
-use lois_script::{Binding, Cond, Conds, Expr, Exprs};
+use lois_script::{Binding, Cond, Conds, Expr, Exprs, Operation, Pos};
 use std::alloc::Global;
 
 /// The value of an expression at all choices that a context admits. Ok comes exactly where it fails at none of them.
@@ -83,6 +86,20 @@ pub fn eval<T: Structure>(
             ensures operators { IfOk result (λ o. (ordered : Bool) → AdmitsContext ordered context.now → AdmitsConstraint ordered condition.now → IfSome o (AdmitsContext ordered)) }
             ensures only_asked { HasOnlyAsked (λ b. kind_of (b.vtable, b.value)) (λ b. questions (b.vtable, b.value)) asked.old asked.new }
         { side(alloc, context, condition, asked) },
+        apply: |asked: &mut Chosen, alloc: Global, operation: Operation, operands: &Exprs, values: &Terms, context: &Context|
+            requires operands { AreOperands T.ordered context.now operation (exprs_list operands.now) values.now }
+            ensures made { IfOk result (λ r. IsMadeOf context.now operation values.now (term_tree r)) }
+            ensures fault { IfErr result (λ s. IfFault s (IsUnfitFault context.now operation (exprs_of (exprs_list operands.now)) (terms_of values.now))) }
+            ensures only_asked { HasOnlyAsked (λ b. kind_of (b.vtable, b.value)) (λ b. questions (b.vtable, b.value)) asked.old asked.new }
+        { applied_to_automata::<T>(alloc, operation, operands, values, context, asked) },
+        empty: |asked: &mut Chosen, alloc: Global, pos: Pos, automaton: &Term, context: &Context|
+            requires levels { Fits context.now.size (term_tree automaton.now) }
+            requires operators { AdmitsTerm T.ordered (term_tree automaton.now) }
+            requires context_operators { AdmitsContext T.ordered context.now }
+            ensures emptiness { IfOk result (IsEmptiness context.now (term_tree automaton.now)) }
+            ensures fault { IfErr result (λ s. IfFault s (IsValueFault context.now IsNoAutomaton (term_tree automaton.now) pos.offset)) }
+            ensures only_asked { HasOnlyAsked (λ b. kind_of (b.vtable, b.value)) (λ b. questions (b.vtable, b.value)) asked.old asked.new }
+        { where_empty::<T>(alloc, pos, automaton, context, asked) },
     };
     evaluated::<T, _>(alloc, e, context, &mut asking)
 }
@@ -128,13 +145,27 @@ pub fn decide<T: Structure>(
             ensures operators { IfOk result (λ o. (ordered : Bool) → AdmitsContext ordered context.now → AdmitsConstraint ordered condition.now → IfSome o (AdmitsContext ordered)) }
             ensures only_asked { HasOnlyAsked (λ b. kind_of (b.vtable, b.value)) (λ b. questions (b.vtable, b.value)) asked.old asked.new }
         { side(alloc, context, condition, asked) },
+        apply: |asked: &mut Chosen, alloc: Global, operation: Operation, operands: &Exprs, values: &Terms, context: &Context|
+            requires operands { AreOperands T.ordered context.now operation (exprs_list operands.now) values.now }
+            ensures made { IfOk result (λ r. IsMadeOf context.now operation values.now (term_tree r)) }
+            ensures fault { IfErr result (λ s. IfFault s (IsUnfitFault context.now operation (exprs_of (exprs_list operands.now)) (terms_of values.now))) }
+            ensures only_asked { HasOnlyAsked (λ b. kind_of (b.vtable, b.value)) (λ b. questions (b.vtable, b.value)) asked.old asked.new }
+        { applied_to_automata::<T>(alloc, operation, operands, values, context, asked) },
+        empty: |asked: &mut Chosen, alloc: Global, pos: Pos, automaton: &Term, context: &Context|
+            requires levels { Fits context.now.size (term_tree automaton.now) }
+            requires operators { AdmitsTerm T.ordered (term_tree automaton.now) }
+            requires context_operators { AdmitsContext T.ordered context.now }
+            ensures emptiness { IfOk result (IsEmptiness context.now (term_tree automaton.now)) }
+            ensures fault { IfErr result (λ s. IfFault s (IsValueFault context.now IsNoAutomaton (term_tree automaton.now) pos.offset)) }
+            ensures only_asked { HasOnlyAsked (λ b. kind_of (b.vtable, b.value)) (λ b. questions (b.vtable, b.value)) asked.old asked.new }
+        { where_empty::<T>(alloc, pos, automaton, context, asked) },
     };
     decided::<T, _>(alloc, c, context, &mut asking)
 }
 
 // What the expression makes, where that isn't too deep.
 #[cycle(evaluation)]
-fn evaluated<T: Structure, D: Asks>(
+fn evaluated<T: Structure, D: Asks<T>>(
     alloc: Global,
     e: &Expr,
     context: &Context,
@@ -158,7 +189,7 @@ fn evaluated<T: Structure, D: Asks>(
 
 // What the expression makes, however deep that is.
 #[cycle(evaluation)]
-fn made<T: Structure, D: Asks>(
+fn made<T: Structure, D: Asks<T>>(
     alloc: Global,
     e: &Expr,
     context: &Context,
@@ -209,7 +240,7 @@ fn made<T: Structure, D: Asks>(
 }
 
 #[cycle(evaluation)]
-fn all_evaluated<T: Structure, D: Asks>(
+fn all_evaluated<T: Structure, D: Asks<T>>(
     alloc: Global,
     es: &Exprs,
     context: &Context,
@@ -229,7 +260,7 @@ fn all_evaluated<T: Structure, D: Asks>(
 }
 
 #[cycle(evaluation)]
-fn both_evaluated<T: Structure, D: Asks>(
+fn both_evaluated<T: Structure, D: Asks<T>>(
     alloc: Global,
     e: &Expr,
     f: &Expr,
@@ -250,7 +281,7 @@ fn both_evaluated<T: Structure, D: Asks>(
 
 // The set of an item for the bindings from an index on.
 #[cycle(evaluation)]
-fn gathered<T: Structure, D: Asks>(
+fn gathered<T: Structure, D: Asks<T>>(
     alloc: Global,
     item: &Expr,
     bindings: &[Binding],
@@ -272,7 +303,7 @@ fn gathered<T: Structure, D: Asks>(
     }
     let binding = &bindings[from];
     let elements = evaluated::<T, D>(alloc, &binding.from, context, decider)?;
-    let inner = entered::<D>(
+    let inner = entered::<T, D>(
         alloc,
         &binding.name,
         binding.from.pos(),
@@ -297,7 +328,7 @@ fn gathered<T: Structure, D: Asks>(
 
 // The set of the item alone, where the condition holds: no binding is left.
 #[cycle(evaluation)]
-fn gathered_here<T: Structure, D: Asks>(
+fn gathered_here<T: Structure, D: Asks<T>>(
     alloc: Global,
     item: &Expr,
     bindings: &[Binding],
@@ -328,7 +359,7 @@ fn gathered_here<T: Structure, D: Asks>(
 
 // The sets of all contexts inside, with the levels from `size` on as binders.
 #[cycle(evaluation)]
-fn gathered_inside<T: Structure, D: Asks>(
+fn gathered_inside<T: Structure, D: Asks<T>>(
     alloc: Global,
     item: &Expr,
     bindings: &[Binding],
@@ -355,7 +386,7 @@ fn gathered_inside<T: Structure, D: Asks>(
 }
 
 #[cycle(evaluation)]
-fn decided<T: Structure, D: Asks>(
+fn decided<T: Structure, D: Asks<T>>(
     alloc: Global,
     c: &Cond,
     context: &Context,
@@ -390,8 +421,16 @@ fn decided<T: Structure, D: Asks>(
             let values = both_evaluated::<T, D>(alloc, e, f, context, decider)?;
             compared::<T>(alloc, c, &values, context)
         }
-        // The automata aren't built yet.
-        Cond::Empty(_) => Err(Stop::NoMemory),
+        Cond::Empty(e) => {
+            let pos = e.pos();
+            wordless::<T, D>(
+                alloc,
+                pos,
+                evaluated::<T, D>(alloc, e, context, decider)?,
+                context,
+                decider,
+            )
+        }
         Cond::Not(negated) => {
             let held = decided::<T, D>(alloc, negated, context, decider)?;
             Ok(negate(alloc, &held)?)
@@ -409,7 +448,7 @@ fn decided<T: Structure, D: Asks>(
 
 // All of the conditions, or one of them.
 #[cycle(evaluation)]
-fn all_decided<T: Structure, D: Asks>(
+fn all_decided<T: Structure, D: Asks<T>>(
     alloc: Global,
     parts: &Conds,
     every: bool,
@@ -432,7 +471,7 @@ fn all_decided<T: Structure, D: Asks>(
 
 // For some member of a set, or for every one.
 #[cycle(evaluation)]
-fn quantified<T: Structure, D: Asks>(
+fn quantified<T: Structure, D: Asks<T>>(
     alloc: Global,
     binding: &Binding,
     body: &Cond,
@@ -447,7 +486,7 @@ fn quantified<T: Structure, D: Asks>(
     ensures asked { D.reaches decider.old decider.new }
 {
     let elements = evaluated::<T, D>(alloc, &binding.from, context, decider)?;
-    let inner = entered::<D>(
+    let inner = entered::<T, D>(
         alloc,
         &binding.name,
         binding.from.pos(),
@@ -465,7 +504,7 @@ fn quantified<T: Structure, D: Asks>(
 
 // Where the condition has the wanted truth somewhere inside.
 #[cycle(evaluation)]
-fn found_inside<T: Structure, D: Asks>(
+fn found_inside<T: Structure, D: Asks<T>>(
     alloc: Global,
     body: &Cond,
     wanted: bool,

@@ -12,7 +12,7 @@ ghost use Rattle.lois_eval.specs.Throughout.{IfFault};
 use crate::asking::Asks;
 use crate::faults::fault;
 use lois_answers::FaultKind;
-use lois_base::{Comp, Comps, Term};
+use lois_base::{Comp, Comps, Structure, Term};
 use lois_context::Context;
 use lois_meaning::Stop;
 use lois_script::Pos;
@@ -20,7 +20,7 @@ use std::alloc::Global;
 
 /// The comprehensions whose items are sets. Errors: a fault at the place where another has members at some choice that the
 /// context admits.
-pub(crate) fn sets_in<D: Asks>(
+pub(crate) fn sets_in<T: Structure, D: Asks<T>>(
     alloc: Global,
     pos: Pos,
     set: &Term,
@@ -35,12 +35,12 @@ pub(crate) fn sets_in<D: Asks>(
     ensures asked { D.reaches decider.old decider.new }
 {
     match set {
-        Term::Coll(comps) => Ok(Term::Coll(kept::<D>(alloc, pos, comps, context, decider)?)),
+        Term::Coll(comps) => Ok(Term::Coll(kept::<T, D>(alloc, pos, comps, context, decider)?)),
         _ => unreachable!(),
     }
 }
 
-fn kept<D: Asks>(
+fn kept<T: Structure, D: Asks<T>>(
     alloc: Global,
     pos: Pos,
     comps: &Comps,
@@ -55,13 +55,13 @@ fn kept<D: Asks>(
 {
     let mut kept = Comps::new(alloc);
     for comp in comps.as_slice() {
-        put_set::<D>(alloc, pos, comp, &mut kept, context, decider)?;
+        put_set::<T, D>(alloc, pos, comp, &mut kept, context, decider)?;
     }
     Ok(kept)
 }
 
 // Puts the comprehension to the others where its item is a set.
-fn put_set<D: Asks>(
+fn put_set<T: Structure, D: Asks<T>>(
     alloc: Global,
     pos: Pos,
     comp: &Comp,
@@ -79,7 +79,7 @@ fn put_set<D: Asks>(
         kept.push(comp.copy(alloc)?)?;
         return Ok(());
     }
-    check_empty::<D>(alloc, pos, comp, context, decider)
+    check_empty::<T, D>(alloc, pos, comp, context, decider)
 }
 
 fn is_set(term: &Term) -> bool
@@ -89,7 +89,7 @@ fn is_set(term: &Term) -> bool
 }
 
 // Errors: a fault at the place where the comprehension, whose item is no set, has members at some choice that the context admits.
-fn check_empty<D: Asks>(
+fn check_empty<T: Structure, D: Asks<T>>(
     alloc: Global,
     pos: Pos,
     comp: &Comp,

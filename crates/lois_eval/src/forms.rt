@@ -7,8 +7,10 @@ ghost use Rattle.lois_base.specs.Validity.{AdmitsTerm, HasUsualWidths};
 ghost use Rattle.lois_algebra.specs.Sets.{HasAllAtoms};
 ghost use Rattle.lois_terms.specs.Guarded.{IsSet};
 ghost use Rattle.lois_meaning.specs.Expressions.{Makes, HasTruth};
-ghost use Rattle.lois_meaning.specs.Faults.{Breaks, CondFails};
+ghost use Rattle.lois_meaning.specs.Faults.{Breaks, CondFails, IsNoAutomaton};
 ghost use Rattle.lois_script.specs.View.{tree, cond_tree};
+ghost use Rattle.lois_context.specs.Choices.{AdmitsContext};
+ghost use Rattle.lois_eval.specs.Automata.{IsEmptiness, IsValueFault};
 ghost use Rattle.lois_eval.specs.Evaluated.{IsTermOf, AreTermsOf, IsConstraintOf};
 ghost use Rattle.lois_eval.specs.Forms.{parts_of, sides_of, IsSimple, IsComposed, IsComparison};
 ghost use Rattle.lois_eval.specs.Standing.{IsPlaced, Stands, CondStands};
@@ -24,7 +26,7 @@ use lois_algebra::all_atoms;
 use lois_base::{Constraint, NoMemory, Structure, Term, Terms};
 use lois_context::Context;
 use lois_meaning::Stop;
-use lois_script::{Cond, Expr};
+use lois_script::{Cond, Expr, Pos};
 use std::alloc::Global;
 
 // The greatest usize can't be a binder's level.
@@ -57,7 +59,7 @@ pub(crate) fn simple<T: Structure>(alloc: Global, e: &Expr, context: &Context) -
 }
 
 /// What a tuple, a list or an operation makes of operands with these values.
-pub(crate) fn composed<T: Structure, D: Asks>(
+pub(crate) fn composed<T: Structure, D: Asks<T>>(
     alloc: Global,
     e: &Expr,
     values: Terms,
@@ -135,4 +137,23 @@ fn compared_with<T: Structure>(
         }
         _ => unreachable!(),
     }
+}
+
+/// Where an automaton with this value accepts no word. Errors: a fault at the place where the value is no automaton.
+pub(crate) fn wordless<T: Structure, D: Asks<T>>(
+    alloc: Global,
+    pos: Pos,
+    automaton: Term,
+    context: &Context,
+    decider: &mut D,
+) -> Result<Constraint, Stop>
+    requires sound { D.sound }
+    requires levels { Fits context.now.size (term_tree automaton) }
+    requires operators { AdmitsTerm T.ordered (term_tree automaton) }
+    requires context_operators { AdmitsContext T.ordered context.now }
+    ensures emptiness { IfOk result (IsEmptiness context.now (term_tree automaton)) }
+    ensures fault { IfErr result (λ s. IfFault s (IsValueFault context.now IsNoAutomaton (term_tree automaton) pos.offset)) }
+    ensures asked { D.reaches decider.old decider.new }
+{
+    decider.empty(alloc, pos, &automaton, context)
 }

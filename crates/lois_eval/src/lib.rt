@@ -10,6 +10,8 @@ mod flattening;
 mod folding;
 mod forms;
 mod joining;
+mod machine_checks;
+mod machines;
 mod making;
 mod operands;
 mod operations;

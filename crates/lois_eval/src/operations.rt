@@ -8,6 +8,7 @@ ghost use Rattle.lois_base.specs.Validity.{AdmitsTerm, AdmitsParts, HasUsualWidt
 ghost use Rattle.lois_script.specs.View.{exprs_of, exprs_list};
 ghost use Rattle.lois_script.specs.declared.syntax.Operation.TheVariants.{Flatten};
 ghost use Rattle.lois_terms.specs.Guarded.{IsSet};
+ghost use Rattle.lois_context.specs.Choices.{AdmitsContext};
 ghost use Rattle.lois_eval.specs.Checks.{IsSetFault};
 ghost use Rattle.lois_eval.specs.Operands.{IsOfTwoSets, IsAppliedThroughout, IsUnfitFault, IsMemberFault};
 ghost use Rattle.lois_eval.specs.Standing.{arity};
@@ -25,7 +26,7 @@ use lois_script::{Exprs, Operation, Pos};
 use std::alloc::Global;
 
 /// What the operation makes of operands with these values. Errors: a fault at an operand that is unfit for it.
-pub(crate) fn applied<T: Structure, D: Asks>(
+pub(crate) fn applied<T: Structure, D: Asks<T>>(
     alloc: Global,
     operation: Operation,
     operands: &Exprs,
@@ -38,9 +39,10 @@ pub(crate) fn applied<T: Structure, D: Asks>(
     requires count { length values.now ≡ arity operation }
     requires levels { PartsFit context.now.size (terms_of values.now) }
     requires operators { AdmitsParts T.ordered (terms_of values.now) }
+    requires context_operators { AdmitsContext T.ordered context.now }
     ensures applied { IfOk result (λ r. IsAppliedThroughout context.now operation values.now (tree r)) }
     ensures levels { IfOk result (λ r. Fits context.now.size (tree r)) }
-    ensures operators { IfOk result (λ r. (o : Bool) → AdmitsParts o (terms_of values.now) → AdmitsTerm o (tree r)) }
+    ensures operators { IfOk result (λ r. (o : Bool) → AdmitsContext o context.now → AdmitsParts o (terms_of values.now) → AdmitsTerm o (tree r)) }
     ensures widths { IfOk result (λ r. PartsHaveUsualWidths (terms_of values.now) → HasUsualWidths (tree r)) }
     ensures fault { IfErr result (λ s. IfFault s (IsUnfitFault context.now operation (exprs_of (exprs_list operands.now)) (terms_of values.now))) }
     ensures asked { D.reaches decider.old decider.new }
@@ -51,13 +53,10 @@ pub(crate) fn applied<T: Structure, D: Asks>(
         Operation::Minus => combined::<T>(alloc, operation, operands, values, context),
         Operation::Flatten => {
             let pos = one_expr(operands).pos();
-            flattened::<D>(alloc, pos, one_term(values), context, decider)
+            flattened::<T, D>(alloc, pos, one_term(values), context, decider)
         }
-        // The automata aren't built yet.
-        Operation::Reach => Err(Stop::NoMemory),
-        Operation::Product => Err(Stop::NoMemory),
-        Operation::Complement => Err(Stop::NoMemory),
-        Operation::Minimise => Err(Stop::NoMemory),
+        // those on automata
+        _ => decider.apply(alloc, operation, operands, values, context),
     }
 }
 
@@ -116,7 +115,7 @@ fn combination<T: Structure>(
 }
 
 // The members of the members of a set. Errors: a fault at the place where the term is no set, or a member isn't one.
-fn flattened<D: Asks>(
+fn flattened<T: Structure, D: Asks<T>>(
     alloc: Global,
     pos: Pos,
     set: &Term,
@@ -133,6 +132,6 @@ fn flattened<D: Asks>(
     ensures asked { D.reaches decider.old decider.new }
 {
     check_set(alloc, pos, set, context)?;
-    let sets = sets_in::<D>(alloc, pos, set, context, decider)?;
+    let sets = sets_in::<T, D>(alloc, pos, set, context, decider)?;
     Ok(collect_over(alloc, &sets, context.size)?)
 }

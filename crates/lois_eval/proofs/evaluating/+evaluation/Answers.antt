@@ -10,34 +10,36 @@ use Rattle.lois_base.specs.Truth.{holds}
 use Rattle.lois_base.specs.Validity.{AdmitsConstraint}
 use Rattle.lois_algebra.specs.Parts.{part_of}
 use Rattle.lois_meaning.specs.Expressions.{Makes, Gives, HasTruth}
-use Rattle.lois_meaning.specs.Faults.{Fails, Breaks, SomeFails, CondFails}
+use Rattle.lois_meaning.specs.Faults.{Fails, Breaks, SomeFails, CondFails, IsNoAutomaton}
 use Rattle.lois_meaning.proofs.Determined.{makes_same, truth_same}
 use Rattle.lois_context.specs.Choices.{IsAdmittedBy, AdmitsContext}
 use Rattle.lois_context.specs.Entered.{AreEntered}
 use Rattle.lois_context.specs.Sides.{IsSide}
 use Rattle.lois_base.proofs.Viewed.{one_more}
-use Rattle.lois_script.specs.Tree.{each, part, pos, truth, falsity, same, differ, below, member, included, not}
+use Rattle.lois_script.specs.Tree.{each, part, pos, truth, falsity, same, differ, below, member, included, empty, not}
 use Rattle.lois_script.specs.View.{tree, cond_tree, binding_tree, exprs_of, exprs_list, bindings_of, bindings_list, conds_of, conds_list}
 use Rattle.lois_script.specs.declared.syntax.Cond.{Cond}
 use Rattle.lois_script.specs.declared.syntax.Expr.{Expr}
-use Rattle.lois_script.proofs.Views.{tree_Part, tree_Each, cond_Not, cond_True, cond_False, cond_Same, cond_Differ, cond_Below, cond_Member, cond_Included}
+use Rattle.lois_script.proofs.Views.{tree_Part, tree_Each, cond_Not, cond_True, cond_False, cond_Same, cond_Differ, cond_Below, cond_Member, cond_Included, cond_Empty}
+use Rattle.lois_eval.specs.Automata.{IsEmptiness, IsValueFault}
 use Rattle.lois_eval.specs.Checks.{IsDepthFault, IsSetFault}
 use Rattle.lois_eval.specs.Evaluated.{IsTermOf, AreTermsOf, IsConstraintOf, IsWithin}
 use Rattle.lois_eval.specs.Folded.{IsGathered, IsFoundInside, IsFaultInside}
 use Rattle.lois_eval.specs.Forms.{each_from, joint, quantifier, two}
 use Rattle.lois_eval.specs.Made.{IsPartFault}
-use Rattle.lois_eval.specs.Standing.{Stands, AllStand, CondStands}
+use Rattle.lois_eval.specs.Standing.{IsPlaced, Stands, AllStand, CondStands}
 use Rattle.lois_eval.specs.Throughout.{IfFault, IsFaultOf}
 use Rattle.lois_eval.proofs.Bindings.{first_weight, first_new, first_no_set, first_inside, first_loop, first_within, first_fails, last_none, last_item_placed, last_one, last_within, last_item_fails, bound_new, bound_no_set, bound_inside, bound_loop, bound_fails}
 use Rattle.lois_eval.proofs.Comparing.{sides_from}
 use Rattle.lois_eval.proofs.Conditions.{joint_none, joint_more, not_decided}
+use Rattle.lois_eval.proofs.Emptiness.{empty_decided, empty_fails}
 use Rattle.lois_eval.proofs.Evaluations.{placed_as, terms_none, terms_more, some_fails, joint_fails, joint_placed}
 use Rattle.lois_eval.proofs.FaultsAt.{if_fault}
 use Rattle.lois_eval.proofs.Gathering.{gathered_more, found_more}
 use Rattle.lois_eval.proofs.Handed.{handed_fault, handed_same, handed_ok, item_there, passed_on}
 use Rattle.lois_eval.proofs.Nodes.{part_made, part_fails, made_as, breaks_as, too_deep_fails}
 use Rattle.lois_eval.proofs.Parts.{is_expr_of, is_cond_of}
-use Rattle.lois_eval.proofs.Plain.{truth_decided, falsity_decided, decided_as}
+use Rattle.lois_eval.proofs.Plain.{truth_decided, falsity_decided, decided_as, cond_fails_as}
 use Rattle.lois_eval.proofs.Weights.{weight_of_cond_positive}
 use Rattle.lois_eval.proofs.Wholes.{all_longer}
 use Rattle.lois_eval.proofs.evaluating.+evaluation.Goals as goal
@@ -159,6 +161,39 @@ decided-compared-requires-in-Included-clause-values g t c =
     let e = c.in-Included.e in
     let f = c.in-Included.f in
     sides_from c.args.context.now (cond_tree c.args.c.now) (included (tree e) (tree f)) (tree e) (tree f) c.in_ok-values-in-Included.values (ap cond_tree c.in-Included.is ∙ cond_Included e f) refl (λ o xs h. h) c.in_ok-values-in-Included.ensures.terms
+
+pub decided-wordless-requires : goal.decided-wordless-requires
+decided-wordless-requires g t c =
+    let own = c.in_ok-evaluated-in-Empty.ensures.term in
+    let e = c.in-Empty.e in
+    let is = ap cond_tree c.in-Empty.is ∙ cond_Empty e in
+    let o = g.T.Structure.ordered in
+    let placed = subst (λ z. IsPlaced (CondStands z) o c.args.context.now) is c.requires.placed in
+    record {
+      sound = c.requires.sound;
+      levels = own.levels;
+      operators = own.operators o (record { names = placed.names; operators = placed.operators });
+      context_operators = placed.operators;
+    }
+
+pub decided-returns-in_ok-evaluated-in-Empty-clause-constraint :
+    goal.decided-returns-in_ok-evaluated-in-Empty-clause-constraint
+decided-returns-in_ok-evaluated-in-Empty-clause-constraint g t c =
+    let k = c.args.context.now in
+    let e = c.in-Empty.e in
+    let u = term_tree c.in_ok-evaluated-in-Empty.field-0 in
+    let is = ap cond_tree c.in-Empty.is ∙ cond_Empty e in
+    IfOk-weaker c.wordless.result (IsEmptiness k u) _ (λ r h. decided_as k (cond_tree c.args.c.now) (empty (tree e)) r is (empty_decided k u (tree e) c.in_ok-evaluated-in-Empty.ensures.term r h)) c.wordless.ensures.emptiness
+
+pub decided-returns-in_ok-evaluated-in-Empty-clause-fault :
+    goal.decided-returns-in_ok-evaluated-in-Empty-clause-fault
+decided-returns-in_ok-evaluated-in-Empty-clause-fault g t c =
+    let k = c.args.context.now in
+    let e = c.in-Empty.e in
+    let u = term_tree c.in_ok-evaluated-in-Empty.field-0 in
+    let is = ap cond_tree c.in-Empty.is ∙ cond_Empty e in
+    let P = IsValueFault k IsNoAutomaton u c.pos-pos.result.offset in
+    IfErr-weaker c.wordless.result (λ s. IfFault s P) _ (λ s h. if_fault s P (IsFaultOf k (CondFails (cond_tree c.args.c.now))) (λ f bad. cond_fails_as k (cond_tree c.args.c.now) (empty (tree e)) f is (empty_fails k u (tree e) c.in_ok-evaluated-in-Empty.ensures.term f (subst (λ z. IsValueFault k IsNoAutomaton u z f) c.pos-pos.ensures.first_token bad))) h) c.wordless.ensures.fault
 
 pub decided-returns-in_ok-unit-in-True-clause-constraint :
     goal.decided-returns-in_ok-unit-in-True-clause-constraint

@@ -39,10 +39,16 @@ pub returns-clause-only_asked : goal.returns-clause-only_asked
 returns-clause-only_asked g c =
     let Keeps : Chosen _ _ → Chosen _ _ → Type 0 = HasOnlyAsked (λ d. (goal.Decider-dyn g (d.vtable, d.value)).kind_of d.value) (λ d. (goal.Decider-dyn g (d.vtable, d.value)).questions d.value) in
     let kept = reached_keeps _ Keeps (only_asked_nothing _ _) (only_asked_then _ _) (λ a b leads. elim leads [
-      | inl x ↦ kept_between Keeps a b x.before.now x.after.now x.from x.to x.call.1.1.1
-      | inr two ↦ elim two [
-        | inl x ↦ kept_between Keeps a b x.before.now x.after.now x.from x.to x.call.1.1
-        | inr x ↦ kept_between Keeps a b x.before.now x.after.now x.from x.to x.call.1.1.1.1
+      | inl x ↦ kept_between Keeps a b x.before.now x.after.now x.from x.to (assumption x.call)
+      | inr more ↦ elim more [
+        | inl x ↦ kept_between Keeps a b x.before.now x.after.now x.from x.to (assumption x.call)
+        | inr others ↦ elim others [
+          | inl x ↦ kept_between Keeps a b x.before.now x.after.now x.from x.to (assumption x.call)
+          | inr rest ↦ elim rest [
+            | inl x ↦ kept_between Keeps a b x.before.now x.after.now x.from x.to (assumption x.call)
+            | inr x ↦ kept_between Keeps a b x.before.now x.after.now x.from x.to (assumption x.call)
+          ]
+        ]
       ]
     ]) _ _ c.decided.ensures.asked.0 in
     let same = c.decided.ensures.asked.1 in

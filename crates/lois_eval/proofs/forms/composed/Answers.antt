@@ -8,6 +8,7 @@ use Rattle.lois_meaning.specs.Faults.{Breaks}
 use Rattle.lois_script.specs.Tree.{tuple, listed, apply}
 use Rattle.lois_script.specs.View.{tree, exprs_of, exprs_list}
 use Rattle.lois_script.proofs.Views.{tree_Tuple, tree_Listed, tree_Apply}
+use Rattle.lois_context.specs.Choices.{AdmitsContext}
 use Rattle.lois_eval.specs.Evaluated.{AreTermsOf}
 use Rattle.lois_eval.specs.Forms.{parts_of}
 use Rattle.lois_eval.specs.Operands.{IsAppliedThroughout, IsUnfitFault}
@@ -55,6 +56,7 @@ applied-requires g c =
       count = values.count ∙ placed.names.0;
       levels = values.levels;
       operators = values.operators o placed;
+      context_operators = placed.operators;
     }
 
 pub returns-in-Apply-clause-term : goal.returns-in-Apply-clause-term
@@ -66,7 +68,7 @@ returns-in-Apply-clause-term g c =
     let es = exprs_of (exprs_list c.in-Apply.operands) in
     let is = ap tree c.in-Apply.is ∙ tree_Apply p op c.in-Apply.operands in
     let values = subst (λ z. AreTermsOf k (parts_of z) (Stands z) ts) is c.requires.values in
-    four_ok c.applied.result (λ r. IsAppliedThroughout k op ts (term_tree r)) (λ r. Fits k.size (term_tree r)) (λ r. (o : Bool) → AdmitsParts o (terms_of ts) → AdmitsTerm o (term_tree r)) (λ r. PartsHaveUsualWidths (terms_of ts) → HasUsualWidths (term_tree r)) _
+    four_ok c.applied.result (λ r. IsAppliedThroughout k op ts (term_tree r)) (λ r. Fits k.size (term_tree r)) (λ r. (o : Bool) → AdmitsContext o k → AdmitsParts o (terms_of ts) → AdmitsTerm o (term_tree r)) (λ r. PartsHaveUsualWidths (terms_of ts) → HasUsualWidths (term_tree r)) _
     c.applied.ensures.applied c.applied.ensures.levels c.applied.ensures.operators c.applied.ensures.widths
     (λ r applied fits admits widths. made_as k (tree c.args.e.now) (apply p.offset op es) (term_tree r) is (apply_made k p.offset op es ts (term_tree r) values applied fits admits widths))
 

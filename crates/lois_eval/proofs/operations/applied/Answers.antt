@@ -7,10 +7,12 @@ use Rattle.lois_base.specs.Validity.{AdmitsTerm, AdmitsParts, HasUsualWidths, Pa
 use Rattle.lois_meaning.specs.declared.faults.Fault.{Fault}
 use Rattle.lois_script.specs.View.{tree, exprs_of, exprs_list}
 use Rattle.lois_script.specs.declared.syntax.Operation.TheVariants.{Flatten}
+use Rattle.lois_eval.specs.Automata.{IsMadeOf}
 use Rattle.lois_eval.specs.Checks.{IsSetFault}
 use Rattle.lois_eval.specs.Operands.{IsOfTwoSets, IsAppliedThroughout, IsUnfitFault, IsMemberFault}
 use Rattle.lois_eval.specs.Standing.{arity}
 use Rattle.lois_eval.specs.Throughout.{IfFault}
+use Rattle.lois_eval.proofs.Automata.{of_automata}
 use Rattle.lois_eval.proofs.FaultsAt.{if_fault}
 use Rattle.lois_eval.proofs.Unfit.{flatten_unfit}
 use Rattle.lois_eval.proofs.operations.applied.Goals as goal
@@ -60,7 +62,7 @@ returns-in-Flatten-clause-applied g c =
 pub returns-in-Flatten-clause-operators : goal.returns-in-Flatten-clause-operators
 returns-in-Flatten-clause-operators g c =
     IfOk-weaker c.flattened.result (λ r. (o : Bool) → AdmitsTerm o (term_tree c.one_term.result.now) → AdmitsTerm o (term_tree r)) _
-    (λ r h o admits. h o (subst (λ z. AdmitsParts o (terms_of z)) c.one_term.ensures admits).0) c.flattened.ensures.operators
+    (λ r h o context admits. h o (subst (λ z. AdmitsParts o (terms_of z)) c.one_term.ensures admits).0) c.flattened.ensures.operators
 
 pub returns-in-Flatten-clause-widths : goal.returns-in-Flatten-clause-widths
 returns-in-Flatten-clause-widths g c =
@@ -77,3 +79,41 @@ returns-in-Flatten-clause-fault g c =
     let Q = IsUnfitFault k c.args.operation (exprs_of (exprs_list c.args.operands.now)) (terms_of c.args.values.now) in
     IfErr-weaker c.flattened.result (λ z. IfFault z P) _
     (λ z h. if_fault z P Q (λ f unfit. flatten_unfit k f (tree e) s c.args.operation (exprs_list c.args.operands.now) c.args.values.now at c.in-Flatten.is c.one_expr.ensures c.one_term.ensures c.pos-pos.ensures.first_token unfit) h) c.flattened.ensures.fault
+
+pub returns-in-Union-clause-operators : goal.returns-in-Union-clause-operators
+returns-in-Union-clause-operators g c =
+    IfOk-weaker c.combined.result (λ r. (o : Bool) → AdmitsParts o (terms_of c.args.values.now) → AdmitsTerm o (term_tree r)) _ (λ r h o context admits. h o admits) c.combined.ensures.operators
+
+pub returns-in-Inter-clause-operators : goal.returns-in-Inter-clause-operators
+returns-in-Inter-clause-operators g c =
+    IfOk-weaker c.combined-in-Inter.result (λ r. (o : Bool) → AdmitsParts o (terms_of c.args.values.now) → AdmitsTerm o (term_tree r)) _ (λ r h o context admits. h o admits) c.combined-in-Inter.ensures.operators
+
+pub returns-in-Minus-clause-operators : goal.returns-in-Minus-clause-operators
+returns-in-Minus-clause-operators g c =
+    IfOk-weaker c.combined-in-Minus.result (λ r. (o : Bool) → AdmitsParts o (terms_of c.args.values.now) → AdmitsTerm o (term_tree r)) _ (λ r h o context admits. h o admits) c.combined-in-Minus.ensures.operators
+
+pub apply-requires-clause-operands : goal.apply-requires-clause-operands
+apply-requires-clause-operands g c = record {
+  operation = of_automata c.args.operation c.in_default.not-Union c.in_default.not-Inter c.in_default.not-Minus c.in_default.not-Flatten;
+  operands = c.requires.operands;
+  count = c.requires.count;
+  levels = c.requires.levels;
+  operators = c.requires.operators;
+  context_operators = c.requires.context_operators;
+}
+
+pub returns-in_default-clause-applied : goal.returns-in_default-clause-applied
+returns-in_default-clause-applied g c =
+    IfOk-weaker c.apply.result (λ r. IsMadeOf c.args.context.now c.args.operation c.args.values.now (term_tree r)) _ (λ r h. h.applied) c.apply.ensures.made
+
+pub returns-in_default-clause-levels : goal.returns-in_default-clause-levels
+returns-in_default-clause-levels g c =
+    IfOk-weaker c.apply.result (λ r. IsMadeOf c.args.context.now c.args.operation c.args.values.now (term_tree r)) _ (λ r h. h.levels) c.apply.ensures.made
+
+pub returns-in_default-clause-operators : goal.returns-in_default-clause-operators
+returns-in_default-clause-operators g c =
+    IfOk-weaker c.apply.result (λ r. IsMadeOf c.args.context.now c.args.operation c.args.values.now (term_tree r)) _ (λ r h. h.operators) c.apply.ensures.made
+
+pub returns-in_default-clause-widths : goal.returns-in_default-clause-widths
+returns-in_default-clause-widths g c =
+    IfOk-weaker c.apply.result (λ r. IsMadeOf c.args.context.now c.args.operation c.args.values.now (term_tree r)) _ (λ r h. h.widths) c.apply.ensures.made

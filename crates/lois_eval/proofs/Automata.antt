@@ -1,0 +1,153 @@
+-- Values that are automata, or unfit for an operation on automata, throughout a context.
+use Rattle.std.proofs.Common.{◌≡◌, ℕ, ◌⊎◌, inl, inr, List, [], ◌∷◌, Ok, Err, refl, sym, subst, ◌∙◌}
+use Rattle.std.proofs.lemmas.List.{length-map}
+use Rattle.std.specs.Prelude.{Result, OnOk}
+use Rattle.lois_base.specs.Atom.{Atom, whole}
+use Rattle.lois_base.specs.Data.{TermD, tup, terms_of}
+use Rattle.lois_base.specs.Truth.{sampled}
+use Rattle.lois_base.specs.Values.{PointValue, point}
+use Rattle.lois_base.specs.declared.guards.Lit.{Lit}
+use Rattle.lois_meaning.specs.Automata.{Machine, IsAutomatonOf, IsComplete}
+use Rattle.lois_meaning.specs.Expressions.{IsFitFor, IsResultOf}
+use Rattle.lois_meaning.specs.Faults.{IsNoAutomaton, IsUnfitFor}
+use Rattle.lois_meaning.specs.Kinds.{HasPartsAt}
+use Rattle.lois_meaning.specs.declared.faults.Fault.{Fault}
+use Rattle.lois_answers.specs.declared.faults.FaultKind.{FaultKind}
+use Rattle.lois_answers.specs.declared.faults.FaultKind.TheVariants.{NotAutomaton, NotDeterministic, NotComplete}
+use Rattle.lois_automata.specs.Machines.{IsAutomatonAt, IsDeterministicAt, IsCompleteAt, IsWholeAt}
+use Rattle.lois_automata.specs.Throughout.{HoldsThroughout, IsVerdictOn}
+use Rattle.lois_automata.specs.declared.verdicts.Verdict.{Verdict}
+use Rattle.lois_automata.specs.declared.verdicts.Verdict.TheVariants.{Holds, Fails}
+use Rattle.lois_script.specs.Tree.{ExprD, pos}
+use Rattle.lois_script.specs.View.{exprs_of}
+use Rattle.lois_script.specs.declared.syntax.Operation.{Operation}
+use Rattle.lois_script.specs.declared.syntax.Operation.TheVariants.{Union, Inter, Minus, Flatten, Reach, Product, Complement, Minimise}
+use Rattle.lois_script.specs.declared.syntax.Pos.{Pos}
+use Rattle.lois_context.specs.Choices.{IsAdmitted}
+use Rattle.lois_context.specs.declared.contexts.Context.{Context}
+use Rattle.lois_eval.specs.Automata.{IsOfOneAutomaton, IsOfAutomata, IsMadeOf, IsValueFault, IsFailed}
+use Rattle.lois_eval.specs.Operands.{IsAppliedThroughout, IsUnfitFault}
+use Rattle.lois_eval.specs.Standing.{arity}
+use Rattle.lois_eval.proofs.FaultsAt.{fault_at}
+
+parts_one : (t : TermD) (c : List Atom) (us ws : List PointValue) → HasPartsAt t c us → HasPartsAt t c ws → us ≡ ws
+parts_one (tup ts) c us ws e f = e ∙ sym f
+parts_one _ c us ws e f = absurd e
+
+-- an automaton has one list of five sets
+pub one_machine : (v : PointValue) (a b : Machine) → IsAutomatonOf v a → IsAutomatonOf v b → a ≡ b
+one_machine v a b is own =
+    let five : a.states ∷ a.letters ∷ a.steps ∷ a.initial ∷ a.final ∷ [] ≡ b.states ∷ b.letters ∷ b.steps ∷ b.initial ∷ b.final ∷ [] = parts_one v.term_of v.choice (a.states ∷ a.letters ∷ a.steps ∷ a.initial ∷ a.final ∷ []) (b.states ∷ b.letters ∷ b.steps ∷ b.initial ∷ b.final ∷ []) is.five own.five in
+    let e1 : a.states ≡ b.states = cc in
+    let e2 : a.letters ≡ b.letters = cc in
+    let e3 : a.steps ≡ b.steps = cc in
+    let e4 : a.initial ≡ b.initial = cc in
+    let e5 : a.final ≡ b.final = cc in
+    subst (λ z. a ≡ record { states = b.states; letters = b.letters; steps = b.steps; initial = b.initial; final = z }) e5
+    (subst (λ z. a ≡ record { states = b.states; letters = b.letters; steps = b.steps; initial = z; final = a.final }) e4
+    (subst (λ z. a ≡ record { states = b.states; letters = b.letters; steps = z; initial = a.initial; final = a.final }) e3
+    (subst (λ z. a ≡ record { states = b.states; letters = z; steps = a.steps; initial = a.initial; final = a.final }) e2
+    (subst (λ z. a ≡ record { states = z; letters = a.letters; steps = a.steps; initial = a.initial; final = a.final }) e1 refl))))
+
+-- ---- what the checks say
+
+pub on_weaker : {A E : Type 0} (r : Result A E) (P Q : Type 0) → (P → Q) → OnOk r P → OnOk r Q
+on_weaker (Ok x) P Q to h = to h
+on_weaker (Err e) P Q to h = tt
+
+-- where a verdict has to be that a property holds throughout
+pub on_holds : {A E : Type 0} (r : Result A E) (v : Verdict) (P : Verdict → Type 0) → OnOk r (v ≡ Holds) → P v → OnOk r (P Holds)
+on_holds r v P h p = on_weaker r (v ≡ Holds) (P Holds) (λ e. subst P e p) h
+
+module _ (n : ℕ) (u : List (List Lit)) (t : TermD) where
+  pub is_whole : HoldsThroughout n u (IsDeterministicAt t) → HoldsThroughout n u (IsCompleteAt t) → HoldsThroughout n u (IsWholeAt t)
+  is_whole single total c k h =
+      let (a, is, one) = single c k h in
+      let (b, own, all) = total c k h in
+      (a, is, one, subst IsComplete (one_machine (point t c) b a own is) all)
+
+  pub whole_automaton : HoldsThroughout n u (IsWholeAt t) → HoldsThroughout n u (IsAutomatonAt t)
+  whole_automaton is c k h = let w = is c k h in (w.0, w.1)
+
+module _ (k : Context) (t : TermD) where
+  -- the fault at a sample at which a property fails
+  pub failed_value : (P : List Atom → Type 0) (row : PointValue → FaultKind → Type 0) (at : Pos) (kind : FaultKind) → ((c : List Atom) → IsAdmitted c k → (P c → ⊥) → row (point t c) kind) → (v : Verdict) → IsVerdictOn k.size k.«when» P v → (f : Fault) → IsFailed v at kind f → IsValueFault k row t at.offset f
+  failed_value P row at kind to Holds verdict f h = absurd h
+  failed_value P row at kind to (Fails s) verdict f h =
+      let a : IsAdmitted (sampled s.items) k = (length-map s.items whole ∙ verdict.count, verdict.admitted) in
+      record {
+        fault = fault_at k at kind s.items a f h;
+        unfit = subst (λ z. row (point t (sampled z)) f.kind) (sym h.sample) (subst (row (point t (sampled s.items))) (sym h.kind) (to (sampled s.items) a verdict.broken));
+      }
+
+  pub no_automaton : (at : Pos) (v : Verdict) → IsVerdictOn k.size k.«when» (IsAutomatonAt t) v → (f : Fault) → IsFailed v at NotAutomaton f → IsValueFault k IsNoAutomaton t at.offset f
+  no_automaton at = failed_value (IsAutomatonAt t) IsNoAutomaton at NotAutomaton (λ c a none. (refl, none))
+
+  pub not_deterministic : HoldsThroughout k.size k.«when» (IsAutomatonAt t) → (at : Pos) (v : Verdict) → IsVerdictOn k.size k.«when» (IsDeterministicAt t) v → (f : Fault) → IsFailed v at NotDeterministic f → IsValueFault k (IsUnfitFor Minimise) t at.offset f
+  not_deterministic automaton at = failed_value (IsDeterministicAt t) (IsUnfitFor Minimise) at NotDeterministic (λ c a none.
+      let (m, is) = automaton c a.0 a.1 in
+      inr (inl (refl, m, is, λ one. none (m, is, one))))
+
+  pub not_complete : HoldsThroughout k.size k.«when» (IsDeterministicAt t) → (at : Pos) (v : Verdict) → IsVerdictOn k.size k.«when» (IsCompleteAt t) v → (f : Fault) → IsFailed v at NotComplete f → IsValueFault k (IsUnfitFor Minimise) t at.offset f
+  not_complete single at = failed_value (IsCompleteAt t) (IsUnfitFor Minimise) at NotComplete (λ c a none.
+      let (m, is, one) = single c a.0 a.1 in
+      inr (inr (refl, m, is, one, λ all. none (m, is, all))))
+
+  pub value_fault_weaker : (P Q : PointValue → FaultKind → Type 0) (at : ℕ) (f : Fault) → ((v : PointValue) (kind : FaultKind) → P v kind → Q v kind) → IsValueFault k P t at f → IsValueFault k Q t at f
+  value_fault_weaker P Q at f to h = record { fault = h.fault; unfit = to (point t (sampled f.sample.items)) f.kind h.unfit }
+
+  -- ---- what the operations make
+
+  pub one_applied : (op : Operation) (r : TermD) → HoldsThroughout k.size k.«when» (λ c. IsFitFor (point t c) op) → HoldsThroughout k.size k.«when» (λ c. IsResultOf (point r c) op (point t c ∷ [])) → IsAppliedThroughout k op (t ∷ []) r
+  one_applied op r fit made c a = ((fit c a.0 a.1, tt), made c a.0 a.1)
+
+  pub two_applied : (op : Operation) (s r : TermD) → HoldsThroughout k.size k.«when» (λ c. IsFitFor (point t c) op) → HoldsThroughout k.size k.«when» (λ c. IsFitFor (point s c) op) → HoldsThroughout k.size k.«when» (λ c. IsResultOf (point r c) op (point t c ∷ point s c ∷ [])) → IsAppliedThroughout k op (t ∷ s ∷ []) r
+  two_applied op s r fit other made c a = ((fit c a.0 a.1, (other c a.0 a.1, tt)), made c a.0 a.1)
+
+-- ---- the operands
+
+pub made_of : (k : Context) (op own : Operation) (ts us : List TermD) (r : TermD) → op ≡ own → ts ≡ us → IsMadeOf k own us r → IsMadeOf k op ts r
+made_of k op own ts us r is are h = subst (λ z. IsMadeOf k z ts r) (sym is) (subst (λ z. IsMadeOf k own z r) (sym are) h)
+
+pub of_automata : (op : Operation) → (op ≡ Union → ⊥) → (op ≡ Inter → ⊥) → (op ≡ Minus → ⊥) → (op ≡ Flatten → ⊥) → IsOfAutomata op
+of_automata Reach a b c d = tt
+of_automata Product a b c d = tt
+of_automata Complement a b c d = tt
+of_automata Minimise a b c d = tt
+of_automata Union a b c d = absurd (a refl)
+of_automata Inter a b c d = absurd (b refl)
+of_automata Minus a b c d = absurd (c refl)
+of_automata Flatten a b c d = absurd (d refl)
+
+pub of_one_automaton : (op : Operation) → IsOfAutomata op → (op ≡ Product → ⊥) → IsOfOneAutomaton op × (arity op ≡ 1)
+of_one_automaton Reach h other = (tt, refl)
+of_one_automaton Complement h other = (tt, refl)
+of_one_automaton Minimise h other = (tt, refl)
+of_one_automaton Product h other = absurd (other refl)
+of_one_automaton Union h other = absurd h
+of_one_automaton Inter h other = absurd h
+of_one_automaton Minus h other = absurd h
+of_one_automaton Flatten h other = absurd h
+
+module _ (k : Context) (op : Operation) (es : List ExprD) (ts : List TermD) (x : Fault) where
+  pub one_unfit : (e : ExprD) (t : TermD) (at : ℕ) → es ≡ e ∷ [] → ts ≡ t ∷ [] → at ≡ pos e → IsValueFault k (IsUnfitFor op) t at x → IsUnfitFault k op (exprs_of es) (terms_of ts) x
+  one_unfit e t at operands values place h = subst (λ z. IsUnfitFault k op (exprs_of es) (terms_of z) x) (sym values) (subst (λ z. IsUnfitFault k op (exprs_of z) (terms_of (t ∷ [])) x) (sym operands) (record {
+    admitted = h.fault.admitted;
+    unfit = inl (h.fault.place ∙ place, h.unfit);
+    elements = h.fault.elements;
+  }))
+
+  pub two_unfit : (e f : ExprD) (s t : TermD) (at other : ℕ) → es ≡ e ∷ f ∷ [] → ts ≡ s ∷ t ∷ [] → at ≡ pos e → other ≡ pos f → IsValueFault k (IsUnfitFor op) s at x ⊎ IsValueFault k (IsUnfitFor op) t other x → IsUnfitFault k op (exprs_of es) (terms_of ts) x
+  two_unfit e f s t at other operands values place second h = subst (λ z. IsUnfitFault k op (exprs_of es) (terms_of z) x) (sym values) (subst (λ z. IsUnfitFault k op (exprs_of z) (terms_of (s ∷ t ∷ [])) x) (sym operands) (of h))
+    where
+      of : IsValueFault k (IsUnfitFor op) s at x ⊎ IsValueFault k (IsUnfitFor op) t other x → IsUnfitFault k op (exprs_of (e ∷ f ∷ [])) (terms_of (s ∷ t ∷ [])) x
+      of (inl h) = record {
+        admitted = h.fault.admitted;
+        unfit = inl (h.fault.place ∙ place, h.unfit);
+        elements = h.fault.elements;
+      }
+      of (inr h) = record {
+        admitted = h.fault.admitted;
+        unfit = inr (inl (h.fault.place ∙ second, h.unfit));
+        elements = h.fault.elements;
+      }

@@ -1,0 +1,24 @@
+use Rattle.std.proofs.lemmas.Result.{IfErr-weaker}
+use Rattle.lois_base.specs.Tree.{tree}
+use Rattle.lois_automata.specs.Machines.{IsAutomatonAt}
+use Rattle.lois_automata.specs.Throughout.{IsVerdictOn}
+use Rattle.lois_answers.specs.declared.faults.FaultKind.TheVariants.{NotAutomaton}
+use Rattle.lois_meaning.specs.Faults.{IsNoAutomaton}
+use Rattle.lois_eval.specs.Automata.{IsFailed, IsValueFault}
+use Rattle.lois_eval.specs.Throughout.{IfFault}
+use Rattle.lois_eval.proofs.Automata.{no_automaton, on_holds}
+use Rattle.lois_eval.proofs.FaultsAt.{if_fault}
+use Rattle.lois_eval.proofs.machine_checks.check_machine.Goals as goal
+
+pub returns-clause-automaton : goal.returns-clause-automaton
+returns-clause-automaton g c =
+    let k = c.args.context.now in
+    on_holds c.passed.result c.in_ok-verdict.verdict (IsVerdictOn k.size k.«when» (IsAutomatonAt (tree c.args.value.now))) c.passed.ensures.holds c.in_ok-verdict.ensures.verdict
+
+pub returns-clause-fault : goal.returns-clause-fault
+returns-clause-fault g c =
+    let k = c.args.context.now in
+    let t = tree c.args.value.now in
+    let v = c.in_ok-verdict.verdict in
+    let P = IsFailed v c.args.pos NotAutomaton in
+    IfErr-weaker c.passed.result (λ s. IfFault s P) _ (λ s h. if_fault s P (IsValueFault k IsNoAutomaton t c.args.pos.offset) (no_automaton k t c.args.pos v c.in_ok-verdict.ensures.verdict) h) c.passed.ensures.fault

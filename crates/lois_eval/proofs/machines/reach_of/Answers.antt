@@ -1,0 +1,20 @@
+use Rattle.lois_deciders.proofs.OnlyAsked.{only_asked_then}
+use Rattle.lois_base.specs.Tree.{tree}
+use Rattle.lois_script.specs.declared.syntax.Operation.TheVariants.{Reach}
+use Rattle.lois_eval.proofs.Automata.{one_applied}
+use Rattle.lois_eval.proofs.machines.reach_of.Goals as goal
+
+pub returns-clause-made : goal.returns-clause-made
+returns-clause-made g c =
+    let t = tree c.args.automaton.now in
+    let h = c.in_ok-reach.ensures in
+    record {
+      applied = one_applied c.args.context.now t Reach (tree c.in_ok-reach.field-0) c.in_ok-check_machine.ensures.automaton h.reached;
+      levels = h.levels;
+      operators = λ o context admits. h.operators o admits.0 context.«when»;
+      widths = λ usual. h.widths usual.0;
+    }
+
+pub returns-clause-only_asked : goal.returns-clause-only_asked
+returns-clause-only_asked g c =
+    only_asked_then (λ b. (goal.Decider-dyn g (b.vtable, b.value)).kind_of b.value) (λ b. (goal.Decider-dyn g (b.vtable, b.value)).questions b.value) c.args.chosen.now c.check_machine.new.chosen c.reach.new.chosen c.check_machine.ensures.only_asked c.reach.ensures.only_asked

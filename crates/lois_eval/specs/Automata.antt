@@ -1,0 +1,73 @@
+-- Operations on automata and where an automaton accepts no word, throughout a context, with the faults of values that are unfit.
+use Rattle.std.specs.Prelude.{◌≡◌, ℕ, Bool, not, List, length}
+use Rattle.lois_base.specs.Atom.{Atom}
+use Rattle.lois_base.specs.Data.{TermD, terms_of}
+use Rattle.lois_base.specs.Fits.{Fits, PartsFit, ConstraintFits}
+use Rattle.lois_base.specs.Truth.{holds, sampled}
+use Rattle.lois_base.specs.Validity.{AdmitsConstraint, AdmitsTerm, AdmitsParts, HasUsualWidths, PartsHaveUsualWidths}
+use Rattle.lois_base.specs.Values.{PointValue, point, IsIn}
+use Rattle.lois_base.specs.declared.guards.Lit.{Lit}
+use Rattle.lois_meaning.specs.Automata.{Machine, IsAutomatonOf, Accepts}
+use Rattle.lois_meaning.specs.Expressions.{IsTruthOf}
+use Rattle.lois_script.specs.Tree.{ExprD}
+use Rattle.lois_script.specs.declared.syntax.Operation.{Operation}
+use Rattle.lois_script.specs.declared.syntax.Operation.TheVariants.{Reach, Product, Complement, Minimise}
+use Rattle.lois_answers.specs.declared.faults.FaultKind.{FaultKind}
+use Rattle.lois_meaning.specs.declared.faults.Fault.{Fault}
+use Rattle.lois_context.specs.Choices.{IsAdmitted, AdmitsContext}
+use Rattle.lois_context.specs.declared.contexts.Context.{Context}
+use Rattle.lois_automata.specs.declared.verdicts.Verdict.{Verdict}
+use Rattle.lois_automata.specs.declared.verdicts.Verdict.TheVariants.{Holds, Fails}
+use Rattle.lois_script.specs.declared.syntax.Pos.{Pos}
+use Rattle.lois_eval.specs.Checks.{IsFaultAt, IsFaultWith}
+use Rattle.lois_eval.specs.Operands.{IsAppliedThroughout}
+use Rattle.lois_eval.specs.Standing.{arity}
+
+-- the operations on one automaton, and those on any
+abbrev pub IsOfOneAutomaton : Operation → Type 0
+IsOfOneAutomaton Reach = Unit {0}
+IsOfOneAutomaton Complement = Unit {0}
+IsOfOneAutomaton Minimise = Unit {0}
+IsOfOneAutomaton _ = ⊥
+
+abbrev pub IsOfAutomata : Operation → Type 0
+IsOfAutomata Product = Unit {0}
+IsOfAutomata op = IsOfOneAutomaton op
+
+-- as many operands and values as the operation takes; the values fit the context
+pub record AreOperands (o : Bool) (k : Context) (op : Operation) (es : List ExprD) (ts : List TermD) : Type 0 where
+  pub operation : IsOfAutomata op
+  pub operands : length es ≡ arity op
+  pub count : length ts ≡ arity op
+  pub levels : PartsFit k.size (terms_of ts)
+  pub operators : AdmitsParts o (terms_of ts)
+  pub context_operators : AdmitsContext o k
+
+-- The term is what the operation makes of these values. It fits the context, and has only operators that the context and the
+-- values have.
+pub record IsMadeOf (k : Context) (op : Operation) (ts : List TermD) (t : TermD) : Type 0 where
+  pub applied : IsAppliedThroughout k op ts t
+  pub levels : Fits k.size t
+  pub operators : (o : Bool) → AdmitsContext o k → AdmitsParts o (terms_of ts) → AdmitsTerm o t
+  pub widths : PartsHaveUsualWidths (terms_of ts) → HasUsualWidths t
+
+-- At each choice that the context admits the value is an automaton, and the constraint holds exactly where it accepts no word.
+pub record IsEmptiness (k : Context) (t : TermD) (g : List (List Lit)) : Type 0 where
+  pub truth : (c : List Atom) → IsAdmitted c k → (a : Machine) × IsAutomatonOf (point t c) a × IsTruthOf (not (holds c g)) ((word : List PointValue) × Accepts a word)
+  pub levels : ConstraintFits k.size g
+  pub operators : (o : Bool) → AdmitsContext o k → AdmitsTerm o t → AdmitsConstraint o g
+
+-- at each choice of n atoms at which t is an automaton, the constraint holds exactly where no final state of t is in s
+abbrev pub HoldsWhereNoneFinal : ℕ → TermD → TermD → List (List Lit) → Type 0
+HoldsWhereNoneFinal n t s g =
+    (c : List Atom) → length c ≡ n → (a : Machine) → IsAutomatonOf (point t c) a → IsTruthOf (not (holds c g)) ((q : PointValue) × IsIn q (point s c) × IsIn q a.final)
+
+-- the value of t fails in this way at the fault's sample
+pub record IsValueFault (k : Context) (row : PointValue → FaultKind → Type 0) (t : TermD) (at : ℕ) (f : Fault) : Type 0 where
+  pub fault : IsFaultAt k at f
+  pub unfit : row (point t (sampled f.sample.items)) f.kind
+
+-- the fault of a verdict that something fails, with its sample
+abbrev pub IsFailed : Verdict → Pos → FaultKind → Fault → Type 0
+IsFailed Holds at kind f = ⊥
+IsFailed (Fails s) at kind f = IsFaultWith at kind s.items f

@@ -1,0 +1,207 @@
+//! Operations on automata, and where an automaton accepts no word.
+
+ghost use Rattle.std.specs.Prelude.{◌⊎◌, [], ◌∷◌, Bool, IfOk, IfErr};
+ghost use Rattle.lois_base.specs.Data.{terms_of};
+ghost use Rattle.lois_base.specs.Fits.{ConstraintFits, Fits};
+ghost use Rattle.lois_base.specs.Tree.{tree};
+ghost use Rattle.lois_base.specs.Validity.{AdmitsConstraint, AdmitsTerm};
+ghost use Rattle.lois_deciders.specs.OnlyAsked.{HasOnlyAsked};
+ghost use Rattle.lois_meaning.specs.Faults.{IsNoAutomaton, IsUnfitFor};
+ghost use Rattle.lois_script.specs.View.{exprs_of, exprs_list};
+ghost use Rattle.lois_script.specs.declared.syntax.Operation.TheVariants.{Reach, Product, Complement, Minimise};
+ghost use Rattle.lois_terms.specs.Guarded.{IsSet};
+ghost use Rattle.lois_context.specs.Choices.{AdmitsContext};
+ghost use Rattle.lois_eval.specs.Automata.{AreOperands, HoldsWhereNoneFinal, IsEmptiness, IsMadeOf, IsOfOneAutomaton, IsValueFault};
+ghost use Rattle.lois_eval.specs.Operands.{IsUnfitFault};
+ghost use Rattle.lois_eval.specs.Throughout.{IfFault};
+
+use crate::machine_checks::{check_machine, check_whole};
+use crate::operands::{one_expr, one_term, two_exprs, two_terms};
+use crate::relations::included;
+use lois_algebra::inter;
+use lois_automata::{complement, five, product, reach};
+use lois_base::{Comps, Constraint, Decider, NoMemory, Structure, Term, Terms};
+use lois_context::Context;
+use lois_deciders::Chosen;
+use lois_meaning::Stop;
+use lois_minimise::minimise;
+use lois_script::{Exprs, Operation, Pos};
+use std::alloc::Global;
+
+/// What an operation on automata makes of operands with these values. Errors: a fault at an operand that is unfit for it.
+pub(crate) fn applied_to_automata<T: Structure>(
+    alloc: Global,
+    operation: Operation,
+    operands: &Exprs,
+    values: &Terms,
+    context: &Context,
+    chosen: &mut Chosen,
+) -> Result<Term, Stop>
+    requires operands { AreOperands T.ordered context.now operation (exprs_list operands.now) values.now }
+    ensures made { IfOk result (λ r. IsMadeOf context.now operation values.now (tree r)) }
+    ensures fault { IfErr result (λ s. IfFault s (IsUnfitFault context.now operation (exprs_of (exprs_list operands.now)) (terms_of values.now))) }
+    ensures only_asked { HasOnlyAsked (λ b. (⟦<dyn Decider as Decider>⟧ b.vtable).kind_of b.value) (λ b. (⟦<dyn Decider as Decider>⟧ b.vtable).questions b.value) chosen.old chosen.new }
+{
+    match operation {
+        Operation::Product => {
+            let (e, f) = two_exprs(operands);
+            let (a, b) = two_terms(values);
+            product_of::<T>(alloc, e.pos(), a, f.pos(), b, context, chosen)
+        }
+        _ => {
+            let pos = one_expr(operands).pos();
+            of_one::<T>(alloc, operation, pos, one_term(values), context, chosen)
+        }
+    }
+}
+
+fn of_one<T: Structure>(
+    alloc: Global,
+    operation: Operation,
+    pos: Pos,
+    automaton: &Term,
+    context: &Context,
+    chosen: &mut Chosen,
+) -> Result<Term, Stop>
+    requires operation { IsOfOneAutomaton operation }
+    requires levels { Fits context.now.size (tree automaton.now) }
+    requires operators { AdmitsTerm T.ordered (tree automaton.now) }
+    requires context_operators { AdmitsContext T.ordered context.now }
+    ensures made { IfOk result (λ r. IsMadeOf context.now operation (tree automaton.now ∷ []) (tree r)) }
+    ensures fault { IfErr result (λ s. IfFault s (IsValueFault context.now (IsUnfitFor operation) (tree automaton.now) pos.offset)) }
+    ensures only_asked { HasOnlyAsked (λ b. (⟦<dyn Decider as Decider>⟧ b.vtable).kind_of b.value) (λ b. (⟦<dyn Decider as Decider>⟧ b.vtable).questions b.value) chosen.old chosen.new }
+{
+    match operation {
+        Operation::Reach => reach_of::<T>(alloc, pos, automaton, context, chosen),
+        Operation::Complement => complement_of::<T>(alloc, pos, automaton, context, chosen),
+        Operation::Minimise => minimal_of::<T>(alloc, pos, automaton, context, chosen),
+        _ => unreachable!(),
+    }
+}
+
+fn reach_of<T: Structure>(
+    alloc: Global,
+    pos: Pos,
+    automaton: &Term,
+    context: &Context,
+    chosen: &mut Chosen,
+) -> Result<Term, Stop>
+    requires levels { Fits context.now.size (tree automaton.now) }
+    requires operators { AdmitsTerm T.ordered (tree automaton.now) }
+    ensures made { IfOk result (λ r. IsMadeOf context.now Reach (tree automaton.now ∷ []) (tree r)) }
+    ensures fault { IfErr result (λ s. IfFault s (IsValueFault context.now (IsUnfitFor Reach) (tree automaton.now) pos.offset)) }
+    ensures only_asked { HasOnlyAsked (λ b. (⟦<dyn Decider as Decider>⟧ b.vtable).kind_of b.value) (λ b. (⟦<dyn Decider as Decider>⟧ b.vtable).questions b.value) chosen.old chosen.new }
+{
+    check_machine::<T>(alloc, pos, automaton, context, chosen)?;
+    Ok(reach::<T>(alloc, automaton, &context.when, context.size, chosen)?)
+}
+
+fn product_of<T: Structure>(
+    alloc: Global,
+    a_pos: Pos,
+    a: &Term,
+    b_pos: Pos,
+    b: &Term,
+    context: &Context,
+    chosen: &mut Chosen,
+) -> Result<Term, Stop>
+    requires levels { Fits context.now.size (tree a.now) }
+    requires operators { AdmitsTerm T.ordered (tree a.now) }
+    requires other_levels { Fits context.now.size (tree b.now) }
+    requires other_operators { AdmitsTerm T.ordered (tree b.now) }
+    ensures made { IfOk result (λ r. IsMadeOf context.now Product (tree a.now ∷ tree b.now ∷ []) (tree r)) }
+    ensures fault { IfErr result (λ s. IfFault s (λ f. IsValueFault context.now (IsUnfitFor Product) (tree a.now) a_pos.offset f ⊎ IsValueFault context.now (IsUnfitFor Product) (tree b.now) b_pos.offset f)) }
+    ensures only_asked { HasOnlyAsked (λ b. (⟦<dyn Decider as Decider>⟧ b.vtable).kind_of b.value) (λ b. (⟦<dyn Decider as Decider>⟧ b.vtable).questions b.value) chosen.old chosen.new }
+{
+    check_machine::<T>(alloc, a_pos, a, context, chosen)?;
+    check_machine::<T>(alloc, b_pos, b, context, chosen)?;
+    Ok(product::<T>(alloc, a, b, &context.when, context.size, chosen)?)
+}
+
+fn complement_of<T: Structure>(
+    alloc: Global,
+    pos: Pos,
+    automaton: &Term,
+    context: &Context,
+    chosen: &mut Chosen,
+) -> Result<Term, Stop>
+    requires levels { Fits context.now.size (tree automaton.now) }
+    requires operators { AdmitsTerm T.ordered (tree automaton.now) }
+    ensures made { IfOk result (λ r. IsMadeOf context.now Complement (tree automaton.now ∷ []) (tree r)) }
+    ensures fault { IfErr result (λ s. IfFault s (IsValueFault context.now (IsUnfitFor Complement) (tree automaton.now) pos.offset)) }
+    ensures only_asked { HasOnlyAsked (λ b. (⟦<dyn Decider as Decider>⟧ b.vtable).kind_of b.value) (λ b. (⟦<dyn Decider as Decider>⟧ b.vtable).questions b.value) chosen.old chosen.new }
+{
+    check_whole::<T>(alloc, pos, automaton, context, chosen)?;
+    Ok(complement::<T>(alloc, automaton, &context.when, context.size, chosen)?)
+}
+
+fn minimal_of<T: Structure>(
+    alloc: Global,
+    pos: Pos,
+    automaton: &Term,
+    context: &Context,
+    chosen: &mut Chosen,
+) -> Result<Term, Stop>
+    requires levels { Fits context.now.size (tree automaton.now) }
+    requires operators { AdmitsTerm T.ordered (tree automaton.now) }
+    requires context_operators { AdmitsContext T.ordered context.now }
+    ensures made { IfOk result (λ r. IsMadeOf context.now Minimise (tree automaton.now ∷ []) (tree r)) }
+    ensures fault { IfErr result (λ s. IfFault s (IsValueFault context.now (IsUnfitFor Minimise) (tree automaton.now) pos.offset)) }
+    ensures only_asked { HasOnlyAsked (λ b. (⟦<dyn Decider as Decider>⟧ b.vtable).kind_of b.value) (λ b. (⟦<dyn Decider as Decider>⟧ b.vtable).questions b.value) chosen.old chosen.new }
+{
+    check_whole::<T>(alloc, pos, automaton, context, chosen)?;
+    let reached = reach::<T>(alloc, automaton, &context.when, context.size, chosen)?;
+    Ok(minimise::<T>(
+        alloc,
+        automaton,
+        &reached,
+        &context.when,
+        context.size,
+        chosen,
+    )?)
+}
+
+/// Where the automaton accepts no word. Errors: a fault at the place where the value is no automaton.
+pub(crate) fn where_empty<T: Structure>(
+    alloc: Global,
+    pos: Pos,
+    automaton: &Term,
+    context: &Context,
+    chosen: &mut Chosen,
+) -> Result<Constraint, Stop>
+    requires levels { Fits context.now.size (tree automaton.now) }
+    requires operators { AdmitsTerm T.ordered (tree automaton.now) }
+    requires context_operators { AdmitsContext T.ordered context.now }
+    ensures emptiness { IfOk result (IsEmptiness context.now (tree automaton.now)) }
+    ensures fault { IfErr result (λ s. IfFault s (IsValueFault context.now IsNoAutomaton (tree automaton.now) pos.offset)) }
+    ensures only_asked { HasOnlyAsked (λ b. (⟦<dyn Decider as Decider>⟧ b.vtable).kind_of b.value) (λ b. (⟦<dyn Decider as Decider>⟧ b.vtable).questions b.value) chosen.old chosen.new }
+{
+    check_machine::<T>(alloc, pos, automaton, context, chosen)?;
+    let states = reach::<T>(alloc, automaton, &context.when, context.size, chosen)?;
+    Ok(none_final::<T>(alloc, automaton, &states, context.size)?)
+}
+
+// Where no final state of the automaton is in the set.
+fn none_final<T: Structure>(
+    alloc: Global,
+    automaton: &Term,
+    states: &Term,
+    size: usize,
+) -> Result<Constraint, NoMemory>
+    requires levels { Fits size (tree automaton.now) }
+    requires operators { AdmitsTerm T.ordered (tree automaton.now) }
+    requires states { Fits size (tree states.now) }
+    requires states_set { IsSet (tree states.now) }
+    requires states_operators { AdmitsTerm T.ordered (tree states.now) }
+    ensures truth { IfOk result (HoldsWhereNoneFinal size (tree automaton.now) (tree states.now)) }
+    ensures levels { IfOk result (ConstraintFits size) }
+    ensures operators { IfOk result (λ r. (o : Bool) → AdmitsTerm o (tree automaton.now) → AdmitsTerm o (tree states.now) → AdmitsConstraint o r) }
+{
+    let Some(sets) = five(automaton) else {
+        return Ok(Constraint::new(alloc));
+    };
+    let accepting = Term::Coll(sets.accepting.copy(alloc)?);
+    let found = inter::<T>(alloc, states, &accepting, size)?;
+    let none = Term::Coll(Comps::new(alloc));
+    included::<T>(alloc, &found, &none, size)
+}
