@@ -23,7 +23,6 @@ use Rattle.lois_syntax.specs.Refusals.{tokens_in, Refuses as SyntaxRefuses}
 use Rattle.lois_syntax.specs.declared.SyntaxError.{SyntaxError}
 use Rattle.lois_syntax.specs.declared.SyntaxError.TheVariants.{NoScript, TooNested, WideTuple, TurnsTooMany, NoMemory as SyntaxMemory}
 use Rattle.lois_syntax.proofs.OneStatement.{one_script_of_text}
-use Rattle.lois_run.specs.BuiltForms.{IsBuilt}
 use Rattle.lois_run.specs.Causes.{AnswersText}
 use Rattle.lois_run.specs.Headline.{Completes, NamesFailure, FailsSomewhere, IsToRun, Headline}
 use Rattle.lois_run.specs.Outcomes.{HasNumber, HasText}
@@ -34,7 +33,7 @@ use Rattle.lois_run.specs.Run.{IsRunOf}
 use Rattle.lois_run.specs.declared.outcomes.Outcome.{Outcome}
 use Rattle.lois_run.specs.declared.outcomes.Outcome.TheVariants.{Completed, Failed, Refused}
 use Rattle.lois_run.specs.declared.outcomes.Refusal.{Refusal}
-use Rattle.lois_run.specs.declared.outcomes.Refusal.TheVariants.{TooLong, Lexical, Syntax, Scope, NotResults, NotBuilt}
+use Rattle.lois_run.specs.declared.outcomes.Refusal.TheVariants.{TooLong, Lexical, Syntax, Scope, NotResults}
 use Rattle.lois_run.specs.declared.reading.Read.TheVariants.{Refused as NotRead}
 use Rattle.lois_run.specs.declared.words.Command.TheVariants.{Run, Check, Reread}
 
@@ -87,7 +86,6 @@ module _ (text : List ℕ) where
   refused_run kind (Lexical n p) why none = record { cause = why; promise = refused_headline (Lexical n p) none; kind = tt }
   refused_run kind (Syntax n p) why none = record { cause = why; promise = refused_headline (Syntax n p) none; kind = tt }
   refused_run kind (Scope n p) why none = record { cause = why; promise = refused_headline (Scope n p) none; kind = tt }
-  refused_run kind NotBuilt (s, spells, scoped, never) none = absurd (none s spells scoped)
 
   pub refused_is_run : (r : Refusal) → IsReadOf text (NotRead r) → (kind : Option Kind) → AnswersText (Run kind) text (Refused r)
   refused_is_run r (why, none, number) kind = refused_run kind r why none
@@ -98,7 +96,6 @@ module _ (text : List ℕ) where
   refused_check (Lexical n p) why none = record { cause = why; promise = λ l s h w. absurd (none s h w); kind = tt }
   refused_check (Syntax n p) why none = record { cause = why; promise = λ l s h w. absurd (none s h w); kind = tt }
   refused_check (Scope n p) why none = record { cause = why; promise = λ l s h w. absurd (none s h w); kind = tt }
-  refused_check NotBuilt (s, spells, scoped, never) none = absurd (none s spells scoped)
 
   pub refused_is_checked : (r : Refusal) → IsReadOf text (NotRead r) → AnswersText Check text (Refused r)
   refused_is_checked r (why, none, number) = refused_check r why none
@@ -111,32 +108,17 @@ module _ (text : List ℕ) where
     only_one : (other : ScriptD) → Spells text other → other ≡ s
     only_one other h = one_script_of_text text other s h spells
 
-    pub not_built_is_answered : (IsBuilt s → ⊥) → (kind : Option Kind) → AnswersText (Run kind) text (Refused NotBuilt)
-    not_built_is_answered never kind = record {
-      cause = (s, spells, scoped, never);
-      promise = record {
-        runs = λ other h. absurd (none other h);
-        completes = λ other h fine. absurd (none other h);
-        fails = λ other h some. absurd (none other h);
-        right = λ other h. tt;
-      };
-      kind = tt;
-    }
-      where
-        none : (other : ScriptD) → IsToRun text other → ⊥
-        none other h = never (subst IsBuilt (only_one other h.spelled) h.built)
-
     -- nothing fails that completes
     never_fails : (r : Results) → AreResultsOf s r → FailsSomewhere s → ⊥
     never_fails r h (choice, count, at, kind, path, fails) =
         let lines = (h.choices choice count).lines in
         never_both.scripts s choice lines.printed at kind path lines.ends fails
 
-    completed : (r : Results) → IsBuilt s → AreResultsOf s r → (kind : Option Kind) → AnswersText (Run kind) text (Completed r)
-    completed r built h kind =
+    completed : (r : Results) → AreResultsOf s r → (kind : Option Kind) → AnswersText (Run kind) text (Completed r)
+    completed r h kind =
         let all : Completes s r = record { results = h; read_again = λ q sound same. results_are_told q r sound h.sound same } in
         record {
-          cause = (s, spells, scoped, built, all);
+          cause = (s, spells, scoped, all);
           promise = record {
             runs = λ other g. inl (inl tt);
             completes = λ other g fine. inl tt;
@@ -152,9 +134,9 @@ module _ (text : List ℕ) where
         let count : length (sampled (take n t.sample)) ≡ n = omega (arith, length-map (take n t.sample) whole, length-take n t.sample, h.sound.enough, ap length h.parameters, length-map s.parameters parameter_name) in
         (sampled (take n t.sample), count, h.at, t.kind, h.path, h.failed)
 
-    failed : (t : Trace) → IsBuilt s → NamesFailure text s t → (kind : Option Kind) → AnswersText (Run kind) text (Failed t)
-    failed t built h kind = record {
-      cause = (s, spells, scoped, built, h);
+    failed : (t : Trace) → NamesFailure text s t → (kind : Option Kind) → AnswersText (Run kind) text (Failed t)
+    failed t h kind = record {
+      cause = (s, spells, scoped, h);
       promise = record {
         runs = λ other g. inl (inr tt);
         completes = λ other g fine. absurd (fine (subst FailsSomewhere (sym (only_one other g.spelled)) (fails_there t h)));
@@ -164,12 +146,12 @@ module _ (text : List ℕ) where
       kind = tt;
     }
 
-    pub run_is_answered : IsBuilt s → (o : Outcome) → IsRunOf text s o → ((kind : Option Kind) → AnswersText (Run kind) text o) × HasText o
-    run_is_answered built (Completed r) h = (completed r built h, h.sound)
-    run_is_answered built (Failed t) h = (failed t built h, h.sound)
-    run_is_answered built _ h = absurd h
+    pub run_is_answered : (o : Outcome) → IsRunOf text s o → ((kind : Option Kind) → AnswersText (Run kind) text o) × HasText o
+    run_is_answered (Completed r) h = (completed r h, h.sound)
+    run_is_answered (Failed t) h = (failed t h, h.sound)
+    run_is_answered _ h = absurd h
 
     -- the same of a call
-    pub run_answered : IsBuilt s → (r : Result Outcome NoMemory) → IfOk r (IsRunOf text s) → IfOk r (λ o. (kind : Option Kind) → AnswersText (Run kind) text o)
-    run_answered built (Ok o) h = (run_is_answered built o h).0
-    run_answered built (Err e) h = tt
+    pub run_answered : (r : Result Outcome NoMemory) → IfOk r (IsRunOf text s) → IfOk r (λ o. (kind : Option Kind) → AnswersText (Run kind) text o)
+    run_answered (Ok o) h = (run_is_answered o h).0
+    run_answered (Err e) h = tt

@@ -1,29 +1,19 @@
 -- What running the made script comes to, by the headline.
-use Rattle.std.proofs.Common.{◌≡◌, ℕ, zero, suc, ◌+◌, ◌*◌, ◌≤◌, List, ◌⊎◌, refl, arith}
+use Rattle.std.proofs.Common.{◌≡◌, ℕ, ◌≤◌, ◌⊎◌, refl, arith}
 use mathlib.Core.Logic.{inl, inr}
-use Rattle.std.specs.Prelude.{IsTrue}
 use Rattle.lois_base.specs.declared.limits.TheConstants.{LONGEST_TEXT}
 use Rattle.lois_answers.specs.declared.results.Results.{Results}
 use Rattle.lois_made.specs.MadeCounts.{HasMadeCounts}
 use Rattle.lois_made.specs.MadeScript.{made_script}
-use Rattle.lois_made.specs.MadeTree.{made_tag, made_loop_tree, made_loops_before, made_tree}
+use Rattle.lois_made.specs.MadeTree.{made_tree}
 use Rattle.lois_made.proofs.MadeEnds.{made_never_fails}
 use Rattle.lois_made.proofs.MadeResults.{results_have_made_counts}
 use Rattle.lois_made.proofs.MadeScoped.{made_is_well_scoped}
 use Rattle.lois_made.proofs.MadeScript.{script_length}
 use Rattle.lois_made.proofs.MadeSpelled.{made_is_spelled}
-use Rattle.lois_script.specs.Tree.{StmtsD, stmt}
-use Rattle.lois_run.specs.BuiltForms.{stmts_are_built, IsBuilt}
 use Rattle.lois_run.specs.Headline.{FailsSomewhere, IsCompleted, IsRight, IsRunOrFault, IsToRun, Headline}
 use Rattle.lois_run.specs.declared.outcomes.Outcome.{Outcome}
 use Rattle.lois_run.specs.declared.outcomes.Outcome.TheVariants.{Completed}
-
-loops_are_built : (n : ℕ) (rest : StmtsD) → IsTrue (stmts_are_built rest) → IsTrue (stmts_are_built (made_loops_before n rest))
-loops_are_built zero rest h = h
-loops_are_built (suc n) rest h = loops_are_built n (stmt (made_loop_tree (28 + 74 * n) (made_tag n)) rest) h
-
-pub made_is_built : (n : ℕ) → IsBuilt (made_tree n)
-made_is_built n = loops_are_built n _ refl
 
 made_fails_nowhere : (n : ℕ) → FailsSomewhere (made_tree n) → ⊥
 made_fails_nowhere n (choice, is, at, kind, path, fails) = made_never_fails n choice at kind path fails
@@ -33,7 +23,6 @@ made_is_to_run n few = record {
   fits = omega (arith, script_length n);
   spelled = made_is_spelled n;
   scoped = made_is_well_scoped n;
-  built = made_is_built n;
 }
 
 counted : (n : ℕ) (o : Outcome) → IsCompleted o → IsRight (made_script n) (made_tree n) o → (r : Results) × (o ≡ Completed r) × HasMadeCounts n r

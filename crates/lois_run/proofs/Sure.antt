@@ -1,5 +1,5 @@
 -- What is refused comes to that refusal alone.
-use Rattle.std.proofs.Common.{◌≡◌, ◌≢◌, ℕ, List, Option, Some, refl, sym, ap, ◌∙◌, subst, ⊎_elim, arith}
+use Rattle.std.proofs.Common.{◌≡◌, ℕ, List, Option, Some, refl, sym, ap, ◌∙◌, subst, ⊎_elim, arith}
 use Rattle.std.proofs.lemmas.Bool.{cases_lt}
 use Rattle.lois_base.specs.declared.deciding.Kind.{Kind}
 use Rattle.lois_lexer.proofs.OneReading.{one_list, one_refusal as one_lexical, never_both as tokens_or_refusal}
@@ -22,7 +22,6 @@ use Rattle.lois_syntax.proofs.Refusing.{one_refusal as one_syntax, never_both as
 use Rattle.lois_syntax.specs.Refusals.{tokens_in, Refuses as SyntaxRefuses}
 use Rattle.lois_syntax.specs.declared.SyntaxError.{SyntaxError}
 use Rattle.lois_syntax.specs.declared.SyntaxError.TheVariants.{NoScript, TooNested, WideTuple, TurnsTooMany, NoMemory as SyntaxMemory}
-use Rattle.lois_run.specs.BuiltForms.{IsBuilt}
 use Rattle.lois_run.specs.Causes.{IsRefusedBy, HasCause, IsOfText}
 use Rattle.lois_run.specs.Laws.{RefusalsAreSure}
 use Rattle.lois_run.specs.Read.{SpellsNone}
@@ -31,7 +30,7 @@ use Rattle.lois_run.specs.Refusals.{token_place, IsLexical, LexicalTells, IsSynt
 use Rattle.lois_run.specs.declared.outcomes.Outcome.{Outcome}
 use Rattle.lois_run.specs.declared.outcomes.Outcome.TheVariants.{Completed, Failed, Reread as WrittenAgain, Checked, Made as WasMade, Refused, ReadFault, Usage}
 use Rattle.lois_run.specs.declared.outcomes.Refusal.{Refusal}
-use Rattle.lois_run.specs.declared.outcomes.Refusal.TheVariants.{TooLong, Lexical, Syntax, Scope, NotResults, NotBuilt}
+use Rattle.lois_run.specs.declared.outcomes.Refusal.TheVariants.{TooLong, Lexical, Syntax, Scope, NotResults}
 use Rattle.lois_run.specs.declared.words.Command.TheVariants.{Run, Check, Reread, Make}
 
 -- ---- one number, one place
@@ -96,13 +95,12 @@ module _ (text : List ℕ) where
       let rule = broken.0 in let at = broken.1 in
       scoped rule at (subst (λ (x : ScriptD). ScriptBreaks x rule at) (one_script_of_text text t s spells spelled) broken.2.broken)
 
-  pub refused_spell_none : (r : Refusal) → IsRefusedAs text r → r ≢ NotBuilt → SpellsNone text
-  refused_spell_none TooLong why built s spells scoped = absurd why
-  refused_spell_none (NotResults p) why built s spells scoped = absurd why
-  refused_spell_none (Lexical n p) why built s spells scoped = no_tokens n p why spells.tokens spells.cut
-  refused_spell_none (Syntax n p) why built s spells scoped = no_script n p why s spells
-  refused_spell_none (Scope n p) why built s spells scoped = not_scoped n p why s spells scoped
-  refused_spell_none NotBuilt why built s spells scoped = built refl
+  pub refused_spell_none : (r : Refusal) → IsRefusedAs text r → SpellsNone text
+  refused_spell_none TooLong why s spells scoped = absurd why
+  refused_spell_none (NotResults p) why s spells scoped = absurd why
+  refused_spell_none (Lexical n p) why s spells scoped = no_tokens n p why spells.tokens spells.cut
+  refused_spell_none (Syntax n p) why s spells scoped = no_script n p why s spells
+  refused_spell_none (Scope n p) why s spells scoped = not_scoped n p why s spells scoped
 
   same_lexical : (n m : ℕ) (p q : Place) → IsRefusedAs text (Lexical n p) → IsRefusedAs text (Lexical m q) → Lexical n p ≡ Lexical m q
   same_lexical n m p q (e, refuses, told) (f, refused, tells) =
@@ -128,19 +126,12 @@ module _ (text : List ℕ) where
   same_refusal (Lexical n p) (Lexical m q) a b = same_lexical m n q p b a
   same_refusal (Lexical n p) (Syntax m q) a (tokens, e, cut, refuses, told) = absurd (no_tokens n p a tokens cut)
   same_refusal (Lexical n p) (Scope m q) a (s, e, spells, refuses, told) = absurd (no_tokens n p a spells.tokens spells.cut)
-  same_refusal (Lexical n p) NotBuilt a (s, spells, scoped, never) = absurd (no_tokens n p a spells.tokens spells.cut)
   same_refusal (Syntax n p) (Lexical m q) (tokens, e, cut, refuses, told) b = absurd (no_tokens m q b tokens cut)
   same_refusal (Syntax n p) (Syntax m q) a b = same_syntax m n q p b a
   same_refusal (Syntax n p) (Scope m q) a (s, e, spells, refuses, told) = absurd (no_script n p a s spells)
-  same_refusal (Syntax n p) NotBuilt a (s, spells, scoped, never) = absurd (no_script n p a s spells)
   same_refusal (Scope n p) (Lexical m q) (s, e, spells, refuses, told) b = absurd (no_tokens m q b spells.tokens spells.cut)
   same_refusal (Scope n p) (Syntax m q) (s, e, spells, refuses, told) b = absurd (no_script m q b s spells)
   same_refusal (Scope n p) (Scope m q) a b = same_scope m n q p b a
-  same_refusal (Scope n p) NotBuilt a (s, spells, scoped, never) = absurd (not_scoped n p a s spells scoped)
-  same_refusal NotBuilt (Lexical m q) (s, spells, scoped, never) b = absurd (no_tokens m q b spells.tokens spells.cut)
-  same_refusal NotBuilt (Syntax m q) (s, spells, scoped, never) b = absurd (no_script m q b s spells)
-  same_refusal NotBuilt (Scope m q) (s, spells, scoped, never) b = absurd (not_scoped m q b s spells scoped)
-  same_refusal NotBuilt NotBuilt a b = refl
 
   -- ---- no results
 
@@ -167,13 +158,12 @@ module _ (text : List ℕ) where
 
   -- ---- whatever else a text comes to
 
-  never_runs : (r : Refusal) (s : ScriptD) → IsRefusedAs text r → Spells text s → IsWellScoped s → IsBuilt s → ⊥
-  never_runs NotBuilt s (t, spells, scoped, never) spelled well built = never (subst IsBuilt (one_script_of_text text s t spelled spells) built)
-  never_runs TooLong s a spells scoped built = absurd a
-  never_runs (NotResults p) s a spells scoped built = absurd a
-  never_runs (Lexical n p) s a spells scoped built = no_tokens n p a spells.tokens spells.cut
-  never_runs (Syntax n p) s a spells scoped built = no_script n p a s spells
-  never_runs (Scope n p) s a spells scoped built = not_scoped n p a s spells scoped
+  never_runs : (r : Refusal) (s : ScriptD) → IsRefusedAs text r → Spells text s → IsWellScoped s → ⊥
+  never_runs TooLong s a spells scoped = absurd a
+  never_runs (NotResults p) s a spells scoped = absurd a
+  never_runs (Lexical n p) s a spells scoped = no_tokens n p a spells.tokens spells.cut
+  never_runs (Syntax n p) s a spells scoped = no_script n p a s spells
+  never_runs (Scope n p) s a spells scoped = not_scoped n p a s spells scoped
 
   run_refusal : (kind : Option Kind) (r : Refusal) → IsOfText (Refused r) → IsRefusedBy (Run kind) text r → IsRefusedAs text r
   run_refusal kind TooLong is a = absurd is
@@ -181,15 +171,13 @@ module _ (text : List ℕ) where
   run_refusal kind (Syntax n p) is a = a
   run_refusal kind (Scope n p) is a = a
   run_refusal kind (NotResults p) is a = absurd a
-  run_refusal kind NotBuilt is a = a
 
-  check_refusal : (r : Refusal) → IsOfText (Refused r) → IsRefusedBy Check text r → IsRefusedAs text r × (r ≢ NotBuilt)
+  check_refusal : (r : Refusal) → IsOfText (Refused r) → IsRefusedBy Check text r → IsRefusedAs text r
   check_refusal TooLong is a = absurd is
-  check_refusal (Lexical n p) is a = (a, λ e. cc e)
-  check_refusal (Syntax n p) is a = (a, λ e. cc e)
-  check_refusal (Scope n p) is a = (a, λ e. cc e)
+  check_refusal (Lexical n p) is a = a
+  check_refusal (Syntax n p) is a = a
+  check_refusal (Scope n p) is a = a
   check_refusal (NotResults p) is a = absurd a
-  check_refusal NotBuilt is a = absurd a
 
   reread_refusal : (r : Refusal) → IsOfText (Refused r) → IsRefusedBy Reread text r → (p : Place) × (r ≡ NotResults p) × IsNoAnswer text p
   reread_refusal TooLong is a = absurd is
@@ -197,8 +185,8 @@ module _ (text : List ℕ) where
   reread_refusal _ is a = absurd a
 
   surely_run : (kind : Option Kind) (r : Refusal) (o : Outcome) → IsRefusedAs text r → IsOfText o → HasCause (Run kind) text o → o ≡ Refused r
-  surely_run kind r (Completed results) a is (s, spells, scoped, built, answer) = absurd (never_runs r s a spells scoped built)
-  surely_run kind r (Failed t) a is (s, spells, scoped, built, answer) = absurd (never_runs r s a spells scoped built)
+  surely_run kind r (Completed results) a is (s, spells, scoped, answer) = absurd (never_runs r s a spells scoped)
+  surely_run kind r (Failed t) a is (s, spells, scoped, answer) = absurd (never_runs r s a spells scoped)
   surely_run kind r (Refused q) a is b = ap Refused (same_refusal r q a (run_refusal kind q is b))
   surely_run kind r (WrittenAgain answer) a is b = absurd b
   surely_run kind r (Checked script) a is b = absurd b
@@ -206,15 +194,15 @@ module _ (text : List ℕ) where
   surely_run kind r ReadFault a is b = absurd is
   surely_run kind r Usage a is b = absurd is
 
-  surely_checked : (r : Refusal) (o : Outcome) → IsRefusedAs text r → (r ≢ NotBuilt) → IsOfText o → HasCause Check text o → o ≡ Refused r
-  surely_checked r (Checked script) a built is (spells, scoped) = absurd (refused_spell_none r a built _ spells scoped)
-  surely_checked r (Refused q) a built is b = ap Refused (same_refusal r q a (check_refusal q is b).0)
-  surely_checked r (WrittenAgain answer) a built is b = absurd b
-  surely_checked r (Completed results) a built is b = absurd b
-  surely_checked r (Failed t) a built is b = absurd b
-  surely_checked r (WasMade counts) a built is b = absurd is
-  surely_checked r ReadFault a built is b = absurd is
-  surely_checked r Usage a built is b = absurd is
+  surely_checked : (r : Refusal) (o : Outcome) → IsRefusedAs text r → IsOfText o → HasCause Check text o → o ≡ Refused r
+  surely_checked r (Checked script) a is (spells, scoped) = absurd (refused_spell_none r a _ spells scoped)
+  surely_checked r (Refused q) a is b = ap Refused (same_refusal r q a (check_refusal q is b))
+  surely_checked r (WrittenAgain answer) a is b = absurd b
+  surely_checked r (Completed results) a is b = absurd b
+  surely_checked r (Failed t) a is b = absurd b
+  surely_checked r (WasMade counts) a is b = absurd is
+  surely_checked r ReadFault a is b = absurd is
+  surely_checked r Usage a is b = absurd is
 
   surely_reread : (p : Place) (o : Outcome) → IsNoAnswer text p → IsOfText o → HasCause Reread text o → o ≡ Refused (NotResults p)
   surely_reread p (WrittenAgain answer) (k, none, at) is b = absurd (none.none answer b)
@@ -231,9 +219,7 @@ module _ (text : List ℕ) where
 pub refusals_are_sure : RefusalsAreSure
 refusals_are_sure (Run kind) text r o of_text refused is cause = surely_run text kind r o (run_refusal text kind r of_text refused) is cause
 refusals_are_sure (Make n kind) text r o of_text refused is cause = absurd refused
-refusals_are_sure Check text r o of_text refused is cause =
-    let why = check_refusal text r of_text refused in
-    surely_checked text r o why.0 why.1 is cause
+refusals_are_sure Check text r o of_text refused is cause = surely_checked text r o (check_refusal text r of_text refused) is cause
 refusals_are_sure Reread text r o of_text refused is cause =
     let why = reread_refusal text r of_text refused in
     surely_reread text why.0 o why.2 is cause ∙ ap Refused (sym why.1)

@@ -18,7 +18,7 @@ use Rattle.lois_deciders.specs.Choice.{IsUnwanted}
 use Rattle.lois_run.specs.Words.{Asks, Lacks, IsUsage, runs_script, wanted_kind}
 use Rattle.lois_run.specs.declared.outcomes.Outcome.{Outcome}
 use Rattle.lois_run.specs.declared.outcomes.Outcome.TheVariants.{Completed, Failed, Reread as WrittenAgain, Checked, Made as WasMade, Refused, ReadFault, Usage}
-use Rattle.lois_run.specs.declared.outcomes.Refusal.TheVariants.{TooLong, Lexical, Syntax, Scope, NotResults, NotBuilt}
+use Rattle.lois_run.specs.declared.outcomes.Refusal.TheVariants.{TooLong, Lexical, Syntax, Scope, NotResults}
 use Rattle.lois_run.specs.declared.words.Command.{Command}
 use Rattle.lois_run.specs.declared.words.Command.TheVariants.{Run, Check, Reread, Make}
 
@@ -306,7 +306,6 @@ module _ {S : Type 0} (left : S → Option (List ℕ)) (takes : Takes S) where
   of_outcome words from to (Refused (Syntax n p)) read took = given from to read.0 read.1 read.2 took.0
   of_outcome words from to (Refused (Scope n p)) read took = given from to read.0 read.1 read.2 took.0
   of_outcome words from to (Refused (NotResults p)) read took = given from to read.0 read.1 read.2 took.0
-  of_outcome words from to (Refused NotBuilt) read took = given from to read.0 read.1 read.2 took.0
   of_outcome words from to (Completed r) read took = given from to read.0 read.1 read.2 took.0
   of_outcome words from to (Failed t) read took = given from to read.0 read.1 read.2 took.0
   of_outcome words from to (WrittenAgain answer) read took = given from to read.0 read.1 read.2 took.0

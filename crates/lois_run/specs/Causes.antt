@@ -13,7 +13,6 @@ use Rattle.lois_outside.specs.Reading.{TookAtMost, TookExactly, ReadsToEnd, Give
 use Rattle.lois_outside.specs.Writing.{AppendsProperPrefix, FailsWriting}
 use Rattle.lois_outside.specs.declared.reading.ReadError.TheVariants as unread
 use Rattle.lois_reader.specs.Refusal.{IsAnswerOf}
-use Rattle.lois_run.specs.BuiltForms.{IsBuilt}
 use Rattle.lois_base.specs.declared.limits.TheConstants.{LONGEST_TEXT}
 use Rattle.lois_run.specs.Headline.{Headline, Completes, NamesFailure}
 use Rattle.lois_run.specs.Outcomes.{status_of, outcome_text, made_counts}
@@ -23,7 +22,7 @@ use Rattle.lois_run.specs.declared.outcomes.Made.{Made}
 use Rattle.lois_run.specs.declared.outcomes.Outcome.{Outcome}
 use Rattle.lois_run.specs.declared.outcomes.Outcome.TheVariants.{Completed, Failed, Reread, Checked, Made as WasMade, Refused, ReadFault, Usage}
 use Rattle.lois_run.specs.declared.outcomes.Refusal.{Refusal}
-use Rattle.lois_run.specs.declared.outcomes.Refusal.TheVariants.{TooLong, NotResults, NotBuilt}
+use Rattle.lois_run.specs.declared.outcomes.Refusal.TheVariants.{TooLong, NotResults}
 use Rattle.lois_run.specs.declared.words.Command.{Command}
 use Rattle.lois_run.specs.declared.words.Command.TheVariants.{Run, Check, Make}
 use Rattle.lois_run.specs.declared.words.Command.TheVariants as commands
@@ -40,14 +39,12 @@ HasTaken before after Usage = before ≡ after
 HasTaken before after (WasMade counts) = before ≡ after
 HasTaken before after _ = TookAll before after
 
--- How much was taken is said elsewhere. `make` refuses nothing, `check` no script for its forms, `reread` only what is no answer,
--- and only `reread` does.
+-- How much was taken is said elsewhere. `make` refuses nothing, `reread` only what is no answer, and only `reread` does.
 abbrev pub IsRefusedBy : Command → List ℕ → Refusal → Type 0
 IsRefusedBy (Make n kind) text refusal = ⊥
 IsRefusedBy command text TooLong = Unit {0}
 IsRefusedBy commands.Reread text (NotResults place) = IsNoAnswer text place
 IsRefusedBy commands.Reread text _ = ⊥
-IsRefusedBy Check text NotBuilt = ⊥
 IsRefusedBy command text refusal = IsRefusedAs text refusal
 
 -- the command is about the text of the source; `make` has a text of its own
@@ -63,8 +60,8 @@ IsMadeBy _ counts = ⊥
 -- Why the outcome comes, of the text that was to be read. A text that is no well-scoped script never completes, and never fails. Read
 -- faults, usage and texts that are too long have their causes elsewhere: in the calls of the source, and in the words.
 abbrev pub HasCause : Command → List ℕ → Outcome → Type 0
-HasCause (Run kind) text (Completed r) = (s : ScriptD) × Spells text s × IsWellScoped s × IsBuilt s × Completes s r
-HasCause (Run kind) text (Failed t) = (s : ScriptD) × Spells text s × IsWellScoped s × IsBuilt s × NamesFailure text s t
+HasCause (Run kind) text (Completed r) = (s : ScriptD) × Spells text s × IsWellScoped s × Completes s r
+HasCause (Run kind) text (Failed t) = (s : ScriptD) × Spells text s × IsWellScoped s × NamesFailure text s t
 HasCause Check text (Checked script) = Spells text (script_tree script) × IsWellScoped (script_tree script)
 HasCause commands.Reread text (Reread answer) = IsAnswerOf text answer
 HasCause command text (WasMade counts) = IsMadeBy command counts

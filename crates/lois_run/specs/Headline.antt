@@ -16,7 +16,6 @@ use Rattle.lois_meaning.specs.Runs.{ScriptFails}
 use Rattle.lois_meaning.specs.Store.{NamedValues, AreSameNamed}
 use Rattle.lois_context.specs.Slots.{lines_at}
 use Rattle.lois_interp.specs.Interpreted.{parameter_name, IsChoiceOf, AreResultsOf}
-use Rattle.lois_run.specs.BuiltForms.{IsBuilt}
 use Rattle.lois_run.specs.Places.{IsPlaceOf}
 use Rattle.lois_run.specs.declared.outcomes.Outcome.{Outcome}
 use Rattle.lois_run.specs.declared.outcomes.Outcome.TheVariants.{Completed, Failed, ReadFault}
@@ -60,12 +59,11 @@ IsRight text s (Completed r) = Completes s r
 IsRight text s (Failed t) = NamesFailure text s t
 IsRight text s _ = Unit {0}
 
--- the text spells this well-scoped script, within the limits, and its forms run
+-- the text spells this well-scoped script, within the limits
 pub record IsToRun (text : List ℕ) (s : ScriptD) : Type 0 where
   pub fits : length text ≤ LONGEST_TEXT
   pub spelled : Spells text s
   pub scoped : IsWellScoped s
-  pub built : IsBuilt s
 
 -- For a text that was to be run. A fault is that the source's count of faults rose. Nothing fails and completes; that a script
 -- does one of the two isn't told by whether some choice fails, so it is said by itself.

@@ -15,7 +15,7 @@ use Rattle.lois_run.specs.declared.outcomes.Made.{Made}
 use Rattle.lois_run.specs.declared.outcomes.Outcome.{Outcome}
 use Rattle.lois_run.specs.declared.outcomes.Outcome.TheVariants.{Completed, Failed, Reread, Checked, Made as WasMade, Refused, ReadFault, Usage}
 use Rattle.lois_run.specs.declared.outcomes.Refusal.{Refusal}
-use Rattle.lois_run.specs.declared.outcomes.Refusal.TheVariants.{TooLong, Lexical, Syntax, Scope, NotResults, NotBuilt}
+use Rattle.lois_run.specs.declared.outcomes.Refusal.TheVariants.{TooLong, Lexical, Syntax, Scope, NotResults}
 
 -- a false assertion, a limit of turns, a limit of depth; any other is a value of the wrong kind
 abbrev pub failure_status : FaultKind → ℕ
@@ -40,7 +40,6 @@ refusal_text (Lexical n place) = placed_text place (lexical_text n)
 refusal_text (Syntax n place) = placed_text place (syntax_text n)
 refusal_text (Scope n place) = placed_text place (scope_text n)
 refusal_text (NotResults place) = placed_text place (codes "not results")
-refusal_text NotBuilt = codes "refused: not built yet"
 
 -- What the made script of n loops comes to: 37 bytes and 74 for each loop, one case, and a comprehension for each of its tags,
 -- of which there are seven.

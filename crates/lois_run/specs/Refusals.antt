@@ -19,10 +19,9 @@ use Rattle.lois_scope.specs.declared.checking.ScopeError.TheVariants.{Unknown, A
 use Rattle.lois_syntax.specs.Refusals.{tokens_in, Refuses as SyntaxRefuses}
 use Rattle.lois_syntax.specs.declared.SyntaxError.{SyntaxError}
 use Rattle.lois_syntax.specs.declared.SyntaxError.TheVariants.{NoScript, TooNested, WideTuple, TurnsTooMany}
-use Rattle.lois_run.specs.BuiltForms.{IsBuilt}
 use Rattle.lois_run.specs.Places.{IsPlaceOf}
 use Rattle.lois_run.specs.declared.outcomes.Refusal.{Refusal}
-use Rattle.lois_run.specs.declared.outcomes.Refusal.TheVariants.{TooLong, Lexical, Syntax, Scope, NotResults, NotBuilt}
+use Rattle.lois_run.specs.declared.outcomes.Refusal.TheVariants.{TooLong, Lexical, Syntax, Scope, NotResults}
 
 -- the offset of the token's first byte, or the end of the text where there is no such token
 abbrev pub token_place : List ℕ → List Token → ℕ → ℕ
@@ -62,9 +61,8 @@ ScopeTells text (PrintInLoop p) refusal = IsScope text 4 p.offset refusal
 ScopeTells text (OrderInEquality p) refusal = IsScope text 5 p.offset refusal
 ScopeTells text _ refusal = ⊥
 
--- The text is refused so: at its first place without a token, at the least token at fault, at the first break of a rule of
--- scope, or as a well-scoped script of other forms than those that run. A text that is too long isn't looked at, and a
--- script isn't read as results.
+-- The text is refused so: at its first place without a token, at the least token at fault, or at the first break of a rule of
+-- scope. A text that is too long isn't looked at, and a script isn't read as results.
 abbrev pub IsRefusedAs : List ℕ → Refusal → Type 0
 IsRefusedAs text TooLong = ⊥
 IsRefusedAs text (NotResults place) = ⊥
@@ -73,7 +71,6 @@ IsRefusedAs text (Syntax n place) =
     (tokens : List Token) × (error : SyntaxError) × HasTokens text tokens × SyntaxRefuses (tokens_in text tokens) error × SyntaxTells text tokens error (Syntax n place)
 IsRefusedAs text (Scope n place) =
     (s : ScriptD) × (error : ScopeError) × Spells text s × ScopeRefuses s error × ScopeTells text error (Scope n place)
-IsRefusedAs text NotBuilt = (s : ScriptD) × Spells text s × IsWellScoped s × (IsBuilt s → ⊥)
 
 -- The text is that of no sound results and of no sound trace. It is refused at k: where it leaves the shape of both, or, where
 -- it is of that shape, at the first side rule that it breaks.

@@ -2,8 +2,8 @@
 
 ghost use Rattle.lois_run.specs.Laws.{RefusalsAreSure, RefusedSpellNone};
 
-/// A text that a command refuses for a cause comes to that refusal alone, whatever else has a cause; and unless it is of forms
-/// that don't run yet, it spells no well-scoped script.
+/// A text that a command refuses for a cause comes to that refusal alone, whatever else has a cause; and a text that is refused
+/// as a script spells no well-scoped script.
 pub fn refusals_are_sure()
     ensures sure { RefusalsAreSure }
     ensures no_script { RefusedSpellNone }

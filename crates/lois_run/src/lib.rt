@@ -1,7 +1,6 @@
 //! The top call: from words and bytes to the answer, its text and the status.
 #![tactic(auto)]
 
-mod built;
 pub mod laws;
 mod made;
 mod outcomes;

@@ -29,8 +29,6 @@ pub enum Refusal {
     Scope(u8, Place),
     /// The text is that of no results and no trace.
     NotResults(Place),
-    /// The script has a form that doesn't run yet.
-    NotBuilt,
 }
 
 /// What `make` counts: the loops of the made script, its bytes, the cases of its results, and the comprehensions of the set
@@ -155,7 +153,6 @@ impl Refusal {
                 scope_text(*number).as_bytes(),
             ),
             Refusal::NotResults(place) => refused_line(alloc, *place, b"not results"),
-            Refusal::NotBuilt => text_line(alloc, b"refused: not built yet"),
         }
     }
 }

@@ -10,7 +10,6 @@ ghost use Rattle.lois_run.specs.Words.{Asks, IsUsage, Lacks, wanted_kind, runs_s
 ghost use Rattle.lois_run.specs.declared.outcomes.Outcome.{Outcome};
 ghost use Rattle.lois_run.specs.declared.words.Command.TheVariants.{Run, Check, Reread, Make};
 
-use crate::built::is_built;
 use crate::made::made;
 use crate::reading::{Read, place_at, read_text};
 use crate::running::run;
@@ -59,15 +58,10 @@ pub(crate) fn run_text(alloc: Global, text: &[u8], chosen: &mut Chosen) -> Resul
     ensures answer { IfOk result (λ o. (kind : Option Kind) → AnswersText (Run kind) text.now o) }
     ensures written { IfOk result HasText }
 {
-    let scoped = match read_text(alloc, text)? {
-        Read::Script(scoped) => scoped,
-        Read::Refused(refusal) => return Ok(Outcome::Refused(refusal)),
-    };
-    let script = scoped.script();
-    if !is_built(script) {
-        return Ok(Outcome::Refused(Refusal::NotBuilt));
+    match read_text(alloc, text)? {
+        Read::Script(scoped) => run(alloc, text, &scoped, chosen),
+        Read::Refused(refusal) => Ok(Outcome::Refused(refusal)),
     }
-    run(alloc, text, &scoped, chosen)
 }
 
 // What a text comes to that is to be checked.
@@ -151,8 +145,6 @@ fn served<S: Source>(
 /// nothing, and runs a script of its own.
 ///
 /// A text of at most 1,048,576 bytes is read. A script either completes, or fails under some choice of its parameters.
-/// Until the whole language runs, scripts with an operation on automata are refused by `run` as not built.
-
 pub fn outcome<S: Source>(
     alloc: Global,
     words: &[String],

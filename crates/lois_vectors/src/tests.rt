@@ -16,8 +16,6 @@ const OUTPUT: &[u8] =
 
 const TOO_LONG: &[u8] = b"refused: input over 1048576 bytes\n";
 
-const NOT_BUILT: &[u8] = b"refused: not built yet\n";
-
 const USAGE: &[u8] = b"usage: lois run|check|reread|make N [--decider plain|graph|memo]\n";
 
 // A source and a sink over memory: how many bytes a call moves, and which calls fail.
@@ -406,34 +404,6 @@ fn long_texts_are_refused(rt: HostRuntime) -> Result<(), Fail> {
     Ok(())
 }
 
-#[test]
-fn scripts_of_other_forms_are_not_built(rt: HostRuntime) -> Result<(), Fail> {
-    let alloc = rt.alloc();
-    let rows: [(&str, &str); 3] = [
-        (
-            "atoms equality; let r = reach({});",
-            "atoms equality ;\nlet r = reach ( { } ) ;\n",
-        ),
-        (
-            "atoms equality; # one\nif empty({}) { }",
-            "atoms equality ;\nif empty ( { } ) {\n}\n",
-        ),
-        (
-            "atoms order; let m = {minimise(x) for x in atoms};",
-            "atoms order ;\nlet m = { minimise ( x ) for x in atoms } ;\n",
-        ),
-    ];
-    for (text, printed) in rows {
-        let told = run(alloc, text.as_bytes())?;
-        assert_eq!(rt; told.status, 5, "{text}");
-        assert_eq!(rt; told.held.as_slice(), NOT_BUILT, "{text}");
-        let told = asked(alloc, &["check"], text.as_bytes())?;
-        assert_eq!(rt; told.status, 0, "{text}");
-        assert_eq!(rt; told.held.as_slice(), printed.as_bytes(), "{text}");
-    }
-    Ok(())
-}
-
 // The choice and the elements are the run's own.
 #[test]
 fn scripts_fail(rt: HostRuntime) -> Result<(), Fail> {
@@ -475,7 +445,20 @@ fn scripts_fail(rt: HostRuntime) -> Result<(), Fail> {
 #[test]
 fn scripts_are_checked(rt: HostRuntime) -> Result<(), Fail> {
     let alloc = rt.alloc();
-    let rows: [(&str, &str); 3] = [
+    let rows: [(&str, &str); 6] = [
+        // What fails in a run is a script all the same.
+        (
+            "atoms equality; let r = reach({});",
+            "atoms equality ;\nlet r = reach ( { } ) ;\n",
+        ),
+        (
+            "atoms equality; # one\nif empty({}) { }",
+            "atoms equality ;\nif empty ( { } ) {\n}\n",
+        ),
+        (
+            "atoms order; let m = {minimise(x) for x in atoms};",
+            "atoms order ;\nlet m = { minimise ( x ) for x in atoms } ;\n",
+        ),
         // LF stands behind `;` and the two braces of a block alone, and an empty `else` is left out.
         (
             "atoms order; parameter p, q; let s = {}; print p; if p < q { s := {p}; } else {} if true {} else { s := {}; }",

@@ -1,7 +1,10 @@
 //! How expressions and conditions fail, where they do, and what is asked of deciders.
 
 use crate::making::{Answer, Failed, chosen, constraint_of, opening, same_where, term_of, tried};
-use lois_answers::FaultKind::{self, DepthLimit, NoSuchPart, NotASet, NotATuple, NotAtoms};
+use lois_answers::FaultKind::{
+    self, DepthLimit, NoSuchPart, NotASet, NotATuple, NotAtoms, NotAutomaton, NotComplete,
+    NotDeterministic,
+};
 use lois_base::Constraint;
 use lois_context::{Context, side};
 use lois_deciders::Chosen;
@@ -76,6 +79,57 @@ fn operands_are_to_be_atoms_and_tuples(rt: HostRuntime) -> Result<(), Fail> {
     fail_there(&rt, rt.alloc(), &cases)
 }
 
+// Each operation, and both operands of the one with two.
+#[test]
+fn operands_are_to_be_automata(rt: HostRuntime) -> Result<(), Fail> {
+    let cases = [
+        ("let v = reach(", "{});", NotAutomaton),
+        ("let v = complement(", "a);", NotAutomaton),
+        ("let v = minimise(", "({}, {}, {}, {}));", NotAutomaton),
+        (
+            "let v = product(",
+            "'t, ({}, {}, {}, {}, {}));",
+            NotAutomaton,
+        ),
+        (
+            "let v = product(({}, {}, {}, {}, {}), ",
+            "{});",
+            NotAutomaton,
+        ),
+        (
+            "assert empty(",
+            "({'p}, {'l}, {('p, 'm, 'p)}, {}, {}));",
+            NotAutomaton,
+        ),
+        (
+            "let v = complement(",
+            "({'p}, {'l}, {}, {}, {}));",
+            NotDeterministic,
+        ),
+        (
+            "let v = minimise(",
+            "({'p}, {'l}, {}, {'p, 'q}, {}));",
+            NotAutomaton,
+        ),
+        (
+            "let v = minimise(",
+            "({'p, 'q}, {}, {}, {'p, 'q}, {}));",
+            NotDeterministic,
+        ),
+        (
+            "let v = complement(",
+            "({'p}, {'l}, {}, {'p}, {}));",
+            NotComplete,
+        ),
+        (
+            "let v = minimise(",
+            "({'p}, atoms, {}, {'p}, {}));",
+            NotComplete,
+        ),
+    ];
+    fail_there(&rt, rt.alloc(), &cases)
+}
+
 #[test]
 fn values_are_64_deep_at_most(rt: HostRuntime) -> Result<(), Fail> {
     let alloc = rt.alloc();
@@ -99,10 +153,11 @@ fn values_are_64_deep_at_most(rt: HostRuntime) -> Result<(), Fail> {
 }
 
 // These fail exactly where `a` and `b` are equal.
-const SOMEWHERE: [&str; 3] = [
+const SOMEWHERE: [&str; 4] = [
     "{deep for x in atoms where a = b}",
     "{deep for x in {y for y in {a} where y = b}}",
     "flatten({a for x in atoms where a = b})",
+    "reach(({a}, {}, {}, {'p for x in atoms where a = b}, {}))",
 ];
 
 #[test]
@@ -163,26 +218,5 @@ fn deciders_are_asked(rt: HostRuntime) -> Result<(), Fail> {
         let _ = tried(alloc, &text, &context, &mut chosen)?;
         assert!(rt; before < chosen.asked(), "{statement}");
     }
-    Ok(())
-}
-
-// Automata aren't built yet.
-#[test]
-fn automata_want_memory(rt: HostRuntime) -> Result<(), Fail> {
-    let alloc = rt.alloc();
-    let mut chosen = chosen(alloc)?;
-    let context = opening(&rt, alloc, &mut chosen)?;
-    let automaton = "({'p}, {'l}, {('p, 'l, 'p)}, {'p}, {})";
-    for operation in ["reach", "complement", "minimise"] {
-        let text = format!(in alloc; "atoms order; let v = {operation}({automaton});")?;
-        let answer = tried(alloc, &text, &context, &mut chosen)?;
-        assert!(rt; matches!(answer, Answer::NoMemory), "{operation}");
-    }
-    let product = format!(in alloc; "atoms order; let v = product({automaton}, {automaton});")?;
-    let answer = tried(alloc, &product, &context, &mut chosen)?;
-    assert!(rt; matches!(answer, Answer::NoMemory));
-    let empty = format!(in alloc; "atoms order; assert empty({automaton});")?;
-    let answer = tried(alloc, &empty, &context, &mut chosen)?;
-    assert!(rt; matches!(answer, Answer::NoMemory));
     Ok(())
 }

@@ -15,13 +15,14 @@ enum Output {
 }
 
 #[derive(Clone, Copy)]
-struct Row {
+pub(crate) struct Row {
     script: &'static str,
     output: &'static str,
     which: Output,
 }
 
-fn exactly(script: &'static str, output: &'static str) -> Row {
+/// The output is these bytes.
+pub(crate) fn exactly(script: &'static str, output: &'static str) -> Row {
     Row {
         script,
         output,
@@ -29,7 +30,8 @@ fn exactly(script: &'static str, output: &'static str) -> Row {
     }
 }
 
-fn spelled(script: &'static str, output: &'static str) -> Row {
+/// The output says what these bytes say.
+pub(crate) fn spelled(script: &'static str, output: &'static str) -> Row {
     Row {
         script,
         output,
@@ -69,7 +71,8 @@ fn completes(
     Ok(())
 }
 
-fn all_complete(rt: &impl Abort, alloc: Global, rows: &[Row]) -> Result<(), Fail> {
+/// Each row completes, under each decider.
+pub(crate) fn all_complete(rt: &impl Abort, alloc: Global, rows: &[Row]) -> Result<(), Fail> {
     for row in rows {
         completes(rt, alloc, row.script, row.which, row.output)?;
     }

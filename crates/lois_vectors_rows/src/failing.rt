@@ -162,6 +162,112 @@ fn values_are_of_the_wrong_kind(rt: HostRuntime) -> Result<(), Fail> {
     all_fail(&rt, rt.alloc(), &rows)
 }
 
+// Each operation, and both operands of the one with two; some fail at some choices alone.
+#[test]
+fn operands_are_no_such_automata(rt: HostRuntime) -> Result<(), Fail> {
+    let rows = [
+        Row {
+            script: "atoms equality; let a = ({'p}, {'l}, {}, {'p}, {}); let p = product({}, a);",
+            status: 2,
+            front: "lois results 2\natoms equality\nparameters\nfailed at 1:69: not an automaton\n",
+            names: &[],
+            atoms: Atoms::Any,
+        },
+        Row {
+            script: "atoms equality; let a = ({'p}, {'l}, {}, {'p}, {}); let p = product(a, 'a);",
+            status: 2,
+            front: "lois results 2\natoms equality\nparameters\nfailed at 1:72: not an automaton\n",
+            names: &[],
+            atoms: Atoms::Any,
+        },
+        Row {
+            script: "atoms order; if empty(({}, {}, {}, {})) { }",
+            status: 2,
+            front: "lois results 2\natoms order\nparameters\nfailed at 1:23: not an automaton\n",
+            names: &[],
+            atoms: Atoms::Any,
+        },
+        Row {
+            script: "atoms equality; let c = complement(({'p}, {'l}, {('p, 'm, 'p)}, {'p}, {}));",
+            status: 2,
+            front: "lois results 2\natoms equality\nparameters\nfailed at 1:36: not an automaton\n",
+            names: &[],
+            atoms: Atoms::Any,
+        },
+        Row {
+            script: "atoms equality; parameter a, b; let r = reach(({a}, {'l}, {}, {b}, {}));",
+            status: 2,
+            front: "lois results 2\natoms equality\nparameters a b\nfailed at 1:47: not an automaton\n",
+            names: &[],
+            atoms: Atoms::Differ,
+        },
+        Row {
+            script: "atoms equality; parameter a, b; let c = complement(({a, b}, {'l}, {(a, 'l, a), (b, 'l, b)}, {a, b}, {}));",
+            status: 2,
+            front: "lois results 2\natoms equality\nparameters a b\nfailed at 1:52: not deterministic\n",
+            names: &[],
+            atoms: Atoms::Differ,
+        },
+        Row {
+            script: "atoms equality; parameter a, b; let m = minimise(({a, b}, {'l}, {(a, 'l, a)}, {a}, {}));",
+            status: 2,
+            front: "lois results 2\natoms equality\nparameters a b\nfailed at 1:50: not complete\n",
+            names: &[],
+            atoms: Atoms::Differ,
+        },
+        Row {
+            script: "atoms order; for x in atoms { for y in atoms { let m = minimise(({x, y}, {'l}, {(x, 'l, x)}, {x}, {})); } }",
+            status: 2,
+            front: "lois results 2\natoms order\nparameters\nfailed at 1:65: not complete\n",
+            names: &["x", "y"],
+            atoms: Atoms::Differ,
+        },
+        Row {
+            script: "atoms equality; let r = complement(({'p}, {'l}, {}, {}, {}));",
+            status: 2,
+            front: "lois results 2\natoms equality\nparameters\nfailed at 1:36: not deterministic\n",
+            names: &[],
+            atoms: Atoms::Any,
+        },
+        Row {
+            script: "atoms equality; let r = complement(({'p}, {'l}, {}, {'p}, {}));",
+            status: 2,
+            front: "lois results 2\natoms equality\nparameters\nfailed at 1:36: not complete\n",
+            names: &[],
+            atoms: Atoms::Any,
+        },
+        Row {
+            script: "atoms equality; let r = reach({});",
+            status: 2,
+            front: "lois results 2\natoms equality\nparameters\nfailed at 1:31: not an automaton\n",
+            names: &[],
+            atoms: Atoms::Any,
+        },
+        Row {
+            script: "atoms equality; let r = minimise(({'p}, {'l}, {}, {}, {}));",
+            status: 2,
+            front: "lois results 2\natoms equality\nparameters\nfailed at 1:34: not deterministic\n",
+            names: &[],
+            atoms: Atoms::Any,
+        },
+        Row {
+            script: "atoms equality; let r = minimise(({'p}, {'l}, {}, {'p}, {}));",
+            status: 2,
+            front: "lois results 2\natoms equality\nparameters\nfailed at 1:34: not complete\n",
+            names: &[],
+            atoms: Atoms::Any,
+        },
+        Row {
+            script: "atoms equality; let m = minimise(atoms);",
+            status: 2,
+            front: "lois results 2\natoms equality\nparameters\nfailed at 1:34: not an automaton\n",
+            names: &[],
+            atoms: Atoms::Any,
+        },
+    ];
+    all_fail(&rt, rt.alloc(), &rows)
+}
+
 #[test]
 fn turns_run_out(rt: HostRuntime) -> Result<(), Fail> {
     let rows = [

@@ -4,6 +4,8 @@
 #[cfg(test)]
 mod asking;
 #[cfg(test)]
+mod automata;
+#[cfg(test)]
 mod calling;
 #[cfg(test)]
 mod completing;

@@ -5,4 +5,4 @@ pub returns-clause-sure : goal.returns-clause-sure
 returns-clause-sure c = refusals_are_sure
 
 pub returns-clause-no_script : goal.returns-clause-no_script
-returns-clause-no_script c = λ text r why built s spells scoped. refused_spell_none text r why built s spells scoped
+returns-clause-no_script c = refused_spell_none
