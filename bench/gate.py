@@ -2,7 +2,8 @@
 """Runs the gate and tells where its processor time goes: a table by crate of code, tests and edits, in processor minutes.
 
     bench/gate.py [--times FILE] [NAME..]     runs `rt ci NAME..`, and adds what it took to FILE
-    bench/gate.py --table FILE                prints the table of what FILE has
+    bench/gate.py --table FILE..              prints the table of what the files have; of a crate's stage that stands in several,
+                                              the last one counts
 
 A run without names is the whole gate. What the machine has kept of earlier runs takes no time again, so a table of a gate from
 nothing is that of all runs that added to one file. Each half second the processes below `rt` are asked for their times.
@@ -106,7 +107,10 @@ def print_table(times):
 
 def main(words):
     if words[:1] == ["--table"]:
-        print_table(read_times(words[1]))
+        times = {}
+        for path in words[1:]:
+            times.update(read_times(path))
+        print_table(times)
         return 0
     path = "/tmp/gate-times"
     if words[:1] == ["--times"]:
