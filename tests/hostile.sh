@@ -19,10 +19,7 @@ if ! command -v python3 >/dev/null || [ ! -x /usr/bin/time ]; then
   exit 0
 fi
 
-[ -n "${LOIS:-}" ] || printf 'atoms order;' | ./lois run >/dev/null || exit 70
-lois=$(realpath "${LOIS:-crates/lois/out/lois}")
-work=$(mktemp -d)
-trap 'rm -rf "$work"' EXIT
+. tests/built_program.sh
 
 complain() {
   echo "hostile: $1" >&2

@@ -17,11 +17,8 @@ if ! command -v cc >/dev/null; then
   exit 0
 fi
 
-# the program itself, since ./lois is a script, and a refused allocation would be one of the shell's
-[ -n "${LOIS:-}" ] || printf 'atoms order;' | ./lois run >/dev/null || exit 70
-lois=$(realpath "${LOIS:-crates/lois/out/lois}")
-work=$(mktemp -d)
-trap 'rm -rf "$work"' EXIT
+# a refused allocation of ./lois would be one of the shell's
+. tests/built_program.sh
 
 cat >"$work/refuse.c" <<'C'
 #include <errno.h>
