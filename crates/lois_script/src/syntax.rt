@@ -59,7 +59,7 @@ pub enum Expr {
     Tuple(Pos, Exprs),
     /// `{` items `}`
     Listed(Pos, Exprs),
-    /// `{` item `for` at least one binding `if` condition `}`; without `if` the condition is `True`.
+    /// `{` item `for` at least one binding `where` condition `}`; without `where` the condition is `True`.
     Each(Pos, Box<Expr>, Bindings, Box<Cond>),
     /// A part of a tuple, counted from 1.
     Part(Pos, Box<Expr>, u32),
