@@ -1,25 +1,121 @@
--- Rows with more levels above.
-use Rattle.std.proofs.Common.{◌≡◌, ℕ, Bool, true, false, ◌||◌, ◌&&◌, ◌==◌, List, [], ◌∷◌, ◌++◌, refl}
-use Rattle.std.proofs.lemmas.List.Folds.{list_any-append}
-use Rattle.std.specs.List.{list_any}
+-- Rows with one entry more, and tables with one row more.
+use Rattle.std.proofs.Common.{◌≡◌, ◌≢◌, ℕ, ◌+◌, ◌<◌, ◌≤◌, Bool, true, false, ◌||◌, ◌&&◌, ◌==◌, ◌⊎◌, inl, inr, List, [], ◌∷◌, ◌++◌, length, get_or, set, eqb, refl, sym, ap, ◌∙◌, arith}
+use Rattle.std.proofs.Math.ListN.{get_or-eq_default}
+use Rattle.std.proofs.lemmas.Bool.{cases_order}
+use Rattle.std.proofs.lemmas.Bool.Decides.{eqb_tells}
+use Rattle.std.proofs.lemmas.Grind.{common_steps}
+use Rattle.std.proofs.lemmas.List.{get_or_append_left, get_or_push, get_or-set_same, get_or-set_other}
 use Rattle.lois_constraint.specs.Order.{Row, reaches, are_at_most}
 
--- with g: a row of the level has b or, where it has the low level, what is put above that
-one_more_row : (A H g e q h : Bool) → ((A || (H && g)) || ((e && (q || (h && g))) || false)) ≡ ((A || ((e && q) || false)) || ((H || ((e && h) || false)) && g))
-one_more_row true H g e q h = refl
-one_more_row false true true true true h = refl
-one_more_row false true true true false h = refl
-one_more_row false true true false q h = refl
-one_more_row false true false true true h = refl
-one_more_row false true false true false true = refl
-one_more_row false true false true false false = refl
-one_more_row false true false false q h = refl
-one_more_row false false g true true h = refl
-one_more_row false false true true false true = refl
-one_more_row false false false true false true = refl
-one_more_row false false g true false false = refl
-one_more_row false false g false q h = refl
+module _ {X : Type 0} (xs : List X) (x d : X) (i : ℕ) where
+  beyond : length xs < i → get_or (xs ++ x ∷ []) i d ≡ d
+  beyond more =
+      let past : length (xs ++ x ∷ []) ≤ i = grind (arith, common_steps) in get_or-eq_default (xs ++ x ∷ []) d past
 
-pub row_raised : (low a b : ℕ) (more : List ℕ) (linked yielded : List Row) (r row : Row) → r.0 ≡ row.0 → reaches r b ≡ (reaches row b || (reaches row low && list_any (λ z. z == b) more)) → are_at_most linked a b ≡ (are_at_most yielded a b || (are_at_most yielded a low && list_any (λ z. z == b) more)) → are_at_most (linked ++ r ∷ []) a b ≡ (are_at_most (yielded ++ row ∷ []) a b || (are_at_most (yielded ++ row ∷ []) a low && list_any (λ z. z == b) more))
-row_raised low a b more linked yielded r row same above before =
-    rw (list_any-append (λ (s : Row). s.0 == a && reaches s b) linked (r ∷ []), list_any-append (λ (s : Row). s.0 == a && reaches s b) yielded (row ∷ []), list_any-append (λ (s : Row). s.0 == a && reaches s low) yielded (row ∷ []), before, above, same) (one_more_row (are_at_most yielded a b) (are_at_most yielded a low) (list_any (λ z. z == b) more) (row.0 == a) (reaches row b) (reaches row low))
+-- ---- rows
+pub pushed_false : (xs : Row) (b : ℕ) → reaches xs b ≡ false → reaches (xs ++ false ∷ []) b ≡ false
+pushed_false xs b e = go (cases_order b (length xs))
+  where
+    go : (b ≡ length xs) ⊎ ((b < length xs) ⊎ (length xs < b)) → reaches (xs ++ false ∷ []) b ≡ false
+    go (inl at) = get_or_push xs false false b (sym at)
+    go (inr (inl less)) = get_or_append_left xs (false ∷ []) false b less ∙ e
+    go (inr (inr more)) = beyond xs false false b more
+
+pub only_last : (xs : Row) (n b : ℕ) → length xs ≡ n → reaches xs b ≡ false → reaches (xs ++ true ∷ []) b ≡ (n == b)
+only_last xs n b l e = go (cases_order b (length xs)) (eqb_tells n b)
+  where
+    go : (b ≡ length xs) ⊎ ((b < length xs) ⊎ (length xs < b)) → ((eqb n b ≡ true) × (n ≡ b)) ⊎ ((eqb n b ≡ false) × (n ≢ b)) → reaches (xs ++ true ∷ []) b ≡ (n == b)
+    go (inl at) (inl t) = get_or_push xs true false b (sym at) ∙ sym t.0
+    go (inl at) (inr t) = absurd (t.1 (omega arith))
+    go (inr (inl less)) (inl t) = let same = t.1 in absurd (omega arith)
+    go (inr (inl less)) (inr t) = get_or_append_left xs (true ∷ []) false b less ∙ (e ∙ sym t.0)
+    go (inr (inr more)) (inl t) = let same = t.1 in absurd (omega arith)
+    go (inr (inr more)) (inr t) = beyond xs true false b more ∙ sym t.0
+
+pub pushed_is : (xs : Row) (x : Bool) (f : ℕ → Bool) (n : ℕ) → length xs ≡ n → ((b : ℕ) → b < n → reaches xs b ≡ f b) → x ≡ f n → (b : ℕ) → b < n + 1 → reaches (xs ++ x ∷ []) b ≡ f b
+pushed_is xs x f n l before is b below = go (cases_order b n)
+  where
+    go : (b ≡ n) ⊎ ((b < n) ⊎ (n < b)) → reaches (xs ++ x ∷ []) b ≡ f b
+    go (inl at) = get_or_push xs x false b (l ∙ sym at) ∙ (is ∙ ap f (sym at))
+    go (inr (inl less)) = get_or_append_left xs (x ∷ []) false b (omega arith) ∙ before b less
+    go (inr (inr more)) = absurd (omega arith)
+
+pub either_is : (r s t : Row) (n : ℕ) → length r ≡ n → length s ≤ n → length t ≤ n → ((b : ℕ) → b < n → reaches r b ≡ (reaches s b || reaches t b)) → (b : ℕ) → reaches r b ≡ (reaches s b || reaches t b)
+either_is r s t n l p q before b = go (cases_order b n)
+  where
+    past : n ≤ b → reaches r b ≡ (reaches s b || reaches t b)
+    past far =
+        let a : reaches r b ≡ false = get_or-eq_default r false (omega arith) in
+        let c : reaches s b ≡ false = get_or-eq_default s false (omega arith) in
+        let d : reaches t b ≡ false = get_or-eq_default t false (omega arith) in
+        rw (a, c, d) refl
+
+    go : (b ≡ n) ⊎ ((b < n) ⊎ (n < b)) → reaches r b ≡ (reaches s b || reaches t b)
+    go (inl at) = past (omega arith)
+    go (inr (inl less)) = before b less
+    go (inr (inr more)) = past (omega arith)
+
+-- ---- tables
+pub row_raised : (low a b : ℕ) (more : Row) (raised yielded : List Row) (r row : Row) → length raised ≡ length yielded → reaches r b ≡ (reaches row b || (reaches row low && reaches more b)) → are_at_most raised a b ≡ (are_at_most yielded a b || (are_at_most yielded a low && reaches more b)) → are_at_most (raised ++ r ∷ []) a b ≡ (are_at_most (yielded ++ row ∷ []) a b || (are_at_most (yielded ++ row ∷ []) a low && reaches more b))
+row_raised low a b more raised yielded r row l above before = go (cases_order a (length yielded))
+  where
+    go : (a ≡ length yielded) ⊎ ((a < length yielded) ⊎ (length yielded < a)) → are_at_most (raised ++ r ∷ []) a b ≡ (are_at_most (yielded ++ row ∷ []) a b || (are_at_most (yielded ++ row ∷ []) a low && reaches more b))
+    go (inl at) = rw (get_or_push raised r [] a (l ∙ sym at), get_or_push yielded row [] a (sym at)) above
+    go (inr (inl less)) =
+        let inside : a < length raised = omega arith in
+        rw (get_or_append_left raised (r ∷ []) [] a inside, get_or_append_left yielded (row ∷ []) [] a less) before
+    go (inr (inr far)) =
+        let past : length raised < a = omega arith in rw (beyond raised r [] a past, beyond yielded row [] a far) refl
+
+pub one_longer : (raised yielded : List Row) (r row : Row) → length raised ≡ length yielded → length (raised ++ r ∷ []) ≡ length (yielded ++ row ∷ [])
+one_longer raised yielded r row l = grind (arith, common_steps)
+
+pub no_row_more : (rows : List Row) (a b : ℕ) → are_at_most (rows ++ [] ∷ []) a b ≡ are_at_most rows a b
+no_row_more rows a b = go (cases_order a (length rows))
+  where
+    go : (a ≡ length rows) ⊎ ((a < length rows) ⊎ (length rows < a)) → are_at_most (rows ++ [] ∷ []) a b ≡ are_at_most rows a b
+    go (inl at) =
+        let old : get_or rows a [] ≡ [] = get_or-eq_default rows [] (omega arith) in rw (get_or_push rows [] [] a (sym at), old) refl
+    go (inr (inl less)) = rw (get_or_append_left rows ([] ∷ []) [] a less) refl
+    go (inr (inr far)) =
+        let old : get_or rows a [] ≡ [] = get_or-eq_default rows [] (omega arith) in rw (beyond rows [] [] a far, old) refl
+
+module _ (rows : List Row) (level a b : ℕ) (more : Row) where
+  stays : (p : Bool) → eqb a level ≡ false → p ≡ (p || (a == level && reaches more b))
+  stays true e = refl
+  stays false e = rw e refl
+
+  pub row_pushed : length rows ≡ level → are_at_most (rows ++ more ∷ []) a b ≡ (are_at_most rows a b || (a == level && reaches more b))
+  row_pushed l = go (cases_order a (length rows)) (eqb_tells a level)
+    where
+      go : (a ≡ length rows) ⊎ ((a < length rows) ⊎ (length rows < a)) → ((eqb a level ≡ true) × (a ≡ level)) ⊎ ((eqb a level ≡ false) × (a ≢ level)) → are_at_most (rows ++ more ∷ []) a b ≡ (are_at_most rows a b || (a == level && reaches more b))
+      go (inl at) (inl t) =
+          let old : get_or rows a [] ≡ [] = get_or-eq_default rows [] (omega arith) in
+          rw (get_or_push rows more [] a (sym at), old, t.0) refl
+      go (inl at) (inr t) = absurd (t.1 (omega arith))
+      go (inr (inl less)) (inl t) = let same = t.1 in absurd (omega arith)
+      go (inr (inl less)) (inr t) =
+          rw (get_or_append_left rows (more ∷ []) [] a less) (stays (are_at_most rows a b) t.0)
+      go (inr (inr far)) (inl t) = let same = t.1 in absurd (omega arith)
+      go (inr (inr far)) (inr t) =
+          let old : get_or rows a [] ≡ [] = get_or-eq_default rows [] (omega arith) in
+          rw (beyond rows more [] a far, old, t.0) refl
+
+  pub row_put : (r : Row) → level < length rows → reaches r b ≡ (reaches (get_or rows level []) b || reaches more b) → are_at_most (set rows level r) a b ≡ (are_at_most rows a b || (a == level && reaches more b))
+  row_put r inside is = go (eqb_tells a level)
+    where
+      go : ((eqb a level ≡ true) × (a ≡ level)) ⊎ ((eqb a level ≡ false) × (a ≢ level)) → are_at_most (set rows level r) a b ≡ (are_at_most rows a b || (a == level && reaches more b))
+      go (inl t) = rw (t.0, t.1, get_or-set_same rows level r [] inside) is
+      go (inr t) = rw (get_or-set_other rows level a r [] t.1) (stays (are_at_most rows a b) t.0)
+
+-- with e: the same level, l: the low one, r: the old rows have it, s: and the low one, h: what is put above that
+pub linked_rows : (e l r s h : Bool) → (e || ((r || (s && h)) || (l && h))) ≡ ((e || r) || ((l || s) && h))
+linked_rows true l r s h = refl
+linked_rows false l true s h = refl
+linked_rows false true false true true = refl
+linked_rows false true false false true = refl
+linked_rows false true false true false = refl
+linked_rows false true false false false = refl
+linked_rows false false false true true = refl
+linked_rows false false false true false = refl
+linked_rows false false false false h = refl

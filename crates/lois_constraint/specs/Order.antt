@@ -1,5 +1,5 @@
 -- What a cube says of the order of its levels.
-use Rattle.std.specs.Prelude.{ℕ, Bool, true, false, not, ◌&&◌, ◌||◌, ◌==◌, List, IsTrue, IsFalse}
+use Rattle.std.specs.Prelude.{ℕ, Bool, true, false, not, ◌&&◌, ◌||◌, ◌==◌, List, [], get_or, IsTrue, IsFalse}
 use Rattle.std.specs.List.{All, list_any}
 use Rattle.lois_base.specs.Atom.{Atom, below}
 use Rattle.lois_base.specs.Truth.{atom_at, cube_holds}
@@ -7,16 +7,16 @@ use Rattle.lois_base.specs.declared.guards.Lit.{Lit}
 use Rattle.lois_base.specs.declared.guards.Op.{Op}
 use Rattle.lois_base.specs.declared.guards.Op.TheVariants.{Eq, Ne, Lt}
 
--- a level, and others that are at least as high
+-- which levels are at least as high as one level; those beyond the end aren't
 abbrev pub Row : Type 0
-Row = ℕ × List ℕ
+Row = List Bool
 
 abbrev pub reaches : Row → ℕ → Bool
-reaches r b = list_any (λ z. z == b) r.1
+reaches r b = get_or r b false
 
--- the rows of a level have the other one
+-- the row of a level, which has nothing beyond the last row, has the other one
 abbrev pub are_at_most : List Row → ℕ → ℕ → Bool
-are_at_most rows a b = list_any (λ r. r.0 == a && reaches r b) rows
+are_at_most rows a b = reaches (get_or rows a []) b
 
 -- each level is at most itself
 abbrev pub at_most : List Row → ℕ → ℕ → Bool

@@ -31,8 +31,20 @@ impl Model for Pile {
     ghost invariant = { λ p. IsPruned p.items.items };
 }
 
-// The cubes that don't lie within the cube.
-fn outside(alloc: Global, cubes: Vec<Known>, cube: &Cube) -> Result<Vec<Known>, NoMemory>
+// Whether one of the cubes lies within the cube.
+fn some_lies_within(cubes: &[Known], cube: &Cube) -> bool
+    ensures { IsFalse result → All (λ k. LiesWithin k cube.now → ⊥) cubes.now }
+{
+    for known in cubes {
+        if known.lies_within(cube) {
+            return true;
+        }
+    }
+    false
+}
+
+// The cubes that don't lie within the cube, moved together.
+fn without_narrower(alloc: Global, cubes: Vec<Known>, cube: &Cube) -> Result<Vec<Known>, NoMemory>
     ensures truth { IfOk result (λ r. (c : List Atom) → (holds c r.items || cube_holds c cube.now) ≡ (holds c cubes.items || cube_holds c cube.now)) }
     ensures outside { IfOk result (λ r. All (λ k. LiesWithin k cube.now → ⊥) r.items) }
     ensures uncovered { IfOk result (λ r. All (λ k. LiesWithin cube.now k → ⊥) cubes.items → All (λ k. LiesWithin cube.now k → ⊥) r.items) }
@@ -46,6 +58,20 @@ fn outside(alloc: Global, cubes: Vec<Known>, cube: &Cube) -> Result<Vec<Known>, 
         }
     }
     Ok(kept)
+}
+
+// The cubes that don't lie within the cube. Mostly all of them, and then they stay where they are.
+fn outside(alloc: Global, cubes: Vec<Known>, cube: &Cube) -> Result<Vec<Known>, NoMemory>
+    ensures truth { IfOk result (λ r. (c : List Atom) → (holds c r.items || cube_holds c cube.now) ≡ (holds c cubes.items || cube_holds c cube.now)) }
+    ensures outside { IfOk result (λ r. All (λ k. LiesWithin k cube.now → ⊥) r.items) }
+    ensures uncovered { IfOk result (λ r. All (λ k. LiesWithin cube.now k → ⊥) cubes.items → All (λ k. LiesWithin cube.now k → ⊥) r.items) }
+    ensures pruned { IfOk result (λ r. IsPruned cubes.items → IsPruned r.items) }
+    ensures rules { IfOk result (λ r. (rule : Rule) → ConstraintObeys rule cubes.items → ConstraintObeys rule r.items) }
+{
+    if some_lies_within(&cubes, cube) {
+        return without_narrower(alloc, cubes, cube);
+    }
+    Ok(cubes)
 }
 
 // Whether the cube lies within one of the others.

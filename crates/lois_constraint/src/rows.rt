@@ -1,6 +1,6 @@
-//! The levels that a cube puts at most as high as others.
+//! The levels that a cube puts at most as high as others, in a table that levels index.
 
-ghost use Rattle.std.specs.Prelude.{◌≡◌, ℕ, Bool, List, ◌++◌, ◌||◌, ◌&&◌, ◌==◌, IfOk, OnOk};
+ghost use Rattle.std.specs.Prelude.{◌≡◌, ℕ, Bool, List, [], length, ◌≤◌, ◌||◌, ◌&&◌, ◌==◌, IfOk};
 ghost use Rattle.std.specs.List.{list_any};
 ghost use Rattle.lois_constraint.specs.Order.{reaches, at_most, are_at_most, is_tied, is_under, is_apart, sets_apart, are_apart, is_told, is_denied, linked, extended};
 
@@ -9,51 +9,72 @@ use smallvec::SmallVec;
 use std::alloc::Global;
 use std::marker::Model;
 
-// Most cubes speak of few levels, and their rows take no allocation.
-const INLINE_LEVELS: usize = 8;
+// Most cubes speak of low levels alone, and their rows take no allocation.
+const INLINE_LEVELS: usize = 16;
 
-/// A level, and others that are at least as high. A level may have several rows.
+/// Which levels are at least as high as one level. Those beyond the end aren't.
 #[derive(Drop)]
 pub(crate) struct Row {
-    level: usize,
-    above: SmallVec<usize, INLINE_LEVELS>,
+    above: SmallVec<bool, INLINE_LEVELS>,
 }
 
 impl Model for Row {
-    ghost use Rattle.std.specs.Prelude.{ℕ, List};
+    ghost use Rattle.std.specs.Prelude.{Bool, List};
 
-    ghost Value = { ℕ × List ℕ };
+    ghost Value = { List Bool };
 
-    ghost view = { λ r. (r.level, r.above.items) };
+    ghost view = { λ r. r.above.items };
 }
 
 impl Row {
-    fn is_of(&self, level: usize) -> bool
-        ensures { result ≡ (self.now.0 == level) }
-    {
-        self.level == level
-    }
-
     fn reaches(&self, level: usize) -> bool
         ensures { result ≡ reaches self.now level }
     {
-        self.above.as_slice().iter().any(|other| *other == level)
-    }
-
-    fn says(&self, low: usize, high: usize) -> bool
-        ensures { result ≡ (self.now.0 == low && reaches self.now high) }
-    {
-        self.is_of(low) && self.reaches(high)
-    }
-
-    // Puts the levels above behind others.
-    fn append_above(&self, into: &mut SmallVec<usize, INLINE_LEVELS>) -> Result<(), NoMemory>
-        ensures { OnOk result (into.new.items ≡ into.old.items ++ self.now.1) }
-    {
-        for level in self.above.as_slice() {
-            into.push(*level)?;
+        match self.above.as_slice().get(level) {
+            Some(said) => *said,
+            None => false,
         }
-        Ok(())
+    }
+
+    fn empty(alloc: Global) -> Row
+        ensures { result ≡ [] }
+    {
+        Row {
+            above: SmallVec::new(alloc),
+        }
+    }
+
+    // The row of one level alone.
+    fn of(alloc: Global, level: usize) -> Result<Row, NoMemory>
+        ensures { IfOk result (λ r. (b : ℕ) → reaches r b ≡ (level == b)) }
+    {
+        let mut above = SmallVec::new(alloc);
+        for _ in 0..level {
+            above.push(false)?;
+        }
+        above.push(true)?;
+        Ok(Row { above })
+    }
+
+    // The levels of one row or of the other.
+    fn either(&self, alloc: Global, other: &Row) -> Result<Row, NoMemory>
+        ensures { IfOk result (λ r. (b : ℕ) → reaches r b ≡ (reaches self.now b || reaches other.now b)) }
+    {
+        let mut above = SmallVec::new(alloc);
+        for level in 0..self.above.len().max(other.above.len()) {
+            above.push(self.reaches(level) || other.reaches(level))?;
+        }
+        Ok(Row { above })
+    }
+
+    // The row with more levels above, where it has the given one.
+    fn raised(self, alloc: Global, level: usize, more: &Row) -> Result<Row, NoMemory>
+        ensures { IfOk result (λ r. (b : ℕ) → reaches r b ≡ (reaches self b || (reaches self level && reaches more.now b))) }
+    {
+        if self.reaches(level) {
+            return self.either(alloc, more);
+        }
+        Ok(self)
     }
 
     /// An equal row.
@@ -61,7 +82,6 @@ impl Row {
         ensures { IfOk result (λ r. r ≡ self.now) }
     {
         Ok(Row {
-            level: self.level,
             above: SmallVec::from_slice(alloc, self.above.as_slice())?,
         })
     }
@@ -78,16 +98,19 @@ pub(crate) fn copy_rows(alloc: Global, rows: &[Row]) -> Result<Vec<Row>, NoMemor
     Ok(copy)
 }
 
-fn some_row_says(rows: &[Row], low: usize, high: usize) -> bool
+fn are_at_most(rows: &[Row], low: usize, high: usize) -> bool
     ensures { result ≡ are_at_most rows.now low high }
 {
-    rows.iter().any(|row| row.says(low, high))
+    match rows.get(low) {
+        Some(row) => row.reaches(high),
+        None => false,
+    }
 }
 
 fn at_most(rows: &[Row], low: usize, high: usize) -> bool
     ensures { result ≡ at_most rows.now low high }
 {
-    low == high || some_row_says(rows, low, high)
+    low == high || are_at_most(rows, low, high)
 }
 
 fn are_tied(rows: &[Row], a: usize, b: usize) -> bool
@@ -156,46 +179,51 @@ pub(crate) fn is_denied(rows: &[Row], cube: &Cube, lit: Lit) -> bool
 }
 
 // The level, and those that are at least as high.
-fn from_on(
-    alloc: Global,
-    rows: &[Row],
-    level: usize,
-) -> Result<SmallVec<usize, INLINE_LEVELS>, NoMemory>
-    ensures { IfOk result (λ r. (b : ℕ) → list_any (λ z. z == b) r.items ≡ at_most rows.now level b) }
+fn from_on(alloc: Global, rows: &[Row], level: usize) -> Result<Row, NoMemory>
+    ensures { IfOk result (λ r. (b : ℕ) → reaches r b ≡ at_most rows.now level b) }
 {
-    let mut found = SmallVec::new(alloc);
-    found.push(level)?;
+    let itself = Row::of(alloc, level)?;
+    match rows.get(level) {
+        Some(row) => itself.either(alloc, row),
+        None => Ok(itself),
+    }
+}
+
+// The rows with more levels above, where they have the given one.
+fn raise(alloc: Global, rows: Vec<Row>, level: usize, more: &Row) -> Result<Vec<Row>, NoMemory>
+    ensures { IfOk result (λ r. (a b : ℕ) → are_at_most r.items a b ≡ (are_at_most rows.items a b || (are_at_most rows.items a level && reaches more.now b))) }
+{
+    let mut raised = Vec::with_capacity(alloc, rows.len())?;
     for row in rows {
-        if row.is_of(level) {
-            row.append_above(&mut found)?;
-        }
+        raised.push(row.raised(alloc, level, more)?)?;
     }
-    Ok(found)
+    Ok(raised)
 }
 
-// The row with more levels above.
-fn with_above(row: Row, more: &[usize]) -> Result<Row, NoMemory>
-    ensures level { IfOk result (λ r. r.0 ≡ row.0) }
-    ensures above { IfOk result (λ r. (b : ℕ) → reaches r b ≡ (reaches row b || list_any (λ z. z == b) more.now)) }
+// The rows, and as many empty ones as are missing below the level.
+fn with_rows_below(alloc: Global, rows: Vec<Row>, level: usize) -> Result<Vec<Row>, NoMemory>
+    ensures same { IfOk result (λ r. (a b : ℕ) → are_at_most r.items a b ≡ are_at_most rows.items a b) }
+    ensures there { IfOk result (λ r. level ≤ length r.items) }
 {
-    let Row { level, mut above } = row;
-    for other in more {
-        if !above.as_slice().contains(other) {
-            above.push(*other)?;
-        }
+    let missing = level.saturating_sub(rows.len());
+    let mut grown = rows;
+    for _ in 0..missing {
+        grown.push(Row::empty(alloc))?;
     }
-    Ok(Row { level, above })
+    Ok(grown)
 }
 
-// The row with more levels above, where it has the given one.
-fn raised(row: Row, level: usize, more: &[usize]) -> Result<Row, NoMemory>
-    ensures level { IfOk result (λ r. r.0 ≡ row.0) }
-    ensures above { IfOk result (λ r. (b : ℕ) → reaches r b ≡ (reaches row b || (reaches row level && list_any (λ z. z == b) more.now))) }
+// The rows with more levels above the given one.
+fn with_above(alloc: Global, rows: Vec<Row>, level: usize, more: Row) -> Result<Vec<Row>, NoMemory>
+    ensures { IfOk result (λ r. (a b : ℕ) → are_at_most r.items a b ≡ (are_at_most rows.items a b || (a == level && reaches more b))) }
 {
-    if row.reaches(level) {
-        return with_above(row, more);
+    let mut grown = with_rows_below(alloc, rows, level)?;
+    if level < grown.len() {
+        grown[level] = grown[level].either(alloc, &more)?;
+    } else {
+        grown.push(more)?;
     }
-    Ok(row)
+    Ok(grown)
 }
 
 // The rows with `low` at most `high`.
@@ -203,13 +231,8 @@ fn link(alloc: Global, rows: Vec<Row>, low: usize, high: usize) -> Result<Vec<Ro
     ensures { IfOk result (λ r. (a b : ℕ) → at_most r.items a b ≡ linked low high (at_most rows.items) a b) }
 {
     let above = from_on(alloc, &rows, high)?;
-    let more = above.as_slice();
-    let mut linked = Vec::new(alloc);
-    for row in rows {
-        linked.push(raised(row, low, more)?)?;
-    }
-    linked.push(Row { level: low, above })?;
-    Ok(linked)
+    let raised = raise(alloc, rows, low, &above)?;
+    with_above(alloc, raised, low, above)
 }
 
 /// The rows of a cube with one literal more.

@@ -6,7 +6,7 @@ use Rattle.lois_base.specs.declared.guards.Lit.{Lit}
 use Rattle.lois_constraint.specs.Met.{CanBeMet, LiesWithin, AreApart, IsPruned}
 use Rattle.lois_constraint.specs.Rules.{CubeObeys, ConstraintObeys}
 use Rattle.lois_constraint.proofs.Pruned.{all_before, all_last, front_pruned, front_apart, kept_pruned, kept_holds, dropped_holds}
-use Rattle.lois_constraint.proofs.piles.outside.Goals as goal
+use Rattle.lois_constraint.proofs.piles.without_narrower.Goals as goal
 
 pub loop-known-preserved-in-Continue-1 : goal.loop-known-preserved-in-Continue-1
 loop-known-preserved-in-Continue-1 c =

@@ -5,7 +5,7 @@ use Rattle.lois_base.specs.Truth.{cube_holds, holds}
 use Rattle.lois_base.specs.declared.guards.Lit.{Lit}
 use Rattle.lois_constraint.specs.Met.{LiesWithin, AreApart, IsPruned}
 use Rattle.lois_constraint.specs.Rules.{Rule, ConstraintObeys}
-use Rattle.lois_constraint.proofs.piles.outside.Given as goal
+use Rattle.lois_constraint.proofs.piles.without_narrower.Given as goal
 
 abbrev pub invariant-loop-known : goal.invariant-loop-known
 invariant-loop-known l = record {

@@ -1,0 +1,7 @@
+use Rattle.std.proofs.Common.{ℕ, ◌<◌, List, get_or}
+use Rattle.lois_base.specs.declared.guards.Lit.{Lit}
+use Rattle.lois_constraint.specs.Met.{LiesWithin}
+use Rattle.lois_constraint.proofs.piles.some_lies_within.Given as goal
+
+abbrev pub invariant-loop-known : goal.invariant-loop-known
+invariant-loop-known l = (k : ℕ) (d : List Lit) → k < l.known-index → LiesWithin (get_or l.cubes k d) l.cube → ⊥
