@@ -1,10 +1,10 @@
 -- Rows with one entry more, and tables with one row more.
-use Rattle.std.proofs.Common.{◌≡◌, ◌≢◌, ℕ, ◌+◌, ◌<◌, ◌≤◌, Bool, true, false, ◌||◌, ◌&&◌, ◌==◌, ◌⊎◌, inl, inr, List, [], ◌∷◌, ◌++◌, length, get_or, set, eqb, refl, sym, ap, ◌∙◌, arith}
+use Rattle.std.proofs.Common.{◌≡◌, ◌≢◌, ℕ, ◌+◌, ◌<◌, ◌≤◌, Bool, true, false, ◌||◌, ◌&&◌, ◌==◌, ◌⊎◌, inl, inr, List, [], ◌∷◌, ◌++◌, length, get_or, set, replicate, eqb, refl, sym, ap, ◌∙◌, arith}
 use Rattle.std.proofs.Math.ListN.{get_or-eq_default}
 use Rattle.std.proofs.lemmas.Bool.{cases_order}
 use Rattle.std.proofs.lemmas.Bool.Decides.{eqb_tells}
 use Rattle.std.proofs.lemmas.Grind.{common_steps}
-use Rattle.std.proofs.lemmas.List.{get_or_append_left, get_or_push, get_or-set_same, get_or-set_other}
+use Rattle.std.proofs.lemmas.List.{get_or_append_left, get_or_push, get_or-set_same, get_or-set_other, get_or-replicate, length-replicate}
 use Rattle.lois_constraint.specs.Order.{Row, reaches, are_at_most}
 
 module _ {X : Type 0} (xs : List X) (x d : X) (i : ℕ) where
@@ -13,24 +13,25 @@ module _ {X : Type 0} (xs : List X) (x d : X) (i : ℕ) where
       let past : length (xs ++ x ∷ []) ≤ i = grind (arith, common_steps) in get_or-eq_default (xs ++ x ∷ []) d past
 
 -- ---- rows
-pub pushed_false : (xs : Row) (b : ℕ) → reaches xs b ≡ false → reaches (xs ++ false ∷ []) b ≡ false
-pushed_false xs b e = go (cases_order b (length xs))
+pub only_last : (n b : ℕ) → reaches (replicate n false ++ true ∷ []) b ≡ (n == b)
+only_last n b = go (cases_order b n) (eqb_tells n b)
   where
-    go : (b ≡ length xs) ⊎ ((b < length xs) ⊎ (length xs < b)) → reaches (xs ++ false ∷ []) b ≡ false
-    go (inl at) = get_or_push xs false false b (sym at)
-    go (inr (inl less)) = get_or_append_left xs (false ∷ []) false b less ∙ e
-    go (inr (inr more)) = beyond xs false false b more
+    xs : Row
+    xs = replicate n false
 
-pub only_last : (xs : Row) (n b : ℕ) → length xs ≡ n → reaches xs b ≡ false → reaches (xs ++ true ∷ []) b ≡ (n == b)
-only_last xs n b l e = go (cases_order b (length xs)) (eqb_tells n b)
-  where
-    go : (b ≡ length xs) ⊎ ((b < length xs) ⊎ (length xs < b)) → ((eqb n b ≡ true) × (n ≡ b)) ⊎ ((eqb n b ≡ false) × (n ≢ b)) → reaches (xs ++ true ∷ []) b ≡ (n == b)
-    go (inl at) (inl t) = get_or_push xs true false b (sym at) ∙ sym t.0
+    l : length xs ≡ n
+    l = length-replicate n false
+
+    go : (b ≡ n) ⊎ ((b < n) ⊎ (n < b)) → ((eqb n b ≡ true) × (n ≡ b)) ⊎ ((eqb n b ≡ false) × (n ≢ b)) → reaches (xs ++ true ∷ []) b ≡ (n == b)
+    go (inl at) (inl t) = get_or_push xs true false b (l ∙ sym at) ∙ sym t.0
     go (inl at) (inr t) = absurd (t.1 (omega arith))
     go (inr (inl less)) (inl t) = let same = t.1 in absurd (omega arith)
-    go (inr (inl less)) (inr t) = get_or_append_left xs (true ∷ []) false b less ∙ (e ∙ sym t.0)
+    go (inr (inl less)) (inr t) =
+        let inside : b < length xs = rw l less in
+        get_or_append_left xs (true ∷ []) false b inside ∙ (get_or-replicate n b false false less ∙ sym t.0)
     go (inr (inr more)) (inl t) = let same = t.1 in absurd (omega arith)
-    go (inr (inr more)) (inr t) = beyond xs true false b more ∙ sym t.0
+    go (inr (inr more)) (inr t) =
+        let past : length xs < b = rw l more in beyond xs true false b past ∙ sym t.0
 
 pub pushed_is : (xs : Row) (x : Bool) (f : ℕ → Bool) (n : ℕ) → length xs ≡ n → ((b : ℕ) → b < n → reaches xs b ≡ f b) → x ≡ f n → (b : ℕ) → b < n + 1 → reaches (xs ++ x ∷ []) b ≡ f b
 pushed_is xs x f n l before is b below = go (cases_order b n)
@@ -56,6 +57,10 @@ either_is r s t n l p q before b = go (cases_order b n)
     go (inr (inr more)) = past (omega arith)
 
 -- ---- tables
+pub either_way : (p q r : Bool) → ((p || q) || r) ≡ (p || (q || r))
+either_way true q r = refl
+either_way false q r = refl
+
 pub row_raised : (low a b : ℕ) (more : Row) (raised yielded : List Row) (r row : Row) → length raised ≡ length yielded → reaches r b ≡ (reaches row b || (reaches row low && reaches more b)) → are_at_most raised a b ≡ (are_at_most yielded a b || (are_at_most yielded a low && reaches more b)) → are_at_most (raised ++ r ∷ []) a b ≡ (are_at_most (yielded ++ row ∷ []) a b || (are_at_most (yielded ++ row ∷ []) a low && reaches more b))
 row_raised low a b more raised yielded r row l above before = go (cases_order a (length yielded))
   where

@@ -45,13 +45,11 @@ impl Row {
     }
 
     // The row of one level alone.
+    #[tactic(auto, using(crate::proofs::Raising::only_last))]
     fn of(alloc: Global, level: usize) -> Result<Row, NoMemory>
         ensures { IfOk result (λ r. (b : ℕ) → reaches r b ≡ (level == b)) }
     {
-        let mut above = SmallVec::new(alloc);
-        for _ in 0..level {
-            above.push(false)?;
-        }
+        let mut above = SmallVec::from_elem(alloc, false, level)?;
         above.push(true)?;
         Ok(Row { above })
     }
@@ -150,10 +148,18 @@ fn some_literal_sets_apart(rows: &[Row], cube: &Cube, a: usize, b: usize) -> boo
         .any(|lit| sets_apart(rows, *lit, a, b))
 }
 
+// Whether one is under the other.
+fn are_unequal(rows: &[Row], a: usize, b: usize) -> bool
+    ensures { result ≡ (is_under (at_most rows.now) a b || is_under (at_most rows.now) b a) }
+{
+    at_most(rows, a, b) != at_most(rows, b, a)
+}
+
+#[tactic(auto, using(crate::proofs::Raising::either_way))]
 fn are_apart(rows: &[Row], cube: &Cube, a: usize, b: usize) -> bool
     ensures { result ≡ are_apart (at_most rows.now) cube.now a b }
 {
-    is_under(rows, a, b) || is_under(rows, b, a) || some_literal_sets_apart(rows, cube, a, b)
+    are_unequal(rows, a, b) || some_literal_sets_apart(rows, cube, a, b)
 }
 
 /// Whether the literal follows from the cube, whose rows these are.
@@ -207,6 +213,7 @@ fn with_rows_below(alloc: Global, rows: Vec<Row>, level: usize) -> Result<Vec<Ro
 {
     let missing = level.saturating_sub(rows.len());
     let mut grown = rows;
+    grown.reserve(missing)?;
     for _ in 0..missing {
         grown.push(Row::empty(alloc))?;
     }
