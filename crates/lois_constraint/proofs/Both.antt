@@ -1,5 +1,5 @@
 -- The product of two constraints has the levels of both.
-use Rattle.std.proofs.Common.{◌+◌, List, ◌++◌}
+use Rattle.std.proofs.Common.{List, ◌++◌}
 use Rattle.lois_base.specs.Normal.{both}
 use Rattle.lois_base.specs.Validity.{LitUsesOnly, UsesOnly}
 use Rattle.lois_base.specs.declared.guards.Lit.{Lit}

@@ -1,4 +1,4 @@
-use Rattle.std.proofs.Common.{◌≡◌, ℕ, List, [], ◌∷◌, ◌++◌, length, ap, ◌∙◌}
+use Rattle.std.proofs.Common.{◌≡◌, List, [], ◌∷◌, ◌++◌, length, ap, ◌∙◌}
 use Rattle.lois_constraint.specs.Order.{Row, are_at_most}
 use Rattle.lois_constraint.proofs.Raising.{row_raised, one_longer}
 use Rattle.lois_constraint.proofs.rows.raise.Goals as goal
