@@ -1,6 +1,6 @@
 //! Cubes that hold no literal twice.
 
-ghost use Rattle.std.specs.Prelude.{◌≡◌, OnOk};
+ghost use Rattle.std.specs.Prelude.{◌≡◌, OnOk, OnErr};
 ghost use Rattle.std.specs.List.{list_any};
 ghost use Rattle.lois_order.specs.Cubes.{is_absurd, IsWith};
 
@@ -17,7 +17,8 @@ pub fn contradicts(cube: &Cube) -> bool
 
 /// Adds the literal, unless it stands there or sets a level equal to itself.
 pub fn add(cube: &mut Cube, lit: Lit) -> Result<(), NoMemory>
-    ensures { OnOk result (IsWith cube.old cube.new lit) }
+    ensures added { OnOk result (IsWith cube.old cube.new lit) }
+    ensures unchanged { OnErr result (cube.new ≡ cube.old) }
 {
     if lit.op == Op::Eq && lit.left == lit.right || cube.as_slice().contains(&lit) {
         return Ok(());

@@ -246,7 +246,7 @@ fn a_text_over_the_limit_is_too_long(rt: HostRuntime) -> Result<(), Fail> {
     Ok(())
 }
 
-// Each call of the source fails in turn, the one that would find the end among them.
+// Each call of the source fails in turn, the one that would find the end among them. One that is never made can't.
 #[test]
 fn a_fault_of_the_source_is_told(rt: HostRuntime) -> Result<(), Fail> {
     let alloc = rt.alloc();
@@ -275,7 +275,7 @@ fn a_fault_of_the_source_is_told(rt: HostRuntime) -> Result<(), Fail> {
             SCRIPT,
             Edge {
                 step,
-                failing: &[calls],
+                failing: &[40],
             },
             4096,
             Edge {
@@ -293,10 +293,17 @@ fn a_fault_of_the_source_is_told(rt: HostRuntime) -> Result<(), Fail> {
 fn a_fault_of_the_sink_is_told(rt: HostRuntime) -> Result<(), Fail> {
     let alloc = rt.alloc();
     for (step, failing, room, held) in [
+        (10, 0, 76, 0),
+        (10, 1, 76, 10),
+        (10, 2, 76, 20),
+        (10, 3, 76, 30),
+        (10, 4, 76, 40),
+        (10, 5, 76, 50),
+        (10, 6, 76, 60),
+        (10, 7, 76, 70),
         (10, 1, 4096, 10),
-        (10, 0, 4096, 0),
-        (10, 7, 4096, 70),
         (1, 75, 4096, 75),
+        (10, 99, 70, 70),
         (4096, 9, 70, 70),
         (7, 99, 70, 70),
         (4096, 9, 0, 0),

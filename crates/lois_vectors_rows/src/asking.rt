@@ -3,6 +3,7 @@
 ghost use Rattle.lois_base.specs.Fits.{CubeFits};
 ghost use Rattle.lois_base.specs.declared.deciding.Kind.{Kind};
 
+use crate::automata::EQUAL_ENDS;
 use crate::calling::{asked, called};
 use lois_base::{Cube, Decider, Kind, NoMemory};
 use lois_deciders::GraphDecider;
@@ -24,6 +25,8 @@ enum When {
     Parts,
     // at a cube of three levels that holds nowhere
     Unmet,
+    // at its third question
+    Third,
 }
 
 // Answers as a graph decider does, but gives up at some questions.
@@ -34,7 +37,7 @@ struct Tired {
     asked: u64,
 }
 
-fn gives_up(when: When, cube: &Cube, size: usize, sample: &Option<Vec<u64>>) -> bool
+fn gives_up(when: When, asked: u64, cube: &Cube, size: usize, sample: &Option<Vec<u64>>) -> bool
     requires { CubeFits size cube.now }
 {
     match when {
@@ -42,6 +45,7 @@ fn gives_up(when: When, cube: &Cube, size: usize, sample: &Option<Vec<u64>>) -> 
         When::Always => true,
         When::Parts => size == 2 && cube.at(&[0, 0]) != cube.at(&[0, 1]),
         When::Unmet => size == 3 && sample.is_none(),
+        When::Third => asked == 3,
     }
 }
 
@@ -62,7 +66,7 @@ impl Decider for Tired {
     ) -> Result<Option<Vec<u64>>, NoMemory> {
         self.asked = self.asked.saturating_add(1);
         let sample = self.graph.satisfiable(alloc, cube, size)?;
-        if gives_up(self.when, cube, size, &sample) {
+        if gives_up(self.when, self.asked, cube, size, &sample) {
             return Err(NoMemory);
         }
         Ok(sample)
@@ -91,12 +95,13 @@ fn only_tired(alloc: Global, when: When) -> Result<Vec<Box<dyn Decider>>, NoMemo
 #[test]
 fn the_question_on_which_a_run_turns_is_asked(rt: HostRuntime) -> Result<(), Fail> {
     let alloc = rt.alloc();
-    let rows: [(When, &[&str], &[u8]); 5] = [
+    let rows: [(When, &[&str], &[u8]); 6] = [
         (When::Parts, &["run"], PARTED),
         (When::Unmet, &["run"], ROUND),
         (When::Always, &["run"], PARTED),
         (When::Always, &["run"], ROUND),
         (When::Always, &["make", "3"], b""),
+        (When::Third, &["run"], EQUAL_ENDS.as_bytes()),
     ];
     for (when, words, text) in rows {
         let told = called(alloc, words, text, &[], only_tired(alloc, when)?)?;
@@ -106,14 +111,15 @@ fn the_question_on_which_a_run_turns_is_asked(rt: HostRuntime) -> Result<(), Fai
     Ok(())
 }
 
-// A decider that never gives up stops neither of them.
+// A decider that never gives up stops none of them.
 #[test]
 fn a_run_whose_questions_are_answered_completes(rt: HostRuntime) -> Result<(), Fail> {
     let alloc = rt.alloc();
-    let rows: [(&[&str], &[u8]); 3] = [
+    let rows: [(&[&str], &[u8]); 4] = [
         (&["run"], PARTED),
         (&["run"], ROUND),
         (&["make", "3"], b""),
+        (&["run"], EQUAL_ENDS.as_bytes()),
     ];
     for (words, text) in rows {
         let told = called(alloc, words, text, &[], only_tired(alloc, When::Never)?)?;

@@ -6,6 +6,10 @@ use crate::completing::{all_complete, exactly, spelled};
 use std::alloc::Global;
 use std::test::Fail;
 
+/// Words whose first and last letters agree, minimised.
+pub(crate) const EQUAL_ENDS: &str =
+    "atoms equality; let states = union({'start}, {(x, y) for x in atoms, y in atoms}); let steps = union({('start, x, (x, x)) for x in atoms}, {((x, y), z, (x, z)) for x in atoms, y in atoms, z in atoms}); let a = (states, atoms, steps, {'start}, {(x, x) for x in atoms}); let m = minimise(a); let q = part(m, 1); assert q = union({{'start}}, union({{(x, x)} for x in atoms}, {{(x, y) for y in atoms where x != y} for x in atoms})); assert empty(product(a, complement(a))); assert not empty(a); assert reach(m) = part(m, 1); assert flatten(part(m, 1)) = states; print q;";
+
 // Three of five orbits of states are reached, and whether a word is accepted depends on the parameters.
 #[test]
 fn states_are_reached(rt: HostRuntime) -> Result<(), Fail> {
@@ -48,7 +52,7 @@ fn products_and_complements_are_made(rt: HostRuntime) -> Result<(), Fail> {
 fn automata_are_minimised(rt: HostRuntime) -> Result<(), Fail> {
     let rows = [
         spelled(
-            "atoms equality; let states = union({'start}, {(x, y) for x in atoms, y in atoms}); let steps = union({('start, x, (x, x)) for x in atoms}, {((x, y), z, (x, z)) for x in atoms, y in atoms, z in atoms}); let a = (states, atoms, steps, {'start}, {(x, x) for x in atoms}); let m = minimise(a); let q = part(m, 1); assert q = union({{'start}}, union({{(x, x)} for x in atoms}, {{(x, y) for y in atoms where x != y} for x in atoms})); assert empty(product(a, complement(a))); assert not empty(a); assert reach(m) = part(m, 1); assert flatten(part(m, 1)) = states; print q;",
+            EQUAL_ENDS,
             "lois results 1\natoms equality\nparameters\ncase when true\nq = {{'start}, {($0, $0)} for $0, {($0, $1) for $1 if $0!=$1} for $0}\nend\n",
         ),
         spelled(

@@ -22,4 +22,4 @@ returns-in_ok-copy-in-None c =
     let before = comps_of c.args.others.now in
     let after = comps_of c.put.new.comps in
     IfOk-weaker c.put.result (λ _. IsPut (comp_of copy) before after) _ (λ _ added n.
-    adds_misfit n k.binders k.guard (tree k.item) before after c.in-None.ensures.none (subst (λ z. IsPut (comp_of z) before after) c.in_ok-copy-in-None.ensures added)) c.put.ensures
+    adds_misfit n k.binders k.guard (tree k.item) before after c.in-None.ensures.none (subst (λ z. IsPut (comp_of z) before after) c.in_ok-copy-in-None.ensures added)) c.put.ensures.added

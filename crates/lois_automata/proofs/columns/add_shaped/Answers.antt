@@ -25,4 +25,4 @@ returns c =
     subst (λ z. AddsOfOne (IsShapeOf c.args.shape) n (comp k.binders k.guard z) before after) (sym c.in-Some.ensures.some)
     (adds_shaped c.args.shape n k.binders k.guard p l q before after
     (subst (λ z. IsPut (comp k.binders k.guard z) before after) c.in_ok-item.ensures
-    (subst (λ z. IsPut (comp k.binders z (tree c.in_ok-item.item)) before after) c.in_ok-guard.ensures added)))) c.put.ensures
+    (subst (λ z. IsPut (comp k.binders z (tree c.in_ok-item.item)) before after) c.in_ok-guard.ensures added)))) c.put.ensures.added

@@ -40,4 +40,4 @@ returns g c =
     c.in-Some.ensures.some c.in-Some-step_parts.ensures.some c.in_ok-item.ensures told.made
     (formula_where inner (λ d. IsSame (point l d) (point b d)) (view c.in_ok-same.same) found c.in_ok-same.ensures.truth c.in_ok-found.ensures.truth) c.in_ok-guard.ensures.truth added
     (told.room, c.in_ok-guard.ensures.fits inner told.guard_fits c.in_ok-found.ensures.levels, told.first_fits) told.second_fits told.operators
-    (λ o h p q. c.in_ok-guard.ensures.operators o h (c.in_ok-found.ensures.operators o (c.in_ok-same.ensures.operators o p q))) told.first_widths told.second_widths) c.put.ensures
+    (λ o h p q. c.in_ok-guard.ensures.operators o h (c.in_ok-found.ensures.operators o (c.in_ok-same.ensures.operators o p q))) told.first_widths told.second_widths) c.put.ensures.added

@@ -16,4 +16,4 @@ returns g c =
     adds_class c.args.size k.binders k.guard (coll (comps_of c.args.nodes.now)) (tree c.args.apart.now) (tree k.item) class c.in_ok-class.ensures.set c.in_ok-class.ensures.class before after
     (subst (λ z. IsPut (comp k.binders k.guard z) before after) c.in_ok-item.ensures
     (subst (λ z. IsPut (comp k.binders z (tree c.in_ok-item.item)) before after) c.in_ok-guard.ensures added))
-    c.in_ok-class.ensures.levels c.in_ok-class.ensures.operators c.in_ok-class.ensures.widths) c.put.ensures
+    c.in_ok-class.ensures.levels c.in_ok-class.ensures.operators c.in_ok-class.ensures.widths) c.put.ensures.added

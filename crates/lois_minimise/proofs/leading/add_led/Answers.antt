@@ -26,4 +26,4 @@ returns g c =
     (adds_target c.args.size k.binders k.guard c.in_ok-found.found guard a b (tree c.args.from.now) c.in_ok-found.ensures.truth c.in_ok-guard.ensures.truth (comps_of c.args.made.now) (comps_of c.put.new.comps)
     (subst (λ z. IsPut (comp k.binders guard (tree z)) (comps_of c.args.made.now) (comps_of c.put.new.comps)) c.in_ok-item.ensures added)
     (λ h. c.in_ok-guard.ensures.fits n h c.in_ok-found.ensures.fits)
-    (λ o h p q. c.in_ok-guard.ensures.operators o h (c.in_ok-found.ensures.operators o p q)))) c.put.ensures
+    (λ o h p q. c.in_ok-guard.ensures.operators o h (c.in_ok-found.ensures.operators o p q)))) c.put.ensures.added

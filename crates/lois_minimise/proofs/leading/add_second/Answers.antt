@@ -22,4 +22,4 @@ returns c =
     subst (λ z. AddsOfOne IsSecondOf n (comp k.binders k.guard z) before after) (sym c.in-Some.ensures.some)
     (adds_second n k.binders k.guard _ _ before after
     (subst (λ z. IsPut (comp k.binders k.guard (tree z)) before after) c.in_ok-item.ensures
-    (subst (λ z. IsPut (comp k.binders z (tree c.in_ok-item.item)) before after) c.in_ok-guard.ensures added)))) c.put.ensures
+    (subst (λ z. IsPut (comp k.binders z (tree c.in_ok-item.item)) before after) c.in_ok-guard.ensures added)))) c.put.ensures.added

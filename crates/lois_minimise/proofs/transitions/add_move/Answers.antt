@@ -23,4 +23,4 @@ returns c =
     subst (λ z. AddsOfOne IsStepMove n (comp k.binders k.guard z) before after) (sym c.in-Some.ensures.some)
     (adds_move n k.binders k.guard (tree parts.source.now) (tree parts.class.now) (tree parts.letter.now) (tree parts.target.now) (tree parts.next.now) before after
     (subst (λ z. IsPut (comp k.binders k.guard z) before after) c.in_ok-item.ensures
-    (subst (λ z. IsPut (comp k.binders z (tree c.in_ok-item.item)) before after) c.in_ok-guard.ensures added)))) c.put.ensures
+    (subst (λ z. IsPut (comp k.binders z (tree c.in_ok-item.item)) before after) c.in_ok-guard.ensures added)))) c.put.ensures.added

@@ -5,8 +5,8 @@ use Rattle.lois_order.proofs.cubes.add.Goals as goal
 use Rattle.lois_order.proofs.cubes.add.Goals.{then-lit-via-then-lit, then-lit-via-else-lit+then-contains}
 
 -- src/cubes.rt:23:9
-pub returns-then-lit : goal.returns-then-lit
-returns-then-lit c =
+pub returns-then-lit-clause-added : goal.returns-then-lit-clause-added
+returns-then-lit-clause-added c =
     inr (
       refl,
       elim c.then-lit.branch [
