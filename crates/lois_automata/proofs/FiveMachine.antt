@@ -1,28 +1,23 @@
 -- The automaton that a term of five sets has as its value.
-use Rattle.std.proofs.Common.{◌≡◌, ℕ, ◌↔◌, List, [], ◌∷◌, length, refl, sym, subst}
-use Rattle.std.specs.Bool.{IsTrue}
+use Rattle.std.proofs.Common.{◌≡◌, ℕ, ◌↔◌, Bool, true, false, List, [], ◌∷◌, length, refl, sym, subst, ◌∙◌}
+use Rattle.std.specs.Bool.{IsTrue, IsFalse}
 use Rattle.lois_base.specs.Atom.{Atom}
-use Rattle.lois_base.specs.Data.{TermD, coll, CompsD, no_comps}
-use Rattle.lois_base.specs.FormulaData.{FormulaD}
+use Rattle.lois_base.specs.Data.{TermD, coll, CompsD}
 use Rattle.lois_base.specs.Truth.{holds}
-use Rattle.lois_base.specs.Values.{PointValue, point, IsIn, IsIncluded}
+use Rattle.lois_base.specs.Values.{PointValue, point, IsIn}
 use Rattle.lois_base.specs.declared.guards.Lit.{Lit}
-use Rattle.lois_base.proofs.Members.{same_refl}
 use Rattle.lois_algebra.specs.Sets.{IsIntersection, IsDifference}
-use Rattle.lois_elim.specs.Bound.{AgreesWith}
-use Rattle.lois_relate.specs.Relations.{HoldsWhereIncluded}
 use Rattle.lois_terms.specs.Guarded.{IsSet}
-use Rattle.lois_meaning.specs.Automata.{Machine, IsAutomatonOf, IsReachable, IsDeterministic, IsComplete, IsProductOf}
+use Rattle.lois_meaning.specs.Automata.{Machine, IsAutomatonOf, Accepts, IsDeterministic, IsComplete, IsProductOf}
 use Rattle.lois_meaning.specs.Kinds.{IsSetOf}
-use Rattle.lois_meaning.proofs.Automata.{SameMachine, machine_sym, automaton_both, automaton_same, reachable_same}
 use Rattle.lois_meaning.proofs.Operations.{products_accept_both, complements_accept_others}
 use Rattle.lois_automata.specs.Built.{ArePairs}
 use Rattle.lois_automata.specs.Columns.{five_of, five_terms, machine_at, AreShaped, AreSideBySide}
 use Rattle.lois_automata.specs.declared.columns.Shape.TheVariants.{Move}
-use Rattle.lois_automata.specs.Machines.{IsAutomatonAt, IsReachAt, IsEmptyAt, IsWholeAt, IsProductAt, IsComplementAt, AcceptsBothAt, AcceptsOthersAt}
+use Rattle.lois_automata.specs.Machines.{IsAutomatonAt, IsReachAt, IsEmptyAt, AcceptsSomeAt, IsWholeAt, IsProductAt, IsComplementAt, AcceptsBothAt, AcceptsOthersAt}
 use Rattle.lois_automata.specs.Spread.{graph_at, IsReached}
-use Rattle.lois_automata.specs.Throughout.{HoldsThroughout}
-use Rattle.lois_automata.proofs.Machines.{product_automaton, with_final, is_complement, complement_automaton, accepts_none}
+use Rattle.lois_automata.specs.Throughout.{HoldsThroughout, HoldsUnless}
+use Rattle.lois_automata.proofs.Machines.{product_automaton, with_final, is_complement, complement_automaton, accepts_some}
 use Rattle.lois_automata.proofs.ReachIs.{reach_exactly}
 
 module _ (s l t i f : CompsD) (c : List Atom) where
@@ -51,20 +46,29 @@ module _ (s l t i f : CompsD) (c : List Atom) where
       let same = reach_exactly (point (five_of s l t i f) c) m is (point moves c) (are c k) in
       (m, is, (set.0, λ q. (λ x. (same q).0 ((set.1 q).0 x), λ x. (set.1 q).1 ((same q).1 x))))
 
-  pub is_empty : (n : ℕ) (r found none : TermD) → length c ≡ n → IsAutomatonAt (five_of s l t i f) c → IsReachAt (five_of s l t i f) r c → IsIntersection n r (coll f) found → ((x : PointValue) → IsIn x (point none c) → ⊥) → IsIncluded (point found c) (point none c) ↔ IsEmptyAt (five_of s l t i f) c
-  is_empty n r found none k h (m, is, set) both empty =
-      let a = machine_at s l t i f c in
-      let own = five_machine h in
-      let same : SameMachine m a = automaton_both (point (five_of s l t i f) c) (point (five_of s l t i f) c) m a (same_refl (point (five_of s l t i f) c)) is own in
-      let back : SameMachine a m = machine_sym m a same in
-      let are : (x : PointValue) → IsIn x (point r c) ↔ IsReachable a x = λ x. (
-        λ i. reachable_same m a x x same (same_refl x) ((set.1 x).0 i),
-        λ i. (set.1 x).1 (reachable_same a m x x back (same_refl x) i),
-      ) in
-      let one = accepts_none a (point r c) (point found c) (point none c) are (both c k) empty in (
-        λ inside. (a, own, one.0 inside),
-        λ e. one.1 (λ word accepted. e.2 word (automaton_same (point (five_of s l t i f) c) (point (five_of s l t i f) c) a e.0 (same_refl (point (five_of s l t i f) c)) own e.1 word accepted)),
+  -- a set of the reachable final states has a member exactly where some word is accepted
+  tells_words : (n : ℕ) (r found : TermD) → length c ≡ n → IsReachAt (five_of s l t i f) r c → IsIntersection n r (coll f) found → (a : Machine) × IsAutomatonOf (point (five_of s l t i f) c) a × (((x : PointValue) × IsIn x (point found c)) ↔ ((word : List PointValue) × Accepts a word))
+  tells_words n r found k (a, is, set) both =
+      let final : point (coll f) c ≡ a.final = subst (λ z. point (coll f) c ≡ z.final) (sym (five_equal a is)) refl in
+      let among : (x : PointValue) → IsIn x (point found c) ↔ (IsIn x (point r c) × IsIn x a.final) = subst (λ z. (x : PointValue) → IsIn x (point found c) ↔ (IsIn x (point r c) × IsIn x z)) final (both c k) in
+      (a, is, accepts_some a (point r c) (point found c) set.1 among)
+
+  -- b is true exactly where no final state is reachable
+  pub is_empty : (n : ℕ) (r found : TermD) (b : Bool) → length c ≡ n → IsReachAt (five_of s l t i f) r c → IsIntersection n r (coll f) found → (IsTrue b → ((x : PointValue) × IsIn x (point found c)) → ⊥) × (IsFalse b → (x : PointValue) × IsIn x (point found c)) →
+      (IsTrue b ↔ IsEmptyAt (five_of s l t i f) c) × (IsFalse b → AcceptsSomeAt (five_of s l t i f) c)
+  is_empty n r found b k reach both unless = of (tells_words n r found k reach both)
+    where
+      of : (a : Machine) × IsAutomatonOf (point (five_of s l t i f) c) a × (((x : PointValue) × IsIn x (point found c)) ↔ ((word : List PointValue) × Accepts a word)) → (IsTrue b ↔ IsEmptyAt (five_of s l t i f) c) × (IsFalse b → AcceptsSomeAt (five_of s l t i f) c)
+      of (a, is, words) = (
+        (λ x. (a, is, λ word accepted. unless.0 x (words.1 (word, accepted))), λ empty. go b unless.1 empty),
+        λ x. (a, is, words.0 (unless.1 x)),
       )
+        where
+          go : (d : Bool) → (IsFalse d → (x : PointValue) × IsIn x (point found c)) → IsEmptyAt (five_of s l t i f) c → IsTrue d
+          go true some empty = refl
+          go false some (m, own, never) =
+              let word = words.0 (some refl) in
+              absurd (never word.0 (subst (λ z. Accepts z word.0) (five_equal a is ∙ sym (five_equal m own)) word.1))
 
   pub is_complement_at : (n : ℕ) (final : CompsD) → length c ≡ n → IsWholeAt (five_of s l t i f) c → IsDifference n (coll s) (coll f) (coll final) → IsComplementAt (five_of s l t i f) (five_of s l t i final) c × AcceptsOthersAt (five_of s l t i f) (five_of s l t i final) c
   is_complement_at n final k (m, is, one, whole) others =
@@ -145,12 +149,12 @@ module _ (n : ℕ) (u : List (List Lit)) (a r : TermD) (s l t i f : CompsD) (is 
       subst (λ z. IsProductAt z b r c × AcceptsBothAt z b r c) (sym is) (subst (λ z. IsProductAt (five_of s l t i f) z r c × AcceptsBothAt (five_of s l t i f) z r c) (sym is') (subst (λ z. IsProductAt (five_of s l t i f) (five_of s' l' t' i' f') z c × AcceptsBothAt (five_of s l t i f) (five_of s' l' t' i' f') z c) (sym here) at)) in
       (λ c k h. (both c k h).0, λ c k h. (both c k h).1)
 
-  pub empty_throughout : (f2 : CompsD) (states found none : TermD) (g : FormulaD) (q : List (List Lit)) → HoldsThroughout n u (IsAutomatonAt a) → HoldsThroughout n u (IsReachAt a states) → f2 ≡ f → IsIntersection n states (coll f2) found → none ≡ coll no_comps →
-      HoldsWhereIncluded n found none g → AgreesWith n g q → HoldsThroughout n u (λ c. IsTrue (holds c q) ↔ IsEmptyAt a c)
-  empty_throughout f2 states found none g q automaton reach ef both empty included agrees c k h =
-      let one = agrees c k in
-      let two = included c k in
-      let reached : IsReachAt (five_of s l t i f) states c = subst (λ z. IsReachAt z states c) is (reach c k h) in
-      let never : (x : PointValue) → IsIn x (point none c) → ⊥ = λ x j. (subst (λ z. IsIn x (point z c)) empty j).1 in
-      let three = is_empty s l t i f c n states found none k (subst (λ z. IsAutomatonAt z c) is (automaton c k h)) reached (subst (λ z. IsIntersection n states (coll z) found) ef both) never in
-      subst (λ z. IsTrue (holds c q) ↔ IsEmptyAt z c) (sym is) (λ x. three.0 (two.0 (one.0 x)), λ x. one.1 (two.1 (three.1 x)))
+  pub empty_throughout : (f2 : CompsD) (states found : TermD) (q : List (List Lit)) → HoldsThroughout n u (IsReachAt a states) → f2 ≡ f → IsIntersection n states (coll f2) found → HoldsUnless n (λ c. (x : PointValue) × IsIn x (point found c)) q →
+      HoldsThroughout n u (λ c. IsTrue (holds c q) ↔ IsEmptyAt a c) × HoldsThroughout n u (λ c. IsFalse (holds c q) → AcceptsSomeAt a c)
+  empty_throughout f2 states found q reach ef both unless = (λ c k h. (at c k h).0, λ c k h. (at c k h).1)
+    where
+      at : (c : List Atom) → length c ≡ n → IsTrue (holds c u) → (IsTrue (holds c q) ↔ IsEmptyAt a c) × (IsFalse (holds c q) → AcceptsSomeAt a c)
+      at c k h =
+          let reached : IsReachAt (five_of s l t i f) states c = subst (λ z. IsReachAt z states c) is (reach c k h) in
+          let among : IsIntersection n states (coll f) found = subst (λ z. IsIntersection n states (coll z) found) ef both in
+          subst (λ z. (IsTrue (holds c q) ↔ IsEmptyAt z c) × (IsFalse (holds c q) → AcceptsSomeAt z c)) (sym is) (is_empty s l t i f c n states found (holds c q) k reached among (unless c k))

@@ -1,7 +1,7 @@
 -- What products and complements of automata are, and where an automaton accepts no word.
 use Rattle.std.proofs.Common.{◌↔◌, List, [], ◌∷◌}
-use Rattle.lois_base.specs.Values.{PointValue, IsIn, IsIncluded}
-use Rattle.lois_base.proofs.Members.{same_refl, in_included, member_in}
+use Rattle.lois_base.specs.Values.{PointValue, IsIn}
+use Rattle.lois_base.proofs.Members.{same_refl}
 use Rattle.lois_meaning.specs.Automata.{Machine, IsPair, IsTriple, JoinsStates, IsAutomatonOf, HasStep, Accepts, IsReachable, IsProductOf, IsComplementOf}
 use Rattle.lois_meaning.specs.Kinds.{IsSet, HasParts}
 use Rattle.lois_meaning.proofs.Operations.{accepts_by_reach}
@@ -65,18 +65,9 @@ module _ (v : PointValue) (a : Machine) (is : IsAutomatonOf v a) (final : PointV
     final_states = λ x i. ((others x).0 i).0;
   }
 
--- a set of reachable final states is empty exactly where no word is accepted
-module _ (a : Machine) (reached found none : PointValue) (are : (x : PointValue) → IsIn x reached ↔ IsReachable a x) (both : (x : PointValue) → IsIn x found ↔ (IsIn x reached × IsIn x a.final)) (empty : (x : PointValue) → IsIn x none → ⊥) where
-  pub accepts_none : IsIncluded found none ↔ ((word : List PointValue) → Accepts a word → ⊥)
-  accepts_none = (there, back)
-    where
-      there : IsIncluded found none → (word : List PointValue) → Accepts a word → ⊥
-      there inside word accepted =
-          let q = (accepts_by_reach a).0 (word, accepted) in
-          empty q.0 (in_included q.0 found none inside ((both q.0).1 ((are q.0).1 q.1, q.2)))
-
-      back : ((word : List PointValue) → Accepts a word → ⊥) → IsIncluded found none
-      back never x i =
-          let h = (both x).0 (member_in x found i) in
-          let word = (accepts_by_reach a).1 (x, (are x).0 h.0, h.1) in
-          absurd (never word.0 word.1)
+-- some reachable state is final exactly where some word is accepted
+pub accepts_some : (a : Machine) (reached found : PointValue) → ((x : PointValue) → IsIn x reached ↔ IsReachable a x) → ((x : PointValue) → IsIn x found ↔ (IsIn x reached × IsIn x a.final)) → ((x : PointValue) × IsIn x found) ↔ ((word : List PointValue) × Accepts a word)
+accepts_some a reached found are both = (
+  λ h. let i = (both h.0).0 h.1 in (accepts_by_reach a).1 (h.0, (are h.0).0 i.0, i.1),
+  λ h. let q = (accepts_by_reach a).0 h in (q.0, (both q.0).1 ((are q.0).1 q.1, q.2)),
+)

@@ -45,6 +45,13 @@ unless_not n P f r h met c l = go (holds c f) (met c) (h c l).0 (h c l).1
     go true e never always = (λ x. absurd (false≢true (sym e ∙ x)), λ p. absurd (never refl p))
     go false e never always = (λ x. always refl, λ p. e)
 
+pub not_where : (n : ℕ) (P : List Atom → Type 0) (f r : List (List Lit)) → HoldsWhere n P f → ((d : List Atom) → holds d r ≡ not (holds d f)) → HoldsUnless n P r
+not_where n P f r h met c l = go (holds c f) (met c) (h c l).0 (h c l).1
+  where
+    go : (b : Bool) → holds c r ≡ not b → (IsTrue b → P c) → (P c → IsTrue b) → (IsTrue (holds c r) → P c → ⊥) × (IsFalse (holds c r) → P c)
+    go true e there back = (λ x p. false≢true (sym e ∙ x), λ x. there refl)
+    go false e there back = (λ x p. false≢true (back p), λ x. absurd (false≢true (sym x ∙ e)))
+
 -- ---- a set has a member where some comprehension makes one
 pub making : (n m : ℕ) (g : List (List Lit)) (t : TermD) (r : List (List Lit)) → HoldsForSomeMore n m g r → HoldsWhere n (λ c. (w : PointValue) × IsMadeBy (comp m g t) c w) r
 making n m g t r h c l = (

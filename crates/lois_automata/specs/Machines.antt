@@ -31,6 +31,10 @@ IsReachAt t r c = IsResultOf (point r c) Reach (point t c ∷ [])
 abbrev pub IsEmptyAt : TermD → List Atom → Type 0
 IsEmptyAt t c = (a : Machine) × IsAutomatonOf (point t c) a × ((word : List PointValue) → Accepts a word → ⊥)
 
+-- t accepts some word
+abbrev pub AcceptsSomeAt : TermD → List Atom → Type 0
+AcceptsSomeAt t c = (a : Machine) × IsAutomatonOf (point t c) a × ((word : List PointValue) × Accepts a word)
+
 -- r runs t and s side by side
 abbrev pub IsProductAt : TermD → TermD → TermD → List Atom → Type 0
 IsProductAt t s r c = IsResultOf (point r c) Product (point t c ∷ point s c ∷ [])

@@ -51,6 +51,7 @@ pub fn where_inhabited<T: Structure>(
     requires operators { AdmitsItems T.ordered (comps_of items.now) }
     ensures truth { IfOk result (HoldsWhere size (λ c. (w : PointValue) × IsIn w (point (coll (comps_of items.now)) c))) }
     ensures levels { IfOk result (ConstraintFits size) }
+    ensures operators { IfOk result (λ r. (o : Bool) → AdmitsItems o (comps_of items.now) → AdmitsConstraint o r) }
 {
     let mut found = Constraint::new(alloc);
     for comp in items.as_slice() {
@@ -69,6 +70,7 @@ fn where_making<T: Structure>(
     requires operators { AdmitsComp T.ordered (comp_of comp.now) }
     ensures truth { IfOk result (HoldsWhere size (λ c. (w : PointValue) × IsMadeBy (comp_of comp.now) c w)) }
     ensures levels { IfOk result (ConstraintFits size) }
+    ensures operators { IfOk result (λ r. (o : Bool) → AdmitsComp o (comp_of comp.now) → AdmitsConstraint o r) }
 {
     let guard = comp.guard.copy(alloc)?;
     for_some_more::<T>(alloc, guard, size, comp.binders)

@@ -1,6 +1,6 @@
 //! Reachable states, emptiness, products and complements.
 
-ghost use Rattle.std.specs.Prelude.{◌≡◌, ℕ, ◌+◌, Bool, List, IfOk, IsTrue, ◌↔◌};
+ghost use Rattle.std.specs.Prelude.{◌≡◌, ℕ, ◌+◌, Bool, List, IfOk, IsTrue, IsFalse, ◌↔◌};
 ghost use Rattle.lois_base.specs.Atom.{Atom};
 ghost use Rattle.lois_base.specs.Data.{coll, comps_of};
 ghost use Rattle.lois_base.specs.Fits.{ConstraintFits, Fits, ItemsFit};
@@ -10,18 +10,18 @@ ghost use Rattle.lois_algebra.specs.Sets.{IsIntersection};
 ghost use Rattle.lois_base.specs.Validity.{AdmitsConstraint, AdmitsTerm, AdmitsItems, HasUsualWidths, ItemsHaveUsualWidths};
 ghost use Rattle.lois_deciders.specs.OnlyAsked.{HasOnlyAsked};
 ghost use Rattle.lois_terms.specs.Guarded.{IsSet};
-ghost use Rattle.lois_automata.specs.Machines.{IsAutomatonAt, IsWholeAt, IsReachAt, IsEmptyAt, IsProductAt, IsComplementAt, AcceptsBothAt, AcceptsOthersAt};
+ghost use Rattle.lois_automata.specs.Machines.{IsAutomatonAt, IsWholeAt, IsReachAt, IsEmptyAt, AcceptsSomeAt, IsProductAt, IsComplementAt, AcceptsBothAt, AcceptsOthersAt};
 ghost use Rattle.lois_automata.specs.Throughout.{HoldsThroughout};
 
 use crate::columns::{Shape, column};
+use crate::conditions::where_inhabited;
 use crate::pairing::{pairs, side_by_side};
 use crate::parts::{five, of_five};
 use crate::reaching::reached;
 use lois_algebra::{inter, minus};
 use lois_base::{Comps, Constraint, Decider, NoMemory, Structure, Term};
+use lois_constraint::negate;
 use lois_deciders::Chosen;
-use lois_elim::quantifier_free;
-use lois_relate::included_formula;
 use std::alloc::Global;
 
 /// The set of the reachable states of the automaton `a`, at each choice that `under` admits. Errors: `NoMemory`, also where a
@@ -54,7 +54,8 @@ pub fn reach<T: Structure>(
     reached(alloc, sets.states, &initial, &moves, under, size)
 }
 
-/// A constraint that holds exactly where the automaton `a` accepts no word, of the choices that `under` admits.
+/// A constraint that holds exactly where the automaton `a` accepts no word, of the choices that `under` admits: where none of its
+/// final states is reachable. Where it doesn't hold, some word is accepted.
 pub fn empty<T: Structure>(
     alloc: Global,
     a: &Term,
@@ -68,6 +69,7 @@ pub fn empty<T: Structure>(
     requires under_operators { AdmitsConstraint T.ordered under.now }
     requires automaton { HoldsThroughout size under.now (IsAutomatonAt (tree a.now)) }
     ensures empty { IfOk result (λ r. HoldsThroughout size under.now (λ c. IsTrue (holds c r) ↔ IsEmptyAt (tree a.now) c)) }
+    ensures accepts { IfOk result (λ r. HoldsThroughout size under.now (λ c. IsFalse (holds c r) → AcceptsSomeAt (tree a.now) c)) }
     ensures levels { IfOk result (ConstraintFits size) }
     ensures operators { IfOk result (λ r. (o : Bool) → AdmitsTerm o (tree a.now) → AdmitsConstraint o under.now → AdmitsConstraint o r) }
     ensures only_asked { HasOnlyAsked (λ b. (⟦<dyn Decider as Decider>⟧ b.vtable).kind_of b.value) (λ b. (⟦<dyn Decider as Decider>⟧ b.vtable).questions b.value) chosen.old chosen.new }
@@ -77,10 +79,11 @@ pub fn empty<T: Structure>(
     };
     let states = reach::<T>(alloc, a, under, size, chosen)?;
     let accepting = Term::Coll(sets.accepting.copy(alloc)?);
-    let found = inter::<T>(alloc, &states, &accepting, size)?;
-    let none = Term::Coll(Comps::new(alloc));
-    let formula = included_formula(alloc, &found, &none, size)?;
-    quantifier_free::<T>(alloc, &formula, size)
+    let Term::Coll(found) = inter::<T>(alloc, &states, &accepting, size)? else {
+        unreachable!()
+    };
+    let some = where_inhabited::<T>(alloc, &found, size)?;
+    negate(alloc, &some)
 }
 
 /// The automaton that runs `a` and `b` side by side: it accepts exactly the words that both accept.
