@@ -2,36 +2,30 @@
 
 ghost use Rattle.std.specs.Prelude.{◌<◌};
 
-use crate::making::{Dice, apart, below, cube_of, equal};
-use lois_base::{Constraint, Cube, Lit, NoMemory};
+use crate::making::{Comparison, Dice, constraint_of, cube_of, lit};
+use lois_base::Op::{Eq, Lt, Ne};
+use lois_base::{Constraint, Cube, NoMemory};
 use lois_constraint::{
     and, and_not, conflict, conjoin_cube, implies, meet, negate, normalise, or, prune, shift,
     substitute, substitute_cube, tighten, within,
 };
 use std::alloc::Global;
+use std::process::Abort;
 use std::test::Fail;
 use std::time::{Duration, Instant};
 
-// a<$2 and $2<b, where a and b are the levels 0 and 1
-fn between(alloc: Global) -> Result<Constraint, NoMemory> {
-    let mut cube = Cube::new(alloc);
-    cube.push(below(0, 2))?;
-    cube.push(below(2, 1))?;
-    let mut made = Constraint::new(alloc);
-    made.push(cube)?;
-    Ok(made)
-}
-
-fn is(c: &Constraint, cubes: &[&[Lit]]) -> bool {
-    if c.len() != cubes.len() {
-        return false;
-    }
-    for (cube, lits) in c.as_slice().iter().zip(cubes) {
-        if cube.as_slice() != *lits {
-            return false;
-        }
-    }
-    true
+/// What is made of a constraint, or of two.
+#[derive(Clone, Copy, Debug)]
+enum Operation {
+    Negate,
+    Normalise,
+    Prune,
+    Raise,
+    Place,
+    Or,
+    And,
+    Meet,
+    AndNot,
 }
 
 // The levels 1 and 2 raised by 5.
@@ -42,101 +36,194 @@ fn raised(alloc: Global, c: &Constraint) -> Result<Constraint, NoMemory> {
     Err(NoMemory)
 }
 
-#[test]
-fn a_constraint_is_negated_and_joined(rt: HostRuntime) -> Result<(), Fail> {
-    let alloc = rt.alloc();
-    let c = between(alloc)?;
-    let whole: &[Lit] = &[below(0, 2), below(2, 1)];
-    let refused = negate(alloc, &c)?;
-    assert!(rt;
-        is(
-            &refused,
-            &[
-                &[equal(0, 2)],
-                &[below(2, 0)],
-                &[equal(2, 1)],
-                &[below(1, 2)]
-            ]
-        )
-    );
-    assert!(rt;
-        is(
-            &normalise(alloc, &refused)?,
-            &[
-                &[equal(0, 2)],
-                &[equal(1, 2)],
-                &[below(1, 2)],
-                &[below(2, 0)]
-            ]
-        )
-    );
-    assert!(rt; is(&normalise(alloc, &negate(alloc, &refused)?)?, &[whole]));
-    assert!(rt; is(&or(alloc, &c, &c)?, &[whole, whole]));
-    assert!(rt; is(&prune(alloc, &or(alloc, &c, &c)?)?, &[whole]));
+fn applied(
+    alloc: Global,
+    operation: Operation,
+    c: &Constraint,
+    other: &Constraint,
+) -> Result<Constraint, NoMemory> {
+    match operation {
+        Operation::Negate => negate(alloc, c),
+        Operation::Normalise => normalise(alloc, c),
+        Operation::Prune => prune(alloc, c),
+        Operation::Raise => raised(alloc, c),
+        Operation::Place => substitute(alloc, c, 2, 1),
+        Operation::Or => or(alloc, c, other),
+        Operation::And => and(alloc, c, other),
+        Operation::Meet => meet(alloc, c, other),
+        Operation::AndNot => and_not(alloc, c, other),
+    }
+}
+
+// a<$2 and $2<b, where a and b are the levels 0 and 1
+const BETWEEN: [Comparison; 2] = [(0, Lt, 2), (2, Lt, 1)];
+
+// its negation
+const REFUSED: [&[Comparison]; 4] = [&[(0, Eq, 2)], &[(2, Lt, 0)], &[(2, Eq, 1)], &[(1, Lt, 2)]];
+
+// What the operations make of `BETWEEN`, one after another, with the other constraint.
+fn made_of_between(
+    alloc: Global,
+    operations: &[Operation],
+    other: &[&[Comparison]],
+) -> Result<Constraint, NoMemory> {
+    let other = constraint_of(alloc, other)?;
+    let mut made = constraint_of(alloc, &[&BETWEEN])?;
+    for operation in operations {
+        made = applied(alloc, *operation, &made, &other)?;
+    }
+    Ok(made)
+}
+
+// The operations, the other constraint, and what they make.
+type Making<'a> = (
+    &'a [Operation],
+    &'a [&'a [Comparison]],
+    &'a [&'a [Comparison]],
+);
+
+fn make(rt: &impl Abort, alloc: Global, rows: &[Making<'_>]) -> Result<(), NoMemory> {
+    for (operations, other, cubes) in rows {
+        let made = made_of_between(alloc, operations, other)?;
+        let wanted = constraint_of(alloc, cubes)?;
+        assert!(rt; made.is_equal(&wanted), "{operations:?}");
+    }
     Ok(())
 }
+
+const NEGATED_AND_JOINED: [Making<'static>; 5] = [
+    (&[Operation::Negate], &[], &REFUSED),
+    (
+        &[Operation::Negate, Operation::Normalise],
+        &[],
+        &[&[(0, Eq, 2)], &[(1, Eq, 2)], &[(1, Lt, 2)], &[(2, Lt, 0)]],
+    ),
+    (
+        &[Operation::Negate, Operation::Negate, Operation::Normalise],
+        &[],
+        &[&BETWEEN],
+    ),
+    (&[Operation::Or], &[&BETWEEN], &[&BETWEEN, &BETWEEN]),
+    (&[Operation::Or, Operation::Prune], &[&BETWEEN], &[&BETWEEN]),
+];
+
+#[test]
+fn a_constraint_is_negated_and_joined(rt: HostRuntime) -> Result<(), Fail> {
+    Ok(make(&rt, rt.alloc(), &NEGATED_AND_JOINED)?)
+}
+
+const MET_AND_TAKEN_OFF: [Making<'static>; 5] = [
+    (
+        &[Operation::And],
+        &[&BETWEEN],
+        &[&[(0, Lt, 2), (2, Lt, 1), (0, Lt, 2), (2, Lt, 1)]],
+    ),
+    (&[Operation::Meet], &[&BETWEEN], &[&BETWEEN]),
+    (&[Operation::Meet], &REFUSED, &[]),
+    (&[Operation::AndNot], &REFUSED, &[&BETWEEN]),
+    (&[Operation::AndNot], &[&BETWEEN], &[]),
+];
 
 #[test]
 fn constraints_are_met_and_taken_off(rt: HostRuntime) -> Result<(), Fail> {
-    let alloc = rt.alloc();
-    let c = between(alloc)?;
-    let first = below(0, 2);
-    let second = below(2, 1);
-    let whole: &[Lit] = &[first, second];
-    let refused = negate(alloc, &c)?;
-    assert!(rt; is(&and(alloc, &c, &c)?, &[&[first, second, first, second]]));
-    assert!(rt; is(&meet(alloc, &c, &c)?, &[whole]));
-    assert_eq!(rt; and(alloc, &c, &refused)?.len(), 4);
-    assert!(rt; is(&meet(alloc, &c, &refused)?, &[]));
-    assert!(rt; is(&and_not(alloc, &c, &refused)?, &[whole]));
-    assert!(rt; is(&and_not(alloc, &c, &c)?, &[]));
+    make(&rt, rt.alloc(), &MET_AND_TAKEN_OFF)?;
+    let four = made_of_between(rt.alloc(), &[Operation::And], &REFUSED)?;
+    assert_eq!(rt; four.len(), 4);
     Ok(())
 }
 
+const MOVED: [Making<'static>; 3] = [
+    (&[Operation::Raise], &[], &[&[(0, Lt, 7), (7, Lt, 6)]]),
+    (&[Operation::Place], &[], &[&[(0, Lt, 1), (1, Lt, 1)]]),
+    (&[Operation::Place, Operation::Normalise], &[], &[]),
+];
+
 #[test]
 fn levels_are_moved(rt: HostRuntime) -> Result<(), Fail> {
-    let alloc = rt.alloc();
-    let c = between(alloc)?;
-    assert!(rt; is(&raised(alloc, &c)?, &[&[below(0, 7), below(7, 6)]]));
-    assert!(rt;
-        is(
-            &substitute(alloc, &c, 2, 1)?,
-            &[&[below(0, 1), below(1, 1)]]
-        )
-    );
-    assert!(rt; is(&normalise(alloc, &substitute(alloc, &c, 2, 1)?)?, &[]));
-    Ok(())
+    Ok(make(&rt, rt.alloc(), &MOVED)?)
+}
+
+// a level far above all others
+const FAR: usize = 9223372036854775808;
+
+// levels that are tied by a third one, and a level apart from them
+const TIED: [Comparison; 3] = [(0, Eq, 1), (1, Eq, 2), (2, Ne, 3)];
+
+const UP: [Comparison; 2] = [(0, Lt, 1), (1, Lt, 2)];
+
+const ENDS_APART: [Comparison; 1] = [(2, Ne, 0)];
+
+fn is_implied(
+    alloc: Global,
+    literals: &[Comparison],
+    comparison: Comparison,
+) -> Result<bool, NoMemory> {
+    let cube = cube_of(alloc, literals)?;
+    implies(alloc, &cube, lit(comparison))
 }
 
 #[test]
 fn what_ties_and_sets_apart_is_told(rt: HostRuntime) -> Result<(), Fail> {
-    let alloc = rt.alloc();
-    // levels that are tied by a third one, and those that a literal sets apart
-    let tied = cube_of(alloc, &[equal(0, 1), equal(1, 2), apart(2, 3)])?;
-    assert!(rt; implies(alloc, &tied, equal(0, 2))?);
-    assert!(rt; implies(alloc, &tied, apart(3, 0))?);
-    assert!(rt; !implies(alloc, &tied, below(0, 3))?);
-    assert!(rt; !implies(alloc, &cube_of(alloc, &[])?, equal(0, 1))?);
-    // a level far above all others
-    let far = cube_of(alloc, &[below(0, 9223372036854775808)])?;
-    assert!(rt; !conflict(alloc, &far)?);
-    assert!(rt; implies(alloc, &far, apart(9223372036854775808, 0))?);
+    let rows: [(&[Comparison], Comparison, bool); 6] = [
+        (&TIED, (0, Eq, 2), true),
+        (&TIED, (3, Ne, 0), true),
+        (&TIED, (0, Lt, 3), false),
+        (&[], (0, Eq, 1), false),
+        (&[(0, Lt, FAR)], (FAR, Ne, 0), true),
+        (&UP, (0, Lt, 2), true),
+    ];
+    for (literals, comparison, wanted) in rows {
+        let implied = is_implied(rt.alloc(), literals, comparison)?;
+        assert_eq!(rt; implied, wanted, "{literals:?} {comparison:?}");
+    }
     Ok(())
+}
+
+fn is_within(
+    alloc: Global,
+    literals: &[Comparison],
+    others: &[Comparison],
+) -> Result<bool, NoMemory> {
+    let cube = cube_of(alloc, literals)?;
+    let other = cube_of(alloc, others)?;
+    within(alloc, &cube, &other)
 }
 
 #[test]
 fn cubes_are_compared(rt: HostRuntime) -> Result<(), Fail> {
     let alloc = rt.alloc();
-    let up = cube_of(alloc, &[below(0, 1), below(1, 2)])?;
-    let ends = cube_of(alloc, &[apart(2, 0)])?;
-    assert!(rt; implies(alloc, &up, below(0, 2))?);
-    assert!(rt; within(alloc, &up, &ends)?);
-    assert!(rt; !within(alloc, &ends, &up)?);
-    let round = conjoin_cube(alloc, &up, &cube_of(alloc, &[equal(2, 0)])?)?;
+    assert!(rt; is_within(alloc, &UP, &ENDS_APART)?);
+    assert!(rt; !is_within(alloc, &ENDS_APART, &UP)?);
+    let far = cube_of(alloc, &[(0, Lt, FAR)])?;
+    assert!(rt; !conflict(alloc, &far)?);
+    Ok(())
+}
+
+fn conjoined(
+    alloc: Global,
+    literals: &[Comparison],
+    others: &[Comparison],
+) -> Result<Cube, NoMemory> {
+    let cube = cube_of(alloc, literals)?;
+    let other = cube_of(alloc, others)?;
+    conjoin_cube(alloc, &cube, &other)
+}
+
+#[test]
+fn what_goes_round_contradicts_itself(rt: HostRuntime) -> Result<(), Fail> {
+    let alloc = rt.alloc();
+    let round = conjoined(alloc, &UP, &[(2, Eq, 0)])?;
     assert!(rt; conflict(alloc, &round)?);
     assert!(rt; tighten(alloc, &round)?.is_none());
-    let same = substitute_cube(alloc, &ends, 2, 1)?;
-    assert!(rt; same.as_slice() == [apart(1, 0)].as_slice());
+    Ok(())
+}
+
+#[test]
+fn levels_are_moved_in_a_cube(rt: HostRuntime) -> Result<(), Fail> {
+    let alloc = rt.alloc();
+    let apart = cube_of(alloc, &ENDS_APART)?;
+    let same = substitute_cube(alloc, &apart, 2, 1)?;
+    assert!(rt; same.as_slice() == [lit((1, Ne, 0))].as_slice());
     Ok(())
 }
 
@@ -173,22 +260,45 @@ fn weak_orders(levels: usize) -> usize {
 }
 
 // There are at most as many cubes as weak orders of the levels.
+fn stay_small(
+    rt: &impl Abort,
+    alloc: Global,
+    a: &Constraint,
+    b: &Constraint,
+    levels: usize,
+) -> Result<(), NoMemory> {
+    let most = weak_orders(levels);
+    for operation in [
+        Operation::Prune,
+        Operation::Meet,
+        Operation::Negate,
+        Operation::Normalise,
+    ] {
+        let made = applied(alloc, operation, a, b)?;
+        assert!(rt; made.len() <= most, "{operation:?}");
+    }
+    Ok(())
+}
+
 #[test]
 fn answers_stay_small(rt: HostRuntime) -> Result<(), Fail> {
     let alloc = rt.alloc();
     let mut dice = Dice { state: 7 };
     for round in 0..300usize {
         let levels = 1 + round % 6;
-        let most = weak_orders(levels);
         let count = 1 + dice.roll(3);
         let a = made(alloc, &mut dice, levels, count)?;
         let b = made(alloc, &mut dice, levels, 2)?;
-        assert!(rt; prune(alloc, &a)?.len() <= most, "prune {round}");
-        assert!(rt; meet(alloc, &a, &b)?.len() <= most, "meet {round}");
-        assert!(rt; negate(alloc, &a)?.len() <= most, "negate {round}");
-        assert!(rt; normalise(alloc, &a)?.len() <= most, "normalise {round}");
+        stay_small(&rt, alloc, &a, &b, levels)?;
     }
     Ok(())
+}
+
+// `b` and not `a`, and `a`, can't both be met.
+fn exclude_each_other(alloc: Global, a: &Constraint, b: &Constraint) -> Result<bool, NoMemory> {
+    let refused = negate(alloc, a)?;
+    let together = meet(alloc, a, b)?;
+    Ok(meet(alloc, &refused, &together)?.len() == 0)
 }
 
 #[test]
@@ -199,12 +309,19 @@ fn negating_and_conjoining_is_quick(rt: HostRuntime) -> Result<(), Fail> {
     for _ in 0..10 {
         let a = made(alloc, &mut dice, 5, 12)?;
         let b = made(alloc, &mut dice, 5, 12)?;
-        let refused = negate(alloc, &a)?;
-        let together = meet(alloc, &a, &b)?;
-        assert!(rt; meet(alloc, &refused, &together)?.len() == 0);
+        assert!(rt; exclude_each_other(alloc, &a, &b)?);
     }
     assert!(rt; start.elapsed(&rt)? < Duration::from_secs(20));
     Ok(())
+}
+
+// So many steps upward.
+fn upward(alloc: Global, steps: usize) -> Result<Cube, NoMemory> {
+    let mut chain = Cube::new(alloc);
+    for level in 0..steps {
+        chain.push(lit((level, Lt, level.saturating_add(1))))?;
+    }
+    Ok(chain)
 }
 
 // A chain of 100 steps upward, whose ends are compared.
@@ -212,12 +329,9 @@ fn negating_and_conjoining_is_quick(rt: HostRuntime) -> Result<(), Fail> {
 fn a_long_chain_is_tightened_soon(rt: HostRuntime) -> Result<(), Fail> {
     let alloc = rt.alloc();
     let start = Instant::now(&rt)?;
-    let mut chain = Cube::new(alloc);
-    for level in 0..100 {
-        chain.push(below(level, level + 1))?;
-    }
-    assert!(rt; implies(alloc, &chain, below(0, 100))?);
-    chain.push(below(100, 0))?;
+    let mut chain = upward(alloc, 100)?;
+    assert!(rt; implies(alloc, &chain, lit((0, Lt, 100)))?);
+    chain.push(lit((100, Lt, 0)))?;
     assert!(rt; tighten(alloc, &chain)?.is_none());
     assert!(rt; start.elapsed(&rt)? < Duration::from_secs(20));
     Ok(())

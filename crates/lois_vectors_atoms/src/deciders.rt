@@ -1,34 +1,20 @@
 //! The deciders on worked cubes, and which of them is asked.
 
-ghost use Rattle.std.specs.Prelude.{◌<◌};
-
-use lois_base::{Constraint, Cube, Decider, Kind, Lit, NoMemory, Op};
-use lois_deciders::{Chosen, GraphDecider, MemoDecider, PlainDecider};
+use crate::making::{Comparison, constraint_of, cube_of, lit};
+use lois_base::Op::{self, Eq, Lt, Ne};
+use lois_base::{Constraint, Cube, Decider, Kind, NoMemory};
+use lois_deciders::{Chosen, GraphDecider, MemoDecider, Met, PlainDecider};
 use std::alloc::Global;
 use std::process::Abort;
 use std::test::Fail;
 
-fn lit(op: Op, left: usize, right: usize) -> Lit {
-    Lit { op, left, right }
-}
-
-fn cube_of(alloc: Global, literals: &[Lit]) -> Result<Cube, NoMemory> {
-    let mut cube = Cube::new(alloc);
-    for lit in literals {
-        cube.push(*lit)?;
-    }
-    Ok(cube)
-}
-
 // Each of the first levels stands in the relation to the next one, and at last one literal more.
-fn chain(alloc: Global, op: Op, steps: usize, last: Lit) -> Result<Cube, NoMemory>
-    requires { steps < 1000 }
-{
+fn chain(alloc: Global, op: Op, steps: usize, last: Comparison) -> Result<Cube, NoMemory> {
     let mut cube = Cube::new(alloc);
     for left in 0..steps {
-        cube.push(lit(op, left, left + 1))?;
+        cube.push(lit((left, op, left.saturating_add(1))))?;
     }
-    cube.push(last)?;
+    cube.push(lit(last))?;
     Ok(cube)
 }
 
@@ -52,7 +38,36 @@ fn is_met<D: Decider>(
     Ok(true)
 }
 
-// Each decider says so, and the memo decider twice.
+// The memo decider says so twice.
+fn memo_says(
+    rt: &impl Abort,
+    alloc: Global,
+    memo: MemoDecider,
+    cube: &Cube,
+    size: usize,
+    met: bool,
+) -> Result<(), NoMemory> {
+    let mut memo = memo;
+    for _ in 0..2 {
+        assert_eq!(rt; is_met(rt, alloc, &mut memo, cube, size)?, met);
+    }
+    Ok(())
+}
+
+fn says<D: Decider>(
+    rt: &impl Abort,
+    alloc: Global,
+    decider: D,
+    cube: &Cube,
+    size: usize,
+    met: bool,
+) -> Result<(), NoMemory> {
+    let mut decider = decider;
+    assert_eq!(rt; is_met(rt, alloc, &mut decider, cube, size)?, met);
+    Ok(())
+}
+
+// Each decider says so.
 fn all_say(
     rt: &impl Abort,
     alloc: Global,
@@ -60,36 +75,18 @@ fn all_say(
     size: usize,
     met: bool,
 ) -> Result<(), NoMemory> {
-    let mut memo = MemoDecider::new(alloc, 2)?;
-    for _ in 0..2 {
-        assert_eq!(rt; is_met(rt, alloc, &mut memo, cube, size)?, met);
-    }
-    assert_eq!(rt;
-        is_met(rt, alloc, &mut GraphDecider::new(), cube, size)?,
-        met
-    );
-    assert_eq!(rt;
-        is_met(rt, alloc, &mut PlainDecider::new(), cube, size)?,
-        met
-    );
-    Ok(())
+    memo_says(rt, alloc, MemoDecider::new(alloc, 2)?, cube, size, met)?;
+    says(rt, alloc, GraphDecider::new(), cube, size, met)?;
+    says(rt, alloc, PlainDecider::new(), cube, size, met)
 }
 
 #[test]
 fn short_cubes_are_decided(rt: HostRuntime) -> Result<(), Fail> {
     let alloc = rt.alloc();
-    let rows: [(&[Lit], usize, bool); 4] = [
-        (
-            &[lit(Op::Lt, 0, 1), lit(Op::Lt, 1, 2), lit(Op::Ne, 0, 3)],
-            4,
-            true,
-        ),
-        (
-            &[lit(Op::Lt, 0, 1), lit(Op::Eq, 1, 2), lit(Op::Lt, 2, 0)],
-            3,
-            false,
-        ),
-        (&[lit(Op::Eq, 0, 1), lit(Op::Ne, 1, 0)], 2, false),
+    let rows: [(&[Comparison], usize, bool); 4] = [
+        (&[(0, Lt, 1), (1, Lt, 2), (0, Ne, 3)], 4, true),
+        (&[(0, Lt, 1), (1, Eq, 2), (2, Lt, 0)], 3, false),
+        (&[(0, Eq, 1), (1, Ne, 0)], 2, false),
         (&[], 0, true),
     ];
     for (literals, size, met) in rows {
@@ -103,11 +100,11 @@ fn short_cubes_are_decided(rt: HostRuntime) -> Result<(), Fail> {
 fn long_chains_are_decided(rt: HostRuntime) -> Result<(), Fail> {
     let alloc = rt.alloc();
     let rows = [
-        (Op::Lt, lit(Op::Ne, 0, 199), true),
-        (Op::Lt, lit(Op::Lt, 199, 0), false),
-        (Op::Eq, lit(Op::Eq, 199, 0), true),
+        (Lt, (0, Ne, 199), true),
+        (Lt, (199, Lt, 0), false),
+        (Eq, (199, Eq, 0), true),
         // the one fault: the first of the equal levels is apart from the last
-        (Op::Eq, lit(Op::Ne, 0, 199), false),
+        (Eq, (0, Ne, 199), false),
     ];
     for (op, last, met) in rows {
         let cube = chain(alloc, op, 199, last)?;
@@ -116,33 +113,42 @@ fn long_chains_are_decided(rt: HostRuntime) -> Result<(), Fail> {
     Ok(())
 }
 
+// Each two of so many levels are apart.
+fn all_apart(alloc: Global, levels: usize) -> Result<Cube, NoMemory> {
+    let mut apart = Cube::new(alloc);
+    for right in 0..levels {
+        for left in 0..right {
+            apart.push(lit((left, Ne, right)))?;
+        }
+    }
+    Ok(apart)
+}
+
+// A chain of 500 levels, and 1500 literals that compare levels with the last one.
+fn wide(alloc: Global) -> Result<Cube, NoMemory> {
+    let mut wide = chain(alloc, Lt, 499, (0, Ne, 499))?;
+    for left in 0..1500 {
+        wide.push(lit((left / 4, Lt, 499)))?;
+    }
+    Ok(wide)
+}
+
 #[test]
 fn many_literals_are_decided(rt: HostRuntime) -> Result<(), Fail> {
     let alloc = rt.alloc();
-    let mut apart = Cube::new(alloc);
-    for right in 0..60 {
-        for left in 0..right {
-            apart.push(lit(Op::Ne, left, right))?;
-        }
-    }
-    all_say(&rt, alloc, &apart, 60, true)?;
-    let mut wide = chain(alloc, Op::Lt, 499, lit(Op::Ne, 0, 499))?;
-    for left in 0..1500 {
-        wide.push(lit(Op::Lt, left / 4, 499))?;
-    }
+    all_say(&rt, alloc, &all_apart(alloc, 60)?, 60, true)?;
+    let wide = wide(alloc)?;
     assert_eq!(rt; wide.len(), 2000);
-    let mut memo = MemoDecider::new(alloc, 1)?;
-    assert!(rt; is_met(&rt, alloc, &mut memo, &wide, 500)?);
-    assert!(rt; is_met(&rt, alloc, &mut memo, &wide, 500)?);
-    Ok(())
+    let memo = MemoDecider::new(alloc, 1)?;
+    Ok(memo_says(&rt, alloc, memo, &wide, 500, true)?)
 }
 
 // Two questions, of which the memo decider can keep one.
 #[test]
 fn kept_answers_are_those_of_the_graph_decider(rt: HostRuntime) -> Result<(), Fail> {
     let alloc = rt.alloc();
-    let up = cube_of(alloc, &[lit(Op::Lt, 0, 1), lit(Op::Ne, 2, 1)])?;
-    let round = cube_of(alloc, &[lit(Op::Lt, 0, 1), lit(Op::Lt, 1, 0)])?;
+    let up = cube_of(alloc, &[(0, Lt, 1), (2, Ne, 1)])?;
+    let round = cube_of(alloc, &[(0, Lt, 1), (1, Lt, 0)])?;
     assert!(rt; up.fits(3) && round.fits(3));
     let mut memo = MemoDecider::new(alloc, 1)?;
     let mut graph = GraphDecider::new();
@@ -166,6 +172,12 @@ fn chosen_of(
     Ok(Chosen::choose(deciders, kind))
 }
 
+// The graph decider alone.
+fn chosen(alloc: Global) -> Result<Chosen, Fail> {
+    let graph: Box<dyn Decider> = Box::new(alloc, GraphDecider::new())?;
+    Ok(chosen_of(alloc, graph, None)?.ok_or("no decider")?)
+}
+
 #[test]
 fn one_is_chosen(rt: HostRuntime) -> Result<(), Fail> {
     let alloc = rt.alloc();
@@ -183,16 +195,12 @@ fn one_is_chosen(rt: HostRuntime) -> Result<(), Fail> {
     Ok(())
 }
 
+// The first cube can't be met, the second can.
 #[test]
 fn the_chosen_one_is_asked(rt: HostRuntime) -> Result<(), Fail> {
     let alloc = rt.alloc();
-    let graph: Box<dyn Decider> = Box::new(alloc, GraphDecider::new())?;
-    let mut chosen = chosen_of(alloc, graph, None)?.ok_or("no decider")?;
-
-    // the first cube can't be met, the second can
-    let mut either = Constraint::new(alloc);
-    either.push(chain(alloc, Op::Lt, 1, lit(Op::Lt, 1, 0))?)?;
-    either.push(cube_of(alloc, &[lit(Op::Lt, 1, 0)])?)?;
+    let mut chosen = chosen(alloc)?;
+    let either = constraint_of(alloc, &[&[(0, Lt, 1), (1, Lt, 0)], &[(1, Lt, 0)]])?;
     assert!(rt; either.fits(2));
     let sample = chosen.ask(alloc, &either, 2)?.ok_or("no sample")?;
     assert_eq!(rt; sample.as_slice(), [1, 0].as_slice());
@@ -200,49 +208,65 @@ fn the_chosen_one_is_asked(rt: HostRuntime) -> Result<(), Fail> {
     Ok(())
 }
 
+// Where the first constraint holds and the second doesn't.
+fn counterexample(
+    rt: &impl Abort,
+    alloc: Global,
+    chosen: &mut Chosen,
+    first: Comparison,
+    second: Comparison,
+) -> Result<Option<Vec<u64>>, NoMemory> {
+    let c = constraint_of(alloc, &[&[first]])?;
+    let d = constraint_of(alloc, &[&[second]])?;
+    assert!(rt; c.fits(2) && d.fits(2));
+    chosen.entails(alloc, &c, &d, 2)
+}
+
 #[test]
 fn one_constraint_entails_another(rt: HostRuntime) -> Result<(), Fail> {
     let alloc = rt.alloc();
-    let graph: Box<dyn Decider> = Box::new(alloc, GraphDecider::new())?;
-    let mut chosen = chosen_of(alloc, graph, None)?.ok_or("no decider")?;
-    let mut below = Constraint::new(alloc);
-    below.push(cube_of(alloc, &[lit(Op::Lt, 0, 1)])?)?;
-    let mut apart = Constraint::new(alloc);
-    apart.push(cube_of(alloc, &[lit(Op::Ne, 0, 1)])?)?;
-    assert!(rt; below.fits(2) && apart.fits(2));
-    assert!(rt; chosen.entails(alloc, &below, &apart, 2)?.is_none());
+    let mut chosen = chosen(alloc)?;
+    let below = (0, Lt, 1);
+    let apart = (0, Ne, 1);
+    let none = counterexample(&rt, alloc, &mut chosen, below, apart)?;
+    assert!(rt; none.is_none());
     assert_eq!(rt; chosen.asked(), 1);
-    let other = chosen
-        .entails(alloc, &apart, &below, 2)?
-        .ok_or("no counterexample")?;
-    assert_eq!(rt; other.as_slice(), [1, 0].as_slice());
+    let other = counterexample(&rt, alloc, &mut chosen, apart, below)?;
+    assert_eq!(rt;
+        other.ok_or("no counterexample")?.as_slice(),
+        [1, 0].as_slice()
+    );
     Ok(())
+}
+
+fn meeting(
+    rt: &impl Abort,
+    alloc: Global,
+    chosen: &mut Chosen,
+    first: Comparison,
+    second: Comparison,
+) -> Result<Option<Met>, NoMemory> {
+    let c = constraint_of(alloc, &[&[first]])?;
+    let d = constraint_of(alloc, &[&[second]])?;
+    assert!(rt; c.fits(3) && d.fits(3));
+    chosen.meet(alloc, &c, &d, 3)
 }
 
 // `$0<$1` with `$0!=$2`, and with `$1<$0`
 #[test]
 fn two_constraints_are_met_at_once(rt: HostRuntime) -> Result<(), Fail> {
     let alloc = rt.alloc();
-    let graph: Box<dyn Decider> = Box::new(alloc, GraphDecider::new())?;
-    let mut chosen = chosen_of(alloc, graph, None)?.ok_or("no decider")?;
-    let mut below = Constraint::new(alloc);
-    below.push(cube_of(alloc, &[lit(Op::Lt, 0, 1)])?)?;
-    let mut apart = Constraint::new(alloc);
-    apart.push(cube_of(alloc, &[lit(Op::Ne, 0, 2)])?)?;
-    let mut above = Constraint::new(alloc);
-    above.push(cube_of(alloc, &[lit(Op::Lt, 1, 0)])?)?;
-    assert!(rt; below.fits(3) && apart.fits(3));
-    let met = chosen
-        .meet(alloc, &below, &apart, 3)?
-        .ok_or("the two can be met")?;
+    let mut chosen = chosen(alloc)?;
+    let below = (0, Lt, 1);
+    let met = meeting(&rt, alloc, &mut chosen, below, (0, Ne, 2))?.ok_or("the two can be met")?;
     assert_eq!(rt; met.sample.len(), 3);
     assert!(rt; met.constraint.fits(3) && met.constraint.at(met.sample.as_slice()));
     assert!(rt; met.constraint.at(&[0, 1, 2]));
     assert!(rt; !met.constraint.at(&[0, 1, 0]) && !met.constraint.at(&[1, 0, 2]));
 
     // the contradiction is asked too
-    assert!(rt; below.fits(3) && above.fits(3));
-    assert!(rt; chosen.meet(alloc, &below, &above, 3)?.is_none());
+    let none = meeting(&rt, alloc, &mut chosen, below, (1, Lt, 0))?;
+    assert!(rt; none.is_none());
     assert_eq!(rt; chosen.asked(), 2);
     Ok(())
 }

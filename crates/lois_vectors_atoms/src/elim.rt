@@ -5,8 +5,9 @@ ghost use Rattle.lois_base.specs.FormulaData.{FormulaFits, FormulasFit, formulas
 ghost use Rattle.lois_base.specs.FormulaView.{view, views};
 ghost use Rattle.lois_base.specs.Validity.{AdmitsFormula, AdmitsFormulas};
 
-use crate::making::{Dice, apart, below, cube_of, equal};
-use lois_base::{Constraint, Formula, Formulas, NoMemory, Structure};
+use crate::making::{Comparison, Dice, constraint_of, lit};
+use lois_base::Op::{Eq, Lt, Ne};
+use lois_base::{Constraint, Cube, Formula, Formulas, NoMemory, Structure};
 use lois_constraint::{conflict, within};
 use lois_elim::{for_some_more, quantifier_free};
 use lois_equality::EqualityAtoms;
@@ -52,23 +53,33 @@ fn are_fit<T: Structure>(parts: &Formulas, size: usize) -> bool
     true
 }
 
-fn pair(alloc: Global, first: Formula, second: Formula) -> Result<Formulas, NoMemory> {
+fn pair(alloc: Global, first: Comparison, second: Comparison) -> Result<Formulas, NoMemory> {
     let mut parts = Formulas::new(alloc);
-    parts.push(first)?;
-    parts.push(second)?;
+    parts.push(Formula::Lit(lit(first)))?;
+    parts.push(Formula::Lit(lit(second)))?;
     Ok(parts)
 }
 
-// `first` and `second`, for some atom at the highest level
-fn some(alloc: Global, first: Formula, second: Formula) -> Result<Formula, NoMemory> {
-    let body = Formula::All(pair(alloc, first, second)?);
-    Ok(Formula::Exists(body.boxed(alloc)?))
+// How two literals are bound at the highest level.
+#[derive(Clone, Copy, Debug)]
+enum Binding {
+    // both, for some atom
+    Some,
+    // one of them, for each atom
+    Each,
 }
 
-// `first` or `second`, for each atom at the highest level
-fn each(alloc: Global, first: Formula, second: Formula) -> Result<Formula, NoMemory> {
-    let body = Formula::Any(pair(alloc, first, second)?);
-    Ok(Formula::Forall(body.boxed(alloc)?))
+fn bound(
+    alloc: Global,
+    binding: Binding,
+    first: Comparison,
+    second: Comparison,
+) -> Result<Formula, NoMemory> {
+    let parts = pair(alloc, first, second)?;
+    match binding {
+        Binding::Some => Ok(Formula::Exists(Formula::All(parts).boxed(alloc)?)),
+        Binding::Each => Ok(Formula::Forall(Formula::Any(parts).boxed(alloc)?)),
+    }
 }
 
 // What the answer says where `$0` is below, at and above `$1`.
@@ -82,40 +93,50 @@ fn truths<T: Structure>(
     Ok([answer.at(&[0, 1]), answer.at(&[0, 0]), answer.at(&[1, 0])])
 }
 
+const ALWAYS: [bool; 3] = [true, true, true];
+
+const NEVER: [bool; 3] = [false, false, false];
+
+const BELOW: [bool; 3] = [true, false, false];
+
 #[test]
 fn worked_formulas(rt: HostRuntime) -> Result<(), Fail> {
-    let alloc = rt.alloc();
-    let under = [true, false, false];
-    let always = [true, true, true];
-    let never = [false, false, false];
     let rows = [
-        (
-            each(alloc, Formula::Lit(below(0, 2)), Formula::Lit(below(2, 1)))?,
-            under,
-        ),
-        (
-            some(alloc, Formula::Lit(below(0, 2)), Formula::Lit(below(2, 1)))?,
-            under,
-        ),
-        (
-            some(alloc, Formula::Lit(below(0, 2)), Formula::Lit(apart(2, 1)))?,
-            always,
-        ),
-        (
-            some(alloc, Formula::Lit(below(2, 0)), Formula::Lit(below(0, 2)))?,
-            never,
-        ),
-        (Formula::All(Formulas::new(alloc)), always),
-        (Formula::Any(Formulas::new(alloc)), never),
-        (
-            Formula::Not(Formula::Lit(apart(0, 1)).boxed(alloc)?),
-            [false, true, false],
-        ),
+        (Binding::Each, (0, Lt, 2), (2, Lt, 1), BELOW),
+        (Binding::Some, (0, Lt, 2), (2, Lt, 1), BELOW),
+        (Binding::Some, (0, Lt, 2), (2, Ne, 1), ALWAYS),
+        (Binding::Some, (2, Lt, 0), (0, Lt, 2), NEVER),
     ];
-    for (f, wanted) in &rows {
-        assert_eq!(rt; truths::<OrderAtoms>(&rt, alloc, f)?, *wanted);
+    for (binding, first, second, wanted) in rows {
+        let f = bound(rt.alloc(), binding, first, second)?;
+        assert_eq!(rt;
+            truths::<OrderAtoms>(&rt, rt.alloc(), &f)?,
+            wanted,
+            "{binding:?} {first:?} {second:?}"
+        );
     }
-    let differ = some(alloc, Formula::Lit(equal(2, 0)), Formula::Lit(apart(2, 1)))?;
+    Ok(())
+}
+
+#[test]
+fn formulas_without_quantifiers(rt: HostRuntime) -> Result<(), Fail> {
+    let alloc = rt.alloc();
+    let all = Formula::All(Formulas::new(alloc));
+    assert_eq!(rt; truths::<OrderAtoms>(&rt, alloc, &all)?, ALWAYS);
+    let any = Formula::Any(Formulas::new(alloc));
+    assert_eq!(rt; truths::<OrderAtoms>(&rt, alloc, &any)?, NEVER);
+    let equal = Formula::Not(Formula::Lit(lit((0, Ne, 1))).boxed(alloc)?);
+    assert_eq!(rt;
+        truths::<OrderAtoms>(&rt, alloc, &equal)?,
+        [false, true, false]
+    );
+    Ok(())
+}
+
+#[test]
+fn atoms_without_an_order(rt: HostRuntime) -> Result<(), Fail> {
+    let alloc = rt.alloc();
+    let differ = bound(alloc, Binding::Some, (2, Eq, 0), (2, Ne, 1))?;
     assert_eq!(rt;
         truths::<EqualityAtoms>(&rt, alloc, &differ)?,
         [true, false, true]
@@ -134,8 +155,7 @@ fn with_two_between(alloc: Global, between: Constraint) -> Result<Constraint, No
 #[test]
 fn several_levels_are_bound(rt: HostRuntime) -> Result<(), Fail> {
     let alloc = rt.alloc();
-    let mut between = Constraint::new(alloc);
-    between.push(cube_of(alloc, &[below(0, 2), below(2, 3), below(3, 1)])?)?;
+    let between = constraint_of(alloc, &[&[(0, Lt, 2), (2, Lt, 3), (3, Lt, 1)]])?;
     let bound = with_two_between(alloc, between)?;
     assert!(rt; bound.fits(2));
     assert!(rt; bound.at(&[0, 1]));
@@ -143,17 +163,26 @@ fn several_levels_are_bound(rt: HostRuntime) -> Result<(), Fail> {
     Ok(())
 }
 
-// A formula with quantifiers over all levels from 3 on.
-fn made(alloc: Global, dice: &mut Dice) -> Result<Formula, NoMemory> {
+// One of four literals over five levels.
+fn made_clause(alloc: Global, dice: &mut Dice) -> Result<Formula, NoMemory> {
+    let mut parts = Formulas::new(alloc);
+    for _ in 0..4 {
+        parts.push(Formula::Lit(dice.lit(5)))?;
+    }
+    Ok(Formula::Any(parts))
+}
+
+fn made_clauses(alloc: Global, dice: &mut Dice) -> Result<Formula, NoMemory> {
     let mut clauses = Formulas::new(alloc);
     for _ in 0..3 {
-        let mut parts = Formulas::new(alloc);
-        for _ in 0..4 {
-            parts.push(Formula::Lit(dice.lit(5)))?;
-        }
-        clauses.push(Formula::Any(parts))?;
+        clauses.push(made_clause(alloc, dice)?)?;
     }
-    let mut f = Formula::All(clauses);
+    Ok(Formula::All(clauses))
+}
+
+// A formula with quantifiers over all levels from 3 on.
+fn made(alloc: Global, dice: &mut Dice) -> Result<Formula, NoMemory> {
+    let mut f = made_clauses(alloc, dice)?;
     for _ in 3..5 {
         let body = f.boxed(alloc)?;
         f = match dice.roll(2) {
@@ -164,16 +193,24 @@ fn made(alloc: Global, dice: &mut Dice) -> Result<Formula, NoMemory> {
     Ok(f)
 }
 
+// Whether the cube at that place contradicts itself or lies within another.
+fn is_needless(alloc: Global, cubes: &[Cube], place: usize, cube: &Cube) -> Result<bool, NoMemory> {
+    if conflict(alloc, cube)? {
+        return Ok(true);
+    }
+    for (other_place, other) in cubes.iter().enumerate() {
+        if place != other_place && within(alloc, cube, other)? {
+            return Ok(true);
+        }
+    }
+    Ok(false)
+}
+
 // No cube contradicts itself or lies within another.
 fn is_small(alloc: Global, c: &Constraint) -> Result<bool, NoMemory> {
-    for (i, cube) in c.as_slice().iter().enumerate() {
-        if conflict(alloc, cube)? {
+    for (place, cube) in c.as_slice().iter().enumerate() {
+        if is_needless(alloc, c.as_slice(), place, cube)? {
             return Ok(false);
-        }
-        for (j, other) in c.as_slice().iter().enumerate() {
-            if i != j && within(alloc, cube, other)? {
-                return Ok(false);
-            }
         }
     }
     Ok(true)

@@ -2,8 +2,9 @@
 ghost use Rattle.std.specs.Prelude.{false, IsTrue};
 ghost use Rattle.lois_base.specs.Validity.{AdmitsCube};
 
-use crate::making::{apart, cube_of, equal};
-use lois_base::{Cube, Lit, NoMemory, Op, Structure};
+use crate::making::{Comparison, constraint_of, cube_of};
+use lois_base::Op::{Eq, Lt, Ne};
+use lois_base::{Cube, NoMemory, Structure};
 use lois_equality::EqualityAtoms;
 use std::alloc::Global;
 use std::process::Abort;
@@ -17,45 +18,36 @@ fn is_admitted(cube: &Cube) -> bool
         .all(|lit| EqualityAtoms::admits(lit.op))
 }
 
-// The answer's one cube, or `None` where it has none.
 fn eliminates(
     rt: &impl Abort,
     alloc: Global,
-    literals: &[Lit],
+    literals: &[Comparison],
     level: usize,
-    answer: Option<&[Lit]>,
+    answer: &[&[Comparison]],
 ) -> Result<(), NoMemory> {
     let cube = cube_of(alloc, literals)?;
     assert!(rt; level < 9 && cube.fits(level + 1) && is_admitted(&cube));
     let found = EqualityAtoms::eliminate(alloc, &cube, level)?;
-    assert_eq!(rt; found.len(), usize::from(answer.is_some()), "{literals:?}");
-    if let (Some(cube), Some(wanted)) = (found.get(0), answer) {
-        assert_eq!(rt; cube.as_slice(), wanted, "{literals:?}");
-    }
+    let wanted = constraint_of(alloc, answer)?;
+    assert!(rt; found.is_equal(&wanted), "{literals:?}");
     Ok(())
 }
 
+// The literals, the level, and the cubes of the answer.
+const ELIMINATED: [(&[Comparison], usize, &[&[Comparison]]); 6] = [
+    (&[(2, Eq, 0), (2, Ne, 1)], 2, &[&[(0, Ne, 1)]]),
+    (&[(2, Ne, 0), (1, Ne, 2)], 2, &[&[]]),
+    (&[(2, Eq, 0), (1, Eq, 2)], 2, &[&[(1, Eq, 0)]]),
+    (&[(1, Eq, 0), (0, Ne, 1)], 1, &[]),
+    (&[(0, Ne, 1), (2, Ne, 2)], 2, &[]),
+    (&[], 0, &[&[]]),
+];
+
 #[test]
 fn levels_are_eliminated(rt: HostRuntime) -> Result<(), Fail> {
-    let alloc = rt.alloc();
-    eliminates(
-        &rt,
-        alloc,
-        &[equal(2, 0), apart(2, 1)],
-        2,
-        Some(&[apart(0, 1)]),
-    )?;
-    eliminates(&rt, alloc, &[apart(2, 0), apart(1, 2)], 2, Some(&[]))?;
-    eliminates(
-        &rt,
-        alloc,
-        &[equal(2, 0), equal(1, 2)],
-        2,
-        Some(&[equal(1, 0)]),
-    )?;
-    eliminates(&rt, alloc, &[equal(1, 0), apart(0, 1)], 1, None)?;
-    eliminates(&rt, alloc, &[apart(0, 1), apart(2, 2)], 2, None)?;
-    eliminates(&rt, alloc, &[], 0, Some(&[]))?;
-    assert!(rt; EqualityAtoms::admits(Op::Ne) && !EqualityAtoms::admits(Op::Lt));
+    for (literals, level, answer) in ELIMINATED {
+        eliminates(&rt, rt.alloc(), literals, level, answer)?;
+    }
+    assert!(rt; EqualityAtoms::admits(Ne) && !EqualityAtoms::admits(Lt));
     Ok(())
 }

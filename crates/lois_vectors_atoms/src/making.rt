@@ -1,40 +1,35 @@
-//! Literals, cubes and numbers for the tests.
+//! Literals, cubes, constraints and numbers for the tests.
 
 ghost use Rattle.std.specs.Prelude.{◌<◌};
 
-use lois_base::{Cube, Lit, NoMemory, Op};
+use lois_base::{Constraint, Cube, Lit, NoMemory, Op};
 use std::alloc::Global;
 
-pub(crate) fn equal(left: usize, right: usize) -> Lit {
-    Lit {
-        op: Op::Eq,
-        left,
-        right,
-    }
+/// A literal as tables have it: its left level, its operator and its right level.
+pub(crate) type Comparison = (usize, Op, usize);
+
+pub(crate) fn lit(comparison: Comparison) -> Lit {
+    let (left, op, right) = comparison;
+    Lit { op, left, right }
 }
 
-pub(crate) fn apart(left: usize, right: usize) -> Lit {
-    Lit {
-        op: Op::Ne,
-        left,
-        right,
-    }
-}
-
-pub(crate) fn below(left: usize, right: usize) -> Lit {
-    Lit {
-        op: Op::Lt,
-        left,
-        right,
-    }
-}
-
-pub(crate) fn cube_of(alloc: Global, lits: &[Lit]) -> Result<Cube, NoMemory> {
+pub(crate) fn cube_of(alloc: Global, literals: &[Comparison]) -> Result<Cube, NoMemory> {
     let mut cube = Cube::new(alloc);
-    for lit in lits {
-        cube.push(*lit)?;
+    for comparison in literals {
+        cube.push(lit(*comparison))?;
     }
     Ok(cube)
+}
+
+pub(crate) fn constraint_of(
+    alloc: Global,
+    cubes: &[&[Comparison]],
+) -> Result<Constraint, NoMemory> {
+    let mut constraint = Constraint::new(alloc);
+    for literals in cubes {
+        constraint.push(cube_of(alloc, literals)?)?;
+    }
+    Ok(constraint)
 }
 
 /// Made numbers, the same in every run.

@@ -1,53 +1,52 @@
 //! Worked eliminations.
 
-use crate::making::{apart, below, cube_of, equal};
-use lois_base::{Lit, NoMemory, Op, Structure};
+use crate::making::{Comparison, constraint_of, cube_of};
+use lois_base::Op::{Eq, Lt, Ne};
+use lois_base::{NoMemory, Structure};
 use lois_order::OrderAtoms;
 use std::alloc::Global;
 use std::process::Abort;
 use std::test::Fail;
 
-// The answer's one cube, or `None` where it has none.
 fn eliminates(
     rt: &impl Abort,
     alloc: Global,
-    literals: &[Lit],
+    literals: &[Comparison],
     level: usize,
-    answer: Option<&[Lit]>,
+    answer: &[&[Comparison]],
 ) -> Result<(), NoMemory> {
     let cube = cube_of(alloc, literals)?;
     assert!(rt; level < 9 && cube.fits(level + 1));
     let found = OrderAtoms::eliminate(alloc, &cube, level)?;
-    assert_eq!(rt; found.len(), usize::from(answer.is_some()), "{literals:?}");
-    if let (Some(cube), Some(wanted)) = (found.get(0), answer) {
-        assert_eq!(rt; cube.as_slice(), wanted, "{literals:?}");
-    }
+    let wanted = constraint_of(alloc, answer)?;
+    assert!(rt; found.is_equal(&wanted), "{literals:?}");
     Ok(())
 }
 
+// The literals, the level, and the cubes of the answer.
+const ELIMINATED: [(&[Comparison], usize, &[&[Comparison]]); 9] = [
+    // the atoms between $0 and $1
+    (&[(0, Lt, 2), (2, Lt, 1)], 2, &[&[(0, Lt, 1)]]),
+    (&[(0, Lt, 2), (2, Ne, 1)], 2, &[&[]]),
+    (&[(1, Lt, 0), (0, Lt, 1)], 1, &[]),
+    (&[(2, Eq, 0), (2, Lt, 1)], 2, &[&[(0, Lt, 1)]]),
+    (&[(2, Eq, 0), (2, Lt, 0)], 2, &[]),
+    (&[(1, Eq, 1), (0, Lt, 1)], 1, &[&[]]),
+    (&[(0, Lt, 1), (2, Lt, 2)], 2, &[]),
+    // what stands there already isn't added
+    (
+        &[(0, Lt, 1), (0, Lt, 2), (2, Lt, 1), (1, Ne, 0)],
+        2,
+        &[&[(0, Lt, 1), (1, Ne, 0)]],
+    ),
+    (&[], 0, &[&[]]),
+];
+
 #[test]
 fn levels_are_eliminated(rt: HostRuntime) -> Result<(), Fail> {
-    let alloc = rt.alloc();
-    let rows: [(&[Lit], usize, Option<&[Lit]>); 9] = [
-        // the atoms between $0 and $1
-        (&[below(0, 2), below(2, 1)], 2, Some(&[below(0, 1)])),
-        (&[below(0, 2), apart(2, 1)], 2, Some(&[])),
-        (&[below(1, 0), below(0, 1)], 1, None),
-        (&[equal(2, 0), below(2, 1)], 2, Some(&[below(0, 1)])),
-        (&[equal(2, 0), below(2, 0)], 2, None),
-        (&[equal(1, 1), below(0, 1)], 1, Some(&[])),
-        (&[below(0, 1), below(2, 2)], 2, None),
-        // what stands there already isn't added
-        (
-            &[below(0, 1), below(0, 2), below(2, 1), apart(1, 0)],
-            2,
-            Some(&[below(0, 1), apart(1, 0)]),
-        ),
-        (&[], 0, Some(&[])),
-    ];
-    for (literals, level, answer) in rows {
-        eliminates(&rt, alloc, literals, level, answer)?;
+    for (literals, level, answer) in ELIMINATED {
+        eliminates(&rt, rt.alloc(), literals, level, answer)?;
     }
-    assert!(rt; OrderAtoms::admits(Op::Lt));
+    assert!(rt; OrderAtoms::admits(Lt));
     Ok(())
 }
