@@ -22,5 +22,4 @@ pub mod Unfit
 pub mod Bindings
 pub mod Handed
 pub mod Automata
-pub mod Inhabited
 pub mod Emptiness

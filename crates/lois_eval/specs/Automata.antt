@@ -5,7 +5,7 @@ use Rattle.lois_base.specs.Data.{TermD, terms_of}
 use Rattle.lois_base.specs.Fits.{Fits, PartsFit, ConstraintFits}
 use Rattle.lois_base.specs.Truth.{holds, sampled}
 use Rattle.lois_base.specs.Validity.{AdmitsConstraint, AdmitsTerm, AdmitsParts, HasUsualWidths, PartsHaveUsualWidths}
-use Rattle.lois_base.specs.Values.{PointValue, point, IsIn}
+use Rattle.lois_base.specs.Values.{PointValue, point}
 use Rattle.lois_base.specs.declared.guards.Lit.{Lit}
 use Rattle.lois_meaning.specs.Automata.{Machine, IsAutomatonOf, Accepts}
 use Rattle.lois_meaning.specs.Expressions.{IsTruthOf}
@@ -56,11 +56,6 @@ pub record IsEmptiness (k : Context) (t : TermD) (g : List (List Lit)) : Type 0 
   pub truth : (c : List Atom) → IsAdmitted c k → (a : Machine) × IsAutomatonOf (point t c) a × IsTruthOf (not (holds c g)) ((word : List PointValue) × Accepts a word)
   pub levels : ConstraintFits k.size g
   pub operators : (o : Bool) → AdmitsContext o k → AdmitsTerm o t → AdmitsConstraint o g
-
--- at each choice of n atoms at which t is an automaton, the constraint holds exactly where no final state of t is in s
-abbrev pub HoldsWhereNoneFinal : ℕ → TermD → TermD → List (List Lit) → Type 0
-HoldsWhereNoneFinal n t s g =
-    (c : List Atom) → length c ≡ n → (a : Machine) → IsAutomatonOf (point t c) a → IsTruthOf (not (holds c g)) ((q : PointValue) × IsIn q (point s c) × IsIn q a.final)
 
 -- the value of t fails in this way at the fault's sample
 pub record IsValueFault (k : Context) (row : PointValue → FaultKind → Type 0) (t : TermD) (at : ℕ) (f : Fault) : Type 0 where

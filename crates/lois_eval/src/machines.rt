@@ -1,26 +1,23 @@
 //! Operations on automata, and where an automaton accepts no word.
 
-ghost use Rattle.std.specs.Prelude.{◌⊎◌, [], ◌∷◌, Bool, IfOk, IfErr};
+ghost use Rattle.std.specs.Prelude.{◌⊎◌, [], ◌∷◌, IfOk, IfErr};
 ghost use Rattle.lois_base.specs.Data.{terms_of};
-ghost use Rattle.lois_base.specs.Fits.{ConstraintFits, Fits};
+ghost use Rattle.lois_base.specs.Fits.{Fits};
 ghost use Rattle.lois_base.specs.Tree.{tree};
-ghost use Rattle.lois_base.specs.Validity.{AdmitsConstraint, AdmitsTerm};
+ghost use Rattle.lois_base.specs.Validity.{AdmitsTerm};
 ghost use Rattle.lois_deciders.specs.OnlyAsked.{HasOnlyAsked};
 ghost use Rattle.lois_meaning.specs.Faults.{IsNoAutomaton, IsUnfitFor};
 ghost use Rattle.lois_script.specs.View.{exprs_of, exprs_list};
 ghost use Rattle.lois_script.specs.declared.syntax.Operation.TheVariants.{Reach, Product, Complement, Minimise};
-ghost use Rattle.lois_terms.specs.Guarded.{IsSet};
 ghost use Rattle.lois_context.specs.Choices.{AdmitsContext};
-ghost use Rattle.lois_eval.specs.Automata.{AreOperands, HoldsWhereNoneFinal, IsEmptiness, IsMadeOf, IsOfOneAutomaton, IsValueFault};
+ghost use Rattle.lois_eval.specs.Automata.{AreOperands, IsEmptiness, IsMadeOf, IsOfOneAutomaton, IsValueFault};
 ghost use Rattle.lois_eval.specs.Operands.{IsUnfitFault};
 ghost use Rattle.lois_eval.specs.Throughout.{IfFault};
 
 use crate::machine_checks::{check_machine, check_whole};
 use crate::operands::{one_expr, one_term, two_exprs, two_terms};
-use crate::relations::included;
-use lois_algebra::inter;
-use lois_automata::{complement, five, product, reach};
-use lois_base::{Comps, Constraint, Decider, NoMemory, Structure, Term, Terms};
+use lois_automata::{complement, empty, product, reach};
+use lois_base::{Constraint, Decider, Structure, Term, Terms};
 use lois_context::Context;
 use lois_deciders::Chosen;
 use lois_meaning::Stop;
@@ -177,31 +174,5 @@ pub(crate) fn where_empty<T: Structure>(
     ensures only_asked { HasOnlyAsked (λ b. (⟦<dyn Decider as Decider>⟧ b.vtable).kind_of b.value) (λ b. (⟦<dyn Decider as Decider>⟧ b.vtable).questions b.value) chosen.old chosen.new }
 {
     check_machine::<T>(alloc, pos, automaton, context, chosen)?;
-    let states = reach::<T>(alloc, automaton, &context.when, context.size, chosen)?;
-    Ok(none_final::<T>(alloc, automaton, &states, context.size)?)
-}
-
-// Where no final state of the automaton is in the set.
-fn none_final<T: Structure>(
-    alloc: Global,
-    automaton: &Term,
-    states: &Term,
-    size: usize,
-) -> Result<Constraint, NoMemory>
-    requires levels { Fits size (tree automaton.now) }
-    requires operators { AdmitsTerm T.ordered (tree automaton.now) }
-    requires states { Fits size (tree states.now) }
-    requires states_set { IsSet (tree states.now) }
-    requires states_operators { AdmitsTerm T.ordered (tree states.now) }
-    ensures truth { IfOk result (HoldsWhereNoneFinal size (tree automaton.now) (tree states.now)) }
-    ensures levels { IfOk result (ConstraintFits size) }
-    ensures operators { IfOk result (λ r. (o : Bool) → AdmitsTerm o (tree automaton.now) → AdmitsTerm o (tree states.now) → AdmitsConstraint o r) }
-{
-    let Some(sets) = five(automaton) else {
-        return Ok(Constraint::new(alloc));
-    };
-    let accepting = Term::Coll(sets.accepting.copy(alloc)?);
-    let found = inter::<T>(alloc, states, &accepting, size)?;
-    let none = Term::Coll(Comps::new(alloc));
-    included::<T>(alloc, &found, &none, size)
+    Ok(empty::<T>(alloc, automaton, &context.when, context.size, chosen)?)
 }
