@@ -7,23 +7,21 @@ ghost use Rattle.lois_context.specs.Kept.{IsSlot, AreSlots};
 ghost use Rattle.lois_context.specs.Slots.{SlotD, slot_name};
 ghost use Rattle.lois_context.specs.SlotView.{slot_of};
 
-use crate::making::{admits, chosen, compared, each, guard_of, name_of, opening, set_of};
+use crate::making::{
+    admits, chosen, compared, each, guard_of, name_of, opening, part, set_of, set_where,
+};
 use lois_base::{Comp, Constraint, Name, NoMemory, Op, Term};
-use lois_context::{Context, Slot, Split, Store, enter_loop, join_loop, side, split};
+use lois_context::{Context, Slot, Split, Store, enter_loop, join_loop, split};
 use std::alloc::Global;
 use std::process::Abort;
 use std::test::Fail;
 
-// the parts of `condition`, which only has levels that the context has
-fn sides(
-    rt: &impl Abort,
-    alloc: Global,
-    context: Context,
-    condition: &Constraint,
-) -> Result<Split, Fail> {
-    assert!(rt; condition.fits(context.size));
+// the parts of the context where `$0` is `$1` and where it isn't
+fn sides(rt: &impl Abort, alloc: Global, context: Context) -> Result<Split, Fail> {
+    let equal = compared(alloc, Op::Eq, 0, 1)?;
+    assert!(rt; equal.fits(context.size));
     let mut chosen = chosen(alloc)?;
-    Ok(split(alloc, context, condition, &mut chosen)?)
+    Ok(split(alloc, context, &equal, &mut chosen)?)
 }
 
 pub(crate) fn inside(
@@ -45,63 +43,100 @@ pub(crate) fn inside(
 #[test]
 fn one_side_is_asked_alone(rt: HostRuntime) -> Result<(), Fail> {
     let alloc = rt.alloc();
-    let context = opening(&rt, alloc, 2)?;
-    let equal = compared(alloc, Op::Eq, 0, 1)?;
-    assert!(rt; equal.fits(context.size));
     let mut chosen = chosen(alloc)?;
-    let yes = side(alloc, &context, &equal, &mut chosen)?.ok_or("no side")?;
+    let context = opening(&rt, alloc, 2)?;
+    let yes = part(&rt, alloc, &context, (0, Op::Eq, 1), &mut chosen)?.ok_or("no side")?;
     assert!(rt; admits(&yes, &[4, 4]) && !admits(&yes, &[4, 7]));
     assert_eq!(rt; chosen.asked(), 1);
-    let apart = compared(alloc, Op::Ne, 0, 1)?;
-    assert!(rt; apart.fits(yes.size));
-    assert!(rt; side(alloc, &yes, &apart, &mut chosen)?.is_none());
+    let none = part(&rt, alloc, &yes, (0, Op::Ne, 1), &mut chosen)?;
+    assert!(rt; none.is_none());
     Ok(())
 }
 
 #[test]
-fn each_choice_has_one_side(rt: HostRuntime) -> Result<(), Fail> {
+fn where_it_holds_there_is_one_side(rt: HostRuntime) -> Result<(), Fail> {
     let alloc = rt.alloc();
-    let equal = compared(alloc, Op::Eq, 0, 1)?;
-    let both = sides(&rt, alloc, opening(&rt, alloc, 2)?, &equal)?;
+    let both = sides(&rt, alloc, opening(&rt, alloc, 2)?)?;
     let yes = both.yes.ok_or("no side where it holds")?;
-    let no = both.no.ok_or("no side where it doesn't")?;
     assert!(rt; admits(&yes, &[4, 4]) && !admits(&yes, &[4, 7]));
-    assert!(rt; admits(&no, &[4, 7]) && !admits(&no, &[4, 4]));
     assert!(rt; yes.store.len() == 0 && yes.lines.len() == 0);
-
-    let again = sides(&rt, alloc, yes, &equal)?;
+    let again = sides(&rt, alloc, yes)?;
     assert!(rt; again.yes.is_some() && again.no.is_none());
-    let other = sides(&rt, alloc, no, &equal)?;
+    Ok(())
+}
+
+#[test]
+fn where_it_does_not_hold_there_is_the_other_side(rt: HostRuntime) -> Result<(), Fail> {
+    let alloc = rt.alloc();
+    let both = sides(&rt, alloc, opening(&rt, alloc, 2)?)?;
+    let no = both.no.ok_or("no side where it doesn't")?;
+    assert!(rt; admits(&no, &[4, 7]) && !admits(&no, &[4, 4]));
+    let other = sides(&rt, alloc, no)?;
     assert!(rt; other.yes.is_none() && other.no.is_some());
     Ok(())
 }
 
-// `x` ranges over `{{$3 for $3 if $3=$2} for $2 if $2!=$0}`, a comprehension without members beside it, and `y` over `x`
+// `{$3 for $3 if $3=$2}`
+fn single(alloc: Global) -> Result<Term, NoMemory> {
+    set_where(alloc, (3, Op::Eq, 2), Term::Var(3))
+}
+
+// `{{$3 for $3 if $3=$2} for $2 if $2!=$0}`, and a comprehension without members beside it
+fn elements(alloc: Global) -> Result<Term, NoMemory> {
+    let sets = each(compared(alloc, Op::Ne, 2, 0)?, single(alloc)?);
+    let none = each(compared(alloc, Op::Ne, 2, 2)?, Term::Var(2));
+    set_of(alloc, [sets, none])
+}
+
+// the only context inside of the loop
+fn only_inside(
+    rt: &impl Abort,
+    alloc: Global,
+    context: &Context,
+    elements: &Term,
+    name: &Name,
+) -> Result<Context, Fail> {
+    let mut entered = inside(rt, alloc, context, elements, name)?;
+    assert!(rt; entered.len() == 1);
+    Ok(entered.pop().ok_or("no context")?)
+}
+
+// `x` ranges over the elements
+fn outer(rt: &impl Abort, alloc: Global, x: &Name) -> Result<Context, Fail> {
+    let opening = opening(rt, alloc, 2)?;
+    only_inside(rt, alloc, &opening, &elements(alloc)?, x)
+}
+
 #[test]
 fn loops_have_a_context_for_each_comprehension(rt: HostRuntime) -> Result<(), Fail> {
     let alloc = rt.alloc();
-    let single = set_of(alloc, [each(compared(alloc, Op::Eq, 3, 2)?, Term::Var(3))])?;
-    let sets = each(compared(alloc, Op::Ne, 2, 0)?, single);
-    let none = each(compared(alloc, Op::Ne, 2, 2)?, Term::Var(2));
-    let elements = set_of(alloc, [sets, none])?;
     let x = name_of(&rt, alloc, b"x")?;
-    let outer = inside(&rt, alloc, &opening(&rt, alloc, 2)?, &elements, &x)?;
-    assert!(rt; outer.len() == 1);
-    let context = &outer[0];
+    let context = outer(&rt, alloc, &x)?;
     assert!(rt; context.size == 3 && context.store.len() == 1);
-    assert!(rt; admits(context, &[0, 1, 5]) && !admits(context, &[5, 1, 5]));
-
+    assert!(rt; admits(&context, &[0, 1, 5]) && !admits(&context, &[5, 1, 5]));
     let held = context.store.get(0).ok_or("no slot")?;
     assert!(rt; held.name == x && held.from == 0);
+    Ok(())
+}
+
+// `y` ranges over `x`
+fn deepest(rt: &impl Abort, alloc: Global, x: &Name, y: &Name) -> Result<Context, Fail> {
+    let context = outer(rt, alloc, x)?;
+    let held = context.store.get(0).ok_or("no slot")?;
+    only_inside(rt, alloc, &context, &held.term, y)
+}
+
+#[test]
+fn loops_stand_in_loops(rt: HostRuntime) -> Result<(), Fail> {
+    let alloc = rt.alloc();
+    let x = name_of(&rt, alloc, b"x")?;
     let y = name_of(&rt, alloc, b"y")?;
-    let mut inner = inside(&rt, alloc, context, &held.term, &y)?;
-    assert!(rt; inner.len() == 1);
-    let deepest = &inner[0];
-    assert!(rt; admits(deepest, &[0, 1, 5, 5]) && !admits(deepest, &[0, 1, 5, 6]));
+    let deepest = deepest(&rt, alloc, &x, &y)?;
+    assert!(rt; admits(&deepest, &[0, 1, 5, 5]) && !admits(&deepest, &[0, 1, 5, 6]));
     assert!(rt; holds_one_set(&deepest.store, &x));
     let last = deepest.store.get(1).ok_or("no slot")?;
     assert!(rt; last.name == y && matches!(last.term, Term::Var(3)) && last.from == 0);
-    let slots = inner.pop().ok_or("no context")?.store.into_vec();
+    let slots = deepest.store.into_vec();
     assert!(rt; slots.len() == 2 && slots[0].name == x && slots[1].name == y);
     Ok(())
 }
@@ -132,8 +167,7 @@ fn holds_one_set(store: &Store, name: &Name) -> bool {
 
 // `x` is `{$3 for $3 if $3=$2}` for an atom `$2`
 fn with_a_set(rt: &impl Abort, alloc: Global, x: &Name) -> Result<Context, Fail> {
-    let single = set_of(alloc, [each(compared(alloc, Op::Eq, 3, 2)?, Term::Var(3))])?;
-    let sets = set_of(alloc, [each(compared(alloc, Op::Ne, 2, 0)?, single)])?;
+    let sets = set_where(alloc, (2, Op::Ne, 0), single(alloc)?)?;
     let mut contexts = inside(rt, alloc, &opening(rt, alloc, 2)?, &sets, x)?;
     Ok(contexts.pop().ok_or("no context")?)
 }
@@ -145,18 +179,32 @@ fn in_two_parts(alloc: Global) -> Result<Term, NoMemory> {
     set_of(alloc, [same, other])
 }
 
+// behind a loop over all atoms that adds nothing
+fn behind_an_empty_body(rt: &impl Abort, alloc: Global, x: &Name) -> Result<Context, Fail> {
+    let before = with_a_set(rt, alloc, x)?;
+    let y = name_of(rt, alloc, b"y")?;
+    let ends = inside(rt, alloc, &before, &in_two_parts(alloc)?, &y)?;
+    Ok(join_loop(alloc, before, ends)?)
+}
+
+// whether only `x` is in the store, over three levels
+fn holds_only(context: &Context, x: &Name) -> bool {
+    context.size == 3
+        && context.lines.len() == 0
+        && match context.store.as_slice() {
+            [held] => held.name == *x && held.from == 0,
+            _ => false,
+        }
+}
+
 #[test]
 fn a_loop_that_adds_nothing_changes_nothing(rt: HostRuntime) -> Result<(), Fail> {
     let alloc = rt.alloc();
     let x = name_of(&rt, alloc, b"x")?;
-    let before = with_a_set(&rt, alloc, &x)?;
-    let y = name_of(&rt, alloc, b"y")?;
-    let ends = inside(&rt, alloc, &before, &in_two_parts(alloc)?, &y)?;
-    let behind = join_loop(alloc, before, ends)?;
-    assert!(rt; behind.size == 3 && behind.store.len() == 1 && behind.lines.len() == 0);
+    let behind = behind_an_empty_body(&rt, alloc, &x)?;
+    assert!(rt; holds_only(&behind, &x));
     assert!(rt; admits(&behind, &[0, 1, 5]) && !admits(&behind, &[5, 1, 5]));
     let held = behind.store.get(0).ok_or("no slot")?;
-    assert!(rt; held.name == x && held.from == 0);
     assert!(rt; has_one_comprehension(&held.term));
     Ok(())
 }
@@ -250,41 +298,50 @@ fn all_grown(
     Ok(all)
 }
 
-// the body adds the loop's atom to `x`, once where it is `$0` and once where it is another
+// `$3` for no binder
+fn atom(alloc: Global) -> Result<Comp, NoMemory> {
+    Ok(Comp {
+        binders: 0,
+        guard: guard_of(alloc, &[])?,
+        item: Term::Var(3),
+    })
+}
+
+// behind a loop over all atoms whose body adds the loop's atom to `x`, once where it is `$0` and once where it is another
+fn behind_a_body(rt: &impl Abort, alloc: Global, x: &Name) -> Result<Context, Fail> {
+    let before = with_a_set(rt, alloc, x)?;
+    let y = name_of(rt, alloc, b"y")?;
+    let inner = inside(rt, alloc, &before, &in_two_parts(alloc)?, &y)?;
+    let ends = all_grown(rt, alloc, &inner, &atom(alloc)?)?;
+    assert!(rt; ends.len() == 2);
+    Ok(join_loop(alloc, before, ends)?)
+}
+
 #[test]
 fn what_ends_add_is_joined(rt: HostRuntime) -> Result<(), Fail> {
     let alloc = rt.alloc();
     let x = name_of(&rt, alloc, b"x")?;
-    let before = with_a_set(&rt, alloc, &x)?;
-    let y = name_of(&rt, alloc, b"y")?;
-    let inner = inside(&rt, alloc, &before, &in_two_parts(alloc)?, &y)?;
-    let atom = Comp {
-        binders: 0,
-        guard: guard_of(alloc, &[])?,
-        item: Term::Var(3),
-    };
-    let ends = all_grown(&rt, alloc, &inner, &atom)?;
-    assert!(rt; ends.len() == 2);
-    let behind = join_loop(alloc, before, ends)?;
-    assert!(rt; behind.size == 3 && behind.store.len() == 1 && behind.lines.len() == 0);
+    let behind = behind_a_body(&rt, alloc, &x)?;
+    assert!(rt; holds_only(&behind, &x));
     let held = behind.store.get(0).ok_or("no slot")?;
-    assert!(rt; held.name == x && held.from == 0);
     let Term::Coll(comps) = &held.term else {
         return Err("no set".into());
     };
-    let [old, same, other] = comps.as_slice() else {
-        return Err("not three comprehensions".into());
-    };
-    assert!(rt;
-        is_part(old, &[0, 1, 5, 5], &[0, 1, 5, 6]) && is_part(old, &[5, 1, 5, 5], &[5, 1, 5, 6])
-    );
-    assert!(rt;
-        is_part(same, &[0, 1, 5, 0], &[0, 1, 5, 6]) && is_part(same, &[0, 1, 5, 0], &[5, 1, 5, 5])
-    );
-    assert!(rt;
-        is_part(other, &[0, 1, 5, 6], &[0, 1, 5, 0]) && is_part(other, &[0, 1, 5, 6], &[5, 1, 5, 6])
-    );
+    assert!(rt; are_three_parts(comps.as_slice()));
     Ok(())
+}
+
+// what stood there, the atom where it is `$0`, and where it is another
+fn are_three_parts(comps: &[Comp]) -> bool {
+    let [old, same, other] = comps else {
+        return false;
+    };
+    is_part(old, &[0, 1, 5, 5], &[0, 1, 5, 6])
+        && is_part(old, &[5, 1, 5, 5], &[5, 1, 5, 6])
+        && is_part(same, &[0, 1, 5, 0], &[0, 1, 5, 6])
+        && is_part(same, &[0, 1, 5, 0], &[5, 1, 5, 5])
+        && is_part(other, &[0, 1, 5, 6], &[0, 1, 5, 0])
+        && is_part(other, &[0, 1, 5, 6], &[5, 1, 5, 6])
 }
 
 // `$3` for one binder, with a guard that holds at the first choice and not at the second

@@ -4,7 +4,7 @@ use lois_answers::Lines;
 use lois_base::{
     Comp, Comps, Constraint, Cube, Decider, Lit, Name, NoMemory, Numbers, Op, Term, is_name,
 };
-use lois_context::{Context, Store};
+use lois_context::{Context, Store, side};
 use lois_deciders::{Chosen, GraphDecider};
 use std::alloc::Global;
 use std::process::Abort;
@@ -51,6 +51,30 @@ pub(crate) fn chosen(alloc: Global) -> Result<Chosen, Fail> {
     let mut deciders = Vec::new(alloc);
     deciders.push(graph)?;
     Ok(Chosen::choose(deciders, None).ok_or("no decider")?)
+}
+
+// the set of `{item for a binder}`, where the one literal holds
+pub(crate) fn set_where(
+    alloc: Global,
+    literal: (usize, Op, usize),
+    item: Term,
+) -> Result<Term, NoMemory> {
+    let (left, op, right) = literal;
+    set_of(alloc, [each(compared(alloc, op, left, right)?, item)])
+}
+
+// the part of the context where the literal holds, which only has levels that the context has
+pub(crate) fn part(
+    rt: &impl Abort,
+    alloc: Global,
+    context: &Context,
+    literal: (usize, Op, usize),
+    chosen: &mut Chosen,
+) -> Result<Option<Context>, NoMemory> {
+    let (left, op, right) = literal;
+    let condition = compared(alloc, op, left, right)?;
+    assert!(rt; condition.fits(context.size));
+    side(alloc, context, &condition, chosen)
 }
 
 pub(crate) fn name_of(rt: &impl Abort, alloc: Global, bytes: &[u8]) -> Result<Name, NoMemory> {

@@ -1,7 +1,7 @@
 use Rattle.std.proofs.Common.{sym, subst}
 use Rattle.std.specs.List.{All}
 use Rattle.lois_context.specs.Joined.{IsEnd}
-use Rattle.lois_vectors_contexts.proofs.contexts.what_ends_add_is_joined.Goals as goal
+use Rattle.lois_vectors_contexts.proofs.contexts.behind_a_body.Goals as goal
 
 pub join_loop-requires : goal.join_loop-requires
 join_loop-requires g c =
