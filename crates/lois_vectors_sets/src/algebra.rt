@@ -6,11 +6,11 @@ ghost use Rattle.lois_base.specs.FormulaView.{view};
 ghost use Rattle.lois_base.specs.Tree.{tree};
 ghost use Rattle.lois_algebra.specs.Sets.{IsSetOfSets};
 
-use crate::making::{comps_of, each, guard_of, lit};
+use crate::making::{each, guard_of, lit, pair, set_of};
 use lois_algebra::{
     all_atoms, collect_over, depth_formula, inter, minus, project, put, selected_guard, union,
 };
-use lois_base::{Comp, Comps, Constraint, Formula, Lit, NoMemory, Op, Term, Terms};
+use lois_base::{Comp, Comps, Constraint, Formula, Lit, NoMemory, Op, Term};
 use lois_elim::quantifier_free;
 use lois_order::OrderAtoms;
 use lois_relate::equal_formula;
@@ -18,12 +18,7 @@ use std::alloc::Global;
 use std::process::Abort;
 use std::test::Fail;
 
-// the set of the one item, for so many binders, where the literals hold
-fn set_of(alloc: Global, binders: usize, literals: &[Lit], item: Term) -> Result<Comps, NoMemory> {
-    comps_of(alloc, [each(alloc, binders, literals, item)?])
-}
-
-// the same of sets
+// the set of the set, for so many binders, where the literals hold
 fn sets_of(alloc: Global, binders: usize, literals: &[Lit], items: Comps) -> Result<Term, NoMemory>
     ensures { IfOk result (λ r. IsSetOfSets (tree r)) }
 {
@@ -77,53 +72,117 @@ fn others(rt: &impl Abort, alloc: Global, s: Comps, t: Comps) -> Result<Term, No
     minus::<OrderAtoms>(alloc, &left, &right, 1)
 }
 
-// whether the value is deeper than 0, 1, 2 and 64
-fn depths(
+// how two sets are joined
+#[derive(Clone, Copy, Debug)]
+enum Operation {
+    Inter,
+    Minus,
+    Union,
+}
+
+// sets of atoms over the parameter `$0`
+#[derive(Clone, Copy, Debug)]
+enum Atoms {
+    Nothing,
+    OnlyA,
+    Everything,
+    Different,
+    Below,
+    Above,
+}
+
+fn atoms_of(alloc: Global, atoms: Atoms) -> Result<Comps, NoMemory> {
+    match atoms {
+        Atoms::Nothing => Ok(Comps::new(alloc)),
+        Atoms::OnlyA => only_a(alloc),
+        Atoms::Everything => everything(alloc),
+        Atoms::Different => those(alloc, Op::Ne, 0, 1),
+        Atoms::Below => those(alloc, Op::Lt, 1, 0),
+        Atoms::Above => those(alloc, Op::Lt, 0, 1),
+    }
+}
+
+fn joined(
     rt: &impl Abort,
     alloc: Global,
-    t: &Term,
-    sample: [u64; 2],
-) -> Result<[bool; 4], NoMemory> {
-    assert!(rt; t.fits(2));
-    Ok([
-        holds_at(alloc, &depth_formula(alloc, t, 0, 2)?, &sample)?,
-        holds_at(alloc, &depth_formula(alloc, t, 1, 2)?, &sample)?,
-        holds_at(alloc, &depth_formula(alloc, t, 2, 2)?, &sample)?,
-        holds_at(alloc, &depth_formula(alloc, t, 64, 2)?, &sample)?,
-    ])
+    operation: Operation,
+    s: Comps,
+    t: Comps,
+) -> Result<Term, NoMemory> {
+    match operation {
+        Operation::Inter => common(rt, alloc, s, t),
+        Operation::Minus => others(rt, alloc, s, t),
+        Operation::Union => union(alloc, &Term::Coll(s), &Term::Coll(t)),
+    }
+}
+
+// whether the two come to the third
+fn come_to(
+    rt: &impl Abort,
+    alloc: Global,
+    operation: Operation,
+    first: Atoms,
+    second: Atoms,
+    wanted: Atoms,
+) -> Result<bool, NoMemory> {
+    let found = joined(
+        rt,
+        alloc,
+        operation,
+        atoms_of(alloc, first)?,
+        atoms_of(alloc, second)?,
+    )?;
+    let wanted = Term::Coll(atoms_of(alloc, wanted)?);
+    same(rt, alloc, &found, &wanted)
 }
 
 #[test]
-fn members_of_both(rt: HostRuntime) -> Result<(), Fail> {
-    let alloc = rt.alloc();
-    let both = common(&rt, alloc, everything(alloc)?, only_a(alloc)?)?;
-    assert!(rt; same(&rt, alloc, &both, &Term::Coll(only_a(alloc)?))?);
-    let turned = common(&rt, alloc, only_a(alloc)?, everything(alloc)?)?;
-    assert!(rt; same(&rt, alloc, &turned, &both)?);
-    let none = common(&rt, alloc, only_a(alloc)?, those(alloc, Op::Lt, 0, 1)?)?;
-    assert!(rt; same(&rt, alloc, &none, &Term::Coll(Comps::new(alloc)))?);
+fn members_of_two_sets(rt: HostRuntime) -> Result<(), Fail> {
+    let rows = [
+        (
+            Operation::Inter,
+            Atoms::Everything,
+            Atoms::OnlyA,
+            Atoms::OnlyA,
+        ),
+        (
+            Operation::Inter,
+            Atoms::OnlyA,
+            Atoms::Everything,
+            Atoms::OnlyA,
+        ),
+        (Operation::Inter, Atoms::OnlyA, Atoms::Above, Atoms::Nothing),
+        (
+            Operation::Minus,
+            Atoms::Everything,
+            Atoms::OnlyA,
+            Atoms::Different,
+        ),
+        (
+            Operation::Union,
+            Atoms::Below,
+            Atoms::Above,
+            Atoms::Different,
+        ),
+    ];
+    for (operation, first, second, wanted) in rows {
+        let come = come_to(&rt, rt.alloc(), operation, first, second, wanted)?;
+        assert!(rt; come, "{operation:?} {first:?} {second:?}");
+    }
     Ok(())
 }
 
 #[test]
-fn members_of_one_alone(rt: HostRuntime) -> Result<(), Fail> {
+fn what_has_no_members_is_empty(rt: HostRuntime) -> Result<(), Fail> {
     let alloc = rt.alloc();
-    let rest = others(&rt, alloc, everything(alloc)?, only_a(alloc)?)?;
-    let different = Term::Coll(those(alloc, Op::Ne, 0, 1)?);
-    assert!(rt; same(&rt, alloc, &rest, &different)?);
     let none = others(&rt, alloc, only_a(alloc)?, everything(alloc)?)?;
     assert!(rt; matches!(&none, Term::Coll(comps) if comps.len() == 0));
     Ok(())
 }
 
 #[test]
-fn members_of_either(rt: HostRuntime) -> Result<(), Fail> {
+fn all_atoms_are_everything(rt: HostRuntime) -> Result<(), Fail> {
     let alloc = rt.alloc();
-    let below = Term::Coll(those(alloc, Op::Lt, 1, 0)?);
-    let above = Term::Coll(those(alloc, Op::Lt, 0, 1)?);
-    let apart = union(alloc, &below, &above)?;
-    let different = Term::Coll(those(alloc, Op::Ne, 0, 1)?);
-    assert!(rt; same(&rt, alloc, &apart, &different)?);
     let all = all_atoms(alloc, 1)?;
     assert!(rt; same(&rt, alloc, &all, &Term::Coll(everything(alloc)?))?);
     Ok(())
@@ -154,14 +213,12 @@ fn items_outside_of_a_set(rt: HostRuntime) -> Result<(), Fail> {
 fn empty_comprehensions_are_not_put(rt: HostRuntime) -> Result<(), Fail> {
     let alloc = rt.alloc();
     let mut comps = only_a(alloc)?;
-    put(
-        &mut comps,
-        Comp {
-            binders: 0,
-            guard: Constraint::new(alloc),
-            item: Term::Var(0),
-        },
-    )?;
+    let empty = Comp {
+        binders: 0,
+        guard: Constraint::new(alloc),
+        item: Term::Var(0),
+    };
+    put(&mut comps, empty)?;
     assert_eq!(rt; comps.len(), 1);
     put(&mut comps, each(alloc, 0, &[], Term::Var(0))?)?;
     assert_eq!(rt; comps.len(), 2);
@@ -180,25 +237,67 @@ fn members_of_members(rt: HostRuntime) -> Result<(), Fail> {
     Ok(())
 }
 
+// values over the parameters `$0` and `$1`
+#[derive(Clone, Copy, Debug)]
+enum Value {
+    Atom,
+    Empty,
+    One,
+    Pair,
+    // a set that has a member where `$0<$1`
+    Sometimes,
+}
+
+fn value_of(alloc: Global, value: Value) -> Result<Term, NoMemory> {
+    match value {
+        Value::Atom => Ok(Term::Var(0)),
+        Value::Empty => Ok(Term::Coll(Comps::new(alloc))),
+        Value::One => Ok(Term::Coll(only_a(alloc)?)),
+        Value::Pair => Ok(Term::Tup(pair(alloc, Term::Var(0), Term::Coll(only_a(alloc)?))?)),
+        Value::Sometimes => sets_of(alloc, 0, &[lit(Op::Lt, 0, 1)], only_a(alloc)?),
+    }
+}
+
+fn is_deeper(
+    rt: &impl Abort,
+    alloc: Global,
+    t: &Term,
+    depth: usize,
+    sample: [u64; 2],
+) -> Result<bool, NoMemory> {
+    assert!(rt; t.fits(2));
+    holds_at(alloc, &depth_formula(alloc, t, depth, 2)?, &sample)
+}
+
+// whether the value is deeper than 0, 1, 2 and 64
+fn depths(
+    rt: &impl Abort,
+    alloc: Global,
+    t: &Term,
+    sample: [u64; 2],
+) -> Result<[bool; 4], NoMemory> {
+    Ok([
+        is_deeper(rt, alloc, t, 0, sample)?,
+        is_deeper(rt, alloc, t, 1, sample)?,
+        is_deeper(rt, alloc, t, 2, sample)?,
+        is_deeper(rt, alloc, t, 64, sample)?,
+    ])
+}
+
 #[test]
 fn values_are_deep(rt: HostRuntime) -> Result<(), Fail> {
     let alloc = rt.alloc();
-    let empty = Term::Coll(Comps::new(alloc));
-    let one = Term::Coll(only_a(alloc)?);
-    let mut parts = Terms::new(alloc);
-    parts.push(Term::Var(0))?;
-    parts.push(Term::Coll(only_a(alloc)?))?;
-    let sometimes = sets_of(alloc, 0, &[lit(Op::Lt, 0, 1)], only_a(alloc)?)?;
     let rows = [
-        (Term::Var(0), [1, 2], [false, false, false, false]),
-        (empty, [1, 2], [true, false, false, false]),
-        (one, [1, 2], [true, false, false, false]),
-        (Term::Tup(parts), [1, 2], [true, true, false, false]),
-        (sometimes.copy(alloc)?, [1, 2], [true, true, false, false]),
-        (sometimes, [2, 1], [true, false, false, false]),
+        (Value::Atom, [1, 2], [false, false, false, false]),
+        (Value::Empty, [1, 2], [true, false, false, false]),
+        (Value::One, [1, 2], [true, false, false, false]),
+        (Value::Pair, [1, 2], [true, true, false, false]),
+        (Value::Sometimes, [1, 2], [true, true, false, false]),
+        (Value::Sometimes, [2, 1], [true, false, false, false]),
     ];
-    for (t, sample, wanted) in &rows {
-        assert_eq!(rt; depths(&rt, alloc, t, *sample)?, *wanted);
+    for (made, sample, wanted) in rows {
+        let t = value_of(alloc, made)?;
+        assert_eq!(rt; depths(&rt, alloc, &t, sample)?, wanted, "{made:?}");
     }
     Ok(())
 }
@@ -206,10 +305,7 @@ fn values_are_deep(rt: HostRuntime) -> Result<(), Fail> {
 #[test]
 fn tuples_have_parts(rt: HostRuntime) -> Result<(), Fail> {
     let alloc = rt.alloc();
-    let mut parts = Terms::new(alloc);
-    parts.push(Term::Var(7))?;
-    parts.push(Term::Var(8))?;
-    let pair = Term::Tup(parts);
+    let pair = Term::Tup(pair(alloc, Term::Var(7), Term::Var(8))?);
     assert!(rt; matches!(project(&pair, 1), Some(Term::Var(7))));
     assert!(rt; matches!(project(&pair, 2), Some(Term::Var(8))));
     assert!(rt; project(&pair, 0).is_none() && project(&pair, 3).is_none());

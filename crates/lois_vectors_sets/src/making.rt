@@ -1,6 +1,6 @@
 //! Guards, comprehensions and sets of a few literals and items.
 
-use lois_base::{Comp, Comps, Constraint, Cube, Lit, NoMemory, Op, Term};
+use lois_base::{Comp, Comps, Constraint, Cube, Lit, NoMemory, Op, Term, Terms};
 use std::alloc::Global;
 
 pub(crate) fn lit(op: Op, left: usize, right: usize) -> Lit {
@@ -38,4 +38,22 @@ pub(crate) fn comps_of<const N: usize>(alloc: Global, items: [Comp; N]) -> Resul
         comps.push(comp)?;
     }
     Ok(comps)
+}
+
+/// The set of the item for so many binders, where the literals hold.
+pub(crate) fn set_of(
+    alloc: Global,
+    binders: usize,
+    literals: &[Lit],
+    item: Term,
+) -> Result<Comps, NoMemory> {
+    comps_of(alloc, [each(alloc, binders, literals, item)?])
+}
+
+/// The two parts of a tuple.
+pub(crate) fn pair(alloc: Global, first: Term, second: Term) -> Result<Terms, NoMemory> {
+    let mut parts = Terms::new(alloc);
+    parts.push(first)?;
+    parts.push(second)?;
+    Ok(parts)
 }

@@ -1,7 +1,7 @@
 //! Worked questions, answered by trying small numbers as atoms.
 
-use crate::making::{comps_of, each, lit};
-use lois_base::{Comp, Comps, Formula, Formulas, Lit, Name, NoMemory, Op, Term, Terms, is_name};
+use crate::making::{comps_of, each, lit, pair, set_of};
+use lois_base::{Comp, Comps, Formula, Formulas, Lit, Name, NoMemory, Op, Term, is_name};
 use lois_relate::{equal_formula, included_formula, item_formula, member_formula};
 use std::alloc::Global;
 use std::process::Abort;
@@ -77,7 +77,7 @@ fn above(alloc: Global, level: usize) -> Result<Comps, NoMemory> {
 
 // the set `{$2 for $2}`
 fn atoms(alloc: Global) -> Result<Comps, NoMemory> {
-    comps_of(alloc, [each(alloc, 1, &[], Term::Var(2))?])
+    set_of(alloc, 1, &[], Term::Var(2))
 }
 
 // the comprehension `$3 for $3 if $2<$3` inside of another one
@@ -88,14 +88,57 @@ fn above_inside(alloc: Global) -> Result<Comp, NoMemory> {
 // the set `{{$3 for $3 if $2<$3} for $2}`
 fn sets_above(alloc: Global) -> Result<Comps, NoMemory> {
     let inner = Term::Coll(comps_of(alloc, [above_inside(alloc)?])?);
-    comps_of(alloc, [each(alloc, 1, &[], inner)?])
+    set_of(alloc, 1, &[], inner)
+}
+
+// the comprehension `$2 for $2 if $0<$2` twice
+fn above_twice(alloc: Global) -> Result<Comps, NoMemory> {
+    let once = standing(alloc, Op::Lt, 0, 2)?;
+    comps_of(alloc, [once, standing(alloc, Op::Lt, 0, 2)?])
+}
+
+// all atoms, in three pieces: above `$0`, `$0`, and below it
+fn pieces(alloc: Global) -> Result<Comps, NoMemory> {
+    let above = standing(alloc, Op::Lt, 0, 2)?;
+    let same = standing(alloc, Op::Eq, 0, 2)?;
+    let below = standing(alloc, Op::Lt, 2, 0)?;
+    comps_of(alloc, [above, same, below])
+}
+
+// the set `{{$3 for $3 if $2<$3, $3 for $3 if $2<$3} for $2}`
+fn sets_above_twice(alloc: Global) -> Result<Comps, NoMemory> {
+    let inner = comps_of(alloc, [above_inside(alloc)?, above_inside(alloc)?])?;
+    set_of(alloc, 1, &[], Term::Coll(inner))
+}
+
+// sets over the parameters `$0` and `$1`
+#[derive(Clone, Copy, Debug)]
+enum Set {
+    // the atoms above the level
+    Above(usize),
+    AboveTwice,
+    Pieces,
+    Atoms,
+    SetsAbove,
+    SetsAboveTwice,
+}
+
+fn members(alloc: Global, set: Set) -> Result<Comps, NoMemory> {
+    match set {
+        Set::Above(level) => above(alloc, level),
+        Set::AboveTwice => above_twice(alloc),
+        Set::Pieces => pieces(alloc),
+        Set::Atoms => atoms(alloc),
+        Set::SetsAbove => sets_above(alloc),
+        Set::SetsAboveTwice => sets_above_twice(alloc),
+    }
 }
 
 // the set `{{..{item}..}}`, 60 deep
 fn nested(alloc: Global, item: Term) -> Result<Term, NoMemory> {
     let mut term = item;
     for _ in 0..60 {
-        term = Term::Coll(comps_of(alloc, [each(alloc, 0, &[], term)?])?);
+        term = Term::Coll(set_of(alloc, 0, &[], term)?);
     }
     Ok(term)
 }
@@ -105,11 +148,30 @@ fn tag(rt: &impl Abort, alloc: Global, name: &[u8]) -> Result<Term, NoMemory> {
     Ok(Term::Tag(Name::from_bytes(alloc, name)?))
 }
 
-fn pair(alloc: Global, first: Term, second: Term) -> Result<Term, NoMemory> {
-    let mut parts = Terms::new(alloc);
-    parts.push(first)?;
-    parts.push(second)?;
-    Ok(Term::Tup(parts))
+// values over the parameters `$0` and `$1`
+#[derive(Clone, Copy, Debug)]
+enum Value<'a> {
+    Atom(usize),
+    Tag(&'a [u8]),
+    // the pair of two levels
+    Pair(usize, usize),
+    Of(Set),
+    // 60 sets around the level
+    Nested(usize),
+    NestedTag(&'a [u8]),
+}
+
+fn value_of(rt: &impl Abort, alloc: Global, value: Value<'_>) -> Result<Term, NoMemory> {
+    match value {
+        Value::Atom(level) => Ok(Term::Var(level)),
+        Value::Tag(name) => tag(rt, alloc, name),
+        Value::Pair(first, second) => {
+            Ok(Term::Tup(pair(alloc, Term::Var(first), Term::Var(second))?))
+        }
+        Value::Of(made) => Ok(Term::Coll(members(alloc, made)?)),
+        Value::Nested(level) => nested(alloc, Term::Var(level)),
+        Value::NestedTag(name) => nested(alloc, tag(rt, alloc, name)?),
+    }
 }
 
 // Where the formula holds: `$0` below, at and above `$1`.
@@ -157,81 +219,28 @@ const AT_LEAST: [bool; 3] = [false, true, true];
 #[test]
 fn values_are_equal(rt: HostRuntime) -> Result<(), Fail> {
     let alloc = rt.alloc();
-    let twice = comps_of(
-        alloc,
-        [
-            standing(alloc, Op::Lt, 0, 2)?,
-            standing(alloc, Op::Lt, 0, 2)?,
-        ],
-    )?;
-    let pieces = comps_of(
-        alloc,
-        [
-            standing(alloc, Op::Lt, 0, 2)?,
-            standing(alloc, Op::Eq, 0, 2)?,
-            standing(alloc, Op::Lt, 2, 0)?,
-        ],
-    )?;
-    let inner = Term::Coll(comps_of(alloc, [above_inside(alloc)?, above_inside(alloc)?])?);
-    let written_twice = comps_of(alloc, [each(alloc, 1, &[], inner)?])?;
     let rows = [
-        (Term::Coll(above(alloc, 0)?), Term::Coll(twice), ALWAYS),
-        (Term::Coll(pieces), Term::Coll(atoms(alloc)?), ALWAYS),
+        (Value::Of(Set::Above(0)), Value::Of(Set::AboveTwice), ALWAYS),
+        (Value::Of(Set::Pieces), Value::Of(Set::Atoms), ALWAYS),
+        (Value::Of(Set::Above(0)), Value::Of(Set::Above(1)), EQUAL),
+        (Value::Of(Set::Above(0)), Value::Of(Set::Atoms), NEVER),
         (
-            Term::Coll(above(alloc, 0)?),
-            Term::Coll(above(alloc, 1)?),
-            EQUAL,
-        ),
-        (
-            Term::Coll(above(alloc, 0)?),
-            Term::Coll(atoms(alloc)?),
-            NEVER,
-        ),
-        (
-            Term::Coll(sets_above(alloc)?),
-            Term::Coll(written_twice),
+            Value::Of(Set::SetsAbove),
+            Value::Of(Set::SetsAboveTwice),
             ALWAYS,
         ),
-        (
-            Term::Coll(sets_above(alloc)?),
-            Term::Coll(above(alloc, 0)?),
-            NEVER,
-        ),
-        (tag(&rt, alloc, b"a")?, Term::Var(0), NEVER),
-        (
-            pair(alloc, Term::Var(0), Term::Var(1))?,
-            pair(alloc, Term::Var(1), Term::Var(0))?,
-            EQUAL,
-        ),
+        (Value::Of(Set::SetsAbove), Value::Of(Set::Above(0)), NEVER),
+        (Value::Tag(b"a"), Value::Atom(0), NEVER),
+        (Value::Pair(0, 1), Value::Pair(1, 0), EQUAL),
+        // deep sets stay small
+        (Value::Nested(0), Value::Nested(1), EQUAL),
+        (Value::Nested(0), Value::Nested(0), ALWAYS),
+        (Value::NestedTag(b"a"), Value::NestedTag(b"b"), NEVER),
     ];
-    for (s, t, wanted) in &rows {
-        assert_eq!(rt; equal(&rt, alloc, s, t)?, *wanted);
-    }
-    Ok(())
-}
-
-#[test]
-fn deep_sets_stay_small(rt: HostRuntime) -> Result<(), Fail> {
-    let alloc = rt.alloc();
-    let rows = [
-        (
-            nested(alloc, Term::Var(0))?,
-            nested(alloc, Term::Var(1))?,
-            EQUAL,
-        ),
-        (
-            nested(alloc, Term::Var(0))?,
-            nested(alloc, Term::Var(0))?,
-            ALWAYS,
-        ),
-        (
-            nested(alloc, tag(&rt, alloc, b"a")?)?,
-            nested(alloc, tag(&rt, alloc, b"b")?)?,
-            NEVER,
-        ),
-    ];
-    for (s, t, wanted) in &rows {
-        assert_eq!(rt; equal(&rt, alloc, s, t)?, *wanted);
+    for (first, second, wanted) in rows {
+        let s = value_of(&rt, alloc, first)?;
+        let t = value_of(&rt, alloc, second)?;
+        assert_eq!(rt; equal(&rt, alloc, &s, &t)?, wanted, "{first:?} {second:?}");
     }
     Ok(())
 }
@@ -239,11 +248,20 @@ fn deep_sets_stay_small(rt: HostRuntime) -> Result<(), Fail> {
 #[test]
 fn members_are_found(rt: HostRuntime) -> Result<(), Fail> {
     let alloc = rt.alloc();
-    let own = Term::Coll(above(alloc, 0)?);
-    assert_eq!(rt; member(&rt, alloc, &Term::Var(0), above(alloc, 0)?)?, NEVER);
-    assert_eq!(rt; member(&rt, alloc, &Term::Var(1), above(alloc, 0)?)?, BELOW);
-    assert_eq!(rt; member(&rt, alloc, &own, sets_above(alloc)?)?, ALWAYS);
-    assert_eq!(rt; member(&rt, alloc, &own, atoms(alloc)?)?, NEVER);
+    let rows = [
+        (Value::Atom(0), Set::Above(0), NEVER),
+        (Value::Atom(1), Set::Above(0), BELOW),
+        (Value::Of(Set::Above(0)), Set::SetsAbove, ALWAYS),
+        (Value::Of(Set::Above(0)), Set::Atoms, NEVER),
+    ];
+    for (item, comps, wanted) in rows {
+        let s = value_of(&rt, alloc, item)?;
+        assert_eq!(rt;
+            member(&rt, alloc, &s, members(alloc, comps)?)?,
+            wanted,
+            "{item:?} {comps:?}"
+        );
+    }
     Ok(())
 }
 
@@ -262,25 +280,20 @@ fn items_are_found_beside_others(rt: HostRuntime) -> Result<(), Fail> {
 #[test]
 fn sets_are_included(rt: HostRuntime) -> Result<(), Fail> {
     let alloc = rt.alloc();
-    assert_eq!(rt;
-        included(&rt, alloc, above(alloc, 0)?, atoms(alloc)?)?,
-        ALWAYS
-    );
-    assert_eq!(rt;
-        included(&rt, alloc, atoms(alloc)?, above(alloc, 0)?)?,
-        NEVER
-    );
-    assert_eq!(rt;
-        included(&rt, alloc, above(alloc, 0)?, above(alloc, 1)?)?,
-        AT_LEAST
-    );
-    assert_eq!(rt;
-        included(&rt, alloc, above(alloc, 0)?, sets_above(alloc)?)?,
-        NEVER
-    );
-    assert_eq!(rt;
-        included(&rt, alloc, sets_above(alloc)?, sets_above(alloc)?)?,
-        ALWAYS
-    );
+    let rows = [
+        (Set::Above(0), Set::Atoms, ALWAYS),
+        (Set::Atoms, Set::Above(0), NEVER),
+        (Set::Above(0), Set::Above(1), AT_LEAST),
+        (Set::Above(0), Set::SetsAbove, NEVER),
+        (Set::SetsAbove, Set::SetsAbove, ALWAYS),
+    ];
+    for (first, second, wanted) in rows {
+        let comps = members(alloc, first)?;
+        assert_eq!(rt;
+            included(&rt, alloc, comps, members(alloc, second)?)?,
+            wanted,
+            "{first:?} {second:?}"
+        );
+    }
     Ok(())
 }

@@ -1,13 +1,20 @@
 //! Worked sets, over atoms with an order.
 
-use crate::making::{comps_of, each, guard_of, lit};
-use lois_base::{Comp, Comps, Decider, Lit, Op, Term};
+use crate::making::{comps_of, each, guard_of, lit, set_of};
+use lois_base::{Comp, Comps, Decider, Lit, NoMemory, Op, Term};
 use lois_deciders::{Chosen, GraphDecider};
 use lois_order::OrderAtoms;
 use lois_simplify::simplify;
 use std::alloc::Global;
 use std::process::Abort;
 use std::test::Fail;
+
+fn chosen(alloc: Global) -> Result<Chosen, Fail> {
+    let graph: Box<dyn Decider> = Box::new(alloc, GraphDecider::new())?;
+    let mut deciders = Vec::new(alloc);
+    deciders.push(graph)?;
+    Ok(Chosen::choose(deciders, None).ok_or("no decider")?)
+}
 
 // the set's comprehensions once it is simplified where the literals hold
 fn simple(
@@ -17,10 +24,7 @@ fn simple(
     literals: &[Lit],
     size: usize,
 ) -> Result<Comps, Fail> {
-    let graph: Box<dyn Decider> = Box::new(alloc, GraphDecider::new())?;
-    let mut deciders = Vec::new(alloc);
-    deciders.push(graph)?;
-    let mut chosen = Chosen::choose(deciders, None).ok_or("no decider")?;
+    let mut chosen = chosen(alloc)?;
     let under = guard_of(alloc, literals)?;
     let set = Term::Coll(comps);
     assert!(rt; set.fits(size) && under.fits(size));
@@ -57,60 +61,82 @@ fn inside(comps: &Comps) -> Option<&Comps> {
 fn what_has_no_members_goes(rt: HostRuntime) -> Result<(), Fail> {
     let alloc = rt.alloc();
     let unmet = [lit(Op::Lt, 1, 0), lit(Op::Lt, 0, 1)];
-    let none = comps_of(alloc, [each(alloc, 1, &unmet, Term::Var(1))?])?;
+    let none = set_of(alloc, 1, &unmet, Term::Var(1))?;
     assert!(rt; simple(&rt, alloc, none, &[], 1)?.len() == 0);
     Ok(())
 }
 
+// whether `{$level for $1 if $1 .. $0}` is `{$0}` once it is simplified
+fn comes_to_only_a(rt: &impl Abort, alloc: Global, op: Op, level: usize) -> Result<bool, Fail> {
+    let comps = set_of(alloc, 1, &[lit(op, 1, 0)], Term::Var(level))?;
+    Ok(is_only_a(&simple(rt, alloc, comps, &[], 1)?))
+}
+
+// the binder isn't used, or is fixed
 #[test]
 fn binders_that_tell_nothing_go(rt: HostRuntime) -> Result<(), Fail> {
-    let alloc = rt.alloc();
-    let unused = comps_of(alloc, [each(alloc, 1, &[lit(Op::Lt, 1, 0)], Term::Var(0))?])?;
-    assert!(rt; is_only_a(&simple(&rt, alloc, unused, &[], 1)?));
-    let fixed = comps_of(alloc, [each(alloc, 1, &[lit(Op::Eq, 1, 0)], Term::Var(1))?])?;
-    assert!(rt; is_only_a(&simple(&rt, alloc, fixed, &[], 1)?));
+    assert!(rt; comes_to_only_a(&rt, rt.alloc(), Op::Lt, 0)?);
+    assert!(rt; comes_to_only_a(&rt, rt.alloc(), Op::Eq, 1)?);
     Ok(())
+}
+
+// `$1 for $1` where it stands so to `$0`
+fn standing(alloc: Global, op: Op, left: usize, right: usize) -> Result<Comp, NoMemory> {
+    each(alloc, 1, &[lit(op, left, right)], Term::Var(1))
+}
+
+fn three_ways(alloc: Global) -> Result<Comps, NoMemory> {
+    let apart = standing(alloc, Op::Ne, 0, 1)?;
+    let below = standing(alloc, Op::Lt, 1, 0)?;
+    let above = standing(alloc, Op::Lt, 0, 1)?;
+    comps_of(alloc, [apart, below, above])
 }
 
 // `$1 != $0` is covered by below and above together, and by neither alone
 #[test]
 fn what_the_others_cover_goes(rt: HostRuntime) -> Result<(), Fail> {
     let alloc = rt.alloc();
-    let apart = each(alloc, 1, &[lit(Op::Ne, 0, 1)], Term::Var(1))?;
-    let below = each(alloc, 1, &[lit(Op::Lt, 1, 0)], Term::Var(1))?;
-    let above = each(alloc, 1, &[lit(Op::Lt, 0, 1)], Term::Var(1))?;
-    let left = simple(&rt, alloc, comps_of(alloc, [apart, below, above])?, &[], 1)?;
+    let left = simple(&rt, alloc, three_ways(alloc)?, &[], 1)?;
     assert!(rt; left.len() == 2);
     assert!(rt; left.as_slice().iter().all(|comp| !holds_at(comp, &[1, 1])));
     Ok(())
 }
 
-// in `{{$0}, {$0, $1 for $1 if $1=$0}}` both members are `{$0}`
+// `{$0, $1 for $1 if $1=$0}`
+fn written_twice(alloc: Global) -> Result<Comps, NoMemory> {
+    let a = each(alloc, 0, &[], Term::Var(0))?;
+    comps_of(alloc, [a, standing(alloc, Op::Eq, 0, 1)?])
+}
+
+// `{{$0}, {$0, $1 for $1 if $1=$0}}`, whose members are both `{$0}`
+fn sets(alloc: Global) -> Result<Comps, NoMemory> {
+    let short = Term::Coll(set_of(alloc, 0, &[], Term::Var(0))?);
+    let long = Term::Coll(written_twice(alloc)?);
+    let first = each(alloc, 0, &[], short)?;
+    comps_of(alloc, [first, each(alloc, 0, &[], long)?])
+}
+
 #[test]
 fn sets_inside_of_sets(rt: HostRuntime) -> Result<(), Fail> {
     let alloc = rt.alloc();
-    let a = each(alloc, 0, &[], Term::Var(0))?;
-    let same = each(alloc, 1, &[lit(Op::Eq, 0, 1)], Term::Var(1))?;
-    let short = Term::Coll(comps_of(alloc, [a.copy(alloc)?])?);
-    let long = Term::Coll(comps_of(alloc, [a, same])?);
-    let sets = comps_of(
-        alloc,
-        [each(alloc, 0, &[], short)?, each(alloc, 0, &[], long)?],
-    )?;
-    let left = simple(&rt, alloc, sets, &[], 1)?;
+    let left = simple(&rt, alloc, sets(alloc)?, &[], 1)?;
     assert!(rt; is_only_a(inside(&left).ok_or("not one set")?));
     Ok(())
 }
 
-// `{$2 for $2 if $1<$2}` and `{$2 for $2 if $0<$2}`, where `$0<$1`, and anywhere
+// `{$2 for $2 if $1<$2}` and `{$2 for $2 if $0<$2}`
+fn above_both(alloc: Global) -> Result<Comps, NoMemory> {
+    let above_b = each(alloc, 1, &[lit(Op::Lt, 1, 2)], Term::Var(2))?;
+    let above_a = each(alloc, 1, &[lit(Op::Lt, 0, 2)], Term::Var(2))?;
+    comps_of(alloc, [above_b, above_a])
+}
+
+// where `$0<$1`, and anywhere
 #[test]
 fn what_holds_around_counts(rt: HostRuntime) -> Result<(), Fail> {
     let alloc = rt.alloc();
-    let above_b = each(alloc, 1, &[lit(Op::Lt, 1, 2)], Term::Var(2))?;
-    let above_a = each(alloc, 1, &[lit(Op::Lt, 0, 2)], Term::Var(2))?;
-    let both = comps_of(alloc, [above_b, above_a])?;
-    assert!(rt; simple(&rt, alloc, both.copy(alloc)?, &[], 2)?.len() == 2);
-    let left = simple(&rt, alloc, both, &[lit(Op::Lt, 0, 1)], 2)?;
+    assert!(rt; simple(&rt, alloc, above_both(alloc)?, &[], 2)?.len() == 2);
+    let left = simple(&rt, alloc, above_both(alloc)?, &[lit(Op::Lt, 0, 1)], 2)?;
     assert!(rt; left.len() == 1 && holds_at(&left.as_slice()[0], &[0, 2, 1]));
     Ok(())
 }

@@ -1,7 +1,7 @@
 //! Worked terms.
 
-use crate::making::{comps_of, each, guard_of, lit};
-use lois_base::{Comp, Comps, Constraint, Cube, Lit, Name, NoMemory, Op, Term, Terms, is_name};
+use crate::making::{each, guard_of, lit, pair, set_of};
+use lois_base::{Comp, Comps, Constraint, Cube, Lit, Name, NoMemory, Op, Term, is_name};
 use lois_terms::{instantiate, is_within_depth, occurs, shift_term, with_guard};
 use std::alloc::Global;
 use std::process::Abort;
@@ -20,14 +20,15 @@ fn atoms_above(alloc: Global) -> Result<Comp, NoMemory> {
     each(alloc, 1, &[below(0, 1)], Term::Var(1))
 }
 
-fn set_of(alloc: Global, comp: Comp) -> Result<Term, NoMemory> {
-    Ok(Term::Coll(comps_of(alloc, [comp])?))
+// the set `{$1 for $1 if $0<$1}`
+fn set_of_atoms_above(alloc: Global) -> Result<Term, NoMemory> {
+    Ok(Term::Coll(set_of(alloc, 1, &[below(0, 1)], Term::Var(1))?))
 }
 
 // the set `{{$1 for $1 if $0<$1} for $0}`
 fn sets_of_atoms_above(alloc: Global) -> Result<Term, NoMemory> {
-    let item = set_of(alloc, atoms_above(alloc)?)?;
-    set_of(alloc, each(alloc, 1, &[], item)?)
+    let item = set_of_atoms_above(alloc)?;
+    Ok(Term::Coll(set_of(alloc, 1, &[], item)?))
 }
 
 // that a set has one comprehension, of an atom, with these cubes and this level
@@ -78,12 +79,17 @@ fn guarded(
 #[test]
 fn levels_rise(rt: HostRuntime) -> Result<(), Fail> {
     let alloc = rt.alloc();
-    let above = set_of(alloc, atoms_above(alloc)?)?;
+    let above = set_of_atoms_above(alloc)?;
     let own = shifted(&rt, alloc, &above, 1, 1, 2)?;
     is_set_of_atoms(&rt, &own, &[&[below(0, 3)]], 3);
     let each = shifted(&rt, alloc, &above, 1, 0, 2)?;
     is_set_of_atoms(&rt, &each, &[&[below(2, 3)]], 3);
+    Ok(())
+}
 
+#[test]
+fn levels_rise_inside_of_sets(rt: HostRuntime) -> Result<(), Fail> {
+    let alloc = rt.alloc();
     let sets = shifted(&rt, alloc, &sets_of_atoms_above(alloc)?, 0, 0, 1)?;
     let Term::Coll(comps) = &sets else {
         return Err("no set")?;
@@ -106,21 +112,21 @@ fn binders_take_their_place(rt: HostRuntime) -> Result<(), Fail> {
     Ok(())
 }
 
-#[test]
-fn guards_are_conjoined(rt: HostRuntime) -> Result<(), Fail> {
-    let alloc = rt.alloc();
-    // the atoms above $0, where $1 is no greater than $0
+// where $1 is no greater than $0
+fn no_greater(alloc: Global) -> Result<Constraint, NoMemory> {
     let mut guard = guard_of(alloc, &[below(1, 0)])?;
     let mut other = Cube::new(alloc);
     other.push(equal(0, 1))?;
     guard.push(other)?;
-    let mut comps = Comps::new(alloc);
-    comps.push(Comp {
-        binders: 1,
-        guard: guard_of(alloc, &[below(0, 2)])?,
-        item: Term::Var(2),
-    })?;
-    let set = guarded(&rt, alloc, comps, &guard, 2)?;
+    Ok(guard)
+}
+
+// the atoms above $0
+#[test]
+fn guards_are_conjoined(rt: HostRuntime) -> Result<(), Fail> {
+    let alloc = rt.alloc();
+    let comps = set_of(alloc, 1, &[below(0, 2)], Term::Var(2))?;
+    let set = guarded(&rt, alloc, comps, &no_greater(alloc)?, 2)?;
     is_set_of_atoms(
         &rt,
         &set,
@@ -130,17 +136,19 @@ fn guards_are_conjoined(rt: HostRuntime) -> Result<(), Fail> {
     Ok(())
 }
 
-#[test]
-fn levels_occur(rt: HostRuntime) -> Result<(), Fail> {
-    let alloc = rt.alloc();
+// `('start, $2)`
+fn tagged(rt: &impl Abort, alloc: Global) -> Result<Term, NoMemory> {
     let name = b"start";
     assert!(rt; is_name(name));
     let start = Term::Tag(Name::from_bytes(alloc, name)?);
+    Ok(Term::Tup(pair(alloc, start, Term::Var(2))?))
+}
+
+#[test]
+fn levels_occur(rt: HostRuntime) -> Result<(), Fail> {
+    let alloc = rt.alloc();
+    let pair = tagged(&rt, alloc)?;
     let sets = sets_of_atoms_above(alloc)?;
-    let mut parts = Terms::new(alloc);
-    parts.push(start)?;
-    parts.push(Term::Var(2))?;
-    let pair = Term::Tup(parts);
     // the guard alone speaks of $0
     let rows = [
         (0, true, false),
@@ -161,10 +169,7 @@ fn terms_are_written_so_deep(rt: HostRuntime) -> Result<(), Fail> {
     assert!(rt; is_within_depth(&Term::Var(7), 0));
     let empty = Term::Coll(Comps::new(alloc));
     assert!(rt; !is_within_depth(&empty, 0) && is_within_depth(&empty, 1));
-    let mut parts = Terms::new(alloc);
-    parts.push(empty)?;
-    parts.push(Term::Var(0))?;
-    let pair = Term::Tup(parts);
+    let pair = Term::Tup(pair(alloc, empty, Term::Var(0))?);
     assert!(rt; !is_within_depth(&pair, 1) && is_within_depth(&pair, 2));
     Ok(())
 }
