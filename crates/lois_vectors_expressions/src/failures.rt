@@ -5,7 +5,7 @@ use lois_answers::FaultKind::{
     self, DepthLimit, NoSuchPart, NotASet, NotATuple, NotAtoms, NotAutomaton, NotComplete,
     NotDeterministic,
 };
-use lois_base::Constraint;
+use lois_base::{Constraint, Term};
 use lois_context::{Context, side};
 use lois_deciders::Chosen;
 use std::alloc::Global;
@@ -132,7 +132,6 @@ fn operands_are_to_be_automata(rt: HostRuntime) -> Result<(), Fail> {
 
 #[test]
 fn values_are_64_deep_at_most(rt: HostRuntime) -> Result<(), Fail> {
-    let alloc = rt.alloc();
     let cases = [
         ("let v = ", "{deep};", DepthLimit),
         ("let v = ", "(a, deep);", DepthLimit),
@@ -140,14 +139,31 @@ fn values_are_64_deep_at_most(rt: HostRuntime) -> Result<(), Fail> {
         ("assert a in ", "{deep};", DepthLimit),
         ("let v = {x for x in ", "{deep}};", DepthLimit),
     ];
-    fail_there(&rt, alloc, &cases)?;
+    fail_there(&rt, rt.alloc(), &cases)
+}
 
+// What the expression comes to in the context, if it doesn't fail.
+fn value(
+    alloc: Global,
+    expression: &str,
+    context: &Context,
+    chosen: &mut Chosen,
+) -> Result<Option<Term>, Fail> {
+    let text = format!(in alloc; "atoms order; let v = {expression};")?;
+    match tried(alloc, &text, context, chosen)? {
+        Answer::Value(found) => Ok(Some(found)),
+        _ => Ok(None),
+    }
+}
+
+#[test]
+fn values_may_be_64_deep(rt: HostRuntime) -> Result<(), Fail> {
+    let alloc = rt.alloc();
     let mut chosen = chosen(alloc)?;
     let context = opening(&rt, alloc, &mut chosen)?;
     for expression in ["deep", "{shallow}", "(a, shallow)", "flatten({shallow})"] {
-        let text = format!(in alloc; "atoms order; let v = {expression};")?;
-        let answer = tried(alloc, &text, &context, &mut chosen)?;
-        assert!(rt; matches!(answer, Answer::Value(_)), "{expression}");
+        let found = value(alloc, expression, &context, &mut chosen)?;
+        assert!(rt; found.is_some(), "{expression}");
     }
     Ok(())
 }
@@ -181,6 +197,20 @@ fn side_where(
     Ok(side(alloc, context, when, chosen)?.ok_or("no side")?)
 }
 
+// Whether the expression is `{}` there, wherever the constraint holds.
+fn is_empty_there(
+    rt: &impl Abort,
+    alloc: Global,
+    expression: &str,
+    context: &Context,
+    when: &Constraint,
+    chosen: &mut Chosen,
+) -> Result<bool, Fail> {
+    let found = value(alloc, expression, context, chosen)?.ok_or("no value")?;
+    let none = term_of(alloc, "{}")?;
+    same_where(rt, alloc, when, &found, &none, chosen)
+}
+
 // What fails at other choices alone doesn't fail.
 #[test]
 fn only_admitted_choices_count(rt: HostRuntime) -> Result<(), Fail> {
@@ -189,16 +219,24 @@ fn only_admitted_choices_count(rt: HostRuntime) -> Result<(), Fail> {
     let context = opening(&rt, alloc, &mut chosen)?;
     let below = constraint_of(alloc, "a<b")?;
     let inside = side_where(&rt, alloc, &context, &below, &mut chosen)?;
-    let none = term_of(alloc, "{}")?;
     for expression in SOMEWHERE {
-        let text = format!(in alloc; "atoms order; let v = {expression};")?;
-        let Answer::Value(found) = tried(alloc, &text, &inside, &mut chosen)? else {
-            return Err("no value".into());
-        };
-        let same = same_where(&rt, alloc, &below, &found, &none, &mut chosen)?;
-        assert!(rt; same, "{expression}");
+        let empty = is_empty_there(&rt, alloc, expression, &inside, &below, &mut chosen)?;
+        assert!(rt; empty, "{expression}");
     }
     Ok(())
+}
+
+// How often the decider is asked while the statement is tried.
+fn questions(
+    alloc: Global,
+    statement: &str,
+    context: &Context,
+    chosen: &mut Chosen,
+) -> Result<u64, Fail> {
+    let before = chosen.asked();
+    let text = format!(in alloc; "atoms order; {statement}")?;
+    let _ = tried(alloc, &text, context, chosen)?;
+    Ok(chosen.asked().saturating_sub(before))
 }
 
 // The decider is asked wherever members may be missing.
@@ -213,10 +251,10 @@ fn deciders_are_asked(rt: HostRuntime) -> Result<(), Fail> {
         "assert exists x in {a}: x = b;",
     ];
     for statement in statements {
-        let before = chosen.asked();
-        let text = format!(in alloc; "atoms order; {statement}")?;
-        let _ = tried(alloc, &text, &context, &mut chosen)?;
-        assert!(rt; before < chosen.asked(), "{statement}");
+        assert!(rt;
+            0 < questions(alloc, statement, &context, &mut chosen)?,
+            "{statement}"
+        );
     }
     Ok(())
 }

@@ -98,32 +98,43 @@ fn entered(
     Ok(inner.pop().ok_or("no context")?)
 }
 
+// The context with one more name, which stands for an atom of which nothing is known.
+fn with_atom(
+    rt: &impl Abort,
+    alloc: Global,
+    context: &Context,
+    level: usize,
+    word: &[u8],
+    chosen: &mut Chosen,
+) -> Result<Context, Fail> {
+    let atoms = set_of(alloc, 1, Term::Var(level))?;
+    entered(rt, alloc, context, &atoms, word, chosen)
+}
+
+// The context with one more name, which stands for `{}` in so many sets.
+fn with_nested(
+    rt: &impl Abort,
+    alloc: Global,
+    context: &Context,
+    times: usize,
+    word: &[u8],
+    chosen: &mut Chosen,
+) -> Result<Context, Fail> {
+    let set = nested(alloc, times)?;
+    entered(rt, alloc, context, &set_of(alloc, 0, set)?, word, chosen)
+}
+
 // `a` and `b` are the levels 0 and 1, of which nothing is known; `shallow` is a set of depth 63 and `deep` one of depth 64
 pub(crate) fn opening(
     rt: &impl Abort,
     alloc: Global,
     chosen: &mut Chosen,
 ) -> Result<Context, Fail> {
-    let one = entered(
-        rt,
-        alloc,
-        &empty(rt, alloc, 0)?,
-        &set_of(alloc, 1, Term::Var(0))?,
-        b"a",
-        chosen,
-    )?;
-    let two = entered(
-        rt,
-        alloc,
-        &one,
-        &set_of(alloc, 1, Term::Var(1))?,
-        b"b",
-        chosen,
-    )?;
-    let shallow = set_of(alloc, 0, nested(alloc, 62)?)?;
-    let more = entered(rt, alloc, &two, &shallow, b"shallow", chosen)?;
-    let deep = set_of(alloc, 0, nested(alloc, 63)?)?;
-    entered(rt, alloc, &more, &deep, b"deep", chosen)
+    let none = empty(rt, alloc, 0)?;
+    let one = with_atom(rt, alloc, &none, 0, b"a", chosen)?;
+    let two = with_atom(rt, alloc, &one, 1, b"b", chosen)?;
+    let more = with_nested(rt, alloc, &two, 62, b"shallow", chosen)?;
+    with_nested(rt, alloc, &more, 63, b"deep", chosen)
 }
 
 pub(crate) fn names_in(alloc: Global, store: &Store) -> Result<Names, NoMemory>
