@@ -2,7 +2,8 @@
 
 use crate::making::{guard, lines, lit, name, names, numbers, set};
 use lois_answers::{Case, Cases, FaultKind, Lines, Results, Trace, is_sound_term, tags_are_names};
-use lois_base::{Comps, Lit, NoMemory, Op, Term, Terms};
+use lois_base::Op::{Eq, Lt, Ne};
+use lois_base::{Comps, NoMemory, Op, Term, Terms};
 use std::alloc::Global;
 use std::process::Abort;
 use std::test::Fail;
@@ -15,9 +16,18 @@ fn tuple(alloc: Global, levels: &[usize]) -> Result<Term, NoMemory> {
     Ok(Term::Tup(parts))
 }
 
-// `{($0, $1) for $0 $1 if ..}`
-fn pairs(alloc: Global, literals: &[Lit]) -> Result<Term, NoMemory> {
-    set(alloc, 2, literals, tuple(alloc, &[0, 1])?)
+// `($0, .., $0)` with so many parts
+fn wide(alloc: Global, width: usize) -> Result<Term, NoMemory> {
+    let mut parts = Terms::new(alloc);
+    for _ in 0..width {
+        parts.push(Term::Var(0))?;
+    }
+    Ok(Term::Tup(parts))
+}
+
+// `{($0, $1) for $0 $1 if $0 .. $1}`
+fn pairs(alloc: Global, op: Op) -> Result<Term, NoMemory> {
+    set(alloc, 2, &[lit(op, 0, 1)], tuple(alloc, &[0, 1])?)
 }
 
 fn empty(alloc: Global) -> Term {
@@ -33,169 +43,165 @@ fn nested(alloc: Global, brackets: usize) -> Result<Term, NoMemory> {
     Ok(term)
 }
 
-// what stands in results with one case and one line, but for the line's term
-#[derive(Drop)]
-struct Frame<'a> {
-    order: bool,
-    parameters: &'a [&'a [u8]],
-    when: &'a [Lit],
-    word: &'a [u8],
+// what a line holds
+#[derive(Clone, Copy, Debug)]
+enum Value {
+    Tag,
+    Level(usize),
+    // so many parts
+    Tuple(usize),
+    // so many brackets
+    Nested(usize),
+    Atoms,
+    // the atoms between two levels
+    Interval,
+    // pairs of atoms that stand so to one another
+    Pairs(Op),
+    // all atoms, where the first is that at a level
+    Equal(usize),
 }
 
-fn around<'a>(order: bool, parameters: &'a [&'a [u8]]) -> Frame<'a> {
-    Frame {
-        order,
-        parameters,
-        when: &[],
-        word: b"s",
+fn value_of(rt: &impl Abort, alloc: Global, value: Value) -> Result<Term, NoMemory> {
+    match value {
+        Value::Tag => Ok(Term::Tag(name(rt, alloc, b"end")?)),
+        Value::Level(level) => Ok(Term::Var(level)),
+        Value::Tuple(width) => wide(alloc, width),
+        Value::Nested(brackets) => nested(alloc, brackets),
+        Value::Atoms => set(alloc, 1, &[], Term::Var(0)),
+        Value::Interval => set(alloc, 1, &[lit(Lt, 0, 2), lit(Lt, 2, 1)], Term::Var(2)),
+        Value::Pairs(op) => pairs(alloc, op),
+        Value::Equal(level) => set(alloc, 1, &[lit(Eq, 0, level)], Term::Var(0)),
     }
 }
 
-fn is_sound(
+// results with one case, which has one line
+fn results(
     rt: &impl Abort,
     alloc: Global,
-    frame: Frame<'_>,
-    term: Term,
-) -> Result<bool, NoMemory> {
+    order: bool,
+    parameters: &[&[u8]],
+    case: Case,
+) -> Result<Results, NoMemory> {
     let mut cases = Cases::new(alloc);
-    cases.push(Case {
-        when: guard(alloc, frame.when)?,
-        lines: lines(rt, alloc, frame.word, term)?,
-    })?;
-    let results = Results {
-        order: frame.order,
-        parameters: names(rt, alloc, frame.parameters)?,
+    cases.push(case)?;
+    Ok(Results {
+        order,
+        parameters: names(rt, alloc, parameters)?,
         cases,
-    };
-    Ok(results.sound())
+    })
 }
+
+// the case that always holds
+fn always(rt: &impl Abort, alloc: Global, word: &[u8], term: Term) -> Result<Case, NoMemory> {
+    Ok(Case {
+        when: guard(alloc, &[])?,
+        lines: lines(rt, alloc, word, term)?,
+    })
+}
+
+// the order, the parameters, what a line holds, and what this is
+type Row<'a> = (bool, &'a [&'a [u8]], Value, &'a str);
+
+fn are_sound(
+    rt: &impl Abort,
+    alloc: Global,
+    rows: &[Row<'_>],
+    sound: bool,
+) -> Result<(), NoMemory> {
+    for (order, parameters, held, what) in rows {
+        let case = always(rt, alloc, b"s", value_of(rt, alloc, *held)?)?;
+        let results = results(rt, alloc, *order, parameters, case)?;
+        assert_eq!(rt; results.sound(), sound, "{what}");
+    }
+    Ok(())
+}
+
+const WITHIN_THE_LIMITS: [Row<'static>; 6] = [
+    (false, &[], Value::Tag, "a tag may be a word"),
+    (false, &[b"a"], Value::Tuple(8), "8 parts"),
+    (false, &[], Value::Nested(64), "64 brackets"),
+    (false, &[], Value::Atoms, "all atoms"),
+    (true, &[b"a", b"b"], Value::Interval, "an interval"),
+    (false, &[], Value::Pairs(Ne), "pairs"),
+];
 
 #[test]
 fn terms_within_the_limits_are_sound(rt: HostRuntime) -> Result<(), Fail> {
-    let alloc = rt.alloc();
-    let tag = Term::Tag(name(&rt, alloc, b"end")?);
-    assert!(rt;
-        is_sound(&rt, alloc, around(false, &[]), tag)?,
-        "a tag may be a word"
-    );
-    let eight = tuple(alloc, &[0, 0, 0, 0, 0, 0, 0, 0])?;
-    assert!(rt;
-        is_sound(&rt, alloc, around(false, &[b"a"]), eight)?,
-        "8 parts"
-    );
-    let deep = nested(alloc, 64)?;
-    assert!(rt;
-        is_sound(&rt, alloc, around(false, &[]), deep)?,
-        "64 brackets"
-    );
-    Ok(())
+    Ok(are_sound(&rt, rt.alloc(), &WITHIN_THE_LIMITS, true)?)
 }
 
-#[test]
-fn worked_results_are_sound(rt: HostRuntime) -> Result<(), Fail> {
-    let alloc = rt.alloc();
-    let atoms = set(alloc, 1, &[], Term::Var(0))?;
-    assert!(rt;
-        is_sound(&rt, alloc, around(false, &[]), atoms)?,
-        "all atoms"
-    );
-    let interval = set(
-        alloc,
-        1,
-        &[lit(Op::Lt, 0, 2), lit(Op::Lt, 2, 1)],
-        Term::Var(2),
-    )?;
-    assert!(rt;
-        is_sound(&rt, alloc, around(true, &[b"a", b"b"]), interval)?,
-        "an interval"
-    );
-    let different = pairs(alloc, &[lit(Op::Ne, 0, 1)])?;
-    assert!(rt;
-        is_sound(&rt, alloc, around(false, &[]), different)?,
-        "pairs"
-    );
-    Ok(())
-}
+const PAST_A_LIMIT: [Row<'static>; 6] = [
+    (false, &[b"a"], Value::Tuple(9), "9 parts"),
+    (false, &[b"a"], Value::Tuple(1), "1 part"),
+    (false, &[], Value::Nested(65), "65 brackets"),
+    (false, &[b"a"], Value::Level(1), "a level past its place"),
+    (
+        false,
+        &[b"a"],
+        Value::Equal(2),
+        "a guard's level past its place",
+    ),
+    (
+        false,
+        &[],
+        Value::Pairs(Lt),
+        "an order among unordered atoms",
+    ),
+];
 
 #[test]
 fn terms_past_a_limit_are_not_sound(rt: HostRuntime) -> Result<(), Fail> {
-    let alloc = rt.alloc();
-    let nine = tuple(alloc, &[0, 0, 0, 0, 0, 0, 0, 0, 0])?;
-    assert!(rt;
-        !is_sound(&rt, alloc, around(false, &[b"a"]), nine)?,
-        "9 parts"
-    );
-    let one = tuple(alloc, &[0])?;
-    assert!(rt;
-        !is_sound(&rt, alloc, around(false, &[b"a"]), one)?,
-        "1 part"
-    );
-    let deep = nested(alloc, 65)?;
-    assert!(rt;
-        !is_sound(&rt, alloc, around(false, &[]), deep)?,
-        "65 brackets"
-    );
-    Ok(())
+    Ok(are_sound(&rt, rt.alloc(), &PAST_A_LIMIT, false)?)
 }
 
-#[test]
-fn levels_and_orders_out_of_place_are_not_sound(rt: HostRuntime) -> Result<(), Fail> {
-    let alloc = rt.alloc();
-    let level = Term::Var(1);
-    assert!(rt;
-        !is_sound(&rt, alloc, around(false, &[b"a"]), level)?,
-        "a level past its place"
-    );
-    let far = set(alloc, 1, &[lit(Op::Eq, 0, 2)], Term::Var(0))?;
-    assert!(rt;
-        !is_sound(&rt, alloc, around(false, &[b"a"]), far)?,
-        "a guard's level past its place"
-    );
-    let less = pairs(alloc, &[lit(Op::Lt, 0, 1)])?;
-    assert!(rt;
-        !is_sound(&rt, alloc, around(false, &[]), less)?,
-        "an order among unordered atoms"
-    );
-    Ok(())
-}
+const OUT_OF_PLACE: [Row<'static>; 2] = [
+    (
+        false,
+        &[b"a", b"b", b"a"],
+        Value::Nested(1),
+        "a parameter twice",
+    ),
+    (
+        false,
+        &[b"turns"],
+        Value::Nested(1),
+        "a word as a parameter",
+    ),
+];
 
 #[test]
 fn names_out_of_place_are_not_sound(rt: HostRuntime) -> Result<(), Fail> {
     let alloc = rt.alloc();
-    let twice = around(false, &[b"a", b"b", b"a"]);
-    assert!(rt;
-        !is_sound(&rt, alloc, twice, empty(alloc))?,
-        "a parameter twice"
-    );
-    let word = around(false, &[b"turns"]);
-    assert!(rt;
-        !is_sound(&rt, alloc, word, empty(alloc))?,
-        "a word as a parameter"
-    );
-    let mut line = around(false, &[]);
-    line.word = b"for";
-    assert!(rt;
-        !is_sound(&rt, alloc, line, empty(alloc))?,
-        "a word as a line's name"
-    );
+    are_sound(&rt, alloc, &OUT_OF_PLACE, false)?;
+    let case = always(&rt, alloc, b"for", empty(alloc))?;
+    let results = results(&rt, alloc, false, &[], case)?;
+    assert!(rt; !results.sound(), "a word as a line's name");
     Ok(())
+}
+
+// whether results over unordered atoms are sound whose case holds where the literal does
+fn is_sound_where(
+    rt: &impl Abort,
+    alloc: Global,
+    parameters: &[&[u8]],
+    op: Op,
+) -> Result<bool, NoMemory> {
+    let case = Case {
+        when: guard(alloc, &[lit(op, 0, 1)])?,
+        lines: lines(rt, alloc, b"s", empty(alloc))?,
+    };
+    Ok(results(rt, alloc, false, parameters, case)?.sound())
 }
 
 #[test]
 fn cases_out_of_place_are_not_sound(rt: HostRuntime) -> Result<(), Fail> {
     let alloc = rt.alloc();
-    let far = [lit(Op::Ne, 0, 1)];
-    let mut case = around(false, &[b"a"]);
-    case.when = &far;
     assert!(rt;
-        !is_sound(&rt, alloc, case, empty(alloc))?,
+        !is_sound_where(&rt, alloc, &[b"a"], Ne)?,
         "no such parameter"
     );
-    let less = [lit(Op::Lt, 0, 1)];
-    let mut case = around(false, &[b"a", b"b"]);
-    case.when = &less;
     assert!(rt;
-        !is_sound(&rt, alloc, case, empty(alloc))?,
+        !is_sound_where(&rt, alloc, &[b"a", b"b"], Lt)?,
         "an order among unordered atoms"
     );
     Ok(())
@@ -222,45 +228,32 @@ fn is_sound_trace(
     Ok(trace.sound())
 }
 
-#[test]
-fn traces_within_the_limits_are_sound(rt: HostRuntime) -> Result<(), Fail> {
-    let alloc = rt.alloc();
-    let last = 1_048_577;
-    assert!(rt;
-        is_sound_trace(&rt, alloc, &[], (1, 51), &[0, 1], 1)?,
-        "an element of two"
-    );
-    assert!(rt;
-        is_sound_trace(&rt, alloc, &[b"a"], (last, last), &[7], 0)?,
-        "the last place"
-    );
-    assert!(rt;
-        !is_sound_trace(&rt, alloc, &[], (0, 30), &[0], 0)?,
-        "no line"
-    );
-    assert!(rt;
-        !is_sound_trace(&rt, alloc, &[], (1, last + 1), &[0], 0)?,
-        "past the last place"
-    );
-    Ok(())
-}
+// the last place of a line and of a column
+const LAST: usize = 1_048_577;
+
+const TRACES: [(&[&[u8]], (usize, usize), &[u64], usize, bool, &str); 7] = [
+    (&[], (1, 51), &[0, 1], 1, true, "an element of two"),
+    (&[b"a"], (LAST, LAST), &[7], 0, true, "the last place"),
+    (&[], (0, 30), &[0], 0, false, "no line"),
+    (&[], (1, LAST + 1), &[0], 0, false, "past the last place"),
+    (&[b"a", b"b"], (1, 30), &[0], 0, false, "too few numbers"),
+    (
+        &[b"a", b"a"],
+        (1, 30),
+        &[0, 0],
+        0,
+        false,
+        "a parameter twice",
+    ),
+    (&[], (1, 30), &[0], 1, false, "an element past the choice"),
+];
 
 #[test]
-fn choices_are_long_enough(rt: HostRuntime) -> Result<(), Fail> {
-    let alloc = rt.alloc();
-    let place = (1, 30);
-    assert!(rt;
-        !is_sound_trace(&rt, alloc, &[b"a", b"b"], place, &[0], 0)?,
-        "too few numbers"
-    );
-    assert!(rt;
-        !is_sound_trace(&rt, alloc, &[b"a", b"a"], place, &[0, 0], 0)?,
-        "a parameter twice"
-    );
-    assert!(rt;
-        !is_sound_trace(&rt, alloc, &[], place, &[0], 1)?,
-        "an element past the choice"
-    );
+fn traces_are_sound(rt: HostRuntime) -> Result<(), Fail> {
+    for (parameters, place, sample, level, sound, what) in TRACES {
+        let found = is_sound_trace(&rt, rt.alloc(), parameters, place, sample, level)?;
+        assert_eq!(rt; found, sound, "{what}");
+    }
     Ok(())
 }
 
@@ -274,7 +267,6 @@ fn lines_keep_their_items(rt: HostRuntime) -> Result<(), Fail> {
     assert_eq!(rt; line.name.bytes(), b"s".as_slice());
     assert!(rt; matches!(line.term, Term::Var(3)));
     assert!(rt; copy.get(1).is_none());
-
     Ok(())
 }
 
@@ -282,10 +274,7 @@ fn lines_keep_their_items(rt: HostRuntime) -> Result<(), Fail> {
 fn cases_keep_their_items(rt: HostRuntime) -> Result<(), Fail> {
     let alloc = rt.alloc();
     let mut cases = Cases::new(alloc);
-    cases.push(Case {
-        when: guard(alloc, &[])?,
-        lines: lines(&rt, alloc, b"s", Term::Var(3))?,
-    })?;
+    cases.push(always(&rt, alloc, b"s", Term::Var(3))?)?;
     assert_eq!(rt; cases.len(), 1);
     assert_eq!(rt; cases.as_slice().len(), 1);
     assert_eq!(rt; cases.get(0).map(|case| case.lines.len()), Some(1));
@@ -296,7 +285,7 @@ fn cases_keep_their_items(rt: HostRuntime) -> Result<(), Fail> {
 #[test]
 fn terms_are_sound_by_themselves(rt: HostRuntime) -> Result<(), Fail> {
     let alloc = rt.alloc();
-    let less = pairs(alloc, &[lit(Op::Lt, 0, 1)])?;
+    let less = pairs(alloc, Lt)?;
     tags_are_names(&less);
     assert!(rt; is_sound_term(&less, true, 0));
     assert!(rt; !is_sound_term(&less, false, 0));

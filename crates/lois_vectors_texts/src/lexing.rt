@@ -4,98 +4,103 @@ use lois_lexer::TokenKind::{Name, Number, Symbol, Tag, Word};
 use lois_lexer::{LexError, Place, RESERVED, Token, TokenKind, is_reserved, lex, place_of};
 use std::test::Fail;
 
-fn token(kind: TokenKind, from: usize, to: usize) -> Token {
-    Token { kind, from, to }
+/// A token as tables have it: its kind, where it begins and where it ends.
+type Row = (TokenKind, usize, usize);
+
+fn are(tokens: &[Token], rows: &[Row]) -> bool {
+    if tokens.len() != rows.len() {
+        return false;
+    }
+    for (token, row) in tokens.iter().zip(rows) {
+        if (token.kind, token.from, token.to) != *row {
+            return false;
+        }
+    }
+    true
 }
 
 #[test]
 fn texts_have_their_tokens(rt: HostRuntime) -> Result<(), Fail> {
-    let cases: [(&[u8], &[Token]); 8] = [
+    let cases: [(&[u8], &[Row]); 8] = [
         (b"", &[]),
         (
             b"atoms equality; let a = atoms; print a;",
             &[
-                token(Word, 0, 5),
-                token(Word, 6, 14),
-                token(Symbol, 14, 15),
-                token(Word, 16, 19),
-                token(Name, 20, 21),
-                token(Symbol, 22, 23),
-                token(Word, 24, 29),
-                token(Symbol, 29, 30),
-                token(Word, 31, 36),
-                token(Name, 37, 38),
-                token(Symbol, 38, 39),
+                (Word, 0, 5),
+                (Word, 6, 14),
+                (Symbol, 14, 15),
+                (Word, 16, 19),
+                (Name, 20, 21),
+                (Symbol, 22, 23),
+                (Word, 24, 29),
+                (Symbol, 29, 30),
+                (Word, 31, 36),
+                (Name, 37, 38),
+                (Symbol, 38, 39),
             ],
         ),
         // `:=` is one symbol, `:` another.
         (
             b"x:=y: z",
             &[
-                token(Name, 0, 1),
-                token(Symbol, 1, 3),
-                token(Name, 3, 4),
-                token(Symbol, 4, 5),
-                token(Name, 6, 7),
+                (Name, 0, 1),
+                (Symbol, 1, 3),
+                (Name, 3, 4),
+                (Symbol, 4, 5),
+                (Name, 6, 7),
             ],
         ),
         // A tag may be a reserved word, and a name may begin as one.
         (
             b"'end 'a1_B ends",
-            &[token(Tag, 0, 4), token(Tag, 5, 10), token(Name, 11, 15)],
+            &[(Tag, 0, 4), (Tag, 5, 10), (Name, 11, 15)],
         ),
         // Letters behind digits are the next token.
         (
             b"12ab 0 123456789",
             &[
-                token(Number, 0, 2),
-                token(Name, 2, 4),
-                token(Number, 5, 6),
-                token(Number, 7, 16),
+                (Number, 0, 2),
+                (Name, 2, 4),
+                (Number, 5, 6),
+                (Number, 7, 16),
             ],
         ),
         // Tab and CR in a comment; a comment at the end without LF.
-        (
-            b"a # one\tTWO~\r\nb # end",
-            &[token(Name, 0, 1), token(Name, 14, 15)],
-        ),
+        (b"a # one\tTWO~\r\nb # end", &[(Name, 0, 1), (Name, 14, 15)]),
         // A comment ends before the LF, and the next line is read.
-        (
-            b"#\nlet#\n\t\r x",
-            &[token(Word, 2, 5), token(Name, 10, 11)],
-        ),
+        (b"#\nlet#\n\t\r x", &[(Word, 2, 5), (Name, 10, 11)]),
         (
             b"a!=b<c=(d,e)[{f}];",
             &[
-                token(Name, 0, 1),
-                token(Symbol, 1, 3),
-                token(Name, 3, 4),
-                token(Symbol, 4, 5),
-                token(Name, 5, 6),
-                token(Symbol, 6, 7),
-                token(Symbol, 7, 8),
-                token(Name, 8, 9),
-                token(Symbol, 9, 10),
-                token(Name, 10, 11),
-                token(Symbol, 11, 12),
-                token(Symbol, 12, 13),
-                token(Symbol, 13, 14),
-                token(Name, 14, 15),
-                token(Symbol, 15, 16),
-                token(Symbol, 16, 17),
-                token(Symbol, 17, 18),
+                (Name, 0, 1),
+                (Symbol, 1, 3),
+                (Name, 3, 4),
+                (Symbol, 4, 5),
+                (Name, 5, 6),
+                (Symbol, 6, 7),
+                (Symbol, 7, 8),
+                (Name, 8, 9),
+                (Symbol, 9, 10),
+                (Name, 10, 11),
+                (Symbol, 11, 12),
+                (Symbol, 12, 13),
+                (Symbol, 13, 14),
+                (Name, 14, 15),
+                (Symbol, 15, 16),
+                (Symbol, 16, 17),
+                (Symbol, 17, 18),
             ],
         ),
     ];
     for (text, want) in cases {
         let tokens = lex(rt.alloc(), text)?;
-        assert_eq!(rt; tokens.as_slice(), want);
+        assert!(rt; are(tokens.as_slice(), want), "at {text:?}");
     }
     Ok(())
 }
 
 #[test]
-fn texts_are_refused(rt: HostRuntime) -> Result<(), Fail> {
+fn texts_are_refused(rt: HostRuntime) {
     let cases: [(&[u8], LexError); 19] = [
         (b"atoms equality; let a = @;", LexError::BadByte(24)),
         (
@@ -130,13 +135,14 @@ fn texts_are_refused(rt: HostRuntime) -> Result<(), Fail> {
     for (text, want) in cases {
         assert_eq!(rt; lex(rt.alloc(), text).err(), Some(want), "at {text:?}");
     }
+}
+
+#[test]
+fn names_have_64_bytes_at_most(rt: HostRuntime) -> Result<(), Fail> {
     let longest: &[u8] =
         b"aaaaaaaaaaaaaaaaaaaaaaaaaaaaaaaaaaaaaaaaaaaaaaaaaaaaaaaaaaaaaaaa 'aaaaaaaaaaaaaaaaaaaaaaaaaaaaaaaaaaaaaaaaaaaaaaaaaaaaaaaaaaaaaaaa";
     let tokens = lex(rt.alloc(), longest)?;
-    assert_eq!(rt;
-        tokens.as_slice(),
-        [token(Name, 0, 64), token(Tag, 65, 130)].as_slice()
-    );
+    assert!(rt; are(tokens.as_slice(), &[(Name, 0, 64), (Tag, 65, 130)]));
     Ok(())
 }
 
@@ -152,11 +158,15 @@ fn words_are_reserved(rt: HostRuntime) -> Result<(), Fail> {
         assert!(rt; is_reserved(t.bytes(text)));
         assert_eq!(rt; t.bytes(text), word);
     }
+    Ok(())
+}
+
+#[test]
+fn other_words_are_names(rt: HostRuntime) {
     let names: [&[u8]; 5] = [b"", b"Atoms", b"ends", b"en", b"cases"];
     for name in names {
         assert!(rt; !is_reserved(name));
     }
-    Ok(())
 }
 
 #[test]
@@ -177,9 +187,10 @@ fn places_are_lines_and_columns(rt: HostRuntime) {
     }
 }
 
+const LIMIT: usize = 1_048_576;
+
 #[test]
 fn a_mebibyte_is_read(rt: HostRuntime) -> Result<(), Fail> {
-    const LIMIT: usize = 1_048_576;
     // Each text is a byte that stands many times, with how many tokens it has.
     for (first, byte, count) in [(b' ', b' ', 0), (b'#', b'x', 0), (b'{', b'{', LIMIT)] {
         let mut text = vec![in rt.alloc(); byte; LIMIT]?;
@@ -194,6 +205,11 @@ fn a_mebibyte_is_read(rt: HostRuntime) -> Result<(), Fail> {
             }
         );
     }
+    Ok(())
+}
+
+#[test]
+fn a_mebibyte_of_statements_is_read(rt: HostRuntime) -> Result<(), Fail> {
     let line: &[u8] = b"let s = {(x, y) for x in atoms};\n";
     let mut text = Vec::new(rt.alloc());
     for _ in 0..LIMIT / 33 {

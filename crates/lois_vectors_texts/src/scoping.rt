@@ -1,56 +1,23 @@
-//! Two small scripts, built by hand.
+//! Two small scripts.
 
-use crate::making::{at, name};
+use crate::making::at;
+use lois_lexer::lex;
 use lois_scope::{ScopeError, check};
-use lois_script::{Binding, Cond, Expr, Exprs, Param, Params, Script, Stmt, Stmts};
-use std::process::Abort;
+use lois_script::Script;
+use lois_syntax::read_script;
+use std::alloc::Global;
 use std::test::Fail;
 
-// `atoms order; parameter p; let s = p; print s;`
-fn lists_a_parameter(rt: &(impl Abort + AllocGlobal)) -> Result<Script, Fail> {
-    let alloc = rt.alloc();
-    let mut parameters = Params::new(alloc);
-    parameters.push(Param {
-        pos: at(23),
-        name: name(rt, alloc, b"p")?,
-    })?;
-    let mut body = Stmts::new(alloc);
-    let value = Expr::Var(at(34), name(rt, alloc, b"p")?);
-    body.push(Stmt::Let(at(30), name(rt, alloc, b"s")?, value))?;
-    body.push(Stmt::Print(at(37), at(43), name(rt, alloc, b"s")?))?;
-    Ok(Script {
-        order: true,
-        parameters,
-        body,
-    })
-}
-
-// `atoms equality; let s = {}; for x in atoms { s := {x}; }`
-fn assigns_in_a_loop(rt: &(impl Abort + AllocGlobal)) -> Result<Script, Fail> {
-    let alloc = rt.alloc();
-    let mut items = Exprs::new(alloc);
-    items.push(Expr::Var(at(51), name(rt, alloc, b"x")?))?;
-    let mut inside = Stmts::new(alloc);
-    inside.push(Stmt::Assign(at(45), name(rt, alloc, b"s")?, Expr::Listed(at(50), items)))?;
-    let binding = Binding {
-        pos: at(32),
-        name: name(rt, alloc, b"x")?,
-        from: Expr::Atoms(at(37)),
-    };
-    let mut body = Stmts::new(alloc);
-    let nothing = Expr::Listed(at(24), Exprs::new(alloc));
-    body.push(Stmt::Let(at(20), name(rt, alloc, b"s")?, nothing))?;
-    body.push(Stmt::For(binding, Cond::True, inside))?;
-    Ok(Script {
-        order: false,
-        parameters: Params::new(alloc),
-        body,
-    })
+fn script_of(alloc: Global, text: &[u8]) -> Result<Script, Fail> {
+    let tokens = lex(alloc, text)?;
+    Ok(read_script(alloc, &tokens, text)?)
 }
 
 #[test]
 fn well_scoped(rt: HostRuntime) -> Result<(), Fail> {
-    let scoped = check(rt.alloc(), lists_a_parameter(&rt)?)?;
+    let alloc = rt.alloc();
+    let script = script_of(alloc, b"atoms order; parameter p; let s = p; print s;")?;
+    let scoped = check(alloc, script)?;
     assert_eq!(rt; scoped.script().parameters.len(), 1);
     let script = scoped.into_script();
     assert!(rt; script.order);
@@ -60,7 +27,9 @@ fn well_scoped(rt: HostRuntime) -> Result<(), Fail> {
 
 #[test]
 fn outer_assignment(rt: HostRuntime) -> Result<(), Fail> {
-    let refused = match check(rt.alloc(), assigns_in_a_loop(&rt)?) {
+    let alloc = rt.alloc();
+    let text = b"atoms equality; let s = {}; for x in atoms { s := {x}; }";
+    let refused = match check(alloc, script_of(alloc, text)?) {
         Err(ScopeError::OuterAssign(pos)) => Some(pos.offset),
         _ => None,
     };
