@@ -293,17 +293,10 @@ fn a_fault_of_the_source_is_told(rt: HostRuntime) -> Result<(), Fail> {
 fn a_fault_of_the_sink_is_told(rt: HostRuntime) -> Result<(), Fail> {
     let alloc = rt.alloc();
     for (step, failing, room, held) in [
-        (10, 0, 76, 0),
-        (10, 1, 76, 10),
-        (10, 2, 76, 20),
-        (10, 3, 76, 30),
-        (10, 4, 76, 40),
-        (10, 5, 76, 50),
-        (10, 6, 76, 60),
-        (10, 7, 76, 70),
         (10, 1, 4096, 10),
-        (1, 75, 4096, 75),
+        (10, 7, 4096, 70),
         (10, 99, 70, 70),
+        (1, 75, 4096, 75),
         (4096, 9, 70, 70),
         (7, 99, 70, 70),
         (4096, 9, 0, 0),
@@ -346,6 +339,42 @@ fn a_fault_of_the_sink_is_told(rt: HostRuntime) -> Result<(), Fail> {
         )?;
         assert_eq!(rt; told.status, 0, "step {step}");
         assert_eq!(rt; told.held.as_slice(), OUTPUT, "step {step}");
+    }
+    Ok(())
+}
+
+// Each call in turn of a sink that takes ten bytes a call.
+#[test]
+fn each_call_of_the_sink_can_fail(rt: HostRuntime) -> Result<(), Fail> {
+    let alloc = rt.alloc();
+    let rows = [
+        (0, 0),
+        (1, 10),
+        (2, 20),
+        (3, 30),
+        (4, 40),
+        (5, 50),
+        (6, 60),
+        (7, 70),
+    ];
+    for (failing, held) in rows {
+        let told = call(
+            alloc,
+            &["run"],
+            SCRIPT,
+            Edge {
+                step: 4096,
+                failing: &[],
+            },
+            76,
+            Edge {
+                step: 10,
+                failing: &[failing],
+            },
+        )?;
+        assert_eq!(rt; told.status, 7, "call {failing}");
+        assert_eq!(rt; told.held.len(), held, "call {failing}");
+        assert!(rt; OUTPUT.starts_with(told.held.as_slice()), "call {failing}");
     }
     Ok(())
 }
