@@ -33,7 +33,7 @@ pub struct Taken {
 
 /// A step from the state of the stage to a member of the set `layer`, or `None` where there is none at any choice that the
 /// stage admits.
-pub fn taken<T: Structure>(
+pub fn step_from<T: Structure>(
     alloc: Global,
     stage: &Stage,
     steps: &Comps,
@@ -54,14 +54,14 @@ pub fn taken<T: Structure>(
     ensures only_asked { HasOnlyAsked (λ b. (⟦<dyn Decider as Decider>⟧ b.vtable).kind_of b.value) (λ b. (⟦<dyn Decider as Decider>⟧ b.vtable).questions b.value) chosen.old chosen.new }
 {
     for comp in steps.as_slice() {
-        if let Some(step) = taken_by::<T>(alloc, stage, comp, layer, size, chosen)? {
+        if let Some(step) = step_by::<T>(alloc, stage, comp, layer, size, chosen)? {
             return Ok(Some(step));
         }
     }
     Ok(None)
 }
 
-fn taken_by<T: Structure>(
+fn step_by<T: Structure>(
     alloc: Global,
     stage: &Stage,
     comp: &Comp,

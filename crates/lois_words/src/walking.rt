@@ -14,7 +14,7 @@ ghost use Rattle.lois_words.specs.Walks.{IsWay, HaveAtLeast, AreMoved, IsLengthe
 
 use crate::layers::sources;
 use crate::stages::{Stage, begun};
-use crate::steps::{Taken, taken};
+use crate::steps::{Taken, step_from};
 use crate::words::Word;
 use lois_automata::{FiveSets, among_more};
 use lois_base::{Constraint, Decider, NoMemory, Structure, Term, Terms};
@@ -56,7 +56,7 @@ pub fn word_of<T: Structure>(
     'walking: while left > 0 {
         left -= 1;
         let layer = &layers.as_slice()[left];
-        let Some(step) = taken::<T>(alloc, &here, sets.steps, layer, size, chosen)? else {
+        let Some(step) = step_from::<T>(alloc, &here, sets.steps, layer, size, chosen)? else {
             unreachable!()
         };
         let Taken { letter, stage } = step;
