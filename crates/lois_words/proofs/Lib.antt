@@ -1,3 +1,4 @@
+pub mod Cubes
 pub mod Readings
 pub mod Sources
 pub mod Choices

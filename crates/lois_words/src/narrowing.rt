@@ -1,6 +1,6 @@
 //! Constraints narrowed to one cube that can be met.
 
-ghost use Rattle.std.specs.Prelude.{◌≡◌, List, length, IfOk, IfSome, IsNone, IsTrue};
+ghost use Rattle.std.specs.Prelude.{◌≡◌, List, [], ◌∷◌, length, IfOk, IfSome, IsNone, IsTrue};
 ghost use Rattle.lois_base.specs.Atom.{Atom};
 ghost use Rattle.lois_base.specs.Fits.{ConstraintFits};
 ghost use Rattle.lois_base.specs.Truth.{holds, sampled};
@@ -8,7 +8,7 @@ ghost use Rattle.lois_deciders.specs.Asked.{CanBeMet};
 ghost use Rattle.lois_deciders.specs.OnlyAsked.{HasOnlyAsked};
 ghost use Rattle.lois_words.specs.Stages.{IsNarrowed};
 
-use lois_base::{Constraint, Decider, NoMemory, Numbers};
+use lois_base::{Constraint, Cube, Decider, NoMemory, Numbers};
 use lois_deciders::{Chosen, Met};
 use std::alloc::Global;
 
@@ -39,12 +39,18 @@ fn cube_at(alloc: Global, wanted: &Constraint, sample: &[u64]) -> Result<Constra
     ensures narrower { IfOk result (λ r. (c : List Atom) → IsTrue (holds c r) → IsTrue (holds c wanted.now)) }
     ensures levels { IfOk result (ConstraintFits (length sample.now)) }
 {
-    let mut first = Constraint::new(alloc);
     for cube in wanted.as_slice() {
         if cube.at(sample) {
-            first.push(cube.copy(alloc)?)?;
-            return Ok(first);
+            return only(alloc, cube);
         }
     }
-    Ok(first)
+    Ok(Constraint::new(alloc))
+}
+
+fn only(alloc: Global, cube: &Cube) -> Result<Constraint, NoMemory>
+    ensures { IfOk result (λ r. r ≡ cube.now ∷ []) }
+{
+    let mut one = Constraint::new(alloc);
+    one.push(cube.copy(alloc)?)?;
+    Ok(one)
 }
