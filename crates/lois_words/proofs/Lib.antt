@@ -1,4 +1,3 @@
-pub mod Cubes
 pub mod Readings
 pub mod Sources
 pub mod Choices

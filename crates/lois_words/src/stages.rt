@@ -30,22 +30,22 @@ pub struct Stage {
 /// any.
 pub fn begun<T: Structure>(
     alloc: Global,
-    initial: &Comps,
+    starts: &Comps,
     layer: &Term,
     under: &Constraint,
     size: usize,
     chosen: &mut Chosen,
 ) -> Result<Option<Stage>, NoMemory>
-    requires levels { ItemsFit size (comps_of initial.now) }
-    requires operators { AdmitsItems T.ordered (comps_of initial.now) }
+    requires levels { ItemsFit size (comps_of starts.now) }
+    requires operators { AdmitsItems T.ordered (comps_of starts.now) }
     requires layer { IsReadable T.ordered size (tree layer.now) }
     requires under { ConstraintFits size under.now }
-    ensures some { IfOk result (λ o. IfSome o (IsBegun size under.now (IsAmong (comps_of initial.now)) (tree layer.now))) }
-    ensures none { IfOk result (λ o. IsNone o → NeverBegins size under.now (IsAmong (comps_of initial.now)) (tree layer.now)) }
+    ensures some { IfOk result (λ o. IfSome o (IsBegun size under.now (IsAmong (comps_of starts.now)) (tree layer.now))) }
+    ensures none { IfOk result (λ o. IsNone o → NeverBegins size under.now (IsAmong (comps_of starts.now)) (tree layer.now)) }
     ensures operators { IfOk result (λ o. IfSome o (λ s. AdmitsTerm T.ordered (tree s.state))) }
     ensures only_asked { HasOnlyAsked (λ b. (⟦<dyn Decider as Decider>⟧ b.vtable).kind_of b.value) (λ b. (⟦<dyn Decider as Decider>⟧ b.vtable).questions b.value) chosen.old chosen.new }
 {
-    for comp in initial.as_slice() {
+    for comp in starts.as_slice() {
         if let Some(stage) = begun_by::<T>(alloc, comp, layer, under, size, chosen)? {
             return Ok(Some(stage));
         }

@@ -8,6 +8,6 @@ use Rattle.lois_words.proofs.stages.begun.Given as goal
 
 abbrev pub invariant-loop-comp : goal.invariant-loop-comp
 invariant-loop-comp g l = record {
-  never : NeverBegins l.size l.under (IsAmong (comps_from l.comp-items l.comp-index)) (tree l.layer) → NeverBegins l.size l.under (IsAmong (comps_of l.initial)) (tree l.layer);
+  never : NeverBegins l.size l.under (IsAmong (comps_from l.comp-items l.comp-index)) (tree l.layer) → NeverBegins l.size l.under (IsAmong (comps_of l.starts)) (tree l.layer);
   only_asked : HasOnlyAsked (λ b. (goal.Decider-dyn g (b.vtable, b.value)).kind_of b.value) (λ b. (goal.Decider-dyn g (b.vtable, b.value)).questions b.value) l.fn.chosen l.chosen;
 }
