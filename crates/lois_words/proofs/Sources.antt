@@ -96,6 +96,9 @@ module _ (s l t i f : CompsD) (n : ℕ) where
           let shorter : length word ≡ k = omega arith in
           (are c e p).1 (x, q, step, (is c e q).1 (word, shorter, (z, j, reads)))
 
+pub no_layers : (n : ℕ) (m : List Atom → Machine) → AreLayers n m []
+no_layers n m k below d = absurd (omega arith)
+
 pub layers_push : (n : ℕ) (m : List Atom → Machine) (ts : List TermD) (t : TermD) → AreLayers n m ts → IsLayer n m (length ts) t → AreLayers n m (ts ++ t ∷ [])
 layers_push n m ts t each last k below d = elim (cases_lt k (length ts)) [
   | inl less ↦ subst (IsLayer n m k) (sym (get_or_append_left ts (t ∷ []) d k less)) (each k less d)
