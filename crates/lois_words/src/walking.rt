@@ -49,18 +49,22 @@ pub fn word_of<T: Structure>(
     ensures widths { IfOk result (λ w. ItemsHaveUsualWidths (comps_of sets.entry.steps.now) → All HasUsualWidths w.letters) }
     ensures only_asked { HasOnlyAsked (λ b. (⟦<dyn Decider as Decider>⟧ b.vtable).kind_of b.value) (λ b. (⟦<dyn Decider as Decider>⟧ b.vtable).questions b.value) chosen.old chosen.new }
 {
-    let Found { layers, stage } = nearest::<T>(alloc, sets, under, size, chosen)?;
+    let found = nearest::<T>(alloc, sets, under, size, chosen)?;
+    let Found { layers, stage } = found;
+    let all = layers.as_slice();
     let mut here = stage;
     let mut letters = Terms::new(alloc);
-    let mut left = layers.len();
+    let mut left = all.len();
     'walking: while left > 0 {
         left -= 1;
-        let layer = &layers.as_slice()[left];
+        let layer = &all[left];
         let Some(step) = step_from::<T>(alloc, &here, sets.steps, layer, size, chosen)? else {
             unreachable!()
         };
         let Taken { letter, stage } = step;
-        letters = lengthened(alloc, &letters, letter, size + here.more, stage.more - here.more)?;
+        let by = stage.more - here.more;
+        let longer = lengthened(alloc, &letters, letter, size + here.more, by)?;
+        letters = longer;
         here = stage;
     }
     Ok(Word {
@@ -69,7 +73,7 @@ pub fn word_of<T: Structure>(
     })
 }
 
-// A list of layers has no more than 2 ^ 64 terms, so that the search ends; it ends at the length of the shortest word.
+// The search is proved to end since a list's length is a usize. With ample memory it ends at the length of a shortest word.
 fn nearest<T: Structure>(
     alloc: Global,
     sets: FiveSets<'_>,
