@@ -4,20 +4,20 @@ use Rattle.std.proofs.lemmas.List.{length-map, length-take-le}
 use Rattle.std.specs.Bool.{IsTrue}
 use Rattle.std.specs.List.{All}
 use Rattle.lois_base.specs.Atom.{Atom, whole}
-use Rattle.lois_base.specs.Data.{TermD, coll, CompsD}
+use Rattle.lois_base.specs.Data.{TermD, CompsD}
 use Rattle.lois_base.specs.Fits.{Fits}
 use Rattle.lois_base.specs.Tree.{tree}
 use Rattle.lois_base.specs.Truth.{holds, sampled}
 use Rattle.lois_base.specs.Values.{PointValue, point}
 use Rattle.lois_base.specs.declared.guards.Lit.{Lit}
-use Rattle.lois_meaning.specs.Automata.{Machine, IsAutomatonOf, AcceptsFrom, Accepts}
+use Rattle.lois_meaning.specs.Automata.{Machine, IsAutomatonOf, Accepts}
 use Rattle.lois_automata.specs.Columns.{five_of, machine_at}
-use Rattle.lois_automata.specs.Machines.{IsAutomatonAt, IsEmptyAt}
+use Rattle.lois_automata.specs.Machines.{IsAutomatonAt}
 use Rattle.lois_automata.specs.Throughout.{HoldsThroughout}
 use Rattle.lois_automata.proofs.FiveMachine.{five_equal, five_machine}
 use Rattle.lois_words.specs.Layers.{AcceptsIn}
 use Rattle.lois_words.specs.Walks.{IsOnWay, IsWay, HaveAtLeast, IsWordOf}
-use Rattle.lois_words.specs.Words.{AcceptsAt, HasLettersAt, values_at, first_sampled, AreAsLong, IsShortestWord}
+use Rattle.lois_words.specs.Words.{AcceptsAt, values_at, first_sampled, IsShortestWord}
 use Rattle.lois_words.specs.declared.stages.Stage.{Stage}
 use Rattle.lois_words.specs.declared.words.Word.{Word}
 use Rattle.lois_words.proofs.Choices.{first_length, other_length, whole_sample}
@@ -88,19 +88,3 @@ module _ (a : TermD) (s l t i f : CompsD) (is : a ≡ five_of s l t i f) (n : �
     where
       first_count : n ≤ length w.sample → length (first_sampled n w.sample) ≡ n
       first_count le = length-map (take n w.sample) whole ∙ length-take-le n w.sample le
-
-  -- where a word was found, the automaton isn't empty throughout
-  pub not_empty : (w : Word) → IsWordOf n u (machine_at s l t i f) w → HoldsThroughout n u (IsEmptyAt a) → ⊥
-  not_empty w h empty = go (empty c k h.admitted)
-    where
-      c : List Atom
-      c = first_sampled n w.sample
-
-      k : length (first_sampled n w.sample) ≡ n
-      k = length-map (take n w.sample) whole ∙ length-take-le n w.sample h.count
-
-      go : IsEmptyAt a (first_sampled n w.sample) → ⊥
-      go (m, own, never) =
-          let word = values_at (sampled w.sample) w.letters in
-          let same = five_equal s l t i f (first_sampled n w.sample) m (subst (λ z. IsAutomatonOf (point z (first_sampled n w.sample)) m) is own) in
-          never word (subst (λ z. Accepts z word) (sym same) h.accepted)

@@ -1,5 +1,5 @@
 -- Steps from the state of a stage, comprehension by comprehension.
-use Rattle.std.proofs.Common.{◌≡◌, ℕ, ◌+◌, ◌-◌, ◌≤◌, ◌<◌, ◌^◌, ◌⊎◌, inl, inr, ◌&&◌, ◌↔◌, List, ◌++◌, length, length-append, sym, ◌∙◌, subst, arith}
+use Rattle.std.proofs.Common.{◌≡◌, ℕ, ◌+◌, ◌<◌, ◌^◌, inl, inr, ◌&&◌, ◌↔◌, List, ◌++◌, length, length-append, sym, ◌∙◌, subst, arith}
 use Rattle.std.proofs.lemmas.List.{append_assoc}
 use Rattle.std.specs.Bool.{IsTrue}
 use Rattle.lois_base.specs.Atom.{Atom}
@@ -22,8 +22,8 @@ use Rattle.lois_automata.proofs.Members.{raised_same, longer_is}
 use Rattle.lois_automata.proofs.Tuples.{triple_to}
 use Rattle.lois_automata.proofs.Written.{triple_is, triple_here, triple_term}
 use Rattle.lois_deciders.specs.Asked.{CanBeMet, Meets}
-use Rattle.lois_words.specs.Stages.{IsNarrowed, IsStage}
-use Rattle.lois_words.specs.Steps.{GoesBy, HoldsWhereGoing, IsGoing, IsTaken, NeverGoes}
+use Rattle.lois_words.specs.Stages.{IsNarrowed}
+use Rattle.lois_words.specs.Steps.{GoesBy, HoldsWhereGoing, IsTaken, NeverGoes}
 use Rattle.lois_words.specs.declared.stages.Stage.{Stage}
 use Rattle.lois_words.specs.declared.steps.Taken.{Taken}
 

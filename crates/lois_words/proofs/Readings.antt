@@ -1,6 +1,6 @@
 -- Words that are the same letter by letter, and their letters.
 use Rattle.std.proofs.Common.{List, [], ◌∷◌, ◌++◌}
-use Rattle.lois_base.specs.Values.{PointValue, IsSame, IsIn}
+use Rattle.lois_base.specs.Values.{PointValue, IsSame}
 use Rattle.lois_base.proofs.Members.{same_refl, same_sym, in_same}
 use Rattle.lois_meaning.specs.Automata.{Machine, IsAutomatonOf, JoinsStates, Reads, Accepts}
 use Rattle.lois_meaning.specs.Kinds.{AreSame}

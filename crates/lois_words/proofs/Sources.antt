@@ -1,5 +1,5 @@
 -- The sources of steps into a set, comprehension by comprehension, and layers of them.
-use Rattle.std.proofs.Common.{◌≡◌, ℕ, zero, suc, ◌+◌, ◌<◌, ◌≤◌, ◌⊎◌, inl, inr, Bool, ◌&&◌, ◌↔◌, List, [], ◌∷◌, ◌++◌, length, length-append, get_or, refl, sym, ap, ◌∙◌, subst, arith}
+use Rattle.std.proofs.Common.{◌≡◌, ℕ, suc, ◌+◌, inl, inr, Bool, ◌&&◌, ◌↔◌, List, [], ◌∷◌, ◌++◌, length, length-append, get_or, refl, sym, ap, ◌∙◌, subst, arith}
 use Rattle.std.proofs.lemmas.Bool.{cases_lt}
 use Rattle.std.proofs.lemmas.List.{get_or_append_left}
 use Rattle.std.proofs.Math.Seq.{get_or-append_seam}
@@ -14,7 +14,7 @@ use Rattle.lois_base.specs.declared.guards.Lit.{Lit}
 use Rattle.lois_base.proofs.Connectives.{both_true}
 use Rattle.lois_base.proofs.Members.{same_refl, same_sym, in_same}
 use Rattle.lois_algebra.specs.Gathered.{IsAmong, IsMadeBy, IsPut}
-use Rattle.lois_meaning.specs.Automata.{Machine, AcceptsFrom}
+use Rattle.lois_meaning.specs.Automata.{Machine}
 use Rattle.lois_meaning.proofs.Automata.{triple_same}
 use Rattle.lois_automata.specs.Adding.{IsMadeOfOne}
 use Rattle.lois_automata.specs.Built.{HoldsWhereIn}

@@ -1,18 +1,16 @@
 -- Stages at initial states.
-use Rattle.std.proofs.Common.{◌≡◌, ℕ, ◌+◌, ◌<◌, ◌^◌, ◌⊎◌, inl, inr, List, ◌++◌, length, length-append, sym, subst, arith}
-use Rattle.std.specs.Bool.{IsTrue}
+use Rattle.std.proofs.Common.{◌≡◌, ℕ, ◌+◌, ◌<◌, ◌^◌, inl, inr, List, ◌++◌, length, length-append, sym, subst, arith}
 use Rattle.lois_base.specs.Atom.{Atom}
 use Rattle.lois_base.specs.Data.{TermD, CompD, comp, CompsD, no_comps, more}
 use Rattle.lois_base.specs.Fits.{Fits}
 use Rattle.lois_base.specs.Tree.{tree}
-use Rattle.lois_base.specs.Truth.{holds}
-use Rattle.lois_base.specs.Values.{PointValue, point, IsIn}
+use Rattle.lois_base.specs.Values.{PointValue, point}
 use Rattle.lois_base.specs.declared.guards.Lit.{Lit}
 use Rattle.lois_base.proofs.Members.{same_refl, same_sym, in_same}
 use Rattle.lois_algebra.specs.Gathered.{IsAmong, IsMadeBy}
 use Rattle.lois_automata.specs.Built.{HoldsWhereAdmittedIn}
 use Rattle.lois_deciders.specs.Asked.{CanBeMet}
-use Rattle.lois_words.specs.Stages.{IsNarrowed, IsStage, IsStart, IsBegun, NeverBegins}
+use Rattle.lois_words.specs.Stages.{IsNarrowed, IsStart, IsBegun, NeverBegins}
 use Rattle.lois_words.specs.declared.stages.Stage.{Stage}
 
 -- the state is the item of a comprehension

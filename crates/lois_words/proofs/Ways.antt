@@ -1,16 +1,16 @@
 -- The way of a word: from layer to layer.
-use Rattle.std.proofs.Common.{◌≡◌, ℕ, zero, suc, ◌+◌, ◌-◌, ◌≤◌, ◌<◌, ◌⊎◌, inl, inr, List, [], ◌∷◌, ◌++◌, length, length-append, take, drop, map, refl, sym, ap, ◌∙◌, subst, arith}
+use Rattle.std.proofs.Common.{◌≡◌, ℕ, zero, suc, ◌+◌, ◌-◌, ◌≤◌, ◌<◌, ◌⊎◌, inl, inr, List, [], ◌∷◌, ◌++◌, length, length-append, take, drop, refl, sym, ap, ◌∙◌, subst, arith}
 use Rattle.std.proofs.lemmas.Bool.{cases_lt}
 use Rattle.std.proofs.lemmas.List.{append_assoc, map-append}
 use Rattle.std.proofs.lemmas.List.Elements.{All-push}
 use Rattle.std.specs.Bool.{IsTrue}
 use Rattle.std.specs.List.{All}
 use Rattle.lois_base.specs.Atom.{Atom}
-use Rattle.lois_base.specs.Data.{TermD, coll, CompsD}
+use Rattle.lois_base.specs.Data.{TermD, CompsD}
 use Rattle.lois_base.specs.Fits.{Fits}
 use Rattle.lois_base.specs.Tree.{tree}
 use Rattle.lois_base.specs.Truth.{holds, sampled}
-use Rattle.lois_base.specs.Values.{PointValue, point, IsIn}
+use Rattle.lois_base.specs.Values.{PointValue, point}
 use Rattle.lois_base.specs.declared.guards.Lit.{Lit}
 use Rattle.lois_base.proofs.Members.{same_sym}
 use Rattle.lois_algebra.specs.Gathered.{IsAmong}
@@ -20,11 +20,10 @@ use Rattle.lois_terms.proofs.MoreAtoms.{is_raised}
 use Rattle.lois_meaning.specs.Automata.{Machine, AcceptsFrom, Accepts}
 use Rattle.lois_meaning.specs.Kinds.{AreSame}
 use Rattle.lois_automata.specs.Columns.{machine_at}
-use Rattle.lois_automata.specs.Throughout.{HoldsThroughout}
 use Rattle.lois_automata.proofs.Members.{raised_same}
 use Rattle.lois_words.specs.Layers.{AcceptsIn, IsLayer}
-use Rattle.lois_words.specs.Stages.{IsStage, IsBegun, NeverBegins}
-use Rattle.lois_words.specs.Steps.{GoesBy, IsGoing, IsTaken, NeverGoes}
+use Rattle.lois_words.specs.Stages.{IsBegun, NeverBegins}
+use Rattle.lois_words.specs.Steps.{IsTaken, NeverGoes}
 use Rattle.lois_words.specs.Walks.{IsOnWay, IsWay, HaveAtLeast, IsMoved, AreMoved, IsLengthened}
 use Rattle.lois_words.specs.Words.{values_at}
 use Rattle.lois_words.specs.declared.stages.Stage.{Stage}

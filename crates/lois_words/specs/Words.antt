@@ -1,5 +1,5 @@
 -- Words that an automaton accepts, as terms with numbers for their levels.
-use Rattle.std.specs.Prelude.{◌≡◌, ℕ, ◌≤◌, List, length, map, take, IsTrue}
+use Rattle.std.specs.Prelude.{ℕ, ◌≤◌, List, length, map, take, IsTrue}
 use Rattle.std.specs.List.{All}
 use Rattle.lois_base.specs.Atom.{Atom}
 use Rattle.lois_base.specs.Data.{TermD}

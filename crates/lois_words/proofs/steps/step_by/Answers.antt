@@ -1,7 +1,6 @@
 use Rattle.std.proofs.Common.{◌≡◌, ◌+◌, ◌<◌, ◌^◌, ap, refl, subst}
 use Rattle.lois_base.specs.Fits.{Fits}
 use Rattle.lois_base.specs.Tree.{tree}
-use Rattle.lois_base.specs.Validity.{AdmitsTerm, HasUsualWidths}
 use Rattle.lois_automata.specs.Columns.{triple_of}
 use Rattle.lois_deciders.proofs.Asking.{some_is, none_is}
 use Rattle.lois_words.specs.Stages.{IsNarrowed}

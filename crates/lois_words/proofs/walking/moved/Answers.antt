@@ -1,7 +1,7 @@
-use Rattle.std.proofs.Common.{◌≡◌, ◌+◌, [], ◌∷◌, ◌++◌, take, map, sym, ap, ◌∙◌, subst}
+use Rattle.std.proofs.Common.{◌≡◌, ◌+◌, [], ◌∷◌, ◌++◌, take, map, sym, subst}
 use Rattle.lois_base.specs.Fits.{Fits}
 use Rattle.lois_base.specs.Tree.{tree}
-use Rattle.lois_base.proofs.Viewed.{one_more, item_has, all_taken}
+use Rattle.lois_base.proofs.Viewed.{one_more, item_has}
 use Rattle.lois_words.specs.Walks.{IsMoved, AreMoved}
 use Rattle.lois_words.proofs.Ways.{moved_push}
 use Rattle.lois_words.proofs.walking.moved.Goals as goal

@@ -1,4 +1,4 @@
-use Rattle.std.proofs.Common.{◌≡◌, ℕ, suc, ◌+◌, ◌-◌, ◌<◌, Bool, List, [], length, get_or, map, refl, sym, ap, ◌∙◌, subst, arith}
+use Rattle.std.proofs.Common.{◌≡◌, suc, ◌+◌, ◌-◌, ◌<◌, Bool, List, [], length, get_or, refl, sym, ap, ◌∙◌, subst, arith}
 use Rattle.std.proofs.lemmas.List.{length-map}
 use Rattle.std.specs.List.{All}
 use Rattle.lois_base.specs.Atom.{Atom}
@@ -91,7 +91,7 @@ walking-preserved g c =
     let letters = c.walking.letters in
     let step = c.in-Some.step in
     let longer = c.in_ok-longer.longer in
-    let long = c.in_ok-longer.ensures in
+    let long = c.in_ok-longer.ensures.lengthened in
     let from = n + here.more in
     let by = step.stage.more - here.more in
     let below : c.walking.left - 1 < length c.as_slice-all.result.now = omega (arith, c.walking-test.true, was.within) in
