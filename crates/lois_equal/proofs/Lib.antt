@@ -4,3 +4,4 @@ pub mod Total
 pub mod Sinks
 pub mod Alone
 pub mod Shorter
+pub mod CaseLines
