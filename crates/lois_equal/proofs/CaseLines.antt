@@ -8,13 +8,14 @@ use Rattle.std.proofs.lemmas.List.Elements.{All-head, All-tail, All-more, All-ma
 use Rattle.lois_base.specs.Atom.{whole}
 use Rattle.lois_base.specs.Data.{TermD}
 use Rattle.lois_base.specs.Truth.{sampled}
+use Rattle.lois_base.specs.Validity.{AdmitsTerm, HasUsualWidths}
 use Rattle.lois_base.specs.declared.guards.Lit.{Lit}
 use Rattle.lois_answers.specs.LastNamed.{last_line, last_named, named}
 use Rattle.lois_answers.specs.ResultsData.{LineD, CaseD}
 use Rattle.lois_answers.specs.Sound.{IsSoundTerm, IsSoundLine, IsSoundCase}
 use Rattle.lois_automata.specs.Machines.{IsAutomatonAt, IsDeterministicAt}
 use Rattle.lois_automata.specs.Throughout.{HoldsThroughout, IsBreak}
-use Rattle.lois_equal.specs.Differing.{NeverTold, IsDifference, IfDiffers, IsSame}
+use Rattle.lois_equal.specs.Differing.{NeverTold, IsDifference, IfDiffers, IsSame, AreUsual}
 use Rattle.lois_equal.specs.declared.differing.Equality.{Equality}
 use Rattle.lois_equal.specs.declared.differing.Equality.TheVariants.{Same, Differs}
 use Rattle.lois_equal.specs.Comparing.{HasTerm, HasLine, HasNoLine, IsFit, IsSomewhereUnfit, AreFit, AreAlike, AreApart, IsReason, number_of, IsFirst, IsReasonOrNone, HasNumber, IsFirstReason, IsFirstDifference, IsComparison, AreAlikeOrApart, side_name}
@@ -117,6 +118,15 @@ fit_term n name c t (s, has, only) h = subst (λ z. HoldsThroughout n c.«when»
 pub lines_ok : {E : Type 0} (n : ℕ) (a b : List ℕ) (c : CaseD) (t s : TermD) (r : Result Equality E) → HasTerm a c t → HasTerm b c s → IfOk r (λ e. IsSame e ↔ NeverTold n c.«when» t s) → IfOk r (IfDiffers (IsDifference n c.«when» t s)) → IfOk r (AreAlikeOrApart n a b c)
 lines_ok n a b c t s (Ok e) first second same is = lines_equal n a b c t s e first second is same.0
 lines_ok n a b c t s (Err e) first second same is = is
+
+-- ---- the terms of a difference
+pub usual_ok : {E : Type 0} (o : Bool) (n : ℕ) (t s : TermD) (r : Result Equality E) → IsSoundTerm o n t → IsSoundTerm o n s → IfOk r (IfDiffers (λ d. (p : Bool) → AdmitsTerm p t → AdmitsTerm p s → All (AdmitsTerm p) d.word)) → IfOk r (IfDiffers (λ d. HasUsualWidths t → HasUsualWidths s → All HasUsualWidths d.word)) → IfOk r (IfDiffers (λ d. AreUsual o d.word))
+usual_ok o n t s (Ok Same) first second operators widths = tt
+usual_ok o n t s (Ok (Differs d)) first second operators widths = record { operators = operators o first.operators second.operators; widths = widths first.widths second.widths }
+usual_ok o n t s (Err e) first second operators widths = operators
+
+pub usual_at : (o : Bool) (found : Equality) (d : Difference) → found ≡ Differs d → IfDiffers (λ z. AreUsual o z.word) found → AreUsual o d.word
+usual_at o found d e h = subst (IfDiffers (λ z. AreUsual o z.word)) e h
 
 -- ---- all cases
 pub comparison_of : (n : ℕ) (a b : List ℕ) (cs : List CaseD) → All (AreFit n a b) cs → (r : Comparison) → IsFirstDifference n a b cs r → IsComparison n a b cs r

@@ -86,6 +86,11 @@ IsComparison n a b cases Alike = All (AreFit n a b) cases × All (AreAlike n a b
 IsComparison n a b cases (Differ k d name) = All (AreFit n a b) cases × IsFirst (AreAlike n a b) (AreApart n a b d name) k cases
 IsComparison n a b cases (Refused r) = IsFirst (AreFit n a b) (IsReason n a b r) (number_of r) cases
 
+abbrev pub IfDiffer : (Difference → Type 0) → Comparison → Type 0
+IfDiffer P Alike = Unit {0}
+IfDiffer P (Differ k d name) = P d
+IfDiffer P (Refused r) = Unit {0}
+
 -- ---- what private contracts say
 -- no reason that a case can't be compared; the reason
 abbrev pub IsReasonOrNone : ℕ → List ℕ → List ℕ → CaseD → Option Unfit → Type 0

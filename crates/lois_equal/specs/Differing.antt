@@ -5,6 +5,7 @@ use Rattle.lois_base.specs.Atom.{Atom}
 use Rattle.lois_base.specs.Data.{TermD}
 use Rattle.lois_base.specs.Fits.{Fits}
 use Rattle.lois_base.specs.Truth.{holds, sampled}
+use Rattle.lois_base.specs.Validity.{AdmitsTerm, HasUsualWidths}
 use Rattle.lois_base.specs.Values.{PointValue}
 use Rattle.lois_base.specs.declared.guards.Lit.{Lit}
 use Rattle.lois_automata.specs.Throughout.{HoldsThroughout}
@@ -41,6 +42,11 @@ pub record IsDifference (n : ℕ) (u : List (List Lit)) (t s : TermD) (d : Diffe
   pub letters : All (λ l. HasLetterAt t (first_sampled n d.sample) l ⊎ HasLetterAt s (first_sampled n d.sample) l) (values_at (sampled d.sample) d.word)
   pub apart : IsAcceptedAlone d.left t s (first_sampled n d.sample) (values_at (sampled d.sample) d.word)
   pub shortest : HoldsThroughout n u (λ c. (word : List PointValue) → TellsApart t s c word → length d.word ≤ length word)
+
+-- each term admits the operators and has tuples of 2 to 8 parts
+pub record AreUsual (o : Bool) (ts : List TermD) : Type 0 where
+  pub operators : All (AdmitsTerm o) ts
+  pub widths : All HasUsualWidths ts
 
 -- ---- what private contracts say
 abbrev pub NeverAlone : ℕ → List (List Lit) → TermD → TermD → Type 0

@@ -8,7 +8,8 @@ ghost use Rattle.lois_base.specs.Validity.{AdmitsConstraint, AdmitsTerm};
 ghost use Rattle.lois_answers.specs.CaseView.{case_of};
 ghost use Rattle.lois_answers.specs.Sound.{IsSound, IsSoundCase};
 ghost use Rattle.lois_deciders.specs.OnlyAsked.{HasOnlyAsked};
-ghost use Rattle.lois_equal.specs.Comparing.{AreFit, IsReasonOrNone, HasNumber, IsFirstReason, IsFirstDifference, IsAnswerOf, IsComparison, AreAlikeOrApart, side_name};
+ghost use Rattle.lois_equal.specs.Comparing.{AreFit, IsReasonOrNone, HasNumber, IsFirstReason, IsFirstDifference, IsAnswerOf, IsComparison, AreAlikeOrApart, IfDiffer, side_name};
+ghost use Rattle.lois_equal.specs.Differing.{IfDiffers, AreUsual};
 
 use crate::differing::{Difference, Equality, equal};
 use lois_answers::{Case, Cases, Results};
@@ -48,6 +49,7 @@ pub fn compare<T: Structure>(
     requires sound { IsSound results.now }
     requires atoms { T.ordered ≡ results.now.order }
     ensures comparison { IfOk result (IsComparison (length results.now.parameters) first.now second.now results.now.cases) }
+    ensures usual { IfOk result (IfDiffer (λ d. AreUsual T.ordered d.word)) }
 
     // whatever is answered
     ensures only_asked { HasOnlyAsked (λ b. (⟦<dyn Decider as Decider>⟧ b.vtable).kind_of b.value) (λ b. (⟦<dyn Decider as Decider>⟧ b.vtable).questions b.value) chosen.old chosen.new }
@@ -152,6 +154,7 @@ fn first_difference<T: Structure>(
     requires sound { All (IsSoundCase T.ordered size) cases.now }
     requires fit { All (AreFit size first.now second.now) cases.now }
     ensures first { IfOk result (IsFirstDifference size first.now second.now cases.now) }
+    ensures usual { IfOk result (IfDiffer (λ d. AreUsual T.ordered d.word)) }
     ensures only_asked { HasOnlyAsked (λ b. (⟦<dyn Decider as Decider>⟧ b.vtable).kind_of b.value) (λ b. (⟦<dyn Decider as Decider>⟧ b.vtable).questions b.value) chosen.old chosen.new }
 {
     for (index, case) in cases.as_slice().iter().enumerate() {
@@ -175,6 +178,7 @@ fn compare_lines<T: Structure>(
     requires sound { IsSoundCase T.ordered size (case_of case.now) }
     requires fit { AreFit size first.now second.now (case_of case.now) }
     ensures equality { IfOk result (AreAlikeOrApart size first.now second.now (case_of case.now)) }
+    ensures usual { IfOk result (IfDiffers (λ d. AreUsual T.ordered d.word)) }
     ensures only_asked { HasOnlyAsked (λ b. (⟦<dyn Decider as Decider>⟧ b.vtable).kind_of b.value) (λ b. (⟦<dyn Decider as Decider>⟧ b.vtable).questions b.value) chosen.old chosen.new }
 {
     let Some(one) = case.lines.last_named(first) else {

@@ -4,9 +4,10 @@ use Rattle.lois_answers.specs.CaseView.{case_of}
 use Rattle.lois_answers.specs.Sound.{IsSoundCase}
 use Rattle.lois_deciders.proofs.OnlyAsked.{only_asked_then}
 use Rattle.lois_printer.proofs.Fitting.{holds_of_each}
-use Rattle.lois_equal.specs.Comparing.{AreFit, AreAlike, AreApart, IsFirstDifference, side_name}
+use Rattle.lois_equal.specs.Comparing.{AreFit, AreAlike, AreApart, IsFirstDifference, IfDiffer, side_name}
+use Rattle.lois_equal.specs.Differing.{AreUsual}
 use Rattle.lois_equal.specs.declared.comparing.Comparison.TheVariants.{Differ}
-use Rattle.lois_equal.proofs.CaseLines.{holds_so_far, holds_of_all, first_here, alike_at, apart_at}
+use Rattle.lois_equal.proofs.CaseLines.{holds_so_far, holds_of_all, first_here, alike_at, apart_at, usual_at}
 use Rattle.lois_equal.proofs.comparing.first_difference.Goals as goal
 
 pub compare_lines-requires-clause-sound : goal.compare_lines-requires-clause-sound
@@ -47,3 +48,10 @@ returns-in-Differs-clause-first g c =
 pub returns-clause-first : goal.returns-clause-first
 returns-clause-first g c =
     holds_of_all (AreAlike c.args.size c.args.first.now c.args.second.now) case_of c.args.cases.now c.as_slice-case-items.result.now c.loop-index.index c.as_slice-case-items.ensures.items (omega (arith, c.loop-index-test.false)) c.loop-index.invariant.sofar
+
+pub returns-in-Differs-clause-usual : goal.returns-in-Differs-clause-usual
+returns-in-Differs-clause-usual g c =
+    let d = c.in-Differs.difference in
+    let name = side_name d.left c.args.first.now c.args.second.now in
+    IfOk-weaker c.differs.result (λ r. r ≡ Differ (c.loop-index.index + 1) d name) _ (λ r e.
+    subst (IfDiffer (λ z. AreUsual g.T.Structure.ordered z.word)) (sym e) (usual_at g.T.Structure.ordered c.in_ok-found.found d c.in-Differs.is c.in_ok-found.ensures.usual)) c.differs.ensures
