@@ -1,0 +1,13 @@
+//! Shortest words that automata accept.
+#![tactic(auto)]
+
+mod layers;
+mod narrowing;
+mod shortest;
+mod stages;
+mod steps;
+mod walking;
+mod words;
+
+pub use shortest::shortest_word;
+pub use words::Word;

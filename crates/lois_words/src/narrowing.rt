@@ -1,0 +1,56 @@
+//! Constraints narrowed to one cube that can be met.
+
+ghost use Rattle.std.specs.Prelude.{◌≡◌, List, [], ◌∷◌, length, IfOk, IfSome, IsNone, IsTrue};
+ghost use Rattle.lois_base.specs.Atom.{Atom};
+ghost use Rattle.lois_base.specs.Fits.{ConstraintFits};
+ghost use Rattle.lois_base.specs.Truth.{holds, sampled};
+ghost use Rattle.lois_deciders.specs.Asked.{CanBeMet};
+ghost use Rattle.lois_deciders.specs.OnlyAsked.{HasOnlyAsked};
+ghost use Rattle.lois_words.specs.Stages.{IsNarrowed};
+
+use lois_base::{Constraint, Cube, Decider, NoMemory, Numbers};
+use lois_deciders::{Chosen, Met};
+use std::alloc::Global;
+
+/// One cube of the constraint, with `size` numbers at which it holds, or `None` where it holds at no choice of atoms.
+pub fn narrowed(
+    alloc: Global,
+    wanted: &Constraint,
+    size: usize,
+    chosen: &mut Chosen,
+) -> Result<Option<Met>, NoMemory>
+    requires { ConstraintFits size wanted.now }
+    ensures some { IfOk result (λ o. IfSome o (λ m. IsNarrowed size wanted.now m.constraint m.sample)) }
+    ensures none { IfOk result (λ o. IsNone o → CanBeMet size wanted.now → ⊥) }
+    ensures only_asked { HasOnlyAsked (λ b. (⟦<dyn Decider as Decider>⟧ b.vtable).kind_of b.value) (λ b. (⟦<dyn Decider as Decider>⟧ b.vtable).questions b.value) chosen.old chosen.new }
+{
+    let Some(found) = chosen.ask(alloc, wanted, size)? else {
+        return Ok(None);
+    };
+    let sample = Numbers::from_vec(found);
+    let constraint = cube_at(alloc, wanted, sample.as_slice())?;
+    Ok(Some(Met { constraint, sample }))
+}
+
+// The first cube that holds at the sample.
+fn cube_at(alloc: Global, wanted: &Constraint, sample: &[u64]) -> Result<Constraint, NoMemory>
+    requires { ConstraintFits (length sample.now) wanted.now }
+    ensures truth { IfOk result (λ r. holds (sampled sample.now) r ≡ holds (sampled sample.now) wanted.now) }
+    ensures narrower { IfOk result (λ r. (c : List Atom) → IsTrue (holds c r) → IsTrue (holds c wanted.now)) }
+    ensures levels { IfOk result (ConstraintFits (length sample.now)) }
+{
+    for cube in wanted.as_slice() {
+        if cube.at(sample) {
+            return only(alloc, cube);
+        }
+    }
+    Ok(Constraint::new(alloc))
+}
+
+fn only(alloc: Global, cube: &Cube) -> Result<Constraint, NoMemory>
+    ensures { IfOk result (λ r. r ≡ cube.now ∷ []) }
+{
+    let mut one = Constraint::new(alloc);
+    one.push(cube.copy(alloc)?)?;
+    Ok(one)
+}
