@@ -1,11 +1,9 @@
 -- Words that one automaton accepts and another one doesn't.
-use Rattle.std.proofs.Common.{◌≡◌, ℕ, ◌⊎◌, inl, inr, ◌↔◌, List, [], ◌∷◌, length, sym, subst}
-use Rattle.std.specs.Bool.{IsTrue}
+use Rattle.std.proofs.Common.{◌≡◌, ℕ, inr, ◌↔◌, List, [], ◌∷◌, length, subst}
 use Rattle.std.specs.List.{All}
 use Rattle.std.proofs.lemmas.List.Elements.{All-nil, All-cons, All-head, All-tail}
 use Rattle.lois_base.specs.Atom.{Atom}
 use Rattle.lois_base.specs.Data.{TermD, coll, CompsD}
-use Rattle.lois_base.specs.Truth.{holds}
 use Rattle.lois_base.specs.Values.{PointValue, point, IsIn}
 use Rattle.lois_base.specs.declared.guards.Lit.{Lit}
 use Rattle.lois_base.proofs.Members.{same_refl, same_in}

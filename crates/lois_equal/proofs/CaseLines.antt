@@ -1,7 +1,6 @@
 -- Cases and their lines, one after the other.
-use Rattle.std.proofs.Common.{◌≡◌, ℕ, suc, ◌+◌, ◌<◌, ◌≤◌, Bool, true, false, inl, inr, List, [], ◌∷◌, ◌++◌, length, map, take, drop, get_or, Option, Some, None, option_map, refl, sym, ap, subst, ◌∙◌, arith, drop-cons, add-one}
+use Rattle.std.proofs.Common.{◌≡◌, ℕ, suc, ◌+◌, ◌<◌, ◌≤◌, Bool, List, [], ◌∷◌, ◌++◌, length, map, take, drop, get_or, Option, Some, None, option_map, refl, sym, ap, subst, ◌∙◌, arith, drop-cons}
 use Rattle.std.specs.Prelude.{IfSome, IfOk, Result, Ok, Err, ◌↔◌}
-use Rattle.std.specs.Bool.{IsTrue}
 use Rattle.std.specs.List.{All}
 use Rattle.std.proofs.lemmas.List.{length-map, length-take, take-append-drop, take_all}
 use Rattle.std.proofs.lemmas.List.Elements.{All-head, All-tail, All-more, All-map, All-filter}
@@ -18,7 +17,7 @@ use Rattle.lois_automata.specs.Throughout.{HoldsThroughout, IsBreak}
 use Rattle.lois_equal.specs.Differing.{NeverTold, IsDifference, IfDiffers, IsSame, AreUsual}
 use Rattle.lois_equal.specs.declared.differing.Equality.{Equality}
 use Rattle.lois_equal.specs.declared.differing.Equality.TheVariants.{Same, Differs}
-use Rattle.lois_equal.specs.Comparing.{HasTerm, HasLine, HasNoLine, IsFit, IsSomewhereUnfit, AreFit, AreAlike, AreApart, IsReason, number_of, IsFirst, IsReasonOrNone, HasNumber, IsFirstReason, IsFirstDifference, IsComparison, AreAlikeOrApart, side_name}
+use Rattle.lois_equal.specs.Comparing.{HasTerm, HasLine, IsFit, IsSomewhereUnfit, AreFit, AreAlike, AreApart, IsReason, number_of, IsFirst, IsReasonOrNone, HasNumber, IsFirstReason, IsFirstDifference, IsComparison, AreAlikeOrApart, side_name}
 use Rattle.lois_equal.specs.declared.comparing.Comparison.{Comparison}
 use Rattle.lois_equal.specs.declared.comparing.Comparison.TheVariants.{Alike, Differ, Refused}
 use Rattle.lois_equal.specs.declared.comparing.Unfit.{Unfit}
@@ -44,12 +43,6 @@ pub found_sound : (o : Bool) (n : ℕ) (name : List ℕ) (c : CaseD) (l : LineD)
 found_sound o n name c l sound e =
     let line : IsSoundLine o n l = subst (λ z. IfSome z (IsSoundLine o n)) (sym e) (named_has (IsSoundLine o n) name c.lines sound.lines) in
     line.term
-
--- a line that is there is found
-pub lacks_none : (name : List ℕ) (c : CaseD) (t : TermD) → HasTerm name c t → None ≡ last_named name c.lines → ⊥
-lacks_none name c t has e =
-    let both : option_map (λ (z : LineD). z.term) None ≡ Some t = subst (λ z. option_map (λ (y : LineD). y.term) z ≡ Some t) (sym e) has in
-    absurd (cc)
 
 -- two terms of one line are the same
 pub one_term : (name : List ℕ) (c : CaseD) (t s : TermD) → HasTerm name c t → HasTerm name c s → t ≡ s

@@ -7,7 +7,7 @@ use Rattle.lois_base.specs.Data.{TermD, coll, CompD, comp, CompsD, no_comps, mor
 use Rattle.lois_base.specs.Fits.{ConstraintFits, Fits, CompFits, ItemsFit}
 use Rattle.lois_base.specs.Truth.{holds}
 use Rattle.lois_base.specs.Validity.{AdmitsConstraint, AdmitsTerm, AdmitsComp, AdmitsItems, HasUsualWidths, CompHasUsualWidths, ItemsHaveUsualWidths}
-use Rattle.lois_base.specs.Values.{PointValue, point, IsIn, IsSame}
+use Rattle.lois_base.specs.Values.{PointValue, point, IsIn}
 use Rattle.lois_base.specs.declared.guards.Lit.{Lit}
 use Rattle.lois_base.proofs.Connectives.{both_true, not_true}
 use Rattle.lois_base.proofs.Members.{same_refl, same_sym, in_same}

@@ -1,11 +1,10 @@
 -- The shorter one of two words, each of which one automaton alone accepts.
-use Rattle.std.proofs.Common.{◌≡◌, ℕ, ◌≤◌, ◌<◌, Bool, true, false, ◌⊎◌, inl, inr, ◌↔◌, List, length, map, take, Option, Some, None, refl, sym, subst, ◌∙◌, arith}
+use Rattle.std.proofs.Common.{◌≡◌, ℕ, ◌≤◌, Bool, true, false, ◌⊎◌, inl, inr, ◌↔◌, List, length, take, Option, Some, None, refl, sym, subst, ◌∙◌, arith}
 use Rattle.std.proofs.lemmas.List.{length-map, length-take}
 use Rattle.std.specs.Prelude.{IfSome, IsNone}
-use Rattle.std.specs.Bool.{IsTrue}
 use Rattle.lois_base.specs.Atom.{Atom, whole}
 use Rattle.lois_base.specs.Data.{TermD}
-use Rattle.lois_base.specs.Truth.{holds, sampled}
+use Rattle.lois_base.specs.Truth.{sampled}
 use Rattle.lois_base.specs.Values.{PointValue}
 use Rattle.lois_base.specs.declared.guards.Lit.{Lit}
 use Rattle.lois_automata.specs.Machines.{IsEmptyAt}
@@ -14,8 +13,8 @@ use Rattle.lois_words.specs.Words.{AcceptsAt, IsShortestWord, first_sampled, val
 use Rattle.lois_words.specs.declared.words.Word.{Word}
 use Rattle.lois_equal.specs.declared.differing.Difference.{Difference}
 use Rattle.lois_equal.specs.declared.differing.Equality.{Equality}
-use Rattle.lois_equal.specs.declared.differing.Equality.TheVariants.{Same, Differs}
-use Rattle.lois_equal.specs.Differing.{IsSame, IfDiffers, NeverTold, IsAcceptedAlone, IsDifference, NeverAlone, IsShortestAlone, sided, IsShorterOf}
+use Rattle.lois_equal.specs.declared.differing.Equality.TheVariants.{Differs}
+use Rattle.lois_equal.specs.Differing.{IsSame, IfDiffers, NeverTold, IsAcceptedAlone, IsDifference, NeverAlone, IsShortestAlone, IsShorterOf}
 use Rattle.lois_equal.specs.Telling.{AcceptsAlone, TellsApart, HasLetterAt}
 use Rattle.lois_equal.proofs.Alone.{accepts_of, all_letters}
 

@@ -9,7 +9,7 @@ use Rattle.lois_algebra.specs.Gathered.{IsMadeBy, IsPut}
 use Rattle.lois_algebra.specs.Sets.{IsUnion}
 use Rattle.lois_algebra.proofs.Among.{among_in}
 use Rattle.lois_terms.specs.Guarded.{IsSet}
-use Rattle.lois_meaning.specs.Automata.{Machine, IsTriple, JoinsStates, IsAutomatonOf, HasStep, Reads, Accepts, IsDeterministic, IsComplete}
+use Rattle.lois_meaning.specs.Automata.{Machine, JoinsStates, IsAutomatonOf, HasStep, Reads, Accepts, IsDeterministic, IsComplete}
 use Rattle.lois_meaning.specs.Kinds.{HasParts}
 use Rattle.lois_meaning.proofs.Operations.{triple_both, step_move}
 use Rattle.lois_automata.specs.Columns.{five_of, five_terms, machine_at}

@@ -1,9 +1,9 @@
 -- Steps that are total: some step leads from each state by each letter.
-use Rattle.std.proofs.Common.{◌≡◌, ℕ, ◌⊎◌, inl, inr, List, length}
+use Rattle.std.proofs.Common.{◌≡◌, ℕ, inl, inr, List, length}
 use Rattle.lois_base.specs.Atom.{Atom}
 use Rattle.lois_base.specs.Data.{TermD}
 use Rattle.lois_base.specs.Values.{PointValue, point, IsIn, IsSame}
-use Rattle.lois_base.proofs.Members.{same_refl, same_sym, in_same}
+use Rattle.lois_base.proofs.Members.{same_refl, in_same}
 use Rattle.lois_algebra.specs.Sets.{IsUnion}
 use Rattle.lois_meaning.specs.Automata.{IsPair, IsTriple}
 use Rattle.lois_meaning.proofs.Automata.{triple_same}

@@ -1,12 +1,12 @@
 -- Results, and what is found where their lines of two names are compared, case by case.
-use Rattle.std.specs.Prelude.{◌≡◌, ℕ, ◌+◌, Bool, true, false, List, [], ◌∷◌, ◌++◌, length, IsTrue, ◌⊎◌, Option, Some, None, option_map}
+use Rattle.std.specs.Prelude.{◌≡◌, ℕ, ◌+◌, Bool, true, false, List, ◌∷◌, ◌++◌, length, IsTrue, ◌⊎◌, Option, Some, None, option_map}
 use Rattle.std.specs.List.{All}
 use Rattle.lois_base.specs.Atom.{Atom}
 use Rattle.lois_base.specs.Data.{TermD}
 use Rattle.lois_base.specs.Truth.{holds}
 use Rattle.lois_base.specs.declared.guards.Lit.{Lit}
 use Rattle.lois_answers.specs.LastNamed.{last_named}
-use Rattle.lois_answers.specs.ResultsData.{LineD, CaseD}
+use Rattle.lois_answers.specs.ResultsData.{CaseD}
 use Rattle.lois_automata.specs.Machines.{IsDeterministicAt}
 use Rattle.lois_automata.specs.Throughout.{HoldsThroughout}
 use Rattle.lois_equal.specs.Differing.{NeverTold, IsDifference}

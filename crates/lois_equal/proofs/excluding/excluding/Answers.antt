@@ -1,6 +1,6 @@
 use Rattle.std.proofs.Common.{◌≡◌}
 use Rattle.std.proofs.lemmas.Result.{IfOk-weaker}
-use Rattle.lois_base.specs.Data.{coll, comps_of}
+use Rattle.lois_base.specs.Data.{comps_of}
 use Rattle.lois_base.specs.Tree.{tree}
 use Rattle.lois_automata.specs.Machines.{AcceptsBothAt}
 use Rattle.lois_automata.specs.Throughout.{HoldsThroughout}

@@ -5,7 +5,7 @@ use Rattle.lois_base.specs.Tree.{tree}
 use Rattle.lois_base.specs.Validity.{AdmitsTerm}
 use Rattle.lois_algebra.specs.Gathered.{IsPut}
 use Rattle.lois_automata.specs.Built.{HoldsWhereIn}
-use Rattle.lois_automata.specs.Columns.{pair_of, triple_of}
+use Rattle.lois_automata.specs.Columns.{pair_of}
 use Rattle.lois_equal.specs.Completed.{AddsLedOut}
 use Rattle.lois_equal.proofs.LedOut.{adds_led_out, none_led_out}
 use Rattle.lois_equal.proofs.leading.add_led_out.Goals as goal

@@ -2,10 +2,8 @@ use Rattle.std.proofs.Common.{ap, subst}
 use Rattle.std.proofs.lemmas.Result.{IfOk-weaker}
 use Rattle.lois_base.specs.Data.{coll, comps_of}
 use Rattle.lois_base.specs.Tree.{tree}
-use Rattle.lois_base.specs.Values.{point}
 use Rattle.lois_algebra.specs.Sets.{IsUnion}
 use Rattle.lois_automata.specs.Built.{ArePairs}
-use Rattle.lois_equal.specs.Completed.{AreTotal}
 use Rattle.lois_equal.proofs.Total.{are_total}
 use Rattle.lois_equal.proofs.leading.total_steps.Goals as goal
 
