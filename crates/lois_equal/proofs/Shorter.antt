@@ -1,0 +1,117 @@
+-- The shorter one of two words, each of which one automaton alone accepts.
+use Rattle.std.proofs.Common.{◌≡◌, ℕ, ◌≤◌, Bool, true, false, ◌⊎◌, inl, inr, ◌↔◌, List, length, take, Option, Some, None, refl, sym, subst, ◌∙◌, arith}
+use Rattle.std.proofs.lemmas.List.{length-map, length-take}
+use Rattle.std.specs.Prelude.{IfSome, IsNone}
+use Rattle.lois_base.specs.Atom.{Atom, whole}
+use Rattle.lois_base.specs.Data.{TermD}
+use Rattle.lois_base.specs.Truth.{sampled}
+use Rattle.lois_base.specs.Values.{PointValue}
+use Rattle.lois_base.specs.declared.guards.Lit.{Lit}
+use Rattle.lois_automata.specs.Machines.{IsEmptyAt}
+use Rattle.lois_automata.specs.Throughout.{HoldsThroughout}
+use Rattle.lois_words.specs.Words.{AcceptsAt, IsShortestWord, first_sampled, values_at}
+use Rattle.lois_words.specs.declared.words.Word.{Word}
+use Rattle.lois_equal.specs.declared.differing.Difference.{Difference}
+use Rattle.lois_equal.specs.declared.differing.Equality.{Equality}
+use Rattle.lois_equal.specs.declared.differing.Equality.TheVariants.{Differs}
+use Rattle.lois_equal.specs.Differing.{IsSame, IfDiffers, NeverTold, IsAcceptedAlone, IsDifference, NeverAlone, IsShortestAlone, IsShorterOf}
+use Rattle.lois_equal.specs.Telling.{AcceptsAlone, TellsApart, HasLetterAt}
+use Rattle.lois_equal.proofs.Alone.{accepts_of, all_letters}
+
+first_length : (n : ℕ) (s : List ℕ) → n ≤ length s → length (first_sampled n s) ≡ n
+first_length n s h = length-map (take n s) whole ∙ (length-take n s ∙ omega arith)
+
+-- ---- of an automaton r that accepts what t alone accepts
+module _ (n : ℕ) (u : List (List Lit)) (t s r : TermD) (words : HoldsThroughout n u (λ c. (word : List PointValue) → AcceptsAt r c word ↔ AcceptsAlone t s c word)) where
+  pub never_alone : HoldsThroughout n u (IsEmptyAt r) → NeverAlone n u t s
+  never_alone empty c l h word alone =
+      let none = empty c l h in
+      none.2 word (accepts_of r c none.0 none.1 word ((words c l h word).1 alone))
+
+  shortest_is_alone : (w : Word) → IsShortestWord n u r w → IsShortestAlone n u t s w
+  shortest_is_alone w is = record {
+    count = is.count;
+    admitted = is.admitted;
+    levels = is.levels;
+    accepted = (words (first_sampled n w.sample) (first_length n w.sample is.count) is.admitted (values_at (sampled w.sample) w.letters)).0 is.accepted;
+    shortest = λ c l h word alone. is.shortest c l h word ((words c l h word).1 alone);
+  }
+
+  pub some_alone : (o : Option Word) → IfSome o (IsShortestWord n u r) → IfSome o (IsShortestAlone n u t s)
+  some_alone None is = tt
+  some_alone (Some w) is = shortest_is_alone w is
+
+module _ (n : ℕ) (u : List (List Lit)) (t s : TermD) where
+  -- no word that t alone accepts is shorter than k letters
+  abbrev HaveAtLeast : TermD → TermD → ℕ → Type 0
+  HaveAtLeast t s k = HoldsThroughout n u (λ c. (word : List PointValue) → AcceptsAlone t s c word → k ≤ length word)
+
+  left_difference : (w : Word) → IsShortestAlone n u t s w → HaveAtLeast s t (length w.letters) → IsDifference n u t s (record { sample = w.sample; word = w.letters; left = true })
+  left_difference w is bound = record {
+    count = is.count;
+    admitted = is.admitted;
+    levels = is.levels;
+    letters = all_letters t (first_sampled n w.sample) (λ l. HasLetterAt t (first_sampled n w.sample) l ⊎ HasLetterAt s (first_sampled n w.sample) l) (λ x h. inl h) (values_at (sampled w.sample) w.letters) is.accepted.0;
+    apart = is.accepted;
+    shortest = λ c l h word told. elim told [ inl p ↦ is.shortest c l h word p | inr p ↦ bound c l h word p ];
+  }
+
+  right_difference : (w : Word) → IsShortestAlone n u s t w → HaveAtLeast t s (length w.letters) → IsDifference n u t s (record { sample = w.sample; word = w.letters; left = false })
+  right_difference w is bound = record {
+    count = is.count;
+    admitted = is.admitted;
+    levels = is.levels;
+    letters = all_letters s (first_sampled n w.sample) (λ l. HasLetterAt t (first_sampled n w.sample) l ⊎ HasLetterAt s (first_sampled n w.sample) l) (λ x h. inr h) (values_at (sampled w.sample) w.letters) is.accepted.0;
+    apart = is.accepted;
+    shortest = λ c l h word told. elim told [ inl p ↦ bound c l h word p | inr p ↦ is.shortest c l h word p ];
+  }
+
+  told_of : (left : Bool) (c : List Atom) (word : List PointValue) → IsAcceptedAlone left t s c word → TellsApart t s c word
+  told_of true c word h = inl h
+  told_of false c word h = inr h
+
+  -- what is promised of an answer
+  abbrev pub IsFound : Equality → Type 0
+  IsFound r = (IsSame r ↔ NeverTold n u t s) × IfDiffers (IsDifference n u t s) r
+
+  differs_found : (d : Difference) → IsDifference n u t s d → IsFound (Differs d)
+  differs_found d is = (
+    (λ h. absurd h, λ never. never (first_sampled n d.sample) (first_length n d.sample is.count) is.admitted (values_at (sampled d.sample) d.word) (told_of d.left (first_sampled n d.sample) (values_at (sampled d.sample) d.word) is.apart)),
+    is,
+  )
+
+  never_bound : (a b : TermD) (k : ℕ) → NeverAlone n u a b → HaveAtLeast a b k
+  never_bound a b k never c l h word alone = absurd (never c l h word alone)
+
+  longer_bound : (a b : TermD) (w : Word) (k : ℕ) → k ≤ length w.letters → IsShortestAlone n u a b w → HaveAtLeast a b k
+  longer_bound a b w k le is c l h word alone = omega (arith, le, is.shortest c l h word alone)
+
+  pub shorter_found : (first second : Option Word) (r : Equality) → (IsNone first → NeverAlone n u t s) → IfSome first (IsShortestAlone n u t s) → (IsNone second → NeverAlone n u s t) → IfSome second (IsShortestAlone n u s t) → IsShorterOf first second r → IsFound r
+  shorter_found None None r none some none' some' is =
+      subst (λ z. IsFound z) (sym is) (
+        (λ h. λ c l h word told. elim told [ inl p ↦ none refl c l h word p | inr p ↦ none' refl c l h word p ], λ h. tt),
+        tt,
+      )
+  shorter_found (Some w) None r none some none' some' is =
+      subst (λ z. IsFound z) (sym is) (differs_found (record { sample = w.sample; word = w.letters; left = true }) (left_difference w some (never_bound s t (length w.letters) (none' refl))))
+  shorter_found None (Some w) r none some none' some' is =
+      subst (λ z. IsFound z) (sym is) (differs_found (record { sample = w.sample; word = w.letters; left = false }) (right_difference w some' (never_bound t s (length w.letters) (none refl))))
+  shorter_found (Some v) (Some w) r none some none' some' is = elim is [
+    | inl h ↦ subst (λ z. IsFound z) (sym h.1) (differs_found (record { sample = v.sample; word = v.letters; left = true }) (left_difference v some (longer_bound s t w (length v.letters) h.0 some')))
+    | inr h ↦ subst (λ z. IsFound z) (sym h.1) (differs_found (record { sample = w.sample; word = w.letters; left = false }) (right_difference w some' (longer_bound t s v (length w.letters) (omega (arith, h.0)) some)))
+  ]
+
+-- what holds of the letters of both words holds of those of the shorter one
+pub shorter_has : (P Q R : List TermD → Type 0) (first second : Option Word) (r : Equality) → IfSome first (λ w. P w.letters) → IfSome second (λ w. Q w.letters) → ((ts : List TermD) → P ts → R ts) → ((ts : List TermD) → Q ts → R ts) → IsShorterOf first second r → IfDiffers (λ d. R d.word) r
+shorter_has P Q R None None r p q one other is = subst (λ z. IfDiffers (λ d. R d.word) z) (sym is) tt
+shorter_has P Q R (Some w) None r p q one other is = subst (λ z. IfDiffers (λ d. R d.word) z) (sym is) (one w.letters p)
+shorter_has P Q R None (Some w) r p q one other is = subst (λ z. IfDiffers (λ d. R d.word) z) (sym is) (other w.letters q)
+shorter_has P Q R (Some v) (Some w) r p q one other is = elim is [
+  | inl h ↦ subst (λ z. IfDiffers (λ d. R d.word) z) (sym h.1) (one v.letters p)
+  | inr h ↦ subst (λ z. IfDiffers (λ d. R d.word) z) (sym h.1) (other w.letters q)
+]
+
+-- what holds of a word's letters, where it says more
+pub some_has : (P Q : List TermD → Type 0) → ((ts : List TermD) → P ts → Q ts) → (o : Option Word) → IfSome o (λ w. P w.letters) → IfSome o (λ w. Q w.letters)
+some_has P Q one None h = h
+some_has P Q one (Some w) h = one w.letters h

@@ -1,0 +1,5 @@
+pub mod Telling
+pub mod Completed
+pub mod Differing
+pub mod Comparing
+pub mod DifferenceText

@@ -1,0 +1,92 @@
+//! Whether two automata accept the same words.
+
+ghost use Rattle.std.specs.Prelude.{◌≡◌, Bool, IfOk, ◌↔◌};
+ghost use Rattle.std.specs.List.{All};
+ghost use Rattle.lois_base.specs.Fits.{ConstraintFits, Fits};
+ghost use Rattle.lois_base.specs.Tree.{tree};
+ghost use Rattle.lois_base.specs.Validity.{AdmitsConstraint, AdmitsTerm, HasUsualWidths};
+ghost use Rattle.lois_deciders.specs.OnlyAsked.{HasOnlyAsked};
+ghost use Rattle.lois_automata.specs.Machines.{IsDeterministicAt};
+ghost use Rattle.lois_automata.specs.Throughout.{HoldsThroughout};
+ghost use Rattle.lois_equal.specs.Differing.{IsSame, IfDiffers, NeverTold, IsDifference, IsShorterOf, sided};
+
+use crate::excluding::shortest_alone;
+use lois_base::{Constraint, Decider, NoMemory, Numbers, Structure, Term, Terms};
+use lois_deciders::Chosen;
+use lois_words::Word;
+use std::alloc::Global;
+
+/// A word that one of two automata accepts and the other doesn't: letters as terms, and numbers for all levels that they use.
+/// The first numbers are the choice of atoms. `left` says that the first automaton accepts it.
+#[derive(Drop)]
+pub struct Difference {
+    pub sample: Numbers,
+    pub word: Terms,
+    pub left: bool,
+}
+
+/// Whether two automata accept the same words.
+#[derive(Drop)]
+pub enum Equality {
+    Same,
+    Differs(Difference),
+}
+
+/// Whether the deterministic automata `a` and `b` accept the same words at each choice of atoms that `under` admits, or a word
+/// that exactly one of them accepts at some such choice; no shorter word tells them apart, at any such choice. They need not be
+/// complete, and their letters may differ. Errors: `NoMemory`, also where a level would pass the greatest usize.
+pub fn equal<T: Structure>(
+    alloc: Global,
+    a: &Term,
+    b: &Term,
+    under: &Constraint,
+    size: usize,
+    chosen: &mut Chosen,
+) -> Result<Equality, NoMemory>
+    requires levels { Fits size (tree a.now) }
+    requires operators { AdmitsTerm T.ordered (tree a.now) }
+    requires other_levels { Fits size (tree b.now) }
+    requires other_operators { AdmitsTerm T.ordered (tree b.now) }
+    requires under { ConstraintFits size under.now }
+    requires under_operators { AdmitsConstraint T.ordered under.now }
+    requires deterministic { HoldsThroughout size under.now (IsDeterministicAt (tree a.now)) }
+    requires other_deterministic { HoldsThroughout size under.now (IsDeterministicAt (tree b.now)) }
+    ensures same { IfOk result (λ r. IsSame r ↔ NeverTold size under.now (tree a.now) (tree b.now)) }
+    ensures differs { IfOk result (IfDiffers (IsDifference size under.now (tree a.now) (tree b.now))) }
+    ensures operators { IfOk result (IfDiffers (λ d. (o : Bool) → AdmitsTerm o (tree a.now) → AdmitsTerm o (tree b.now) → All (AdmitsTerm o) d.word)) }
+    ensures widths { IfOk result (IfDiffers (λ d. HasUsualWidths (tree a.now) → HasUsualWidths (tree b.now) → All HasUsualWidths d.word)) }
+
+    // whatever is answered
+    ensures only_asked { HasOnlyAsked (λ b. (⟦<dyn Decider as Decider>⟧ b.vtable).kind_of b.value) (λ b. (⟦<dyn Decider as Decider>⟧ b.vtable).questions b.value) chosen.old chosen.new }
+{
+    let first = shortest_alone::<T>(alloc, a, b, under, size, chosen)?;
+    let second = shortest_alone::<T>(alloc, b, a, under, size, chosen)?;
+    Ok(shorter(first, second))
+}
+
+// Of a word that the first automaton alone accepts and one that the second alone accepts, the shorter one.
+fn shorter(first: Option<Word>, second: Option<Word>) -> Equality
+    ensures { IsShorterOf first second result }
+{
+    match (first, second) {
+        (None, None) => Equality::Same,
+        (Some(word), None) => found(word, true),
+        (None, Some(word)) => found(word, false),
+        (Some(one), Some(other)) => {
+            if other.letters.len() < one.letters.len() {
+                return found(other, false);
+            }
+            found(one, true)
+        }
+    }
+}
+
+fn found(word: Word, left: bool) -> Equality
+    ensures { result ≡ sided word left }
+{
+    Equality::Differs(Difference {
+        sample: word.sample,
+        word: word.letters,
+        left,
+    })
+}

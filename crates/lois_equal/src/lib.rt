@@ -1,0 +1,13 @@
+//! Whether two automata accept the same words, or a shortest word that tells them apart.
+#![tactic(auto)]
+
+mod comparing;
+mod completing;
+mod differing;
+mod excluding;
+mod leading;
+mod texts;
+
+pub use comparing::{Comparison, Unfit, compare};
+pub use differing::{Difference, Equality, equal};
+pub use texts::print_difference;
