@@ -1,0 +1,5 @@
+pub mod Runs
+pub mod Valid
+pub mod Texts
+pub mod Translation
+pub mod Placed
