@@ -1,12 +1,11 @@
 -- Configurations and steps as terms, for one choice of the full registers at a time.
-use Rattle.std.specs.Prelude.{◌≡◌, ℕ, zero, suc, ◌+◌, ◌/◌, ◌%◌, ◌^◌, ◌≤◌, Bool, cond, List, [], ◌∷◌, ◌++◌, Option, Some, None, map, slice_index_or, nat_eq, codes, ◌↔◌}
+use Rattle.std.specs.Prelude.{◌≡◌, ℕ, zero, suc, ◌+◌, ◌/◌, ◌%◌, ◌^◌, Bool, false, cond, List, [], ◌∷◌, ◌++◌, Option, Some, None, map, slice_index_or, nat_eq, codes, ◌⊎◌}
 use Rattle.std.specs.List.{flat_map}
-use Rattle.lois_answers.specs.Sound.{ItemsHaveTags}
 use Rattle.lois_base.specs.Atom.{Atom}
-use Rattle.lois_base.specs.Data.{TermD, var, tag, tup, TermsD, no_terms, term, terms_of, CompD, comp, comps_of, depth_of_comps}
-use Rattle.lois_base.specs.Fits.{ItemsFit}
-use Rattle.lois_base.specs.Validity.{AdmitsItems, ItemsHaveUsualWidths}
-use Rattle.lois_base.specs.Values.{MemberAt}
+use Rattle.lois_base.specs.Data.{TermD, var, tag, tup, TermsD, no_terms, term, terms_of, CompD, comp}
+use Rattle.lois_base.specs.Fits.{ConstraintFits}
+use Rattle.lois_base.specs.Truth.{holds}
+use Rattle.lois_base.specs.Validity.{AdmitsConstraint}
 use Rattle.lois_base.specs.declared.guards.Lit.{Lit}
 use Rattle.lois_base.specs.declared.guards.Op.{Op}
 use Rattle.lois_registers.specs.Runs.{stored_from}
@@ -84,15 +83,30 @@ step_comp s os = comp (full os + 1) (placed_guard (Some (full os) ∷ os) s.guar
 abbrev pub step_comps : List (List (Option ℕ)) → List RegStep → List CompD
 step_comps places steps = flat_map (λ s. map (step_comp s) places) steps
 
--- the same members at each choice, with other guards and without idle comprehensions
-pub record AreMade (wanted made : List CompD) : Type 0 where
-  pub members : (w : TermD) (x c : List Atom) → MemberAt w x (comps_of wanted) c ↔ MemberAt w x (comps_of made) c
-  pub levels : (n : ℕ) → ItemsFit n (comps_of wanted) → ItemsFit n (comps_of made)
-  pub operators : (o : Bool) → AdmitsItems o (comps_of wanted) → AdmitsItems o (comps_of made)
-  pub widths : ItemsHaveUsualWidths (comps_of wanted) → ItemsHaveUsualWidths (comps_of made)
-  pub tags : ItemsHaveTags (comps_of wanted) → ItemsHaveTags (comps_of made)
-  pub depth : depth_of_comps made ≤ depth_of_comps wanted
+-- a comprehension with another guard, which holds at the same choices
+pub record HasGuard (g h : List (List Lit)) : Type 0 where
+  pub truth : (c : List Atom) → holds c h ≡ holds c g
+  pub levels : (n : ℕ) → ConstraintFits n g → ConstraintFits n h
+  pub operators : (o : Bool) → AdmitsConstraint o g → AdmitsConstraint o h
+
+abbrev pub IsMadeOf : CompD → CompD → Type 0
+IsMadeOf (comp m g t) (comp n h s) = (m ≡ n) × (t ≡ s) × HasGuard g h
+
+-- the guard holds nowhere
+abbrev pub IsIdle : CompD → Type 0
+IsIdle (comp m g t) = (c : List Atom) → holds c g ≡ false
+
+-- one comprehension for each that is wanted, but for idle ones, which may be left out
+abbrev pub AreMade : List CompD → List CompD → Type 0
+AreMade [] made = made ≡ []
+AreMade (k ∷ ks) made =
+    (IsIdle k × AreMade ks made) ⊎ ((l : CompD) × (rest : List CompD) × (made ≡ l ∷ rest) × IsMadeOf k l × AreMade ks rest)
 
 -- what is made of the wanted comprehensions was appended
 abbrev pub AddsMade : List CompD → List CompD → List CompD → Type 0
 AddsMade wanted old new = (made : List CompD) × (new ≡ old ++ made) × AreMade wanted made
+
+-- the literals, and others behind them if there are some
+abbrev pub joined_literals : List Lit → Option (List Lit) → Option (List Lit)
+joined_literals before None = None
+joined_literals before (Some ls) = Some (before ++ ls)

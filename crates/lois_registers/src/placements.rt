@@ -1,9 +1,9 @@
 //! Which registers are full, and at which levels their atoms stand.
 
-ghost use Rattle.std.specs.Prelude.{◌≡◌, ◌≤◌, ◌∷◌, ◌^◌, map, length, slice_index_or, Some, None, IfOk};
-ghost use Rattle.lois_base.specs.Data.{terms_of};
+ghost use Rattle.std.specs.Prelude.{◌≡◌, ◌≤◌, ◌∷◌, Some, length, slice_index_or, nat_eq, if◌then◌else◌, None, IfOk};
+ghost use Rattle.std.specs.List.{list_any};
 ghost use Rattle.lois_base.specs.Tree.{tree};
-ghost use Rattle.lois_registers.specs.Placed.{full, contents_from, content_term, configuration_term, placements, numbers, placed, placed_guard};
+ghost use Rattle.lois_registers.specs.Placed.{full, contents_from, content_term, configuration_term, placements, placed, placed_lit, placed_guard};
 ghost use Rattle.lois_registers.specs.Runs.{stored_from};
 
 use crate::Stores;
@@ -102,6 +102,21 @@ pub fn configuration(
     Ok(Term::Tup(parts))
 }
 
+fn content_after(
+    content: Option<usize>,
+    register: u32,
+    stores: &Stores,
+    letter: usize,
+) -> Option<usize>
+    ensures { result ≡ (if list_any (nat_eq register) stores.now then Some letter else content) }
+{
+    if stores.as_slice().contains(&register) {
+        Some(letter)
+    } else {
+        content
+    }
+}
+
 /// The contents behind a step that stores the letter, which stands at the level `letter`.
 pub fn stored(
     alloc: Global,
@@ -115,11 +130,7 @@ pub fn stored(
     let mut after = Vec::new(alloc);
     let mut register = 1;
     for level in contents {
-        let new = if stores.as_slice().contains(&register) {
-            Some(letter)
-        } else {
-            *level
-        };
+        let new = content_after(*level, register, stores, letter);
         after.push(new)?;
         register += 1;
     }
