@@ -30,22 +30,22 @@ below_more n m (Some i ∷ os) l h = (omega (arith, h.0), below_more n m os l h.
 
 pub length_contents : (m k p : ℕ) → length (contents_from m k p) ≡ k
 length_contents m zero p = refl
-length_contents m (suc k) p = go (nat_eq (p % 2) 1)
+length_contents m (suc k) p = go (nat_eq (p % 2) 1) (length_contents (m + 1) k (p / 2)) (length_contents m k (p / 2))
   where
-    go : (b : Bool) → length (cond b (Some m ∷ contents_from (m + 1) k (p / 2)) (None ∷ contents_from m k (p / 2))) ≡ suc k
-    go true = ap suc (length_contents (m + 1) k (p / 2))
-    go false = ap suc (length_contents m k (p / 2))
+    go : (b : Bool) → length (contents_from (m + 1) k (p / 2)) ≡ k → length (contents_from m k (p / 2)) ≡ k → length (cond b (Some m ∷ contents_from (m + 1) k (p / 2)) (None ∷ contents_from m k (p / 2))) ≡ suc k
+    go true h i = ap suc h
+    go false h i = ap suc i
 
 pub below_contents : (m k p : ℕ) → AreBelow (m + full (contents_from m k p)) (contents_from m k p)
 below_contents m zero p = tt
-below_contents m (suc k) p = go (nat_eq (p % 2) 1)
+below_contents m (suc k) p = go (nat_eq (p % 2) 1) (below_contents (m + 1) k (p / 2)) (below_contents m k (p / 2))
   where
-    go : (b : Bool) → AreBelow (m + full (cond b (Some m ∷ contents_from (m + 1) k (p / 2)) (None ∷ contents_from m k (p / 2)))) (cond b (Some m ∷ contents_from (m + 1) k (p / 2)) (None ∷ contents_from m k (p / 2)))
-    go true =
+    go : (b : Bool) → AreBelow (m + 1 + full (contents_from (m + 1) k (p / 2))) (contents_from (m + 1) k (p / 2)) → AreBelow (m + full (contents_from m k (p / 2))) (contents_from m k (p / 2)) → AreBelow (m + full (cond b (Some m ∷ contents_from (m + 1) k (p / 2)) (None ∷ contents_from m k (p / 2)))) (cond b (Some m ∷ contents_from (m + 1) k (p / 2)) (None ∷ contents_from m k (p / 2)))
+    go true h i =
         let rest = contents_from (m + 1) k (p / 2) in
         let l : m + 1 + full rest ≤ m + suc (full rest) = omega arith in
-        (omega arith, below_more (m + 1 + full rest) (m + suc (full rest)) rest l (below_contents (m + 1) k (p / 2)))
-    go false = below_contents m k (p / 2)
+        (omega arith, below_more (m + 1 + full rest) (m + suc (full rest)) rest l h)
+    go false h i = i
 
 pub full_few : (os : List (Option ℕ)) → full os ≤ length os
 full_few [] = omega arith
@@ -101,23 +101,29 @@ pattern_of (Some a ∷ os) d m l =
       same = ap (filled (d ++ (a ∷ h.atoms))) e ∙ (ap (λ z. Some z ∷ filled (d ++ (a ∷ h.atoms)) (contents_from (m + 1) (length os) h.pattern)) here ∙ ap (λ z. Some a ∷ z) (ap (λ z. filled z (contents_from (m + 1) (length os) h.pattern)) (sym both) ∙ h.same));
     }
 
+last_or_below : (i n : ℕ) → i < suc n → (i < n) ⊎ (n ≡ i)
+last_or_below zero zero l = inr refl
+last_or_below zero (suc n) l = inl (omega arith)
+last_or_below (suc i) zero l = absurd (omega arith)
+last_or_below (suc i) (suc n) l =
+    let less : i < suc n = omega arith in
+    elim (last_or_below i n less) [ inl h ↦ inl (omega (arith, h)) | inr e ↦ inr (ap suc e) ]
+
 pub contains_numbers : (n i : ℕ) → i < n → Contains (numbers n) i
 contains_numbers zero i l = absurd (omega arith)
-contains_numbers (suc n) i l = go (split i n l)
+contains_numbers (suc n) i l = go (last_or_below i n l) (contains_numbers n i)
   where
-    split : (i n : ℕ) → i < suc n → (i < n) ⊎ (n ≡ i)
-    split i n l = omega arith
-    go : (i < n) ⊎ (n ≡ i) → Contains (numbers n ++ n ∷ []) i
-    go (inl h) = Contains-append_left (numbers n) (n ∷ []) i (contains_numbers n i h)
-    go (inr h) = subst (λ z. Contains (numbers n ++ n ∷ []) z) h (Contains-push (numbers n) n)
+    go : (i < n) ⊎ (n ≡ i) → (i < n → Contains (numbers n) i) → Contains (numbers n ++ n ∷ []) i
+    go (inl h) f = Contains-append_left (numbers n) (n ∷ []) i (f h)
+    go (inr h) f = subst (λ z. Contains (numbers n ++ n ∷ []) z) h (Contains-push (numbers n) n)
 
 pub numbers_below : (n i : ℕ) → Contains (numbers n) i → i < n
 numbers_below zero i (k, l, e) = absurd (omega (arith, l))
-numbers_below (suc n) i h = go (Contains-push_cases (numbers n) n i h)
+numbers_below (suc n) i h = go (Contains-push_cases (numbers n) n i h) (numbers_below n i)
   where
-    go : Contains (numbers n) i ⊎ (n ≡ i) → i < suc n
-    go (inl k) = omega (arith, numbers_below n i k)
-    go (inr e) = omega (arith, e)
+    go : Contains (numbers n) i ⊎ (n ≡ i) → (Contains (numbers n) i → i < n) → i < suc n
+    go (inl k) f = omega (arith, f k)
+    go (inr e) f = omega (arith, e)
 
 module _ {X Y : Type 0} (f : X → Y) where
   pub contains_mapped : (xs : List X) (x : X) → Contains xs x → Contains (map f xs) (f x)
@@ -185,13 +191,13 @@ length_stored i stores x (o ∷ os) = ap suc (length_stored (i + 1) stores x os)
 
 pub below_stored : (n i : ℕ) (stores : List ℕ) (m : ℕ) (os : List (Option ℕ)) → m < n → AreBelow n os → AreBelow n (stored_from i stores m os)
 below_stored n i stores m [] l h = tt
-below_stored n i stores m (None ∷ os) l h = go (list_any (nat_eq i) stores)
+below_stored n i stores m (None ∷ os) l h = go (list_any (nat_eq i) stores) (below_stored n (i + 1) stores m os l h)
   where
-    go : (b : Bool) → AreBelow n ((if b then Some m else None) ∷ stored_from (i + 1) stores m os)
-    go true = (l, below_stored n (i + 1) stores m os l h)
-    go false = below_stored n (i + 1) stores m os l h
-below_stored n i stores m (Some j ∷ os) l h = go (list_any (nat_eq i) stores)
+    go : (b : Bool) → AreBelow n (stored_from (i + 1) stores m os) → AreBelow n ((if b then Some m else None) ∷ stored_from (i + 1) stores m os)
+    go true k = (l, k)
+    go false k = k
+below_stored n i stores m (Some j ∷ os) l h = go (list_any (nat_eq i) stores) (below_stored n (i + 1) stores m os l h.1)
   where
-    go : (b : Bool) → AreBelow n ((if b then Some m else Some j) ∷ stored_from (i + 1) stores m os)
-    go true = (l, below_stored n (i + 1) stores m os l h.1)
-    go false = (h.0, below_stored n (i + 1) stores m os l h.1)
+    go : (b : Bool) → AreBelow n (stored_from (i + 1) stores m os) → AreBelow n ((if b then Some m else Some j) ∷ stored_from (i + 1) stores m os)
+    go true k = (l, k)
+    go false k = (h.0, k)

@@ -1,5 +1,5 @@
 -- What is made of wanted comprehensions: it has their members, and is as sound.
-use Rattle.std.proofs.Common.{◌≡◌, ℕ, zero, suc, ◌+◌, ◌≤◌, Bool, true, false, List, [], ◌∷◌, ◌++◌, length, max, refl, sym, ap, subst, ◌∙◌, ◌⊎◌, inl, inr, arith, append_assoc, append-nil}
+use Rattle.std.proofs.Common.{◌≡◌, ℕ, zero, suc, ◌+◌, ◌≤◌, ◌<◌, Bool, true, false, List, [], ◌∷◌, ◌++◌, Option, length, get_or, take, max, refl, sym, ap, subst, ◌∙◌, ◌⊎◌, inl, inr, arith, append_assoc, append-nil}
 use Rattle.std.specs.Bool.{IsTrue}
 use Rattle.lois_answers.specs.Sound.{CompHasTags, ItemsHaveTags}
 use Rattle.lois_base.specs.Atom.{Atom}
@@ -8,7 +8,14 @@ use Rattle.lois_base.specs.Fits.{CompFits, ItemsFit}
 use Rattle.lois_base.specs.Truth.{holds}
 use Rattle.lois_base.specs.Validity.{AdmitsComp, AdmitsItems, CompHasUsualWidths, ItemsHaveUsualWidths}
 use Rattle.lois_base.specs.Values.{MakesAt, MemberAt, IsExtension}
-use Rattle.lois_registers.specs.Placed.{IsMadeOf, IsIdle, AreMade, AddsMade}
+use Rattle.lois_base.specs.Validity.{AdmitsConstraint}
+use Rattle.lois_base.specs.Fits.{ConstraintFits}
+use Rattle.lois_base.specs.declared.guards.Lit.{Lit}
+use Rattle.lois_base.proofs.Validity.{all_that_are}
+use Rattle.std.specs.List.{All, flat_map}
+use Rattle.std.proofs.lemmas.List.{take_more, flat_map_more}
+use Rattle.lois_registers.specs.Placed.{HasGuard, IsMadeOf, IsIdle, AreMade, AddsMade, placements}
+use Rattle.lois_registers.proofs.Contents.{place_is}
 use Rattle.lois_registers.proofs.Members.{Each}
 
 pub made_append : (ks ls made more : List CompD) → AreMade ks made → AreMade ls more → AreMade (ks ++ ls) (made ++ more)
@@ -60,11 +67,11 @@ module _ (w : TermD) (x c : List Atom) where
   pub member_made : (ks made : List CompD) → AreMade ks made → MemberAt w x (comps_of made) c → MemberAt w x (comps_of ks) c
   member_made [] made h m = absurd (subst (λ z. MemberAt w x (comps_of z) c) h m)
   member_made (k ∷ ks) made (inl (idle, h)) m = inr (member_made ks made h m)
-  member_made (k ∷ ks) made (inr (l, rest, e, is, h)) m = go (subst (λ z. MemberAt w x (comps_of z) c) e m)
+  member_made (k ∷ ks) made (inr (l, rest, e, is, h)) m = go (subst (λ z. MemberAt w x (comps_of z) c) e m) (λ j. member_made ks rest h j)
     where
-      go : MakesAt w x l c ⊎ MemberAt w x (comps_of rest) c → MemberAt w x (comps_of (k ∷ ks)) c
-      go (inl i) = inl (same_make k l is i)
-      go (inr j) = inr (member_made ks rest h j)
+      go : MakesAt w x l c ⊎ MemberAt w x (comps_of rest) c → (MemberAt w x (comps_of rest) c → MemberAt w x (comps_of ks) c) → MemberAt w x (comps_of (k ∷ ks)) c
+      go (inl i) r = inl (same_make k l is i)
+      go (inr j) r = inr (r j)
 
 -- a fact that goes over from a wanted comprehension to the one that is made of it
 pub each_made : (P : CompD → Type 0) → ((k l : CompD) → IsMadeOf k l → P k → P l) → (ks made : List CompD) → AreMade ks made → Each P ks → Each P made
@@ -111,3 +118,21 @@ items_tags (k ∷ ks) h = (h.0, items_tags ks h.1)
 pub items_depth : (d : ℕ) (ks : List CompD) → Each (λ k. depth_of_comp k ≤ d) ks → depth_of_comps ks ≤ d
 items_depth d [] h = omega arith
 items_depth d (k ∷ ks) h = omega (arith, h.0, items_depth d ks h.1)
+
+-- the guard that a step got
+pub guard_made : (g placed guard : List (List Lit)) → placed ≡ g → ((c : List Atom) → holds c guard ≡ holds c placed) → ((n : ℕ) → ConstraintFits n placed → ConstraintFits n guard) → ((o : Bool) → AdmitsConstraint o placed → AdmitsConstraint o guard) → HasGuard g guard
+guard_made g placed guard e truth fits operators =
+    subst (λ z. HasGuard z guard) e (record { truth = truth; levels = fits; operators = operators })
+
+pub guard_idle : (m : ℕ) (t : TermD) (g placed guard : List (List Lit)) → placed ≡ g → ((c : List Atom) → holds c guard ≡ holds c placed) → guard ≡ [] → IsIdle (comp m g t)
+guard_idle m t g placed guard e truth none c =
+    subst (λ z. holds c z ≡ false) e (sym (truth c) ∙ ap (holds c) none)
+
+module _ {X : Type 0} (f : X → List CompD) where
+  pub flat_take : (xs : List X) (i : ℕ) (x : X) → i < length xs → x ≡ get_or xs i x → flat_map f (take (i + 1) xs) ≡ flat_map f (take i xs) ++ f x
+  flat_take xs i x l e =
+      ap (flat_map f) (take_more xs i x l ∙ ap (λ z. take i xs ++ z ∷ []) (sym e)) ∙ sym (flat_map_more f [] (take i xs) x)
+
+pub places_few : (k : ℕ) (places : List (List (Option ℕ))) → places ≡ placements k → k ≤ 4 → All (λ os. length os ≤ 4) places
+places_few k places e l =
+    subst (All (λ os. length os ≤ 4)) (sym e) (all_that_are (λ os. length os ≤ 4) (placements k) (λ os i. subst (λ n. n ≤ 4) (sym (place_is k os i).count) l))

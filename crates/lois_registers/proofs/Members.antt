@@ -40,28 +40,28 @@ module _ (w : TermD) (x c : List Atom) where
 
     pub map_member : (xs : List X) (a : X) → Contains xs a → MakesAt w x (f a) c → MemberAt w x (comps_of (map f xs)) c
     map_member [] a (k, l, e) h = absurd (omega (arith, l))
-    map_member (b ∷ xs) a i h = go (contains_cases b xs a i)
+    map_member (b ∷ xs) a i h = go (contains_cases b xs a i) (λ j. map_member xs a j h)
       where
-        go : (b ≡ a) ⊎ Contains xs a → MemberAt w x (comps_of (map f (b ∷ xs))) c
-        go (inl e) = inl (subst (λ z. MakesAt w x (f z) c) (sym e) h)
-        go (inr j) = inr (map_member xs a j h)
+        go : (b ≡ a) ⊎ Contains xs a → (Contains xs a → MemberAt w x (comps_of (map f xs)) c) → MemberAt w x (comps_of (map f (b ∷ xs))) c
+        go (inl e) r = inl (subst (λ z. MakesAt w x (f z) c) (sym e) h)
+        go (inr j) r = inr (r j)
 
   module _ {X : Type 0} (f : X → List CompD) where
     pub member_flat : (xs : List X) → MemberAt w x (comps_of (flat_map f xs)) c → (a : X) × Contains xs a × MemberAt w x (comps_of (f a)) c
     member_flat [] h = absurd h
-    member_flat (a ∷ xs) h = go ((member_append (f a) (flat_map f xs)).0 h)
+    member_flat (a ∷ xs) h = go ((member_append (f a) (flat_map f xs)).0 h) (λ j. member_flat xs j)
       where
-        go : MemberAt w x (comps_of (f a)) c ⊎ MemberAt w x (comps_of (flat_map f xs)) c → (b : X) × Contains (a ∷ xs) b × MemberAt w x (comps_of (f b)) c
-        go (inl i) = (a, contains_first a xs, i)
-        go (inr j) = let r = member_flat xs j in (r.0, contains_later a xs r.0 r.1, r.2)
+        go : MemberAt w x (comps_of (f a)) c ⊎ MemberAt w x (comps_of (flat_map f xs)) c → (MemberAt w x (comps_of (flat_map f xs)) c → (b : X) × Contains xs b × MemberAt w x (comps_of (f b)) c) → (b : X) × Contains (a ∷ xs) b × MemberAt w x (comps_of (f b)) c
+        go (inl i) more = (a, contains_first a xs, i)
+        go (inr j) more = let r = more j in (r.0, contains_later a xs r.0 r.1, r.2)
 
     pub flat_member : (xs : List X) (a : X) → Contains xs a → MemberAt w x (comps_of (f a)) c → MemberAt w x (comps_of (flat_map f xs)) c
     flat_member [] a (k, l, e) h = absurd (omega (arith, l))
-    flat_member (b ∷ xs) a i h = go (contains_cases b xs a i)
+    flat_member (b ∷ xs) a i h = go (contains_cases b xs a i) (λ j. flat_member xs a j h)
       where
-        go : (b ≡ a) ⊎ Contains xs a → MemberAt w x (comps_of (flat_map f (b ∷ xs))) c
-        go (inl e) = (member_append (f b) (flat_map f xs)).1 (inl (subst (λ z. MemberAt w x (comps_of (f z)) c) (sym e) h))
-        go (inr j) = (member_append (f b) (flat_map f xs)).1 (inr (flat_member xs a j h))
+        go : (b ≡ a) ⊎ Contains xs a → (Contains xs a → MemberAt w x (comps_of (flat_map f xs)) c) → MemberAt w x (comps_of (flat_map f (b ∷ xs))) c
+        go (inl e) r = (member_append (f b) (flat_map f xs)).1 (inl (subst (λ z. MemberAt w x (comps_of (f z)) c) (sym e) h))
+        go (inr j) r = (member_append (f b) (flat_map f xs)).1 (inr (r j))
 
 -- a fact of each comprehension of a list, where the list's fact is one of the items one by one
 module _ (P : CompD → Type 0) where

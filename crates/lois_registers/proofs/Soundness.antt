@@ -136,10 +136,10 @@ module _ (o : Bool) (k : ℕ) (some : 1 ≤ k) (few : k ≤ 4) where
       let from = configuration_sound o n s.from os (All-contains IsName states s.from names valid.from) (omega (arith, place.count)) (omega (arith, place.count)) below in
       let to = configuration_sound o n s.to after (All-contains IsName states s.to names valid.to) (omega (arith, count)) (omega (arith, count)) (below_stored n 1 s.stored m os within below) in
       let item : IsSoundItem o n 2 (step_item s os) = record {
-        levels = (from.levels, within, to.levels, tt);
-        tags = (from.tags, tt, to.tags, tt);
-        widths = (omega arith, omega arith, (from.widths, tt, to.widths, tt));
-        operators = (from.operators, tt, to.operators, tt);
+        levels = (from.levels, (within, (to.levels, tt)));
+        tags = (from.tags, (tt, (to.tags, tt)));
+        widths = (omega arith, omega arith, (from.widths, (tt, (to.widths, tt))));
+        operators = (from.operators, (tt, (to.operators, tt)));
         low = omega (arith, from.low, to.low);
       } in
       comp_sound o 2 n _ (step_item s os) (omega (arith, full_few os, place.count)) guard.0 guard.1 item
@@ -174,9 +174,9 @@ atoms_sound o =
 -- a tuple of five sound sets
 pub five_sound : (o : Bool) (a b c d e : TermD) → IsSoundPart o a → IsSoundPart o b → IsSoundPart o c → IsSoundPart o d → IsSoundPart o e → IsSoundTerm o 0 (tup (terms_of (a ∷ b ∷ c ∷ d ∷ e ∷ [])))
 five_sound o a b c d e ha hb hc hd he = record {
-  levels = (ha.sound.levels, hb.sound.levels, hc.sound.levels, hd.sound.levels, he.sound.levels, tt);
-  tags = (ha.sound.tags, hb.sound.tags, hc.sound.tags, hd.sound.tags, he.sound.tags, tt);
-  widths = (omega arith, omega arith, (ha.sound.widths, hb.sound.widths, hc.sound.widths, hd.sound.widths, he.sound.widths, tt));
-  operators = (ha.sound.operators, hb.sound.operators, hc.sound.operators, hd.sound.operators, he.sound.operators, tt);
+  levels = (ha.sound.levels, (hb.sound.levels, (hc.sound.levels, (hd.sound.levels, (he.sound.levels, tt)))));
+  tags = (ha.sound.tags, (hb.sound.tags, (hc.sound.tags, (hd.sound.tags, (he.sound.tags, tt)))));
+  widths = (omega arith, omega arith, (ha.sound.widths, (hb.sound.widths, (hc.sound.widths, (hd.sound.widths, (he.sound.widths, tt))))));
+  operators = (ha.sound.operators, (hb.sound.operators, (hc.sound.operators, (hd.sound.operators, (he.sound.operators, tt)))));
   brackets = omega (arith, ha.low, hb.low, hc.low, hd.low, he.low);
 }

@@ -1,5 +1,5 @@
 -- The term of the five sets is the automaton of the register automaton.
-use Rattle.std.proofs.Common.{◌≡◌, List, [], ◌∷◌, None, replicate, refl, sym, subst}
+use Rattle.std.proofs.Common.{◌≡◌, ℕ, List, [], ◌∷◌, Option, None, replicate, refl, sym, subst}
 use Rattle.std.specs.List.{All, Contains}
 use Rattle.std.proofs.lemmas.List.Elements.{All-contains, All-weaker}
 use Rattle.lois_answers.specs.Sound.{IsSoundTerm}
@@ -105,3 +105,20 @@ module _ (r : Registers) (valid : IsRegisters r) (made : List CompD) (are : AreM
 
   pub both : (t : TermD) → t ≡ whole_term → IsTranslatedTo r t × IsSoundTerm r.order 0 t
   both t e = (subst (IsTranslatedTo r) (sym e) is_translated, subst (IsSoundTerm r.order 0) (sym e) is_sound)
+
+-- the same from the five sets as they were made, one by one
+module _ (r : Registers) (valid : IsRegisters r) (places : List (List (Option ℕ))) (all : places ≡ placements r.registers) where
+  pub from_sets : (t a b c d e first : TermD) (states finals : List (List ℕ)) → t ≡ tup (terms_of (a ∷ b ∷ c ∷ d ∷ e ∷ [])) →
+      a ≡ coll (comps_of (configurations places states)) → states ≡ r.states →
+      b ≡ coll (comps_of (comp 1 ([] ∷ []) (var 0) ∷ [])) →
+      (made : List CompD) × (c ≡ coll (comps_of made)) × AreMade (step_comps places r.steps) made →
+      d ≡ coll (comps_of (comp 0 ([] ∷ []) first ∷ [])) → first ≡ configuration_term r.initial (replicate r.registers None) →
+      e ≡ coll (comps_of (configurations places finals)) → finals ≡ r.finals →
+      IsTranslatedTo r t × IsSoundTerm r.order 0 t
+  from_sets t a b c d e first states finals is ha hs hb (made, hc, are) hd hf he hn =
+      let own : AreMade (step_comps (placements r.registers) r.steps) made = subst (λ z. AreMade (step_comps z r.steps) made) all are in
+      let ea : a ≡ coll (comps_of (configurations (placements r.registers) r.states)) = rw (ha, all, hs) in
+      let ed : d ≡ coll (comps_of (comp 0 ([] ∷ []) (configuration_term r.initial (replicate r.registers None)) ∷ [])) = rw (hd, hf) in
+      let ee : e ≡ coll (comps_of (configurations (placements r.registers) r.finals)) = rw (he, all, hn) in
+      let whole : t ≡ whole_term r valid made own = rw (is, ea, hb, hc, ed, ee) in
+      both r valid made own t whole

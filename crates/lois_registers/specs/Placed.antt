@@ -69,6 +69,9 @@ guard_of (Some cube) = cube ∷ []
 abbrev pub placed_guard : List (Option ℕ) → List Lit → List (List Lit)
 placed_guard operands guard = guard_of (placed operands guard)
 
+abbrev pub five_terms : TermD → TermD → TermD → TermD → TermD → TermD
+five_terms a b c d e = tup (terms_of (a ∷ b ∷ c ∷ d ∷ e ∷ []))
+
 abbrev pub triple_term : TermD → TermD → TermD → TermD
 triple_term p l q = tup (term p (term l (term q no_terms)))
 

@@ -5,7 +5,7 @@ ghost use Rattle.std.specs.List.{All};
 ghost use Rattle.lois_answers.specs.Sound.{IsSoundTerm};
 ghost use Rattle.lois_base.specs.Data.{CompD, var, coll, comp, comps_of};
 ghost use Rattle.lois_base.specs.Tree.{tree};
-ghost use Rattle.lois_registers.specs.Placed.{AddsMade, AreMade, configuration_comp, configuration_term, configurations, step_item, step_comp, step_comps};
+ghost use Rattle.lois_registers.specs.Placed.{AddsMade, AreMade, configuration_comp, configuration_term, configurations, five_terms, step_item, step_comp, step_comps};
 ghost use Rattle.lois_registers.specs.Translation.{IsTranslatedTo};
 ghost use Rattle.lois_registers.specs.Valid.{IsRegisters};
 
@@ -152,6 +152,26 @@ fn first_of(alloc: Global, state: &Name, registers: u32) -> Result<Term, NoMemor
     configuration(alloc, state, &contents)
 }
 
+/// A tuple of five.
+fn five(
+    alloc: Global,
+    states: Term,
+    letters: Term,
+    steps: Term,
+    initial: Term,
+    accepting: Term,
+) -> Result<Term, NoMemory>
+    ensures { IfOk result (λ t. tree t ≡ five_terms (tree states) (tree letters) (tree steps) (tree initial) (tree accepting)) }
+{
+    let mut parts = Terms::new(alloc);
+    parts.push(states)?;
+    parts.push(letters)?;
+    parts.push(steps)?;
+    parts.push(initial)?;
+    parts.push(accepting)?;
+    Ok(Term::Tup(parts))
+}
+
 /// The automaton whose states are the configurations of `r`: tuples of a tag for the state and the contents of the registers,
 /// where the tag `'none` stands for an empty one. Its letters are all atoms, and it accepts exactly the words of atoms that `r`
 /// accepts. The term has no free level. Errors: `NoMemory`.
@@ -160,17 +180,12 @@ pub fn translate(alloc: Global, r: &Registers) -> Result<Term, NoMemory>
     ensures automaton { IfOk result (λ t. IsTranslatedTo r.now (tree t)) }
     ensures sound { IfOk result (λ t. IsSoundTerm r.now.order 0 (tree t)) }
 {
-    let places = all_placements(alloc, r.registers)?;
-    let states = configurations_of(alloc, r.states.as_slice(), &places)?;
+    let all = all_placements(alloc, r.registers)?;
+    let places = all.as_slice();
+    let states = configurations_of(alloc, r.states.as_slice(), places)?;
     let letters = all_atoms(alloc)?;
-    let steps = steps_of(alloc, &r.steps, &places)?;
+    let steps = steps_of(alloc, &r.steps, places)?;
     let initial = singleton(alloc, first_of(alloc, &r.initial, r.registers)?)?;
-    let accepting = configurations_of(alloc, r.finals.as_slice(), &places)?;
-    let mut parts = Terms::new(alloc);
-    parts.push(states)?;
-    parts.push(letters)?;
-    parts.push(steps)?;
-    parts.push(initial)?;
-    parts.push(accepting)?;
-    Ok(Term::Tup(parts))
+    let accepting = configurations_of(alloc, r.finals.as_slice(), places)?;
+    five(alloc, states, letters, steps, initial, accepting)
 }
