@@ -8,3 +8,4 @@ pub mod Loops
 pub mod Automaton
 pub mod Soundness
 pub mod WholeTerm
+pub mod Answered
