@@ -9,3 +9,4 @@ pub mod Automaton
 pub mod Soundness
 pub mod WholeTerm
 pub mod Answered
+pub mod Cuts

@@ -13,6 +13,9 @@ abbrev pub AreIncreasing : ℕ → ℕ → List ℕ → Type 0
 AreIncreasing m n [] = Unit {0}
 AreIncreasing m n (i ∷ is) = (m < i) × (i ≤ n) × AreIncreasing i n is
 
+abbrev pub IsCount : ℕ → Type 0
+IsCount k = (1 ≤ k) × (k ≤ 4)
+
 -- 1 to 64 distinct names
 pub record AreStates (names : List (List ℕ)) : Type 0 where
   pub form : All IsName names
@@ -30,6 +33,10 @@ pub record IsLiteral (ordered : Bool) (k : ℕ) (l : Lit) : Type 0 where
   pub left : l.left ≤ k
   pub right : l.right ≤ k
   pub operator : AdmitsLit ordered l
+
+pub record IsGuard (ordered : Bool) (k : ℕ) (guard : List Lit) : Type 0 where
+  pub few : length guard ≤ 16
+  pub literals : All (IsLiteral ordered k) guard
 
 pub record IsRegStep (ordered : Bool) (k : ℕ) (states : List (List ℕ)) (s : RegStep) : Type 0 where
   pub from : Contains states s.from
