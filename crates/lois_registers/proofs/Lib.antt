@@ -9,4 +9,3 @@ pub mod Automaton
 pub mod Soundness
 pub mod WholeTerm
 pub mod Answered
-pub mod Cuts

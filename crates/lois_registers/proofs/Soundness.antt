@@ -1,12 +1,11 @@
 -- The sets of the translated automaton have a text: their levels, tags, widths, operators and brackets.
-use Rattle.std.proofs.Common.{◌≡◌, ℕ, zero, suc, ◌+◌, ◌≤◌, ◌<◌, ◌^◌, Bool, true, false, List, [], ◌∷◌, ◌++◌, Option, Some, None, length, map, max, replicate, refl, sym, ap, subst, ◌∙◌, arith, zero-add}
+use Rattle.std.proofs.Common.{◌≡◌, ℕ, zero, suc, ◌+◌, ◌≤◌, ◌<◌, ◌^◌, Bool, List, [], ◌∷◌, Option, Some, None, length, map, replicate, refl, sym, ap, subst, ◌∙◌, arith, zero-add}
 use Rattle.std.specs.Prelude.{codes}
-use Rattle.std.specs.Bool.{IsTrue}
 use Rattle.std.specs.List.{All, Contains}
 use Rattle.std.proofs.lemmas.List.{length-replicate}
 use Rattle.std.proofs.lemmas.List.Elements.{All-nil, All-cons, All-weaker, All-contains}
 use Rattle.lois_answers.specs.Sound.{HasTags, PartsHaveTags, CompHasTags, IsSoundTerm}
-use Rattle.lois_base.specs.Data.{TermD, var, tag, tup, coll, TermsD, no_terms, term, terms_of, CompD, comp, comps_of, depth, depth_of_parts, depth_of_comp, depth_of_comps}
+use Rattle.lois_base.specs.Data.{TermD, var, tup, coll, terms_of, CompD, comp, comps_of, depth, depth_of_parts, depth_of_comp}
 use Rattle.lois_base.specs.Fits.{Fits, PartsFit, CompFits, CubeFits, ConstraintFits}
 use Rattle.lois_base.specs.Names.{IsName}
 use Rattle.lois_base.specs.Validity.{AdmitsTerm, AdmitsParts, AdmitsComp, AdmitsCube, AdmitsConstraint, AdmitsLit, HasUsualWidths, PartsHaveUsualWidths, CompHasUsualWidths, count_of_parts}
@@ -132,7 +131,7 @@ module _ (o : Bool) (k : ℕ) (some : 1 ≤ k) (few : k ≤ 4) where
       let after : List (Option ℕ) = stored_from 1 s.stored m os in
       let count : length after ≡ k = length_stored 1 s.stored m os ∙ place.count in
       let within : m < n = omega arith in
-      let guard = placed_sound n o (Some m ∷ os) s.guard (within, below) (All-weaker (IsLiteral o k) (AdmitsLit o) (λ l h. h.operator) s.guard valid.literals) in
+      let guard = placed_sound n o (Some m ∷ os) s.guard (within, below) (All-weaker (IsLiteral o k) (AdmitsLit o) (λ l h. h.operator) s.guard valid.guard.literals) in
       let from = configuration_sound o n s.from os (All-contains IsName states s.from names valid.from) (omega (arith, place.count)) (omega (arith, place.count)) below in
       let to = configuration_sound o n s.to after (All-contains IsName states s.to names valid.to) (omega (arith, count)) (omega (arith, count)) (below_stored n 1 s.stored m os within below) in
       let item : IsSoundItem o n 2 (step_item s os) = record {

@@ -3,5 +3,4 @@ pub mod Valid
 pub mod Texts
 pub mod Translation
 pub mod Placed
-pub mod Reading
 pub mod Places

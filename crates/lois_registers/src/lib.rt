@@ -5,13 +5,8 @@ ghost use Rattle.lois_registers.specs.declared.RegistersError.TheVariants.{NoMem
 ghost use Rattle.std.specs.Prelude.{◌≡◌};
 
 mod automata;
-mod fixed;
-mod halt;
-mod lines;
 mod placements;
 mod results;
-mod states;
-mod steps;
 mod translating;
 
 pub use automata::{RegStep, RegSteps, Registers, Stores};
