@@ -1,0 +1,11 @@
+pub mod Contents
+pub mod Configurations
+pub mod Members
+pub mod Made
+pub mod Guards
+pub mod Sets
+pub mod Loops
+pub mod Automaton
+pub mod Soundness
+pub mod WholeTerm
+pub mod Answered

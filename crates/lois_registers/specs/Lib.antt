@@ -1,0 +1,6 @@
+pub mod Runs
+pub mod Valid
+pub mod Texts
+pub mod Translation
+pub mod Placed
+pub mod Places

@@ -1,0 +1,27 @@
+//! Register automata: their texts, and the orbit-finite automata that they become.
+#![tactic(auto)]
+
+ghost use Rattle.lois_registers.specs.declared.RegistersError.TheVariants.{NoMemory};
+ghost use Rattle.std.specs.Prelude.{◌≡◌};
+
+mod automata;
+mod placements;
+mod results;
+mod translating;
+
+pub use automata::{RegStep, RegSteps, Registers, Stores};
+pub use results::translated;
+use thiserror::Error;
+pub use translating::translate;
+
+/// Why a text gives no register automaton.
+#[derive(Clone, Copy, Debug, PartialEq, Eq, Error)]
+pub enum RegistersError {
+    /// The text isn't one of a register automaton. The offset is that of the first byte of the first line at fault, or the
+    /// text's length where a line is missing.
+    #[error("no register automaton at {0}")]
+    NotRegisters(usize),
+    /// Memory ran out. It says nothing of the text.
+    #[error("out of memory")]
+    NoMemory,
+}
