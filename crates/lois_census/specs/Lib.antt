@@ -1,0 +1,5 @@
+pub mod OrbitData
+pub mod OrbitView
+pub mod Orbits
+pub mod Alike
+pub mod Left
