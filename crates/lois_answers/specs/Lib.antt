@@ -1,6 +1,7 @@
 pub mod ResultsData
 pub mod LineView
 pub mod CaseView
+pub mod LastNamed
 pub mod TermText
 pub mod ResultsText
 pub mod TraceText

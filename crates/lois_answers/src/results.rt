@@ -79,6 +79,7 @@ impl Line {
 }
 
 impl Lines {
+    ghost use Rattle.lois_answers.specs.LastNamed.{last_named};
     ghost use Rattle.lois_answers.specs.LineView.{line_of};
 
     /// No lines.
@@ -109,6 +110,19 @@ impl Lines {
         ensures items { map line_of result.now ≡ self.now }
     {
         &self.items
+    }
+
+    /// The last line of that name, if there is one.
+    pub fn last_named(&self, name: &Name) -> Option<&Line>
+        ensures line { option_map (λ l. line_of l.now) result ≡ last_named name.now self.now }
+    {
+        let mut found = None;
+        for line in &self.items {
+            if line.name == *name {
+                found = Some(line);
+            }
+        }
+        found
     }
 
     /// Puts a line at the end; fails for want of memory alone, and then nothing has changed.

@@ -6,14 +6,15 @@ ghost use Rattle.lois_answers.specs.CaseView.{case_of};
 ghost use Rattle.lois_answers.specs.LineView.{line_of};
 ghost use Rattle.lois_answers.specs.ResultsText.{structure_text, parameters_text, line_text, case_text, results_text};
 ghost use Rattle.lois_answers.specs.Sound.{IsSound, IsSoundTrace};
-ghost use Rattle.lois_answers.specs.TraceText.{failure_text, choice_text, element_text, trace_text};
+ghost use Rattle.lois_answers.specs.TraceText.{failure_text, element_text, trace_text};
 ghost use Rattle.lois_printer.specs.Inside.{LineFits, CaseFits};
 
 use crate::guards::append_constraint;
+use crate::lines::append_choice;
 use crate::pieces::{append, append_number};
 use crate::terms::append_term;
 use lois_answers::{Case, Cases, FaultKind, Line, Lines, Results, Trace};
-use lois_base::{Names, NoMemory, Numbers};
+use lois_base::{Names, NoMemory};
 use std::alloc::Global;
 
 fn structure_line(order: bool) -> &'static [u8]
@@ -129,17 +130,6 @@ fn append_failure(
     append_number(alloc, text, column as u64)?;
     append(text, b": ")?;
     append(text, kind.text())?;
-    append(text, b"\n")
-}
-
-fn append_choice(alloc: Global, text: &mut Vec<u8>, sample: &Numbers) -> Result<(), NoMemory>
-    ensures { OnOk result (text.new.items ≡ text.old.items ++ choice_text sample.now) }
-{
-    append(text, b"choice")?;
-    for number in sample.as_slice() {
-        append(text, b" ")?;
-        append_number(alloc, text, *number)?;
-    }
     append(text, b"\n")
 }
 

@@ -3,7 +3,10 @@
 
 mod answers;
 mod guards;
+mod lines;
 mod pieces;
 mod terms;
 
 pub use answers::{print_results, print_trace};
+pub use lines::{append_choice, append_count, append_term_line};
+pub use pieces::{append, append_number};

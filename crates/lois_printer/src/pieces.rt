@@ -8,7 +8,8 @@ ghost use Rattle.lois_printer.specs.Separated.{separator};
 use lois_base::{Names, NoMemory};
 use std::alloc::Global;
 
-pub(crate) fn append(text: &mut Vec<u8>, piece: &[u8]) -> Result<(), NoMemory>
+/// Puts the bytes behind a text. Errors of this and of the calls below: `NoMemory`.
+pub fn append(text: &mut Vec<u8>, piece: &[u8]) -> Result<(), NoMemory>
     ensures { OnOk result (text.new.items ≡ text.old.items ++ piece.now) }
 {
     text.extend_from_slice(piece).map_err(|_| NoMemory)
@@ -28,7 +29,8 @@ pub(crate) fn append_separator(
     Ok(())
 }
 
-pub(crate) fn append_number(alloc: Global, text: &mut Vec<u8>, number: u64) -> Result<(), NoMemory>
+/// Puts the number behind a text, in decimal.
+pub fn append_number(alloc: Global, text: &mut Vec<u8>, number: u64) -> Result<(), NoMemory>
     ensures { OnOk result (text.new.items ≡ text.old.items ++ decimal number) }
 {
     let digits = format!(in alloc; "{number}")?;

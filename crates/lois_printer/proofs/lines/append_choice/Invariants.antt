@@ -2,7 +2,7 @@ use Rattle.std.proofs.Common.{◌≡◌, ◌++◌, take}
 use Rattle.std.specs.Fmt.{decimal}
 use Rattle.std.specs.List.{flat_map}
 use Rattle.lois_answers.specs.ResultsText.{spaced}
-use Rattle.lois_printer.proofs.answers.append_choice.Given as goal
+use Rattle.lois_printer.proofs.lines.append_choice.Given as goal
 
 abbrev pub invariant-loop-number : goal.invariant-loop-number
 invariant-loop-number l =
