@@ -3,3 +3,8 @@ pub mod OrbitView
 pub mod Orbits
 pub mod Alike
 pub mod Left
+pub mod CensusData
+pub mod CensusView
+pub mod Censuses
+pub mod Refusals
+pub mod CensusText
