@@ -5,3 +5,4 @@ pub mod Lefts
 pub mod Measures
 pub mod Lists
 pub mod TheCensus
+pub mod Numbering

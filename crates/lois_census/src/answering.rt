@@ -1,11 +1,11 @@
 //! The orbits of the set of a name in each case of results.
 
-ghost use Rattle.std.specs.Prelude.{◌≡◌, ℕ, [], ◌↔◌, IfOk, IfSome, IfNone, IsTrue};
+ghost use Rattle.std.specs.Prelude.{◌≡◌, ℕ, [], ◌↔◌, IfOk, OnOk, IfSome, IfNone, IsTrue};
 ghost use Rattle.std.specs.List.{All};
 ghost use Rattle.lois_answers.specs.CaseView.{case_of};
 ghost use Rattle.lois_answers.specs.Sound.{IsSound, IsSoundCase};
 ghost use Rattle.lois_deciders.specs.OnlyAsked.{HasOnlyAsked};
-ghost use Rattle.lois_census.specs.Censuses.{HasLine, HasSet, AreOrbitsIn, AreCensusesOf};
+ghost use Rattle.lois_census.specs.Censuses.{HasLine, HasSet, AreOrbitsIn, AreCensusesOf, IsCensusAdded, numbered};
 ghost use Rattle.lois_census.specs.Refusals.{IsFirstWithout, HasCause};
 
 use crate::counting::{Answer, Census, Censuses, Refusal};
@@ -93,20 +93,38 @@ fn all_censuses<T: Structure>(
 ) -> Result<Censuses, NoMemory>
     requires sound { All (IsSoundCase T.ordered 0) cases.now }
     requires sets { All (HasSet name.now) cases.now }
-    ensures censuses { IfOk result (AreCensusesOf T.ordered name.now cases.now) }
+    ensures censuses { IfOk result (AreCensusesOf T.ordered name.now (numbered 1 cases.now)) }
     ensures only_asked { HasOnlyAsked (λ b. (⟦<dyn Decider as Decider>⟧ b.vtable).kind_of b.value) (λ b. (⟦<dyn Decider as Decider>⟧ b.vtable).questions b.value) chosen.old chosen.new }
 {
     let mut censuses = Censuses::new(alloc);
     for (index, case) in cases.as_slice().iter().enumerate() {
-        if case.when.at(&[]) {
-            let orbits = orbits_in::<T>(alloc, case, name, chosen)?;
-            censuses.push(Census {
-                case: index + 1,
-                orbits,
-            })?;
-        }
+        add_census::<T>(alloc, index + 1, case, name, &mut censuses, chosen)?;
     }
     Ok(censuses)
+}
+
+// Puts the census of the case behind the others, if its constraint holds.
+fn add_census<T: Structure>(
+    alloc: Global,
+    number: usize,
+    case: &Case,
+    name: &Name,
+    censuses: &mut Censuses,
+    chosen: &mut Chosen,
+) -> Result<(), NoMemory>
+    requires sound { IsSoundCase T.ordered 0 (case_of case.now) }
+    requires set { HasSet name.now (case_of case.now) }
+    ensures added { OnOk result (IsCensusAdded T.ordered name.now (record { number = number; case = case_of case.now }) censuses.old censuses.new) }
+    ensures only_asked { HasOnlyAsked (λ b. (⟦<dyn Decider as Decider>⟧ b.vtable).kind_of b.value) (λ b. (⟦<dyn Decider as Decider>⟧ b.vtable).questions b.value) chosen.old chosen.new }
+{
+    if !case.when.at(&[]) {
+        return Ok(());
+    }
+    let orbits = orbits_in::<T>(alloc, case, name, chosen)?;
+    censuses.push(Census {
+        case: number,
+        orbits,
+    })
 }
 
 fn orbits_in<T: Structure>(

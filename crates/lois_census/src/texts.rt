@@ -18,7 +18,7 @@ use std::alloc::Global;
 /// among as many levels as its choice has numbers, and the choice. Errors: `NoMemory`.
 pub fn print_censuses(alloc: Global, censuses: &Censuses) -> Result<Vec<u8>, NoMemory>
     requires { HaveText censuses.now }
-    ensures text { IfOk result (λ text. text.items ≡ censuses_text censuses.now) }
+    ensures { IfOk result (λ text. text.items ≡ censuses_text censuses.now) }
 {
     let mut text = Vec::new(alloc);
     for census in censuses.as_slice() {
@@ -29,7 +29,7 @@ pub fn print_censuses(alloc: Global, censuses: &Censuses) -> Result<Vec<u8>, NoM
 
 fn append_census(alloc: Global, text: &mut Vec<u8>, census: &Census) -> Result<(), NoMemory>
     requires { All FitsSample census.now.orbits }
-    ensures appended { OnOk result (text.new.items ≡ text.old.items ++ census_text (entry_of census.now)) }
+    ensures { OnOk result (text.new.items ≡ text.old.items ++ census_text (entry_of census.now)) }
 {
     append_count(alloc, text, b"case ", census.case)?;
     append_count(alloc, text, b"orbits ", census.orbits.len())?;
@@ -38,7 +38,7 @@ fn append_census(alloc: Global, text: &mut Vec<u8>, census: &Census) -> Result<(
 
 fn append_orbits(alloc: Global, text: &mut Vec<u8>, orbits: &Orbits) -> Result<(), NoMemory>
     requires { All FitsSample orbits.now }
-    ensures appended { OnOk result (text.new.items ≡ text.old.items ++ flat_map orbit_text orbits.now) }
+    ensures { OnOk result (text.new.items ≡ text.old.items ++ flat_map orbit_text orbits.now) }
 {
     for orbit in orbits.as_slice() {
         append_orbit(alloc, text, orbit)?;
@@ -48,7 +48,7 @@ fn append_orbits(alloc: Global, text: &mut Vec<u8>, orbits: &Orbits) -> Result<(
 
 fn append_orbit(alloc: Global, text: &mut Vec<u8>, orbit: &Orbit) -> Result<(), NoMemory>
     requires { FitsSample (orbit_of orbit.now) }
-    ensures appended { OnOk result (text.new.items ≡ text.old.items ++ orbit_text (orbit_of orbit.now)) }
+    ensures { OnOk result (text.new.items ≡ text.old.items ++ orbit_text (orbit_of orbit.now)) }
 {
     let parameters = Names::new(alloc);
     append_term_line(alloc, text, b"orbit ", &parameters, orbit.sample.len(), &orbit.item)?;
