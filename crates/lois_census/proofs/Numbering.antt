@@ -1,7 +1,7 @@
 -- Cases one after another.
-use Rattle.std.proofs.Common.{◌≡◌, ℕ, suc, ◌+◌, ◌<◌, ◌≤◌, Bool, true, false, cond, List, [], ◌∷◌, ◌++◌, length, get_or, take, drop, map, map-append, filter, append-nil, add-zero, Some, None, refl, sym, ap, ◌∙◌, subst, arith}
-use Rattle.std.proofs.lemmas.List.{length-map, length-take-le, take-append-drop}
-use Rattle.std.proofs.lemmas.List.Elements.{All-nil, All-cons, All-head, All-tail, All-filter, AllZip-push, filter-append}
+use Rattle.std.proofs.Common.{◌≡◌, ℕ, suc, ◌+◌, ◌<◌, ◌≤◌, Bool, true, false, cond, List, [], ◌∷◌, ◌++◌, length, get_or, take, drop, map, filter, append-nil, add-zero, Some, None, refl, sym, ap, ◌∙◌, subst, arith}
+use Rattle.std.proofs.lemmas.List.{map-append, length-map, length-take-le, take-append-drop}
+use Rattle.std.proofs.lemmas.List.Elements.{All-nil, All-cons, All-head, All-tail, All-filter, filter-append}
 use Rattle.std.specs.List.{All, AllZip}
 use Rattle.lois_base.proofs.Viewed.{rest_is}
 use Rattle.lois_answers.specs.CaseView.{case_of}
@@ -39,6 +39,12 @@ last_named_has P name lines l e h =
     last_has P (filter (λ k. bytes_eq k.name name) lines) l e (All-filter (λ k. bytes_eq k.name name) P lines h)
 
 -- ---- one more case
+zip_push : {X Y : Type 0} (R : X → Y → Type 0) (xs : List X) (ys : List Y) (x : X) (y : Y) → AllZip R xs ys → R x y → AllZip R (xs ++ x ∷ []) (ys ++ y ∷ [])
+zip_push R [] [] x y h r = (r, tt)
+zip_push R [] (b ∷ ys) x y h r = absurd h
+zip_push R (a ∷ xs) [] x y h r = absurd h
+zip_push R (a ∷ xs) (b ∷ ys) x y h r = (h.0, zip_push R xs ys x y h.1 r)
+
 numbered_more : (n : ℕ) (cs : List CaseD) (c : CaseD) → numbered n (cs ++ c ∷ []) ≡ numbered n cs ++ record { number = n + length cs; case = c } ∷ []
 numbered_more n [] c =
     let k : (m : ℕ) → NumberedD = λ (m : ℕ). record { number = m; case = c } in
@@ -66,7 +72,7 @@ module _ (ordered : Bool) (name : List ℕ) (k : NumberedD) (ks : List NumberedD
   census_put e met is =
       let one : filter is_met (ks ++ k ∷ []) ≡ filter is_met ks ++ k ∷ [] =
       filter-append is_met ks (k ∷ []) ∙ ap (λ b. filter is_met ks ++ cond b (k ∷ []) []) met in
-      subst (λ z. AllZip (IsCensusOf ordered name) z (es ++ e ∷ [])) (sym one) (AllZip-push (IsCensusOf ordered name) (filter is_met ks) es k e so_far is)
+      subst (λ z. AllZip (IsCensusOf ordered name) z (es ++ e ∷ [])) (sym one) (zip_push (IsCensusOf ordered name) (filter is_met ks) es k e so_far is)
 
 -- ---- the text of what is listed
 module _ (ordered : Bool) (name : List ℕ) where
@@ -79,3 +85,7 @@ module _ (ordered : Bool) (name : List ℕ) where
 
   pub censuses_text_of : (ks : List NumberedD) (es : List CensusD) → AreCensusesOf ordered name ks es → HaveText es
   censuses_text_of ks es h = zipped_text (filter is_met ks) es h
+
+pub none_of : {X : Type 0} (xs : List X) → length xs ≤ 0 → xs ≡ []
+none_of [] l = refl
+none_of (x ∷ xs) l = absurd (omega arith)

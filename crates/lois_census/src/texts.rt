@@ -51,6 +51,13 @@ fn append_orbit(alloc: Global, text: &mut Vec<u8>, orbit: &Orbit) -> Result<(), 
     ensures { OnOk result (text.new.items ≡ text.old.items ++ orbit_text (orbit_of orbit.now)) }
 {
     let parameters = Names::new(alloc);
-    append_term_line(alloc, text, b"orbit ", &parameters, orbit.sample.len(), &orbit.item)?;
+    append_term_line(
+        alloc,
+        text,
+        b"orbit ",
+        &parameters,
+        orbit.sample.len(),
+        &orbit.item,
+    )?;
     append_choice(alloc, text, &orbit.sample)
 }
