@@ -138,8 +138,8 @@ fn orbits_in<T: Structure>(
     ensures orbits { IfOk result (AreOrbitsIn T.ordered name.now (case_of case.now)) }
     ensures only_asked { HasOnlyAsked (λ b. (⟦<dyn Decider as Decider>⟧ b.vtable).kind_of b.value) (λ b. (⟦<dyn Decider as Decider>⟧ b.vtable).questions b.value) chosen.old chosen.new }
 {
-    match case.lines.last_named(name) {
-        Some(line) => census::<T>(alloc, &line.term, chosen),
-        None => unreachable!(),
-    }
+    let Some(line) = case.lines.last_named(name) else {
+        unreachable!()
+    };
+    census::<T>(alloc, &line.term, chosen)
 }
