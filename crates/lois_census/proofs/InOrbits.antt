@@ -2,7 +2,6 @@
 use Rattle.std.proofs.Common.{◌≡◌, ℕ, ◌+◌, Bool, List, [], ◌++◌, length, refl, sym, ap, ◌∙◌, subst}
 use Rattle.std.proofs.lemmas.List.{length-map, length-append, append-nil}
 use Rattle.std.specs.Bool.{IsTrue}
-use Rattle.std.specs.Prelude.{◌↔◌}
 use Rattle.lois_base.proofs.Members.{same_sym, same_trans}
 use Rattle.lois_base.specs.Atom.{Atom, whole}
 use Rattle.lois_base.specs.Data.{TermD}

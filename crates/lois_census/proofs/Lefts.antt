@@ -1,5 +1,5 @@
 -- What is left of a comprehension where orbits are taken off.
-use Rattle.std.proofs.Common.{◌≡◌, ℕ, ◌+◌, ◌<◌, inl, inr, Bool, true, false, not, ◌&&◌, List, [], ◌∷◌, ◌++◌, length, get_or, refl, sym, ap, ◌∙◌, subst, arith}
+use Rattle.std.proofs.Common.{◌≡◌, ℕ, inl, inr, Bool, true, false, not, ◌&&◌, List, [], ◌∷◌, ◌++◌, length, get_or, refl, sym, ◌∙◌, subst}
 use Rattle.std.proofs.lemmas.List.{length-map}
 use Rattle.std.proofs.lemmas.List.Elements.{All-nil, All-push}
 use Rattle.std.proofs.lemmas.List.Quantifiers.{Any-push, all_pairs_push}
@@ -14,12 +14,12 @@ use Rattle.lois_base.specs.Fits.{ConstraintFits}
 use Rattle.lois_base.specs.Patterns.{AreAlike}
 use Rattle.lois_base.specs.Truth.{holds, sampled}
 use Rattle.lois_base.specs.Validity.{AdmitsConstraint}
-use Rattle.lois_base.specs.Values.{PointValue, point, IsSame}
+use Rattle.lois_base.specs.Values.{point, IsSame}
 use Rattle.lois_base.specs.declared.guards.Lit.{Lit}
 use Rattle.lois_deciders.specs.Asked.{Meets, CanBeMet}
 use Rattle.lois_census.specs.Left.{HoldsWhereInOrbit, IsWithout, IsLeft, IsCovered}
 use Rattle.lois_census.specs.OrbitData.{OrbitD}
-use Rattle.lois_census.specs.Orbits.{IsInOrbit, IsOutside, IsListed, AreApart}
+use Rattle.lois_census.specs.Orbits.{IsInOrbit, IsOutside, AreApart}
 use Rattle.lois_census.proofs.Lists.{Any-kept}
 
 both_in : (p a b : Bool) → p ≡ (a && not b) → IsTrue p → IsTrue a × IsFalse b

@@ -1,16 +1,14 @@
 -- What each listed orbit lowers: at how many lists of n numbers below n what is left holds.
-use Rattle.std.proofs.Common.{◌≡◌, ℕ, ◌<◌, ◌≤◌, inl, inr, Bool, true, List, length, refl, sym, ◌∙◌, subst, arith}
+use Rattle.std.proofs.Common.{◌≡◌, ℕ, ◌<◌, ◌≤◌, inl, inr, Bool, true, List, length, ◌∙◌}
 use Rattle.std.proofs.lemmas.Bool.{cases_lt}
 use Rattle.std.proofs.lemmas.List.{length-map}
-use Rattle.std.specs.Bool.{IsTrue}
 use Rattle.lois_base.proofs.Members.{same_refl}
 use Rattle.lois_base.specs.Atom.{whole}
-use Rattle.lois_base.specs.Data.{TermD}
 use Rattle.lois_base.specs.Truth.{holds, sampled}
 use Rattle.lois_base.specs.Values.{point}
 use Rattle.lois_base.specs.declared.guards.Lit.{Lit}
 use Rattle.lois_deciders.specs.Asked.{Meets}
-use Rattle.lois_rounds.proofs.Counts.{count_lists, IsSample, Within, count_at_most, count_equal}
+use Rattle.lois_rounds.proofs.Counts.{count_lists, Within, count_equal}
 use Rattle.lois_census.specs.Left.{IsWithout}
 use Rattle.lois_census.specs.OrbitData.{OrbitD}
 use Rattle.lois_census.specs.Orbits.{IsInOrbit}

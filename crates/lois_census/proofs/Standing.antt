@@ -1,11 +1,11 @@
 -- Atoms that stand to one another as two others do.
-use Rattle.std.proofs.Common.{◌≡◌, ℕ, ◌<◌, ◌≤◌, ◌⊎◌, inl, inr, Bool, true, false, not, ◌&&◌, List, length, map, refl, sym, ap, ◌∙◌, subst, arith}
+use Rattle.std.proofs.Common.{◌≡◌, ℕ, ◌<◌, ◌≤◌, ◌⊎◌, inl, inr, Bool, true, false, not, ◌&&◌, List, length, refl, sym, ap, ◌∙◌, subst, arith}
 use Rattle.std.proofs.lemmas.Bool.{cases_lt}
 use Rattle.std.proofs.lemmas.Int.{ints}
 use Rattle.std.proofs.lemmas.List.{length-map}
 use Rattle.std.specs.Bool.{IsTrue, IsFalse}
 use Rattle.std.specs.Prelude.{◌↔◌}
-use Rattle.lois_base.proofs.Order.{equal_is_neither, below_asym, below_irrefl, equal_out, equal_refl, equal_sym, same_truth, test}
+use Rattle.lois_base.proofs.Order.{equal_is_neither, below_asym, below_irrefl, equal_out, equal_refl, equal_sym, same_truth}
 use Rattle.lois_base.specs.Atom.{Atom, equal, below, whole}
 use Rattle.lois_base.specs.Patterns.{AreAlike}
 use Rattle.lois_base.specs.Truth.{atom_at, op_holds, sampled}

@@ -1,15 +1,14 @@
 -- From the orbits of each comprehension to those of the set.
-use Rattle.std.proofs.Common.{◌≡◌, ℕ, zero, suc, ◌+◌, ◌<◌, inl, inr, Bool, List, [], ◌∷◌, ◌++◌, length, get_or, zero-add, refl, sym, ap, ◌∙◌, subst, arith}
+use Rattle.std.proofs.Common.{ℕ, zero, suc, ◌<◌, inl, inr, Bool, List, [], ◌∷◌, length, get_or, zero-add, refl, sym, ◌∙◌, subst, arith}
 use Rattle.std.proofs.lemmas.List.Elements.{All-append, All-weaker, All-head, All-tail}
-use Rattle.std.specs.List.{All, Any, Contains}
+use Rattle.std.specs.List.{All, Contains}
 use Rattle.lois_base.proofs.Members.{same_trans}
 use Rattle.lois_base.specs.Atom.{Atom}
-use Rattle.lois_base.specs.Data.{TermD, coll, CompD, comp, CompsD, no_comps, more, comps_of}
-use Rattle.lois_base.specs.Fits.{ConstraintFits, Fits, CompFits, ItemsFit}
+use Rattle.lois_base.specs.Data.{TermD, coll, CompD, comp, CompsD, more, comps_of}
+use Rattle.lois_base.specs.Fits.{Fits, CompFits, ItemsFit}
 use Rattle.lois_base.specs.Truth.{sampled}
 use Rattle.lois_base.specs.Validity.{AdmitsTerm, AdmitsComp, AdmitsItems, HasUsualWidths, CompHasUsualWidths, ItemsHaveUsualWidths}
-use Rattle.lois_base.specs.Values.{PointValue, point, IsExtension, MakesAt, MemberAt, IsMember, IsIn, IsSame}
-use Rattle.lois_base.specs.declared.guards.Lit.{Lit}
+use Rattle.lois_base.specs.Values.{PointValue, point, MakesAt, MemberAt, IsMember, IsIn}
 use Rattle.lois_census.specs.Left.{IsTakenFrom, IsTakenFromSome, IsCovered, AddsOnly, IsUsable}
 use Rattle.lois_census.specs.OrbitData.{OrbitD}
 use Rattle.lois_census.specs.Orbits.{value_of, IsInOrbit, IsListed, FitsSample}

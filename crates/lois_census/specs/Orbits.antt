@@ -1,14 +1,12 @@
 -- Orbits: what a value becomes where the atoms are moved one-to-one, and in order where they are ordered. Choices that stand
 -- alike (`AreAlike`) are equally long, have equal atoms at the same positions and, where `<` is admitted, the same pairs in order.
-use Rattle.std.specs.Prelude.{◌≡◌, ℕ, ◌<◌, Bool, List, [], ◌++◌, length}
-use Rattle.std.specs.List.{All, Any}
+use Rattle.std.specs.Prelude.{Bool, List, length}
+use Rattle.std.specs.List.{Any}
 use Rattle.lois_base.specs.Atom.{Atom}
-use Rattle.lois_base.specs.Data.{CompD, comp}
 use Rattle.lois_base.specs.Fits.{Fits}
 use Rattle.lois_base.specs.Patterns.{AreAlike}
 use Rattle.lois_base.specs.Truth.{sampled}
 use Rattle.lois_base.specs.Values.{PointValue, point, IsSame}
-use Rattle.lois_deciders.specs.Asked.{Meets}
 use Rattle.lois_census.specs.OrbitData.{OrbitD}
 
 -- the orbit of the value of a term at a choice has all values that are the same as the term's at some choice alike to it

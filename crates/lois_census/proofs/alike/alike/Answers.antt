@@ -1,4 +1,4 @@
-use Rattle.std.proofs.Common.{◌≡◌, length, arith}
+use Rattle.std.proofs.Common.{arith}
 use Rattle.lois_base.specs.FormulaView.{view}
 use Rattle.lois_census.proofs.AlikeFormulas.{below_more_of, says_alike}
 use Rattle.lois_census.proofs.alike.alike.Goals as goal

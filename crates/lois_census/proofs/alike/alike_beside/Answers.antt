@@ -1,4 +1,4 @@
-use Rattle.std.proofs.Common.{◌≡◌, ◌+◌, length, refl, subst, arith}
+use Rattle.std.proofs.Common.{◌+◌, length, refl, subst, arith}
 use Rattle.lois_base.specs.FormulaData.{lit}
 use Rattle.lois_base.specs.FormulaView.{view}
 use Rattle.lois_base.proofs.FormulaViews.{view_Lit}

@@ -1,4 +1,4 @@
-use Rattle.std.proofs.Common.{◌≡◌, ℕ, ◌<◌, Bool, true, false, sym, ◌∙◌, arith}
+use Rattle.std.proofs.Common.{◌≡◌, true, false, sym, ◌∙◌, arith}
 use Rattle.lois_base.specs.Atom.{whole}
 use Rattle.lois_base.specs.Truth.{atom_at}
 use Rattle.lois_census.proofs.Standing.{same_stand, apart_stand, below_stand, above_stand, same_numbers, other_numbers, lower_number, higher_number}

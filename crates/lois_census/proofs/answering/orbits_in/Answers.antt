@@ -1,4 +1,3 @@
-use Rattle.lois_answers.specs.CaseView.{case_of}
 use Rattle.lois_answers.specs.LineView.{line_of}
 use Rattle.lois_answers.specs.Sound.{IsSoundLine}
 use Rattle.lois_census.proofs.Numbering.{last_named_has}

@@ -1,4 +1,4 @@
-use Rattle.std.proofs.Common.{◌≡◌, ◌+◌, [], ◌∷◌, ◌++◌, take, map, sym, subst}
+use Rattle.std.proofs.Common.{take, map, sym, subst}
 use Rattle.std.proofs.lemmas.List.Elements.{All-push, All-weaker}
 use Rattle.std.specs.List.{All}
 use Rattle.lois_base.proofs.Viewed.{one_more, all_taken, contains_item}

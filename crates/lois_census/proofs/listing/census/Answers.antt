@@ -1,13 +1,12 @@
-use Rattle.std.proofs.Common.{◌≡◌, ℕ, Bool, List, [], ap, sym, subst}
+use Rattle.std.proofs.Common.{◌≡◌, Bool, [], ap, sym, subst}
 use Rattle.std.proofs.lemmas.Result.{IfOk-weaker}
 use Rattle.std.specs.List.{All}
-use Rattle.lois_base.specs.Data.{TermD, coll, comps_of}
+use Rattle.lois_base.specs.Data.{coll, comps_of}
 use Rattle.lois_base.specs.Fits.{Fits}
 use Rattle.lois_base.specs.Tree.{tree}
 use Rattle.lois_base.specs.Validity.{AdmitsTerm, HasUsualWidths}
 use Rattle.lois_base.specs.Values.{PointValue, point, IsMember, IsIn}
 use Rattle.lois_census.specs.Left.{IsTakenFromSome, IsCovered}
-use Rattle.lois_census.specs.OrbitData.{OrbitD}
 use Rattle.lois_census.specs.Orbits.{value_of, IsListed, FitsSample}
 use Rattle.lois_census.proofs.TheCensus.{all_fit, all_members, each_listed, all_admitted, all_wide}
 use Rattle.lois_census.proofs.listing.census.Goals as goal

@@ -1,5 +1,5 @@
-use Rattle.std.proofs.Common.{◌≡◌, ◌+◌, [], ◌∷◌, ◌++◌, take, map, sym, subst}
-use Rattle.lois_base.proofs.Viewed.{one_more, all_taken, item_has}
+use Rattle.std.proofs.Common.{take, map, sym, subst}
+use Rattle.lois_base.proofs.Viewed.{one_more, item_has}
 use Rattle.lois_base.specs.Tree.{tree}
 use Rattle.lois_census.specs.Left.{IsLeft, IsUsable}
 use Rattle.lois_census.specs.OrbitView.{orbit_of}

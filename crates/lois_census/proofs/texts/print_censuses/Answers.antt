@@ -1,7 +1,7 @@
 use Rattle.std.proofs.Common.{[]}
 use Rattle.std.specs.List.{All}
 use Rattle.lois_printer.proofs.Fitting.{holds_of_each}
-use Rattle.lois_printer.proofs.Written.{piece_is_written, pieces_are_written}
+use Rattle.lois_printer.proofs.Written.{pieces_are_written}
 use Rattle.lois_census.specs.CensusText.{census_text}
 use Rattle.lois_census.specs.CensusView.{entry_of}
 use Rattle.lois_census.specs.Orbits.{FitsSample}

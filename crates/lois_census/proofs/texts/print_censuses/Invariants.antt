@@ -1,4 +1,4 @@
-use Rattle.std.proofs.Common.{◌≡◌, ◌++◌, take}
+use Rattle.std.proofs.Common.{◌≡◌, take}
 use Rattle.std.specs.List.{flat_map}
 use Rattle.lois_census.specs.CensusText.{census_text}
 use Rattle.lois_census.specs.CensusView.{entry_of}
