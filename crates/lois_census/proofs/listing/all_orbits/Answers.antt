@@ -1,0 +1,47 @@
+use Rattle.std.proofs.Common.{take, map, sym, subst}
+use Rattle.std.proofs.lemmas.List.Elements.{All-push, All-weaker}
+use Rattle.std.specs.List.{All}
+use Rattle.lois_base.proofs.Viewed.{one_more, all_taken, contains_item}
+use Rattle.lois_base.specs.Tree.{comp_of}
+use Rattle.lois_deciders.proofs.OnlyAsked.{only_asked_then}
+use Rattle.lois_relate.proofs.Parts.{is_comp_of}
+use Rattle.lois_census.specs.Left.{IsCovered}
+use Rattle.lois_census.proofs.TheCensus.{all_usable, still_covered, still_taken}
+use Rattle.lois_census.proofs.listing.all_orbits.Goals as goal
+
+pub add_orbits-requires-clause-levels : goal.add_orbits-requires-clause-levels
+add_orbits-requires-clause-levels g c =
+    let k = is_comp_of c.as_slice-comp-items.result.now c.args.comps.now c.loop-comp.comp-index c.comp-item.result c.as_slice-comp-items.ensures c.loop-comp-test.true c.comp-item.is in
+    k.fits 0 c.requires.levels
+
+pub add_orbits-requires-clause-operators : goal.add_orbits-requires-clause-operators
+add_orbits-requires-clause-operators g c =
+    let k = is_comp_of c.as_slice-comp-items.result.now c.args.comps.now c.loop-comp.comp-index c.comp-item.result c.as_slice-comp-items.ensures c.loop-comp-test.true c.comp-item.is in
+    k.admits g.T.Structure.ordered c.requires.operators
+
+pub add_orbits-requires-clause-usable : goal.add_orbits-requires-clause-usable
+add_orbits-requires-clause-usable g c =
+    all_usable g.T.Structure.ordered c.args.comps.now c.requires.levels c.requires.operators c.loop-comp.orbits c.loop-comp.invariant.taken
+
+pub loop-comp-preserved : goal.loop-comp-preserved
+loop-comp-preserved g c =
+    let ks = c.args.comps.now in
+    let items = c.as_slice-comp-items.result.now in
+    let i = c.loop-comp.comp-index in
+    let k = c.comp-item.result in
+    let before = c.loop-comp.orbits in
+    let after = c.add_orbits.new.orbits in
+    let kept = c.loop-comp.invariant in
+    let Covered = IsCovered g.T.Structure.ordered after in
+    record {
+      taken = still_taken g.T.Structure.ordered (comp_of k) before after c.in_ok-add_orbits.ensures.added ks (contains_item comp_of items ks i k c.as_slice-comp-items.ensures c.loop-comp-test.true c.comp-item.is) kept.taken;
+      covered =
+          subst (All Covered) (sym (one_more comp_of items i k c.loop-comp-test.true c.comp-item.is))
+          (All-push Covered (map comp_of (take i items)) (comp_of k) (All-weaker (IsCovered g.T.Structure.ordered before) Covered (still_covered g.T.Structure.ordered (comp_of k) before after c.in_ok-add_orbits.ensures.added) (map comp_of (take i items)) kept.covered) c.in_ok-add_orbits.ensures.covered);
+      apart = c.in_ok-add_orbits.ensures.apart;
+      only_asked = only_asked_then (λ b. (goal.Decider-dyn g (b.vtable, b.value)).kind_of b.value) (λ b. (goal.Decider-dyn g (b.vtable, b.value)).questions b.value) c.args.chosen.now c.loop-comp.chosen c.add_orbits.new.chosen kept.only_asked c.add_orbits.ensures.only_asked;
+    }
+
+pub returns-clause-covered : goal.returns-clause-covered
+returns-clause-covered g c =
+    subst (All (IsCovered g.T.Structure.ordered c.loop-comp.orbits)) (all_taken comp_of c.as_slice-comp-items.result.now c.args.comps.now c.loop-comp.comp-index c.as_slice-comp-items.ensures c.loop-comp-test.false) c.loop-comp.invariant.covered

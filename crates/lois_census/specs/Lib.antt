@@ -1,0 +1,10 @@
+pub mod OrbitData
+pub mod OrbitView
+pub mod Orbits
+pub mod Alike
+pub mod Left
+pub mod CensusData
+pub mod CensusView
+pub mod Censuses
+pub mod Refusals
+pub mod CensusText

@@ -1,0 +1,36 @@
+-- Orbits: what a value becomes where the atoms are moved one-to-one, and in order where they are ordered. Choices that stand
+-- alike (`AreAlike`) are equally long, have equal atoms at the same positions and, where `<` is admitted, the same pairs in order.
+use Rattle.std.specs.Prelude.{Bool, List, length}
+use Rattle.std.specs.List.{Any}
+use Rattle.lois_base.specs.Atom.{Atom}
+use Rattle.lois_base.specs.Fits.{Fits}
+use Rattle.lois_base.specs.Patterns.{AreAlike}
+use Rattle.lois_base.specs.Truth.{sampled}
+use Rattle.lois_base.specs.Values.{PointValue, point, IsSame}
+use Rattle.lois_census.specs.OrbitData.{OrbitD}
+
+-- the orbit of the value of a term at a choice has all values that are the same as the term's at some choice alike to it
+abbrev pub IsInOrbitOf : Bool → PointValue → PointValue → Type 0
+IsInOrbitOf ordered v u = (d : List Atom) × AreAlike ordered u.choice d × IsSame v (point u.term_of d)
+
+-- the value whose orbit it is
+abbrev pub value_of : OrbitD → PointValue
+value_of o = point o.item (sampled o.sample)
+
+abbrev pub IsInOrbit : Bool → PointValue → OrbitD → Type 0
+IsInOrbit ordered v o = IsInOrbitOf ordered v (value_of o)
+
+abbrev pub IsOutside : Bool → PointValue → OrbitD → Type 0
+IsOutside ordered v o = IsInOrbit ordered v o → ⊥
+
+-- the value is in one of the orbits
+abbrev pub IsListed : Bool → List OrbitD → PointValue → Type 0
+IsListed ordered os v = Any (IsInOrbit ordered v) os
+
+-- no value is in both
+abbrev pub AreApart : Bool → OrbitD → OrbitD → Type 0
+AreApart ordered o p = (v : PointValue) → IsInOrbit ordered v o → IsInOrbit ordered v p → ⊥
+
+-- the item fits the length of the sample
+abbrev pub FitsSample : OrbitD → Type 0
+FitsSample o = Fits (length o.sample) o.item

@@ -1,0 +1,16 @@
+//! The census of a set: one member of each orbit.
+#![tactic(auto)]
+
+mod alike;
+mod answering;
+mod counting;
+mod inside;
+mod listing;
+mod orbits;
+mod texts;
+
+pub use answering::census_of;
+pub use counting::{Answer, Census, Censuses, Refusal};
+pub use listing::census;
+pub use orbits::{Orbit, Orbits};
+pub use texts::print_censuses;

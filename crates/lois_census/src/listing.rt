@@ -1,0 +1,117 @@
+//! The orbits of a set.
+
+ghost use Rattle.std.specs.Prelude.{◌≡◌, ℕ, Bool, [], IfOk, OnOk};
+ghost use Rattle.std.specs.List.{All, AllPairs};
+ghost use Rattle.lois_base.specs.Data.{comps_of};
+ghost use Rattle.lois_base.specs.Fits.{ConstraintFits, Fits, CompFits, ItemsFit};
+ghost use Rattle.lois_base.specs.Tree.{tree, comp_of};
+ghost use Rattle.lois_base.specs.Validity.{AdmitsConstraint, AdmitsTerm, AdmitsComp, AdmitsItems, HasUsualWidths};
+ghost use Rattle.lois_base.specs.Values.{PointValue, point, IsMember, IsIn};
+ghost use Rattle.lois_terms.specs.Guarded.{IsSet};
+ghost use Rattle.lois_deciders.specs.OnlyAsked.{HasOnlyAsked};
+ghost use Rattle.lois_census.specs.Left.{IsTakenFrom, IsTakenFromSome, IsCovered, AddsOnly, IsUsable, IsLeft};
+ghost use Rattle.lois_census.specs.Orbits.{value_of, IsListed, AreApart, FitsSample};
+
+use crate::inside::without;
+use crate::orbits::{Orbit, Orbits};
+use lois_base::{Comp, Comps, Constraint, Decider, NoMemory, Numbers, Structure, Term};
+use lois_deciders::Chosen;
+use std::alloc::Global;
+
+/// One member of each orbit of the set `set`, which uses no level outside of its binders. Errors: `NoMemory`, also where a
+/// level would pass the greatest usize.
+pub fn census<T: Structure>(
+    alloc: Global,
+    set: &Term,
+    chosen: &mut Chosen,
+) -> Result<Orbits, NoMemory>
+    requires set { IsSet (tree set.now) }
+    requires levels { Fits 0 (tree set.now) }
+    requires operators { AdmitsTerm T.ordered (tree set.now) }
+
+    // each orbit is that of a member
+    ensures levels { IfOk result (All FitsSample) }
+    ensures members { IfOk result (All (λ o. IsMember (value_of o) (point (tree set.now) []))) }
+
+    // each member is in one of them, and no value is in two
+    ensures each { IfOk result (λ r. (v : PointValue) → IsIn v (point (tree set.now) []) → IsListed T.ordered r v) }
+    ensures once { IfOk result (AllPairs (AreApart T.ordered)) }
+
+    ensures operators { IfOk result (λ r. (o : Bool) → AdmitsTerm o (tree set.now) → All (λ k. AdmitsTerm o k.item) r) }
+    ensures widths { IfOk result (λ r. HasUsualWidths (tree set.now) → All (λ k. HasUsualWidths k.item) r) }
+
+    // whatever is answered
+    ensures only_asked { HasOnlyAsked (λ b. (⟦<dyn Decider as Decider>⟧ b.vtable).kind_of b.value) (λ b. (⟦<dyn Decider as Decider>⟧ b.vtable).questions b.value) chosen.old chosen.new }
+{
+    let Term::Coll(comps) = set else {
+        unreachable!()
+    };
+    all_orbits::<T>(alloc, comps, chosen)
+}
+
+fn all_orbits<T: Structure>(
+    alloc: Global,
+    comps: &Comps,
+    chosen: &mut Chosen,
+) -> Result<Orbits, NoMemory>
+    requires levels { ItemsFit 0 (comps_of comps.now) }
+    requires operators { AdmitsItems T.ordered (comps_of comps.now) }
+    ensures taken { IfOk result (All (IsTakenFromSome comps.now)) }
+    ensures covered { IfOk result (λ r. All (IsCovered T.ordered r) comps.now) }
+    ensures apart { IfOk result (AllPairs (AreApart T.ordered)) }
+    ensures only_asked { HasOnlyAsked (λ b. (⟦<dyn Decider as Decider>⟧ b.vtable).kind_of b.value) (λ b. (⟦<dyn Decider as Decider>⟧ b.vtable).questions b.value) chosen.old chosen.new }
+{
+    let mut orbits = Orbits::new(alloc);
+    for comp in comps.as_slice() {
+        add_orbits::<T>(alloc, comp, &mut orbits, chosen)?;
+    }
+    Ok(orbits)
+}
+
+// Lists an item of the comprehension for each orbit of its items that isn't listed yet.
+fn add_orbits<T: Structure>(
+    alloc: Global,
+    comp: &Comp,
+    orbits: &mut Orbits,
+    chosen: &mut Chosen,
+) -> Result<(), NoMemory>
+    requires levels { CompFits 0 (comp_of comp.now) }
+    requires operators { AdmitsComp T.ordered (comp_of comp.now) }
+    requires usable { All (IsUsable T.ordered) orbits.old }
+    requires apart { AllPairs (AreApart T.ordered) orbits.old }
+    ensures added { OnOk result (AddsOnly (IsTakenFrom (comp_of comp.now)) orbits.old orbits.new) }
+    ensures covered { OnOk result (IsCovered T.ordered orbits.new (comp_of comp.now)) }
+    ensures apart { OnOk result (AllPairs (AreApart T.ordered) orbits.new) }
+    ensures only_asked { HasOnlyAsked (λ b. (⟦<dyn Decider as Decider>⟧ b.vtable).kind_of b.value) (λ b. (⟦<dyn Decider as Decider>⟧ b.vtable).questions b.value) chosen.old chosen.new }
+{
+    let mut left = not_listed::<T>(alloc, comp, orbits)?;
+    'orbits: while let Some(sample) = chosen.ask(alloc, &left, comp.binders)? {
+        let orbit = Orbit {
+            item: comp.item.copy(alloc)?,
+            sample: Numbers::from_vec(sample),
+        };
+        left = without::<T>(alloc, &left, comp, &orbit)?;
+        orbits.push(orbit)?;
+    }
+    Ok(())
+}
+
+// Where the guard holds and the item isn't in a listed orbit.
+fn not_listed<T: Structure>(
+    alloc: Global,
+    comp: &Comp,
+    orbits: &Orbits,
+) -> Result<Constraint, NoMemory>
+    requires levels { CompFits 0 (comp_of comp.now) }
+    requires operators { AdmitsComp T.ordered (comp_of comp.now) }
+    requires usable { All (IsUsable T.ordered) orbits.now }
+    ensures truth { IfOk result (IsLeft T.ordered comp.now.binders comp.now.guard (tree comp.now.item) orbits.now) }
+    ensures fits { IfOk result (ConstraintFits comp.now.binders) }
+    ensures operators { IfOk result (AdmitsConstraint T.ordered) }
+{
+    let mut left = comp.guard.copy(alloc)?;
+    for orbit in orbits.as_slice() {
+        left = without::<T>(alloc, &left, comp, orbit)?;
+    }
+    Ok(left)
+}
