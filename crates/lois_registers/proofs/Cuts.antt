@@ -1,6 +1,7 @@
 -- Lines and words as parts of a text.
 use Rattle.std.proofs.Common.{◌≡◌, eqb→eq, ℕ, zero, suc, ◌+◌, ◌-◌, ◌≤◌, ◌<◌, Bool, true, false, not, List, [], ◌∷◌, ◌++◌, length, get_or, take, drop, map, refl, sym, ap, subst, ◌∙◌, arith, append_assoc}
 use Rattle.std.specs.Prelude.{nat_eq, ◌&&◌}
+use Rattle.std.proofs.Math.Dec.{T}
 use Rattle.std.specs.Bool.{IsTrue}
 use Rattle.std.specs.List.{All, list_all, slice_split, join_with_byte}
 use Rattle.std.proofs.lemmas.List.{take-append-drop, take_at, take_rest, get_or_at, length-append}
@@ -103,7 +104,7 @@ inside_before (b ∷ text) (suc n) l h =
   where
     pick : (b : ℕ) (t : Bool) → nat_eq b 10 ≡ t → (b ≡ 10 → ⊥) → IsTrue (not t)
     pick b false e never = refl
-    pick b true e never = absurd (never (eqb→eq b 10 e))
+    pick b true e never = absurd (never (eqb→eq b 10 (subst T (sym e) tt)))
     other : (b : ℕ) → (b ≡ 10 → ⊥) → IsTrue (is_inside b)
     other b never = pick b (nat_eq b 10) refl never
 
@@ -134,8 +135,8 @@ name_part b h = pick (nat_eq b 10) (nat_eq b 32) refl refl
   where
     pick : (s t : Bool) → nat_eq b 10 ≡ s → nat_eq b 32 ≡ t → IsTrue (not s && not t)
     pick false false e f = refl
-    pick true t e f = let bad : IsTrue (is_name_byte 10) = subst (λ z. IsTrue (is_name_byte z)) (eqb→eq b 10 e) h in absurd (cc)
-    pick false true e f = let bad : IsTrue (is_name_byte 32) = subst (λ z. IsTrue (is_name_byte z)) (eqb→eq b 32 f) h in absurd (cc)
+    pick true t e f = let bad : IsTrue (is_name_byte 10) = subst (λ z. IsTrue (is_name_byte z)) (eqb→eq b 10 (subst T (sym e) tt)) h in absurd (cc)
+    pick false true e f = let bad : IsTrue (is_name_byte 32) = subst (λ z. IsTrue (is_name_byte z)) (eqb→eq b 32 (subst T (sym f) tt)) h in absurd (cc)
 
 bytes_clean : (bs : List ℕ) → IsTrue (list_all is_name_byte bs) → IsTrue (is_clean bs)
 bytes_clean [] h = refl

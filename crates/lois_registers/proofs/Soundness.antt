@@ -132,7 +132,7 @@ module _ (o : Bool) (k : ℕ) (some : 1 ≤ k) (few : k ≤ 4) where
       let after : List (Option ℕ) = stored_from 1 s.stored m os in
       let count : length after ≡ k = length_stored 1 s.stored m os ∙ place.count in
       let within : m < n = omega arith in
-      let guard = placed_sound n o (Some m ∷ os) s.guard (within, below) (All-weaker (IsLiteral o k) (AdmitsLit o) (λ l h. h.operator) s.guard valid.literals) in
+      let guard = placed_sound n o (Some m ∷ os) s.guard (within, below) (All-weaker (IsLiteral o k) (AdmitsLit o) (λ l h. h.operator) s.guard valid.guard.literals) in
       let from = configuration_sound o n s.from os (All-contains IsName states s.from names valid.from) (omega (arith, place.count)) (omega (arith, place.count)) below in
       let to = configuration_sound o n s.to after (All-contains IsName states s.to names valid.to) (omega (arith, count)) (omega (arith, count)) (below_stored n 1 s.stored m os within below) in
       let item : IsSoundItem o n 2 (step_item s os) = record {

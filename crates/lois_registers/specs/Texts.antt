@@ -24,9 +24,12 @@ linked [] = []
 linked (w ∷ []) = w ∷ []
 linked (w ∷ v ∷ ws) = w ∷ codes "and" ∷ linked (v ∷ ws)
 
+abbrev pub linked_words : List Lit → List (List ℕ)
+linked_words ls = linked (map (literal_text operand_names) ls)
+
 abbrev pub guard_words : List Lit → List (List ℕ)
 guard_words [] = codes "true" ∷ []
-guard_words (l ∷ ls) = linked (map (literal_text operand_names) (l ∷ ls))
+guard_words (l ∷ ls) = linked_words (l ∷ ls)
 
 abbrev pub stored_words : List ℕ → List (List ℕ)
 stored_words [] = codes "none" ∷ []

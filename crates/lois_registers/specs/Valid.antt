@@ -34,6 +34,11 @@ pub record IsLiteral (ordered : Bool) (k : ℕ) (l : Lit) : Type 0 where
   pub right : l.right ≤ k
   pub operator : AdmitsLit ordered l
 
+-- at least one literal
+pub record AreLiterals (ordered : Bool) (k : ℕ) (ls : List Lit) : Type 0 where
+  pub some : 1 ≤ length ls
+  pub literals : All (IsLiteral ordered k) ls
+
 pub record IsGuard (ordered : Bool) (k : ℕ) (guard : List Lit) : Type 0 where
   pub few : length guard ≤ 16
   pub literals : All (IsLiteral ordered k) guard
@@ -41,8 +46,7 @@ pub record IsGuard (ordered : Bool) (k : ℕ) (guard : List Lit) : Type 0 where
 pub record IsRegStep (ordered : Bool) (k : ℕ) (states : List (List ℕ)) (s : RegStep) : Type 0 where
   pub from : Contains states s.from
   pub to : Contains states s.to
-  pub few : length s.guard ≤ 16
-  pub literals : All (IsLiteral ordered k) s.guard
+  pub guard : IsGuard ordered k s.guard
   pub stored : AreIncreasing 0 k s.stored
 
 pub record IsRegisters (r : Registers) : Type 0 where

@@ -9,12 +9,14 @@ mod fixed;
 mod halt;
 mod lines;
 mod placements;
+mod reading;
 mod results;
 mod states;
 mod steps;
 mod translating;
 
 pub use automata::{RegStep, RegSteps, Registers, Stores};
+pub use reading::read_registers;
 pub use results::translated;
 use thiserror::Error;
 pub use translating::translate;
