@@ -2,13 +2,16 @@
 use Rattle.std.proofs.Common.{◌≡◌, eqb→eq, ℕ, zero, suc, ◌+◌, ◌-◌, ◌≤◌, ◌<◌, Bool, true, false, not, List, [], ◌∷◌, ◌++◌, length, get_or, take, drop, map, refl, sym, ap, subst, ◌∙◌, arith, append_assoc}
 use Rattle.std.specs.Prelude.{nat_eq, ◌&&◌}
 use Rattle.std.proofs.Math.Dec.{T}
+use Rattle.std.specs.Prelude.{Result, Ok, Err, IfErr, IsErrAnd}
 use Rattle.std.specs.Bool.{IsTrue}
 use Rattle.std.specs.List.{All, list_all, slice_split, join_with_byte}
 use Rattle.std.proofs.lemmas.List.{take-append-drop, take_at, take_rest, get_or_at, length-append}
 use Rattle.std.proofs.lemmas.List.Splits.{slice_split_none, slice_split_at, join_with_byte-slice_split}
 use Rattle.std.proofs.lemmas.List.Elements.{All-nil, All-cons, All-head, All-tail}
 use Rattle.lois_base.proofs.Connectives.{both_true}
-use Rattle.lois_registers.specs.Reading.{is_clean, AreWords, HasNames}
+use Rattle.lois_registers.specs.Reading.{is_clean, AreWords, HasNames, IsLeftAt}
+use Rattle.lois_registers.specs.declared.halt.Halt.{Halt}
+use Rattle.lois_registers.specs.declared.halt.Halt.TheVariants.{Left, NoMemory}
 use Rattle.lois_base.specs.Names.{IsName, is_name_byte}
 use Rattle.lois_base.proofs.Viewed.{rest_at}
 use Rattle.lois_registers.specs.Texts.{spelled}
@@ -162,3 +165,28 @@ tails a b xs ys e = cc
 pub named_only : (first text rest : List ℕ) (ws : List (List ℕ)) → IsTrue (is_clean first) → AreWords ws → text ≡ spelled ws ++ rest → (names : List (List ℕ)) → HasNames first names text → ws ≡ first ∷ names
 named_only first text rest ws c are e names (form, (more, f)) =
     (words_unique ws (first ∷ names) rest more are (named_words first names c form) (sym e ∙ f)).0
+
+pub left_weaker : (text : List ℕ) (C D : Type 0) (h : Halt) → (C → D) → IsLeftAt text C h → IsLeftAt text D h
+left_weaker text C D (Left n) f (e, c) = (e, f c)
+left_weaker text C D NoMemory f c = tt
+
+module _ {X Y : Type 0} (f : X → Y) (P : Y → Type 0) where
+  pub all_unmapped : (xs : List X) → All P (map f xs) → All (λ x. P (f x)) xs
+  all_unmapped [] h = All-nil (λ x. P (f x))
+  all_unmapped (x ∷ xs) h = All-cons (λ z. P (f z)) x xs (All-head P (f x) (map f xs) h) (all_unmapped xs (All-tail P (f x) (map f xs) h))
+
+-- a cause that goes on to the caller
+pub err_left : {V : Type 0} (r : Result V Halt) (h : Halt) (Q : Halt → Type 0) → IsErrAnd r (λ e. e ≡ h) → Q h → IfErr r Q
+err_left (Ok v) h Q e q = tt
+err_left (Err k) h Q e q = subst Q (sym e) q
+
+-- a first word and names behind it, as items that a function shows
+module _ {X : Type 0} (f : X → List ℕ) (slice : List X) (first : List ℕ) (begins : map f slice ≡ first ∷ map f (drop 1 slice)) where
+  pub behind_first : (names : List (List ℕ)) → map f slice ≡ first ∷ names → names ≡ map f (take (length slice - 1) (drop 1 slice))
+  behind_first names e = tails first first names (map f (drop 1 slice)) (sym e ∙ begins) ∙ ap (map f) (sym (take_rest slice 1))
+
+  pub all_behind : (names : List (List ℕ)) → map f slice ≡ first ∷ names → All IsName names → All (λ x. IsName (f x)) (take (length slice - 1) (drop 1 slice))
+  all_behind names e h = all_unmapped f IsName (take (length slice - 1) (drop 1 slice)) (subst (All IsName) (behind_first names e) h)
+
+  pub with_first : (names : List (List ℕ)) → names ≡ map f (take (length slice - 1) (drop 1 slice)) → map f slice ≡ first ∷ names
+  with_first names e = begins ∙ ap (λ z. first ∷ z) (sym (e ∙ ap (map f) (take_rest slice 1)))

@@ -6,8 +6,7 @@ ghost use Rattle.lois_registers.specs.Reading.{AreWords, IsLeftAt};
 ghost use Rattle.lois_registers.specs.Texts.{spelled};
 
 use crate::halt::Halt;
-use lois_base::NoMemory;
-use std::alloc::Global;
+use std::alloc::{AllocError, Global};
 
 /// Whether the word is this text.
 pub fn is(word: &[u8], text: &[u8]) -> bool
@@ -16,11 +15,10 @@ pub fn is(word: &[u8], text: &[u8]) -> bool
     word == text
 }
 
-fn split_words<'a>(alloc: Global, line: &'a [u8]) -> Result<Vec<&'a [u8]>, NoMemory>
+fn split_words<'a>(alloc: Global, line: &'a [u8]) -> Result<Vec<&'a [u8]>, AllocError>
     ensures { IfOk result (λ v. map (λ w. w.now) v.items ≡ slice_split (λ b. nat_eq b 32) line.now) }
 {
-    let words: Vec<&[u8]> = line.split(|byte| *byte == b' ').collect(alloc)?;
-    Ok(words)
+    line.split(|byte| *byte == b' ').collect(alloc)
 }
 
 /// Where the first line ends, without its last byte.
