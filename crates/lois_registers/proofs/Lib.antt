@@ -10,3 +10,4 @@ pub mod Soundness
 pub mod WholeTerm
 pub mod Answered
 pub mod Cuts
+pub mod Stops

@@ -30,13 +30,13 @@ fn steps<'a>(
     requires count { IsCount frame.registers }
     requires form { All IsName frame.states.now }
     ensures few { IfOk result (λ x. length x.0 ≤ 256) }
-    ensures valid { IfOk result (λ x. All (IsRegStep frame.order frame.registers frame.states.now) x.0) }
+    ensures valid { IfOk result (λ x. All (IsRegStep frame.entry.order frame.entry.registers frame.entry.states.now) x.0) }
     ensures read { IfOk result (λ x. text.now ≡ flat_map spelled (map step_words x.0) ++ x.1.now) }
-    ensures all { IfOk result (λ x. (length x.0 ≡ 256) ⊎ HasNoLine (IsRegStep frame.order frame.registers frame.states.now) step_words x.1.now) }
+    ensures all { IfOk result (λ x. (length x.0 ≡ 256) ⊎ HasNoLine (IsRegStep frame.entry.order frame.entry.registers frame.entry.states.now) step_words x.1.now) }
 {
     let mut steps = RegSteps::new(alloc);
     let mut rest = text;
-    while steps.len() < MOST_STEPS {
+    for _step in 0..MOST_STEPS {
         match step_line(alloc, frame, rest) {
             Ok((step, after)) => {
                 steps.push(step)?;

@@ -73,9 +73,15 @@ fn literal(ordered: bool, registers: u32, word: &[u8]) -> Option<Lit>
     ensures some { IfSome result (λ l. IsLiteral ordered registers l × (word.now ≡ literal_text operand_names l)) }
     ensures none { IfNone result ((l : Lit) → IsLiteral ordered registers l → word.now ≡ literal_text operand_names l → ⊥) }
 {
-    let (left, rest) = operand(registers, word)?;
-    let (op, rest) = operator(ordered, rest)?;
-    let (right, rest) = operand(registers, rest)?;
+    let Some((left, rest)) = operand(registers, word) else {
+        return None;
+    };
+    let Some((op, rest)) = operator(ordered, rest) else {
+        return None;
+    };
+    let Some((right, rest)) = operand(registers, rest) else {
+        return None;
+    };
     if rest.is_empty() {
         Some(Lit { op, left, right })
     } else {
@@ -190,7 +196,7 @@ pub struct Frame<'a> {
 fn step(alloc: Global, frame: Frame<'_>, words: &[&[u8]]) -> Result<Option<RegStep>, NoMemory>
     requires count { IsCount frame.registers }
     requires form { All IsName frame.states.now }
-    ensures { IfOk result (AreOf (IsRegStep frame.order frame.registers frame.states.now) step_words (map (λ w. w.now) words.now)) }
+    ensures { IfOk result (AreOf (IsRegStep frame.entry.order frame.entry.registers frame.entry.states.now) step_words (map (λ w. w.now) words.now)) }
 {
     let Some(store) = words.iter().skip(4).position(|word| is(word, b"store")) else {
         return Ok(None);
@@ -223,8 +229,8 @@ pub fn step_line<'a>(
 ) -> Result<(RegStep, &'a [u8]), Halt>
     requires count { IsCount frame.registers }
     requires form { All IsName frame.states.now }
-    ensures read { IfOk result (λ x. IsRegStep frame.order frame.registers frame.states.now x.0 × (text.now ≡ spelled (step_words x.0) ++ x.1.now)) }
-    ensures left { IfErr result (IsLeftAt text.now (HasNoLine (IsRegStep frame.order frame.registers frame.states.now) step_words text.now)) }
+    ensures read { IfOk result (λ x. IsRegStep frame.entry.order frame.entry.registers frame.entry.states.now x.0 × (text.now ≡ spelled (step_words x.0) ++ x.1.now)) }
+    ensures left { IfErr result (IsLeftAt text.now (HasNoLine (IsRegStep frame.entry.order frame.entry.registers frame.entry.states.now) step_words text.now)) }
 {
     let (words, rest) = line_words(alloc, text)?;
     match step(alloc, frame, &words)? {
