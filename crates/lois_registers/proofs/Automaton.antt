@@ -131,6 +131,7 @@ module _ (r : Registers) (valid : IsRegisters r) (m : Machine) (sets : HasSets r
           let end = (sets.final.1 w).0 j in
           let like : IsAlike end.0 run.1 = value_alike w end.0 run.1 end.3 run.4 in
           (run.0, run.2, (run.1, run.3, subst (Contains r.finals) like.state end.2))
+
       from : (xs : List Atom) × AllZip IsAtomValue word xs × AcceptsAtoms r xs → Accepts m word
       from (xs, a, (q, runs, final)) =
           let v = value_exists (first r) in

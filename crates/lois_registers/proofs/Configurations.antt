@@ -163,6 +163,7 @@ value_to v p q a (t, us, h, k, l) = (t, us, h, subst (IsTagValue t) a.state k, c
     content_to x (Some a) (Some b) l h = atom_equal x b a (equal_sym a b l) h
     content_to x None (Some b) l h = absurd l
     content_to x (Some a) None l h = absurd l
+
     contents_to : (xs : List PointValue) (os us : List (Option Atom)) → AreLike os us → AllZip IsContent xs os → AllZip IsContent xs us
     contents_to [] [] [] l h = tt
     contents_to (x ∷ xs) (o ∷ os) (u ∷ us) l h = (content_to x o u l.0 h.0, contents_to xs os us l.1 h.1)

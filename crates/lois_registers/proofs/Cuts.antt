@@ -108,6 +108,7 @@ inside_before (b ∷ text) (suc n) l h =
     pick : (b : ℕ) (t : Bool) → nat_eq b 10 ≡ t → (b ≡ 10 → ⊥) → IsTrue (not t)
     pick b false e never = refl
     pick b true e never = absurd (never (eqb→eq b 10 (subst T (sym e) tt)))
+
     other : (b : ℕ) → (b ≡ 10 → ⊥) → IsTrue (is_inside b)
     other b never = pick b (nat_eq b 10) refl never
 

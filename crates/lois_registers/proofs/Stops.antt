@@ -164,8 +164,8 @@ module _ (text : List ℕ) (h : Halt) where
                   let own : IsRegStep r.order r.registers r.states found.0 = All-contains (IsRegStep r.order r.registers r.states) r.steps found.0 v.steps found.1 in
                   let here : IsRegStep o k states found.0 = subst (λ z. IsRegStep z k states found.0) (same_order r.order o orders) (subst (λ z. IsRegStep r.order z states found.0) (same_count r.registers k counts) (subst (λ z. IsRegStep r.order r.registers z found.0) states_are own)) in
                   elim all [
-                    inl full ↦ too_many r.steps steps line rest tail full v.few_steps
-                  | inr none ↦ none found.0 more here (subst (λ z. rest7 ≡ spelled z ++ more) (sym found.2) e)
+                    | inl full ↦ too_many r.steps steps line rest tail full v.few_steps
+                    | inr none ↦ none found.0 more here (subst (λ z. rest7 ≡ spelled z ++ more) (sym found.2) e)
                   ]
 
               pub stop_end : (length steps ≡ 256) ⊎ HasNoLine (IsRegStep o k states) step_words rest7 → (rest7 ≡ spelled end_words → ⊥) → BreaksAt text (front_lines read) rest7

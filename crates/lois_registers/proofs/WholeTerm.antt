@@ -77,15 +77,21 @@ module _ (r : Registers) (valid : IsRegisters r) (made : List CompD) (are : AreM
   has_sets = record {
     states = (tt, λ v. (λ i. let h = configuration_from r.registers r.states v i in (h.0, (h.1, h.2), h.3), λ (p, own, h). configuration_in r.registers r.states v p own.0 own.1 h));
     letters = (tt, λ v. (λ i. letter_from v i, λ (x, h). letter_in v x h));
-    steps = (tt, λ v. (
-      λ (u, m, s). step_to v (step_from r.registers r.steps v (u, member_made u.term_of u.choice [] (step_comps (placements r.registers) r.steps) made are m, s)),
-      λ h. let i = step_in r.registers r.steps v (step_of v h) in (i.0, made_member i.0.term_of i.0.choice [] (step_comps (placements r.registers) r.steps) made are i.1, i.2),
-    ));
+    steps = (
+      tt,
+      λ v. (
+        λ (u, m, s). step_to v (step_from r.registers r.steps v (u, member_made u.term_of u.choice [] (step_comps (placements r.registers) r.steps) made are m, s)),
+        λ h. let i = step_in r.registers r.steps v (step_of v h) in (i.0, made_member i.0.term_of i.0.choice [] (step_comps (placements r.registers) r.steps) made are i.1, i.2),
+      ),
+    );
     initial = (tt, λ v. (λ i. first_from r.registers r.initial v i, λ h. first_in r.registers r.initial v h));
-    final = (tt, λ v. (
-      λ i. let h = configuration_from r.registers r.finals v i in (h.0, (All-contains (Contains r.states) r.finals h.0.state valid.finals.listed h.1, h.2), h.1, h.3),
-      λ (p, own, listed, h). configuration_in r.registers r.finals v p listed own.1 h,
-    ));
+    final = (
+      tt,
+      λ v. (
+        λ i. let h = configuration_from r.registers r.finals v i in (h.0, (All-contains (Contains r.states) r.finals h.0.state valid.finals.listed h.1, h.2), h.1, h.3),
+        λ (p, own, listed, h). configuration_in r.registers r.finals v p listed own.1 h,
+      ),
+    );
   }
 
   pub is_translated : IsTranslatedTo r whole_term

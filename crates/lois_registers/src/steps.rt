@@ -112,7 +112,11 @@ fn literals(
             cube.push(lit)?;
         }
     }
-    if words.len() % 2 == 1 { Ok(Some(cube)) } else { Ok(None) }
+    if words.len() % 2 == 1 {
+        Ok(Some(cube))
+    } else {
+        Ok(None)
+    }
 }
 
 /// The guard that the words spell.
@@ -147,11 +151,7 @@ fn register(registers: u32, word: &[u8]) -> Option<u32>
 }
 
 /// The registers that the words name, which increase strictly.
-fn increasing(
-    alloc: Global,
-    registers: u32,
-    words: &[&[u8]],
-) -> Result<Option<Stores>, NoMemory>
+fn increasing(alloc: Global, registers: u32, words: &[&[u8]]) -> Result<Option<Stores>, NoMemory>
     requires count { IsCount registers }
     ensures { IfOk result (AreOf (AreIncreasing 0 registers) (map digit) (map (λ w. w.now) words.now)) }
 {

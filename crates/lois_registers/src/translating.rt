@@ -35,11 +35,7 @@ fn add_configurations(
 }
 
 /// The set of the configurations with these states.
-fn configurations_of(
-    alloc: Global,
-    names: &[Name],
-    places: &[Placement],
-) -> Result<Term, NoMemory>
+fn configurations_of(alloc: Global, names: &[Name], places: &[Placement]) -> Result<Term, NoMemory>
     ensures { IfOk result (λ t. tree t ≡ coll (comps_of (configurations places.now names.now))) }
 {
     let mut comps = Comps::new(alloc);

@@ -52,9 +52,9 @@ returns-then-not-is-clause-left c =
       _,
       rest7,
       stop_end c.args.text.now NoMemory c.in_ok-rest.rest.now c.in_ok-rest.ensures.read o c.in_ok-order.rest.now c.in_ok-order.ensures.read k c.in_ok-registers.ensures.read.0 c.in_ok-registers.rest.now c.in_ok-registers.ensures.read.1 states c.in_ok-states.ensures.read.0 c.in_ok-states.rest.now c.in_ok-states.ensures.read.1
-      c.in_ok-initial.initial (subst (λ z. Contains z c.in_ok-initial.initial) c.as_slice.ensures c.in_ok-initial.ensures.read.0) c.in_ok-initial.rest.now c.in_ok-initial.ensures.read.1
-      c.in_ok-finals.finals (subst (λ z. AreListed z c.in_ok-finals.finals) c.as_slice-2.ensures c.in_ok-finals.ensures.read.0) c.in_ok-finals.rest.now c.in_ok-finals.ensures.read.1
-      c.in_ok-steps.steps c.in_ok-steps.ensures.few valid rest7 c.in_ok-steps.ensures.read all never,
+          c.in_ok-initial.initial (subst (λ z. Contains z c.in_ok-initial.initial) c.as_slice.ensures c.in_ok-initial.ensures.read.0) c.in_ok-initial.rest.now c.in_ok-initial.ensures.read.1
+          c.in_ok-finals.finals (subst (λ z. AreListed z c.in_ok-finals.finals) c.as_slice-2.ensures c.in_ok-finals.ensures.read.0) c.in_ok-finals.rest.now c.in_ok-finals.ensures.read.1
+          c.in_ok-steps.steps c.in_ok-steps.ensures.few valid rest7 c.in_ok-steps.ensures.read all never,
       refl,
     )
 

@@ -12,8 +12,8 @@ pub returns-then-not-is_among : goal.returns-then-not-is_among
 returns-then-not-is_among c = (
   λ h. absurd (cc),
   λ all. let item : Contains c.args.states.now c.name-item.result = subst (Contains c.args.states.now) (sym c.name-item.is) (all c.loop-name.name-index c.name-item.result (omega arith)) in
-  let bytes : Contains c.args.states.now c.bytes.result.now = subst (Contains c.args.states.now) (sym c.bytes.ensures.same) item in
-  let yes = c.is_among.ensures.1 bytes in cc,
+      let bytes : Contains c.args.states.now c.bytes.result.now = subst (Contains c.args.states.now) (sym c.bytes.ensures.same) item in
+      let yes = c.is_among.ensures.1 bytes in cc,
 )
 
 pub returns : goal.returns

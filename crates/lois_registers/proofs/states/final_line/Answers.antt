@@ -16,15 +16,15 @@ pub returns-then-not-are_among-clause-left : goal.returns-then-not-are_among-cla
 returns-then-not-are_among-clause-left c = (
   refl,
   λ v more p e.
-  let same : v ≡ c.in_ok-names.names = c.in_ok-names.ensures.only v (All-weaker (Contains c.args.states.now) IsName (λ n i. All-contains IsName c.args.states.now n c.requires.form i) v p.listed, (more, e)) in
-  elim c.then-not-are_among.branch [
-    then-not-are_among-via-then-not-are_among w ↦
-    let yes : c.are_among.result ≡ true = c.are_among.ensures.1 (subst (All (Contains c.args.states.now)) (same ∙ sym c.as_slice.ensures) p.listed) in
-    let no = w.if-not-are_among.true in absurd (cc)
-  | then-not-are_among-via-else-not-are_among+then-not-are_distinct w ↦
-    let yes : w.are_distinct.result ≡ true = w.are_distinct.ensures.1 (subst AreDistinct (same ∙ sym w.as_slice-else-not-are_among.ensures) p.distinct) in
-    let no = w.if-not-are_distinct.true in absurd (cc)
-  ],
+      let same : v ≡ c.in_ok-names.names = c.in_ok-names.ensures.only v (All-weaker (Contains c.args.states.now) IsName (λ n i. All-contains IsName c.args.states.now n c.requires.form i) v p.listed, (more, e)) in
+      elim c.then-not-are_among.branch [
+        | then-not-are_among-via-then-not-are_among w ↦
+            let yes : c.are_among.result ≡ true = c.are_among.ensures.1 (subst (All (Contains c.args.states.now)) (same ∙ sym c.as_slice.ensures) p.listed) in
+            let no = w.if-not-are_among.true in absurd (cc)
+        | then-not-are_among-via-else-not-are_among+then-not-are_distinct w ↦
+            let yes : w.are_distinct.result ≡ true = w.are_distinct.ensures.1 (subst AreDistinct (same ∙ sym w.as_slice-else-not-are_among.ensures) p.distinct) in
+            let no = w.if-not-are_distinct.true in absurd (cc)
+      ],
 )
 
 pub returns-clause-read : goal.returns-clause-read

@@ -17,15 +17,15 @@ pub returns-then-not-begins-clause-left : goal.returns-then-not-begins-clause-le
 returns-then-not-begins-clause-left c = (
   refl,
   λ names h.
-  let same : map (λ w. w.now) c.as_slice-words.result.now ≡ map (λ w. w.now) c.in_ok-words.words.items = ap (map (λ w. w.now)) c.as_slice-words.ensures.value in
-  let e : map (λ w. w.now) c.in_ok-words.words.items ≡ c.args.first.now ∷ names = named_only c.args.first.now c.args.text.now c.in_ok-words.rest.now (map (λ w. w.now) c.in_ok-words.words.items) c.requires.clean c.in_ok-words.ensures.read.0 c.in_ok-words.ensures.read.1 names h in
-  elim c.then-not-begins.branch [
-    then-not-begins-via-then-not-begins w ↦ c.begins.ensures.none w.if-not-begins.true names (same ∙ e)
-  | then-not-begins-via-else-not-begins+then-not-are_names w ↦
-    let m = (c.begins.ensures.some w.if-not-begins.false).1 in
-    let yes : w.are_names.result ≡ true = w.are_names.ensures.1 (all_behind (λ w. w.now) c.as_slice-words.result.now c.args.first.now m names (same ∙ e) h.0) in
-    let no = w.if-not-are_names.true in absurd (cc)
-  ],
+      let same : map (λ w. w.now) c.as_slice-words.result.now ≡ map (λ w. w.now) c.in_ok-words.words.items = ap (map (λ w. w.now)) c.as_slice-words.ensures.value in
+      let e : map (λ w. w.now) c.in_ok-words.words.items ≡ c.args.first.now ∷ names = named_only c.args.first.now c.args.text.now c.in_ok-words.rest.now (map (λ w. w.now) c.in_ok-words.words.items) c.requires.clean c.in_ok-words.ensures.read.0 c.in_ok-words.ensures.read.1 names h in
+      elim c.then-not-begins.branch [
+        | then-not-begins-via-then-not-begins w ↦ c.begins.ensures.none w.if-not-begins.true names (same ∙ e)
+        | then-not-begins-via-else-not-begins+then-not-are_names w ↦
+            let m = (c.begins.ensures.some w.if-not-begins.false).1 in
+            let yes : w.are_names.result ≡ true = w.are_names.ensures.1 (all_behind (λ w. w.now) c.as_slice-words.result.now c.args.first.now m names (same ∙ e) h.0) in
+            let no = w.if-not-are_names.true in absurd (cc)
+      ],
 )
 
 pub returns-clause-read : goal.returns-clause-read

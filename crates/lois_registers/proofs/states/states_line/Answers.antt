@@ -13,12 +13,12 @@ pub returns-then-count-eq0-clause-left : goal.returns-then-count-eq0-clause-left
 returns-then-count-eq0-clause-left c = (
   refl,
   λ v more p e.
-  let same : v ≡ c.in_ok-names.names = c.in_ok-names.ensures.only v (p.form, (more, e)) in
-  elim c.then-count-eq0.branch [
-    then-count-eq0-via-then-count-eq0 w ↦ absurd (omega (arith, ap length same, p.some, c.len-count.ensures, w.if-count-eq0.true))
-  | then-count-eq0-via-else-count-eq0+then-count-gt-MOST_STATES w ↦ absurd (omega (arith, ap length same, p.few, c.len-count.ensures, w.if-count-gt-MOST_STATES.true))
-  | then-count-eq0-via-else-count-eq0+else-count-gt-MOST_STATES+then-not-are_distinct w ↦
-    let yes : w.are_distinct.result ≡ true = w.are_distinct.ensures.1 (subst AreDistinct (same ∙ sym w.as_slice.ensures) p.distinct) in
-    let no = w.if-not-are_distinct.true in absurd (cc)
-  ],
+      let same : v ≡ c.in_ok-names.names = c.in_ok-names.ensures.only v (p.form, (more, e)) in
+      elim c.then-count-eq0.branch [
+        | then-count-eq0-via-then-count-eq0 w ↦ absurd (omega (arith, ap length same, p.some, c.len-count.ensures, w.if-count-eq0.true))
+        | then-count-eq0-via-else-count-eq0+then-count-gt-MOST_STATES w ↦ absurd (omega (arith, ap length same, p.few, c.len-count.ensures, w.if-count-gt-MOST_STATES.true))
+        | then-count-eq0-via-else-count-eq0+else-count-gt-MOST_STATES+then-not-are_distinct w ↦
+            let yes : w.are_distinct.result ≡ true = w.are_distinct.ensures.1 (subst AreDistinct (same ∙ sym w.as_slice.ensures) p.distinct) in
+            let no = w.if-not-are_distinct.true in absurd (cc)
+      ],
 )
