@@ -11,3 +11,4 @@ pub mod WholeTerm
 pub mod Answered
 pub mod Cuts
 pub mod Stops
+pub mod Literals
