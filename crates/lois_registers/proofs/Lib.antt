@@ -12,3 +12,5 @@ pub mod Answered
 pub mod Cuts
 pub mod Stops
 pub mod Literals
+pub mod Linked
+pub mod Increasing
