@@ -8,7 +8,7 @@ module _ (n : ℕ) where
   pub increasing_take : (m k : ℕ) (is : List ℕ) → AreIncreasing m n is → AreIncreasing m n (take k is)
   increasing_take m zero is h = tt
   increasing_take m (suc k) [] h = tt
-  increasing_take m (suc k) (i ∷ is) h = (h.0, (h.1, increasing_take i k is h.2))
+  increasing_take m (suc k) (i ∷ is) h = (h.0, h.1, increasing_take i k is h.2)
 
   pub increasing_at : (m k d : ℕ) (is : List ℕ) → AreIncreasing m n is → k < length is → (m < get_or is k d) × (get_or is k d ≤ n)
   increasing_at m k d [] h l = absurd (omega (arith, l))
@@ -18,9 +18,9 @@ module _ (n : ℕ) where
 
   -- behind the last one
   pub increasing_more : (m i j : ℕ) (is : List ℕ) → AreIncreasing m n (is ++ i ∷ []) → AreIncreasing m n ((is ++ i ∷ []) ++ j ∷ []) ↔ ((i < j) × (j ≤ n))
-  increasing_more m i j [] h = (λ g. (g.2.0, g.2.1), λ g. (h.0, (h.1, (g.0, (g.1, tt)))))
+  increasing_more m i j [] h = (λ g. (g.2.0, g.2.1), λ g. (h.0, h.1, (g.0, g.1, tt)))
   increasing_more m i j (k ∷ is) h =
-      let r = increasing_more k i j is h.2 in (λ g. r.0 g.2, λ g. (h.0, (h.1, r.1 g)))
+      let r = increasing_more k i j is h.2 in (λ g. r.0 g.2, λ g. (h.0, h.1, r.1 g))
 
 digit_same : (i j : ℕ) → digit i ≡ digit j → i ≡ j
 digit_same i j e = let h : 48 + i ≡ 48 + j = cc in omega (arith, h)
@@ -45,9 +45,10 @@ module _ {X : Type 0} (f : X → List ℕ) (slice : List X) (i : ℕ) (d : X) (l
   register_at n js h e =
       let inside : i < length js = omega (arith, l, ap length e, length-map slice f, length-map js digit) in
       let r = increasing_at n 0 i 0 js h inside in
-      (get_or js i 0, (r.0, (r.1, sym (get_or-map f slice i d [] l) ∙ (ap (λ z. get_or z i []) e ∙ get_or-map digit js i 0 [] inside))))
+      (get_or js i 0, r.0, r.1, sym (get_or-map f slice i d [] l) ∙ (ap (λ z. get_or z i []) e ∙ get_or-map digit js i 0 [] inside))
 
-  -- and those so far increase
+-- where all words are registers that increase, those so far do
+module _ {X : Type 0} (f : X → List ℕ) (slice : List X) (i : ℕ) where
   pub registers_so_far : (n : ℕ) (is js : List ℕ) (k : ℕ) → AreIncreasing 0 n js → map f slice ≡ map digit js → map f (take (i + 1) slice) ≡ map digit (is ++ k ∷ []) → AreIncreasing 0 n (is ++ k ∷ [])
   registers_so_far n is js k h e so =
       let same : take (i + 1) js ≡ is ++ k ∷ [] = digits_same (take (i + 1) js) (is ++ k ∷ []) (sym (take-map digit (i + 1) js) ∙ (ap (take (i + 1)) (sym e) ∙ (take-map f (i + 1) slice ∙ so))) in

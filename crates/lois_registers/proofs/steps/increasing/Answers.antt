@@ -12,7 +12,7 @@ returns-in_default c = λ v h e.
 pub returns-then-next-last : goal.returns-then-next-last
 returns-then-next-last c = λ v h e.
     let so = register_read (λ w. w.now) c.args.words.now c.loop-word.word-index _ c.loop-word-test.true c.loop-word.stores c.in-Some.next c.in-Some.ensures.some.2 c.loop-word.invariant.words in
-    let more = registers_so_far (λ w. w.now) c.args.words.now c.loop-word.word-index _ c.loop-word-test.true c.args.registers c.loop-word.stores v c.in-Some.next h e so in
+    let more = registers_so_far (λ w. w.now) c.args.words.now c.loop-word.word-index c.args.registers c.loop-word.stores v c.in-Some.next h e so in
     let above = ((c.loop-word.invariant.further c.in-Some.next).0 more).0 in
     absurd (omega (arith, above, c.if-next-last.true))
 
