@@ -14,3 +14,5 @@ pub mod Stops
 pub mod Literals
 pub mod Linked
 pub mod Increasing
+pub mod StepWords
+pub mod Unique

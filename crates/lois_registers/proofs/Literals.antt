@@ -6,7 +6,7 @@ use Rattle.lois_base.specs.declared.guards.Op.{Op}
 use Rattle.lois_base.specs.declared.guards.Op.TheVariants.{Eq, Ne, Lt}
 use Rattle.lois_registers.specs.Texts.{operand_names, operand_text}
 
-register_text : (i : ℕ) → i ≤ 3 → operand_text (suc i) ≡ 114 ∷ (49 + i) ∷ []
+pub register_text : (i : ℕ) → i ≤ 3 → operand_text (suc i) ≡ 114 ∷ (49 + i) ∷ []
 register_text zero l = refl
 register_text (suc zero) l = refl
 register_text (suc (suc zero)) l = refl

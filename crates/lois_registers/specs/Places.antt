@@ -33,6 +33,11 @@ IsPlace text (NotRegisters at) =
     (lines : List (List (List ℕ))) × (rest : List ℕ) × BreaksAt text lines rest × (at ≡ length (flat_map spelled lines))
 IsPlace text OutOfMemory = Unit {0}
 
+-- no other offset is
+abbrev pub IsOnlyPlace : List ℕ → RegistersError → Type 0
+IsOnlyPlace text (NotRegisters at) = (other : ℕ) → IsPlace text (NotRegisters other) → other ≡ at
+IsOnlyPlace text OutOfMemory = Unit {0}
+
 -- no register automaton has the text
 abbrev pub HasNone : List ℕ → RegistersError → Type 0
 HasNone text (NotRegisters at) = (r : Registers) → IsRegistersOf text r → ⊥

@@ -32,3 +32,7 @@ HasNoLine {V} P words_of text = (v : V) (more : List ℕ) → P v → text ≡ s
 -- a line of this word and these names is at the front
 abbrev pub HasNames : List ℕ → List (List ℕ) → List ℕ → Type 0
 HasNames first names text = All IsName names × ((more : List ℕ) × (text ≡ spelled (first ∷ names) ++ more))
+
+-- the words are those before a word and those after it, and it isn't one of those before
+abbrev pub IsCutAt : List ℕ → List (List ℕ) → List (List ℕ) → List (List ℕ) → Type 0
+IsCutAt word words before after = (words ≡ before ++ word ∷ after) × All (λ w. w ≡ word → ⊥) before

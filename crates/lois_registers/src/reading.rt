@@ -3,7 +3,7 @@
 ghost use Rattle.std.specs.Prelude.{◌≡◌, ◌≤◌, ℕ, List, ◌++◌, length, map, IfOk, IfErr, OnOk};
 ghost use Rattle.std.specs.List.{All, flat_map};
 ghost use Rattle.lois_base.specs.Names.{IsName};
-ghost use Rattle.lois_registers.specs.Places.{IsRegistersOf, IsPlace, HasNone, StopsIn};
+ghost use Rattle.lois_registers.specs.Places.{IsRegistersOf, IsPlace, IsOnlyPlace, HasNone, StopsIn};
 ghost use Rattle.lois_registers.specs.Reading.{HasNoLine};
 ghost use Rattle.lois_registers.specs.Texts.{spelled, step_words};
 ghost use Rattle.lois_registers.specs.Valid.{IsCount, IsRegStep};
@@ -91,6 +91,7 @@ pub fn read_registers(alloc: Global, text: &[u8]) -> Result<Registers, Registers
     // A refusal comes only where there is none, at the first line at fault.
     ensures none { IfErr result (HasNone text.now) }
     ensures place { IfErr result (IsPlace text.now) }
+    ensures only { IfErr result (IsOnlyPlace text.now) }
 {
     let len = text.len();
     match registers_of(alloc, text) {

@@ -1,11 +1,11 @@
 //! The lines of the steps.
 
-ghost use Rattle.std.specs.Prelude.{◌≡◌, ℕ, ◌+◌, ◌≤◌, Bool, List, ◌++◌, map, IfOk, IfErr, IfSome, IfNone, IsTrue};
+ghost use Rattle.std.specs.Prelude.{◌≡◌, ℕ, ◌+◌, ◌≤◌, Bool, List, ◌∷◌, ◌++◌, map, length, take, drop, ◌<◌, IfOk, IfErr, IfSome, IfNone, IsTrue};
 ghost use Rattle.std.specs.List.{All};
 ghost use Rattle.lois_answers.specs.TermText.{literal_text, op_text};
 ghost use Rattle.lois_base.specs.Names.{IsName};
 ghost use Rattle.lois_base.specs.Validity.{is_admitted};
-ghost use Rattle.lois_registers.specs.Reading.{IsLeftAt, HasNoLine, AreOf};
+ghost use Rattle.lois_registers.specs.Reading.{IsLeftAt, HasNoLine, AreOf, IsCutAt};
 ghost use Rattle.lois_registers.specs.Texts.{spelled, operand_names, operand_text, digit, guard_words, linked_words, stored_words, step_words};
 ghost use Rattle.lois_registers.specs.Valid.{IsCount, IsLiteral, AreLiterals, IsGuard, AreIncreasing, IsRegStep};
 ghost use Rattle.lois_base.specs.declared.guards.Lit.{Lit};
@@ -184,6 +184,20 @@ fn stored(alloc: Global, registers: u32, words: &[&[u8]]) -> Result<Option<Store
     increasing(alloc, registers, words)
 }
 
+/// Where the word stands first.
+fn first_of(words: &[&[u8]], word: &[u8]) -> Option<usize>
+    ensures inside { IfSome result (λ n. n < length words.now) }
+    ensures cut { IfSome result (λ n. IsCutAt word.now (map (λ w. w.now) words.now) (map (λ w. w.now) (take n words.now)) (map (λ w. w.now) (drop (n + 1) words.now))) }
+    ensures none { IfNone result ((before after : List (List ℕ)) → map (λ w. w.now) words.now ≡ before ++ word.now ∷ after → ⊥) }
+{
+    for (i, other) in words.iter().enumerate() {
+        if is(other, word) {
+            return Some(i);
+        }
+    }
+    None
+}
+
 /// What the steps of a text may be: over which atoms, how many registers and which states.
 #[derive(Clone, Copy)]
 pub struct Frame<'a> {
@@ -198,19 +212,20 @@ fn step(alloc: Global, frame: Frame<'_>, words: &[&[u8]]) -> Result<Option<RegSt
     requires form { All IsName frame.states.now }
     ensures { IfOk result (AreOf (IsRegStep frame.entry.order frame.entry.registers frame.entry.states.now) step_words (map (λ w. w.now) words.now)) }
 {
-    let Some(store) = words.iter().skip(4).position(|word| is(word, b"store")) else {
-        return Ok(None);
-    };
-    if !is(words[0], b"step") || !is(words[3], b"when") {
+    if words.len() < 4 || !is(words[0], b"step") || !is(words[3], b"when") {
         return Ok(None);
     }
     if !is_among(frame.states, words[1]) || !is_among(frame.states, words[2]) {
         return Ok(None);
     }
-    let Some(guard) = guard(alloc, frame.order, frame.registers, &words[4..4 + store])? else {
+    let behind = &words[4..];
+    let Some(store) = first_of(behind, b"store") else {
         return Ok(None);
     };
-    let Some(stored) = stored(alloc, frame.registers, &words[5 + store..])? else {
+    let Some(guard) = guard(alloc, frame.order, frame.registers, &behind[..store])? else {
+        return Ok(None);
+    };
+    let Some(stored) = stored(alloc, frame.registers, &behind[store + 1..])? else {
         return Ok(None);
     };
     Ok(Some(RegStep {
