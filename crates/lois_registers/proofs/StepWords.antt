@@ -44,7 +44,7 @@ module _ {X : Type 0} (f : X → List ℕ) (slice : List X) (word : List ℕ) wh
   pub cut_at : (n : ℕ) (d : X) → n < length slice → f (get_or slice n d) ≡ word → All (λ x. f x ≡ word → ⊥) (take n slice) → IsCutAt word (map f slice) (map f (take n slice)) (map f (drop (n + 1) slice))
   cut_at n d l e h = (
     ap (map f) (sym (take-append-drop n slice)) ∙ (map-append f (take n slice) (drop n slice) ∙
-    ap (λ z. map f (take n slice) ++ z) (ap (map f) (drop_more slice n d l) ∙ ap (λ z. z ∷ map f (drop (n + 1) slice)) e)),
+        ap (λ z. map f (take n slice) ++ z) (ap (map f) (drop_more slice n d l) ∙ ap (λ z. z ∷ map f (drop (n + 1) slice)) e)),
     All-map (λ w. w ≡ word → ⊥) f (take n slice) h,
   )
 
@@ -105,8 +105,8 @@ IsGuardWord w = IsTrue (is_clean w) × (w ≡ codes "store" → ⊥)
 literal_word : (l : Lit) → l.left ≤ 4 → l.right ≤ 4 → IsGuardWord (literal_text operand_names l)
 literal_word l i j = (
   subst (λ z. IsTrue (is_clean z)) (sym (literal_is l i j))
-  (both_append (λ b. not (nat_eq b 10) && not (nat_eq b 32)) (operand_text l.left) (op_text l.op ++ operand_text l.right) (operand_clean l.left i)
-  (both_append (λ b. not (nat_eq b 10) && not (nat_eq b 32)) (op_text l.op) (operand_text l.right) (op_clean l.op) (operand_clean l.right j))),
+      (both_append (λ b. not (nat_eq b 10) && not (nat_eq b 32)) (operand_text l.left) (op_text l.op ++ operand_text l.right) (operand_clean l.left i)
+      (both_append (λ b. not (nat_eq b 10) && not (nat_eq b 32)) (op_text l.op) (operand_text l.right) (op_clean l.op) (operand_clean l.right j))),
   λ e. not_store l.left (op_text l.op ++ operand_text l.right) i (sym (literal_is l i j) ∙ e),
 )
 
@@ -149,8 +149,8 @@ module _ (ordered : Bool) (n : ℕ) (states : List (List ℕ)) (s : RegStep) (l 
   step_are names =
       let tail = guard_words s.guard ++ codes "store" ∷ stored_words s.stored in
       let clean : IsTrue (list_all is_clean tail) =
-          both_append is_clean (guard_words s.guard) (codes "store" ∷ stored_words s.stored) (all_clean (guard_words s.guard) (guard_are ordered n s.guard l v.guard.literals))
-              (both_cons is_clean (codes "store") (stored_words s.stored) refl (stored_clean n s.stored l v.stored)) in
+      both_append is_clean (guard_words s.guard) (codes "store" ∷ stored_words s.stored) (all_clean (guard_words s.guard) (guard_are ordered n s.guard l v.guard.literals))
+      (both_cons is_clean (codes "store") (stored_words s.stored) refl (stored_clean n s.stored l v.stored)) in
       clean_words (codes "step") (s.from ∷ s.to ∷ codes "when" ∷ tail)
       (both_cons is_clean (codes "step") (s.from ∷ s.to ∷ codes "when" ∷ tail) refl
       (both_cons is_clean s.from (s.to ∷ codes "when" ∷ tail) (name_clean s.from (All-contains IsName states s.from names v.from))

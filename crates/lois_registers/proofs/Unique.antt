@@ -1,17 +1,18 @@
 -- A text begins with the good lines of a register automaton in one way, so where they end is one place.
-use Rattle.std.proofs.Common.{◌≡◌, ℕ, Bool, true, false, List, [], ◌∷◌, ◌++◌, length, map, get_or, refl, sym, ap, subst, ◌∙◌, ◌⊎◌, inl, inr, arith, append_assoc, append-nil}
+use Rattle.std.proofs.Common.{◌≡◌, ℕ, ◌-◌, Bool, true, false, List, [], ◌∷◌, ◌++◌, length, map, get_or, refl, sym, ap, subst, ◌∙◌, ◌⊎◌, inl, inr, arith, append_assoc, append-nil}
 use Rattle.std.specs.Prelude.{codes}
 use Rattle.std.specs.List.{All, Contains, flat_map}
+use Rattle.std.proofs.lemmas.List.{length-append}
 use Rattle.std.proofs.lemmas.List.Elements.{All-nil, All-cons, All-head, All-tail, All-append, All-map, All-weaker, All-contains, Contains-append_left, Contains-append_right}
 use Rattle.lois_base.specs.Names.{IsName}
-use Rattle.lois_registers.specs.Places.{AreGoodLines, BreaksAt, IsPlace, HasNone, IsOnlyPlace, IsRegistersOf}
+use Rattle.lois_registers.specs.Places.{AreGoodLines, BreaksAt, IsPlace, StopsIn, IsRegistersOf}
 use Rattle.lois_registers.specs.Reading.{AreWords, is_clean}
 use Rattle.lois_registers.specs.Texts.{spelled, title_words, order_words, count_words, states_words, initial_words, final_words, step_words, end_words, digit, head_lines, front_lines, registers_text}
 use Rattle.lois_registers.specs.Valid.{IsRegStep, IsRegisters}
-use Rattle.lois_registers.specs.declared.RegistersError.{RegistersError}
-use Rattle.lois_registers.specs.declared.RegistersError.TheVariants.{NotRegisters, NoMemory}
+use Rattle.lois_registers.specs.declared.RegistersError.TheVariants.{NotRegisters}
 use Rattle.lois_registers.specs.declared.automata.RegStep.{RegStep}
 use Rattle.lois_registers.specs.declared.automata.Registers.{Registers}
+use Rattle.lois_registers.specs.declared.halt.Halt.TheVariants.{Left}
 use Rattle.lois_registers.proofs.Cuts.{clean_words, named_words, words_unique}
 use Rattle.lois_registers.proofs.Members.{contains_first}
 use Rattle.lois_registers.proofs.StepWords.{both_cons, digit_clean, step_are}
@@ -24,18 +25,23 @@ order_are : (o : Bool) → AreWords (order_words o)
 order_are false = clean_words (codes "atoms") (codes "equality" ∷ []) refl
 order_are true = clean_words (codes "atoms") (codes "order" ∷ []) refl
 
+six : (P : List (List ℕ) → Type 0) (a b c d e f : List (List ℕ)) → P a → P b → P c → P d → P e → P f → All P (a ∷ b ∷ c ∷ d ∷ e ∷ f ∷ [])
+six P a b c d e f ha hb hc hd he hf =
+    All-cons P a (b ∷ c ∷ d ∷ e ∷ f ∷ []) ha (All-cons P b (c ∷ d ∷ e ∷ f ∷ []) hb (All-cons P c (d ∷ e ∷ f ∷ []) hc (All-cons P d (e ∷ f ∷ []) hd (All-cons P e (f ∷ []) he (All-cons P f [] hf (All-nil P))))))
+
 front_are : (r : Registers) → IsRegisters r → All AreWords (front_lines r)
 front_are r v =
     let listed : All IsName r.finals = All-weaker (Contains r.states) IsName (λ n i. All-contains IsName r.states n v.states.form i) r.finals v.finals.listed in
     let steps : All AreWords (map step_words r.steps) =
-        All-map AreWords step_words r.steps (All-weaker (IsRegStep r.order r.registers r.states) (λ s. AreWords (step_words s)) (λ s i. step_are r.order r.registers r.states s v.few i v.states.form) r.steps v.steps) in
+    All-map AreWords step_words r.steps (All-weaker (IsRegStep r.order r.registers r.states) (λ s. AreWords (step_words s)) (λ s i. step_are r.order r.registers r.states s v.few i v.states.form) r.steps v.steps) in
     All-append AreWords (head_lines r) (map step_words r.steps)
-    (All-cons AreWords title_words _ (clean_words (codes "lois") (codes "registers" ∷ codes "1" ∷ []) refl)
-    (All-cons AreWords (order_words r.order) _ (order_are r.order)
-    (All-cons AreWords (count_words r.registers) _ (clean_words (codes "registers") (digit r.registers ∷ []) (both_cons is_clean (codes "registers") (digit r.registers ∷ []) refl (both_cons is_clean (digit r.registers) [] (digit_clean r.registers v.few) refl)))
-    (All-cons AreWords (states_words r.states) _ (named_words (codes "states") r.states refl v.states.form)
-    (All-cons AreWords (initial_words r.initial) _ (named_words (codes "initial") (r.initial ∷ []) refl (All-cons IsName r.initial [] (All-contains IsName r.states r.initial v.states.form v.initial) (All-nil IsName)))
-    (All-cons AreWords (final_words r.finals) _ (named_words (codes "final") r.finals refl listed) (All-nil AreWords)))))))
+    (six AreWords title_words (order_words r.order) (count_words r.registers) (states_words r.states) (initial_words r.initial) (final_words r.finals)
+    (clean_words (codes "lois") (codes "registers" ∷ codes "1" ∷ []) refl)
+    (order_are r.order)
+    (clean_words (codes "registers") (digit r.registers ∷ []) (both_cons is_clean (codes "registers") (digit r.registers ∷ []) refl (both_cons is_clean (digit r.registers) [] (digit_clean r.registers v.few) refl)))
+    (named_words (codes "states") r.states refl v.states.form)
+    (named_words (codes "initial") (r.initial ∷ []) refl (All-cons IsName r.initial [] (All-contains IsName r.states r.initial v.states.form v.initial) (All-nil IsName)))
+    (named_words (codes "final") r.finals refl listed))
     steps
 
 good_are : (lines : Lines) → AreGoodLines lines → All AreWords lines
@@ -62,12 +68,13 @@ step_no_end s e = let bad : ◌≡◌ {A = ℕ} 4 3 = first_length (codes "step"
 front_no_end : (r : Registers) → All IsNoEnd (front_lines r)
 front_no_end r =
     All-append IsNoEnd (head_lines r) (map step_words r.steps)
-    (All-cons IsNoEnd title_words _ (λ e. let bad : ◌≡◌ {A = ℕ} 4 3 = first_length (codes "lois") _ e in absurd (omega (arith, bad)))
-    (All-cons IsNoEnd (order_words r.order) _ (order_no_end r.order)
-    (All-cons IsNoEnd (count_words r.registers) _ (λ e. let bad : ◌≡◌ {A = ℕ} 9 3 = first_length (codes "registers") _ e in absurd (omega (arith, bad)))
-    (All-cons IsNoEnd (states_words r.states) _ (λ e. let bad : ◌≡◌ {A = ℕ} 6 3 = first_length (codes "states") _ e in absurd (omega (arith, bad)))
-    (All-cons IsNoEnd (initial_words r.initial) _ (λ e. let bad : ◌≡◌ {A = ℕ} 7 3 = first_length (codes "initial") _ e in absurd (omega (arith, bad)))
-    (All-cons IsNoEnd (final_words r.finals) _ (λ e. let bad : ◌≡◌ {A = ℕ} 5 3 = first_length (codes "final") _ e in absurd (omega (arith, bad))) (All-nil IsNoEnd)))))))
+    (six IsNoEnd title_words (order_words r.order) (count_words r.registers) (states_words r.states) (initial_words r.initial) (final_words r.finals)
+    (λ e. let bad : ◌≡◌ {A = ℕ} 4 3 = first_length (codes "lois") _ e in absurd (omega (arith, bad)))
+    (order_no_end r.order)
+    (λ e. let bad : ◌≡◌ {A = ℕ} 9 3 = first_length (codes "registers") _ e in absurd (omega (arith, bad)))
+    (λ e. let bad : ◌≡◌ {A = ℕ} 6 3 = first_length (codes "states") _ e in absurd (omega (arith, bad)))
+    (λ e. let bad : ◌≡◌ {A = ℕ} 7 3 = first_length (codes "initial") _ e in absurd (omega (arith, bad)))
+    (λ e. let bad : ◌≡◌ {A = ℕ} 5 3 = first_length (codes "final") _ e in absurd (omega (arith, bad))))
     (All-map IsNoEnd step_words r.steps (λ k d l. step_no_end (get_or r.steps k d)))
 
 good_no_end : (lines : Lines) → AreGoodLines lines → Contains lines end_words → ⊥
@@ -87,7 +94,7 @@ two_beginnings [] ys a b h k e = inl (ys, refl, e)
 two_beginnings (x ∷ xs) [] a b h k e = inr (x ∷ xs, refl, sym e)
 two_beginnings (x ∷ xs) (y ∷ ys) a b h k e =
     let u = words_unique x y (flat_map spelled xs ++ a) (flat_map spelled ys ++ b) (All-head AreWords x xs h) (All-head AreWords y ys k)
-        (sym (append_assoc (spelled x) (flat_map spelled xs) a) ∙ (e ∙ append_assoc (spelled y) (flat_map spelled ys) b)) in
+    (sym (append_assoc (spelled x) (flat_map spelled xs) a) ∙ (e ∙ append_assoc (spelled y) (flat_map spelled ys) b)) in
     next_line x y xs ys a b u.0 (two_beginnings xs ys a b (All-tail AreWords x xs h) (All-tail AreWords y ys k) u.1)
 
 -- where a text breaks no good lines go on
@@ -95,7 +102,7 @@ no_further : (text : List ℕ) (xs ys : Lines) (a b : List ℕ) → BreaksAt tex
 no_further text xs ys a b breaks good [] f g = sym (f ∙ append-nil xs)
 no_further text xs ys a b breaks (r, more, v, e) (z ∷ zs) f g =
     absurd (breaks.further z (flat_map spelled zs ++ b) (g ∙ append_assoc (spelled z) (flat_map spelled zs) b)
-        (r, zs ++ more, v, e ∙ (ap (λ w. w ++ more) (f ∙ sym (append_assoc xs (z ∷ []) zs)) ∙ append_assoc (xs ++ z ∷ []) zs more)))
+    (r, zs ++ more, v, e ∙ (ap (λ w. w ++ more) (f ∙ sym (append_assoc xs (z ∷ []) zs)) ∙ append_assoc (xs ++ z ∷ []) zs more)))
 
 lines_alone : (text : List ℕ) (xs ys : Lines) (a b : List ℕ) → BreaksAt text xs a → BreaksAt text ys b → xs ≡ ys
 lines_alone text xs ys a b p q =
@@ -129,10 +136,11 @@ no_registers text lines rest b r h =
       | inr (zs, f, g) ↦ breaks_behind text lines rest b r h.valid zs f g
     ]
 
-pub none_at : (text : List ℕ) (e : RegistersError) → IsPlace text e → HasNone text e
-none_at text (NotRegisters k) (lines, rest, b, l) = no_registers text lines rest b
-none_at text NoMemory h = tt
+-- the same by how many bytes are left
+module _ (text : List ℕ) (n : ℕ) where
+  pub none_left : StopsIn text (Left n) → (r : Registers) → IsRegistersOf text r → ⊥
+  none_left (lines, rest, b, l) = no_registers text lines rest b
 
-pub only_at : (text : List ℕ) (e : RegistersError) → IsPlace text e → IsOnlyPlace text e
-only_at text (NotRegisters k) h = λ m i. one_place text m k i h
-only_at text NoMemory h = tt
+  pub only_left : (at : ℕ) → at ≡ length text - n → StopsIn text (Left n) → (other : ℕ) → IsPlace text (NotRegisters other) → other ≡ at
+  only_left at e (lines, rest, b, l) other h =
+      one_place text other at h (lines, rest, b, omega (arith, e, l, ap length b.whole, length-append (flat_map spelled lines) rest))

@@ -30,8 +30,8 @@ returns c =
     let g = some_of (IsGuard c.args.frame.order c.args.frame.registers) guard_words _ c.in_ok-guard.field-0 c.in_ok-guard.ensures c.in-Some-2.guard c.in-Some-2.is in
     let s = some_of (AreIncreasing 0 c.args.frame.registers) stored_words _ c.in_ok-stored.field-0 c.in_ok-stored.ensures c.in-Some-3.stored c.in-Some-3.is in
     let tail : map (λ w. w.now) (drop 4 words) ≡ guard_words c.in-Some-2.guard ++ codes "store" ∷ stored_words c.in-Some-3.stored =
-        ap (map (λ w. w.now)) (sym (take_rest words 4)) ∙ (c.in-Some.ensures.cut.0 ∙
-        (ap (λ z. z ++ codes "store" ∷ map (λ w. w.now) (drop (c.in-Some.store + 1) behind)) g.1 ∙ ap (λ z. guard_words c.in-Some-2.guard ++ codes "store" ∷ z) (ap (map (λ w. w.now)) (sym (take_rest behind (c.in-Some.store + 1))) ∙ s.1))) in (
+    ap (map (λ w. w.now)) (sym (take_rest words 4)) ∙ (c.in-Some.ensures.cut.0 ∙
+    (ap (λ z. z ++ codes "store" ∷ map (λ w. w.now) (drop (c.in-Some.store + 1) behind)) g.1 ∙ ap (λ z. guard_words c.in-Some-2.guard ++ codes "store" ∷ z) (ap (map (λ w. w.now)) (sym (take_rest behind (c.in-Some.store + 1))) ∙ s.1))) in (
       record {
         from = subst (Contains c.args.frame.states.now) (sym c.in_ok-from_bytes.ensures) (c.is_among.ensures.0 c.if-not-is_among.false);
         to = subst (Contains c.args.frame.states.now) (sym c.in_ok-from_bytes-2.ensures) (c.is_among-else-not-is_among.ensures.0 c.if-not-is_among-2.false);
