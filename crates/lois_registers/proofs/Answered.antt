@@ -1,16 +1,14 @@
 -- Results of one case with the line `automaton` are sound.
-use Rattle.std.proofs.Common.{◌≡◌, ℕ, Bool, true, false, List, [], ◌∷◌, refl, sym, subst, ◌⊎◌, inl, inr, arith}
-use Rattle.std.specs.Prelude.{codes, not, bytes_eq, ◌&&◌}
+use Rattle.std.proofs.Common.{◌≡◌, ℕ, Bool, false, List, [], ◌∷◌, refl, sym, subst, inl, inr, arith}
+use Rattle.std.specs.Prelude.{codes, not, bytes_eq}
 use Rattle.std.specs.Bool.{IsTrue}
-use Rattle.std.specs.List.{All, Contains, list_all}
+use Rattle.std.specs.List.{Contains, list_all}
 use Rattle.std.proofs.lemmas.List.Elements.{All-nil, All-cons}
-use Rattle.lois_answers.specs.ResultsData.{CaseD, LineD}
-use Rattle.lois_answers.specs.Sound.{IsFreeName, IsSoundTerm, IsSoundLine, IsSoundCase, AreParameters, IsSound}
-use Rattle.lois_answers.specs.declared.results.Results.{Results}
+use Rattle.lois_answers.specs.ResultsData.{CaseD}
+use Rattle.lois_answers.specs.Sound.{IsFreeName, IsSoundTerm, IsSoundLine, IsSoundCase, IsSound}
 use Rattle.lois_base.proofs.Connectives.{both_true}
 use Rattle.lois_base.specs.Data.{TermD}
 use Rattle.lois_base.specs.Fits.{CubeFits, LitFits}
-use Rattle.lois_base.specs.Names.{IsName}
 use Rattle.lois_base.specs.Validity.{AdmitsCube, AdmitsLit}
 use Rattle.lois_lexer.specs.Words.{reserved}
 use Rattle.lois_registers.proofs.Members.{contains_cases}

@@ -1,27 +1,25 @@
 -- The automaton of these sets: it is one, and it accepts the words that the register automaton accepts.
-use Rattle.std.proofs.Common.{◌≡◌, ℕ, zero, suc, ◌+◌, ◌≤◌, ◌<◌, Bool, true, false, List, [], ◌∷◌, ◌++◌, Option, Some, None, length, map, replicate, refl, sym, ap, subst, ◌∙◌, arith, ◌↔◌}
-use Rattle.std.specs.Bool.{IsTrue}
-use Rattle.std.specs.List.{All, Contains, AllZip}
-use Rattle.std.proofs.lemmas.List.{length-replicate, nil_from_length}
+use Rattle.std.proofs.Common.{◌≡◌, List, [], ◌∷◌, None, length, refl, sym, ap, subst, ◌∙◌, ◌↔◌}
+use Rattle.std.specs.List.{Contains, AllZip}
+use Rattle.std.proofs.lemmas.List.{length-replicate}
 use Rattle.std.proofs.lemmas.List.Elements.{All-contains}
-use Rattle.lois_base.specs.Atom.{Atom, equal}
-use Rattle.lois_base.specs.Data.{TermD, var, coll, CompD, CompsD, comp, comps_of}
-use Rattle.lois_base.specs.Truth.{atom_at}
-use Rattle.lois_base.specs.Values.{PointValue, point, IsSame, IsIn, IsMember, MemberAt, MakesAt, IsExtension}
-use Rattle.lois_base.proofs.Members.{same_refl, same_sym, same_trans}
+use Rattle.lois_base.specs.Atom.{Atom}
+use Rattle.lois_base.specs.Data.{var}
+use Rattle.lois_base.specs.Values.{PointValue, point}
+use Rattle.lois_base.proofs.Members.{same_refl}
 use Rattle.lois_base.proofs.Order.{equal_refl}
-use Rattle.lois_meaning.specs.Automata.{Machine, IsTriple, IsAutomatonOf, JoinsStates, HasStep, Reads, AcceptsFrom, Accepts}
-use Rattle.lois_meaning.specs.Kinds.{IsAtomValue, HasParts, IsSetOf, AreSame}
-use Rattle.lois_meaning.proofs.Alike.{is_atom_same, is_atom_both, atoms_same}
+use Rattle.lois_meaning.specs.Automata.{Machine, IsAutomatonOf, JoinsStates, HasStep, Reads, Accepts}
+use Rattle.lois_meaning.specs.Kinds.{IsAtomValue, HasParts, IsSetOf}
+use Rattle.lois_meaning.proofs.Alike.{is_atom_same}
 use Rattle.lois_meaning.proofs.Operations.{triple_exists}
-use Rattle.lois_registers.specs.Placed.{placements, configuration_term, configurations}
-use Rattle.lois_registers.specs.Runs.{Configuration, IsConfigurationOf, first, IsStep, Leads, Runs, AcceptsAtoms, stored_from}
+use Rattle.lois_registers.specs.Placed.{configuration_term}
+use Rattle.lois_registers.specs.Runs.{Configuration, IsConfigurationOf, first, IsStep, Leads, Runs, AcceptsAtoms}
 use Rattle.lois_registers.specs.Translation.{IsValueOf, IsStepValue, IsTranslation}
 use Rattle.lois_registers.specs.Valid.{IsRegisters, IsRegStep}
 use Rattle.lois_registers.specs.declared.automata.RegStep.{RegStep}
 use Rattle.lois_registers.specs.declared.automata.Registers.{Registers}
-use Rattle.lois_registers.proofs.Configurations.{configured, value_is, value_move, values_same, value_alike, value_to, step_like, IsAlike, alike_sym, are_like_refl}
-use Rattle.lois_registers.proofs.Contents.{filled, placed_at, length_stored}
+use Rattle.lois_registers.proofs.Configurations.{configured, value_is, value_move, value_alike, value_to, step_like, IsAlike}
+use Rattle.lois_registers.proofs.Contents.{placed_at, length_stored}
 use Rattle.lois_registers.proofs.Sets.{triple_parts}
 
 -- every configuration is a value

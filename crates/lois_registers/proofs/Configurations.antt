@@ -1,18 +1,18 @@
 -- Configurations as values: they have the same values exactly where their states are equal and their contents are alike.
-use Rattle.std.proofs.Common.{◌≡◌, ℕ, zero, suc, ◌+◌, Bool, true, false, List, [], ◌∷◌, Option, Some, None, length, map, refl, sym, ap, subst, ◌∙◌}
+use Rattle.std.proofs.Common.{◌≡◌, ℕ, zero, suc, ◌+◌, Bool, true, false, List, [], ◌∷◌, Option, Some, None, map, refl, sym, subst, ◌∙◌}
 use Rattle.std.specs.Prelude.{codes, slice_index_or, nat_eq, if◌then◌else◌}
 use Rattle.std.specs.Bool.{IsTrue}
-use Rattle.std.specs.List.{All, AllZip, list_any}
+use Rattle.std.specs.List.{AllZip, list_any}
 use Rattle.std.proofs.lemmas.List.Elements.{All-weaker}
 use Rattle.lois_base.specs.Atom.{Atom, equal}
 use Rattle.lois_base.specs.Data.{TermD, var, tag, tup, coll, terms_of}
-use Rattle.lois_base.specs.Truth.{atom_at, op_holds}
+use Rattle.lois_base.specs.Truth.{atom_at}
 use Rattle.lois_base.specs.Values.{PointValue, point, IsSame}
 use Rattle.lois_base.specs.declared.guards.Lit.{Lit}
 use Rattle.lois_base.proofs.Members.{same_refl}
 use Rattle.lois_base.proofs.Order.{equal_refl, equal_sym, equal_trans}
 use Rattle.lois_base.proofs.Truths.{op_respects}
-use Rattle.lois_meaning.specs.Kinds.{IsAtomAt, IsTagTerm, IsAtomValue, IsTagValue, HasParts, AreSame, parts_at}
+use Rattle.lois_meaning.specs.Kinds.{IsAtomAt, IsTagTerm, IsTagValue, HasParts, AreSame, parts_at}
 use Rattle.lois_meaning.proofs.Alike.{is_atom_same, is_tag_same, atoms_same, tags_same, atom_equal, parts_same, parts_both, tuples_same}
 use Rattle.lois_registers.specs.Placed.{content_term, configuration_term}
 use Rattle.lois_registers.specs.declared.automata.RegStep.{RegStep}

@@ -1,5 +1,5 @@
 -- A step's guard at a placement holds exactly where its literals do.
-use Rattle.std.proofs.Common.{◌≡◌, ℕ, zero, suc, ◌≤◌, ◌<◌, ◌+◌, Bool, true, false, List, [], ◌∷◌, Option, Some, None, length, map, refl, sym, ap, subst, ◌∙◌, arith, ◌↔◌}
+use Rattle.std.proofs.Common.{◌≡◌, ℕ, zero, suc, ◌<◌, Bool, true, false, List, [], ◌∷◌, Option, Some, None, refl, sym, subst, ◌∙◌}
 use Rattle.std.specs.Prelude.{slice_index_or, ◌&&◌, ◌||◌}
 use Rattle.std.specs.Bool.{IsTrue}
 use Rattle.std.specs.List.{All}
@@ -10,7 +10,6 @@ use Rattle.lois_base.specs.Truth.{atom_at, op_holds, lit_holds, cube_holds, hold
 use Rattle.lois_base.specs.Validity.{AdmitsLit, AdmitsCube, AdmitsConstraint, is_admitted}
 use Rattle.lois_base.specs.declared.guards.Lit.{Lit}
 use Rattle.lois_base.specs.declared.guards.Op.{Op}
-use Rattle.lois_base.proofs.Connectives.{both_true, either_true}
 use Rattle.lois_registers.specs.Placed.{placed_literal, placed_lit, with_literal, placed, guard_of, placed_guard}
 use Rattle.lois_registers.specs.Runs.{LiteralHolds}
 use Rattle.lois_registers.proofs.Contents.{at_level, filled, AreBelow}

@@ -3,7 +3,7 @@ use Rattle.std.proofs.Common.{◌≡◌, ℕ, zero, suc, ◌+◌, ◌*◌, ◌�
 use Rattle.std.specs.Prelude.{codes}
 use Rattle.std.specs.List.{All}
 use Rattle.std.proofs.lemmas.List.{append_cancel_right, length-append, length-map, map_more, map_push}
-use Rattle.std.proofs.lemmas.List.Elements.{All-nil, All-map, All-weaker, All-head, All-tail}
+use Rattle.std.proofs.lemmas.List.Elements.{All-map, All-weaker, All-head, All-tail}
 use Rattle.lois_answers.specs.TermText.{literal_text}
 use Rattle.lois_base.specs.declared.guards.Lit.{Lit}
 use Rattle.lois_registers.specs.Texts.{operand_names, linked, linked_words}

@@ -1,10 +1,9 @@
 -- What the loops over registers and placements keep.
-use Rattle.std.proofs.Common.{◌≡◌, ℕ, zero, suc, ◌+◌, ◌-◌, ◌*◌, ◌/◌, ◌%◌, ◌^◌, ◌<◌, ◌≤◌, Bool, true, false, cond, List, [], ◌∷◌, ◌++◌, Option, Some, None, length, get_or, drop, map, refl, sym, ap, subst, ◌∙◌, arith, append_assoc}
+use Rattle.std.proofs.Common.{◌≡◌, ℕ, zero, suc, ◌+◌, ◌-◌, ◌*◌, ◌/◌, ◌%◌, ◌^◌, ◌<◌, ◌≤◌, Bool, true, false, cond, List, [], ◌∷◌, ◌++◌, Option, Some, None, length, get_or, drop, sym, ap, subst, ◌∙◌, arith, append_assoc}
 use Rattle.std.specs.Prelude.{nat_eq, if◌then◌else◌}
 use Rattle.std.specs.List.{list_any}
-use Rattle.lois_base.specs.declared.guards.Lit.{Lit}
 use Rattle.lois_base.proofs.Viewed.{rest_at}
-use Rattle.lois_registers.specs.Placed.{full, contents_from, placed, placed_lit, with_literal, joined_literals}
+use Rattle.lois_registers.specs.Placed.{full, contents_from}
 use Rattle.lois_registers.specs.Runs.{stored_from}
 
 full_push : (os : List (Option ℕ)) (o : Option ℕ) → full (os ++ o ∷ []) ≡ full os + full (o ∷ [])

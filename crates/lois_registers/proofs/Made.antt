@@ -1,13 +1,13 @@
 -- What is made of wanted comprehensions: it has their members, and is as sound.
-use Rattle.std.proofs.Common.{◌≡◌, ℕ, zero, suc, ◌+◌, ◌≤◌, ◌<◌, Bool, true, false, List, [], ◌∷◌, ◌++◌, Option, length, get_or, take, max, refl, sym, ap, subst, ◌∙◌, ◌⊎◌, inl, inr, arith, append_assoc, append-nil}
+use Rattle.std.proofs.Common.{◌≡◌, ℕ, ◌+◌, ◌≤◌, ◌<◌, Bool, false, List, [], ◌∷◌, ◌++◌, Option, length, get_or, take, refl, sym, ap, subst, ◌∙◌, ◌⊎◌, inl, inr, arith, append_assoc, append-nil}
 use Rattle.std.specs.Bool.{IsTrue}
 use Rattle.lois_answers.specs.Sound.{CompHasTags, ItemsHaveTags}
 use Rattle.lois_base.specs.Atom.{Atom}
-use Rattle.lois_base.specs.Data.{TermD, CompD, comp, CompsD, comps_of, depth_of_comp, depth_of_comps}
+use Rattle.lois_base.specs.Data.{TermD, CompD, comp, comps_of, depth_of_comp, depth_of_comps}
 use Rattle.lois_base.specs.Fits.{CompFits, ItemsFit}
 use Rattle.lois_base.specs.Truth.{holds}
 use Rattle.lois_base.specs.Validity.{AdmitsComp, AdmitsItems, CompHasUsualWidths, ItemsHaveUsualWidths}
-use Rattle.lois_base.specs.Values.{MakesAt, MemberAt, IsExtension}
+use Rattle.lois_base.specs.Values.{MakesAt, MemberAt}
 use Rattle.lois_base.specs.Validity.{AdmitsConstraint}
 use Rattle.lois_base.specs.Fits.{ConstraintFits}
 use Rattle.lois_base.specs.declared.guards.Lit.{Lit}

@@ -1,16 +1,9 @@
 -- What is in a set of comprehensions that are listed.
-use Rattle.std.proofs.Common.{◌≡◌, ℕ, zero, suc, ◌+◌, ◌≤◌, Bool, true, false, List, [], ◌∷◌, ◌++◌, length, map, max, refl, sym, ap, subst, ◌∙◌, ◌⊎◌, inl, inr, arith, ◌↔◌}
-use Rattle.std.specs.Bool.{IsTrue}
+use Rattle.std.proofs.Common.{◌≡◌, zero, suc, List, [], ◌∷◌, ◌++◌, map, refl, sym, subst, ◌⊎◌, inl, inr, arith, ◌↔◌}
 use Rattle.std.specs.List.{Contains, flat_map}
-use Rattle.lois_answers.specs.Sound.{HasTags, ItemsHaveTags}
 use Rattle.lois_base.specs.Atom.{Atom}
-use Rattle.lois_base.specs.Data.{TermD, CompD, comp, CompsD, comps_of, coll, depth, depth_of_comps}
-use Rattle.lois_base.specs.Fits.{ConstraintFits, Fits, CompFits, ItemsFit}
-use Rattle.lois_base.specs.Truth.{holds}
-use Rattle.lois_base.specs.Validity.{AdmitsConstraint, AdmitsItems, ItemsHaveUsualWidths}
-use Rattle.lois_base.specs.Values.{MakesAt, MemberAt, IsExtension}
-use Rattle.lois_base.specs.declared.guards.Lit.{Lit}
-use Rattle.lois_registers.specs.Placed.{AreMade, AddsMade}
+use Rattle.lois_base.specs.Data.{TermD, CompD, comps_of}
+use Rattle.lois_base.specs.Values.{MakesAt, MemberAt}
 
 module _ {X : Type 0} (x : X) (xs : List X) where
   pub contains_first : Contains (x ∷ xs) x

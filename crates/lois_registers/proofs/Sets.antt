@@ -1,24 +1,22 @@
 -- What is in the sets of the translated automaton.
-use Rattle.std.proofs.Common.{◌≡◌, ℕ, zero, suc, ◌+◌, ◌≤◌, ◌<◌, Bool, true, false, List, [], ◌∷◌, ◌++◌, Option, Some, None, length, map, replicate, refl, sym, ap, subst, ◌∙◌, inl, inr, arith}
-use Rattle.std.specs.Prelude.{slice_index_or}
-use Rattle.std.specs.Bool.{IsTrue}
-use Rattle.std.specs.List.{All, Contains, AllZip}
-use Rattle.std.proofs.lemmas.List.{length-append, length-map, length-replicate, get_or_at, get_or_append_left}
+use Rattle.std.proofs.Common.{◌≡◌, ℕ, zero, suc, ◌+◌, List, [], ◌∷◌, ◌++◌, Option, Some, None, length, map, replicate, refl, sym, ap, subst, ◌∙◌, inl, inr, arith}
+use Rattle.std.specs.List.{All, Contains}
+use Rattle.std.proofs.lemmas.List.{length-append, length-map, get_or_at, get_or_append_left}
 use Rattle.lois_base.specs.Atom.{Atom}
-use Rattle.lois_base.specs.Data.{TermD, var, coll, CompD, comp, comps_of, more, no_comps}
-use Rattle.lois_base.specs.Truth.{atom_at, holds}
-use Rattle.lois_base.specs.Values.{PointValue, point, IsSame, IsIn, IsMember, MemberAt, MakesAt, IsExtension}
+use Rattle.lois_base.specs.Data.{TermD, var, coll, comp, comps_of}
+use Rattle.lois_base.specs.Truth.{atom_at}
+use Rattle.lois_base.specs.Values.{PointValue, point, IsSame, IsIn, MakesAt}
 use Rattle.lois_base.proofs.Members.{same_refl, same_sym, same_trans}
 use Rattle.lois_base.proofs.Order.{equal_refl}
 use Rattle.lois_meaning.specs.Automata.{IsTriple}
 use Rattle.lois_meaning.specs.Kinds.{IsAtomValue, HasParts, AreSame}
 use Rattle.lois_meaning.proofs.Alike.{is_atom_same, atoms_same, parts_same, parts_both, tuples_same}
-use Rattle.lois_registers.specs.Placed.{full, placements, configuration_comp, configuration_term, configurations, content_term, step_comp, step_comps, step_item, placed_guard, triple_term}
+use Rattle.lois_registers.specs.Placed.{full, placements, configuration_comp, configuration_term, configurations, step_comp, step_comps, step_item}
 use Rattle.lois_registers.specs.Runs.{Configuration, LiteralHolds, IsStep, stored_from}
 use Rattle.lois_registers.specs.Translation.{IsValueOf}
 use Rattle.lois_registers.specs.declared.automata.RegStep.{RegStep}
 use Rattle.lois_registers.proofs.Configurations.{configured, value_is, value_move, values_same, are_like_refl, AreLike}
-use Rattle.lois_registers.proofs.Contents.{filled, at_level, AreBelow, IsPlaced, placed_at, IsPlace, place_is, filled_stored}
+use Rattle.lois_registers.proofs.Contents.{filled, at_level, AreBelow, placed_at, place_is, filled_stored}
 use Rattle.lois_registers.proofs.Guards.{guard_to, guard_from}
 use Rattle.lois_registers.proofs.Members.{member_flat, flat_member, member_map, map_member}
 

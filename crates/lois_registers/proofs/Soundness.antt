@@ -1,12 +1,11 @@
 -- The sets of the translated automaton have a text: their levels, tags, widths, operators and brackets.
-use Rattle.std.proofs.Common.{◌≡◌, ℕ, zero, suc, ◌+◌, ◌≤◌, ◌<◌, ◌^◌, Bool, true, false, List, [], ◌∷◌, ◌++◌, Option, Some, None, length, map, max, replicate, refl, sym, ap, subst, ◌∙◌, arith, zero-add}
+use Rattle.std.proofs.Common.{◌≡◌, ℕ, zero, suc, ◌+◌, ◌≤◌, ◌<◌, ◌^◌, Bool, List, [], ◌∷◌, Option, Some, None, length, map, replicate, refl, sym, ap, subst, ◌∙◌, arith, zero-add}
 use Rattle.std.specs.Prelude.{codes}
-use Rattle.std.specs.Bool.{IsTrue}
 use Rattle.std.specs.List.{All, Contains}
 use Rattle.std.proofs.lemmas.List.{length-replicate}
 use Rattle.std.proofs.lemmas.List.Elements.{All-nil, All-cons, All-weaker, All-contains}
 use Rattle.lois_answers.specs.Sound.{HasTags, PartsHaveTags, CompHasTags, IsSoundTerm}
-use Rattle.lois_base.specs.Data.{TermD, var, tag, tup, coll, TermsD, no_terms, term, terms_of, CompD, comp, comps_of, depth, depth_of_parts, depth_of_comp, depth_of_comps}
+use Rattle.lois_base.specs.Data.{TermD, var, tup, coll, terms_of, CompD, comp, comps_of, depth, depth_of_parts, depth_of_comp}
 use Rattle.lois_base.specs.Fits.{Fits, PartsFit, CompFits, CubeFits, ConstraintFits}
 use Rattle.lois_base.specs.Names.{IsName}
 use Rattle.lois_base.specs.Validity.{AdmitsTerm, AdmitsParts, AdmitsComp, AdmitsCube, AdmitsConstraint, AdmitsLit, HasUsualWidths, PartsHaveUsualWidths, CompHasUsualWidths, count_of_parts}

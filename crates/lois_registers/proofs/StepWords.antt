@@ -2,7 +2,7 @@
 use Rattle.std.proofs.Common.{◌≡◌, ℕ, zero, suc, ◌+◌, ◌≤◌, ◌<◌, Bool, List, [], ◌∷◌, ◌++◌, length, map, get_or, take, drop, refl, sym, ap, subst, ◌∙◌, arith}
 use Rattle.std.specs.Prelude.{codes, Option, Some, None, not, nat_eq, ◌&&◌}
 use Rattle.std.specs.Bool.{IsTrue}
-use Rattle.std.specs.List.{All, Contains, list_all}
+use Rattle.std.specs.List.{All, list_all}
 use Rattle.std.proofs.lemmas.List.Folds.{list_all-append}
 use Rattle.std.proofs.lemmas.List.{get_or_at, length-append, drop_more, take-append-drop, map-append}
 use Rattle.std.proofs.lemmas.List.Elements.{All-nil, All-cons, All-head, All-tail, All-map, All-weaker, All-get_or, All-contains}
@@ -14,7 +14,7 @@ use Rattle.lois_base.specs.declared.guards.Op.TheVariants.{Eq, Ne, Lt}
 use Rattle.lois_base.proofs.Connectives.{both_true}
 use Rattle.lois_registers.specs.Reading.{is_clean, AreWords, AreOf, IsCutAt}
 use Rattle.lois_registers.specs.Texts.{operand_names, operand_text, digit, linked, guard_words, stored_words, step_words}
-use Rattle.lois_registers.specs.Valid.{AreIncreasing, IsLiteral, IsGuard, IsRegStep}
+use Rattle.lois_registers.specs.Valid.{AreIncreasing, IsLiteral, IsRegStep}
 use Rattle.lois_registers.specs.declared.automata.RegStep.{RegStep}
 use Rattle.lois_registers.proofs.Cuts.{clean_words, name_clean}
 use Rattle.lois_registers.proofs.Literals.{literal_is, register_text}

@@ -1,5 +1,5 @@
 -- Where reading stops: behind the lines that were read, at a line that isn't one of any register automaton with these lines.
-use Rattle.std.proofs.Common.{◌≡◌, ℕ, zero, suc, ◌+◌, ◌≤◌, ◌<◌, Bool, true, false, List, [], ◌∷◌, ◌++◌, length, map, refl, sym, ap, subst, ◌∙◌, ◌⊎◌, inl, inr, arith, append_assoc, append-nil}
+use Rattle.std.proofs.Common.{◌≡◌, ℕ, ◌+◌, ◌≤◌, Bool, true, false, List, [], ◌∷◌, ◌++◌, length, map, refl, sym, ap, subst, ◌∙◌, ◌⊎◌, inl, inr, arith, append_assoc, append-nil}
 use Rattle.std.specs.Prelude.{codes}
 use Rattle.std.specs.List.{All, Contains, flat_map}
 use Rattle.std.proofs.lemmas.List.{length-append, length-map}
@@ -7,7 +7,7 @@ use Rattle.std.proofs.lemmas.List.Elements.{All-nil, All-cons, All-contains, Con
 use Rattle.lois_base.specs.Names.{IsName}
 use Rattle.lois_registers.specs.Places.{AreGoodLines, BreaksAt, StopsIn, IsRegistersOf}
 use Rattle.lois_registers.specs.Reading.{IsLeftAt, HasNoLine}
-use Rattle.lois_registers.specs.Texts.{spelled, title_words, order_words, count_words, states_words, initial_words, final_words, step_words, end_words, head_lines, front_lines, registers_text, digit}
+use Rattle.lois_registers.specs.Texts.{spelled, title_words, order_words, count_words, states_words, initial_words, final_words, step_words, end_words, head_lines, front_lines}
 use Rattle.lois_registers.specs.Valid.{IsCount, AreStates, AreListed, IsRegStep, IsRegisters}
 use Rattle.lois_registers.specs.declared.automata.RegStep.{RegStep}
 use Rattle.lois_registers.specs.declared.automata.Registers.{Registers}

@@ -7,7 +7,7 @@ use Rattle.std.proofs.lemmas.List.Elements.{All-nil, All-cons, All-head, All-tai
 use Rattle.lois_base.specs.Names.{IsName}
 use Rattle.lois_registers.specs.Places.{AreGoodLines, BreaksAt, IsPlace, StopsIn, IsRegistersOf}
 use Rattle.lois_registers.specs.Reading.{AreWords, is_clean}
-use Rattle.lois_registers.specs.Texts.{spelled, title_words, order_words, count_words, states_words, initial_words, final_words, step_words, end_words, digit, head_lines, front_lines, registers_text}
+use Rattle.lois_registers.specs.Texts.{spelled, title_words, order_words, count_words, states_words, initial_words, final_words, step_words, end_words, digit, head_lines, front_lines}
 use Rattle.lois_registers.specs.Valid.{IsRegStep, IsRegisters}
 use Rattle.lois_registers.specs.declared.RegistersError.TheVariants.{NotRegisters}
 use Rattle.lois_registers.specs.declared.automata.RegStep.{RegStep}

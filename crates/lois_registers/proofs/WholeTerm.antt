@@ -5,7 +5,7 @@ use Rattle.std.proofs.lemmas.List.Elements.{All-contains, All-weaker}
 use Rattle.lois_answers.specs.Sound.{IsSoundTerm}
 use Rattle.lois_base.specs.Data.{TermD, var, tup, coll, terms_of, CompD, comp, comps_of}
 use Rattle.lois_base.specs.Names.{IsName}
-use Rattle.lois_base.specs.Values.{PointValue, point, IsIn}
+use Rattle.lois_base.specs.Values.{PointValue, point}
 use Rattle.lois_meaning.specs.Automata.{Machine}
 use Rattle.lois_registers.specs.Placed.{placements, configurations, configuration_term, step_comps, AreMade}
 use Rattle.lois_registers.specs.Runs.{first}

@@ -2,7 +2,7 @@
 use Rattle.std.specs.Prelude.{◌≡◌, ℕ, zero, suc, ◌+◌, ◌/◌, ◌%◌, ◌^◌, Bool, false, cond, List, [], ◌∷◌, ◌++◌, Option, Some, None, map, slice_index_or, nat_eq, codes, ◌⊎◌}
 use Rattle.std.specs.List.{flat_map}
 use Rattle.lois_base.specs.Atom.{Atom}
-use Rattle.lois_base.specs.Data.{TermD, var, tag, tup, TermsD, no_terms, term, terms_of, CompD, comp}
+use Rattle.lois_base.specs.Data.{TermD, var, tag, tup, no_terms, term, terms_of, CompD, comp}
 use Rattle.lois_base.specs.Fits.{ConstraintFits}
 use Rattle.lois_base.specs.Truth.{holds}
 use Rattle.lois_base.specs.Validity.{AdmitsConstraint}

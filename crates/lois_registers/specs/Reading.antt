@@ -1,5 +1,5 @@
 -- What is read of a text, line by line.
-use Rattle.std.specs.Prelude.{◌≡◌, ℕ, Bool, not, ◌&&◌, List, [], ◌∷◌, ◌++◌, Option, length, nat_eq, MatchOption, IsTrue}
+use Rattle.std.specs.Prelude.{◌≡◌, ℕ, Bool, not, ◌&&◌, List, ◌∷◌, ◌++◌, Option, length, nat_eq, MatchOption, IsTrue}
 use Rattle.std.specs.List.{All, list_all, slice_split, join_with_byte}
 use Rattle.lois_base.specs.Names.{IsName}
 use Rattle.lois_registers.specs.Texts.{spelled}

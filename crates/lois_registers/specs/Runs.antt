@@ -1,5 +1,5 @@
 -- What a register automaton does: configurations, steps and runs.
-use Rattle.std.specs.Prelude.{◌≡◌, ℕ, suc, ◌+◌, List, [], ◌∷◌, Option, Some, None, length, slice_index_or, nat_eq, replicate, if◌then◌else◌, IsTrue}
+use Rattle.std.specs.Prelude.{◌≡◌, ℕ, ◌+◌, List, [], ◌∷◌, Option, Some, None, length, slice_index_or, nat_eq, replicate, if◌then◌else◌, IsTrue}
 use Rattle.std.specs.List.{All, Contains, list_any}
 use Rattle.lois_base.specs.Atom.{Atom}
 use Rattle.lois_base.specs.Truth.{op_holds}

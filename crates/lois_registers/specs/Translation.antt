@@ -1,9 +1,9 @@
 -- The orbit-finite automaton of a register automaton.
-use Rattle.std.specs.Prelude.{ℕ, List, [], ◌∷◌, Option, Some, None, codes, ◌↔◌}
+use Rattle.std.specs.Prelude.{List, [], ◌∷◌, Option, Some, None, codes, ◌↔◌}
 use Rattle.std.specs.List.{Contains, AllZip}
 use Rattle.lois_base.specs.Atom.{Atom}
 use Rattle.lois_base.specs.Data.{TermD}
-use Rattle.lois_base.specs.Values.{PointValue, point, IsIn}
+use Rattle.lois_base.specs.Values.{PointValue, point}
 use Rattle.lois_meaning.specs.Automata.{Machine, IsAutomatonOf, IsTriple, Accepts}
 use Rattle.lois_meaning.specs.Kinds.{IsAtomValue, IsTagValue, HasParts, IsSetOf}
 use Rattle.lois_registers.specs.Runs.{Configuration, IsConfigurationOf, first, Leads, AcceptsAtoms}

@@ -1,5 +1,5 @@
 -- Which register automata have a text.
-use Rattle.std.specs.Prelude.{ℕ, ◌<◌, ◌≤◌, Bool, List, [], ◌∷◌, length, IsTrue}
+use Rattle.std.specs.Prelude.{ℕ, ◌<◌, ◌≤◌, Bool, List, [], ◌∷◌, length}
 use Rattle.std.specs.List.{All, Contains}
 use Rattle.lois_answers.specs.Sound.{AreDistinct}
 use Rattle.lois_base.specs.Names.{IsName}

@@ -1,5 +1,5 @@
-use Rattle.std.proofs.Common.{map, refl}
-use Rattle.lois_registers.proofs.Cuts.{cut_line, no_line}
+use Rattle.std.proofs.Common.{map}
+use Rattle.lois_registers.proofs.Cuts.{cut_line}
 use Rattle.lois_registers.proofs.lines.line_words.Goals as goal
 
 pub returns-clause-read : goal.returns-clause-read

@@ -1,4 +1,4 @@
-use Rattle.std.proofs.Common.{◌≡◌, ◌^◌, map, ap, ◌∙◌}
+use Rattle.std.proofs.Common.{map, ap, ◌∙◌}
 use Rattle.lois_registers.specs.Placed.{placements, contents_from, numbers}
 use Rattle.lois_registers.proofs.Loops.{patterns_end}
 use Rattle.lois_registers.proofs.placements.all_placements.Goals as goal

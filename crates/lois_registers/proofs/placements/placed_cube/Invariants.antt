@@ -1,4 +1,4 @@
-use Rattle.std.proofs.Common.{◌≡◌, ◌++◌, drop}
+use Rattle.std.proofs.Common.{◌≡◌, drop}
 use Rattle.lois_registers.specs.Placed.{placed, joined_literals}
 use Rattle.lois_registers.proofs.placements.placed_cube.Given as goal
 

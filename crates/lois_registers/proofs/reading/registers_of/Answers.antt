@@ -1,4 +1,4 @@
-use Rattle.std.proofs.Common.{◌≡◌, true, length, ◌⊎◌, refl, sym, subst}
+use Rattle.std.proofs.Common.{◌≡◌, true, length, ◌⊎◌, refl, subst}
 use Rattle.std.specs.List.{All, Contains}
 use Rattle.lois_registers.specs.Reading.{IsLeftAt, HasNoLine}
 use Rattle.lois_registers.specs.Texts.{spelled, initial_words, final_words, step_words, end_words}

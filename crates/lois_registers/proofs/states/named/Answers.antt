@@ -1,10 +1,9 @@
-use Rattle.std.proofs.Common.{◌≡◌, ◌∷◌, ◌++◌, List, ℕ, true, drop, map, refl, sym, subst, ap, ◌∙◌}
+use Rattle.std.proofs.Common.{◌≡◌, ◌∷◌, ◌++◌, true, map, refl, sym, subst, ap, ◌∙◌}
 use Rattle.std.specs.List.{All}
 use Rattle.std.proofs.lemmas.List.Elements.{All-map}
 use Rattle.lois_base.specs.Names.{IsName}
-use Rattle.lois_registers.specs.Reading.{AreWords, HasNames, IsLeftAt}
 use Rattle.lois_registers.specs.Texts.{spelled}
-use Rattle.lois_registers.proofs.Cuts.{named_only, tails, left_weaker, err_left, behind_first, all_behind, with_first}
+use Rattle.lois_registers.proofs.Cuts.{named_only, left_weaker, err_left, behind_first, all_behind, with_first}
 use Rattle.lois_registers.proofs.states.named.Goals as goal
 use Rattle.lois_registers.proofs.states.named.Goals.{then-not-begins-via-then-not-begins, then-not-begins-via-else-not-begins+then-not-are_names}
 

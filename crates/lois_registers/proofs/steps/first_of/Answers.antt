@@ -1,4 +1,4 @@
-use Rattle.std.proofs.Common.{map, take, drop, subst, arith, ◌≡◌}
+use Rattle.std.proofs.Common.{subst, arith, ◌≡◌}
 use Rattle.std.specs.List.{All}
 use Rattle.std.proofs.lemmas.List.{take_all}
 use Rattle.lois_registers.proofs.StepWords.{cut_at, no_cut}

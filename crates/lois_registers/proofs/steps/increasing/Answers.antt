@@ -1,4 +1,4 @@
-use Rattle.std.proofs.Common.{◌≡◌, ℕ, ◌+◌, ◌<◌, ◌≤◌, [], ◌∷◌, ◌++◌, take, map, refl, sym, subst, ap, ◌∙◌, arith, ◌↔◌}
+use Rattle.std.proofs.Common.{◌≡◌, ◌+◌, ◌<◌, ◌≤◌, [], ◌∷◌, ◌++◌, take, map, sym, subst, arith, ◌↔◌}
 use Rattle.lois_registers.specs.Texts.{digit}
 use Rattle.lois_registers.specs.Valid.{AreIncreasing}
 use Rattle.lois_registers.proofs.Increasing.{increasing_more, register_read, register_at, registers_so_far}

@@ -1,10 +1,10 @@
-use Rattle.std.proofs.Common.{◌≡◌, ◌+◌, ◌<◌, ◌%◌, true, [], ◌∷◌, ◌++◌, take, map, length, refl, sym, subst, ap, ◌∙◌, arith}
+use Rattle.std.proofs.Common.{◌≡◌, ◌+◌, ◌<◌, ◌%◌, true, [], ◌∷◌, ◌++◌, take, map, length, sym, subst, ◌∙◌, arith}
 use Rattle.std.specs.Prelude.{codes}
 use Rattle.std.specs.List.{All}
 use Rattle.std.proofs.lemmas.List.{length-map, get_or-map, take_all}
 use Rattle.std.proofs.lemmas.List.Elements.{All-push}
 use Rattle.lois_answers.specs.TermText.{literal_text}
-use Rattle.lois_registers.specs.Texts.{operand_names, linked_words}
+use Rattle.lois_registers.specs.Texts.{operand_names}
 use Rattle.lois_registers.specs.Valid.{IsLiteral}
 use Rattle.lois_registers.proofs.Linked.{anded, word_spelled, word_and, words_odd, literals_read, and_read, literal_read}
 use Rattle.lois_registers.proofs.steps.literals.Goals as goal
