@@ -9,3 +9,10 @@ pub mod Automaton
 pub mod Soundness
 pub mod WholeTerm
 pub mod Answered
+pub mod Cuts
+pub mod Stops
+pub mod Literals
+pub mod Linked
+pub mod Increasing
+pub mod StepWords
+pub mod Unique

@@ -3,4 +3,5 @@ pub mod Valid
 pub mod Texts
 pub mod Translation
 pub mod Placed
+pub mod Reading
 pub mod Places

@@ -4,8 +4,10 @@ use Rattle.std.specs.List.{flat_map}
 use Rattle.lois_registers.specs.Texts.{front_lines, spelled, end_words, registers_text}
 use Rattle.lois_registers.specs.Valid.{IsRegisters}
 use Rattle.lois_registers.specs.declared.RegistersError.{RegistersError}
-use Rattle.lois_registers.specs.declared.RegistersError.TheVariants.{NotRegisters, NoMemory}
+use Rattle.lois_registers.specs.declared.RegistersError.TheVariants.{NotRegisters, NoMemory as OutOfMemory}
 use Rattle.lois_registers.specs.declared.automata.Registers.{Registers}
+use Rattle.lois_registers.specs.declared.halt.Halt.{Halt}
+use Rattle.lois_registers.specs.declared.halt.Halt.TheVariants.{Left, NoMemory}
 
 -- the text is that of r
 pub record IsRegistersOf (text : List ℕ) (r : Registers) : Type 0 where
@@ -29,9 +31,19 @@ pub record BreaksAt (text : List ℕ) (lines : List (List (List ℕ))) (rest : L
 abbrev pub IsPlace : List ℕ → RegistersError → Type 0
 IsPlace text (NotRegisters at) =
     (lines : List (List (List ℕ))) × (rest : List ℕ) × BreaksAt text lines rest × (at ≡ length (flat_map spelled lines))
-IsPlace text NoMemory = Unit {0}
+IsPlace text OutOfMemory = Unit {0}
+
+-- no other offset is
+abbrev pub IsOnlyPlace : List ℕ → RegistersError → Type 0
+IsOnlyPlace text (NotRegisters at) = (other : ℕ) → IsPlace text (NotRegisters other) → other ≡ at
+IsOnlyPlace text OutOfMemory = Unit {0}
 
 -- no register automaton has the text
 abbrev pub HasNone : List ℕ → RegistersError → Type 0
 HasNone text (NotRegisters at) = (r : Registers) → IsRegistersOf text r → ⊥
-HasNone text NoMemory = Unit {0}
+HasNone text OutOfMemory = Unit {0}
+
+-- the same by how many bytes are left
+abbrev pub StopsIn : List ℕ → Halt → Type 0
+StopsIn text (Left n) = (lines : List (List (List ℕ))) × (rest : List ℕ) × BreaksAt text lines rest × (n ≡ length rest)
+StopsIn text NoMemory = Unit {0}

@@ -5,11 +5,18 @@ ghost use Rattle.lois_registers.specs.declared.RegistersError.TheVariants.{NoMem
 ghost use Rattle.std.specs.Prelude.{◌≡◌};
 
 mod automata;
+mod fixed;
+mod halt;
+mod lines;
 mod placements;
+mod reading;
 mod results;
+mod states;
+mod steps;
 mod translating;
 
 pub use automata::{RegStep, RegSteps, Registers, Stores};
+pub use reading::read_registers;
 pub use results::translated;
 use thiserror::Error;
 pub use translating::translate;
