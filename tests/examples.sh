@@ -1,6 +1,7 @@
 #!/usr/bin/env bash
 # Runs the scripts of examples/ and those that stand in docs/LANGUAGE.md, and compares what the program answers with what is
 # written there: for examples/ byte for byte, for the manual the lines behind `>`, each as a whole and in their order.
+# What is asked of an example's answer stands beside it, and so does what becomes of a register automaton.
 # It runs ./lois, or the program that LOIS names (LOIS=path tests/examples.sh), and ends with 0 where nothing differs.
 # A change of the program may spell the same values in another way. Then `./lois run < NAME.lois > NAME.out` makes the new text,
 # and tests/against_reference.sh judges what the program answers to examples/.
@@ -29,10 +30,30 @@ try_example() {
   scripts=$((scripts + 1))
 }
 
+# A script may name words that its answer is asked with, and what they give.
+try_asked() {
+  local script=$1 line
+  sed -n 's/^# Its answer, asked with `\(.*\)`, gives \(.*\)\.$/\2 \1/p' "$script" >"$work/asked"
+  while IFS= read -r line; do
+    try_words "${line#* }" "${script%.lois}.out" "examples/${line%% *}"
+  done <"$work/asked"
+}
+
+# The words, about a text, give what stands in a file.
+try_words() {
+  local words=$1 text=$2 given=$3
+  # shellcheck disable=SC2086
+  "$lois" $words <"$text" >"$work/answer"
+  [ $? -eq "$(status_of "$(cat "$given")")" ] || complain "$words ends with another status: $text"
+  cmp -s "$work/answer" "$given" || complain "$words of $text doesn't give $given"
+  scripts=$((scripts + 1))
+}
+
 # The status that lines of an answer go with.
 status_of() {
   case $1 in
     *'refused'*) echo 5 ;;
+    *'differ in case'*) echo 10 ;;
     *': assertion failed'*) echo 1 ;;
     *': turn limit'*) echo 3 ;;
     *': depth limit'*) echo 4 ;;
@@ -49,7 +70,9 @@ stand_in() {
 
 try_shown() {
   local command=$1 script=$2 shown=$3
-  printf '%s' "$script" | "$lois" "$command" >"$work/answer"
+  # the command may be several words
+  # shellcheck disable=SC2086
+  printf '%s' "$script" | "$lois" $command >"$work/answer"
   [ $? -eq "$(status_of "$shown")" ] || complain "the manual's script ends with another status: $script"
   printf '%s' "$shown" >"$work/shown"
   stand_in "$work/shown" "$work/answer" || complain "the manual's script has another answer: $script"
@@ -80,6 +103,10 @@ try_manual() {
 printf 'atoms order;' | "$lois" run >/dev/null || exit 70
 for script in examples/*.lois; do
   try_example "$script"
+  try_asked "$script"
+done
+for text in examples/*.registers; do
+  try_words registers "$text" "$text.out"
 done
 try_manual docs/LANGUAGE.md
 echo "examples: $scripts scripts, $failed complaints"

@@ -33,7 +33,7 @@ use Rattle.lois_run.specs.Run.{IsRunOf}
 use Rattle.lois_run.specs.declared.outcomes.Outcome.{Outcome}
 use Rattle.lois_run.specs.declared.outcomes.Outcome.TheVariants.{Completed, Failed, Refused}
 use Rattle.lois_run.specs.declared.outcomes.Refusal.{Refusal}
-use Rattle.lois_run.specs.declared.outcomes.Refusal.TheVariants.{TooLong, Lexical, Syntax, Scope, NotResults}
+use Rattle.lois_run.specs.declared.outcomes.Refusal.TheVariants.{Lexical, Syntax, Scope, NotResults}
 use Rattle.lois_run.specs.declared.reading.Read.TheVariants.{Refused as NotRead}
 use Rattle.lois_run.specs.declared.words.Command.TheVariants.{Run, Check, Reread}
 
@@ -81,21 +81,19 @@ module _ (text : List ℕ) where
   }
 
   refused_run : (kind : Option Kind) (r : Refusal) → IsRefusedAs text r → SpellsNone text → AnswersText (Run kind) text (Refused r)
-  refused_run kind TooLong why none = absurd why
-  refused_run kind (NotResults p) why none = absurd why
   refused_run kind (Lexical n p) why none = record { cause = why; promise = refused_headline (Lexical n p) none; kind = tt }
   refused_run kind (Syntax n p) why none = record { cause = why; promise = refused_headline (Syntax n p) none; kind = tt }
   refused_run kind (Scope n p) why none = record { cause = why; promise = refused_headline (Scope n p) none; kind = tt }
+  refused_run kind _ why none = absurd why
 
   pub refused_is_run : (r : Refusal) → IsReadOf text (NotRead r) → (kind : Option Kind) → AnswersText (Run kind) text (Refused r)
   refused_is_run r (why, none, number) kind = refused_run kind r why none
 
   refused_check : (r : Refusal) → IsRefusedAs text r → SpellsNone text → AnswersText Check text (Refused r)
-  refused_check TooLong why none = absurd why
-  refused_check (NotResults p) why none = absurd why
   refused_check (Lexical n p) why none = record { cause = why; promise = λ l s h w. absurd (none s h w); kind = tt }
   refused_check (Syntax n p) why none = record { cause = why; promise = λ l s h w. absurd (none s h w); kind = tt }
   refused_check (Scope n p) why none = record { cause = why; promise = λ l s h w. absurd (none s h w); kind = tt }
+  refused_check _ why none = absurd why
 
   pub refused_is_checked : (r : Refusal) → IsReadOf text (NotRead r) → AnswersText Check text (Refused r)
   refused_is_checked r (why, none, number) = refused_check r why none

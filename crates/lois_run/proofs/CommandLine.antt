@@ -18,9 +18,9 @@ use Rattle.clap.proofs.FaultLemmas.{stopped_fault}
 use Rattle.clap.proofs.OnLiterals.{clap_on_literals}
 use Rattle.lois_script.proofs.Lookup.{turned}
 use Rattle.lois_run.specs.CommandLine.{is_dashed, is_option, seen_behind, are_expected, program, command_found}
-use Rattle.lois_run.specs.Words.{command_alone, command_of, command_with_number, kind_chosen, number_first, number_last, number_named, option_named}
+use Rattle.lois_run.specs.Words.{command_alone, command_of, command_with_names, command_with_number, free_name, kind_chosen, number_first, number_last, number_named, one_name, option_named, two_names}
 use Rattle.lois_run.specs.declared.words.Command.{Command}
-use Rattle.lois_run.specs.declared.words.Command.TheVariants.{Run, Check, Reread}
+use Rattle.lois_run.specs.declared.words.Command.TheVariants.{Run, Check, Reread, Registers, Census}
 
 abbrev pub HasFault : Kinds → Type 0
 HasFault kinds = kinds ≡ [] → ⊥
@@ -487,6 +487,151 @@ reread_verdict [] h = takes refl refl
 reread_verdict (o ∷ more) h =
     refuses (leaf_fails (codes "reread") (slice_index_or subs 3 top) (fault_is (codes "reread") (slice_index_or subs 3 top) refl refl refl) refl o more h) refl
 
+registers_verdict : (rest : List Text) → are_expected false rest ≡ true → Verdict (codes "registers" ∷ rest)
+unfolding clap_on_literals
+registers_verdict [] h = takes refl refl
+registers_verdict (o ∷ more) h =
+    refuses (leaf_fails (codes "registers") (slice_index_or subs 5 top) (fault_is (codes "registers") (slice_index_or subs 5 top) refl refl refl) refl o more h) refl
+
+-- ---- `equal` and `census`, which take names alone
+
+dashed_free : (w : Text) → is_dashed w ≡ true → free_name w ≡ None
+dashed_free [] d = refl
+dashed_free (b ∷ bs) d = let hyphen : b ≡ 45 = grind (arith, nat_tests) in rw hyphen refl
+
+no_second : (first : Option Text) → command_with_names first None ≡ None
+no_second None = refl
+no_second (Some n) = refl
+
+-- the option, which neither takes
+abbrev RefusesOption : Shape → Type 0
+RefusesOption s = (position : ℕ) (h : Held) (o : Text) → (o ≡ codes "--decider") ⊎ ((v : List ℕ) × (o ≡ codes "--decider=" ++ v)) → HasFault (turn_fault s [] (walk_at position h) o)
+
+module _ (s : Shape) (unknown : RefusesOption s) where
+  option_at : (position : ℕ) (h : Held) (o : Text) (more : List Text) → is_dashed o ≡ true → are_expected false (o ∷ more) ≡ true → HasFault (walk_fault s [] (walk_at position h) (o ∷ more))
+  option_at position h o more d x = walk_fails s [] (walk_at position h) o more (unknown position h o (option_split o (dashed_next false o more d x).1))
+
+  -- all names were there, and one more word
+  one_more : (position : ℕ) (h : Held) (o : Text) (more : List Text) → arg_by_index s.rules position ≡ None → are_expected false (o ∷ more) ≡ true → HasFault (walk_fault s [] (walk_at position h) (o ∷ more))
+  one_more position h o more nowhere x = go (is_dashed o) refl
+    where
+      go : (b : Bool) → is_dashed o ≡ b → HasFault (walk_fault s [] (walk_at position h) (o ∷ more))
+      go true d = option_at position h o more d x
+      go false d = stray_at s position h o more nowhere d
+
+abbrev comparing : Shape
+comparing = slice_index_or subs 4 top
+
+equal_fails : (rest : List Text) → HasFault (walk_fault comparing [] (walk_from nothing_held) rest) → HasFault (fault_of program (codes "equal" ∷ rest))
+equal_fails rest h = sub_fails (codes "equal") comparing rest (fault_is (codes "equal") comparing refl refl refl rest) h
+
+equal_unknown : RefusesOption comparing
+equal_unknown position h o (inl e) = rw e (λ f. cc f)
+equal_unknown position h o (inr (v, e)) = rw e (λ f. cc f)
+
+first_named : (h : Held) (k : Text) → is_dashed k ≡ false → walked comparing.rules [] (walk_from h) k ≡ walk_at 2 (walked comparing.rules [] (walk_from h) k).held
+unfolding walked
+first_named h k d = rw (plain_apart k (45 ∷ []) d, plain_long k d, plain_short k d) refl
+
+second_named : (h : Held) (k : Text) → is_dashed k ≡ false → walked comparing.rules [] (walk_at 2 h) k ≡ walk_at 3 (walked comparing.rules [] (walk_at 2 h) k).held
+unfolding walked
+second_named h k d = rw (plain_apart k (45 ∷ []) d, plain_long k d, plain_short k d) refl
+
+behind_first : (k : Text) (rest : List Text) → is_dashed k ≡ false → ((after : Held) → HasFault (walk_fault comparing [] (walk_at 2 after) rest)) → HasFault (fault_of program (codes "equal" ∷ k ∷ rest))
+behind_first k rest d fails = equal_fails (k ∷ rest) (later comparing (walk_from nothing_held) _ k rest (first_named nothing_held k d) (fails _))
+
+behind_second : (k l : Text) (rest : List Text) → is_dashed k ≡ false → is_dashed l ≡ false → ((after : Held) → HasFault (walk_fault comparing [] (walk_at 3 after) rest)) → HasFault (fault_of program (codes "equal" ∷ k ∷ l ∷ rest))
+behind_second k l rest d e fails = behind_first k (l ∷ rest) d (λ after. later comparing (walk_at 2 after) _ l rest (second_named after l e) (fails _))
+
+equal_alone : Verdict (codes "equal" ∷ [])
+unfolding clap_on_literals
+equal_alone = takes refl refl
+
+equal_one : (k : Text) → is_dashed k ≡ false → Verdict (codes "equal" ∷ k ∷ [])
+unfolding clap_on_literals
+equal_one k d =
+    let found : command_found (subcommand_of program (codes "equal" ∷ k ∷ [])) ≡ command_with_names (free_name k) None = rw (plain_apart k (45 ∷ []) d, plain_long k d, plain_short k d) refl in
+    takes (rw (plain_apart k (45 ∷ []) d, plain_long k d, plain_short k d) refl) (found ∙ no_second (free_name k))
+
+equal_two : (k l : Text) → is_dashed k ≡ false → is_dashed l ≡ false → Verdict (codes "equal" ∷ k ∷ l ∷ [])
+unfolding clap_on_literals
+equal_two k l d e = takes (rw (plain_apart k (45 ∷ []) d, plain_long k d, plain_short k d, plain_apart l (45 ∷ []) e, plain_long l e, plain_short l e) refl)
+    (rw (plain_apart k (45 ∷ []) d, plain_long k d, plain_short k d, plain_apart l (45 ∷ []) e, plain_long l e, plain_short l e) refl)
+
+-- the first word behind `equal` starts with a hyphen
+equal_dashed : (o : Text) (more : List Text) → is_dashed o ≡ true → are_expected false (o ∷ more) ≡ true → Verdict (codes "equal" ∷ o ∷ more)
+equal_dashed o more d h = refuses (equal_fails (o ∷ more) (option_at comparing equal_unknown 1 nothing_held o more d h)) (none more)
+  where
+    none : (l : List Text) → command_of (codes "equal" ∷ o ∷ l) ≡ None
+    none [] = refl
+    none (k ∷ []) = ap (λ (n : Option Text). command_with_names n (free_name k)) (dashed_free o d)
+    none (k ∷ x ∷ l) = refl
+
+equal_behind : (k o : Text) (more : List Text) → is_dashed k ≡ false → are_expected false (o ∷ more) ≡ true → Verdict (codes "equal" ∷ k ∷ o ∷ more)
+equal_behind k o more d h = go (is_dashed o) refl
+  where
+    none : (l : List Text) → is_dashed o ≡ true → command_of (codes "equal" ∷ k ∷ o ∷ l) ≡ None
+    none [] e = ap (command_with_names (free_name k)) (dashed_free o e) ∙ no_second (free_name k)
+    none (x ∷ l) e = refl
+
+    plain : (l : List Text) → is_dashed o ≡ false → are_expected false l ≡ true → Verdict (codes "equal" ∷ k ∷ o ∷ l)
+    plain [] e x = equal_two k o d e
+    plain (y ∷ l) e x = refuses (behind_second k o (y ∷ l) d e (λ after. one_more comparing equal_unknown 3 after y l refl x)) refl
+
+    go : (b : Bool) → is_dashed o ≡ b → Verdict (codes "equal" ∷ k ∷ o ∷ more)
+    go true e = refuses (behind_first k (o ∷ more) d (λ after. option_at comparing equal_unknown 2 after o more e h)) (none more e)
+    go false e = plain more e (plain_next false o more e h)
+
+equal_verdict : (rest : List Text) → are_expected false rest ≡ true → Verdict (codes "equal" ∷ rest)
+equal_verdict [] h = equal_alone
+equal_verdict (o ∷ more) h = go (is_dashed o) refl
+  where
+    plain : (l : List Text) → is_dashed o ≡ false → are_expected false l ≡ true → Verdict (codes "equal" ∷ o ∷ l)
+    plain [] d x = equal_one o d
+    plain (k ∷ l) d x = equal_behind o k l d x
+
+    go : (b : Bool) → is_dashed o ≡ b → Verdict (codes "equal" ∷ o ∷ more)
+    go true d = equal_dashed o more d h
+    go false d = plain more d (plain_next false o more d h)
+
+abbrev counting : Shape
+counting = slice_index_or subs 6 top
+
+census_fails : (rest : List Text) → HasFault (walk_fault counting [] (walk_from nothing_held) rest) → HasFault (fault_of program (codes "census" ∷ rest))
+census_fails rest h = sub_fails (codes "census") counting rest (fault_is (codes "census") counting refl refl refl rest) h
+
+census_unknown : RefusesOption counting
+census_unknown position h o (inl e) = rw e (λ f. cc f)
+census_unknown position h o (inr (v, e)) = rw e (λ f. cc f)
+
+only_named : (h : Held) (k : Text) → is_dashed k ≡ false → walked counting.rules [] (walk_from h) k ≡ walk_at 2 (walked counting.rules [] (walk_from h) k).held
+unfolding walked
+only_named h k d = rw (plain_apart k (45 ∷ []) d, plain_long k d, plain_short k d) refl
+
+census_alone : Verdict (codes "census" ∷ [])
+unfolding clap_on_literals
+census_alone = takes refl refl
+
+census_one : (k : Text) → is_dashed k ≡ false → Verdict (codes "census" ∷ k ∷ [])
+unfolding clap_on_literals
+census_one k d = takes (rw (plain_apart k (45 ∷ []) d, plain_long k d, plain_short k d) refl) (rw (plain_apart k (45 ∷ []) d, plain_long k d, plain_short k d) refl)
+
+census_verdict : (rest : List Text) → are_expected false rest ≡ true → Verdict (codes "census" ∷ rest)
+census_verdict [] h = census_alone
+census_verdict (o ∷ more) h = go (is_dashed o) refl
+  where
+    none : (l : List Text) → is_dashed o ≡ true → command_of (codes "census" ∷ o ∷ l) ≡ None
+    none [] d = ap (option_map (λ n. Census n)) (dashed_free o d)
+    none (x ∷ l) d = refl
+
+    plain : (l : List Text) → is_dashed o ≡ false → are_expected false l ≡ true → Verdict (codes "census" ∷ o ∷ l)
+    plain [] d x = census_one o d
+    plain (y ∷ l) d x = refuses (census_fails (o ∷ y ∷ l) (later counting (walk_from nothing_held) _ o (y ∷ l) (only_named nothing_held o d) (one_more counting census_unknown 2 _ y l refl x))) refl
+
+    go : (b : Bool) → is_dashed o ≡ b → Verdict (codes "census" ∷ o ∷ more)
+    go true d = refuses (census_fails (o ∷ more) (option_at counting census_unknown 1 nothing_held o more d h)) (none more d)
+    go false d = plain more d (plain_next false o more d h)
+
 -- what clap makes of words that it is asked about
 pub verdict : (ws : List Text) → are_expected false ws ≡ true → Verdict ws
 verdict [] h = refuses nothing_fails refl
@@ -498,15 +643,22 @@ verdict (w ∷ ws) h = go (bytes_eq w (codes "run")) (bytes_eq w (codes "make"))
     behind : (n : Text) → bytes_eq w n ≡ true → is_dashed n ≡ false → are_expected false ws ≡ true
     behind n e d = plain_next false w ws (ap is_dashed ((bytes_eq-Decides w n).0 e) ∙ d) h
 
+    other : bytes_eq w (codes "run") ≡ false → bytes_eq w (codes "make") ≡ false → bytes_eq w (codes "check") ≡ false → bytes_eq w (codes "reread") ≡ false
+        → (q g k : Bool) → bytes_eq w (codes "equal") ≡ q → bytes_eq w (codes "registers") ≡ g → bytes_eq w (codes "census") ≡ k → Verdict (w ∷ ws)
+    other e f x i true g k j l m = named (codes "equal") j (equal_verdict ws (behind (codes "equal") j refl))
+    other e f x i false true k j l m = named (codes "registers") l (registers_verdict ws (behind (codes "registers") l refl))
+    other e f x i false false true j l m = named (codes "census") m (census_verdict ws (behind (codes "census") m refl))
+    other e f x i false false false j l m =
+        let unmet : subcommand_met names idle w ≡ None = rw (turned (codes "run") w, turned (codes "make") w, turned (codes "check") w, turned (codes "reread") w, turned (codes "equal") w, turned (codes "registers") w, turned (codes "census") w, e, f, x, i, j, l, m) refl in
+        let none : command_of (w ∷ ws) ≡ None = rw (e, f, x, i, j, l, m) refl in
+        refuses (other_fails w ws unmet h) none
+
     go : (r m c a : Bool) → bytes_eq w (codes "run") ≡ r → bytes_eq w (codes "make") ≡ m → bytes_eq w (codes "check") ≡ c → bytes_eq w (codes "reread") ≡ a → Verdict (w ∷ ws)
     go true m c a e f g i = named (codes "run") e (run_verdict ws (behind (codes "run") e refl))
     go false true c a e f g i = named (codes "make") f (make_verdict ws (behind (codes "make") f refl))
     go false false true a e f g i = named (codes "check") g (check_verdict ws (behind (codes "check") g refl))
     go false false false true e f g i = named (codes "reread") i (reread_verdict ws (behind (codes "reread") i refl))
-    go false false false false e f g i =
-        let unmet : subcommand_met names idle w ≡ None = rw (turned (codes "run") w, turned (codes "make") w, turned (codes "check") w, turned (codes "reread") w, e, f, g, i) refl in
-        let none : command_of (w ∷ ws) ≡ None = rw (e, f, g, i) refl in
-        refuses (other_fails w ws unmet h) none
+    go false false false false e f g i = other e f g i (bytes_eq w (codes "equal")) (bytes_eq w (codes "registers")) (bytes_eq w (codes "census")) refl refl refl
 
 -- ---- words that clap isn't asked about ask for nothing
 
@@ -590,6 +742,26 @@ alone_unexpected : (command : Command) (ws : List Text) → are_expected false w
 alone_unexpected command [] h = cc h
 alone_unexpected command (x ∷ l) h = refl
 
+two_unexpected : (ws : List Text) → are_expected false ws ≡ false → two_names ws ≡ None
+two_unexpected [] h = refl
+two_unexpected (k ∷ []) h = refl
+two_unexpected (k ∷ l ∷ []) h = go (is_dashed k) (is_dashed l) refl refl
+  where
+    go : (a b : Bool) → is_dashed k ≡ a → is_dashed l ≡ b → two_names (k ∷ l ∷ []) ≡ None
+    go true b d e = ap (λ (n : Option Text). command_with_names n (free_name l)) (dashed_free k d)
+    go false true d e = ap (command_with_names (free_name k)) (dashed_free l e) ∙ no_second (free_name k)
+    go false false d e = cc (rw (d, e) at h)
+two_unexpected (k ∷ l ∷ x ∷ more) h = refl
+
+one_unexpected : (ws : List Text) → are_expected false ws ≡ false → one_name ws ≡ None
+one_unexpected [] h = refl
+one_unexpected (k ∷ []) h = go (is_dashed k) refl
+  where
+    go : (b : Bool) → is_dashed k ≡ b → one_name (k ∷ []) ≡ None
+    go true d = ap (option_map (λ n. Census n)) (dashed_free k d)
+    go false d = cc (rw d at h)
+one_unexpected (k ∷ x ∷ more) h = refl
+
 pub unexpected : (ws : List Text) → are_expected false ws ≡ false → command_of ws ≡ None
 unexpected [] h = refl
 unexpected (w ∷ ws) h = go (bytes_eq w (codes "run")) (bytes_eq w (codes "make")) (bytes_eq w (codes "check")) (bytes_eq w (codes "reread")) refl refl refl refl
@@ -597,12 +769,19 @@ unexpected (w ∷ ws) h = go (bytes_eq w (codes "run")) (bytes_eq w (codes "make
     behind : (n : Text) → bytes_eq w n ≡ true → is_dashed n ≡ false → are_expected false ws ≡ false
     behind n e d = let plain : is_dashed w ≡ false = ap is_dashed (same w n e) ∙ d in rw plain at h
 
+    other : bytes_eq w (codes "run") ≡ false → bytes_eq w (codes "make") ≡ false → bytes_eq w (codes "check") ≡ false → bytes_eq w (codes "reread") ≡ false
+        → (q g k : Bool) → bytes_eq w (codes "equal") ≡ q → bytes_eq w (codes "registers") ≡ g → bytes_eq w (codes "census") ≡ k → command_of (w ∷ ws) ≡ None
+    other e f x i true g k j l m = rw (e, f, x, i, j) (two_unexpected ws (behind (codes "equal") j refl))
+    other e f x i false true k j l m = rw (e, f, x, i, j, l) (alone_unexpected Registers ws (behind (codes "registers") l refl))
+    other e f x i false false true j l m = rw (e, f, x, i, j, l, m) (one_unexpected ws (behind (codes "census") m refl))
+    other e f x i false false false j l m = rw (e, f, x, i, j, l, m) refl
+
     go : (r m c a : Bool) → bytes_eq w (codes "run") ≡ r → bytes_eq w (codes "make") ≡ m → bytes_eq w (codes "check") ≡ c → bytes_eq w (codes "reread") ≡ a → command_of (w ∷ ws) ≡ None
     go true m c a e f g i = rw e (ap (option_map (λ kind. Run kind)) (option_unexpected ws (behind (codes "run") e refl)))
     go false true c a e f g i = let after = behind (codes "make") f refl in rw (e, f) (ap₂ option_or (first_unexpected ws after) (last_unexpected ws after))
     go false false true a e f g i = rw (e, f, g) (alone_unexpected Check ws (behind (codes "check") g refl))
     go false false false true e f g i = rw (e, f, g, i) (alone_unexpected Reread ws (behind (codes "reread") i refl))
-    go false false false false e f g i = rw (e, f, g, i) refl
+    go false false false false e f g i = other e f g i (bytes_eq w (codes "equal")) (bytes_eq w (codes "registers")) (bytes_eq w (codes "census")) refl refl refl
 
 -- ---- the walk over the words that clap is asked about
 

@@ -1,8 +1,13 @@
 pub mod Numbers
+pub mod FreeNames
 pub mod CommandLine
 pub mod Told
 pub mod PathNames
 pub mod Traced
 pub mod Answered
+pub mod LineAnswers
+pub mod Firsts
+pub mod Compared
+pub mod Counted
 pub mod Sure
 pub mod MadeRuns

@@ -9,9 +9,9 @@ use Rattle.std.proofs.lemmas.Bool.{and_parts, le-leb, leb-true, lt-leb}
 use Rattle.std.proofs.lemmas.Str.Parse.{IsNumeralModel, numerals_by_fold, parse_plain}
 use Rattle.lois_script.specs.Grammar.{decimal, decimal_behind}
 use Rattle.lois_base.specs.declared.deciding.Kind.{Kind}
-use Rattle.lois_run.specs.Words.{Asks, command_alone, command_of, command_with_number, is_number, number_first, number_last, number_named, option_named}
+use Rattle.lois_run.specs.Words.{Asks, command_alone, command_of, command_with_number, is_number, number_first, number_last, number_named, option_named, command_with_names, free_name, one_name, two_names}
 use Rattle.lois_run.specs.declared.words.Command.{Command}
-use Rattle.lois_run.specs.declared.words.Command.TheVariants.{Run, Check, Reread, Make}
+use Rattle.lois_run.specs.declared.words.Command.TheVariants.{Run, Check, Reread, Make, Registers, Census}
 
 own : IsNumeralModel (λ ds. list_all is_ascii_digit ds ≡ true) decimal
 own = numerals_by_fold _ (search rules) decimal_behind (search rules)
@@ -101,16 +101,40 @@ limited_alone : (command : Command) → IsLimited command → (words : List (Lis
 limited_alone command h [] = h
 limited_alone command h (x ∷ l) = tt
 
+limited_equal : (first second : Option (List ℕ)) → IfSome (command_with_names first second) IsLimited
+limited_equal None second = tt
+limited_equal (Some n) None = tt
+limited_equal (Some n) (Some m) = tt
+
+limited_names : (words : List (List ℕ)) → IfSome (two_names words) IsLimited
+limited_names [] = tt
+limited_names (a ∷ []) = tt
+limited_names (a ∷ b ∷ []) = limited_equal (free_name a) (free_name b)
+limited_names (a ∷ b ∷ x ∷ l) = tt
+
+limited_census : (name : Option (List ℕ)) → IfSome (option_map (λ n. Census n) name) IsLimited
+limited_census None = tt
+limited_census (Some n) = tt
+
+limited_name : (words : List (List ℕ)) → IfSome (one_name words) IsLimited
+limited_name [] = tt
+limited_name (a ∷ []) = limited_census (free_name a)
+limited_name (a ∷ x ∷ l) = tt
+
+limited_if : (b : Bool) (c d : Option Command) → IfSome c IsLimited → IfSome d IsLimited → IfSome (if b then c else d) IsLimited
+limited_if true c d h k = h
+limited_if false c d h k = k
+
 limited : (words : List (List ℕ)) → IfSome (command_of words) IsLimited
 limited [] = tt
-limited (w ∷ ws) = go (bytes_eq w (codes "run")) (bytes_eq w (codes "make")) (bytes_eq w (codes "check")) (bytes_eq w (codes "reread"))
-  where
-    go : (r m c a : Bool) → IfSome (if r then (option_map (λ kind. Run kind) (option_named ws)) else (if m then (option_or (number_first ws) (number_last ws)) else (if c then (command_alone Check ws) else (if a then (command_alone Reread ws) else None)))) IsLimited
-    go true m c a = limited_run (option_named ws)
-    go false true c a = limited_either (number_first ws) (number_last ws) (limited_first ws) (limited_last ws)
-    go false false true a = limited_alone Check tt ws
-    go false false false true = limited_alone Reread tt ws
-    go false false false false = tt
+limited (w ∷ ws) =
+    limited_if (bytes_eq w (codes "run")) _ _ (limited_run (option_named ws))
+    (limited_if (bytes_eq w (codes "make")) _ _ (limited_either (number_first ws) (number_last ws) (limited_first ws) (limited_last ws))
+    (limited_if (bytes_eq w (codes "check")) _ _ (limited_alone Check tt ws)
+    (limited_if (bytes_eq w (codes "reread")) _ _ (limited_alone Reread tt ws)
+    (limited_if (bytes_eq w (codes "equal")) _ _ (limited_names ws)
+    (limited_if (bytes_eq w (codes "registers")) _ _ (limited_alone Registers tt ws)
+    (limited_if (bytes_eq w (codes "census")) _ None (limited_name ws) tt))))))
 
 pub made_limits : (words : List (List ℕ)) (n : ℕ) (kind : Option Kind) → Asks (Make n kind) words → (1 ≤ n) × (n ≤ 10000)
 made_limits words n kind asks = subst (λ (o : Option Command). IfSome o IsLimited) asks (limited words)

@@ -1,5 +1,5 @@
 -- What is refused comes to that refusal alone.
-use Rattle.std.proofs.Common.{◌≡◌, ℕ, List, Option, Some, refl, sym, ap, ◌∙◌, subst, ⊎_elim, arith}
+use Rattle.std.proofs.Common.{◌≡◌, ℕ, List, Option, Some, refl, sym, ap, length, ◌∙◌, ◌⊎◌, inl, inr, subst, ⊎_elim, arith}
 use Rattle.std.proofs.lemmas.Bool.{cases_lt}
 use Rattle.lois_base.specs.declared.deciding.Kind.{Kind}
 use Rattle.lois_lexer.proofs.OneReading.{one_list, one_refusal as one_lexical, never_both as tokens_or_refusal}
@@ -11,8 +11,13 @@ use Rattle.lois_lexer.specs.declared.Token.{Token}
 use Rattle.lois_script.specs.Limits.{Spells}
 use Rattle.lois_script.specs.Scope.{RuleD, rule_number, ScriptBreaks, IsWellScoped, BreaksFirst, unknown, again, outer_assign, print_in_loop, order_in_equality}
 use Rattle.lois_script.specs.Tree.{ScriptD}
-use Rattle.lois_reader.specs.Pieces.{answer_pieces}
-use Rattle.lois_reader.specs.Shape.{HasAnswerShape, SpellsAnswer, LeavesShapeAt, BreaksRuleAt}
+use Rattle.lois_answers.specs.declared.results.Results.{Results}
+use Rattle.lois_census.specs.Refusals.{HasCause as IsCounted}
+use Rattle.lois_equal.specs.Comparing.{IsComparison}
+use Rattle.lois_reader.proofs.Told.{results_are_told}
+use Rattle.lois_reader.specs.Pieces.{Piece, answer_pieces, results_pieces}
+use Rattle.lois_reader.specs.Refusal.{IsAnswerOf, IsResultsOf}
+use Rattle.lois_reader.specs.Shape.{HasAnswerShape, SpellsAnswer, HasResultsShape, SpellsResults, LeavesShapeAt}
 use Rattle.lois_scope.proofs.First.{same_first}
 use Rattle.lois_scope.specs.Refusals.{Refuses as ScopeRefuses}
 use Rattle.lois_scope.specs.declared.checking.ScopeError.{ScopeError}
@@ -26,12 +31,16 @@ use Rattle.lois_run.specs.Causes.{IsRefusedBy, HasCause, IsOfText}
 use Rattle.lois_run.specs.Laws.{RefusalsAreSure}
 use Rattle.lois_run.specs.Read.{SpellsNone}
 use Rattle.lois_run.specs.Places.{IsPlaceOf}
-use Rattle.lois_run.specs.Refusals.{token_place, IsLexical, LexicalTells, IsSyntax, SyntaxTells, IsScope, ScopeTells, IsRefusedAs, IsNoAnswer, IsNoAnswerAt}
+use Rattle.lois_registers.proofs.Unique.{one_place as one_line}
+use Rattle.lois_run.proofs.Compared.{compared_once}
+use Rattle.lois_run.proofs.Counted.{counted_once}
+use Rattle.lois_run.specs.Lines.{Compares, Lists, compared_outcome}
+use Rattle.lois_run.specs.Refusals.{token_place, IsLexical, LexicalTells, IsSyntax, SyntaxTells, IsScope, ScopeTells, IsRefusedAs, IsNoneAt, IsAtPlace, IsNoAnswer, IsNoAnswerAt, IsNoResults, IsNoResultsAt, IsNoRegisters, IsNoRegistersAt}
 use Rattle.lois_run.specs.declared.outcomes.Outcome.{Outcome}
-use Rattle.lois_run.specs.declared.outcomes.Outcome.TheVariants.{Completed, Failed, Reread as WrittenAgain, Checked, Made as WasMade, Refused, ReadFault, Usage}
+use Rattle.lois_run.specs.declared.outcomes.Outcome.TheVariants.{Completed, Failed, Reread as WrittenAgain, Checked, Made as WasMade, Same, Differ, Translated, Census as Listed, Refused, ReadFault, Usage}
 use Rattle.lois_run.specs.declared.outcomes.Refusal.{Refusal}
-use Rattle.lois_run.specs.declared.outcomes.Refusal.TheVariants.{TooLong, Lexical, Syntax, Scope, NotResults}
-use Rattle.lois_run.specs.declared.words.Command.TheVariants.{Run, Check, Reread, Make}
+use Rattle.lois_run.specs.declared.outcomes.Refusal.TheVariants.{TooLong, Lexical, Syntax, Scope, NotResults, NotRegisters, NoLine, NotDeterministic, HasParameters, NotASet}
+use Rattle.lois_run.specs.declared.words.Command.TheVariants.{Run, Check, Reread, Make, Equal, Registers, Census}
 
 -- ---- one number, one place
 
@@ -96,11 +105,10 @@ module _ (text : List ℕ) where
       scoped rule at (subst (λ (x : ScriptD). ScriptBreaks x rule at) (one_script_of_text text t s spells spelled) broken.2.broken)
 
   pub refused_spell_none : (r : Refusal) → IsRefusedAs text r → SpellsNone text
-  refused_spell_none TooLong why s spells scoped = absurd why
-  refused_spell_none (NotResults p) why s spells scoped = absurd why
   refused_spell_none (Lexical n p) why s spells scoped = no_tokens n p why spells.tokens spells.cut
   refused_spell_none (Syntax n p) why s spells scoped = no_script n p why s spells
   refused_spell_none (Scope n p) why s spells scoped = not_scoped n p why s spells scoped
+  refused_spell_none _ why s spells scoped = absurd why
 
   same_lexical : (n m : ℕ) (p q : Place) → IsRefusedAs text (Lexical n p) → IsRefusedAs text (Lexical m q) → Lexical n p ≡ Lexical m q
   same_lexical n m p q (e, refuses, told) (f, refused, tells) =
@@ -119,10 +127,6 @@ module _ (text : List ℕ) where
       scope_told text s n m p q (first_break text s e (Scope n p) refuses told) (subst (λ (x : ScriptD). FirstBreak text x (Scope m q)) (one_script_of_text text t s spelled spells) other)
 
   same_refusal : (r q : Refusal) → IsRefusedAs text r → IsRefusedAs text q → q ≡ r
-  same_refusal TooLong q a b = absurd a
-  same_refusal (NotResults p) q a b = absurd a
-  same_refusal r TooLong a b = absurd b
-  same_refusal r (NotResults p) a b = absurd b
   same_refusal (Lexical n p) (Lexical m q) a b = same_lexical m n q p b a
   same_refusal (Lexical n p) (Syntax m q) a (tokens, e, cut, refuses, told) = absurd (no_tokens n p a tokens cut)
   same_refusal (Lexical n p) (Scope m q) a (s, e, spells, refuses, told) = absurd (no_tokens n p a spells.tokens spells.cut)
@@ -132,52 +136,62 @@ module _ (text : List ℕ) where
   same_refusal (Scope n p) (Lexical m q) (s, e, spells, refuses, told) b = absurd (no_tokens m q b spells.tokens spells.cut)
   same_refusal (Scope n p) (Syntax m q) (s, e, spells, refuses, told) b = absurd (no_script m q b s spells)
   same_refusal (Scope n p) (Scope m q) a b = same_scope m n q p b a
+  same_refusal (Lexical n p) _ a b = absurd b
+  same_refusal (Syntax n p) _ a b = absurd b
+  same_refusal (Scope n p) _ a b = absurd b
+  same_refusal _ q a b = absurd a
 
-  -- ---- no results
+  -- ---- nothing of a kind has the text
 
-  left_once : (k m : ℕ) → LeavesShapeAt HasAnswerShape text k → LeavesShapeAt HasAnswerShape text m → k ≡ m
-  left_once k m h g =
-      ⊎_elim (λ less. absurd (h.longest m less g.within g.begins))
-      (λ most. ⊎_elim (λ less. absurd (g.longest k less h.within h.begins)) (λ least. omega arith) (cases_lt m k)) (cases_lt k m)
+  module _ {V D : Type 0} (Holds : V → Type 0) (Shape : List ℕ → Type 0) (SpelledBy : List ℕ → D → Type 0) (pieces : D → List Piece) where
+    left_once : (k m : ℕ) → LeavesShapeAt Shape text k → LeavesShapeAt Shape text m → k ≡ m
+    left_once k m h g =
+        ⊎_elim (λ less. absurd (h.longest m less g.within g.begins))
+        (λ most. ⊎_elim (λ less. absurd (g.longest k less h.within h.begins)) (λ least. omega arith) (cases_lt m k)) (cases_lt k m)
 
-  leaves_or_breaks : (k m : ℕ) → LeavesShapeAt HasAnswerShape text k → BreaksRuleAt (SpellsAnswer text) answer_pieces m → ⊥
-  leaves_or_breaks k m h g = h.outside (g.draft, g.spelled)
+    some_once : (k m : ℕ) → Some k ≡ Some m → k ≡ m
+    some_once k m e = cc e
 
-  some_once : (k m : ℕ) → Some k ≡ Some m → k ≡ m
-  some_once k m e = cc e
+    one_end : (has_shape : (d : D) → SpelledBy text d → Shape text) (k m : ℕ) → IsNoneAt Holds Shape SpelledBy pieces text k → IsNoneAt Holds Shape SpelledBy pieces text m → k ≡ m
+    one_end has_shape k m h g =
+        ⊎_elim
+        (λ left. ⊎_elim (λ leaves. left_once k m left leaves) (λ breaks. absurd (left.outside (has_shape breaks.draft breaks.spelled))) g.place)
+        (λ broken. ⊎_elim (λ leaves. absurd (leaves.outside (has_shape broken.draft broken.spelled))) (λ breaks. some_once k m (sym (broken.first broken.draft broken.spelled) ∙ breaks.first broken.draft broken.spelled)) g.place)
+        h.place
 
-  one_end : (k m : ℕ) → IsNoAnswerAt text k → IsNoAnswerAt text m → k ≡ m
-  one_end k m h g =
-      ⊎_elim
-      (λ left. ⊎_elim (λ leaves. left_once k m left leaves) (λ breaks. absurd (leaves_or_breaks k m left breaks)) g.place)
-      (λ broken. ⊎_elim (λ leaves. absurd (leaves_or_breaks m k leaves broken)) (λ breaks. some_once k m (sym (broken.first broken.draft broken.spelled) ∙ breaks.first broken.draft broken.spelled)) g.place)
-      h.place
+  at_once : (At : List ℕ → ℕ → Type 0) → ((k m : ℕ) → At text k → At text m → k ≡ m) → (p q : Place) → IsAtPlace At text p → IsAtPlace At text q → q ≡ p
+  at_once At once p q (k, none, here) (m, never, there) = one_place text k q p (subst (λ x. IsPlaceOf text x q) (once m k never none) there) here
 
-  same_answer : (p q : Place) → IsNoAnswer text p → IsNoAnswer text q → NotResults q ≡ NotResults p
-  same_answer p q (k, none, here) (m, never, there) = ap NotResults (one_place text k q p (subst (λ x. IsPlaceOf text x q) (one_end m k never none) there) here)
+  same_answer : (p q : Place) → IsNoAnswer text p → IsNoAnswer text q → q ≡ p
+  same_answer = at_once IsNoAnswerAt (one_end (IsAnswerOf text) HasAnswerShape SpellsAnswer answer_pieces (λ d h. (d, h)))
+
+  same_registers : (p q : Place) → IsNoRegisters text p → IsNoRegisters text q → q ≡ p
+  same_registers = at_once IsNoRegistersAt (λ k m h g. one_line text k m h.1 g.1)
+
+  same_results : (p q : Place) → IsNoResults text p → IsNoResults text q → q ≡ p
+  same_results = at_once IsNoResultsAt (one_end (IsResultsOf text) HasResultsShape SpellsResults results_pieces (λ d h. (d, h)))
 
   -- ---- whatever else a text comes to
 
   never_runs : (r : Refusal) (s : ScriptD) → IsRefusedAs text r → Spells text s → IsWellScoped s → ⊥
-  never_runs TooLong s a spells scoped = absurd a
-  never_runs (NotResults p) s a spells scoped = absurd a
   never_runs (Lexical n p) s a spells scoped = no_tokens n p a spells.tokens spells.cut
   never_runs (Syntax n p) s a spells scoped = no_script n p a s spells
   never_runs (Scope n p) s a spells scoped = not_scoped n p a s spells scoped
+  never_runs _ s a spells scoped = absurd a
 
   run_refusal : (kind : Option Kind) (r : Refusal) → IsOfText (Refused r) → IsRefusedBy (Run kind) text r → IsRefusedAs text r
   run_refusal kind TooLong is a = absurd is
   run_refusal kind (Lexical n p) is a = a
   run_refusal kind (Syntax n p) is a = a
   run_refusal kind (Scope n p) is a = a
-  run_refusal kind (NotResults p) is a = absurd a
+  run_refusal kind _ is a = absurd a
 
   check_refusal : (r : Refusal) → IsOfText (Refused r) → IsRefusedBy Check text r → IsRefusedAs text r
   check_refusal TooLong is a = absurd is
   check_refusal (Lexical n p) is a = a
   check_refusal (Syntax n p) is a = a
   check_refusal (Scope n p) is a = a
-  check_refusal (NotResults p) is a = absurd a
+  check_refusal _ is a = absurd a
 
   reread_refusal : (r : Refusal) → IsOfText (Refused r) → IsRefusedBy Reread text r → (p : Place) × (r ≡ NotResults p) × IsNoAnswer text p
   reread_refusal TooLong is a = absurd is
@@ -188,33 +202,108 @@ module _ (text : List ℕ) where
   surely_run kind r (Completed results) a is (s, spells, scoped, answer) = absurd (never_runs r s a spells scoped)
   surely_run kind r (Failed t) a is (s, spells, scoped, answer) = absurd (never_runs r s a spells scoped)
   surely_run kind r (Refused q) a is b = ap Refused (same_refusal r q a (run_refusal kind q is b))
-  surely_run kind r (WrittenAgain answer) a is b = absurd b
-  surely_run kind r (Checked script) a is b = absurd b
   surely_run kind r (WasMade counts) a is b = absurd is
   surely_run kind r ReadFault a is b = absurd is
   surely_run kind r Usage a is b = absurd is
+  surely_run kind r _ a is b = absurd b
 
   surely_checked : (r : Refusal) (o : Outcome) → IsRefusedAs text r → IsOfText o → HasCause Check text o → o ≡ Refused r
   surely_checked r (Checked script) a is (spells, scoped) = absurd (refused_spell_none r a _ spells scoped)
   surely_checked r (Refused q) a is b = ap Refused (same_refusal r q a (check_refusal q is b))
-  surely_checked r (WrittenAgain answer) a is b = absurd b
-  surely_checked r (Completed results) a is b = absurd b
-  surely_checked r (Failed t) a is b = absurd b
   surely_checked r (WasMade counts) a is b = absurd is
   surely_checked r ReadFault a is b = absurd is
   surely_checked r Usage a is b = absurd is
+  surely_checked r _ a is b = absurd b
 
   surely_reread : (p : Place) (o : Outcome) → IsNoAnswer text p → IsOfText o → HasCause Reread text o → o ≡ Refused (NotResults p)
   surely_reread p (WrittenAgain answer) (k, none, at) is b = absurd (none.none answer b)
   surely_reread p (Refused q) a is b =
       let other = reread_refusal q is b in
-      ap Refused (other.1 ∙ same_answer p other.0 a other.2)
-  surely_reread p (Checked script) a is b = absurd b
-  surely_reread p (Completed results) a is b = absurd b
-  surely_reread p (Failed t) a is b = absurd b
+      ap Refused (other.1 ∙ ap NotResults (same_answer p other.0 a other.2))
   surely_reread p (WasMade counts) a is b = absurd is
   surely_reread p ReadFault a is b = absurd is
   surely_reread p Usage a is b = absurd is
+  surely_reread p _ a is b = absurd b
+
+  -- ---- what is said of results
+
+  results_once : (r s : Results) → IsResultsOf text r → IsResultsOf text s → r ≡ s
+  results_once r s h g = results_are_told r s h.0 g.0 (h.1 ∙ sym g.1)
+
+  -- the text isn't that of results, or something is said of its results
+  abbrev NoneOr : (Outcome → Type 0) → Outcome → Type 0
+  NoneOr Tells o = ((p : Place) × (o ≡ Refused (NotResults p)) × IsNoResults text p) ⊎ Tells o
+
+  module _ (Tells : Outcome → Type 0) (of_results : (o : Outcome) → Tells o → (r : Results) × IsResultsOf text r)
+      (once : (r : Refusal) (o : Outcome) → Tells (Refused r) → Tells o → o ≡ Refused r) where
+    surely_told : (r : Refusal) (o : Outcome) → NoneOr Tells (Refused r) → NoneOr Tells o → o ≡ Refused r
+    surely_told r o (inl (p, is, none)) (inl (q, e, never)) = e ∙ (ap (λ x. Refused (NotResults x)) (same_results p q none never) ∙ sym is)
+    surely_told r o (inl (p, is, (k, none, here))) (inr h) = let results = of_results o h in absurd (none.none results.0 results.1)
+    surely_told r o (inr h) (inl (q, e, (k, never, there))) = let results = of_results (Refused r) h in absurd (never.none results.0 results.1)
+    surely_told r o (inr h) (inr g) = once r o h g
+
+  equal_told : (first second : List ℕ) (o : Outcome) → IsOfText o → HasCause (Equal first second) text o → NoneOr (Compares first second text) o
+  equal_told first second (Refused TooLong) is h = absurd is
+  equal_told first second (Refused (NotResults p)) is h = inl (p, refl, h)
+  equal_told first second (Refused (Lexical n p)) is h = inr h
+  equal_told first second (Refused (Syntax n p)) is h = inr h
+  equal_told first second (Refused (Scope n p)) is h = inr h
+  equal_told first second (Refused (NotRegisters p)) is h = inr h
+  equal_told first second (Refused (NoLine n k)) is h = inr h
+  equal_told first second (Refused (NotDeterministic n k)) is h = inr h
+  equal_told first second (Refused HasParameters) is h = inr h
+  equal_told first second (Refused (NotASet n k)) is h = inr h
+  equal_told first second Same is h = inr h
+  equal_told first second (Differ k d n ps) is h = inr h
+  equal_told first second (WasMade counts) is h = absurd is
+  equal_told first second ReadFault is h = absurd is
+  equal_told first second Usage is h = absurd is
+  equal_told first second _ is h = absurd h
+
+  census_told : (name : List ℕ) (o : Outcome) → IsOfText o → HasCause (Census name) text o → NoneOr (Lists name text) o
+  census_told name (Refused TooLong) is h = absurd is
+  census_told name (Refused (NotResults p)) is h = inl (p, refl, h)
+  census_told name (Refused (Lexical n p)) is h = inr h
+  census_told name (Refused (Syntax n p)) is h = inr h
+  census_told name (Refused (Scope n p)) is h = inr h
+  census_told name (Refused (NotRegisters p)) is h = inr h
+  census_told name (Refused (NoLine n k)) is h = inr h
+  census_told name (Refused (NotDeterministic n k)) is h = inr h
+  census_told name (Refused HasParameters) is h = inr h
+  census_told name (Refused (NotASet n k)) is h = inr h
+  census_told name (Listed cs) is h = inr h
+  census_told name (WasMade counts) is h = absurd is
+  census_told name ReadFault is h = absurd is
+  census_told name Usage is h = absurd is
+  census_told name _ is h = absurd h
+
+  surely_compared : (first second : List ℕ) (r : Refusal) (o : Outcome) → Compares first second text (Refused r) → Compares first second text o → o ≡ Refused r
+  surely_compared first second r o h g =
+      let same = results_once g.results h.results g.read h.read in
+      let found : IsComparison (length h.results.parameters) first second h.results.cases g.comparison = subst (λ (x : Results). IsComparison (length x.parameters) first second x.cases g.comparison) same g.found in
+      let told : o ≡ compared_outcome h.results.parameters g.comparison = g.told ∙ ap (λ (x : Results). compared_outcome x.parameters g.comparison) same in
+      told ∙ (compared_once (length h.results.parameters) first second h.results.cases h.results.parameters h.comparison g.comparison r h.found found h.told ∙ sym h.told)
+
+  surely_listed : (name : List ℕ) (r : Refusal) (o : Outcome) → Lists name text (Refused r) → Lists name text o → o ≡ Refused r
+  surely_listed name r o h g =
+      let same = results_once g.results h.results g.read h.read in
+      let found = subst (λ (x : Results). IsCounted x.order x name g.answer) same g.found in
+      g.told ∙ (counted_once h.results name h.results.order h.answer g.answer r h.found found h.told ∙ sym h.told)
+
+  registers_refusal : (r : Refusal) → IsOfText (Refused r) → IsRefusedBy Registers text r → (p : Place) × (r ≡ NotRegisters p) × IsNoRegisters text p
+  registers_refusal TooLong is a = absurd is
+  registers_refusal (NotRegisters p) is a = (p, refl, a)
+  registers_refusal _ is a = absurd a
+
+  surely_translated : (p : Place) (o : Outcome) → IsNoRegisters text p → IsOfText o → HasCause Registers text o → o ≡ Refused (NotRegisters p)
+  surely_translated p (Translated s) (k, none, at) is h = absurd (none.0 h.automaton h.read)
+  surely_translated p (Refused q) a is b =
+      let other = registers_refusal q is b in
+      ap Refused (other.1 ∙ ap NotRegisters (same_registers p other.0 a other.2))
+  surely_translated p (WasMade counts) a is b = absurd is
+  surely_translated p ReadFault a is b = absurd is
+  surely_translated p Usage a is b = absurd is
+  surely_translated p _ a is b = absurd b
 
 pub refusals_are_sure : RefusalsAreSure
 refusals_are_sure (Run kind) text r o of_text refused is cause = surely_run text kind r o (run_refusal text kind r of_text refused) is cause
@@ -223,3 +312,10 @@ refusals_are_sure Check text r o of_text refused is cause = surely_checked text 
 refusals_are_sure Reread text r o of_text refused is cause =
     let why = reread_refusal text r of_text refused in
     surely_reread text why.0 o why.2 is cause ∙ ap Refused (sym why.1)
+refusals_are_sure (Equal first second) text r o of_text refused is cause =
+    surely_told text (Compares first second text) (λ o h. (h.results, h.read)) (surely_compared text first second) r o (equal_told text first second (Refused r) of_text refused) (equal_told text first second o is cause)
+refusals_are_sure Registers text r o of_text refused is cause =
+    let why = registers_refusal text r of_text refused in
+    surely_translated text why.0 o why.2 is cause ∙ ap Refused (sym why.1)
+refusals_are_sure (Census name) text r o of_text refused is cause =
+    surely_told text (Lists name text) (λ o h. (h.results, h.read)) (surely_listed text name) r o (census_told text name (Refused r) of_text refused) (census_told text name o is cause)

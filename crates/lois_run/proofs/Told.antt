@@ -11,16 +11,18 @@ use Rattle.lois_outside.specs.Faults.{Rose}
 use Rattle.lois_outside.specs.Reading.{TookAtMost, TookExactly, ReadsToEnd, GivesUp}
 use Rattle.lois_outside.specs.declared.reading.ReadError.TheVariants as unread
 use Rattle.lois_run.specs.Causes.{Takes, Serves, HasRead, HasTaken, HasCause, IsMadeBy, ReadsText, Promises, IsOutcomeOf, GaveAtMost, IsOfText, AnswersText}
-use Rattle.lois_run.specs.Outcomes.{made_counts}
+use Rattle.lois_answers.specs.declared.faults.FaultKind.{FaultKind}
+use Rattle.lois_answers.specs.declared.faults.FaultKind.TheVariants.{Assertion, TurnLimit, DepthLimit, NotASet, NotAtoms, NotATuple, NoSuchPart, NotAutomaton, NotDeterministic, NotComplete}
+use Rattle.lois_run.specs.Outcomes.{made_counts, failure_status, status_of}
 use Rattle.lois_run.specs.declared.outcomes.Made.{Made}
 use Rattle.lois_base.specs.declared.limits.TheConstants.{LONGEST_TEXT}
 use Rattle.lois_deciders.specs.Choice.{IsUnwanted}
-use Rattle.lois_run.specs.Words.{Asks, Lacks, IsUsage, runs_script, wanted_kind}
+use Rattle.lois_run.specs.Words.{Asks, Lacks, IsUsage, asks_decider, wanted_kind}
 use Rattle.lois_run.specs.declared.outcomes.Outcome.{Outcome}
-use Rattle.lois_run.specs.declared.outcomes.Outcome.TheVariants.{Completed, Failed, Reread as WrittenAgain, Checked, Made as WasMade, Refused, ReadFault, Usage}
-use Rattle.lois_run.specs.declared.outcomes.Refusal.TheVariants.{TooLong, Lexical, Syntax, Scope, NotResults}
+use Rattle.lois_run.specs.declared.outcomes.Outcome.TheVariants.{Completed, Failed, Reread as WrittenAgain, Checked, Made as WasMade, Same, Differ, Translated, Census as Listed, Refused, ReadFault, Usage}
+use Rattle.lois_run.specs.declared.outcomes.Refusal.TheVariants.{TooLong, Lexical, Syntax, Scope, NotResults, NotRegisters, NoLine, NotDeterministic as NotFit, HasParameters, NotASet as NoSet}
 use Rattle.lois_run.specs.declared.words.Command.{Command}
-use Rattle.lois_run.specs.declared.words.Command.TheVariants.{Run, Check, Reread, Make}
+use Rattle.lois_run.specs.declared.words.Command.TheVariants.{Run, Check, Reread, Make, Equal, Registers, Census}
 
 refused_is_not_usage : Refused TooLong ≡ Usage → ⊥
 refused_is_not_usage e = cc e
@@ -63,27 +65,18 @@ reads_text (Run kind) none = tt
 reads_text Check none = tt
 reads_text Reread none = tt
 reads_text (Make n kind) none = none n kind refl
+reads_text (Equal a b) none = tt
+reads_text Registers none = tt
+reads_text (Census a) none = tt
 
 -- ---- the decider of a command
 
 module _ {X : Type 0} (kinds : List Kind) (command : Command) (chosen : Option X) (choice : IsNone chosen ↔ All (IsUnwanted (wanted_kind command)) kinds) where
-  has_none : (c : Command) → (IsNone chosen → All (IsUnwanted (wanted_kind c)) kinds) → IsTrue (runs_script c) → IsNone chosen → Lacks c kinds
-  has_none (Run kind) unwanted runs none = unwanted none
-  has_none (Make n kind) unwanted runs none = unwanted none
-  has_none Check unwanted runs none = absurd (false≢true runs)
-  has_none Reread unwanted runs none = absurd (false≢true runs)
+  pub lacks_decider : (words : List (List ℕ)) → Asks command words → IsTrue (asks_decider command) → IsNone chosen → IsUsage words kinds
+  lacks_decider words asks wants none other asked = subst (λ c. Lacks c kinds) (one_command command other words asks asked) (wants, choice.0 none)
 
-  has_one : (c : Command) → (All (IsUnwanted (wanted_kind c)) kinds → IsNone chosen) → (IsTrue (runs_script c) → IsSome chosen) → Lacks c kinds → ⊥
-  has_one (Run kind) none some lacks = true≢false (sym (some refl) ∙ none lacks)
-  has_one (Make n kind) none some lacks = true≢false (sym (some refl) ∙ none lacks)
-  has_one Check none some lacks = lacks
-  has_one Reread none some lacks = lacks
-
-  pub lacks_decider : (words : List (List ℕ)) → Asks command words → IsTrue (runs_script command) → IsNone chosen → IsUsage words kinds
-  lacks_decider words asks runs none other asked = subst (λ c. Lacks c kinds) (one_command command other words asks asked) (has_none command choice.0 runs none)
-
-  pub has_decider : (IsTrue (runs_script command) → IsSome chosen) → Lacks command kinds → ⊥
-  has_decider some lacks = has_one command choice.1 some lacks
+  pub has_decider : (IsTrue (asks_decider command) → IsSome chosen) → Lacks command kinds → ⊥
+  has_decider some (wants, unwanted) = true≢false (sym (some wants) ∙ choice.1 unwanted)
 
 module _ {S : Type 0} (words : List (List ℕ)) (kinds : List Kind) (left : S → Option (List ℕ)) (faults : S → ℕ) (takes : Takes S) (from to : S) where
   abbrev before : Option (List ℕ)
@@ -118,6 +111,12 @@ module _ {S : Type 0} (words : List (List ℕ)) (kinds : List Kind) (left : S �
       usage_cause Check (Some text) = tt
       usage_cause Reread None = tt
       usage_cause Reread (Some text) = tt
+      usage_cause (Equal a b) None = tt
+      usage_cause (Equal a b) (Some text) = tt
+      usage_cause Registers None = tt
+      usage_cause Registers (Some text) = tt
+      usage_cause (Census a) None = tt
+      usage_cause (Census a) (Some text) = tt
 
   module _ (command : Command) (asks : Asks command words) (has : Lacks command kinds → ⊥) where
     no_usage : IsUsage words kinds → ⊥
@@ -158,12 +157,18 @@ module _ {S : Type 0} (words : List (List ℕ)) (kinds : List Kind) (left : S �
     fault_promise rose (Make n kind) reads text = absurd reads
     fault_promise rose Check reads text = λ l s h w. inr (refl, rose)
     fault_promise rose Reread reads text = λ l answer h. inr (refl, rose)
+    fault_promise rose (Equal a b) reads text = λ l results h. inr (refl, rose)
+    fault_promise rose Registers reads text = λ l automaton h. inr (refl, rose)
+    fault_promise rose (Census a) reads text = λ l results h. inr (refl, rose)
 
     fault_cause : (c : Command) (text : List ℕ) → HasCause c text ReadFault
     fault_cause (Run kind) text = tt
     fault_cause (Make n kind) text = tt
     fault_cause Check text = tt
     fault_cause Reread text = tt
+    fault_cause (Equal a b) text = tt
+    fault_cause Registers text = tt
+    fault_cause (Census a) text = tt
 
     pub fault_is_told : ReadsText command → GivesUp takes LONGEST_TEXT from unread.ReadFault to → TookAtMost LONGEST_TEXT before after → Rose faults_before faults_after → IsOutcomeOf words kinds left faults takes from to ReadFault
     fault_is_told reads calls took rose = record {
@@ -185,6 +190,9 @@ module _ {S : Type 0} (words : List (List ℕ)) (kinds : List Kind) (left : S �
     long_cause (Make n kind) reads text = absurd reads
     long_cause Check reads text = tt
     long_cause Reread reads text = tt
+    long_cause (Equal a b) reads text = tt
+    long_cause Registers reads text = tt
+    long_cause (Census a) reads text = tt
 
     long_promise : (c : Command) → ReadsText c → (from : Option (List ℕ)) → TookExactly 1048577 from after → IfSome from (λ text. Promises c text (Rose faults_before faults_after) (Refused TooLong))
     long_promise c reads None took = tt
@@ -197,6 +205,9 @@ module _ {S : Type 0} (words : List (List ℕ)) (kinds : List Kind) (left : S �
     }
     long_promise Check reads (Some text) took = λ l s h w. absurd (long_text text after took l)
     long_promise Reread reads (Some text) took = λ l answer h. absurd (long_text text after took l)
+    long_promise (Equal a b) reads (Some text) took = λ l results h. absurd (long_text text after took l)
+    long_promise Registers reads (Some text) took = λ l automaton h. absurd (long_text text after took l)
+    long_promise (Census a) reads (Some text) took = λ l results h. absurd (long_text text after took l)
 
     pub long_is_told : ReadsText command → (n : ℕ) → GivesUp takes LONGEST_TEXT from (unread.TooLong n) to → (n ≡ 1048577) × TookExactly n before after → IsOutcomeOf words kinds left faults takes from to (Refused TooLong)
     long_is_told reads n calls (e, some) = let took : TookExactly 1048577 before after = subst (λ k. TookExactly k before after) e some in record {
@@ -240,6 +251,9 @@ module _ {S : Type 0} (words : List (List ℕ)) (kinds : List Kind) (left : S �
     text_promise (Make n kind) text o h = h
     text_promise Check text o h = λ l s sp w. no_fault o (h l s sp w)
     text_promise Reread text o h = λ l answer is. no_fault o (h l answer is)
+    text_promise (Equal a b) text o h = λ l results is. no_fault o (h l results is)
+    text_promise Registers text o h = λ l automaton is. no_fault o (h l automaton is)
+    text_promise (Census a) text o h = λ l results is. no_fault o (h l results is)
 
     of_text : (P : List ℕ → Type 0) (from : Option (List ℕ)) (bytes : List ℕ) → Consumes from after bytes → IsAtEnd after → P bytes → IfSome from P
     of_text P None bytes took end h = tt
@@ -306,10 +320,19 @@ module _ {S : Type 0} (left : S → Option (List ℕ)) (takes : Takes S) where
   of_outcome words from to (Refused (Syntax n p)) read took = given from to read.0 read.1 read.2 took.0
   of_outcome words from to (Refused (Scope n p)) read took = given from to read.0 read.1 read.2 took.0
   of_outcome words from to (Refused (NotResults p)) read took = given from to read.0 read.1 read.2 took.0
+  of_outcome words from to (Refused (NotRegisters p)) read took = given from to read.0 read.1 read.2 took.0
+  of_outcome words from to (Refused (NoLine n k)) read took = given from to read.0 read.1 read.2 took.0
+  of_outcome words from to (Refused (NotFit n k)) read took = given from to read.0 read.1 read.2 took.0
+  of_outcome words from to (Refused HasParameters) read took = given from to read.0 read.1 read.2 took.0
+  of_outcome words from to (Refused (NoSet n k)) read took = given from to read.0 read.1 read.2 took.0
   of_outcome words from to (Completed r) read took = given from to read.0 read.1 read.2 took.0
   of_outcome words from to (Failed t) read took = given from to read.0 read.1 read.2 took.0
   of_outcome words from to (WrittenAgain answer) read took = given from to read.0 read.1 read.2 took.0
   of_outcome words from to (Checked script) read took = given from to read.0 read.1 read.2 took.0
+  of_outcome words from to Same read took = given from to read.0 read.1 read.2 took.0
+  of_outcome words from to (Differ k d name parameters) read took = given from to read.0 read.1 read.2 took.0
+  of_outcome words from to (Translated r) read took = given from to read.0 read.1 read.2 took.0
+  of_outcome words from to (Listed cs) read took = given from to read.0 read.1 read.2 took.0
   of_outcome words from to ReadFault (bytes, mid, asked, calls, few, room, last) took = record { bytes = bytes; calls = inr (mid, asked, calls, last); few = omega (arith, few); taken = more LONGEST_TEXT (LONGEST_TEXT + 1) (left from) (left to) (omega arith) took }
   of_outcome words from to (WasMade counts) (same, by) took = subst (GaveAtMost left takes (LONGEST_TEXT + 1) from) same (gave_nothing (LONGEST_TEXT + 1) from)
   of_outcome words from to Usage same took = subst (GaveAtMost left takes (LONGEST_TEXT + 1) from) same (gave_nothing (LONGEST_TEXT + 1) from)
@@ -320,3 +343,31 @@ module _ {S : Type 0} (left : S → Option (List ℕ)) (takes : Takes S) where
   pub whatever_error : {X E : Type 0} (most : ℕ) (from to : S) (r : Result X E) → GaveAtMost left takes most from to → IfErr r (λ e. GaveAtMost left takes most from to)
   whatever_error most from to (Ok x) h = tt
   whatever_error most from to (Err e) h = h
+
+-- ---- no outcome has the status of a write fault
+
+no_failure_seven : (k : FaultKind) → failure_status k ≡ 7 → ⊥
+no_failure_seven Assertion e = cc e
+no_failure_seven TurnLimit e = cc e
+no_failure_seven DepthLimit e = cc e
+no_failure_seven NotASet e = cc e
+no_failure_seven NotAtoms e = cc e
+no_failure_seven NotATuple e = cc e
+no_failure_seven NoSuchPart e = cc e
+no_failure_seven NotAutomaton e = cc e
+no_failure_seven NotDeterministic e = cc e
+no_failure_seven NotComplete e = cc e
+
+pub never_seven : (o : Outcome) → status_of o ≡ 7 → ⊥
+never_seven (Completed r) e = cc e
+never_seven (Failed t) e = no_failure_seven t.kind e
+never_seven (WrittenAgain answer) e = cc e
+never_seven (Checked script) e = cc e
+never_seven (WasMade counts) e = cc e
+never_seven Same e = cc e
+never_seven (Differ k d name parameters) e = cc e
+never_seven (Translated r) e = cc e
+never_seven (Listed cs) e = cc e
+never_seven (Refused refusal) e = cc e
+never_seven ReadFault e = cc e
+never_seven Usage e = cc e

@@ -12,19 +12,23 @@ use Rattle.lois_outside.specs.Faults.{Rose}
 use Rattle.lois_outside.specs.Reading.{TookAtMost, TookExactly, ReadsToEnd, GivesUp}
 use Rattle.lois_outside.specs.Writing.{AppendsProperPrefix, FailsWriting}
 use Rattle.lois_outside.specs.declared.reading.ReadError.TheVariants as unread
-use Rattle.lois_reader.specs.Refusal.{IsAnswerOf}
+use Rattle.lois_answers.specs.declared.results.Results.{Results}
+use Rattle.lois_reader.specs.Refusal.{IsAnswerOf, IsResultsOf}
+use Rattle.lois_registers.specs.Places.{IsRegistersOf}
+use Rattle.lois_registers.specs.declared.automata.Registers.{Registers as Automaton}
 use Rattle.lois_base.specs.declared.limits.TheConstants.{LONGEST_TEXT}
 use Rattle.lois_run.specs.Headline.{Headline, Completes, NamesFailure}
 use Rattle.lois_run.specs.Outcomes.{status_of, outcome_text, made_counts}
-use Rattle.lois_run.specs.Refusals.{IsRefusedAs, IsNoAnswer}
+use Rattle.lois_run.specs.Lines.{Compares, Lists, Translates}
+use Rattle.lois_run.specs.Refusals.{IsRefusedAs, IsNoAnswer, IsNoResults, IsNoRegisters}
 use Rattle.lois_run.specs.Words.{Asks, IsUsage}
 use Rattle.lois_run.specs.declared.outcomes.Made.{Made}
 use Rattle.lois_run.specs.declared.outcomes.Outcome.{Outcome}
-use Rattle.lois_run.specs.declared.outcomes.Outcome.TheVariants.{Completed, Failed, Reread, Checked, Made as WasMade, Refused, ReadFault, Usage}
+use Rattle.lois_run.specs.declared.outcomes.Outcome.TheVariants.{Completed, Failed, Reread, Checked, Made as WasMade, Same, Differ, Translated, Census, Refused, ReadFault, Usage}
 use Rattle.lois_run.specs.declared.outcomes.Refusal.{Refusal}
-use Rattle.lois_run.specs.declared.outcomes.Refusal.TheVariants.{TooLong, NotResults}
+use Rattle.lois_run.specs.declared.outcomes.Refusal.TheVariants.{TooLong, NotResults, NotRegisters}
 use Rattle.lois_run.specs.declared.words.Command.{Command}
-use Rattle.lois_run.specs.declared.words.Command.TheVariants.{Run, Check, Make}
+use Rattle.lois_run.specs.declared.words.Command.TheVariants.{Run, Check, Make, Equal, Registers}
 use Rattle.lois_run.specs.declared.words.Command.TheVariants as commands
 
 -- the input was taken to its end, and is no longer than a script may be
@@ -39,12 +43,19 @@ HasTaken before after Usage = before ≡ after
 HasTaken before after (WasMade counts) = before ≡ after
 HasTaken before after _ = TookAll before after
 
--- How much was taken is said elsewhere. `make` refuses nothing, `reread` only what is no answer, and only `reread` does.
+-- How much was taken is said elsewhere. `make` refuses nothing, `reread` and `registers` only what they can't read, and the commands
+-- about lines of results what they can't read or what the lines don't allow.
 abbrev pub IsRefusedBy : Command → List ℕ → Refusal → Type 0
 IsRefusedBy (Make n kind) text refusal = ⊥
 IsRefusedBy command text TooLong = Unit {0}
 IsRefusedBy commands.Reread text (NotResults place) = IsNoAnswer text place
 IsRefusedBy commands.Reread text _ = ⊥
+IsRefusedBy Registers text (NotRegisters place) = IsNoRegisters text place
+IsRefusedBy Registers text _ = ⊥
+IsRefusedBy (Equal first second) text (NotResults place) = IsNoResults text place
+IsRefusedBy (Equal first second) text refusal = Compares first second text (Refused refusal)
+IsRefusedBy (commands.Census name) text (NotResults place) = IsNoResults text place
+IsRefusedBy (commands.Census name) text refusal = Lists name text (Refused refusal)
 IsRefusedBy command text refusal = IsRefusedAs text refusal
 
 -- the command is about the text of the source; `make` has a text of its own
@@ -64,6 +75,10 @@ HasCause (Run kind) text (Completed r) = (s : ScriptD) × Spells text s × IsWel
 HasCause (Run kind) text (Failed t) = (s : ScriptD) × Spells text s × IsWellScoped s × NamesFailure text s t
 HasCause Check text (Checked script) = Spells text (script_tree script) × IsWellScoped (script_tree script)
 HasCause commands.Reread text (Reread answer) = IsAnswerOf text answer
+HasCause (Equal first second) text Same = Compares first second text Same
+HasCause (Equal first second) text (Differ k d name parameters) = Compares first second text (Differ k d name parameters)
+HasCause Registers text (Translated r) = Translates text r
+HasCause (commands.Census name) text (Census cs) = Lists name text (Census cs)
 HasCause command text (WasMade counts) = IsMadeBy command counts
 HasCause command text (Refused refusal) = IsRefusedBy command text refusal
 HasCause command text ReadFault = Unit {0}
@@ -86,11 +101,25 @@ IsReread _ = ⊥
 abbrev pub Rereads : List ℕ → Type 0 → Outcome → Type 0
 Rereads text fault o = length text ≤ LONGEST_TEXT → (answer : Answer) → IsAnswerOf text answer → IsReread o ⊎ ((o ≡ ReadFault) × fault)
 
+-- the text of each register automaton is translated, and each results text has an outcome of its lines
+abbrev pub IsTranslated : Outcome → Type 0
+IsTranslated (Translated r) = Unit {0}
+IsTranslated _ = ⊥
+
+abbrev pub Translating : List ℕ → Type 0 → Outcome → Type 0
+Translating text fault o = length text ≤ LONGEST_TEXT → (r : Automaton) → IsRegistersOf text r → IsTranslated o ⊎ ((o ≡ ReadFault) × fault)
+
+abbrev pub AboutResults : (Outcome → Type 0) → List ℕ → Type 0 → Outcome → Type 0
+AboutResults Tells text fault o = length text ≤ LONGEST_TEXT → (r : Results) → IsResultsOf text r → Tells o ⊎ ((o ≡ ReadFault) × fault)
+
 -- what the command promises of a text that was to be read; `make` reads none, and comes to its counts
 abbrev pub Promises : Command → List ℕ → Type 0 → Outcome → Type 0
 Promises (Run kind) text fault o = Headline text fault o
 Promises Check text fault o = Checks text fault o
 Promises commands.Reread text fault o = Rereads text fault o
+Promises (Equal first second) text fault o = AboutResults (Compares first second text) text fault o
+Promises Registers text fault o = Translating text fault o
+Promises (commands.Census name) text fault o = AboutResults (Lists name text) text fault o
 Promises (Make n kind) text fault o = o ≡ WasMade (made_counts n)
 
 -- one call of a source: how many bytes it asked for, and what it was given, or `None` where it failed

@@ -7,11 +7,10 @@ use Rattle.lois_lexer.specs.declared.LexError.TheVariants.{BadByte, LongName, Ba
 use Rattle.lois_lexer.specs.declared.Place.{Place}
 use Rattle.lois_lexer.specs.declared.Token.{Token}
 use Rattle.lois_script.specs.Limits.{Spells}
-use Rattle.lois_script.specs.Scope.{IsWellScoped}
 use Rattle.lois_script.specs.Tree.{ScriptD}
-use Rattle.lois_reader.specs.Pieces.{answer_pieces}
-use Rattle.lois_reader.specs.Refusal.{HasNone, IsAnswerOf, IsInside, IsPlace}
-use Rattle.lois_reader.specs.Shape.{HasAnswerShape, SpellsAnswer}
+use Rattle.lois_reader.specs.Pieces.{Piece, answer_pieces, results_pieces}
+use Rattle.lois_reader.specs.Refusal.{HasNone, IsAnswerOf, IsResultsOf, IsInside, IsPlace}
+use Rattle.lois_reader.specs.Shape.{HasAnswerShape, SpellsAnswer, HasResultsShape, SpellsResults}
 use Rattle.lois_reader.specs.declared.ResultError.TheVariants as results
 use Rattle.lois_scope.specs.Refusals.{Refuses as ScopeRefuses}
 use Rattle.lois_scope.specs.declared.checking.ScopeError.{ScopeError}
@@ -19,9 +18,11 @@ use Rattle.lois_scope.specs.declared.checking.ScopeError.TheVariants.{Unknown, A
 use Rattle.lois_syntax.specs.Refusals.{tokens_in, Refuses as SyntaxRefuses}
 use Rattle.lois_syntax.specs.declared.SyntaxError.{SyntaxError}
 use Rattle.lois_syntax.specs.declared.SyntaxError.TheVariants.{NoScript, TooNested, WideTuple, TurnsTooMany}
+use Rattle.lois_registers.specs.Places.{HasNone as HasNoRegisters, IsPlace as IsRegistersPlace}
+use Rattle.lois_registers.specs.declared.RegistersError.TheVariants.{NotRegisters as NoRegisters}
 use Rattle.lois_run.specs.Places.{IsPlaceOf}
 use Rattle.lois_run.specs.declared.outcomes.Refusal.{Refusal}
-use Rattle.lois_run.specs.declared.outcomes.Refusal.TheVariants.{TooLong, Lexical, Syntax, Scope, NotResults}
+use Rattle.lois_run.specs.declared.outcomes.Refusal.TheVariants.{Lexical, Syntax, Scope}
 
 -- the offset of the token's first byte, or the end of the text where there is no such token
 abbrev pub token_place : List ℕ → List Token → ℕ → ℕ
@@ -62,22 +63,42 @@ ScopeTells text (OrderInEquality p) refusal = IsScope text 5 p.offset refusal
 ScopeTells text _ refusal = ⊥
 
 -- The text is refused so: at its first place without a token, at the least token at fault, or at the first break of a rule of
--- scope. A text that is too long isn't looked at, and a script isn't read as results.
+-- scope. A text that is too long isn't looked at, and a script isn't read as anything else.
 abbrev pub IsRefusedAs : List ℕ → Refusal → Type 0
-IsRefusedAs text TooLong = ⊥
-IsRefusedAs text (NotResults place) = ⊥
 IsRefusedAs text (Lexical n place) = (error : LexError) × LexRefuses text error × LexicalTells text error (Lexical n place)
 IsRefusedAs text (Syntax n place) =
     (tokens : List Token) × (error : SyntaxError) × HasTokens text tokens × SyntaxRefuses (tokens_in text tokens) error × SyntaxTells text tokens error (Syntax n place)
 IsRefusedAs text (Scope n place) =
     (s : ScriptD) × (error : ScopeError) × Spells text s × ScopeRefuses s error × ScopeTells text error (Scope n place)
+IsRefusedAs text _ = ⊥
 
--- The text is that of no sound results and of no sound trace. It is refused at k: where it leaves the shape of both, or, where
--- it is of that shape, at the first side rule that it breaks.
-pub record IsNoAnswerAt (text : List ℕ) (k : ℕ) : Type 0 where
-  pub none : HasNone (IsAnswerOf text) (results.NotResults k)
-  pub place : IsPlace HasAnswerShape SpellsAnswer answer_pieces text (results.NotResults k)
+-- Nothing of a kind has the text. It is refused at k: where it leaves the shape of all texts of the kind, or, where it is of that
+-- shape, at the first side rule that it breaks.
+pub record IsNoneAt {V D : Type 0} (Holds : V → Type 0) (Shape : List ℕ → Type 0) (SpelledBy : List ℕ → D → Type 0) (pieces : D → List Piece) (text : List ℕ) (k : ℕ) : Type 0 where
+  pub none : HasNone Holds (results.NotResults k)
+  pub place : IsPlace Shape SpelledBy pieces text (results.NotResults k)
   pub inside : IsInside (length text) (results.NotResults k)
 
+-- no sound results and no sound trace; no sound results
+abbrev pub IsNoAnswerAt : List ℕ → ℕ → Type 0
+IsNoAnswerAt text k = IsNoneAt (IsAnswerOf text) HasAnswerShape SpellsAnswer answer_pieces text k
+
+abbrev pub IsNoResultsAt : List ℕ → ℕ → Type 0
+IsNoResultsAt text k = IsNoneAt (IsResultsOf text) HasResultsShape SpellsResults results_pieces text k
+
+-- no register automaton, at the first line that is at fault
+abbrev pub IsNoRegistersAt : List ℕ → ℕ → Type 0
+IsNoRegistersAt text k = HasNoRegisters text (NoRegisters k) × IsRegistersPlace text (NoRegisters k)
+
+-- so at a line and a column
+abbrev pub IsAtPlace : (List ℕ → ℕ → Type 0) → List ℕ → Place → Type 0
+IsAtPlace At text place = (k : ℕ) × At text k × IsPlaceOf text k place
+
 abbrev pub IsNoAnswer : List ℕ → Place → Type 0
-IsNoAnswer text place = (k : ℕ) × IsNoAnswerAt text k × IsPlaceOf text k place
+IsNoAnswer = IsAtPlace IsNoAnswerAt
+
+abbrev pub IsNoResults : List ℕ → Place → Type 0
+IsNoResults = IsAtPlace IsNoResultsAt
+
+abbrev pub IsNoRegisters : List ℕ → Place → Type 0
+IsNoRegisters = IsAtPlace IsNoRegistersAt

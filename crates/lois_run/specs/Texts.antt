@@ -32,3 +32,7 @@ scope_text n =
 
 abbrev pub placed_text : Place → List ℕ → List ℕ
 placed_text place cause = codes "refused at " ++ decimal place.line ++ codes ":" ++ decimal place.column ++ codes ": " ++ cause
+
+-- a refusal that names a line of results and the case
+abbrev pub case_text : List ℕ → List ℕ → ℕ → List ℕ → List ℕ
+case_text before name case behind = codes "refused: " ++ before ++ name ++ codes " in case " ++ decimal case ++ behind

@@ -1,16 +1,19 @@
--- The words that the program takes, each the list of its bytes: `run`, `check`, `reread`, and `make` with a number from
--- 1 to 10,000. `run` and `make` take the option `--decider plain`, `--decider=plain` or the like, `make` behind the
--- number or before it.
-use Rattle.std.specs.Prelude.{◌≡◌, ◌&&◌, Bool, true, false, not, List, [], ◌∷◌, Option, Some, None, option_map, option_and_then, codes, if◌then◌else◌, bytes_eq, nat_eq, nat_le, ℕ}
+-- The words that the program takes, each the list of its bytes: `run`, `check`, `reread`, `make` with a number from
+-- 1 to 10,000, `equal` with two names, `registers`, and `census` with a name. `run` and `make` take the option
+-- `--decider plain`, `--decider=plain` or the like, `make` behind the number or before it.
+use Rattle.std.specs.Prelude.{◌≡◌, ◌&&◌, Bool, true, false, IsTrue, not, List, [], ◌∷◌, Option, Some, None, option_map, option_and_then, codes, if◌then◌else◌, bytes_eq, nat_eq, nat_le, length, ℕ}
 use Rattle.std.specs.Char.{is_ascii_digit}
-use Rattle.std.specs.List.{All, list_all, starts_with}
+use Rattle.std.specs.List.{All, list_all, list_any, starts_with}
 use Rattle.std.specs.Option.{option_or}
+use Rattle.lois_base.specs.Names.{begins_with_letter, is_name_byte}
 use Rattle.lois_base.specs.declared.deciding.Kind.{Kind}
 use Rattle.lois_base.specs.declared.deciding.Kind.TheVariants.{Plain, Graph, Memo}
+use Rattle.lois_base.specs.declared.limits.TheConstants.{LONGEST_NAME}
 use Rattle.lois_deciders.specs.Choice.{IsUnwanted}
+use Rattle.lois_lexer.specs.Words.{reserved}
 use Rattle.lois_script.specs.Grammar.{decimal}
 use Rattle.lois_run.specs.declared.words.Command.{Command}
-use Rattle.lois_run.specs.declared.words.Command.TheVariants.{Run, Check, Reread, Make}
+use Rattle.lois_run.specs.declared.words.Command.TheVariants.{Run, Check, Reread, Make, Equal, Registers, Census}
 
 abbrev pub kind_named : List ℕ → Option Kind
 kind_named word =
@@ -30,6 +33,25 @@ is_number word = list_all is_ascii_digit word && not (starts_with nat_eq word (c
 
 abbrev pub number_named : List ℕ → Option ℕ
 number_named word = if (is_number word) then (Some (decimal word)) else None
+
+-- a name that is no word of the language
+abbrev pub is_free : List ℕ → Bool
+is_free word = begins_with_letter word && nat_le (length word) LONGEST_NAME && list_all is_name_byte word && not (list_any (bytes_eq word) reserved)
+
+abbrev pub free_name : List ℕ → Option (List ℕ)
+free_name word = if (is_free word) then (Some word) else None
+
+abbrev pub command_with_names : Option (List ℕ) → Option (List ℕ) → Option Command
+command_with_names first second = option_and_then (λ one. option_map (λ other. Equal one other) second) first
+
+-- the words behind `equal`; behind `census`
+abbrev pub two_names : List (List ℕ) → Option Command
+two_names (first ∷ second ∷ []) = command_with_names (free_name first) (free_name second)
+two_names _ = None
+
+abbrev pub one_name : List (List ℕ) → Option Command
+one_name (name ∷ []) = option_map (λ n. Census n) (free_name name)
+one_name _ = None
 
 -- the kind that is wanted by no option, by the option in one word and by the option in two words
 abbrev pub option_named : List (List ℕ) → Option (Option Kind)
@@ -63,7 +85,10 @@ command_of (word ∷ words) =
     if (bytes_eq word (codes "run")) then (option_map (λ kind. Run kind) (option_named words)) else
     (if (bytes_eq word (codes "make")) then (option_or (number_first words) (number_last words)) else
     (if (bytes_eq word (codes "check")) then (command_alone Check words) else
-    (if (bytes_eq word (codes "reread")) then (command_alone Reread words) else None)))
+    (if (bytes_eq word (codes "reread")) then (command_alone Reread words) else
+    (if (bytes_eq word (codes "equal")) then (two_names words) else
+    (if (bytes_eq word (codes "registers")) then (command_alone Registers words) else
+    (if (bytes_eq word (codes "census")) then (one_name words) else None))))))
 
 -- the words ask for this
 abbrev pub Asks : Command → List (List ℕ) → Type 0
@@ -75,16 +100,15 @@ wanted_kind (Run kind) = kind
 wanted_kind (Make number kind) = kind
 wanted_kind _ = None
 
-abbrev pub runs_script : Command → Bool
-runs_script (Run kind) = true
-runs_script (Make number kind) = true
-runs_script _ = false
+abbrev pub asks_decider : Command → Bool
+asks_decider Check = false
+asks_decider Reread = false
+asks_decider Registers = false
+asks_decider _ = true
 
--- `run` and `make` have no decider of the named kind, or none at all
+-- a command that asks a decider has none of the named kind, or none at all
 abbrev pub Lacks : Command → List Kind → Type 0
-Lacks (Run kind) kinds = All (IsUnwanted kind) kinds
-Lacks (Make number kind) kinds = All (IsUnwanted kind) kinds
-Lacks _ kinds = ⊥
+Lacks command kinds = IsTrue (asks_decider command) × All (IsUnwanted (wanted_kind command)) kinds
 
 -- The words ask for nothing, or for something that lacks its decider. They ask for one thing at most.
 abbrev pub IsUsage : List (List ℕ) → List Kind → Type 0

@@ -2,6 +2,7 @@
 #![tactic(auto)]
 
 pub mod laws;
+mod lines;
 mod made;
 mod outcomes;
 mod reading;

@@ -6,18 +6,20 @@ ghost use Rattle.lois_answers.specs.ResultsText.{lined};
 ghost use Rattle.lois_answers.specs.TraceText.{answer_text};
 ghost use Rattle.lois_reader.specs.Refusal.{IsSoundAnswer};
 
-use crate::texts::{append_count, lexical_text, refused_line, scope_text, syntax_text, text_line};
+use crate::texts::{case_line, lexical_text, refused_line, scope_text, syntax_text, text_line};
 use lois_answers::{Answer, FaultKind, Results, Trace};
-use lois_base::NoMemory;
+use lois_base::{Name, Names, NoMemory};
+use lois_census::{Censuses, print_censuses};
+use lois_equal::{Difference, print_difference};
 use lois_lexer::Place;
-use lois_printer::{print_results, print_trace};
+use lois_printer::{append, append_count, print_results, print_trace};
 use lois_script::Script;
 use lois_script_printer::print_script;
 use std::alloc::Global;
 
 /// Why a text is refused. The number is that of the cause, counted from 1 in the order in which the errors of `lex`,
-/// `read_script` and `check` are declared.
-#[derive(Clone, Copy, PartialEq, Eq, Debug)]
+/// `read_script` and `check` are declared. Cases of results are counted from 1.
+#[derive(Drop)]
 pub enum Refusal {
     /// The input has more than 1,048,576 bytes.
     TooLong,
@@ -27,8 +29,18 @@ pub enum Refusal {
     Syntax(u8, Place),
     /// The script is not well scoped: 1 to 5.
     Scope(u8, Place),
-    /// The text is that of no results and no trace.
+    /// The text is that of no results and no trace; where a line of results is looked for, of no results.
     NotResults(Place),
+    /// The text is that of no register automaton.
+    NotRegisters(Place),
+    /// A case of the results has no line of that name.
+    NoLine(Name, usize),
+    /// At some choice that the case admits its line of that name holds no deterministic automaton.
+    NotDeterministic(Name, usize),
+    /// The results have parameters.
+    HasParameters,
+    /// The line of that name holds no set in the case.
+    NotASet(Name, usize),
 }
 
 /// What `make` counts: the loops of the made script, its bytes, the cases of its results, and the comprehensions of the set
@@ -40,6 +52,9 @@ pub struct Made {
     pub cases: usize,
     pub comprehensions: usize,
 }
+
+const USAGE: &[u8] =
+    b"usage: lois run|check|reread|make N|equal A B|registers|census A [--decider plain|graph|memo]";
 
 /// What the top call comes to.
 #[derive(Drop)]
@@ -54,6 +69,15 @@ pub enum Outcome {
     Checked(Script),
     /// What the results of the made script come to.
     Made(Made),
+    /// Two lines accept the same words in each case.
+    Same,
+    /// In the case of that number a word tells two lines apart, of which the named one accepts it. The names behind are the
+    /// parameters of the results.
+    Differ(usize, Difference, Name, Names),
+    /// The results that hold the automaton of a register automaton.
+    Translated(Results),
+    /// One member of each orbit of a set, for each case that holds.
+    Census(Censuses),
     Refused(Refusal),
     /// A call of the source failed.
     ReadFault,
@@ -62,8 +86,9 @@ pub enum Outcome {
 }
 
 impl Outcome {
-    /// The exit status: 0 where the script has completed, was checked or was made, or the text was read again, 1 to 4 where the script
-    /// fails, 5 where the text is refused, 6 after a read fault, and 9 where the words are none that the program takes.
+    /// The exit status: 0 where the script has completed, was checked or was made, where the text was read again or translated, where
+    /// two lines accept the same words and where orbits are listed, 1 to 4 where the script fails, 5 where the text is refused, 6 after a
+    /// read fault, 9 where the words are none that the program takes, and 10 where two lines differ.
     pub fn status(&self) -> u8
         ensures { result ≡ status_of self.now }
     {
@@ -73,6 +98,10 @@ impl Outcome {
             Outcome::Reread(_) => 0,
             Outcome::Checked(_) => 0,
             Outcome::Made(_) => 0,
+            Outcome::Same => 0,
+            Outcome::Differ(_, _, _, _) => 10,
+            Outcome::Translated(_) => 0,
+            Outcome::Census(_) => 0,
             Outcome::Refused(_) => 5,
             Outcome::ReadFault => 6,
             Outcome::Usage => 9,
@@ -90,12 +119,15 @@ impl Outcome {
             Outcome::Reread(answer) => print_answer(alloc, answer),
             Outcome::Checked(script) => print_script(alloc, script),
             Outcome::Made(made) => made.text(alloc),
+            Outcome::Same => text_line(alloc, b"equal"),
+            Outcome::Differ(case, difference, name, parameters) => {
+                print_difference(alloc, parameters, *case, difference, name)
+            }
+            Outcome::Translated(results) => print_results(alloc, results),
+            Outcome::Census(censuses) => print_censuses(alloc, censuses),
             Outcome::Refused(refusal) => refusal.text(alloc),
             Outcome::ReadFault => Ok(Vec::new(alloc)),
-            Outcome::Usage => text_line(
-                alloc,
-                b"usage: lois run|check|reread|make N [--decider plain|graph|memo]",
-            ),
+            Outcome::Usage => text_line(alloc, USAGE),
         }
     }
 }
@@ -153,6 +185,20 @@ impl Refusal {
                 scope_text(*number).as_bytes(),
             ),
             Refusal::NotResults(place) => refused_line(alloc, *place, b"not results"),
+            Refusal::NotRegisters(place) => refused_line(
+                alloc,
+                *place,
+                b"not a register automaton",
+            ),
+            Refusal::NoLine(name, case) => { case_line(alloc, b"no line ", name, *case, b"") }
+            Refusal::NotDeterministic(name, case) => {
+                case_line(alloc, b"", name, *case, b" is no deterministic automaton")
+            }
+            Refusal::HasParameters => text_line(
+                alloc,
+                b"refused: census of results with parameters",
+            ),
+            Refusal::NotASet(name, case) => case_line(alloc, b"", name, *case, b" is no set"),
         }
     }
 }

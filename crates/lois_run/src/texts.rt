@@ -1,43 +1,16 @@
 //! The lines that the outcomes are told by.
 
-ghost use Rattle.std.specs.Prelude.{◌≡◌, ◌++◌, IfOk, OnOk};
-ghost use Rattle.std.specs.Fmt.{decimal};
+ghost use Rattle.std.specs.Prelude.{◌≡◌, IfOk};
 ghost use Rattle.lois_answers.specs.ResultsText.{lined};
-ghost use Rattle.lois_run.specs.Texts.{lexical_text, syntax_text, scope_text, placed_text};
+ghost use Rattle.lois_run.specs.Texts.{lexical_text, syntax_text, scope_text, placed_text, case_text};
 
-use lois_base::NoMemory;
+use lois_base::{Name, NoMemory};
 use lois_lexer::{LexError, Place};
+use lois_printer::{append, append_number};
 use lois_scope::ScopeError;
 use lois_script::Pos;
 use lois_syntax::SyntaxError;
 use std::alloc::Global;
-
-pub(crate) fn append(text: &mut Vec<u8>, piece: &[u8]) -> Result<(), NoMemory>
-    ensures { OnOk result (text.new.items ≡ text.old.items ++ piece.now) }
-{
-    text.extend_from_slice(piece).map_err(|_| NoMemory)
-}
-
-fn append_number(alloc: Global, text: &mut Vec<u8>, number: usize) -> Result<(), NoMemory>
-    ensures { OnOk result (text.new.items ≡ text.old.items ++ decimal number) }
-{
-    let digits = format!(in alloc; "{number}")?;
-    append(text, digits.as_bytes())
-}
-
-/// A line of the words and the number.
-pub(crate) fn append_count(
-    alloc: Global,
-    text: &mut Vec<u8>,
-    words: &[u8],
-    number: usize,
-) -> Result<(), NoMemory>
-    ensures { OnOk result (text.new.items ≡ text.old.items ++ lined (words.now ++ decimal number)) }
-{
-    append(text, words)?;
-    append_number(alloc, text, number)?;
-    append(text, b"\n")
-}
 
 /// The words with the end of their line.
 pub(crate) fn text_line(alloc: Global, words: &[u8]) -> Result<Vec<u8>, NoMemory>
@@ -55,11 +28,32 @@ pub(crate) fn refused_line(alloc: Global, place: Place, cause: &[u8]) -> Result<
 {
     let mut text = Vec::new(alloc);
     append(&mut text, b"refused at ")?;
-    append_number(alloc, &mut text, place.line)?;
+    append_number(alloc, &mut text, place.line as u64)?;
     append(&mut text, b":")?;
-    append_number(alloc, &mut text, place.column)?;
+    append_number(alloc, &mut text, place.column as u64)?;
     append(&mut text, b": ")?;
     append(&mut text, cause)?;
+    append(&mut text, b"\n")?;
+    Ok(text)
+}
+
+/// The line of a refusal that names a line of results and the case, with words before and behind.
+pub(crate) fn case_line(
+    alloc: Global,
+    before: &[u8],
+    name: &Name,
+    case: usize,
+    behind: &[u8],
+) -> Result<Vec<u8>, NoMemory>
+    ensures { IfOk result (λ text. text.items ≡ lined (case_text before.now name.now case behind.now)) }
+{
+    let mut text = Vec::new(alloc);
+    append(&mut text, b"refused: ")?;
+    append(&mut text, before)?;
+    append(&mut text, name.bytes())?;
+    append(&mut text, b" in case ")?;
+    append_number(alloc, &mut text, case as u64)?;
+    append(&mut text, behind)?;
     append(&mut text, b"\n")?;
     Ok(text)
 }

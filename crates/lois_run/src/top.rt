@@ -6,10 +6,11 @@ ghost use Rattle.lois_outside.specs.Faults.{Rose};
 ghost use Rattle.lois_run.specs.Causes.{AnswersText, ReadsText, IsOutcomeOf, GaveAtMost, IsTold};
 ghost use Rattle.lois_base.specs.declared.limits.TheConstants.{LONGEST_TEXT};
 ghost use Rattle.lois_run.specs.Outcomes.{HasText};
-ghost use Rattle.lois_run.specs.Words.{Asks, IsUsage, Lacks, wanted_kind, runs_script};
+ghost use Rattle.lois_run.specs.Words.{Asks, IsUsage, Lacks, wanted_kind, asks_decider};
 ghost use Rattle.lois_run.specs.declared.outcomes.Outcome.{Outcome};
 ghost use Rattle.lois_run.specs.declared.words.Command.TheVariants.{Run, Check, Reread, Make};
 
+use crate::lines::{compare_text, count_text, translate_text};
 use crate::made::made;
 use crate::reading::{Read, place_at, read_text};
 use crate::running::run;
@@ -27,29 +28,33 @@ const WRITE_FAULT: u8 = 7;
 const NO_MEMORY: u8 = 8;
 
 // Which decider the command wants: the first of a kind, or the first of all.
-fn wanted_kind(command: Command) -> Option<Kind>
-    ensures { result ≡ wanted_kind command }
+fn wanted_kind(command: &Command) -> Option<Kind>
+    ensures { result ≡ wanted_kind command.now }
 {
     match command {
-        Command::Run(kind) | Command::Make(_, kind) => kind,
-        Command::Check | Command::Reread => None,
+        Command::Run(kind) | Command::Make(_, kind) => *kind,
+        Command::Check
+        | Command::Reread
+        | Command::Equal(_, _)
+        | Command::Registers
+        | Command::Census(_) => None,
     }
 }
 
-fn runs_script(command: Command) -> bool
-    ensures { result ≡ runs_script command }
+fn asks_decider(command: &Command) -> bool
+    ensures { result ≡ asks_decider command.now }
 {
     match command {
-        Command::Run(_) | Command::Make(_, _) => true,
-        Command::Check | Command::Reread => false,
+        Command::Run(_) | Command::Make(_, _) | Command::Equal(_, _) | Command::Census(_) => true,
+        Command::Check | Command::Reread | Command::Registers => false,
     }
 }
 
-// Whether the command runs a script and has no decider for it.
-fn lacks_decider(command: Command, chosen: &Option<Chosen>) -> bool
-    ensures { result ≡ (runs_script command && is_none chosen.now) }
+// Whether the command asks a decider and has none.
+fn lacks_decider(command: &Command, chosen: &Option<Chosen>) -> bool
+    ensures { result ≡ (asks_decider command.now && is_none chosen.now) }
 {
-    runs_script(command) && chosen.is_none()
+    asks_decider(command) && chosen.is_none()
 }
 
 /// What a text comes to that is to be run.
@@ -98,7 +103,7 @@ fn answer(
 ) -> Result<Outcome, NoMemory>
     requires fits { length text.now ≤ LONGEST_TEXT }
     requires reads { ReadsText command }
-    requires decider { IsTrue (runs_script command) → IsSome chosen }
+    requires decider { IsTrue (asks_decider command) → IsSome chosen }
     ensures answer { IfOk result (AnswersText command text.now) }
     ensures written { IfOk result HasText }
 {
@@ -110,6 +115,15 @@ fn answer(
         Command::Check => check_text(alloc, text),
         Command::Reread => reread_text(alloc, text),
         Command::Make(_, _) => unreachable!(),
+        Command::Equal(first, second) => match chosen {
+            Some(mut chosen) => compare_text(alloc, text, &first, &second, &mut chosen),
+            None => unreachable!(),
+        },
+        Command::Registers => translate_text(alloc, text),
+        Command::Census(name) => match chosen {
+            Some(mut chosen) => count_text(alloc, text, &name, &mut chosen),
+            None => unreachable!(),
+        },
     }
 }
 
@@ -121,7 +135,7 @@ fn served<S: Source>(
     chosen: Option<Chosen>,
 ) -> Result<Outcome, NoMemory>
     requires number { (count : ℕ) → (kind : Option Kind) → command ≡ Make count kind → (1 ≤ count) × (count ≤ 10000) }
-    requires decider { IsTrue (runs_script command) → IsSome chosen }
+    requires decider { IsTrue (asks_decider command) → IsSome chosen }
     ensures outcome { IfOk result (λ o. (words : List (List ℕ)) → (kinds : List Kind) → Asks command words → (Lacks command kinds → ⊥) → IsOutcomeOf words kinds S.left S.faults S.takes source.old source.new o) }
     ensures make_asks_nothing { (count : ℕ) → (kind : Option Kind) → command ≡ Make count kind → source.new ≡ source.old }
     ensures count_never_falls { S.faults source.old ≤ S.faults source.new }
@@ -167,8 +181,8 @@ pub fn outcome<S: Source>(
     let Some(command) = asked(alloc, words)? else {
         return Ok(Outcome::Usage);
     };
-    let chosen = Chosen::choose(deciders, wanted_kind(command));
-    if lacks_decider(command, &chosen) {
+    let chosen = Chosen::choose(deciders, wanted_kind(&command));
+    if lacks_decider(&command, &chosen) {
         return Ok(Outcome::Usage);
     }
     served(alloc, command, source, chosen)

@@ -1,18 +1,19 @@
 //! The words of the command line.
 
-ghost use Rattle.std.specs.Prelude.{◌≡◌, false, IfOk, map, option_map, string_bytes};
+ghost use Rattle.std.specs.Prelude.{◌≡◌, false, IfOk, map, option_map, option_and_then, string_bytes};
 ghost use Rattle.clap.specs.Words.{app_of, rule_of, subcommand_rows_of};
 ghost use Rattle.clap.specs.declared.builder.command.Command.TheViews.{out-Command};
-ghost use Rattle.lois_run.specs.CommandLine.{are_expected, seen_behind, is_dashed, is_option, decider_option, run_command, make_command, program, kind_given, command_named, command_found};
-ghost use Rattle.lois_run.specs.Words.{command_of, kind_named, number_named};
+ghost use Rattle.lois_run.specs.CommandLine.{are_expected, seen_behind, is_dashed, is_option, decider_option, run_command, make_command, equal_command, census_command, bare_program, with_script_commands, with_answer_commands, program, kind_given, script_command, command_named, command_found};
+ghost use Rattle.lois_run.specs.Words.{command_of, kind_named, number_named, free_name, is_free, command_with_names};
 
 use clap::error::ErrorKind;
 use clap::{Arg, ArgAction, ArgMatches};
-use lois_base::{Kind, NoMemory};
+use lois_base::{Kind, Name, NoMemory, is_name};
+use lois_lexer::is_reserved;
 use std::alloc::{AllocError, Global};
 
 /// What the program is asked for.
-#[derive(Clone, Copy)]
+#[derive(Drop)]
 pub(crate) enum Command {
     /// To run a script, with the first decider or the first of a kind.
     Run(Option<Kind>),
@@ -22,6 +23,12 @@ pub(crate) enum Command {
     Reread,
     /// To make the script of this number and to run it, with the first decider or the first of a kind.
     Make(u32, Option<Kind>),
+    /// To read a results text and to compare the automata of the lines with these names in each case.
+    Equal(Name, Name),
+    /// To read a register automaton and to write it as an automaton over atoms.
+    Registers,
+    /// To read a results text and to list one member of each orbit of the set of the lines with this name.
+    Census(Name),
 }
 
 /// What these words ask for; `None` where they are none that the program takes.
@@ -32,7 +39,7 @@ pub(crate) fn asked(alloc: Global, words: &[String]) -> Result<Option<Command>, 
         return Ok(None);
     }
     match program(alloc)?.try_get_matches_from(words) {
-        Ok(matches) => Ok(command_found(&matches)),
+        Ok(matches) => command_found(alloc, &matches),
         Err(error) if error.kind() == ErrorKind::OutOfMemory => Err(NoMemory),
         Err(_) => Ok(None),
     }
@@ -81,15 +88,43 @@ fn is_option(word: &str) -> bool
 fn program<'a>(alloc: Global) -> Result<clap::Command<'a>, AllocError>
     ensures { IfOk result (λ c. app_of c ≡ program) }
 {
+    let scripts = with_script_commands(alloc, bare_program(alloc))?;
+    with_answer_commands(alloc, scripts)
+}
+
+fn bare_program<'a>(alloc: Global) -> clap::Command<'a>
+    ensures { app_of result ≡ bare_program }
+{
     clap::Command::new(alloc, "lois")
         .no_binary_name(true)
         .disable_help_flag(true)
         .disable_help_subcommand(true)
         .subcommand_required(true)
+}
+
+fn with_script_commands<'a>(
+    alloc: Global,
+    program: clap::Command<'a>,
+) -> Result<clap::Command<'a>, AllocError>
+    ensures { IfOk result (λ c. app_of c ≡ with_script_commands (app_of program.entry)) }
+{
+    program
         .subcommand(run_command(alloc)?)?
         .subcommand(make_command(alloc)?)?
-        .subcommand(clap::Command::new(alloc, "check"))?
-        .subcommand(clap::Command::new(alloc, "reread"))
+        .subcommand(clap::Command::new(alloc, "check"))
+}
+
+fn with_answer_commands<'a>(
+    alloc: Global,
+    program: clap::Command<'a>,
+) -> Result<clap::Command<'a>, AllocError>
+    ensures { IfOk result (λ c. app_of c ≡ with_answer_commands (app_of program.entry)) }
+{
+    program
+        .subcommand(clap::Command::new(alloc, "reread"))?
+        .subcommand(equal_command(alloc)?)?
+        .subcommand(clap::Command::new(alloc, "registers"))?
+        .subcommand(census_command(alloc)?)
 }
 
 fn run_command<'a>(alloc: Global) -> Result<clap::Command<'a>, AllocError>
@@ -106,7 +141,24 @@ fn make_command<'a>(alloc: Global) -> Result<clap::Command<'a>, AllocError>
 {
     clap::Command::new(alloc, "make")
         .arg(decider(alloc))?
-        .arg(Arg::new(alloc, "count"))
+        .arg(Arg::new(alloc, "first"))
+}
+
+// The names are read by hand too.
+fn equal_command<'a>(alloc: Global) -> Result<clap::Command<'a>, AllocError>
+    ensures shape { IfOk result (λ c. app_of c ≡ equal_command) }
+    ensures local { IfOk result (λ c. (out-Command c).has_globals ≡ false) }
+{
+    clap::Command::new(alloc, "equal")
+        .arg(Arg::new(alloc, "first"))?
+        .arg(Arg::new(alloc, "second"))
+}
+
+fn census_command<'a>(alloc: Global) -> Result<clap::Command<'a>, AllocError>
+    ensures shape { IfOk result (λ c. app_of c ≡ census_command) }
+    ensures local { IfOk result (λ c. (out-Command c).has_globals ≡ false) }
+{
+    clap::Command::new(alloc, "census").arg(Arg::new(alloc, "first"))
 }
 
 fn decider<'a>(alloc: Global) -> Arg<'a>
@@ -118,27 +170,96 @@ fn decider<'a>(alloc: Global) -> Arg<'a>
         .action(ArgAction::Set)
 }
 
-fn command_found(matches: &ArgMatches) -> Option<Command>
-    ensures { result ≡ command_found (subcommand_rows_of matches.now) }
+fn command_found(alloc: Global, matches: &ArgMatches) -> Result<Option<Command>, NoMemory>
+    ensures { IfOk result (λ o. o ≡ command_found (subcommand_rows_of matches.now)) }
 {
     match matches.subcommand() {
         Some((name, given)) => command_named(
+            alloc,
             name,
             given.get_str("decider"),
-            given.get_str("count"),
+            given.get_str("first"),
+            given.get_str("second"),
         ),
-        None => None,
+        None => Ok(None),
     }
 }
 
-// The command of a subcommand, of the value of its option and of its positional argument.
-fn command_named(name: &str, decider: Option<&str>, count: Option<&str>) -> Option<Command>
-    ensures { result ≡ command_named name.now (option_map (λ kind. kind.now) decider.entry) (option_map (λ word. word.now) count.entry) }
+// The command of a subcommand, of the value of its option and of its positional arguments.
+fn command_named(
+    alloc: Global,
+    name: &str,
+    decider: Option<&str>,
+    first: Option<&str>,
+    second: Option<&str>,
+) -> Result<Option<Command>, NoMemory>
+    ensures { IfOk result (λ o. o ≡ command_named name.now (option_map (λ kind. kind.now) decider.entry) (option_map (λ word. word.now) first.entry) (option_map (λ word. word.now) second.entry)) }
+{
+    if name == "equal" {
+        return equal_named(alloc, first, second);
+    }
+    if name == "census" {
+        return census_named(alloc, first);
+    }
+    if name == "registers" {
+        return Ok(Some(Command::Registers));
+    }
+    Ok(script_command(name, decider, first))
+}
+
+fn equal_named(
+    alloc: Global,
+    first: Option<&str>,
+    second: Option<&str>,
+) -> Result<Option<Command>, NoMemory>
+    ensures { IfOk result (λ o. o ≡ command_with_names (option_and_then free_name (option_map (λ word. word.now) first.entry)) (option_and_then free_name (option_map (λ word. word.now) second.entry))) }
+{
+    let Some(one) = free_name(alloc, first)? else {
+        return Ok(None);
+    };
+    let Some(other) = free_name(alloc, second)? else {
+        return Ok(None);
+    };
+    Ok(Some(Command::Equal(one, other)))
+}
+
+fn census_named(alloc: Global, first: Option<&str>) -> Result<Option<Command>, NoMemory>
+    ensures { IfOk result (λ o. o ≡ option_map (λ n. Command.Census n) (option_and_then free_name (option_map (λ word. word.now) first.entry))) }
+{
+    let Some(name) = free_name(alloc, first)? else {
+        return Ok(None);
+    };
+    Ok(Some(Command::Census(name)))
+}
+
+// The name that the word spells, unless it is a word of the language or was not given.
+fn free_name(alloc: Global, word: Option<&str>) -> Result<Option<Name>, NoMemory>
+    ensures { IfOk result (λ o. option_map (λ n. n) o ≡ option_and_then free_name (option_map (λ w. w.now) word.entry)) }
+{
+    let Some(word) = word else {
+        return Ok(None);
+    };
+    if !is_free(word) {
+        return Ok(None);
+    }
+    Ok(Some(Name::from_bytes(alloc, word.as_bytes())?))
+}
+
+fn is_free(word: &str) -> bool
+    ensures { result ≡ is_free word.now }
+{
+    let bytes = word.as_bytes();
+    is_name(bytes) && !is_reserved(bytes)
+}
+
+// The command of a subcommand about scripts, or `reread`.
+fn script_command(name: &str, decider: Option<&str>, first: Option<&str>) -> Option<Command>
+    ensures { result ≡ script_command name.now (option_map (λ kind. kind.now) decider.entry) (option_map (λ word. word.now) first.entry) }
 {
     if name == "run" {
         Some(Command::Run(kind_given(decider)?))
     } else if name == "make" {
-        Some(Command::Make(number_named(count?)?, kind_given(decider)?))
+        Some(Command::Make(number_named(first?)?, kind_given(decider)?))
     } else if name == "check" {
         Some(Command::Check)
     } else if name == "reread" {

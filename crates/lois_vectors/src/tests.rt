@@ -16,7 +16,8 @@ const OUTPUT: &[u8] =
 
 const TOO_LONG: &[u8] = b"refused: input over 1048576 bytes\n";
 
-const USAGE: &[u8] = b"usage: lois run|check|reread|make N [--decider plain|graph|memo]\n";
+const USAGE: &[u8] =
+    b"usage: lois run|check|reread|make N|equal A B|registers|census A [--decider plain|graph|memo]\n";
 
 // A source and a sink over memory: how many bytes a call moves, and which calls fail.
 #[derive(Clone, Copy)]

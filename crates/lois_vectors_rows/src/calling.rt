@@ -7,6 +7,10 @@ use lois_run::lois;
 use std::alloc::{AllocError, Global};
 use std::test::Fail;
 
+/// What is written where the words are none that the program takes.
+pub(crate) const USAGE: &[u8] =
+    b"usage: lois run|check|reread|make N|equal A B|registers|census A [--decider plain|graph|memo]\n";
+
 /// The deciders that can be named.
 pub(crate) const KINDS: [&str; 3] = ["graph", "plain", "memo"];
 

@@ -12,6 +12,10 @@ mod completing;
 #[cfg(test)]
 mod failing;
 #[cfg(test)]
+mod lines;
+#[cfg(test)]
 mod made;
+#[cfg(test)]
+mod registers;
 #[cfg(test)]
 mod spelling;

@@ -1,10 +1,8 @@
 //! What `make` says, and which words it takes.
 
-use crate::calling::{Told, all_deciders, asked, called};
+use crate::calling::{Told, USAGE, all_deciders, asked, called};
 use std::alloc::Global;
 use std::test::Fail;
-
-const USAGE: &[u8] = b"usage: lois run|check|reread|make N [--decider plain|graph|memo]\n";
 
 const THREE: &[u8] = b"statements 3\nbytes 259\ncases 1\ncomprehensions 3\n";
 

@@ -2,12 +2,12 @@ use Rattle.std.proofs.Common.{true≢false, sym, ap, ◌∙◌}
 use Rattle.std.proofs.lemmas.Result.{IfOk-weaker}
 use Rattle.lois_deciders.proofs.Asking.{none_is}
 use Rattle.lois_run.specs.Causes.{AnswersText}
-use Rattle.lois_run.specs.Words.{runs_script}
+use Rattle.lois_run.specs.Words.{asks_decider}
 use Rattle.lois_run.proofs.top.answer.Goals as goal
 
 pub unreachable-requires : goal.unreachable-requires
 unreachable-requires g c =
-    true≢false (sym (c.requires.decider (ap runs_script c.in-Run.is)) ∙ none_is c.args.chosen c.in-None.is)
+    true≢false (sym (c.requires.decider (ap asks_decider c.in-Run.is)) ∙ none_is c.args.chosen c.in-None.is)
 
 pub returns-in-Some-clause-answer : goal.returns-in-Some-clause-answer
 returns-in-Some-clause-answer g c =

@@ -1,7 +1,7 @@
-use Rattle.std.proofs.Common.{◌≡◌, List, ℕ, refl, subst, inl, inr}
+use Rattle.std.proofs.Common.{◌≡◌, List, ℕ, refl, sym, ◌∙◌, subst, inl, inr}
 use Rattle.lois_outside.specs.Writing.{AppendsProperPrefix, FailsWriting}
 use Rattle.lois_run.specs.Outcomes.{outcome_text}
-use Rattle.lois_run.proofs.Told.{gave_for}
+use Rattle.lois_run.proofs.Told.{gave_for, never_seven}
 use Rattle.lois_run.proofs.top.lois.Goals as goal
 
 pub returns-in_default-text-clause-answer : goal.returns-in_default-text-clause-answer
@@ -22,3 +22,6 @@ returns-clause-answer g c =
         subst (λ (bytes : List ℕ). FailsWriting g.K.Sink.puts c.args.sink.now bytes c.write_all.new.sink) text c.in-Err.ensures.calls_to_fault,
       ),
     )
+
+pub returns-in-Ok-write_all-clause-write_fault : goal.returns-in-Ok-write_all-clause-write_fault
+returns-in-Ok-write_all-clause-write_fault g c = λ e. absurd (never_seven c.in-Ok.outcome (sym c.status.ensures ∙ e))

@@ -1,4 +1,5 @@
 use Rattle.std.proofs.Common.{◌≡◌, ℕ, true, false, List, [], map, string_bytes, Global, sym, subst, ◌∙◌}
+use Rattle.std.proofs.lemmas.Result.{IfOk-weaker}
 use Rattle.clap.specs.Words.{App, HasKind, HasMatchesOf, fault_of, is_simple_and_free, kind_of}
 use Rattle.clap.specs.declared.error.kind.ErrorKind.TheVariants.{OutOfMemory}
 use Rattle.lois_run.specs.CommandLine.{are_expected, program}
@@ -17,7 +18,7 @@ returns-in-Ok c =
     let expected : are_expected false texts ≡ true = cc (c.are_expected.ensures, c.if-not-are_expected.false) in
     let matches : HasMatchesOf program texts c.in-Ok.matches = subst (λ (a : App). HasMatchesOf a texts c.in-Ok.matches) c.in_ok-program.ensures c.in-Ok.ensures.matches in
     let none : is_simple_and_free program ≡ true → fault_of program texts ≡ [] = subst (λ (a : App). is_simple_and_free a ≡ true → fault_of a texts ≡ []) c.in_ok-program.ensures c.in-Ok.ensures.kinds in
-    c.command_found.ensures ∙ found_is_asked texts c.in-Ok.matches expected matches none
+    IfOk-weaker c.command_found.result _ _ (λ o h. h ∙ found_is_asked texts c.in-Ok.matches expected matches none) c.command_found.ensures
 
 pub returns-in-Err-2 : goal.returns-in-Err-2
 returns-in-Err-2 c =

@@ -1,4 +1,5 @@
 use Rattle.std.proofs.Common.{◌≡◌, List, ℕ, Option, Some, None, codes, option_map, box_value, Box, ap, ap₂, sym, ◌∙◌}
+use Rattle.std.proofs.lemmas.Result.{IfOk-weaker}
 use Rattle.clap.specs.Matches.{found_of}
 use Rattle.clap.specs.Simple.{subcommand_rows, subcommand_rows_of}
 use Rattle.clap.specs.Walk.{Row, rows_of}
@@ -16,10 +17,16 @@ entered_is : {Z : Type 0} (o : Option (Box SubCommand Z)) (name : List ℕ) (row
 entered_is None name rows e f = cc e
 entered_is (Some b) name rows e f = sym (ap₂ (λ (n : List ℕ) (r : List Row). Some (n, r)) (some_is name _ e) (some_is rows _ f))
 
+three : {X Y : Type 0} (f : X → X → X → Y) (a a' b b' d d' : X) → a ≡ a' → b ≡ b' → d ≡ d' → f a b d ≡ f a' b' d'
+three f a a' b b' d d' e g h = ap (λ x. f x b d) e ∙ (ap (λ x. f a' x d) g ∙ ap (f a' b') h)
+
 pub returns-in-Some : goal.returns-in-Some
 returns-in-Some c =
     let rows : List Row = rows_of (found_of c.in-Some.given.now) in
     let entered : subcommand_rows_of c.args.matches.now ≡ Some (c.in-Some.name.now, rows) = entered_is (out-ArgMatches c.args.matches.now).subcommand c.in-Some.name.now rows c.in-Some.ensures.name c.in-Some.ensures.rows in
     let decider = c.get_str.ensures ∙ first_value-rows (found_of c.in-Some.given.now) (codes "decider") in
-    let count = c.get_str-in-Some.ensures ∙ first_value-rows (found_of c.in-Some.given.now) (codes "count") in
-    c.command_named.ensures ∙ ap₂ (command_named c.in-Some.name.now) decider count ∙ sym (ap command_found entered)
+    let first = c.get_str-in-Some.ensures ∙ first_value-rows (found_of c.in-Some.given.now) (codes "first") in
+    let second = c.get_str-in-Some-2.ensures ∙ first_value-rows (found_of c.in-Some.given.now) (codes "second") in
+    let name = c.in-Some.name.now in
+    let read = three (command_named name) _ _ _ _ _ _ decider first second in
+    IfOk-weaker c.command_named.result _ _ (λ o h. h ∙ (read ∙ sym (ap command_found entered))) c.command_named.ensures

@@ -1,0 +1,13 @@
+use Rattle.std.proofs.Common.{length}
+use Rattle.lois_run.proofs.LineAnswers.{no_comparison, comparison_is_written}
+use Rattle.lois_run.proofs.lines.compare_text.Goals as goal
+
+pub returns-in-Refused-clause-answer : goal.returns-in-Refused-clause-answer
+returns-in-Refused-clause-answer g c =
+    let read = rw c.in-Refused.is at c.in_ok-results.ensures in
+    no_comparison c.args.text.now c.args.first.now c.args.second.now c.in-Refused.refusal read
+
+pub returns-clause-written : goal.returns-clause-written
+returns-clause-written g c =
+    let r = c.in-Results.results in
+    comparison_is_written (length r.parameters) c.args.first.now c.args.second.now r c.in_ok-comparison.comparison r.order c.compared_outcome.result c.in_ok-comparison.ensures.comparison c.in_ok-comparison.ensures.usual c.compared_outcome.ensures
