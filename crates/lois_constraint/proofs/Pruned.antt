@@ -1,5 +1,5 @@
 -- Cubes of which none lies within another.
-use Rattle.std.proofs.Common.{◌≡◌, ℕ, ◌+◌, ◌<◌, ◌≤◌, Bool, true, false, ◌||◌, List, [], ◌∷◌, ◌++◌, length, length-append, get_or, take, refl, sym, ap, ◌∙◌, subst, arith}
+use Rattle.std.proofs.Common.{◌≡◌, ℕ, ◌+◌, ◌<◌, ◌≤◌, Bool, true, false, ◌&&◌, ◌||◌, List, [], ◌∷◌, ◌++◌, length, length-append, get_or, take, refl, sym, ap, ◌∙◌, subst, arith}
 use Rattle.std.specs.List.{All}
 use Rattle.std.proofs.lemmas.List.{get_or_append_left, get_or_default, get_or_push}
 use Rattle.std.specs.declared.option.Option.TheVariants.{Some}
@@ -74,6 +74,45 @@ module _ (c : List Atom) (q : Bool) (kept xs : List (List Lit)) (x : List Lit) (
   pub dropped_holds : (cube_holds c x ≡ true → q ≡ true) → (holds c kept || q) ≡ (holds c (xs ++ x ∷ []) || q)
   dropped_holds f =
       one_dropped (holds c kept) (holds c xs) (cube_holds c x) q f same ∙ ap (λ p. p || q) (sym (list_any-append (cube_holds c) xs (x ∷ [])))
+
+-- ---- the cubes so far, parted by whether they lie within a constraint
+one_within : (w o y x g : Bool) → (x ≡ true → g ≡ true) → (w || (o && g)) ≡ (y && g) → ((w || (x || false)) || (o && g)) ≡ ((y || (x || false)) && g)
+one_within true o true true true f e = refl
+one_within true o false true true f e = refl
+one_within false o true true true f e = refl
+one_within false o false true true f e = refl
+one_within w o y true false f e = absurd (let no : false ≡ true = f refl in cc)
+one_within true o true false g f e = e
+one_within true o false false g f e = e
+one_within false o true false g f e = e
+one_within false o false false g f e = e
+
+one_other : (w o y x g : Bool) → (w || (o && g)) ≡ (y && g) → (w || ((o || (x || false)) && g)) ≡ ((y || (x || false)) && g)
+one_other true o true true true e = refl
+one_other true o false true true e = refl
+one_other false true true true true e = refl
+one_other false true false true true e = refl
+one_other false false true true true e = refl
+one_other false false false true true e = refl
+one_other true o true true false e = e
+one_other true o false true false e = e
+one_other false true true true false e = refl
+one_other false true false true false e = refl
+one_other false false true true false e = refl
+one_other false false false true false e = refl
+one_other w true true false g e = e
+one_other w true false false g e = e
+one_other w false true false g e = e
+one_other w false false false g e = e
+
+module _ (c : List Atom) (g : Bool) (within others xs : List (List Lit)) (x : List Lit) (same : (holds c within || (holds c others && g)) ≡ (holds c xs && g)) where
+  pub within_grows : (cube_holds c x ≡ true → g ≡ true) → (holds c (within ++ x ∷ []) || (holds c others && g)) ≡ (holds c (xs ++ x ∷ []) && g)
+  within_grows f =
+      rw (list_any-append (cube_holds c) within (x ∷ []), list_any-append (cube_holds c) xs (x ∷ [])) (one_within (holds c within) (holds c others) (holds c xs) (cube_holds c x) g f same)
+
+  pub others_grow : (holds c within || (holds c (others ++ x ∷ []) && g)) ≡ (holds c (xs ++ x ∷ []) && g)
+  others_grow =
+      rw (list_any-append (cube_holds c) others (x ∷ []), list_any-append (cube_holds c) xs (x ∷ [])) (one_other (holds c within) (holds c others) (holds c xs) (cube_holds c x) g same)
 
 -- ---- cubes that hold at the same choices
 module _ (a b : List Lit) (e : (c : List Atom) → cube_holds c a ≡ cube_holds c b) where

@@ -105,18 +105,19 @@ product_grows c s k g xs i x b is t found e =
     spread false true p q = refl
     spread false false p q = refl
 
--- one cube more of those that are met with g
-pub met_grows : (c : List Atom) (met xs g : List (List Lit)) (x : List Lit) → holds c met ≡ (holds c xs && holds c g) → (holds c met || (cube_holds c x && holds c g)) ≡ (holds c (xs ++ x ∷ []) && holds c g)
-met_grows c met xs g x t = rw (t, list_any-append (cube_holds c) xs (x ∷ [])) (spread (holds c xs) (cube_holds c x) (holds c g))
+-- one cube more of those that are met with g, beside what holds where s does
+pub met_grows : (c : List Atom) (s : Bool) (met xs g : List (List Lit)) (x : List Lit) → holds c met ≡ (s || (holds c xs && holds c g)) → (holds c met || (cube_holds c x && holds c g)) ≡ (s || (holds c (xs ++ x ∷ []) && holds c g))
+met_grows c s met xs g x t = rw (t, list_any-append (cube_holds c) xs (x ∷ [])) (spread s (holds c xs) (cube_holds c x) (holds c g))
   where
-    spread : (p q r : Bool) → ((p && r) || (q && r)) ≡ ((p || (q || false)) && r)
-    spread true true true = refl
-    spread true true false = refl
-    spread true false true = refl
-    spread true false false = refl
-    spread false true true = refl
-    spread false true false = refl
-    spread false false r = refl
+    spread : (s p q r : Bool) → ((s || (p && r)) || (q && r)) ≡ (s || ((p || (q || false)) && r))
+    spread true p q r = refl
+    spread false true true true = refl
+    spread false true true false = refl
+    spread false true false true = refl
+    spread false true false false = refl
+    spread false false true true = refl
+    spread false false true false = refl
+    spread false false false r = refl
 
 -- ---- a cube that was tightened, or that can't be met
 pub none_exactly : (k : List Lit) (o : Option (List Lit)) (b : Bool) → ((c : List Atom) → some_holds c o ≡ cube_holds c k) → IfSome o CanBeMet → is_some o ≡ not b → (b ≡ true) ↔ ((c : List Atom) → cube_holds c k ≡ false)

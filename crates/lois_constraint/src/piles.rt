@@ -86,14 +86,39 @@ fn lies_within_one(known: &Known, others: &Constraint) -> bool
     false
 }
 
-// The cubes where a constraint holds too.
-fn met_with(alloc: Global, cubes: Vec<Known>, c: &Constraint) -> Result<Pile, NoMemory>
-    ensures truth { IfOk result (λ r. (e : List Atom) → holds e r ≡ (holds e cubes.items && holds e c.now)) }
-    ensures rules { IfOk result (λ r. (rule : Rule) → ConstraintObeys rule cubes.items → ConstraintObeys rule c.now → ConstraintObeys rule r) }
+// The cubes that lie within one of a constraint's cubes, and the others.
+#[derive(Drop)]
+struct Parts {
+    within: Vec<Known>,
+    others: Vec<Known>,
+}
+
+fn parted(alloc: Global, cubes: Vec<Known>, c: &Constraint) -> Result<Parts, NoMemory>
+    ensures truth { IfOk result (λ r. (e : List Atom) → (holds e r.within.items || (holds e r.others.items && holds e c.now)) ≡ (holds e cubes.items && holds e c.now)) }
+    ensures pruned { IfOk result (λ r. IsPruned cubes.items → IsPruned r.within.items) }
+    ensures within_rules { IfOk result (λ r. (rule : Rule) → ConstraintObeys rule cubes.items → ConstraintObeys rule r.within.items) }
+    ensures other_rules { IfOk result (λ r. (rule : Rule) → ConstraintObeys rule cubes.items → ConstraintObeys rule r.others.items) }
 {
-    let mut met = Pile::new(alloc);
+    let mut within = Vec::new(alloc);
+    let mut others = Vec::new(alloc);
     for known in cubes {
-        met = met.put_met(alloc, known, c)?;
+        if lies_within_one(&known, c) {
+            within.push(known)?;
+        } else {
+            others.push(known)?;
+        }
+    }
+    Ok(Parts { within, others })
+}
+
+// More cubes, each where the constraint holds too.
+fn with_met(alloc: Global, pile: Pile, cubes: Vec<Known>, c: &Constraint) -> Result<Pile, NoMemory>
+    ensures truth { IfOk result (λ r. (e : List Atom) → holds e r ≡ (holds e pile || (holds e cubes.items && holds e c.now))) }
+    ensures rules { IfOk result (λ r. (rule : Rule) → ConstraintObeys rule pile → ConstraintObeys rule cubes.items → ConstraintObeys rule c.now → ConstraintObeys rule r) }
+{
+    let mut met = pile;
+    for known in cubes {
+        met = met.put_with_each(alloc, &known, c)?;
     }
     Ok(met)
 }
@@ -176,24 +201,15 @@ impl Pile {
         Ok(pile)
     }
 
-    // The cube where the constraint holds: whole where it lies within one of the constraint's cubes.
-    fn put_met(self, alloc: Global, known: Known, others: &Constraint) -> Result<Self, NoMemory>
-        ensures truth { IfOk result (λ r. (c : List Atom) → holds c r ≡ (holds c self || (cube_holds c known && holds c others.now))) }
-        ensures rules { IfOk result (λ r. (rule : Rule) → ConstraintObeys rule self → CubeObeys rule known → ConstraintObeys rule others.now → ConstraintObeys rule r) }
-    {
-        if lies_within_one(&known, others) {
-            return Ok(self.put(alloc, known)?);
-        }
-        Ok(self.put_with_each(alloc, &known, others)?)
-    }
-
-    /// The pile where a constraint holds too.
+    /// The pile where a constraint holds too. What lies within one of its cubes stays as it is, and isn't compared with the rest
+    /// of the pile again: none of a pile lies within another.
     pub(crate) fn meet(self, alloc: Global, c: &Constraint) -> Result<Self, NoMemory>
         ensures truth { IfOk result (λ r. (e : List Atom) → holds e r ≡ (holds e self && holds e c.now)) }
         ensures rules { IfOk result (λ r. (rule : Rule) → ConstraintObeys rule self → ConstraintObeys rule c.now → ConstraintObeys rule r) }
     {
         let Pile { items } = self;
-        met_with(alloc, items, c)
+        let Parts { within, others } = parted(alloc, items, c)?;
+        with_met(alloc, Pile { items: within }, others, c)
     }
 
     /// The cubes as a constraint.

@@ -1,5 +1,5 @@
 -- Questions about one cube after another.
-use Rattle.std.proofs.Common.{◌≡◌, ℕ, ◌+◌, ◌-◌, ◌<◌, ◌≤◌, ◌^◌, ◌⊎◌, inl, inr, Bool, true, false, not, ◌&&◌, List, length, get_or, set, Option, Some, None, Result, Ok, Err, IfOk, OnOk, IfSome, IsNone, ◌↔◌, refl, sym, ap, ◌∙◌, subst, arith}
+use Rattle.std.proofs.Common.{◌≡◌, ℕ, zero, suc, ◌+◌, ◌-◌, ◌<◌, ◌≤◌, ◌^◌, ◌⊎◌, inl, inr, Bool, true, false, not, ◌&&◌, List, [], ◌∷◌, length, get_or, set, Option, Some, None, Result, Ok, Err, IfOk, OnOk, IfSome, IsNone, ◌↔◌, refl, sym, ap, ◌∙◌, subst, arith}
 use Rattle.std.proofs.lemmas.Bool.{cases_lt, and_parts, and_from}
 use Rattle.std.proofs.lemmas.List.Folds.{Any-from_list_any}
 use Rattle.std.proofs.lemmas.List.{get_or_default, get_or-set_same, length-map}
@@ -8,6 +8,7 @@ use Rattle.std.specs.Global.{Vec}
 use Rattle.std.specs.List.{HoldsAt}
 use Rattle.std.specs.Option.{is_some}
 use Rattle.lois_base.specs.Atom.{Atom, whole}
+use Rattle.lois_base.specs.Fits.{CubeFits, ConstraintFits}
 use Rattle.lois_base.specs.Theory.{IsSatisfiable, risen}
 use Rattle.lois_base.specs.Truth.{cube_holds, holds, sampled}
 use Rattle.lois_base.specs.declared.guards.Lit.{Lit}
@@ -67,9 +68,6 @@ module _ (g h r : List (List Lit)) (e : (c : List Atom) → holds c r ≡ (holds
       let u : IsFalse (holds m.0 h) = b.1 in
       cc
 
-pub difference : (g h k r : List (List Lit)) → ((c : List Atom) → holds c k ≡ not (holds c h)) → ((c : List Atom) → holds c r ≡ (holds c g && holds c k)) → (c : List Atom) → holds c r ≡ (holds c g && not (holds c h))
-difference g h k r e f = λ c. f c ∙ ap (λ b. holds c g && b) (e c)
-
 module _ {E : Type 0} (n : ℕ) (g h r : List (List Lit)) (e : (c : List Atom) → holds c r ≡ (holds c g && not (holds c h))) where
   pub sample_parts : (a : Result (Option (Vec ℕ)) E) → IfOk a (λ o. IfSome o (λ s. Meets n r s.items)) → IfOk a (λ o. IfSome o (λ s. Parts n g h s.items))
   sample_parts (Ok (Some s)) m = meets_parts g h r e n s.items m
@@ -79,6 +77,11 @@ module _ {E : Type 0} (n : ℕ) (g h r : List (List Lit)) (e : (c : List Atom) �
   pub none_parts : (a : Result (Option (Vec ℕ)) E) → IfOk a (λ o. IsNone o ↔ (CanBeMet n r → ⊥)) → IfOk a (λ o. IsNone o ↔ IsEntailed n g h)
   none_parts (Ok o) w = (λ i. unmet_entails g h r e n (w.0 i), λ f. w.1 (entailed_unmet g h r e n f))
   none_parts (Err x) w = w
+
+-- ---- the cubes of a constraint one after another
+pub one_fits : (n : ℕ) (k : List Lit) → CubeFits n k → ConstraintFits n (k ∷ [])
+one_fits n k h zero d l = h
+one_fits n k h (suc i) d l = absurd (omega (arith, l))
 
 -- ---- of a constraint that holds where another does
 module _ {E : Type 0} (n : ℕ) (g h : List (List Lit)) (e : (c : List Atom) → holds c h ≡ holds c g) where

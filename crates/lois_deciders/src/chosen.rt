@@ -1,6 +1,6 @@
 //! Several deciders, of which one is asked.
 
-ghost use Rattle.std.specs.Prelude.{◌≡◌, ◌<◌, ◌≤◌, ◌↔◌, ◌&&◌, List, length, map, vec_len, IfOk, OnOk, IfSome, IsNone, IsTrue};
+ghost use Rattle.std.specs.Prelude.{◌≡◌, ◌<◌, ◌≤◌, ◌↔◌, ◌&&◌, List, [], ◌∷◌, length, map, vec_len, IfOk, OnOk, IfSome, IsNone, IsTrue};
 ghost use Rattle.std.specs.List.{All, HoldsAt};
 ghost use Rattle.lois_base.specs.Atom.{Atom};
 ghost use Rattle.lois_base.specs.Fits.{CubeFits, ConstraintFits};
@@ -11,7 +11,7 @@ ghost use Rattle.lois_deciders.specs.Choice.{IsWanted, IsUnwanted, IsFirstWanted
 ghost use Rattle.lois_deciders.specs.Met.{AreMet, ExcludeEachOther};
 
 use lois_base::{Constraint, Cube, Decider, Kind, NoMemory, Numbers};
-use lois_constraint::{and, and_not, meet, negate};
+use lois_constraint::{and, and_not, meet};
 use std::alloc::Global;
 
 /// A constraint, and numbers at which it holds.
@@ -73,6 +73,15 @@ fn put(
         }
     }
     Ok(None)
+}
+
+// the constraint of the cube alone
+fn alone(alloc: Global, cube: &Cube) -> Result<Constraint, NoMemory>
+    ensures { IfOk result (λ r. r ≡ cube.now ∷ []) }
+{
+    let mut one = Constraint::new(alloc);
+    one.push(cube.copy(alloc)?)?;
+    Ok(one)
 }
 
 impl Chosen {
@@ -174,15 +183,31 @@ impl Chosen {
         ensures none { IfOk result (λ o. IsNone o ↔ IsEntailed size c.now d.now) }
         ensures only_asked { HasOnlyAsked (λ b. kind_of b) (λ b. questions b) self.old self.new }
     {
-        let pruned = and_not(alloc, c, d)?;
-        if pruned.len() > 0 {
-            return self.ask(alloc, &pruned, size);
+        for cube in c.as_slice() {
+            if let Some(sample) = self.ask_left(alloc, cube, d, size)? {
+                return Ok(Some(sample));
+            }
         }
+        Ok(None)
+    }
 
-        // a cube that contradicts itself is for the decider to refuse
-        let denied = negate(alloc, d)?;
-        let product = and(alloc, c, &denied)?;
-        self.ask(alloc, &product, size)
+    // The same of one cube: what is left of it is asked about.
+    fn ask_left(
+        &mut self,
+        alloc: Global,
+        cube: &Cube,
+        d: &Constraint,
+        size: usize,
+    ) -> Result<Option<Vec<u64>>, NoMemory>
+        requires first { CubeFits size cube.now }
+        requires second { ConstraintFits size d.now }
+        ensures sample { IfOk result (λ o. IfSome o (λ s. Parts size (cube.now ∷ []) d.now s.items)) }
+        ensures none { IfOk result (λ o. IsNone o ↔ IsEntailed size (cube.now ∷ []) d.now) }
+        ensures only_asked { HasOnlyAsked (λ b. kind_of b) (λ b. questions b) self.old self.new }
+    {
+        let whole = alone(alloc, cube)?;
+        let left = and_not(alloc, &whole, d)?;
+        self.ask(alloc, &left, size)
     }
 
     /// How many questions the chosen decider was asked, or the greatest u64 where there were more.
