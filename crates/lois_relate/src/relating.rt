@@ -420,7 +420,7 @@ fn member(
     Ok(found)
 }
 
-// Where the value is an item of the comprehension at some choice of its binders that its guard admits.
+// Where the value is an item of the comprehension at some choice of its binders that its guard admits: nowhere, where it has no cube.
 #[cycle(relating)]
 fn is_item(
     alloc: Global,
@@ -436,6 +436,9 @@ fn is_item(
     requires right_names { AreBelow size t_names.now }
     ensures { IfOk result (λ f. Says size (λ c. OneIsAt (comp_of comp.now) (chosen t_names.now c) (tree s.now) (chosen s_names.now c)) (λ o. AdmitsComp o (comp_of comp.now) × AdmitsTerm o (tree s.now)) (view f)) }
 {
+    if comp.guard.len() == 0 {
+        return Ok(never(alloc));
+    }
     let inner = inner_size(size, comp.binders)?;
     let longer = entered(alloc, t_names, size, comp.binders)?;
     let names = longer.as_slice();

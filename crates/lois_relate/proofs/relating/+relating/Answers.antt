@@ -17,7 +17,7 @@ use Rattle.lois_relate.proofs.Loops.{all_go_on, all_cut}
 use Rattle.lois_relate.proofs.Pairs.{item_got, found_goes_on, each_found, pair_item, guarded_item}
 use Rattle.lois_relate.proofs.Parts.{terms_from, terms_are, comps_from, comps_are, is_part_of, is_comp_of}
 use Rattle.lois_relate.proofs.Single.{singles_say, singles_sets, bare_say}
-use Rattle.lois_relate.proofs.Steps.{all_in_split, parts_split, names_below, item_fits, guard_fits, own_below_more, parts_apart, atoms_say, sets_say}
+use Rattle.lois_relate.proofs.Steps.{all_in_split, parts_split, names_below, item_fits, guard_fits, own_below_more, parts_apart, nothing_is, atoms_say, sets_say}
 use Rattle.lois_relate.proofs.Rows.{one_longer, mapped_pushed, rows_more, rows_known, row_more}
 use Rattle.lois_relate.proofs.Turned.{pair_says, pair_stays, pair_turns}
 use Rattle.lois_relate.proofs.relating.+relating.Goals as goal
@@ -118,6 +118,11 @@ included-returns-then-is_never t c =
     let i = c.loop-place.place in
     let k = is_comp_of items c.args.comps.now i c.index-items-place.result c.as_slice-items.ensures c.loop-place-test.true c.index-items-place.is in
     all_cut c.args.size (λ a. AllInAt (comps_from items (i + 1)) (chosen c.args.s_names.now a) (comps_of c.args.others.now) (chosen c.args.t_names.now a)) _ _ (view c.in_ok-met.met) (c.is_never.ensures.0 c.if-is_never.true) (all_go_on c.args.size _ _ _ _ _ _ (view c.loop-place.met) (view c.in_ok-one.one) (view c.in_ok-met.met) c.loop-place.invariant (λ a. all_in_split (comps_from items i) (comps_from items (i + 1)) (comp_of c.index-items-place.result) (comps_are items i c.index-items-place.result c.loop-place-test.true c.index-items-place.is) (chosen c.args.s_names.now a) (comps_of c.args.others.now) (chosen c.args.t_names.now a)) c.in_ok-one.ensures (λ o h. (k.admits o h.0, h.1)) c.in_ok-met.ensures)
+
+pub is_item-returns-then-len-eq0 : goal.is_item-returns-then-len-eq0
+is_item-returns-then-len-eq0 t c =
+    let comp = c.args.comp.now in
+    nothing_is c.args.size comp.binders c.args.s_names.now c.args.t_names.now comp.guard (tree comp.item) (tree c.args.s.now) (view c.never.result) (sym c.len.ensures ∙ c.if-len-eq0.true) c.never.ensures
 
 pub is_item-same-requires : goal.is_item-same-requires
 is_item-same-requires t c =
