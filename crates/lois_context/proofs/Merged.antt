@@ -18,6 +18,7 @@ use Rattle.lois_answers.specs.ResultsData.{LineD}
 use Rattle.lois_context.specs.Choices.{IsAdmitted, AdmitsContext, ContextHasUsualWidths}
 use Rattle.lois_context.specs.Counted.{admits, times}
 use Rattle.lois_context.specs.Merged.{AreApart, held_by, IsLike, IsLikeOneOf, HasSampleOfOne, AreMerged, IsTakenIn}
+use Rattle.lois_context.specs.Prints.{print_of_held, printed}
 use Rattle.lois_context.specs.Slots.{SlotD}
 use Rattle.lois_context.specs.declared.contexts.Context.{Context}
 use Rattle.lois_context.proofs.Counts.{admits_is, times_append, times_of}
@@ -228,3 +229,17 @@ module _ (g h r : List (List Lit)) (k : ℕ) (e : r ≡ g ++ take k h) where
 
   pub grown_truth : (c : List Atom) → IsTrue (holds c g) → IsTrue (holds c r)
   grown_truth c t = ap (holds c) e ∙ (holds_append c g (take k h) ∙ ap (λ b. b || holds c (take k h)) t)
+
+-- one context, or none, is already merged
+pub merged_few : (ks : List Context) → length ks ≤ 1 → AreMerged ks ks
+merged_few [] l = merged_none
+merged_few (k ∷ []) l = merged_new [] [] k merged_none (λ i d m. absurd (omega (arith, m)))
+merged_few (k ∷ q ∷ ks) l = absurd (omega (arith, l))
+
+-- ---- prints
+pub prints_alike : (k d : Context) → IsLike k d → printed d ≡ printed k
+prints_alike k d like = ap print_of_held like
+
+-- the prints stay where a context is taken into another
+pub prints_taken : (ps : List ℕ) (ds : List Context) (i : ℕ) (k d r : Context) → ps ≡ map printed ds → d ≡ get_or ds i d → IsTakenIn k d r → ps ≡ map printed (set ds i r)
+prints_taken ps ds i k d r e is taken = e ∙ sym (map-set_same printed ds i r d (prints_alike d r taken.like ∙ ap printed is))

@@ -6,6 +6,7 @@ mod contexts;
 mod entering;
 mod joining;
 mod merging;
+mod prints;
 mod slots;
 mod splitting;
 

@@ -1,14 +1,16 @@
 //! Contexts joined where nothing but their constraints differs.
 
-ghost use Rattle.std.specs.Prelude.{◌≡◌, ℕ, ◌<◌, ◌↔◌, List, [], ◌∷◌, ◌++◌, length, IfOk, OnOk, IfSome, IsNone, IsTrue};
+ghost use Rattle.std.specs.Prelude.{◌≡◌, ℕ, ◌<◌, ◌↔◌, List, [], ◌∷◌, ◌++◌, length, map, IfOk, OnOk, IfSome, IsNone, IsTrue};
 ghost use Rattle.std.specs.List.{All, HoldsAt};
 ghost use Rattle.lois_base.specs.Atom.{Atom};
 ghost use Rattle.lois_base.specs.Fits.{ConstraintFits};
 ghost use Rattle.lois_base.specs.Truth.{holds};
 ghost use Rattle.lois_answers.specs.LineView.{line_of};
 ghost use Rattle.lois_context.specs.Merged.{AreMerged, IsLike, IsTakenIn};
+ghost use Rattle.lois_context.specs.Prints.{printed};
 
 use crate::Context;
+use crate::prints::print_of;
 use lois_answers::{Line, Lines};
 use lois_base::{Constraint, NoMemory};
 use std::alloc::Global;
@@ -18,35 +20,62 @@ use std::alloc::Global;
 pub fn merge_equal(alloc: Global, contexts: Vec<Context>) -> Result<Vec<Context>, NoMemory>
     ensures { IfOk result (λ r. AreMerged contexts.items r.items) }
 {
+    // one context alone needs no print
+    if contexts.as_slice().len() <= 1 {
+        return Ok(contexts);
+    }
     let mut merged = Vec::new(alloc);
+    let mut prints = Vec::new(alloc);
     for context in contexts {
-        put(alloc, &mut merged, context)?;
+        put(alloc, &mut merged, &mut prints, context)?;
     }
     Ok(merged)
 }
 
-// Takes a context into the one that holds the same, or puts it behind the others where there is none.
-fn put(alloc: Global, merged: &mut Vec<Context>, context: Context) -> Result<(), NoMemory>
-    ensures { OnOk result ((ks : List Context) → AreMerged ks merged.old.items → AreMerged (ks ++ context ∷ []) merged.new.items) }
+// Takes a context into the one that holds the same, or puts it behind the others where there is none. The prints are those of
+// the merged contexts.
+fn put(
+    alloc: Global,
+    merged: &mut Vec<Context>,
+    prints: &mut Vec<u64>,
+    context: Context,
+) -> Result<(), NoMemory>
+    requires { prints.old.items ≡ map printed merged.old.items }
+    ensures merged { OnOk result ((ks : List Context) → AreMerged ks merged.old.items → AreMerged (ks ++ context ∷ []) merged.new.items) }
+    ensures prints { OnOk result (prints.new.items ≡ map printed merged.new.items) }
 {
-    if let Some(place) = place_of(merged, &context) {
+    let print = print_of(&context);
+    if let Some(place) = place_of(merged, prints, &context, print) {
         return take_in(alloc, &mut merged[place], &context);
     }
     merged.push(context)?;
+    prints.push(print)?;
     Ok(())
 }
 
-// The index of a context with the same size, store and lines.
-fn place_of(contexts: &[Context], context: &Context) -> Option<usize>
+// The index of a context with the same size, store and lines. Those with other prints are passed by.
+fn place_of(contexts: &[Context], prints: &[u64], context: &Context, print: u64) -> Option<usize>
+    requires prints { prints.now ≡ map printed contexts.now }
+    requires print { print ≡ printed context.now }
     ensures found { IfSome result (λ i. (i < length contexts.now) × HoldsAt (IsLike context.now) contexts.now i) }
     ensures none { IsNone result → All (λ d. IsLike context.now d → ⊥) contexts.now }
 {
     for index in 0..contexts.len() {
-        if is_like(&contexts[index], context) {
+        if is_found(&contexts[index], prints[index], context, print) {
             return Some(index);
         }
     }
     None
+}
+
+// The contexts are compared only where their prints are equal.
+#[tactic(auto, using(crate::proofs::Merged::prints_alike))]
+fn is_found(other: &Context, others: u64, context: &Context, print: u64) -> bool
+    requires others { others ≡ printed other.now }
+    requires print { print ≡ printed context.now }
+    ensures { IsTrue result ↔ IsLike context.now other.now }
+{
+    others == print && is_like(other, context)
 }
 
 fn is_like(context: &Context, other: &Context) -> bool

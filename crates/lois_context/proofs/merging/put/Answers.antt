@@ -2,7 +2,7 @@ use Rattle.std.proofs.Common.{◌≡◌, ◌<◌, ◌++◌, ◌∷◌, [], lengt
 use Rattle.std.specs.List.{All, HoldsAt}
 use Rattle.lois_deciders.proofs.Asking.{on_ok, some_is, none_is}
 use Rattle.lois_context.specs.Merged.{AreMerged, IsLike, IsTakenIn}
-use Rattle.lois_context.proofs.Merged.{merged_new, merged_in, like_at}
+use Rattle.lois_context.proofs.Merged.{merged_new, merged_in, like_at, prints_taken}
 use Rattle.lois_context.proofs.merging.put.Goals as goal
 
 pub take_in-requires : goal.take_in-requires
@@ -10,15 +10,21 @@ take_in-requires c =
     let at = some_is (λ i. (i < length c.deref.result.now) × HoldsAt (IsLike c.args.context) c.deref.result.now i) c.place_of.result c.in-Some.place c.in-Some.is c.place_of.ensures.found in
     ap (λ p. p.0) (like_at c.args.context c.deref.result.now c.args.merged.now.items c.in-Some.place c.index_mut.result.now c.deref.ensures.value at.1 c.index_mut.ensures.value)
 
-pub returns-in-Some : goal.returns-in-Some
-returns-in-Some c =
+pub returns-in-Some-clause-merged : goal.returns-in-Some-clause-merged
+returns-in-Some-clause-merged c =
     let at = some_is (λ i. (i < length c.deref.result.now) × HoldsAt (IsLike c.args.context) c.deref.result.now i) c.place_of.result c.in-Some.place c.in-Some.is c.place_of.ensures.found in
     let same = like_at c.args.context c.deref.result.now c.args.merged.now.items c.in-Some.place c.index_mut.result.now c.deref.ensures.value at.1 c.index_mut.ensures.value in
     on_ok c.take_in.result (IsTakenIn c.args.context c.index_mut.result.now c.take_in.new.context) _
     (λ taken ks h. merged_in ks c.args.merged.now.items c.args.context h c.in-Some.place c.index_mut.result.now c.take_in.new.context (subst (λ ds. c.in-Some.place < length ds) c.deref.ensures.value at.0) c.index_mut.ensures.value same taken)
     c.take_in.ensures
 
-pub returns : goal.returns
-returns c = λ ks h.
+pub returns-in-Some-clause-prints : goal.returns-in-Some-clause-prints
+returns-in-Some-clause-prints c =
+    on_ok c.take_in.result (IsTakenIn c.args.context c.index_mut.result.now c.take_in.new.context) _
+    (λ taken. prints_taken c.args.prints.now.items c.args.merged.now.items c.in-Some.place c.args.context c.index_mut.result.now c.take_in.new.context c.requires c.index_mut.ensures.value taken)
+    c.take_in.ensures
+
+pub returns-clause-merged : goal.returns-clause-merged
+returns-clause-merged c = λ ks h.
     subst (AreMerged (ks ++ c.args.context ∷ [])) (sym c.in_ok-push.ensures.items)
     (merged_new ks c.args.merged.now.items c.args.context h (subst (All (λ d. IsLike c.args.context d → ⊥)) c.deref.ensures.value (c.place_of.ensures.none (none_is c.place_of.result c.in_default.is))))
