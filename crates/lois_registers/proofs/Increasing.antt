@@ -25,7 +25,7 @@ module _ (n : ℕ) where
 digit_same : (i j : ℕ) → digit i ≡ digit j → i ≡ j
 digit_same i j e = let h : 48 + i ≡ 48 + j = cc in omega (arith, h)
 
-digits_same : (is js : List ℕ) → map digit is ≡ map digit js → is ≡ js
+pub digits_same : (is js : List ℕ) → map digit is ≡ map digit js → is ≡ js
 digits_same [] [] e = refl
 digits_same [] (j ∷ js) e = absurd (cc)
 digits_same (i ∷ is) [] e = absurd (cc)

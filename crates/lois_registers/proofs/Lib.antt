@@ -16,3 +16,4 @@ pub mod Linked
 pub mod Increasing
 pub mod StepWords
 pub mod Unique
+pub mod Alone

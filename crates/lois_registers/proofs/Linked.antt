@@ -18,7 +18,7 @@ pub anded_push : (ws : List (List ℕ)) (w : List ℕ) → anded (ws ++ w ∷ []
 anded_push [] w = refl
 anded_push (v ∷ ws) w = ap (λ z. v ∷ codes "and" ∷ z) (anded_push ws w)
 
-linked_anded : (w : List ℕ) (ws : List (List ℕ)) → linked (w ∷ ws) ++ codes "and" ∷ [] ≡ anded (w ∷ ws)
+pub linked_anded : (w : List ℕ) (ws : List (List ℕ)) → linked (w ∷ ws) ++ codes "and" ∷ [] ≡ anded (w ∷ ws)
 linked_anded w [] = refl
 linked_anded w (v ∷ ws) = ap (λ z. w ∷ codes "and" ∷ z) (linked_anded v ws)
 

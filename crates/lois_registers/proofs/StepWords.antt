@@ -53,7 +53,7 @@ module _ {X : Type 0} (f : X → List ℕ) (slice : List X) (word : List ℕ) wh
       let all : All (λ w. w ≡ word → ⊥) (before ++ word ∷ after) = subst (All (λ w. w ≡ word → ⊥)) e (All-map (λ w. w ≡ word → ⊥) f slice h) in
       All-get_or (λ w. w ≡ word → ⊥) (before ++ word ∷ after) (length before) [] (omega (arith, length-append before (word ∷ after))) all (get_or_at before word after [] (length before) refl)
 
-first_unique : (word : List ℕ) (xs ys a b : List (List ℕ)) → All (λ w. w ≡ word → ⊥) xs → All (λ w. w ≡ word → ⊥) ys → xs ++ word ∷ a ≡ ys ++ word ∷ b → (xs ≡ ys) × (a ≡ b)
+pub first_unique : (word : List ℕ) (xs ys a b : List (List ℕ)) → All (λ w. w ≡ word → ⊥) xs → All (λ w. w ≡ word → ⊥) ys → xs ++ word ∷ a ≡ ys ++ word ∷ b → (xs ≡ ys) × (a ≡ b)
 first_unique word [] [] a b h k e = (refl, cc)
 first_unique word [] (y ∷ ys) a b h k e = absurd (All-head (λ w. w ≡ word → ⊥) y ys k (cc))
 first_unique word (x ∷ xs) [] a b h k e = absurd (All-head (λ w. w ≡ word → ⊥) x xs h (cc))
@@ -120,7 +120,7 @@ linked_guard (w ∷ v ∷ ws) h =
     All-cons IsGuardWord w (codes "and" ∷ linked (v ∷ ws)) (All-head IsGuardWord w (v ∷ ws) h)
     (All-cons IsGuardWord (codes "and") (linked (v ∷ ws)) and_word (linked_guard (v ∷ ws) (All-tail IsGuardWord w (v ∷ ws) h)))
 
-guard_are : (ordered : Bool) (n : ℕ) (ls : List Lit) → n ≤ 4 → All (IsLiteral ordered n) ls → All IsGuardWord (guard_words ls)
+pub guard_are : (ordered : Bool) (n : ℕ) (ls : List Lit) → n ≤ 4 → All (IsLiteral ordered n) ls → All IsGuardWord (guard_words ls)
 guard_are ordered n [] l h = All-cons IsGuardWord (codes "true") [] (refl, λ e. let bad : ◌≡◌ {A = ℕ} 116 111 = cc in absurd (omega (arith, bad))) (All-nil IsGuardWord)
 guard_are ordered n (k ∷ ks) l h =
     linked_guard (map (literal_text operand_names) (k ∷ ks)) (All-map IsGuardWord (literal_text operand_names) (k ∷ ks)

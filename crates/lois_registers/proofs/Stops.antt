@@ -61,13 +61,13 @@ head_of : (states : List (List ℕ)) → AreStates states → (s : List ℕ) × 
 head_of [] h = absurd (omega (arith, h.some))
 head_of (s ∷ states) h = (s, contains_first s states)
 
-same_order : (a b : Bool) → order_words a ≡ order_words b → a ≡ b
+pub same_order : (a b : Bool) → order_words a ≡ order_words b → a ≡ b
 same_order false false e = refl
 same_order true true e = refl
 same_order false true e = absurd (cc)
 same_order true false e = absurd (cc)
 
-same_count : (a b : ℕ) → count_words a ≡ count_words b → a ≡ b
+pub same_count : (a b : ℕ) → count_words a ≡ count_words b → a ≡ b
 same_count a b e = let h : 48 + a ≡ 48 + b = cc in omega (arith, h)
 
 too_many : (more steps : List RegStep) (line : List (List ℕ)) (rest : Lines) → map step_words more ≡ (map step_words steps ++ line ∷ []) ++ rest → length steps ≡ 256 → length more ≤ 256 → ⊥

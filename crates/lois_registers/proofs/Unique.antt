@@ -29,7 +29,7 @@ six : (P : List (List ℕ) → Type 0) (a b c d e f : List (List ℕ)) → P a �
 six P a b c d e f ha hb hc hd he hf =
     All-cons P a (b ∷ c ∷ d ∷ e ∷ f ∷ []) ha (All-cons P b (c ∷ d ∷ e ∷ f ∷ []) hb (All-cons P c (d ∷ e ∷ f ∷ []) hc (All-cons P d (e ∷ f ∷ []) hd (All-cons P e (f ∷ []) he (All-cons P f [] hf (All-nil P))))))
 
-front_are : (r : Registers) → IsRegisters r → All AreWords (front_lines r)
+pub front_are : (r : Registers) → IsRegisters r → All AreWords (front_lines r)
 front_are r v =
     let listed : All IsName r.finals = All-weaker (Contains r.states) IsName (λ n i. All-contains IsName r.states n v.states.form i) r.finals v.finals.listed in
     let steps : All AreWords (map step_words r.steps) =
@@ -82,14 +82,14 @@ good_no_end lines (r, more, v, e) has =
     All-contains IsNoEnd (front_lines r) end_words (front_no_end r) (subst (λ z. Contains z end_words) (sym e) (Contains-append_left lines more end_words has)) refl
 
 -- ---- two beginnings of one text: one of them goes on from the other
-abbrev GoesOn : Lines → Lines → List ℕ → List ℕ → Type 0
+abbrev pub GoesOn : Lines → Lines → List ℕ → List ℕ → Type 0
 GoesOn xs ys a b = (zs : Lines) × (ys ≡ xs ++ zs) × (a ≡ flat_map spelled zs ++ b)
 
 next_line : (x y : List (List ℕ)) (xs ys : Lines) (a b : List ℕ) → x ≡ y → GoesOn xs ys a b ⊎ GoesOn ys xs b a → GoesOn (x ∷ xs) (y ∷ ys) a b ⊎ GoesOn (y ∷ ys) (x ∷ xs) b a
 next_line x y xs ys a b e (inl (zs, f, g)) = inl (zs, ap (λ z. z ∷ ys) (sym e) ∙ ap (λ z. x ∷ z) f, g)
 next_line x y xs ys a b e (inr (zs, f, g)) = inr (zs, ap (λ z. z ∷ xs) e ∙ ap (λ z. y ∷ z) f, g)
 
-two_beginnings : (xs ys : Lines) (a b : List ℕ) → All AreWords xs → All AreWords ys → flat_map spelled xs ++ a ≡ flat_map spelled ys ++ b → GoesOn xs ys a b ⊎ GoesOn ys xs b a
+pub two_beginnings : (xs ys : Lines) (a b : List ℕ) → All AreWords xs → All AreWords ys → flat_map spelled xs ++ a ≡ flat_map spelled ys ++ b → GoesOn xs ys a b ⊎ GoesOn ys xs b a
 two_beginnings [] ys a b h k e = inl (ys, refl, e)
 two_beginnings (x ∷ xs) [] a b h k e = inr (x ∷ xs, refl, sym e)
 two_beginnings (x ∷ xs) (y ∷ ys) a b h k e =

@@ -7,6 +7,7 @@ ghost use Rattle.lois_registers.specs.Places.{IsRegistersOf, IsPlace, IsOnlyPlac
 ghost use Rattle.lois_registers.specs.Reading.{HasNoLine};
 ghost use Rattle.lois_registers.specs.Texts.{spelled, step_words};
 ghost use Rattle.lois_registers.specs.Valid.{IsCount, IsRegStep};
+ghost use Rattle.lois_registers.specs.declared.automata.Registers.{Registers};
 ghost use Rattle.std.specs.Prelude.{◌⊎◌};
 
 use crate::fixed::{count_line, order_line, title};
@@ -85,8 +86,9 @@ fn registers_of(alloc: Global, text: &[u8]) -> Result<Registers, Halt>
 /// its form, breaks its rule or doesn't end with LF, or the text's length where a line is missing. `NoMemory` where memory ran
 /// out.
 pub fn read_registers(alloc: Global, text: &[u8]) -> Result<Registers, RegistersError>
-    // Ok gives a register automaton of the text.
+    // Ok gives the register automaton of the text, which is the only one.
     ensures those { IfOk result (IsRegistersOf text.now) }
+    ensures alone { IfOk result (λ r. (s : Registers) → IsRegistersOf text.now s → s ≡ r) }
 
     // A refusal comes only where there is none, at the first line at fault.
     ensures none { IfErr result (HasNone text.now) }
