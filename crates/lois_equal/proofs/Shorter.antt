@@ -35,6 +35,7 @@ module _ (n : ℕ) (u : List (List Lit)) (t s r : TermD) (words : HoldsThroughou
     levels = is.levels;
     accepted = (words (first_sampled n w.sample) (first_length n w.sample is.count) is.admitted (values_at (sampled w.sample) w.letters)).0 is.accepted;
     shortest = λ c l h word alone. is.shortest c l h word ((words c l h word).1 alone);
+    used = is.used;
   }
 
   pub some_alone : (o : Option Word) → IfSome o (IsShortestWord n u r) → IfSome o (IsShortestAlone n u t s)
@@ -54,6 +55,7 @@ module _ (n : ℕ) (u : List (List Lit)) (t s : TermD) where
     letters = all_letters t (first_sampled n w.sample) (λ l. HasLetterAt t (first_sampled n w.sample) l ⊎ HasLetterAt s (first_sampled n w.sample) l) (λ x h. inl h) (values_at (sampled w.sample) w.letters) is.accepted.0;
     apart = is.accepted;
     shortest = λ c l h word told. elim told [ inl p ↦ is.shortest c l h word p | inr p ↦ bound c l h word p ];
+    used = is.used;
   }
 
   right_difference : (w : Word) → IsShortestAlone n u s t w → HaveAtLeast t s (length w.letters) → IsDifference n u t s (record { sample = w.sample; word = w.letters; left = false })
@@ -64,6 +66,7 @@ module _ (n : ℕ) (u : List (List Lit)) (t s : TermD) where
     letters = all_letters s (first_sampled n w.sample) (λ l. HasLetterAt t (first_sampled n w.sample) l ⊎ HasLetterAt s (first_sampled n w.sample) l) (λ x h. inr h) (values_at (sampled w.sample) w.letters) is.accepted.0;
     apart = is.accepted;
     shortest = λ c l h word told. elim told [ inl p ↦ bound c l h word p | inr p ↦ is.shortest c l h word p ];
+    used = is.used;
   }
 
   told_of : (left : Bool) (c : List Atom) (word : List PointValue) → IsAcceptedAlone left t s c word → TellsApart t s c word

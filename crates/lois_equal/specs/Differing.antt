@@ -9,7 +9,7 @@ use Rattle.lois_base.specs.Validity.{AdmitsTerm, HasUsualWidths}
 use Rattle.lois_base.specs.Values.{PointValue}
 use Rattle.lois_base.specs.declared.guards.Lit.{Lit}
 use Rattle.lois_automata.specs.Throughout.{HoldsThroughout}
-use Rattle.lois_words.specs.Words.{values_at, first_sampled}
+use Rattle.lois_words.specs.Words.{values_at, first_sampled, AreUsedBetween}
 use Rattle.lois_words.specs.declared.words.Word.{Word}
 use Rattle.lois_equal.specs.Telling.{AcceptsAlone, TellsApart, HasLetterAt}
 use Rattle.lois_equal.specs.declared.differing.Difference.{Difference}
@@ -33,8 +33,8 @@ abbrev pub IsAcceptedAlone : Bool → TermD → TermD → List Atom → List Poi
 IsAcceptedAlone true t s c word = AcceptsAlone t s c word
 IsAcceptedAlone false t s c word = AcceptsAlone s t c word
 
--- A word that tells the two apart at the choice of the first n numbers, which u admits; its terms are read at the whole sample.
--- No shorter word tells the two apart, at any choice that u admits.
+-- A word that tells the two apart at the choice of the first n numbers, which u admits; its terms are read at the whole sample,
+-- and the further numbers are for levels that stand in them. No shorter word tells the two apart, at any choice that u admits.
 pub record IsDifference (n : ℕ) (u : List (List Lit)) (t s : TermD) (d : Difference) : Type 0 where
   pub count : n ≤ length d.sample
   pub admitted : IsTrue (holds (first_sampled n d.sample) u)
@@ -42,6 +42,7 @@ pub record IsDifference (n : ℕ) (u : List (List Lit)) (t s : TermD) (d : Diffe
   pub letters : All (λ l. HasLetterAt t (first_sampled n d.sample) l ⊎ HasLetterAt s (first_sampled n d.sample) l) (values_at (sampled d.sample) d.word)
   pub apart : IsAcceptedAlone d.left t s (first_sampled n d.sample) (values_at (sampled d.sample) d.word)
   pub shortest : HoldsThroughout n u (λ c. (word : List PointValue) → TellsApart t s c word → length d.word ≤ length word)
+  pub used : AreUsedBetween n (length d.sample) d.word
 
 -- each term admits the operators and has tuples of 2 to 8 parts
 pub record AreUsual (o : Bool) (ts : List TermD) : Type 0 where
@@ -59,6 +60,7 @@ pub record IsShortestAlone (n : ℕ) (u : List (List Lit)) (t s : TermD) (w : Wo
   pub levels : All (Fits (length w.sample)) w.letters
   pub accepted : AcceptsAlone t s (first_sampled n w.sample) (values_at (sampled w.sample) w.letters)
   pub shortest : HoldsThroughout n u (λ c. (word : List PointValue) → AcceptsAlone t s c word → length w.letters ≤ length word)
+  pub used : AreUsedBetween n (length w.sample) w.letters
 
 -- the word, with the side that accepts it
 abbrev pub sided : Word → Bool → Equality

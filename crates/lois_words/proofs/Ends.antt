@@ -17,7 +17,7 @@ use Rattle.lois_automata.specs.Throughout.{HoldsThroughout}
 use Rattle.lois_automata.proofs.FiveMachine.{five_equal, five_machine}
 use Rattle.lois_words.specs.Layers.{AcceptsIn}
 use Rattle.lois_words.specs.Walks.{IsOnWay, IsWay, HaveAtLeast, IsWordOf}
-use Rattle.lois_words.specs.Words.{AcceptsAt, values_at, first_sampled, IsShortestWord}
+use Rattle.lois_words.specs.Words.{AcceptsAt, values_at, first_sampled, AreUsedBetween, IsShortestWord}
 use Rattle.lois_words.specs.declared.stages.Stage.{Stage}
 use Rattle.lois_words.specs.declared.words.Word.{Word}
 use Rattle.lois_words.proofs.Choices.{first_length, other_length, whole_sample}
@@ -71,8 +71,8 @@ module _ (a : TermD) (s l t i f : CompsD) (is : a ≡ five_of s l t i f) (n : �
   accepts_here c word (m, own, acc) =
       subst (λ z. Accepts z word) (five_equal s l t i f c m (subst (λ z. IsAutomatonOf (point z c) m) is own)) acc
 
-  pub word_is : (w : Word) → IsWordOf n u (machine_at s l t i f) w → IsShortestWord n u a w
-  word_is w h =
+  pub word_is : (w : Word) → IsWordOf n u (machine_at s l t i f) w → AreUsedBetween n (length w.sample) w.letters → IsShortestWord n u a w
+  word_is w h used =
       let c = first_sampled n w.sample in
       let k : length c ≡ n = first_count h.count in
       let own = machine_is c k h.admitted in
@@ -84,6 +84,7 @@ module _ (a : TermD) (s l t i f : CompsD) (is : a ≡ five_of s l t i f) (n : �
         letters = (machine_at s l t i f c, own, accepted_letters (point a c) (machine_at s l t i f c) word own h.accepted);
         accepted = (machine_at s l t i f c, own, h.accepted);
         shortest = λ d j x v acc. h.shortest d j x v (accepts_here d v acc);
+        used = used;
       }
     where
       first_count : n ≤ length w.sample → length (first_sampled n w.sample) ≡ n

@@ -6,3 +6,5 @@ pub mod Starts
 pub mod Goings
 pub mod Ways
 pub mod Ends
+pub mod Lowered
+pub mod Shorter

@@ -17,7 +17,7 @@ reads_alike a (w ∷ ws) (v ∷ vs) p q same (r, step, rest) =
 pub accepts_alike : (a : Machine) (ws vs : List PointValue) → AreSame ws vs → Accepts a ws → Accepts a vs
 accepts_alike a ws vs same (p, i, (q, j, reads)) = (p, i, (q, j, reads_alike a ws vs p q same reads))
 
-same_words : (ws : List PointValue) → AreSame ws ws
+pub same_words : (ws : List PointValue) → AreSame ws ws
 same_words [] = tt
 same_words (w ∷ ws) = (same_refl w, same_words ws)
 

@@ -3,3 +3,4 @@ pub mod Layers
 pub mod Stages
 pub mod Steps
 pub mod Walks
+pub mod Shortened

@@ -1,9 +1,10 @@
 -- Words that an automaton accepts, as terms with numbers for their levels.
-use Rattle.std.specs.Prelude.{ℕ, ◌≤◌, List, length, map, take, IsTrue}
+use Rattle.std.specs.Prelude.{ℕ, ◌≤◌, ◌<◌, List, length, map, take, IsTrue}
 use Rattle.std.specs.List.{All}
 use Rattle.lois_base.specs.Atom.{Atom}
-use Rattle.lois_base.specs.Data.{TermD}
+use Rattle.lois_base.specs.Data.{TermD, terms_of}
 use Rattle.lois_base.specs.Fits.{Fits}
+use Rattle.lois_base.specs.Normal.{OccursInPart}
 use Rattle.lois_base.specs.Truth.{holds, sampled}
 use Rattle.lois_base.specs.Values.{PointValue, point}
 use Rattle.lois_base.specs.declared.guards.Lit.{Lit}
@@ -32,7 +33,12 @@ first_sampled n s = sampled (take n s)
 abbrev pub AreAsLong : ℕ → List (List Lit) → TermD → ℕ → Type 0
 AreAsLong n u t k = HoldsThroughout n u (λ c. (word : List PointValue) → AcceptsAt t c word → k ≤ length word)
 
--- a word that t accepts at the choice of the first n numbers, which u admits; its terms are read at the whole sample
+-- each level from `from` on and below `to` stands in one of the terms
+abbrev pub AreUsedBetween : ℕ → ℕ → List TermD → Type 0
+AreUsedBetween from to ts = (i : ℕ) → from ≤ i → i < to → OccursInPart i (terms_of ts)
+
+-- a word that t accepts at the choice of the first n numbers, which u admits; its terms are read at the whole sample, and the further
+-- numbers are for levels that stand in them
 pub record IsShortestWord (n : ℕ) (u : List (List Lit)) (t : TermD) (w : Word) : Type 0 where
   pub count : n ≤ length w.sample
   pub admitted : IsTrue (holds (first_sampled n w.sample) u)
@@ -40,3 +46,4 @@ pub record IsShortestWord (n : ℕ) (u : List (List Lit)) (t : TermD) (w : Word)
   pub letters : HasLettersAt t (first_sampled n w.sample) (values_at (sampled w.sample) w.letters)
   pub accepted : AcceptsAt t (first_sampled n w.sample) (values_at (sampled w.sample) w.letters)
   pub shortest : AreAsLong n u t (length w.letters)
+  pub used : AreUsedBetween n (length w.sample) w.letters

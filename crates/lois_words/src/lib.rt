@@ -2,7 +2,9 @@
 #![tactic(auto)]
 
 mod layers;
+mod lowering;
 mod narrowing;
+mod shortening;
 mod shortest;
 mod stages;
 mod steps;

@@ -10,6 +10,7 @@ ghost use Rattle.lois_automata.specs.Throughout.{HoldsThroughout};
 ghost use Rattle.lois_deciders.specs.OnlyAsked.{HasOnlyAsked};
 ghost use Rattle.lois_words.specs.Words.{IsShortestWord};
 
+use crate::shortening::shortened;
 use crate::walking::word_of;
 use crate::words::Word;
 use lois_automata::{empty, five};
@@ -18,8 +19,8 @@ use lois_deciders::Chosen;
 use std::alloc::Global;
 
 /// A word that the automaton `a` accepts at some choice that `under` admits, such that at no choice that `under` admits it
-/// accepts a shorter one, or `None` where it accepts no word at any. Errors: `NoMemory`, also where a level would pass the
-/// greatest usize.
+/// accepts a shorter one, or `None` where it accepts no word at any. Behind the choice its sample has numbers only for levels
+/// that letters use. Errors: `NoMemory`, also where a level would pass the greatest usize.
 pub fn shortest_word<T: Structure>(
     alloc: Global,
     a: &Term,
@@ -48,5 +49,6 @@ pub fn shortest_word<T: Structure>(
         return Ok(None);
     }
     let word = word_of::<T>(alloc, sets, under, size, chosen)?;
-    Ok(Some(word))
+    let shorter = shortened(alloc, word, size)?;
+    Ok(Some(shorter))
 }
