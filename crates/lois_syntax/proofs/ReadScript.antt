@@ -6,16 +6,26 @@ use Rattle.lois_lexer.specs.Tokens.{HasTokens}
 use Rattle.lois_script.specs.Grammar.{placed}
 use Rattle.lois_script.specs.Limits.{Spells}
 use Rattle.lois_script.specs.Tree.{ScriptD}
-use Rattle.lois_syntax.specs.Descent as descent
-use Rattle.lois_syntax.specs.Reading.{Stops, error_of}
-use Rattle.lois_syntax.specs.Refusals.{Refuses, tokens_in}
+use Rattle.lois_descent.specs.Descent as descent
+use Rattle.lois_descent.specs.Reading.{Stops, refusal_of}
+use Rattle.lois_descent.specs.Laws.{Judged}
+use Rattle.lois_descent.specs.Refusals.{Refused}
+use Rattle.lois_syntax.specs.Causes.{error_of}
+use Rattle.lois_syntax.specs.Refusals.{Refuses, refusal, tokens_in}
 use Rattle.lois_syntax.specs.declared.SyntaxError.{SyntaxError}
 use Rattle.lois_syntax.specs.declared.SyntaxError.TheVariants as errors
-use Rattle.lois_syntax.specs.declared.halt.Halt.{Halt}
-use Rattle.lois_syntax.specs.declared.halt.Halt.TheVariants.{NoScript, TooNested, WideTuple, TurnsTooMany, NoMemory}
-use Rattle.lois_syntax.proofs.DescendsScript.{Judged, script_reads}
-use Rattle.lois_syntax.proofs.OneStatement.{one_script_of_text}
+use Rattle.lois_descent.specs.declared.halt.Halt.{Halt}
+use Rattle.lois_descent.specs.declared.halt.Halt.TheVariants.{NoScript, TooNested, WideTuple, TurnsTooMany, NoMemory}
+use Rattle.lois_descent.proofs.DescendsScript.{script_reads}
+use Rattle.lois_descent.proofs.OneStatement.{one_script_of_text}
 use Rattle.lois_syntax.proofs.Refusing.{never_both, one_refusal}
+
+refusal_is : (count : ℕ) (h : Halt) → refusal_of count h ≡ refusal (error_of count h)
+refusal_is count (NoScript left) = refl
+refusal_is count (TooNested left) = refl
+refusal_is count (WideTuple left) = refl
+refusal_is count (TurnsTooMany left) = refl
+refusal_is count NoMemory = refl
 
 module _ (text : List ℕ) (tokens : List Token) (cut : HasTokens text tokens) where
   pub spells : (s : ScriptD) → descent.script (tokens_in text tokens) ≡ Ok s → Spells text s
@@ -29,7 +39,7 @@ module _ (text : List ℕ) (tokens : List Token) (cut : HasTokens text tokens) w
   refused_by : (h : Halt) → descent.script (tokens_in text tokens) ≡ Err h → Refuses (tokens_in text tokens) (error_of (length tokens) h)
   refused_by h e =
       let found : Judged (tokens_in text tokens) (Err h) = subst (Judged (tokens_in text tokens)) e (script_reads (tokens_in text tokens)) in
-      subst (λ n. Refuses (tokens_in text tokens) (error_of n h)) count found.1
+      subst (λ n. Refuses (tokens_in text tokens) (error_of n h)) count (subst (Refused (tokens_in text tokens)) (refusal_is (length (tokens_in text tokens)) h) found.1)
 
   pub refuses : (h : Halt) → Stops h (descent.script (tokens_in text tokens)) → error_of (length tokens) h ≢ errors.NoMemory → Refuses (tokens_in text tokens) (error_of (length tokens) h)
   refuses (NoScript left) e some = refused_by (NoScript left) e

@@ -1,11 +1,3 @@
-pub mod Lexemes
-pub mod Readable
-pub mod Ahead
-pub mod Reading
-pub mod Descent
-pub mod Nests
 pub mod Refusals
-pub mod Machine
-pub mod Steps
 pub mod Laws
 pub mod Causes

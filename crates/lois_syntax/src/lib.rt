@@ -1,16 +1,8 @@
 //! From the tokens of a text to its script.
 #![tactic(auto)]
 
-mod conditions;
-mod expressions;
-mod grammar;
-mod halt;
 pub mod laws;
-mod lexemes;
-mod nesting;
-mod rest;
 mod script;
-mod statements;
 
 ghost use Rattle.std.specs.Prelude.{◌≡◌};
 ghost use Rattle.lois_syntax.specs.declared.SyntaxError.TheVariants.{NoMemory};

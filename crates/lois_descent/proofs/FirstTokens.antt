@@ -1,0 +1,127 @@
+-- The first token of a part of the grammar tells its form.
+use Rattle.std.proofs.Common.{◌≡◌, ℕ, Bool, true, false, cond as pick, ◌&&◌, ◌||◌, List, [], ◌∷◌, codes, refl, sym, ap, ◌∙◌, subst}
+use Rattle.std.specs.Str.{bytes_eq}
+use Rattle.std.proofs.lemmas.Bool.{false≢true}
+use Rattle.lois_lexer.specs.declared.TokenKind.{TokenKind}
+use Rattle.lois_lexer.specs.declared.TokenKind.TheVariants.{Name, Word, Tag, Number, Symbol}
+use Rattle.lois_script.specs.declared.syntax.Operation.{Operation}
+use Rattle.lois_script.specs.declared.syntax.Operation.TheVariants.{Union, Inter, Minus, Flatten, Reach, Product, Complement, Minimise}
+use Rattle.lois_script.specs.Tree.{ExprD, atoms, var, tag, tuple, listed, each, part, apply, StmtD, «let», assign, add, for, if, while, assert, print}
+use Rattle.lois_script.specs.Grammar.{PlacedToken, operation_word, SpellsExpr, SpellsStmt}
+use Rattle.lois_descent.proofs.Lengths.{Tokens}
+
+abbrev is_symbol_kind : TokenKind → Bool
+is_symbol_kind Symbol = true
+is_symbol_kind _ = false
+
+abbrev is_word_kind : TokenKind → Bool
+is_word_kind Word = true
+is_word_kind _ = false
+
+-- the token is this word, or this symbol
+abbrev pub is_word : List ℕ → PlacedToken → Bool
+is_word word t = is_word_kind t.kind && bytes_eq t.bytes word
+
+abbrev pub is_symbol : List ℕ → PlacedToken → Bool
+is_symbol symbol t = is_symbol_kind t.kind && bytes_eq t.bytes symbol
+
+-- the first token, if there is one, isn't such a token
+abbrev pub Avoids : (PlacedToken → Bool) → Tokens → Type 0
+Avoids p [] = Unit {0}
+Avoids p (t ∷ ts) = p t ≡ false
+
+pub avoids : (p : PlacedToken → Bool) (t : PlacedToken) (b m : Tokens) → b ≡ t ∷ m → p t ≡ false → Avoids p b
+avoids p t b m e h = subst (Avoids p) (sym e) h
+
+pub never_avoids : (p : PlacedToken → Bool) (t : PlacedToken) (b m : Tokens) → b ≡ t ∷ m → p t ≡ true → Avoids p b → ⊥
+never_avoids p t b m e h a =
+    let here : p t ≡ false = subst (Avoids p) e a in false≢true (sym here ∙ h)
+
+-- two views of the first token
+pub one_token : (t u : PlacedToken) (b m n : Tokens) → b ≡ t ∷ m → b ≡ u ∷ n → (t ≡ u) × (m ≡ n)
+one_token t u b m n e f = (cc, cc)
+
+abbrev word_class : List ℕ → ℕ
+word_class w =
+    pick (bytes_eq w (codes "atoms")) 0 (
+    pick (bytes_eq w (codes "part")) 5 (
+    pick (bytes_eq w (codes "union") || bytes_eq w (codes "inter") || bytes_eq w (codes "minus") || bytes_eq w (codes "flatten") || bytes_eq w (codes "reach") || bytes_eq w (codes "product") || bytes_eq w (codes "complement") || bytes_eq w (codes "minimise")) 6 (
+    pick (bytes_eq w (codes "true")) 8 (
+    pick (bytes_eq w (codes "false")) 9 (
+    pick (bytes_eq w (codes "empty")) 10 (
+    pick (bytes_eq w (codes "not")) 11 (
+    pick (bytes_eq w (codes "exists")) 12 (
+    pick (bytes_eq w (codes "forall")) 13 (
+    pick (bytes_eq w (codes "let")) 14 (
+    pick (bytes_eq w (codes "add")) 15 (
+    pick (bytes_eq w (codes "for")) 16 (
+    pick (bytes_eq w (codes "if")) 17 (
+    pick (bytes_eq w (codes "while")) 18 (
+    pick (bytes_eq w (codes "assert")) 19 (
+    pick (bytes_eq w (codes "print")) 20 21)))))))))))))))
+
+abbrev symbol_class : List ℕ → ℕ
+symbol_class s =
+    pick (bytes_eq s (codes "(")) 3 (pick (bytes_eq s (codes "{")) 4 (pick (bytes_eq s (codes "[")) 7 21))
+
+-- a number for each token that begins an expression (up to 6), a condition (up to 13) or a statement
+abbrev pub token_class : TokenKind → List ℕ → ℕ
+token_class Name bytes = 1
+token_class Tag bytes = 2
+token_class Number bytes = 21
+token_class Word bytes = word_class bytes
+token_class Symbol bytes = symbol_class bytes
+
+abbrev pub first_class : Tokens → ℕ
+first_class [] = 21
+first_class (t ∷ ts) = token_class t.kind t.bytes
+
+abbrev pub expr_class : ExprD → ℕ
+expr_class (atoms p) = 0
+expr_class (var p x) = 1
+expr_class (tag p x) = 2
+expr_class (tuple p es) = 3
+expr_class (listed p es) = 4
+expr_class (each p e bs c) = 4
+expr_class (part p e n) = 5
+expr_class (apply p op es) = 6
+
+pub operation_first : (op : Operation) → token_class Word (operation_word op) ≡ 6
+operation_first Union = refl
+operation_first Inter = refl
+operation_first Minus = refl
+operation_first Flatten = refl
+operation_first Reach = refl
+operation_first Product = refl
+operation_first Complement = refl
+operation_first Minimise = refl
+
+pub expr_first : (e : ExprD) (b m : Tokens) → SpellsExpr e b m → first_class b ≡ expr_class e
+expr_first (atoms p) b m h = ap first_class h
+expr_first (var p x) b m h = ap first_class h
+expr_first (tag p x) b m h = ap first_class h
+expr_first (tuple p es) b m (wide, h) = ap first_class h.1
+expr_first (listed p es) b m h = ap first_class h.1
+expr_first (each p e bs c) b m h = ap first_class h.1
+expr_first (part p e n) b m h = ap first_class h.1
+expr_first (apply p op es) b m (arity, h) = ap first_class h.1 ∙ operation_first op
+
+abbrev pub stmt_class : StmtD → ℕ
+stmt_class («let» p x e) = 14
+stmt_class (assign p x e) = 1
+stmt_class (add e p x) = 15
+stmt_class (for b c body) = 16
+stmt_class ((if) c one other) = 17
+stmt_class (while p c n body) = 18
+stmt_class (assert p c) = 19
+stmt_class (print p q x) = 20
+
+pub stmt_first : (a : StmtD) (b m : Tokens) → SpellsStmt a b m → first_class b ≡ stmt_class a
+stmt_first («let» p x e) b m h = ap first_class h.1.1
+stmt_first (assign p x e) b m h = ap first_class h.1
+stmt_first (add e p x) b m h = ap first_class h.1.1
+stmt_first (for bd c body) b m h = ap first_class h.1.1
+stmt_first ((if) c one other) b m h = ap first_class h.1.1
+stmt_first (while p c n body) b m h = ap first_class h.1
+stmt_first (assert p c) b m h = ap first_class h.1
+stmt_first (print p q x) b m h = ap first_class h.1

@@ -1,0 +1,449 @@
+//! What a token is to the grammar.
+
+ghost use Rattle.std.specs.Prelude.{◌≡◌};
+ghost use Rattle.std.specs.List.{find};
+ghost use Rattle.std.specs.Str.{bytes_eq};
+ghost use Rattle.lois_descent.specs.Lexemes.{word_of, sign_of, as_tag, lexeme_from, accepts, relation_of, unit_form, expr_form, base_form, stmt_form, joint, lead, has_two_operands};
+
+use lois_lexer::TokenKind;
+use lois_script::Operation;
+
+/// A token as the grammar sees it.
+#[derive(Clone, Copy)]
+pub enum Lexeme {
+    /// The end of the tokens.
+    End,
+    Name,
+    Tag,
+    Number,
+    Word(Keyword),
+    Symbol(Sign),
+    /// A word that no form of a script has.
+    Other,
+}
+
+/// A word with a meaning in scripts.
+#[derive(Clone, Copy)]
+pub enum Keyword {
+    Atoms,
+    Equality,
+    Order,
+    Parameter,
+    Let,
+    Add,
+    To,
+    For,
+    In,
+    Where,
+    If,
+    Else,
+    While,
+    Turns,
+    Assert,
+    Print,
+    True,
+    False,
+    Not,
+    And,
+    Or,
+    Exists,
+    Forall,
+    Subset,
+    Empty,
+    Part,
+    Apply(Operation),
+}
+
+/// A symbol.
+#[derive(Clone, Copy)]
+pub enum Sign {
+    Semicolon,
+    Comma,
+    OpenRound,
+    CloseRound,
+    OpenSquare,
+    CloseSquare,
+    OpenCurly,
+    CloseCurly,
+    Becomes,
+    Colon,
+    Equal,
+    Differs,
+    Below,
+}
+
+pub const KEYWORDS: [Keyword; 34] = [
+    Keyword::Atoms,
+    Keyword::Equality,
+    Keyword::Order,
+    Keyword::Parameter,
+    Keyword::Let,
+    Keyword::Add,
+    Keyword::To,
+    Keyword::For,
+    Keyword::In,
+    Keyword::Where,
+    Keyword::If,
+    Keyword::Else,
+    Keyword::While,
+    Keyword::Turns,
+    Keyword::Assert,
+    Keyword::Print,
+    Keyword::True,
+    Keyword::False,
+    Keyword::Not,
+    Keyword::And,
+    Keyword::Or,
+    Keyword::Exists,
+    Keyword::Forall,
+    Keyword::Subset,
+    Keyword::Empty,
+    Keyword::Part,
+    Keyword::Apply(Operation::Union),
+    Keyword::Apply(Operation::Inter),
+    Keyword::Apply(Operation::Minus),
+    Keyword::Apply(Operation::Flatten),
+    Keyword::Apply(Operation::Reach),
+    Keyword::Apply(Operation::Product),
+    Keyword::Apply(Operation::Complement),
+    Keyword::Apply(Operation::Minimise),
+];
+
+pub const SIGNS: [Sign; 13] = [
+    Sign::Semicolon,
+    Sign::Comma,
+    Sign::OpenRound,
+    Sign::CloseRound,
+    Sign::OpenSquare,
+    Sign::CloseSquare,
+    Sign::OpenCurly,
+    Sign::CloseCurly,
+    Sign::Becomes,
+    Sign::Colon,
+    Sign::Equal,
+    Sign::Differs,
+    Sign::Below,
+];
+
+impl Keyword {
+    /// How the word is spelled.
+    pub fn spelling(self) -> &'static [u8]
+        ensures { result.now ≡ word_of self }
+    {
+        match self {
+            Keyword::Atoms => b"atoms",
+            Keyword::Equality => b"equality",
+            Keyword::Order => b"order",
+            Keyword::Parameter => b"parameter",
+            Keyword::Let => b"let",
+            Keyword::Add => b"add",
+            Keyword::To => b"to",
+            Keyword::For => b"for",
+            Keyword::In => b"in",
+            Keyword::Where => b"where",
+            Keyword::If => b"if",
+            Keyword::Else => b"else",
+            Keyword::While => b"while",
+            Keyword::Turns => b"turns",
+            Keyword::Assert => b"assert",
+            Keyword::Print => b"print",
+            Keyword::True => b"true",
+            Keyword::False => b"false",
+            Keyword::Not => b"not",
+            Keyword::And => b"and",
+            Keyword::Or => b"or",
+            Keyword::Exists => b"exists",
+            Keyword::Forall => b"forall",
+            Keyword::Subset => b"subset",
+            Keyword::Empty => b"empty",
+            Keyword::Part => b"part",
+            Keyword::Apply(operation) => operation.word(),
+        }
+    }
+
+    /// The word with this spelling, if it has a meaning in scripts.
+    pub fn from_bytes(bytes: &[u8]) -> Option<Keyword>
+        ensures { result ≡ find (λ k. bytes_eq (word_of k) bytes.now) KEYWORDS }
+    {
+        KEYWORDS
+            .iter()
+            .copied()
+            .find(|keyword| keyword.spelling() == bytes)
+    }
+}
+
+impl Sign {
+    /// How the symbol is spelled.
+    pub fn spelling(self) -> &'static [u8]
+        ensures { result.now ≡ sign_of self }
+    {
+        match self {
+            Sign::Semicolon => b";",
+            Sign::Comma => b",",
+            Sign::OpenRound => b"(",
+            Sign::CloseRound => b")",
+            Sign::OpenSquare => b"[",
+            Sign::CloseSquare => b"]",
+            Sign::OpenCurly => b"{",
+            Sign::CloseCurly => b"}",
+            Sign::Becomes => b":=",
+            Sign::Colon => b":",
+            Sign::Equal => b"=",
+            Sign::Differs => b"!=",
+            Sign::Below => b"<",
+        }
+    }
+
+    /// The symbol with this spelling.
+    pub fn from_bytes(bytes: &[u8]) -> Option<Sign>
+        ensures { result ≡ find (λ s. bytes_eq (sign_of s) bytes.now) SIGNS }
+    {
+        SIGNS.iter().copied().find(|sign| sign.spelling() == bytes)
+    }
+}
+
+/// The lexeme of a token of this kind with these bytes.
+pub fn lexeme_of(kind: TokenKind, bytes: &[u8]) -> Lexeme
+    requires { kind ≡ TokenKind.Tag → as_tag bytes.now ≡ Lexeme.Tag }
+    ensures { result ≡ lexeme_from kind bytes.now }
+{
+    match kind {
+        TokenKind::Name => Lexeme::Name,
+        TokenKind::Tag => Lexeme::Tag,
+        TokenKind::Number => Lexeme::Number,
+        TokenKind::Word => Keyword::from_bytes(bytes).map_or(Lexeme::Other, Lexeme::Word),
+        TokenKind::Symbol => Sign::from_bytes(bytes).map_or(Lexeme::Other, Lexeme::Symbol),
+    }
+}
+
+/// How a unit of a condition begins.
+#[derive(Clone, Copy)]
+pub enum UnitForm {
+    Not,
+    Exists,
+    Every,
+    Base,
+}
+
+impl Lexeme {
+    pub fn unit_form(self) -> UnitForm
+        ensures { result ≡ unit_form self }
+    {
+        match self {
+            Lexeme::Word(Keyword::Not) => UnitForm::Not,
+            Lexeme::Word(Keyword::Exists) => UnitForm::Exists,
+            Lexeme::Word(Keyword::Forall) => UnitForm::Every,
+            _ => UnitForm::Base,
+        }
+    }
+}
+
+/// A part of a form that is one token.
+#[derive(Clone, Copy)]
+pub enum Terminal {
+    Atoms,
+    Structure,
+    Semicolon,
+    Comma,
+    CloseRound,
+    CloseSquare,
+    OpenCurly,
+    CloseCurly,
+    Colon,
+    Equal,
+    Becomes,
+    In,
+    To,
+    Relation,
+    Name,
+    Number,
+}
+
+impl Terminal {
+    /// Whether the token is of this part.
+    pub fn accepts(self, lexeme: Lexeme) -> bool
+        ensures { result ≡ accepts self lexeme }
+    {
+        match self {
+            Terminal::Atoms => matches!(lexeme, Lexeme::Word(Keyword::Atoms)),
+            Terminal::Structure => matches!(
+                lexeme,
+                Lexeme::Word(Keyword::Equality | Keyword::Order)
+            ),
+            Terminal::Semicolon => matches!(lexeme, Lexeme::Symbol(Sign::Semicolon)),
+            Terminal::Comma => matches!(lexeme, Lexeme::Symbol(Sign::Comma)),
+            Terminal::CloseRound => matches!(lexeme, Lexeme::Symbol(Sign::CloseRound)),
+            Terminal::CloseSquare => matches!(lexeme, Lexeme::Symbol(Sign::CloseSquare)),
+            Terminal::OpenCurly => matches!(lexeme, Lexeme::Symbol(Sign::OpenCurly)),
+            Terminal::CloseCurly => matches!(lexeme, Lexeme::Symbol(Sign::CloseCurly)),
+            Terminal::Colon => matches!(lexeme, Lexeme::Symbol(Sign::Colon)),
+            Terminal::Equal => matches!(lexeme, Lexeme::Symbol(Sign::Equal)),
+            Terminal::Becomes => matches!(lexeme, Lexeme::Symbol(Sign::Becomes)),
+            Terminal::In => matches!(lexeme, Lexeme::Word(Keyword::In)),
+            Terminal::To => matches!(lexeme, Lexeme::Word(Keyword::To)),
+            Terminal::Relation => relation_of(lexeme).is_some(),
+            Terminal::Name => matches!(lexeme, Lexeme::Name),
+            Terminal::Number => matches!(lexeme, Lexeme::Number),
+        }
+    }
+}
+
+/// What a comparison asks.
+#[derive(Clone, Copy)]
+pub enum Relation {
+    Same,
+    Differ,
+    Below,
+    Member,
+    Included,
+}
+
+/// The relation that the token stands for, if any.
+pub fn relation_of(lexeme: Lexeme) -> Option<Relation>
+    ensures { result ≡ relation_of lexeme }
+{
+    match lexeme {
+        Lexeme::Symbol(Sign::Equal) => Some(Relation::Same),
+        Lexeme::Symbol(Sign::Differs) => Some(Relation::Differ),
+        Lexeme::Symbol(Sign::Below) => Some(Relation::Below),
+        Lexeme::Word(Keyword::In) => Some(Relation::Member),
+        Lexeme::Word(Keyword::Subset) => Some(Relation::Included),
+        _ => None,
+    }
+}
+
+/// How an expression begins.
+#[derive(Clone, Copy)]
+pub enum ExprForm {
+    Atoms,
+    Var,
+    Tag,
+    Tuple,
+    Braces,
+    Part,
+    Apply(Operation),
+    NoExpr,
+}
+
+/// How a base of a condition begins.
+#[derive(Clone, Copy)]
+pub enum BaseForm {
+    True,
+    False,
+    Empty,
+    Brackets,
+    Comparison,
+}
+
+/// How a statement begins.
+#[derive(Clone, Copy)]
+pub enum StmtForm {
+    Let,
+    Assign,
+    Add,
+    For,
+    If,
+    While,
+    Assert,
+    Print,
+    NoStmt,
+}
+
+/// What joins a further unit to a condition.
+#[derive(Clone, Copy)]
+pub enum Joint {
+    And,
+    Or,
+    NoJoint,
+}
+
+impl Lexeme {
+    pub fn expr_form(self) -> ExprForm
+        ensures { result ≡ expr_form self }
+    {
+        match self {
+            Lexeme::Word(Keyword::Atoms) => ExprForm::Atoms,
+            Lexeme::Name => ExprForm::Var,
+            Lexeme::Tag => ExprForm::Tag,
+            Lexeme::Symbol(Sign::OpenRound) => ExprForm::Tuple,
+            Lexeme::Symbol(Sign::OpenCurly) => ExprForm::Braces,
+            Lexeme::Word(Keyword::Part) => ExprForm::Part,
+            Lexeme::Word(Keyword::Apply(operation)) => ExprForm::Apply(operation),
+            _ => ExprForm::NoExpr,
+        }
+    }
+
+    pub fn base_form(self) -> BaseForm
+        ensures { result ≡ base_form self }
+    {
+        match self {
+            Lexeme::Word(Keyword::True) => BaseForm::True,
+            Lexeme::Word(Keyword::False) => BaseForm::False,
+            Lexeme::Word(Keyword::Empty) => BaseForm::Empty,
+            Lexeme::Symbol(Sign::OpenSquare) => BaseForm::Brackets,
+            _ => BaseForm::Comparison,
+        }
+    }
+
+    pub fn stmt_form(self) -> StmtForm
+        ensures { result ≡ stmt_form self }
+    {
+        match self {
+            Lexeme::Word(Keyword::Let) => StmtForm::Let,
+            Lexeme::Name => StmtForm::Assign,
+            Lexeme::Word(Keyword::Add) => StmtForm::Add,
+            Lexeme::Word(Keyword::For) => StmtForm::For,
+            Lexeme::Word(Keyword::If) => StmtForm::If,
+            Lexeme::Word(Keyword::While) => StmtForm::While,
+            Lexeme::Word(Keyword::Assert) => StmtForm::Assert,
+            Lexeme::Word(Keyword::Print) => StmtForm::Print,
+            _ => StmtForm::NoStmt,
+        }
+    }
+
+    pub fn joint(self) -> Joint
+        ensures { result ≡ joint self }
+    {
+        match self {
+            Lexeme::Word(Keyword::And) => Joint::And,
+            Lexeme::Word(Keyword::Or) => Joint::Or,
+            _ => Joint::NoJoint,
+        }
+    }
+}
+
+/// A word or a symbol that begins what may be left out.
+#[derive(Clone, Copy)]
+pub enum Lead {
+    OpenRound,
+    Parameter,
+    For,
+    Where,
+    Else,
+    NoLead,
+}
+
+impl Lexeme {
+    pub fn lead(self) -> Lead
+        ensures { result ≡ lead self }
+    {
+        match self {
+            Lexeme::Symbol(Sign::OpenRound) => Lead::OpenRound,
+            Lexeme::Word(Keyword::Parameter) => Lead::Parameter,
+            Lexeme::Word(Keyword::For) => Lead::For,
+            Lexeme::Word(Keyword::Where) => Lead::Where,
+            Lexeme::Word(Keyword::Else) => Lead::Else,
+            _ => Lead::NoLead,
+        }
+    }
+}
+
+/// Whether the operation has two operands; else it has one.
+pub fn has_two_operands(operation: Operation) -> bool
+    ensures { result ≡ has_two_operands operation }
+{
+    matches!(
+        operation,
+        Operation::Union | Operation::Inter | Operation::Minus | Operation::Product
+    )
+}

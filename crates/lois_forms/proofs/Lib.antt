@@ -1,0 +1,4 @@
+pub mod Gathering
+pub mod InnerForms
+pub mod ReadableTokens
+pub mod Digits
