@@ -1,15 +1,18 @@
 //! Elimination of the quantifiers of a formula, from the inside out.
 
-ghost use Rattle.std.specs.Prelude.{◌≡◌, ℕ, Bool, List, [], ◌∷◌, IfOk, suc};
+ghost use Rattle.std.specs.Prelude.{◌≡◌, ℕ, ◌+◌, Bool, List, [], ◌∷◌, length, IfOk, suc};
 ghost use Rattle.lois_base.specs.Atom.{Atom};
 ghost use Rattle.lois_base.specs.Fits.{LitFits, ConstraintFits};
-ghost use Rattle.lois_base.specs.FormulaData.{FormulaFits, FormulasFit, all, any, formulas_of};
+ghost use Rattle.lois_base.specs.FormulaData.{FormulaFits, FormulasFit, all, any, exists, forall, formulas_of};
 ghost use Rattle.lois_base.specs.FormulaView.{view, views};
 ghost use Rattle.lois_base.specs.Truth.{lit_holds, holds};
 ghost use Rattle.lois_base.specs.Validity.{AdmitsLit, AdmitsConstraint, AdmitsFormula, AdmitsFormulas};
-ghost use Rattle.lois_elim.specs.Bound.{AgreesWith, AgreesWithBoth};
+ghost use Rattle.lois_elim.specs.Bound.{AgreesWith};
+ghost use Rattle.lois_elim.specs.Names.{AreNames, AgreesUnder, AgreesUnderWithBoth};
 
+use crate::forced::forced;
 use crate::levels::{append, for_each, for_some};
+use crate::names::{level_named, literal_named, with_name};
 use lois_base::{Constraint, Cube, Formula, Formulas, Lit, NoMemory, Structure};
 use lois_constraint::{and_not, meet, negate, prune};
 use std::alloc::Global;
@@ -50,10 +53,16 @@ pub fn with_one_more(size: usize) -> Result<usize, NoMemory>
     size.checked_add(1).ok_or(NoMemory)
 }
 
+// The highest level of a formula's body. No memory holds a choice of more atoms than the greatest usize.
+fn level_bound(free: usize, bound: &[usize]) -> Result<usize, NoMemory>
+    ensures { IfOk result (λ n. n ≡ free + length bound.now) }
+{
+    free.checked_add(bound.len()).ok_or(NoMemory)
+}
+
 /// A constraint that holds at each choice of `size` atoms exactly where the formula does. It uses levels
 /// below `size` and operators of the formula alone, so `<` only where the formula has it. Errors: `NoMemory`, also
 /// where a quantifier would bind the greatest level that a usize names.
-#[cycle(elimination)]
 pub fn quantifier_free<T: Structure>(
     alloc: Global,
     f: &Formula,
@@ -65,20 +74,88 @@ pub fn quantifier_free<T: Structure>(
     ensures levels { IfOk result (ConstraintFits size) }
     ensures operators { IfOk result (λ r. (o : Bool) → AdmitsFormula o (view f.now) → AdmitsConstraint o r) }
 {
+    under_names::<T>(alloc, f, size, &[], size)
+}
+
+// The formula's levels below `free` stand for themselves, and the later ones for those that `bound` lists, all below `size`.
+#[cycle(elimination)]
+fn under_names<T: Structure>(
+    alloc: Global,
+    f: &Formula,
+    free: usize,
+    bound: &[usize],
+    size: usize,
+) -> Result<Constraint, NoMemory>
+    requires names { AreNames size free bound.now }
+    requires levels { FormulaFits (free + length bound.now) (view f.now) }
+    requires operators { AdmitsFormula T.ordered (view f.now) }
+    ensures truth { IfOk result (AgreesUnder size free bound.now (view f.now)) }
+    ensures levels { IfOk result (ConstraintFits size) }
+    ensures operators { IfOk result (λ r. (o : Bool) → AdmitsFormula o (view f.now) → AdmitsConstraint o r) }
+{
     match f {
-        Formula::Lit(lit) => of_literal(alloc, *lit),
-        Formula::All(parts) => all_of::<T>(alloc, parts, size),
-        Formula::Any(parts) => any_of::<T>(alloc, parts, size),
-        Formula::Not(body) => negate(alloc, &quantifier_free::<T>(alloc, body, size)?),
-        Formula::Exists(body) => {
-            let inner = quantifier_free::<T>(alloc, body, with_one_more(size)?)?;
+        Formula::Lit(lit) => of_literal(alloc, literal_named(*lit, free, bound)),
+        Formula::All(parts) => all_of::<T>(alloc, parts, free, bound, size),
+        Formula::Any(parts) => any_of::<T>(alloc, parts, free, bound, size),
+        Formula::Not(body) => negate(alloc, &under_names::<T>(alloc, body, free, bound, size)?),
+        Formula::Exists(body) => some_of::<T>(alloc, body, free, bound, size),
+        Formula::Forall(body) => each_of::<T>(alloc, body, free, bound, size),
+    }
+}
+
+// Where the body says which atom it is, the quantifier's level is one more name of that atom's level.
+#[cycle(elimination)]
+fn some_of<T: Structure>(
+    alloc: Global,
+    body: &Formula,
+    free: usize,
+    bound: &[usize],
+    size: usize,
+) -> Result<Constraint, NoMemory>
+    requires names { AreNames size free bound.now }
+    requires levels { FormulaFits (suc (free + length bound.now)) (view body.now) }
+    requires operators { AdmitsFormula T.ordered (view body.now) }
+    ensures truth { IfOk result (AgreesUnder size free bound.now (exists (view body.now))) }
+    ensures levels { IfOk result (ConstraintFits size) }
+    ensures operators { IfOk result (λ r. (o : Bool) → AdmitsFormula o (view body.now) → AdmitsConstraint o r) }
+{
+    match forced(body, level_bound(free, bound)?) {
+        Some(lower) => {
+            let names = with_name(alloc, bound, level_named(lower, free, bound))?;
+            under_names::<T>(alloc, body, free, names.as_slice(), size)
+        }
+        None => {
+            let names = with_name(alloc, bound, size)?;
+            let inner = under_names::<T>(
+                alloc,
+                body,
+                free,
+                names.as_slice(),
+                with_one_more(size)?,
+            )?;
             for_some::<T>(alloc, &inner, size)
         }
-        Formula::Forall(body) => {
-            let inner = quantifier_free::<T>(alloc, body, with_one_more(size)?)?;
-            for_each::<T>(alloc, &inner, size)
-        }
     }
+}
+
+#[cycle(elimination)]
+fn each_of<T: Structure>(
+    alloc: Global,
+    body: &Formula,
+    free: usize,
+    bound: &[usize],
+    size: usize,
+) -> Result<Constraint, NoMemory>
+    requires names { AreNames size free bound.now }
+    requires levels { FormulaFits (suc (free + length bound.now)) (view body.now) }
+    requires operators { AdmitsFormula T.ordered (view body.now) }
+    ensures truth { IfOk result (AgreesUnder size free bound.now (forall (view body.now))) }
+    ensures levels { IfOk result (ConstraintFits size) }
+    ensures operators { IfOk result (λ r. (o : Bool) → AdmitsFormula o (view body.now) → AdmitsConstraint o r) }
+{
+    let names = with_name(alloc, bound, size)?;
+    let inner = under_names::<T>(alloc, body, free, names.as_slice(), with_one_more(size)?)?;
+    for_each::<T>(alloc, &inner, size)
 }
 
 // The constraint where a part holds too. What a negation denies is taken off, and not negated first.
@@ -87,17 +164,30 @@ fn meet_part<T: Structure>(
     alloc: Global,
     met: &Constraint,
     part: &Formula,
+    free: usize,
+    bound: &[usize],
     size: usize,
 ) -> Result<Constraint, NoMemory>
-    requires levels { FormulaFits size (view part.now) }
+    requires names { AreNames size free bound.now }
+    requires levels { FormulaFits (free + length bound.now) (view part.now) }
     requires operators { AdmitsFormula T.ordered (view part.now) }
-    ensures truth { IfOk result (AgreesWithBoth size met.now (view part.now)) }
+    ensures truth { IfOk result (AgreesUnderWithBoth size free bound.now met.now (view part.now)) }
     ensures levels { IfOk result (λ r. ConstraintFits size met.now → ConstraintFits size r) }
     ensures operators { IfOk result (λ r. (o : Bool) → AdmitsConstraint o met.now → AdmitsFormula o (view part.now) → AdmitsConstraint o r) }
 {
     match part {
-        Formula::Not(body) => and_not(alloc, met, &quantifier_free::<T>(alloc, body, size)?),
-        _ => meet(alloc, met, &quantifier_free::<T>(alloc, part, size)?),
+        Formula::Not(body) => {
+            and_not(
+                alloc,
+                met,
+                &under_names::<T>(alloc, body, free, bound, size)?,
+            )
+        }
+        _ => meet(
+            alloc,
+            met,
+            &under_names::<T>(alloc, part, free, bound, size)?,
+        ),
     }
 }
 
@@ -105,17 +195,20 @@ fn meet_part<T: Structure>(
 fn all_of<T: Structure>(
     alloc: Global,
     parts: &Formulas,
+    free: usize,
+    bound: &[usize],
     size: usize,
 ) -> Result<Constraint, NoMemory>
-    requires levels { FormulasFit size (formulas_of (views parts.now)) }
+    requires names { AreNames size free bound.now }
+    requires levels { FormulasFit (free + length bound.now) (formulas_of (views parts.now)) }
     requires operators { AdmitsFormulas T.ordered (formulas_of (views parts.now)) }
-    ensures truth { IfOk result (AgreesWith size (all (formulas_of (views parts.now)))) }
+    ensures truth { IfOk result (AgreesUnder size free bound.now (all (formulas_of (views parts.now)))) }
     ensures levels { IfOk result (ConstraintFits size) }
     ensures operators { IfOk result (λ r. (o : Bool) → AdmitsFormulas o (formulas_of (views parts.now)) → AdmitsConstraint o r) }
 {
     let mut met = always(alloc)?;
     for part in parts.as_slice() {
-        met = meet_part::<T>(alloc, &met, part, size)?;
+        met = meet_part::<T>(alloc, &met, part, free, bound, size)?;
         if met.len() == 0 {
             return Ok(met);
         }
@@ -127,17 +220,23 @@ fn all_of<T: Structure>(
 fn any_of<T: Structure>(
     alloc: Global,
     parts: &Formulas,
+    free: usize,
+    bound: &[usize],
     size: usize,
 ) -> Result<Constraint, NoMemory>
-    requires levels { FormulasFit size (formulas_of (views parts.now)) }
+    requires names { AreNames size free bound.now }
+    requires levels { FormulasFit (free + length bound.now) (formulas_of (views parts.now)) }
     requires operators { AdmitsFormulas T.ordered (formulas_of (views parts.now)) }
-    ensures truth { IfOk result (AgreesWith size (any (formulas_of (views parts.now)))) }
+    ensures truth { IfOk result (AgreesUnder size free bound.now (any (formulas_of (views parts.now)))) }
     ensures levels { IfOk result (ConstraintFits size) }
     ensures operators { IfOk result (λ r. (o : Bool) → AdmitsFormulas o (formulas_of (views parts.now)) → AdmitsConstraint o r) }
 {
     let mut found = Constraint::new(alloc);
     for part in parts.as_slice() {
-        append(&mut found, quantifier_free::<T>(alloc, part, size)?)?;
+        append(
+            &mut found,
+            under_names::<T>(alloc, part, free, bound, size)?,
+        )?;
     }
     prune(alloc, &found)
 }

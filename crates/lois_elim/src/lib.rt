@@ -2,7 +2,9 @@
 #![tactic(auto)]
 
 mod elimination;
+mod forced;
 mod levels;
+mod names;
 
 pub use elimination::quantifier_free;
 pub use levels::{for_some, for_some_more};
