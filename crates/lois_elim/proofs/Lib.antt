@@ -4,3 +4,4 @@ pub mod OnePoint
 pub mod Truth
 pub mod Steps
 pub mod BoundDown
+pub mod Turning

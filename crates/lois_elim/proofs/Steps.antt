@@ -122,11 +122,6 @@ pub record PartsSoFar (n m : ℕ) (whole rest : FormulasD) (r : List (List Lit))
   pub levels : ConstraintFits n r
   pub operators : (o : Bool) → AdmitsFormulas o whole → AdmitsConstraint o r × AdmitsFormulas o rest
 
--- the parts before `rest` all hold exactly where r does
-abbrev pub AllSoFar : ℕ → ℕ → List ℕ → FormulasD → FormulasD → List (List Lit) → Type 0
-AllSoFar n free bound whole rest r =
-    (c : List Atom) → length c ≡ n → (IsTrue (holds c r) × AllHold (named free bound c) rest) ↔ AllHold (named free bound c) whole
-
 -- one of the parts before `rest` holds exactly where r does
 abbrev pub AnySoFar : ℕ → ℕ → List ℕ → FormulasD → FormulasD → List (List Lit) → Type 0
 AnySoFar n free bound whole rest r =
@@ -155,23 +150,6 @@ one_more_part n m whole rest f before r so_far levels operators = record {
   levels = levels;
   operators = λ o h. let both = so_far.operators o h in (operators o both.0 both.1.0, both.1.1);
 }
-
-pub all_begin : (n free : ℕ) (bound : List ℕ) (whole : FormulasD) → AllSoFar n free bound whole whole ([] ∷ [])
-all_begin n free bound whole c k = (λ h. h.1, λ h. (refl, h))
-
-pub all_one_more : (n free : ℕ) (bound : List ℕ) (whole rest : FormulasD) (f : FormulaD) (before r : List (List Lit)) → AllSoFar n free bound whole (formula f rest) before → AgreesUnderWithBoth n free bound before f r → AllSoFar n free bound whole rest r
-all_one_more n free bound whole rest f before r so_far agrees c k = (
-  λ h. let both = (agrees c k).0 h.0 in (so_far c k).0 (both.0, (both.1, h.1)),
-  λ h. let each = (so_far c k).1 h in ((agrees c k).1 (each.0, each.1.0), each.1.1),
-)
-
-pub all_end : (n free : ℕ) (bound : List ℕ) (whole : FormulasD) (r : List (List Lit)) → AllSoFar n free bound whole no_formulas r → AgreesUnder n free bound (all whole) r
-all_end n free bound whole r so_far c k = (λ p. (so_far c k).0 (p, tt), λ h. ((so_far c k).1 h).0)
-
--- where a part is false, so are all together
-pub all_refuted : (n free : ℕ) (bound : List ℕ) (whole rest : FormulasD) (r : List (List Lit)) → AllSoFar n free bound whole rest r → length r ≡ 0 → AgreesUnder n free bound (all whole) r
-all_refuted n free bound whole rest [] so_far e c k = (λ p. absurd (false≢true p), λ h. ((so_far c k).1 h).0)
-all_refuted n free bound whole rest (q ∷ r) so_far e c k = absurd (omega (arith, e))
 
 pub any_begin : (n free : ℕ) (bound : List ℕ) (whole : FormulasD) → AnySoFar n free bound whole whole []
 any_begin n free bound whole c k = (λ h. elim h [ inl e ↦ absurd (false≢true e) | inr s ↦ s ], λ s. inr s)
@@ -217,10 +195,6 @@ module _ (n free : ℕ) (bound : List ℕ) (whole : FormulasD) (items : List For
 
   pub parts_go_on : (r : List (List Lit)) → PartsSoFar n (free + length bound) whole (parts_from items i) before → ConstraintFits n r → ((o : Bool) → AdmitsConstraint o before → AdmitsFormula o (view f) → AdmitsConstraint o r) → PartsSoFar n (free + length bound) whole (parts_from items (i + 1)) r
   parts_go_on r so_far = one_more_part n (free + length bound) whole (parts_from items (i + 1)) (view f) before r (parts_here so_far)
-
-  pub all_go_on : (r : List (List Lit)) → AllSoFar n free bound whole (parts_from items i) before → AgreesUnderWithBoth n free bound before (view f) r → AllSoFar n free bound whole (parts_from items (i + 1)) r
-  all_go_on r so_far =
-      all_one_more n free bound whole (parts_from items (i + 1)) (view f) before r (subst (λ rest. AllSoFar n free bound whole rest before) (parts_are items i f l is) so_far)
 
   pub any_go_on : (part r : List (List Lit)) → AnySoFar n free bound whole (parts_from items i) before → AgreesUnder n free bound (view f) part → r ≡ before ++ part → AnySoFar n free bound whole (parts_from items (i + 1)) r
   any_go_on part r so_far =

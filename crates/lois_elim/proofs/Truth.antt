@@ -17,13 +17,17 @@ not_refuted : (a : Bool) → (IsTrue (not a) → ⊥) → IsTrue a
 not_refuted true h = refl
 not_refuted false h = absurd (h refl)
 
-pub alone : (a : Bool) → ((a && true) || false) ≡ a
-alone true = refl
-alone false = refl
+pub or_nothing : (a : Bool) → (a || false) ≡ a
+or_nothing true = refl
+or_nothing false = refl
 
--- what a literal obeys, a constraint of it alone obeys
-pub alone_obeys : (P : Lit → Type 0) (l : Lit) (r : List (List Lit)) → r ≡ (l ∷ []) ∷ [] → P l → All (All P) r
-alone_obeys P l r e h = subst (All (All P)) (sym e) (All-cons (All P) (l ∷ []) [] (All-cons P l [] h (All-nil P)) (All-nil (All P)))
+pub and_nothing : (a : Bool) → (a && true) ≡ a
+and_nothing true = refl
+and_nothing false = refl
+
+-- what one item obeys, a list of it alone obeys
+pub alone_obeys : {X : Type 0} (P : X → Type 0) (x : X) (xs : List X) → xs ≡ x ∷ [] → P x → All P xs
+alone_obeys P x xs e h = subst (All P) (sym e) (All-cons P x [] h (All-nil P))
 
 longer : (n m : ℕ) (c : List Atom) (a : Atom) → m ≡ suc n → length c ≡ n → length (c ++ a ∷ []) ≡ m
 longer n m c a e k = omega (arith, length-append c (a ∷ []))

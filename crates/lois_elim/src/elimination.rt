@@ -2,48 +2,42 @@
 
 ghost use Rattle.std.specs.Prelude.{◌≡◌, ℕ, ◌+◌, Bool, List, [], ◌∷◌, length, IfOk, suc};
 ghost use Rattle.lois_base.specs.Atom.{Atom};
-ghost use Rattle.lois_base.specs.Fits.{LitFits, ConstraintFits};
+ghost use Rattle.lois_base.specs.Fits.{LitFits, CubeFits, ConstraintFits};
 ghost use Rattle.lois_base.specs.FormulaData.{FormulaFits, FormulasFit, all, any, exists, forall, formulas_of};
 ghost use Rattle.lois_base.specs.FormulaView.{view, views};
-ghost use Rattle.lois_base.specs.Truth.{lit_holds, holds};
-ghost use Rattle.lois_base.specs.Validity.{AdmitsLit, AdmitsConstraint, AdmitsFormula, AdmitsFormulas};
+ghost use Rattle.lois_base.specs.Truth.{lit_holds, cube_holds, holds};
+ghost use Rattle.lois_base.specs.Validity.{AdmitsLit, AdmitsCube, AdmitsConstraint, AdmitsFormula, AdmitsFormulas};
 ghost use Rattle.lois_elim.specs.Bound.{AgreesWith};
 ghost use Rattle.lois_elim.specs.Names.{AreNames, AgreesUnder, AgreesUnderWithBoth};
+ghost use Rattle.lois_elim.specs.Turns.{in_turn, AgreesInTurn};
 
 use crate::forced::forced;
 use crate::levels::{append, for_each, for_some};
 use crate::names::{level_named, literal_named, with_name};
+use crate::turns::{is_in_turn, literals_of};
 use lois_base::{Constraint, Cube, Formula, Formulas, Lit, NoMemory, Structure};
 use lois_constraint::{and_not, meet, negate, prune};
 use std::alloc::Global;
 
-fn with_literal(alloc: Global, lit: Lit) -> Result<Constraint, NoMemory>
-    ensures { IfOk result (λ r. r ≡ (lit ∷ []) ∷ []) }
+// The cube may be met everywhere or nowhere, so that it is pruned.
+fn of_cube(alloc: Global, cube: Cube) -> Result<Constraint, NoMemory>
+    ensures truth { IfOk result (λ r. (c : List Atom) → holds c r ≡ cube_holds c cube) }
+    ensures levels { IfOk result (λ r. (n : ℕ) → CubeFits n cube → ConstraintFits n r) }
+    ensures operators { IfOk result (λ r. (o : Bool) → AdmitsCube o cube → AdmitsConstraint o r) }
 {
-    let mut cube = Cube::new(alloc);
-    cube.push(lit)?;
-    let mut constraint = Constraint::new(alloc);
-    constraint.push(cube)?;
-    Ok(constraint)
+    let mut only = Constraint::new(alloc);
+    only.push(cube)?;
+    prune(alloc, &only)
 }
 
-// A literal may be true or false everywhere, so that it is pruned too.
 fn of_literal(alloc: Global, lit: Lit) -> Result<Constraint, NoMemory>
     ensures truth { IfOk result (λ r. (c : List Atom) → holds c r ≡ lit_holds c lit) }
     ensures levels { IfOk result (λ r. (n : ℕ) → LitFits n lit → ConstraintFits n r) }
     ensures operators { IfOk result (λ r. (o : Bool) → AdmitsLit o lit → AdmitsConstraint o r) }
 {
-    let constraint = with_literal(alloc, lit)?;
-    prune(alloc, &constraint)
-}
-
-// One cube without literals.
-fn always(alloc: Global) -> Result<Constraint, NoMemory>
-    ensures { IfOk result (λ r. r ≡ [] ∷ []) }
-{
-    let mut constraint = Constraint::new(alloc);
-    constraint.push(Cube::new(alloc))?;
-    Ok(constraint)
+    let mut cube = Cube::new(alloc);
+    cube.push(lit)?;
+    of_cube(alloc, cube)
 }
 
 // The number of levels below a quantifier. No memory holds a choice of more atoms than the greatest usize.
@@ -191,6 +185,37 @@ fn meet_part<T: Structure>(
     }
 }
 
+// The constraint where those parts hold too whose turn it is. Once nothing is left, no part is eliminated any more.
+#[cycle(elimination)]
+fn meet_parts<T: Structure>(
+    alloc: Global,
+    start: Constraint,
+    parts: &Formulas,
+    negations: bool,
+    free: usize,
+    bound: &[usize],
+    size: usize,
+) -> Result<Constraint, NoMemory>
+    requires names { AreNames size free bound.now }
+    requires levels { FormulasFit (free + length bound.now) (formulas_of (views parts.now)) }
+    requires operators { AdmitsFormulas T.ordered (formulas_of (views parts.now)) }
+    ensures truth { IfOk result (AgreesInTurn size free bound.now (in_turn negations) start (formulas_of (views parts.now))) }
+    ensures levels { IfOk result (λ r. ConstraintFits size start → ConstraintFits size r) }
+    ensures operators { IfOk result (λ r. (o : Bool) → AdmitsConstraint o start → AdmitsFormulas o (formulas_of (views parts.now)) → AdmitsConstraint o r) }
+{
+    let mut met = start;
+    for part in parts.as_slice() {
+        if met.len() == 0 {
+            return Ok(met);
+        }
+        if is_in_turn(part, negations) {
+            met = meet_part::<T>(alloc, &met, part, free, bound, size)?;
+        }
+    }
+    Ok(met)
+}
+
+// The literals first, all at once: they take no elimination, and what they leave is what the others are met with.
 #[cycle(elimination)]
 fn all_of<T: Structure>(
     alloc: Global,
@@ -206,14 +231,9 @@ fn all_of<T: Structure>(
     ensures levels { IfOk result (ConstraintFits size) }
     ensures operators { IfOk result (λ r. (o : Bool) → AdmitsFormulas o (formulas_of (views parts.now)) → AdmitsConstraint o r) }
 {
-    let mut met = always(alloc)?;
-    for part in parts.as_slice() {
-        met = meet_part::<T>(alloc, &met, part, free, bound, size)?;
-        if met.len() == 0 {
-            return Ok(met);
-        }
-    }
-    Ok(met)
+    let literals = of_cube(alloc, literals_of(alloc, parts, free, bound)?)?;
+    let met = meet_parts::<T>(alloc, literals, parts, false, free, bound, size)?;
+    meet_parts::<T>(alloc, met, parts, true, free, bound, size)
 }
 
 #[cycle(elimination)]

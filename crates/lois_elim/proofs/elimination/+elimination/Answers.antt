@@ -1,20 +1,24 @@
-use Rattle.std.proofs.Common.{◌≡◌, ℕ, suc, ◌+◌, ◌<◌, Bool, not, ◌&&◌, List, [], ◌∷◌, ◌++◌, length, length-append, subst, sym, ap, ◌∙◌, arith}
+use Rattle.std.proofs.Common.{◌≡◌, ℕ, suc, ◌+◌, ◌<◌, Bool, true, not, ◌&&◌, List, [], ◌∷◌, ◌++◌, length, length-append, subst, sym, ap, ◌∙◌, arith}
+use Rattle.std.proofs.lemmas.Bool.{false≢true}
 use Rattle.std.proofs.lemmas.Result.{IfOk-weaker}
 use Rattle.lois_base.specs.Atom.{Atom}
 use Rattle.lois_base.specs.Fits.{LitFits, CubeFits, ConstraintFits}
-use Rattle.lois_base.specs.FormulaData.{FormulaD, FormulaFits, any, neg, exists, forall, no_formulas, formulas_of}
+use Rattle.lois_base.specs.FormulaData.{FormulaD, FormulaFits, all, any, neg, exists, forall, no_formulas, formulas_of}
 use Rattle.lois_base.specs.FormulaView.{view, views}
 use Rattle.lois_base.specs.Truth.{holds}
-use Rattle.lois_base.specs.Validity.{AdmitsCube, AdmitsConstraint, AdmitsFormula}
+use Rattle.lois_base.specs.Validity.{AdmitsCube, AdmitsConstraint, AdmitsFormula, AdmitsFormulas}
 use Rattle.lois_base.specs.declared.guards.Lit.{Lit}
 use Rattle.lois_base.proofs.FormulaViews.{formula_within, view_Not}
 use Rattle.lois_elim.specs.Bound.{HoldsForSome, HoldsForEach}
 use Rattle.lois_elim.specs.Names.{AgreesUnder, AgreesUnderWithBoth}
 use Rattle.lois_elim.proofs.Naming.{more_names}
 use Rattle.lois_elim.proofs.OnePoint.{point_agrees}
-use Rattle.lois_elim.proofs.Steps.{AnySoFar, parts_from, no_parts, part_fits, part_admitted, parts_go_on, all_go_on, all_refuted, any_go_on, any_end, appended_obeys}
+use Rattle.lois_elim.proofs.Steps.{AnySoFar, parts_from, no_parts, part_fits, part_admitted, parts_go_on, any_go_on, any_end, appended_obeys}
+use Rattle.lois_elim.specs.Turns.{in_turn, AgreesInTurn}
+use Rattle.lois_elim.proofs.Turning.{MetSoFar, met_begin, met_end, met_nowhere, turn_fits, turn_admitted, turn_goes_on, turn_skips, turns_agree}
 use Rattle.lois_elim.proofs.Truth.{neg_agrees, exists_agrees, forall_agrees, met_formula, met_negation}
 use Rattle.lois_elim.proofs.elimination.+elimination.Goals as goal
+use Rattle.lois_elim.proofs.elimination.+elimination.Goals.{meet_parts-then-is_in_turn+in_ok-met, meet_parts-else-is_in_turn}
 
 pub under_names-returns-in-Lit-clause-levels : goal.under_names-returns-in-Lit-clause-levels
 under_names-returns-in-Lit-clause-levels g t c =
@@ -50,7 +54,7 @@ some_of-returns-in_ok-names-in-Some-clause-truth g t c =
 pub some_of-returns-in_ok-inner-in-None-clause-truth : goal.some_of-returns-in_ok-inner-in-None-clause-truth
 some_of-returns-in_ok-inner-in-None-clause-truth g t c =
     let inner = c.in_ok-inner-in-None in
-    let is : c.as_slice-in-None.result.now ≡ c.args.bound.now ++ c.args.size ∷ [] = c.as_slice-in-None.ensures.value ∙ c.in_ok-names-in-None.ensures in
+    let is : c.as_slice-in-None.result.now ≡ c.args.bound.now ++ c.args.size ∷ [] = ◌∙◌ {c = c.args.bound.now ++ c.args.size ∷ []} c.as_slice-in-None.ensures.value c.in_ok-names-in-None.ensures in
     IfOk-weaker c.for_some.result (HoldsForSome c.args.size inner.inner) (AgreesUnder c.args.size c.args.free c.args.bound.now (exists (view c.args.body.now))) (λ r some. exists_agrees c.args.size c.args.free c.args.bound.now c.in_ok-with_one_more-in-None.field-0 c.as_slice-in-None.result.now (view c.args.body.now) inner.inner r c.requires.names c.in_ok-with_one_more-in-None.ensures is inner.ensures.truth some) c.for_some.ensures.truth
 
 pub each_of-returns-clause-truth : goal.each_of-returns-clause-truth
@@ -81,35 +85,69 @@ meet_part-returns-in_ok-under_names-in_default g t c =
       operators = IfOk-weaker c.meet-in_default.result (λ r. (o : Bool) → AdmitsConstraint o met → AdmitsConstraint o part.field-0 → AdmitsConstraint o r) (λ r. (o : Bool) → AdmitsConstraint o met → AdmitsFormula o f → AdmitsConstraint o r) (λ r admits o h k. admits o h (part.ensures.operators o k)) c.meet-in_default.ensures.operators;
     }
 
-pub all_of-meet_part-requires : goal.all_of-meet_part-requires
-all_of-meet_part-requires g t c =
+pub meet_parts-meet_part-requires : goal.meet_parts-meet_part-requires
+meet_parts-meet_part-requires g t c =
     let whole = formulas_of (views c.args.parts.now) in
     let items = c.as_slice-part-items.result.now in
     let below : c.loop-part.part-index < length items = omega arith in
     let h = formula_within _ _ _ _ c.as_slice-part-items.ensures below c.part-item.is in
-    let fits = part_fits c.args.size c.args.free c.args.bound.now whole items c.loop-part.part-index c.part-item.result below c.part-item.is c.loop-part.met c.loop-part.invariant.parts in
-    let admitted = part_admitted c.args.size c.args.free c.args.bound.now whole items c.loop-part.part-index c.part-item.result below c.part-item.is c.loop-part.met c.loop-part.invariant.parts g.T.Structure.ordered c.requires.operators in
+    let fits = turn_fits (in_turn c.args.negations) c.args.size c.args.free c.args.bound.now whole c.args.start items c.loop-part.part-index c.part-item.result below c.part-item.is c.loop-part.met c.loop-part.invariant in
+    let admitted = turn_admitted (in_turn c.args.negations) c.args.size c.args.free c.args.bound.now whole c.args.start items c.loop-part.part-index c.part-item.result below c.part-item.is c.loop-part.met c.loop-part.invariant g.T.Structure.ordered c.requires.operators in
     λ κs outlives. (omega (arith, h), (outlives, (c.requires.names, (fits, admitted))))
 
-pub all_of-loop-part-preserved : goal.all_of-loop-part-preserved
-all_of-loop-part-preserved g t c =
+pub meet_parts-loop-part-preserved : goal.meet_parts-loop-part-preserved
+meet_parts-loop-part-preserved g t c =
     let whole = formulas_of (views c.args.parts.now) in
     let items = c.as_slice-part-items.result.now in
-    let met = c.in_ok-met-2 in
-    let below : c.loop-part.part-index < length items = omega arith in
+    let i = c.loop-part.part-index in
+    let below : i < length items = omega arith in
+    elim c.if-is_in_turn.branch [
+      | meet_parts-then-is_in_turn+in_ok-met w ↦ subst (MetSoFar (in_turn c.args.negations) c.args.size c.args.free c.args.bound.now whole (parts_from items (i + 1)) c.args.start) (sym w.met-is) (turn_goes_on (in_turn c.args.negations) c.args.size c.args.free c.args.bound.now whole c.args.start items i c.part-item.result below c.part-item.is c.loop-part.met c.loop-part.invariant w.in_ok-met.met (sym c.is_in_turn.ensures ∙ w.if-is_in_turn.true) w.in_ok-met.ensures.truth w.in_ok-met.ensures.levels w.in_ok-met.ensures.operators)
+      | meet_parts-else-is_in_turn w ↦ subst (MetSoFar (in_turn c.args.negations) c.args.size c.args.free c.args.bound.now whole (parts_from items (i + 1)) c.args.start) (sym w.met-is) (turn_skips (in_turn c.args.negations) c.args.size c.args.free c.args.bound.now whole c.args.start items i c.part-item.result below c.part-item.is c.loop-part.met c.loop-part.invariant (λ now. false≢true (sym w.if-is_in_turn.false ∙ (c.is_in_turn.ensures ∙ now))))
+    ]
+
+pub meet_parts-loop-part-init : goal.meet_parts-loop-part-init
+meet_parts-loop-part-init g t c =
+    let whole = formulas_of (views c.args.parts.now) in
+    subst (λ vs. MetSoFar (in_turn c.args.negations) c.args.size c.args.free c.args.bound.now whole (formulas_of vs) c.args.start c.args.start) (sym c.as_slice-part-items.ensures) (met_begin (in_turn c.args.negations) c.args.size c.args.free c.args.bound.now whole c.args.start c.requires.levels)
+
+pub meet_parts-returns : goal.meet_parts-returns
+meet_parts-returns g t c =
+    let whole = formulas_of (views c.args.parts.now) in
+    let items = c.as_slice-part-items.result.now in
+    let met = c.loop-part.met in
+    let so_far = c.loop-part.invariant in
+    let done : MetSoFar (in_turn c.args.negations) c.args.size c.args.free c.args.bound.now whole no_formulas c.args.start met = subst (λ rest. MetSoFar (in_turn c.args.negations) c.args.size c.args.free c.args.bound.now whole rest c.args.start met) (no_parts items c.loop-part.part-index (omega arith)) so_far in
     record {
-      truth = all_go_on c.args.size c.args.free c.args.bound.now whole items c.loop-part.part-index c.part-item.result below c.part-item.is c.loop-part.met met.met c.loop-part.invariant.truth met.ensures.truth;
-      parts = parts_go_on c.args.size c.args.free c.args.bound.now whole items c.loop-part.part-index c.part-item.result below c.part-item.is c.loop-part.met met.met c.loop-part.invariant.parts (met.ensures.levels c.loop-part.invariant.parts.levels) met.ensures.operators;
+      truth = met_end (in_turn c.args.negations) c.args.size c.args.free c.args.bound.now whole c.args.start met done;
+      levels = so_far.levels;
+      operators = so_far.operators;
     }
 
-pub all_of-returns-then-len-eq0-clause-truth : goal.all_of-returns-then-len-eq0-clause-truth
-all_of-returns-then-len-eq0-clause-truth g t c =
+pub meet_parts-returns-then-len-eq0 : goal.meet_parts-returns-then-len-eq0
+meet_parts-returns-then-len-eq0 g t c =
     let whole = formulas_of (views c.args.parts.now) in
-    let items = c.as_slice-part-items.result.now in
-    let met = c.in_ok-met-2 in
-    let below : c.loop-part.part-index < length items = omega arith in
-    let none : length met.met ≡ 0 = omega arith in
-    all_refuted c.args.size c.args.free c.args.bound.now whole (parts_from items (c.loop-part.part-index + 1)) met.met (all_go_on c.args.size c.args.free c.args.bound.now whole items c.loop-part.part-index c.part-item.result below c.part-item.is c.loop-part.met met.met c.loop-part.invariant.truth met.ensures.truth) none
+    let so_far = c.loop-part.invariant in
+    let none : length c.loop-part.met ≡ 0 = omega arith in
+    record {
+      truth = met_nowhere (in_turn c.args.negations) c.args.size c.args.free c.args.bound.now whole c.args.start (parts_from c.as_slice-part-items.result.now c.loop-part.part-index) c.loop-part.met so_far none;
+      levels = so_far.levels;
+      operators = so_far.operators;
+    }
+
+pub all_of-returns : goal.all_of-returns
+all_of-returns g t c =
+    let whole = formulas_of (views c.args.parts.now) in
+    let cube = c.in_ok-literals_of in
+    let literals = c.in_ok-literals in
+    let met = c.in_ok-met in
+    let n : ℕ = c.args.size in
+    let names = c.requires.names in
+    record {
+      truth = IfOk-weaker c.meet_parts-2.result (AgreesInTurn n c.args.free c.args.bound.now (in_turn true) met.met whole) (AgreesUnder n c.args.free c.args.bound.now (all whole)) (λ r second. turns_agree n c.args.free c.args.bound.now whole literals.literals met.met r cube.field-0 names cube.ensures.truth literals.ensures.truth met.ensures.truth second) c.meet_parts-2.ensures.truth;
+      levels = IfOk-weaker c.meet_parts-2.result (λ r. ConstraintFits n met.met → ConstraintFits n r) (ConstraintFits n) (λ r levels. levels (met.ensures.levels (literals.ensures.levels n (cube.ensures.levels n names)))) c.meet_parts-2.ensures.levels;
+      operators = IfOk-weaker c.meet_parts-2.result (λ r. (o : Bool) → AdmitsConstraint o met.met → AdmitsFormulas o whole → AdmitsConstraint o r) (λ r. (o : Bool) → AdmitsFormulas o whole → AdmitsConstraint o r) (λ r admits o a. admits o (met.ensures.operators o (literals.ensures.operators o (cube.ensures.operators o a)) a) a) c.meet_parts-2.ensures.operators;
+    }
 
 pub any_of-under_names-requires : goal.any_of-under_names-requires
 any_of-under_names-requires g t c =
