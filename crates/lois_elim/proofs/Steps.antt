@@ -1,5 +1,5 @@
 -- What holds as a loop goes over the cubes of a constraint, or over the parts of a formula.
-use Rattle.std.proofs.Common.{◌≡◌, ℕ, ◌+◌, ◌<◌, ◌≤◌, Bool, true, false, ◌||◌, ◌⊎◌, inl, inr, ◌↔◌, List, [], ◌∷◌, ◌++◌, length, get_or, drop, map, refl, sym, ap, subst, ◌∙◌, arith}
+use Rattle.std.proofs.Common.{◌≡◌, ℕ, ◌+◌, ◌<◌, ◌≤◌, Bool, true, false, ◌||◌, ◌⊎◌, inl, inr, ◌↔◌, List, [], ◌∷◌, ◌++◌, length, get_or, drop, map, sym, ap, subst, ◌∙◌}
 use Rattle.std.specs.Bool.{IsTrue}
 use Rattle.std.specs.List.{All}
 use Rattle.std.proofs.lemmas.Bool.{false≢true}
@@ -8,8 +8,8 @@ use Rattle.std.proofs.lemmas.List.Elements.{All-head, All-tail, All-nil, All-app
 use Rattle.std.proofs.lemmas.List.Folds.{list_any-append}
 use Rattle.lois_base.specs.Atom.{Atom}
 use Rattle.lois_base.specs.Fits.{CubeFits, ConstraintFits}
-use Rattle.lois_base.specs.FormulaData.{FormulaD, all, any, FormulasD, no_formulas, formula, formulas_of, FormulaFits, FormulasFit}
-use Rattle.lois_base.specs.FormulaTruth.{AllHold, AnyHolds}
+use Rattle.lois_base.specs.FormulaData.{FormulaD, any, FormulasD, no_formulas, formula, formulas_of, FormulaFits, FormulasFit}
+use Rattle.lois_base.specs.FormulaTruth.{AnyHolds}
 use Rattle.lois_base.specs.FormulaView.{view}
 use Rattle.lois_base.specs.Theory.{Eliminates}
 use Rattle.lois_base.specs.Truth.{cube_holds, holds}
@@ -20,7 +20,7 @@ use Rattle.lois_base.proofs.Connectives.{either_true}
 use Rattle.lois_base.proofs.Validity.{constraint_admitted}
 use Rattle.lois_base.proofs.Viewed.{rest_is}
 use Rattle.lois_elim.specs.Bound.{HoldsForSome}
-use Rattle.lois_elim.specs.Names.{named, AgreesUnder, AgreesUnderWithBoth}
+use Rattle.lois_elim.specs.Names.{named, AgreesUnder}
 
 appended : (c : List Atom) (found part r : List (List Lit)) → r ≡ found ++ part → holds c r ≡ (holds c found || holds c part)
 appended c found part r e = ap (holds c) e ∙ list_any-append (cube_holds c) found part

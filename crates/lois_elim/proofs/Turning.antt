@@ -16,7 +16,7 @@ use Rattle.lois_base.specs.declared.logic.Formula.{Formula}
 use Rattle.lois_base.proofs.Connectives.{both_true}
 use Rattle.lois_elim.specs.Names.{named, AreNames, AgreesUnder, AgreesUnderWithBoth}
 use Rattle.lois_elim.specs.Turns.{is_literal, in_turn, HoldWhere, AgreesInTurn}
-use Rattle.lois_elim.proofs.Steps.{parts_from, parts_are, no_parts}
+use Rattle.lois_elim.proofs.Steps.{parts_from, parts_are}
 
 -- ---- each part has one turn
 one_turn : (u : List Atom) (f : FormulaD) → (IsTrue (is_literal f) → FormulaHolds u f) → (IsTrue (in_turn false f) → FormulaHolds u f) → (IsTrue (in_turn true f) → FormulaHolds u f) → FormulaHolds u f

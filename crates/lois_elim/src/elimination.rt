@@ -56,7 +56,7 @@ fn level_bound(free: usize, bound: &[usize]) -> Result<usize, NoMemory>
 
 /// A constraint that holds at each choice of `size` atoms exactly where the formula does. It uses levels
 /// below `size` and operators of the formula alone, so `<` only where the formula has it. Errors: `NoMemory`, also
-/// where a quantifier would bind the greatest level that a usize names.
+/// where a quantifier would take the greatest level that a usize names.
 pub fn quantifier_free<T: Structure>(
     alloc: Global,
     f: &Formula,
