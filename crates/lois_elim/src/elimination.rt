@@ -236,6 +236,7 @@ fn all_of<T: Structure>(
     meet_parts::<T>(alloc, met, parts, true, free, bound, size)
 }
 
+// Each part's cubes are pruned already, so that those of one part alone are left as they are.
 #[cycle(elimination)]
 fn any_of<T: Structure>(
     alloc: Global,
@@ -252,11 +253,14 @@ fn any_of<T: Structure>(
     ensures operators { IfOk result (λ r. (o : Bool) → AdmitsFormulas o (formulas_of (views parts.now)) → AdmitsConstraint o r) }
 {
     let mut found = Constraint::new(alloc);
+    let mut filled: usize = 0;
     for part in parts.as_slice() {
-        append(
-            &mut found,
-            under_names::<T>(alloc, part, free, bound, size)?,
-        )?;
+        let cubes = under_names::<T>(alloc, part, free, bound, size)?;
+        filled = filled.saturating_add(cubes.len().min(1));
+        append(&mut found, cubes)?;
+    }
+    if filled < 2 {
+        return Ok(found);
     }
     prune(alloc, &found)
 }

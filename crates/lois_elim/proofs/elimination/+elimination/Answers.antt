@@ -1,4 +1,4 @@
-use Rattle.std.proofs.Common.{◌≡◌, ℕ, suc, ◌+◌, ◌<◌, Bool, true, not, ◌&&◌, List, [], ◌∷◌, ◌++◌, length, length-append, subst, sym, ap, ◌∙◌, arith}
+use Rattle.std.proofs.Common.{◌≡◌, ℕ, suc, ◌+◌, ◌<◌, Bool, true, not, ◌&&◌, List, [], ◌∷◌, ◌++◌, length, length-append, refl, subst, sym, ap, ◌∙◌, arith}
 use Rattle.std.proofs.lemmas.Bool.{false≢true}
 use Rattle.std.proofs.lemmas.Result.{IfOk-weaker}
 use Rattle.lois_base.specs.Atom.{Atom}
@@ -163,13 +163,13 @@ pub any_of-loop-part-preserved : goal.any_of-loop-part-preserved
 any_of-loop-part-preserved g t c =
     let whole = formulas_of (views c.args.parts.now) in
     let items = c.as_slice-part-items.result.now in
-    let part = c.in_ok-under_names in
+    let part = c.in_ok-cubes in
     let found : List (List _) = c.append.new.cubes in
     let e = c.in_ok-append.ensures in
     let below : c.loop-part.part-index < length items = omega arith in
     record {
-      truth = any_go_on c.args.size c.args.free c.args.bound.now whole items c.loop-part.part-index c.part-item.result below c.part-item.is c.loop-part.found part.field-0 found c.loop-part.invariant.truth part.ensures.truth e;
-      parts = parts_go_on c.args.size c.args.free c.args.bound.now whole items c.loop-part.part-index c.part-item.result below c.part-item.is c.loop-part.found found c.loop-part.invariant.parts (appended_obeys (CubeFits c.args.size) c.loop-part.found part.field-0 found e c.loop-part.invariant.parts.levels part.ensures.levels) (λ o before admitted. appended_obeys (AdmitsCube o) c.loop-part.found part.field-0 found e before (part.ensures.operators o admitted));
+      truth = any_go_on c.args.size c.args.free c.args.bound.now whole items c.loop-part.part-index c.part-item.result below c.part-item.is c.loop-part.found part.cubes found c.loop-part.invariant.truth part.ensures.truth e;
+      parts = parts_go_on c.args.size c.args.free c.args.bound.now whole items c.loop-part.part-index c.part-item.result below c.part-item.is c.loop-part.found found c.loop-part.invariant.parts (appended_obeys (CubeFits c.args.size) c.loop-part.found part.cubes found e c.loop-part.invariant.parts.levels part.ensures.levels) (λ o before admitted. appended_obeys (AdmitsCube o) c.loop-part.found part.cubes found e before (part.ensures.operators o admitted));
     }
 
 pub any_of-returns-clause-truth : goal.any_of-returns-clause-truth
@@ -182,3 +182,15 @@ any_of-returns-clause-truth g t c =
 pub any_of-returns-clause-levels : goal.any_of-returns-clause-levels
 any_of-returns-clause-levels g t c =
     IfOk-weaker c.prune.result (λ r. (n : ℕ) → ConstraintFits n c.loop-part.found → ConstraintFits n r) (ConstraintFits c.args.size) (λ r fits. fits c.args.size c.loop-part.invariant.parts.levels) c.prune.ensures.fits
+
+pub any_of-returns-then-filled-lt2 : goal.any_of-returns-then-filled-lt2
+any_of-returns-then-filled-lt2 g t c =
+    let whole = formulas_of (views c.args.parts.now) in
+    let items = c.as_slice-part-items.result.now in
+    let found : List (List Lit) = c.loop-part.found in
+    let done : AnySoFar c.args.size c.args.free c.args.bound.now whole no_formulas found = subst (λ rest. AnySoFar c.args.size c.args.free c.args.bound.now whole rest found) (no_parts items c.loop-part.part-index (omega arith)) c.loop-part.invariant.truth in
+    record {
+      truth = any_end c.args.size c.args.free c.args.bound.now whole found found done (λ e. refl);
+      levels = c.loop-part.invariant.parts.levels;
+      operators = λ o h. (c.loop-part.invariant.parts.operators o h).0;
+    }
