@@ -1,5 +1,5 @@
 -- What holds as a loop goes over the cubes of a constraint, or over the parts of a formula.
-use Rattle.std.proofs.Common.{◌≡◌, ℕ, ◌+◌, ◌<◌, ◌≤◌, Bool, true, false, ◌||◌, ◌⊎◌, inl, inr, ◌↔◌, List, [], ◌∷◌, ◌++◌, length, get_or, drop, map, refl, sym, ap, subst, ◌∙◌, arith}
+use Rattle.std.proofs.Common.{◌≡◌, ℕ, ◌+◌, ◌<◌, ◌≤◌, Bool, true, false, ◌||◌, ◌⊎◌, inl, inr, ◌↔◌, List, [], ◌∷◌, ◌++◌, length, get_or, drop, map, sym, ap, subst, ◌∙◌}
 use Rattle.std.specs.Bool.{IsTrue}
 use Rattle.std.specs.List.{All}
 use Rattle.std.proofs.lemmas.Bool.{false≢true}
@@ -8,8 +8,8 @@ use Rattle.std.proofs.lemmas.List.Elements.{All-head, All-tail, All-nil, All-app
 use Rattle.std.proofs.lemmas.List.Folds.{list_any-append}
 use Rattle.lois_base.specs.Atom.{Atom}
 use Rattle.lois_base.specs.Fits.{CubeFits, ConstraintFits}
-use Rattle.lois_base.specs.FormulaData.{FormulaD, all, any, FormulasD, no_formulas, formula, formulas_of, FormulaFits, FormulasFit}
-use Rattle.lois_base.specs.FormulaTruth.{AllHold, AnyHolds}
+use Rattle.lois_base.specs.FormulaData.{FormulaD, any, FormulasD, no_formulas, formula, formulas_of, FormulaFits, FormulasFit}
+use Rattle.lois_base.specs.FormulaTruth.{AnyHolds}
 use Rattle.lois_base.specs.FormulaView.{view}
 use Rattle.lois_base.specs.Theory.{Eliminates}
 use Rattle.lois_base.specs.Truth.{cube_holds, holds}
@@ -19,7 +19,8 @@ use Rattle.lois_base.specs.declared.logic.Formula.{Formula}
 use Rattle.lois_base.proofs.Connectives.{either_true}
 use Rattle.lois_base.proofs.Validity.{constraint_admitted}
 use Rattle.lois_base.proofs.Viewed.{rest_is}
-use Rattle.lois_elim.specs.Bound.{AgreesWith, AgreesWithBoth, HoldsForSome}
+use Rattle.lois_elim.specs.Bound.{HoldsForSome}
+use Rattle.lois_elim.specs.Names.{named, AgreesUnder}
 
 appended : (c : List Atom) (found part r : List (List Lit)) → r ≡ found ++ part → holds c r ≡ (holds c found || holds c part)
 appended c found part r e = ap (holds c) e ∙ list_any-append (cube_holds c) found part
@@ -116,20 +117,15 @@ cubes_end n g xs found r i l so_far same c k =
 -- ---- the parts of a formula
 
 -- `rest` are the parts that are left of `whole`, and r stands for those before
-pub record PartsSoFar (n : ℕ) (whole rest : FormulasD) (r : List (List Lit)) : Type 0 where
-  pub rest_fits : FormulasFit n rest
+pub record PartsSoFar (n m : ℕ) (whole rest : FormulasD) (r : List (List Lit)) : Type 0 where
+  pub rest_fits : FormulasFit m rest
   pub levels : ConstraintFits n r
   pub operators : (o : Bool) → AdmitsFormulas o whole → AdmitsConstraint o r × AdmitsFormulas o rest
 
--- the parts before `rest` all hold exactly where r does
-abbrev pub AllSoFar : ℕ → FormulasD → FormulasD → List (List Lit) → Type 0
-AllSoFar n whole rest r =
-    (c : List Atom) → length c ≡ n → (IsTrue (holds c r) × AllHold c rest) ↔ AllHold c whole
-
 -- one of the parts before `rest` holds exactly where r does
-abbrev pub AnySoFar : ℕ → FormulasD → FormulasD → List (List Lit) → Type 0
-AnySoFar n whole rest r =
-    (c : List Atom) → length c ≡ n → (IsTrue (holds c r) ⊎ AnyHolds c rest) ↔ AnyHolds c whole
+abbrev pub AnySoFar : ℕ → ℕ → List ℕ → FormulasD → FormulasD → List (List Lit) → Type 0
+AnySoFar n free bound whole rest r =
+    (c : List Atom) → length c ≡ n → (IsTrue (holds c r) ⊎ AnyHolds (named free bound c) rest) ↔ AnyHolds (named free bound c) whole
 
 -- the parts of a list from an index on
 abbrev pub parts_from : List Formula → ℕ → FormulasD
@@ -141,42 +137,25 @@ parts_are items i f l is = ap (λ xs. formulas_of (map view xs)) (rest_is items 
 pub no_parts : (items : List Formula) (i : ℕ) → length items ≤ i → parts_from items i ≡ no_formulas
 no_parts items i l = ap (λ xs. formulas_of (map view xs)) (drop_all i items l)
 
-pub parts_begin : (n : ℕ) (whole : FormulasD) (r : List (List Lit)) → FormulasFit n whole → ConstraintFits n r → ((o : Bool) → AdmitsConstraint o r) → PartsSoFar n whole whole r
-parts_begin n whole r fits levels operators = record {
+pub parts_begin : (n m : ℕ) (whole : FormulasD) (r : List (List Lit)) → FormulasFit m whole → ConstraintFits n r → ((o : Bool) → AdmitsConstraint o r) → PartsSoFar n m whole whole r
+parts_begin n m whole r fits levels operators = record {
   rest_fits = fits;
   levels = levels;
   operators = λ o h. (operators o, h);
 }
 
-pub one_more_part : (n : ℕ) (whole rest : FormulasD) (f : FormulaD) (before r : List (List Lit)) → PartsSoFar n whole (formula f rest) before → ConstraintFits n r → ((o : Bool) → AdmitsConstraint o before → AdmitsFormula o f → AdmitsConstraint o r) → PartsSoFar n whole rest r
-one_more_part n whole rest f before r so_far levels operators = record {
+pub one_more_part : (n m : ℕ) (whole rest : FormulasD) (f : FormulaD) (before r : List (List Lit)) → PartsSoFar n m whole (formula f rest) before → ConstraintFits n r → ((o : Bool) → AdmitsConstraint o before → AdmitsFormula o f → AdmitsConstraint o r) → PartsSoFar n m whole rest r
+one_more_part n m whole rest f before r so_far levels operators = record {
   rest_fits = so_far.rest_fits.1;
   levels = levels;
   operators = λ o h. let both = so_far.operators o h in (operators o both.0 both.1.0, both.1.1);
 }
 
-pub all_begin : (n : ℕ) (whole : FormulasD) → AllSoFar n whole whole ([] ∷ [])
-all_begin n whole c k = (λ h. h.1, λ h. (refl, h))
+pub any_begin : (n free : ℕ) (bound : List ℕ) (whole : FormulasD) → AnySoFar n free bound whole whole []
+any_begin n free bound whole c k = (λ h. elim h [ inl e ↦ absurd (false≢true e) | inr s ↦ s ], λ s. inr s)
 
-pub all_one_more : (n : ℕ) (whole rest : FormulasD) (f : FormulaD) (before r : List (List Lit)) → AllSoFar n whole (formula f rest) before → AgreesWithBoth n before f r → AllSoFar n whole rest r
-all_one_more n whole rest f before r so_far agrees c k = (
-  λ h. let both = (agrees c k).0 h.0 in (so_far c k).0 (both.0, (both.1, h.1)),
-  λ h. let each = (so_far c k).1 h in ((agrees c k).1 (each.0, each.1.0), each.1.1),
-)
-
-pub all_end : (n : ℕ) (whole : FormulasD) (r : List (List Lit)) → AllSoFar n whole no_formulas r → AgreesWith n (all whole) r
-all_end n whole r so_far c k = (λ p. (so_far c k).0 (p, tt), λ h. ((so_far c k).1 h).0)
-
--- where a part is false, so are all together
-pub all_refuted : (n : ℕ) (whole rest : FormulasD) (r : List (List Lit)) → AllSoFar n whole rest r → length r ≡ 0 → AgreesWith n (all whole) r
-all_refuted n whole rest [] so_far e c k = (λ p. absurd (false≢true p), λ h. ((so_far c k).1 h).0)
-all_refuted n whole rest (q ∷ r) so_far e c k = absurd (omega (arith, e))
-
-pub any_begin : (n : ℕ) (whole : FormulasD) → AnySoFar n whole whole []
-any_begin n whole c k = (λ h. elim h [ inl e ↦ absurd (false≢true e) | inr s ↦ s ], λ s. inr s)
-
-module _ (n : ℕ) (whole rest : FormulasD) (f : FormulaD) (before part r : List (List Lit)) where
-  any_holds : AnySoFar n whole (formula f rest) before → AgreesWith n f part → r ≡ before ++ part → (c : List Atom) → length c ≡ n → IsTrue (holds c r) ⊎ AnyHolds c rest → AnyHolds c whole
+module _ (n free : ℕ) (bound : List ℕ) (whole rest : FormulasD) (f : FormulaD) (before part r : List (List Lit)) where
+  any_holds : AnySoFar n free bound whole (formula f rest) before → AgreesUnder n free bound f part → r ≡ before ++ part → (c : List Atom) → length c ≡ n → IsTrue (holds c r) ⊎ AnyHolds (named free bound c) rest → AnyHolds (named free bound c) whole
   any_holds so_far agrees e c k (inl p) =
       elim ((either_true (holds c before) (holds c part)).0 (sym (appended c before part r e) ∙ p)) [
         | inl q ↦ (so_far c k).0 (inl q)
@@ -184,46 +163,42 @@ module _ (n : ℕ) (whole rest : FormulasD) (f : FormulaD) (before part r : List
       ]
   any_holds so_far agrees e c k (inr s) = (so_far c k).0 (inr (inr s))
 
-  any_now : AgreesWith n f part → r ≡ before ++ part → (c : List Atom) → length c ≡ n → IsTrue (holds c before) ⊎ AnyHolds c (formula f rest) → IsTrue (holds c r) ⊎ AnyHolds c rest
+  any_now : AgreesUnder n free bound f part → r ≡ before ++ part → (c : List Atom) → length c ≡ n → IsTrue (holds c before) ⊎ AnyHolds (named free bound c) (formula f rest) → IsTrue (holds c r) ⊎ AnyHolds (named free bound c) rest
   any_now agrees e c k (inl p) =
       inl (appended c before part r e ∙ (either_true (holds c before) (holds c part)).1 (inl p))
   any_now agrees e c k (inr (inl s)) =
       inl (appended c before part r e ∙ (either_true (holds c before) (holds c part)).1 (inr ((agrees c k).1 s)))
   any_now agrees e c k (inr (inr s)) = inr s
 
-  pub any_one_more : AnySoFar n whole (formula f rest) before → AgreesWith n f part → r ≡ before ++ part → AnySoFar n whole rest r
+  pub any_one_more : AnySoFar n free bound whole (formula f rest) before → AgreesUnder n free bound f part → r ≡ before ++ part → AnySoFar n free bound whole rest r
   any_one_more so_far agrees e c k =
       (any_holds so_far agrees e c k, λ h. any_now agrees e c k ((so_far c k).1 h))
 
-no_more : (c : List Atom) (r : List (List Lit)) → IsTrue (holds c r) ⊎ AnyHolds c no_formulas → IsTrue (holds c r)
-no_more c r (inl p) = p
-no_more c r (inr s) = absurd s
+no_more : (c u : List Atom) (r : List (List Lit)) → IsTrue (holds c r) ⊎ AnyHolds u no_formulas → IsTrue (holds c r)
+no_more c u r (inl p) = p
+no_more c u r (inr s) = absurd s
 
-pub any_end : (n : ℕ) (whole : FormulasD) (before r : List (List Lit)) → AnySoFar n whole no_formulas before → ((c : List Atom) → holds c r ≡ holds c before) → AgreesWith n (any whole) r
-any_end n whole before r so_far same c k =
-    (λ p. (so_far c k).0 (inl (sym (same c) ∙ p)), λ h. same c ∙ no_more c before ((so_far c k).1 h))
+pub any_end : (n free : ℕ) (bound : List ℕ) (whole : FormulasD) (before r : List (List Lit)) → AnySoFar n free bound whole no_formulas before → ((c : List Atom) → holds c r ≡ holds c before) → AgreesUnder n free bound (any whole) r
+any_end n free bound whole before r so_far same c k =
+    (λ p. (so_far c k).0 (inl (sym (same c) ∙ p)), λ h. same c ∙ no_more c (named free bound c) before ((so_far c k).1 h))
 
 -- ---- from one part of a list to the next
-module _ (n : ℕ) (whole : FormulasD) (items : List Formula) (i : ℕ) (f : Formula) (l : i < length items) (is : f ≡ get_or items i f) (before : List (List Lit)) where
-  parts_here : PartsSoFar n whole (parts_from items i) before → PartsSoFar n whole (formula (view f) (parts_from items (i + 1))) before
-  parts_here = subst (λ rest. PartsSoFar n whole rest before) (parts_are items i f l is)
+module _ (n free : ℕ) (bound : List ℕ) (whole : FormulasD) (items : List Formula) (i : ℕ) (f : Formula) (l : i < length items) (is : f ≡ get_or items i f) (before : List (List Lit)) where
+  parts_here : PartsSoFar n (free + length bound) whole (parts_from items i) before → PartsSoFar n (free + length bound) whole (formula (view f) (parts_from items (i + 1))) before
+  parts_here = subst (λ rest. PartsSoFar n (free + length bound) whole rest before) (parts_are items i f l is)
 
-  pub part_fits : PartsSoFar n whole (parts_from items i) before → FormulaFits n (view f)
+  pub part_fits : PartsSoFar n (free + length bound) whole (parts_from items i) before → FormulaFits (free + length bound) (view f)
   part_fits so_far = (parts_here so_far).rest_fits.0
 
-  pub part_admitted : PartsSoFar n whole (parts_from items i) before → (o : Bool) → AdmitsFormulas o whole → AdmitsFormula o (view f)
+  pub part_admitted : PartsSoFar n (free + length bound) whole (parts_from items i) before → (o : Bool) → AdmitsFormulas o whole → AdmitsFormula o (view f)
   part_admitted so_far o h = ((parts_here so_far).operators o h).1.0
 
-  pub parts_go_on : (r : List (List Lit)) → PartsSoFar n whole (parts_from items i) before → ConstraintFits n r → ((o : Bool) → AdmitsConstraint o before → AdmitsFormula o (view f) → AdmitsConstraint o r) → PartsSoFar n whole (parts_from items (i + 1)) r
-  parts_go_on r so_far = one_more_part n whole (parts_from items (i + 1)) (view f) before r (parts_here so_far)
+  pub parts_go_on : (r : List (List Lit)) → PartsSoFar n (free + length bound) whole (parts_from items i) before → ConstraintFits n r → ((o : Bool) → AdmitsConstraint o before → AdmitsFormula o (view f) → AdmitsConstraint o r) → PartsSoFar n (free + length bound) whole (parts_from items (i + 1)) r
+  parts_go_on r so_far = one_more_part n (free + length bound) whole (parts_from items (i + 1)) (view f) before r (parts_here so_far)
 
-  pub all_go_on : (r : List (List Lit)) → AllSoFar n whole (parts_from items i) before → AgreesWithBoth n before (view f) r → AllSoFar n whole (parts_from items (i + 1)) r
-  all_go_on r so_far =
-      all_one_more n whole (parts_from items (i + 1)) (view f) before r (subst (λ rest. AllSoFar n whole rest before) (parts_are items i f l is) so_far)
-
-  pub any_go_on : (part r : List (List Lit)) → AnySoFar n whole (parts_from items i) before → AgreesWith n (view f) part → r ≡ before ++ part → AnySoFar n whole (parts_from items (i + 1)) r
+  pub any_go_on : (part r : List (List Lit)) → AnySoFar n free bound whole (parts_from items i) before → AgreesUnder n free bound (view f) part → r ≡ before ++ part → AnySoFar n free bound whole (parts_from items (i + 1)) r
   any_go_on part r so_far =
-      any_one_more n whole (parts_from items (i + 1)) (view f) before part r (subst (λ rest. AnySoFar n whole rest before) (parts_are items i f l is) so_far)
+      any_one_more n free bound whole (parts_from items (i + 1)) (view f) before part r (subst (λ rest. AnySoFar n free bound whole rest before) (parts_are items i f l is) so_far)
 
 -- what both obey, the one with the other behind it obeys
 pub appended_obeys : (P : List Lit → Type 0) (before part r : List (List Lit)) → r ≡ before ++ part → All P before → All P part → All P r

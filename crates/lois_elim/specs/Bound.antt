@@ -11,11 +11,6 @@ pub use Rattle.lois_base.specs.Bound.{HoldsForSome, HoldsForEach}
 abbrev pub AgreesWith : ℕ → FormulaD → List (List Lit) → Type 0
 AgreesWith n f r = (c : List Atom) → length c ≡ n → IsTrue (holds c r) ↔ FormulaHolds c f
 
--- at each choice of n atoms, r holds exactly where both g and the formula do
-abbrev pub AgreesWithBoth : ℕ → List (List Lit) → FormulaD → List (List Lit) → Type 0
-AgreesWithBoth n g f r =
-    (c : List Atom) → length c ≡ n → IsTrue (holds c r) ↔ (IsTrue (holds c g) × FormulaHolds c f)
-
 -- at each choice of n atoms, r holds exactly where g does with some m atoms behind
 abbrev pub HoldsForSomeMore : ℕ → ℕ → List (List Lit) → List (List Lit) → Type 0
 HoldsForSomeMore n m g r =

@@ -1,1 +1,3 @@
 pub mod Bound
+pub mod Names
+pub mod Turns

@@ -1,6 +1,3 @@
-use Rattle.std.proofs.Common.{◌+◌, ◌-◌, Bool}
-use Rattle.lois_base.specs.Fits.{ConstraintFits}
-use Rattle.lois_base.specs.Validity.{AdmitsConstraint}
 use Rattle.lois_elim.proofs.BoundDown.{IsBoundDown}
 use Rattle.lois_elim.proofs.levels.for_some_more.Given as goal
 
