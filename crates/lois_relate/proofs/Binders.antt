@@ -3,10 +3,10 @@ use Rattle.std.proofs.Common.{◌≡◌, ℕ, Bool, ◌+◌, ◌⊎◌, inl, inr
 use Rattle.std.specs.Bool.{IsTrue}
 use Rattle.lois_base.specs.Atom.{Atom}
 use Rattle.lois_base.specs.Data.{TermD, comp, CompsD}
-use Rattle.lois_base.specs.FormulaData.{FormulaD, FormulaFits}
+use Rattle.lois_base.specs.FormulaData.{FormulaD, FormulaFits, any, no_formulas}
 use Rattle.lois_base.specs.FormulaTruth.{FormulaHolds}
 use Rattle.lois_base.specs.Truth.{holds}
-use Rattle.lois_base.specs.Validity.{AdmitsConstraint, AdmitsTerm, AdmitsComp, AdmitsItems}
+use Rattle.lois_base.specs.Validity.{AdmitsConstraint, AdmitsTerm, AdmitsComp, AdmitsItems, AdmitsFormula}
 use Rattle.lois_base.specs.Values.{SameAt, EachInAt, InAt, SomeIsAt, OneIsAt}
 use Rattle.lois_base.specs.declared.guards.Lit.{Lit}
 use Rattle.lois_relate.specs.Built.{Says, IsBoth, IsNegation, IsForSome}
@@ -55,6 +55,21 @@ module _ (n m inner : ℕ) (sum : inner ≡ n + m) (own outer names : List ℕ) 
             let l = y.count in
             let u : SameAt t (chosen names (c ++ x)) s (chosen own (c ++ x)) = subst (λ z. SameAt t (chosen names (c ++ x)) s z) (sym (own_names c x k)) (subst (λ z. SameAt t z s (chosen own c)) (sym (comp_names c x k l)) i) in
             (some.truth c).1 (x, l, (both.truth (c ++ x)).1 ((equal.truth (c ++ x) (longer c x k l)).1 u, (guard.truth (c ++ x) (longer c x k l)).1 (guard_back g c x k l y.guard)))
+
+  module _ (g : List (List Lit)) (t s : TermD) (e : FormulaD) where
+    -- an item that is the same as s nowhere isn't so for atoms that the guard admits
+    pub none_says : e ≡ any no_formulas → Says inner (λ c. SameAt t (chosen names c) s (chosen own c)) (λ o. AdmitsTerm o t × AdmitsTerm o s) e → Says n (λ c. OneIsAt (comp m g t) (chosen outer c) s (chosen own c)) (λ o. AdmitsComp o (comp m g t) × AdmitsTerm o s) e
+    none_says never equal = record {
+      truth = λ c k. (λ h. absurd (subst (FormulaHolds c) never h), λ x. absurd (back c k x));
+      levels = subst (FormulaFits n) (sym never) tt;
+      operators = λ o a. subst (AdmitsFormula o) (sym never) tt;
+    }
+      where
+        back : (c : List Atom) → length c ≡ n → OneIsAt (comp m g t) (chosen outer c) s (chosen own c) → ⊥
+        back c k (x, y, i) =
+            let l = y.count in
+            let u : SameAt t (chosen names (c ++ x)) s (chosen own (c ++ x)) = subst (λ z. SameAt t (chosen names (c ++ x)) s z) (sym (own_names c x k)) (subst (λ z. SameAt t z s (chosen own c)) (sym (comp_names c x k l)) i) in
+            subst (FormulaHolds (c ++ x)) never ((equal.truth (c ++ x) (longer c x k l)).1 u)
 
   module _ (g : List (List Lit)) (t : TermD) (ss : CompsD) (f r : FormulaD) where
     -- each item that the guard admits is found in the set

@@ -420,7 +420,7 @@ fn member(
     Ok(found)
 }
 
-// Where the value is an item of the comprehension at some choice of its binders that its guard admits: nowhere, where it has no cube.
+// Where the value is an item of the comprehension at some choice of its binders that its guard admits: nowhere, where it has no cube, and where the item is never the value.
 #[cycle(relating)]
 fn is_item(
     alloc: Global,
@@ -443,6 +443,9 @@ fn is_item(
     let longer = entered(alloc, t_names, size, comp.binders)?;
     let names = longer.as_slice();
     let equal = same(alloc, &comp.item, names, s, s_names, inner)?;
+    if is_never(&equal) {
+        return Ok(equal);
+    }
     let guard = guard_formula(alloc, &comp.guard, names)?;
     for_some(alloc, both(alloc, equal, guard)?, comp.binders)
 }

@@ -12,7 +12,7 @@ use Rattle.lois_relate.specs.Built.{Says, IsBoth, IsForSome}
 use Rattle.lois_relate.specs.Compared.{IsForEach, SaysPaired, SaysFound, IsKnown}
 use Rattle.lois_relate.specs.Named.{chosen, levels_from}
 use Rattle.lois_relate.proofs.AlikeSame.{always_says, listed_each, sets_alike}
-use Rattle.lois_relate.proofs.Binders.{one_says}
+use Rattle.lois_relate.proofs.Binders.{one_says, none_says}
 use Rattle.lois_relate.proofs.Loops.{all_go_on, all_cut}
 use Rattle.lois_relate.proofs.Pairs.{item_got, found_goes_on, each_found, pair_item, guarded_item}
 use Rattle.lois_relate.proofs.Parts.{terms_from, terms_are, comps_from, comps_are, is_part_of, is_comp_of}
@@ -138,6 +138,12 @@ is_item-guard_formula-requires t c =
     let comp = c.args.comp.now in
     let e : c.as_slice-names.result.now ≡ c.args.t_names.now ++ levels_from c.args.size comp.binders = c.as_slice-names.ensures.value ∙ c.in_ok-longer.ensures in
     guard_fits c.args.size comp.binders c.in_ok-inner.inner c.in_ok-inner.ensures c.args.t_names.now c.as_slice-names.result.now e comp.guard (tree comp.item) c.requires.right
+
+pub is_item-returns-then-is_never : goal.is_item-returns-then-is_never
+is_item-returns-then-is_never t c =
+    let comp = c.args.comp.now in
+    let e : c.as_slice-names.result.now ≡ c.args.t_names.now ++ levels_from c.args.size comp.binders = c.as_slice-names.ensures.value ∙ c.in_ok-longer.ensures in
+    none_says c.args.size comp.binders c.in_ok-inner.inner c.in_ok-inner.ensures c.args.s_names.now c.args.t_names.now c.as_slice-names.result.now e c.requires.left_names c.requires.right_names comp.guard (tree comp.item) (tree c.args.s.now) (view c.in_ok-equal.equal) (c.is_never.ensures.0 c.if-is_never.true) c.in_ok-equal.ensures
 
 pub is_item-returns : goal.is_item-returns
 is_item-returns t c =
