@@ -4,6 +4,7 @@ pub mod Ranked
 pub mod Joined
 pub mod Linked
 pub mod Listed
+pub mod Numbers
 pub mod Both
 pub mod Denied
 pub mod Pruned

@@ -13,6 +13,7 @@ mod piles;
 mod products;
 mod pruning;
 mod rows;
+mod samples;
 mod sorting;
 
 pub use conflicts::{conflict, implies, within};

@@ -105,13 +105,15 @@ fn are_at_most(rows: &[Row], low: usize, high: usize) -> bool
     }
 }
 
-fn at_most(rows: &[Row], low: usize, high: usize) -> bool
+/// Whether one level is at most another.
+pub(crate) fn at_most(rows: &[Row], low: usize, high: usize) -> bool
     ensures { result ≡ at_most rows.now low high }
 {
     low == high || are_at_most(rows, low, high)
 }
 
-fn are_tied(rows: &[Row], a: usize, b: usize) -> bool
+/// Whether each of two levels is at most the other.
+pub(crate) fn are_tied(rows: &[Row], a: usize, b: usize) -> bool
     ensures { result ≡ is_tied (at_most rows.now) a b }
 {
     at_most(rows, a, b) && at_most(rows, b, a)
