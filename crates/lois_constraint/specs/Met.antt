@@ -23,5 +23,5 @@ pub record IsPruned (g : List (List Lit)) : Type 0 where
   pub apart : AllPairs AreApart g
 
 -- if there are numbers, the cube holds at them
-abbrev pub IsSampleOf : List ℕ → List Lit → Type 0
-IsSampleOf s k = 0 < length s → IsTrue (cube_holds (sampled s) k)
+abbrev pub IsKeptFor : List ℕ → List Lit → Type 0
+IsKeptFor s k = 0 < length s → IsTrue (cube_holds (sampled s) k)

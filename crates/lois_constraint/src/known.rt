@@ -24,14 +24,14 @@ pub(crate) struct Known {
 impl Model for Known {
     ghost use Rattle.std.specs.Prelude.{List};
     ghost use Rattle.lois_base.specs.declared.guards.Lit.{Lit};
-    ghost use Rattle.lois_constraint.specs.Met.{IsSampleOf};
+    ghost use Rattle.lois_constraint.specs.Met.{IsKeptFor};
     ghost use Rattle.lois_constraint.specs.Order.{at_most, IsOrderOf};
 
     ghost Value = { List Lit };
 
     ghost view = { λ k. k.cube };
 
-    ghost invariant = { λ k. IsOrderOf (at_most k.rows.items) k.cube × IsSampleOf k.sample k.cube };
+    ghost invariant = { λ k. IsOrderOf (at_most k.rows.items) k.cube × IsKeptFor k.sample k.cube };
 }
 
 impl Known {

@@ -2,7 +2,7 @@
 
 ghost use Rattle.std.specs.Prelude.{◌≡◌, ◌==◌, [], length, get_or, IfOk};
 ghost use Rattle.lois_base.specs.Truth.{lit_holds, cube_holds, sampled};
-ghost use Rattle.lois_constraint.specs.Met.{IsSampleOf};
+ghost use Rattle.lois_constraint.specs.Met.{IsKeptFor};
 
 use crate::rows::{Row, are_tied, at_most};
 use lois_base::{Cube, Lit, NoMemory, Op};
@@ -83,7 +83,7 @@ impl Sample {
 
     /// Numbers at which the cube holds, whose rows these are, or none where it speaks of high levels.
     pub(crate) fn of(alloc: Global, rows: &[Row], cube: &Cube) -> Result<Sample, NoMemory>
-        ensures { IfOk result (λ s. IsSampleOf s cube.now) }
+        ensures { IfOk result (λ s. IsKeptFor s cube.now) }
     {
         let bound = level_bound(cube);
         if bound > MOST_LEVELS {
