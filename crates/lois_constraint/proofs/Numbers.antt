@@ -1,5 +1,5 @@
 -- Literals at a sample, which are comparisons of its numbers.
-use Rattle.std.proofs.Common.{◌≡◌, ℕ, zero, suc, ◌==◌, List, [], ◌∷◌, get_or, eqb, ltb, refl, ◌∙◌, arith}
+use Rattle.std.proofs.Common.{◌≡◌, ℕ, zero, suc, List, [], ◌∷◌, get_or, eqb, ltb, refl, arith}
 use Rattle.std.proofs.lemmas.Int.{ints}
 use Rattle.lois_base.specs.Atom.{equal, below, whole}
 use Rattle.lois_base.specs.Truth.{atom_at, sampled}
