@@ -6,6 +6,7 @@ pub mod Linked
 pub mod Listed
 pub mod Numbers
 pub mod Both
+pub mod Had
 pub mod Denied
 pub mod Pruned
 pub mod Shifting

@@ -74,9 +74,10 @@ fn outside(alloc: Global, cubes: Vec<Known>, cube: &Cube) -> Result<Vec<Known>, 
     Ok(cubes)
 }
 
-// Whether the cube lies within one of the others.
-fn lies_within_one(known: &Known, others: &Constraint) -> bool
-    ensures { IsTrue result → (c : List Atom) → IsTrue (cube_holds c known.now) → IsTrue (holds c others.now) }
+/// Whether the cube lies within one of the others.
+pub(crate) fn lies_within_one(known: &Known, others: &Constraint) -> bool
+    ensures inside { IsTrue result → (c : List Atom) → IsTrue (cube_holds c known.now) → IsTrue (holds c others.now) }
+    ensures outside { IsFalse result → All (λ k. LiesWithin known.now k → ⊥) others.now }
 {
     for other in others.as_slice() {
         if known.lies_within(other) {
