@@ -13,7 +13,12 @@ use lois_base::{Constraint, Cube, NoMemory};
 use std::alloc::Global;
 
 // Whether one of the others contains both cubes together, if some choice meets them.
-fn has_both(alloc: Global, others: &Constraint, known: &Known, cube: &Cube) -> Result<bool, NoMemory>
+fn has_both(
+    alloc: Global,
+    others: &Constraint,
+    known: &Known,
+    cube: &Cube,
+) -> Result<bool, NoMemory>
     ensures yes { IfOk result (λ b. IsTrue b → (c : List Atom) → IsTrue (cube_holds c known.now) → IsTrue (cube_holds c cube.now) → IsTrue (holds c others.now)) }
     ensures no { IfOk result (λ b. IsFalse b → IsOutside (known.now ++ cube.now) others.now) }
 {
