@@ -4,7 +4,9 @@ pub mod Ranked
 pub mod Joined
 pub mod Linked
 pub mod Listed
+pub mod Numbers
 pub mod Both
+pub mod Had
 pub mod Denied
 pub mod Pruned
 pub mod Shifting

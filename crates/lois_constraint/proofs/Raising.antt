@@ -1,5 +1,5 @@
 -- Rows with one entry more, and tables with one row more.
-use Rattle.std.proofs.Common.{◌≡◌, ◌≢◌, ℕ, ◌+◌, ◌<◌, ◌≤◌, Bool, true, false, ◌||◌, ◌&&◌, ◌==◌, ◌⊎◌, inl, inr, List, [], ◌∷◌, ◌++◌, length, get_or, set, replicate, eqb, refl, sym, ap, ◌∙◌, arith}
+use Rattle.std.proofs.Common.{◌≡◌, ◌≢◌, ℕ, ◌+◌, ◌<◌, ◌≤◌, Bool, true, false, ◌||◌, ◌&&◌, ◌==◌, ◌⊎◌, inl, inr, List, [], ◌∷◌, ◌++◌, length, get_or, set, replicate, eqb, refl, sym, ◌∙◌, arith}
 use Rattle.std.proofs.Math.ListN.{get_or-eq_default}
 use Rattle.std.proofs.lemmas.Bool.{cases_order}
 use Rattle.std.proofs.lemmas.Bool.Decides.{eqb_tells}
@@ -33,28 +33,53 @@ only_last n b = go (cases_order b n) (eqb_tells n b)
     go (inr (inr more)) (inr t) =
         let past : length xs < b = rw l more in beyond xs true false b past ∙ sym t.0
 
-pub pushed_is : (xs : Row) (x : Bool) (f : ℕ → Bool) (n : ℕ) → length xs ≡ n → ((b : ℕ) → b < n → reaches xs b ≡ f b) → x ≡ f n → (b : ℕ) → b < n + 1 → reaches (xs ++ x ∷ []) b ≡ f b
-pushed_is xs x f n l before is b below = go (cases_order b n)
-  where
-    go : (b ≡ n) ⊎ ((b < n) ⊎ (n < b)) → reaches (xs ++ x ∷ []) b ≡ f b
-    go (inl at) = get_or_push xs x false b (l ∙ sym at) ∙ (is ∙ ap f (sym at))
-    go (inr (inl less)) = get_or_append_left xs (x ∷ []) false b (omega arith) ∙ before b less
-    go (inr (inr more)) = absurd (omega arith)
+pub other_way : (p q : Bool) → (p || q) ≡ (q || p)
+other_way true true = refl
+other_way true false = refl
+other_way false true = refl
+other_way false false = refl
 
-pub either_is : (r s t : Row) (n : ℕ) → length r ≡ n → length s ≤ n → length t ≤ n → ((b : ℕ) → b < n → reaches r b ≡ (reaches s b || reaches t b)) → (b : ℕ) → reaches r b ≡ (reaches s b || reaches t b)
-either_is r s t n l p q before b = go (cases_order b n)
-  where
-    past : n ≤ b → reaches r b ≡ (reaches s b || reaches t b)
-    past far =
-        let a : reaches r b ≡ false = get_or-eq_default r false (omega arith) in
-        let c : reaches s b ≡ false = get_or-eq_default s false (omega arith) in
-        let d : reaches t b ≡ false = get_or-eq_default t false (omega arith) in
-        rw (a, c, d) refl
+or_nothing : (p : Bool) → p ≡ (p || false)
+or_nothing true = refl
+or_nothing false = refl
 
-    go : (b ≡ n) ⊎ ((b < n) ⊎ (n < b)) → reaches r b ≡ (reaches s b || reaches t b)
-    go (inl at) = past (omega arith)
-    go (inr (inl less)) = before b less
-    go (inr (inr more)) = past (omega arith)
+or_all : (p : Bool) → true ≡ (p || true)
+or_all true = refl
+or_all false = refl
+
+-- r: a row, s: one that isn't longer, row: r with the levels of s below n
+module _ (r s row : Row) (n : ℕ) where
+  pub below_put : n < length row → reaches s n ≡ true → ((b : ℕ) → b < n → reaches row b ≡ (reaches r b || reaches s b)) → (b : ℕ) → b < n + 1 → reaches (set row n true) b ≡ (reaches r b || reaches s b)
+  below_put inside has below b l = go (cases_order b n)
+    where
+      go : (b ≡ n) ⊎ ((b < n) ⊎ (n < b)) → reaches (set row n true) b ≡ (reaches r b || reaches s b)
+      go (inl at) = rw (at, get_or-set_same row n true false inside, has) (or_all (reaches r n))
+      go (inr (inl less)) = get_or-set_other row n b true false (λ e. omega (arith, e)) ∙ below b less
+      go (inr (inr more)) = absurd (omega arith)
+
+  pub above_put : ((b : ℕ) → n ≤ b → reaches row b ≡ reaches r b) → (b : ℕ) → n + 1 ≤ b → reaches (set row n true) b ≡ reaches r b
+  above_put above b l = get_or-set_other row n b true false (λ e. omega (arith, e)) ∙ above b (omega arith)
+
+  pub below_left : reaches s n ≡ false → ((b : ℕ) → b < n → reaches row b ≡ (reaches r b || reaches s b)) → ((b : ℕ) → n ≤ b → reaches row b ≡ reaches r b) → (b : ℕ) → b < n + 1 → reaches row b ≡ (reaches r b || reaches s b)
+  below_left lacks below above b l = go (cases_order b n)
+    where
+      go : (b ≡ n) ⊎ ((b < n) ⊎ (n < b)) → reaches row b ≡ (reaches r b || reaches s b)
+      go (inl at) = rw (at, lacks) (above n (omega arith) ∙ or_nothing (reaches r n))
+      go (inr (inl less)) = below b less
+      go (inr (inr more)) = absurd (omega arith)
+
+  pub all_joined : length s ≡ n → ((b : ℕ) → b < n → reaches row b ≡ (reaches r b || reaches s b)) → ((b : ℕ) → n ≤ b → reaches row b ≡ reaches r b) → (b : ℕ) → reaches row b ≡ (reaches r b || reaches s b)
+  all_joined l below above b = go (cases_order b n)
+    where
+      past : n ≤ b → reaches row b ≡ (reaches r b || reaches s b)
+      past far =
+          let lacks : reaches s b ≡ false = get_or-eq_default s false (omega arith) in
+          rw lacks (above b far ∙ or_nothing (reaches r b))
+
+      go : (b ≡ n) ⊎ ((b < n) ⊎ (n < b)) → reaches row b ≡ (reaches r b || reaches s b)
+      go (inl at) = past (omega arith)
+      go (inr (inl less)) = below b less
+      go (inr (inr more)) = past (omega arith)
 
 -- ---- tables
 pub either_way : (p q r : Bool) → ((p || q) || r) ≡ (p || (q || r))

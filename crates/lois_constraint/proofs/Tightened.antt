@@ -95,6 +95,23 @@ module _ (c : List Atom) (k : Bool) (kept xs : List Lit) (i : ℕ) (d : Lit) (b 
       more true false r f = refl
       more false q r f = refl
 
+-- two halves, each thinned beside the other one and what holds where k and o do
+pub halves_thinned : (c : List Atom) (k o : Bool) (beside low high kept rest literals thinned : List Lit) → cube_holds c beside ≡ (k && o) → (cube_holds c beside && (cube_holds c high && cube_holds c kept)) ≡ (cube_holds c beside && (cube_holds c high && cube_holds c low)) → (cube_holds c beside && (cube_holds c kept && cube_holds c rest)) ≡ (cube_holds c beside && (cube_holds c kept && cube_holds c high)) → literals ≡ low ++ high → thinned ≡ kept ++ rest → (k && (o && cube_holds c thinned)) ≡ (k && (o && cube_holds c literals))
+halves_thinned c k o beside low high kept rest literals thinned e f g is are =
+    rw (is, are, list_all-append (lit_holds c) low high, list_all-append (lit_holds c) kept rest) (go k o (cube_holds c beside) (cube_holds c low) (cube_holds c high) (cube_holds c kept) (cube_holds c rest) e f g)
+  where
+    other_way : (p q : Bool) → (p && q) ≡ (q && p)
+    other_way true true = refl
+    other_way true false = refl
+    other_way false true = refl
+    other_way false false = refl
+
+    go : (k o b l h x y : Bool) → b ≡ (k && o) → (b && (h && x)) ≡ (b && (h && l)) → (b && (x && y)) ≡ (b && (x && h)) → (k && (o && (x && y))) ≡ (k && (o && (l && h)))
+    go true true true l h x y e f g = g ∙ (other_way x h ∙ (f ∙ other_way h l))
+    go true true false l h x y e f g = absurd (cc)
+    go true false b l h x y e f g = refl
+    go false o b l h x y e f g = refl
+
 -- ---- a cube with each of the cubes that were read, beside what holds where s does
 pub product_grows : (c : List Atom) (s k : Bool) (g xs : List (List Lit)) (i : ℕ) (x : List Lit) → i < length xs → x ≡ get_or xs i x → holds c g ≡ (s || (k && holds c (take i xs))) → (found : Bool) → found ≡ (k && cube_holds c x) → (holds c g || found) ≡ (s || (k && holds c (take (i + 1) xs)))
 product_grows c s k g xs i x b is t found e =

@@ -1,6 +1,7 @@
 pub mod Substitution
 pub mod Alternatives
 pub mod Met
+pub mod Outside
 pub mod Steps
 pub mod Rules
 pub mod Tight

@@ -8,27 +8,30 @@ ghost use Rattle.lois_constraint.specs.Rules.{Rule, Obeys, CubeObeys};
 ghost use Rattle.lois_constraint.specs.Tight.{some_holds, SomeObeys};
 
 use crate::rows::{Row, copy_rows, extend, is_denied, is_told};
+use crate::samples::Sample;
 use lois_base::{Cube, Lit, NoMemory};
 use std::alloc::Global;
 use std::marker::Model;
 
-/// A cube that can be met, with the order that it puts its levels in.
+/// A cube that can be met, with the order that it puts its levels in, and maybe numbers at which it holds.
 #[derive(Drop)]
 pub(crate) struct Known {
     cube: Cube,
+    sample: Sample,
     rows: Vec<Row>,
 }
 
 impl Model for Known {
     ghost use Rattle.std.specs.Prelude.{List};
     ghost use Rattle.lois_base.specs.declared.guards.Lit.{Lit};
+    ghost use Rattle.lois_constraint.specs.Met.{IsKeptFor};
     ghost use Rattle.lois_constraint.specs.Order.{at_most, IsOrderOf};
 
     ghost Value = { List Lit };
 
     ghost view = { λ k. k.cube };
 
-    ghost invariant = { λ k. IsOrderOf (at_most k.rows.items) k.cube };
+    ghost invariant = { λ k. IsOrderOf (at_most k.rows.items) k.cube × IsKeptFor k.sample k.cube };
 }
 
 impl Known {
@@ -39,6 +42,7 @@ impl Known {
         Known {
             cube: Cube::new(alloc),
             rows: Vec::new(alloc),
+            sample: Sample::none(alloc),
         }
     }
 
@@ -66,6 +70,7 @@ impl Known {
         Ok(Known {
             cube: self.cube.copy(alloc)?,
             rows: copy_rows(alloc, &self.rows)?,
+            sample: Sample::none(alloc),
         })
     }
 
@@ -84,10 +89,32 @@ impl Known {
         is_denied(&self.rows, &self.cube, lit)
     }
 
+    /// The same, with numbers at which the cube holds, if it speaks of low levels alone.
+    pub(crate) fn with_sample(self, alloc: Global) -> Result<Self, NoMemory>
+        ensures { IfOk result (λ r. r ≡ self) }
+    {
+        if !self.sample.is_none() {
+            return Ok(self);
+        }
+        let Known { cube, rows, .. } = self;
+        let sample = Sample::of(alloc, &rows, &cube)?;
+        Ok(Known { cube, rows, sample })
+    }
+
+    // Whether the other cube doesn't hold at this one's numbers.
+    fn is_seen_outside(&self, other: &Cube) -> bool
+        ensures { IsTrue result → LiesWithin self.now other.now → ⊥ }
+    {
+        !self.sample.is_none() && !self.sample.meets(other)
+    }
+
     /// Whether the other cube holds wherever this one does.
     pub(crate) fn lies_within(&self, other: &Cube) -> bool
         ensures { IsTrue result ↔ LiesWithin self.now other.now }
     {
+        if self.is_seen_outside(other) {
+            return false;
+        }
         for lit in other.as_slice() {
             if !self.implies(*lit) {
                 return false;
@@ -101,10 +128,14 @@ impl Known {
         requires { CanBeMet (self ++ lit ∷ []) }
         ensures { IfOk result (λ r. r ≡ self ++ lit ∷ []) }
     {
-        let Known { mut cube, rows } = self;
+        let Known { mut cube, rows, .. } = self;
         let rows = extend(alloc, rows, lit)?;
         cube.push(lit)?;
-        Ok(Known { cube, rows })
+        Ok(Known {
+            cube,
+            rows,
+            sample: Sample::none(alloc),
+        })
     }
 
     /// The cube and the literal, which isn't put where it follows, or `None` where they can't be met.

@@ -5,6 +5,7 @@
 #![tactic(auto)]
 
 mod conflicts;
+mod covering;
 mod known;
 mod levels;
 mod negation;
@@ -13,9 +14,11 @@ mod piles;
 mod products;
 mod pruning;
 mod rows;
+mod samples;
 mod sorting;
 
-pub use conflicts::{conflict, implies, within};
+pub use conflicts::{alternatives, conflict, implies, within};
+pub use covering::has_cube;
 pub use levels::{shift, substitute, substitute_cube};
 pub use negation::{and_not, negate};
 pub use normal::normalise;

@@ -74,9 +74,10 @@ fn outside(alloc: Global, cubes: Vec<Known>, cube: &Cube) -> Result<Vec<Known>, 
     Ok(cubes)
 }
 
-// Whether the cube lies within one of the others.
-fn lies_within_one(known: &Known, others: &Constraint) -> bool
-    ensures { IsTrue result → (c : List Atom) → IsTrue (cube_holds c known.now) → IsTrue (holds c others.now) }
+/// Whether the cube lies within one of the others.
+pub(crate) fn lies_within_one(known: &Known, others: &Constraint) -> bool
+    ensures inside { IsTrue result → (c : List Atom) → IsTrue (cube_holds c known.now) → IsTrue (holds c others.now) }
+    ensures outside { IsFalse result → All (λ k. LiesWithin known.now k → ⊥) others.now }
 {
     for other in others.as_slice() {
         if known.lies_within(other) {
@@ -146,8 +147,8 @@ impl Pile {
         false
     }
 
-    /// One more cube, unless it adds nothing.
-    pub(crate) fn put(self, alloc: Global, known: Known) -> Result<Self, NoMemory>
+    // One more cube, unless it adds nothing.
+    fn put_sampled(self, alloc: Global, known: Known) -> Result<Self, NoMemory>
         ensures truth { IfOk result (λ r. (c : List Atom) → holds c r ≡ (holds c self || cube_holds c known)) }
         ensures rules { IfOk result (λ r. (rule : Rule) → ConstraintObeys rule self → CubeObeys rule known → ConstraintObeys rule r) }
     {
@@ -158,6 +159,15 @@ impl Pile {
         let mut kept = outside(alloc, items, known.cube())?;
         kept.push(known)?;
         Ok(Pile { items: kept })
+    }
+
+    /// One more cube, unless it adds nothing. It is compared with all the others, which its numbers make quick.
+    pub(crate) fn put(self, alloc: Global, known: Known) -> Result<Self, NoMemory>
+        ensures truth { IfOk result (λ r. (c : List Atom) → holds c r ≡ (holds c self || cube_holds c known)) }
+        ensures rules { IfOk result (λ r. (rule : Rule) → ConstraintObeys rule self → CubeObeys rule known → ConstraintObeys rule r) }
+    {
+        let sampled = known.with_sample(alloc)?;
+        self.put_sampled(alloc, sampled)
     }
 
     // One more cube, where there is one.

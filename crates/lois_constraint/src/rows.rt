@@ -1,6 +1,6 @@
 //! The levels that a cube puts at most as high as others, in a table that levels index.
 
-ghost use Rattle.std.specs.Prelude.{◌≡◌, ℕ, Bool, List, [], length, ◌≤◌, ◌||◌, ◌&&◌, ◌==◌, IfOk};
+ghost use Rattle.std.specs.Prelude.{◌≡◌, ℕ, Bool, List, [], length, ◌<◌, ◌≤◌, set, true, ◌||◌, ◌&&◌, ◌==◌, IfOk};
 ghost use Rattle.std.specs.List.{list_any};
 ghost use Rattle.lois_constraint.specs.Order.{reaches, at_most, are_at_most, is_tied, is_under, is_apart, sets_apart, are_apart, is_told, is_denied, linked, extended};
 
@@ -54,15 +54,40 @@ impl Row {
         Ok(Row { above })
     }
 
-    // The levels of one row or of the other.
-    fn either(&self, alloc: Global, other: &Row) -> Result<Row, NoMemory>
-        ensures { IfOk result (λ r. (b : ℕ) → reaches r b ≡ (reaches self.now b || reaches other.now b)) }
+    // One level more, below the end.
+    fn put(&mut self, level: usize)
+        requires { level < length self.old }
+        ensures { self.new ≡ set self.old level true }
     {
-        let mut above = SmallVec::new(alloc);
-        for level in 0..self.above.len().max(other.above.len()) {
-            above.push(self.reaches(level) || other.reaches(level))?;
+        if let Some(said) = self.above.get_mut(level) {
+            *said = true;
         }
-        Ok(Row { above })
+    }
+
+    // The row, and the levels of one that isn't longer.
+    fn with(self, shorter: &Row) -> Row
+        requires { length shorter.now ≤ length self }
+        ensures { (b : ℕ) → reaches result b ≡ (reaches self b || reaches shorter.now b) }
+    {
+        let mut row = self;
+        for level in 0..shorter.above.len() {
+            if shorter.reaches(level) {
+                row.put(level);
+            }
+        }
+        row
+    }
+
+    // The levels of one row or of the other. The longer one stays, and is copied only where it is the other.
+    #[tactic(auto, using(crate::proofs::Raising::other_way))]
+    fn either(self, alloc: Global, other: &Row) -> Result<Row, NoMemory>
+        ensures { IfOk result (λ r. (b : ℕ) → reaches r b ≡ (reaches self b || reaches other.now b)) }
+    {
+        if self.above.len() < other.above.len() {
+            let longer = other.copy(alloc)?;
+            return Ok(longer.with(&self));
+        }
+        Ok(self.with(other))
     }
 
     // The row with more levels above, where it has the given one.
@@ -105,13 +130,15 @@ fn are_at_most(rows: &[Row], low: usize, high: usize) -> bool
     }
 }
 
-fn at_most(rows: &[Row], low: usize, high: usize) -> bool
+/// Whether one level is at most another.
+pub(crate) fn at_most(rows: &[Row], low: usize, high: usize) -> bool
     ensures { result ≡ at_most rows.now low high }
 {
     low == high || are_at_most(rows, low, high)
 }
 
-fn are_tied(rows: &[Row], a: usize, b: usize) -> bool
+/// Whether each of two levels is at most the other.
+pub(crate) fn are_tied(rows: &[Row], a: usize, b: usize) -> bool
     ensures { result ≡ is_tied (at_most rows.now) a b }
 {
     at_most(rows, a, b) && at_most(rows, b, a)
@@ -226,7 +253,7 @@ fn with_above(alloc: Global, rows: Vec<Row>, level: usize, more: Row) -> Result<
 {
     let mut grown = with_rows_below(alloc, rows, level)?;
     if level < grown.len() {
-        grown[level] = grown[level].either(alloc, &more)?;
+        grown[level] = grown[level].copy(alloc)?.either(alloc, &more)?;
     } else {
         grown.push(more)?;
     }

@@ -3,8 +3,9 @@ use Rattle.std.proofs.Common.{◌≡◌, ℕ, ◌+◌, ◌<◌, ◌⊎◌, inl, 
 use Rattle.std.proofs.lemmas.Bool.{and_parts, and_from, or_cases, or_left, or_right}
 use Rattle.std.proofs.lemmas.List.{take_more, take-append-drop}
 use Rattle.std.specs.Bool.{IsTrue, IsFalse}
-use Rattle.std.specs.List.{All}
+use Rattle.std.specs.List.{All, list_any}
 use Rattle.std.proofs.lemmas.List.Elements.{All-cons, All-head, All-tail}
+use Rattle.std.proofs.lemmas.List.Folds.{list_any-append}
 use Rattle.lois_base.specs.Atom.{Atom}
 use Rattle.lois_base.specs.Fits.{LitFits, CubeFits, ConstraintFits}
 use Rattle.lois_base.specs.Truth.{lit_holds, cube_holds, holds}
@@ -12,6 +13,8 @@ use Rattle.lois_base.specs.Validity.{AdmitsLit, AdmitsCube, AdmitsConstraint}
 use Rattle.lois_base.specs.declared.guards.Lit.{Lit}
 use Rattle.lois_base.proofs.Both.{cubes_append, holds_append}
 use Rattle.lois_base.proofs.Viewed.{rest_is}
+use Rattle.lois_constraint.proofs.Denied.{alternatives_hold}
+use Rattle.lois_constraint.specs.Alternatives.{alternatives}
 use Rattle.lois_simplify.specs.Shortened.{CubeEntails, IsWeakened, IsShortened}
 
 -- what all obey, all but one obey
@@ -27,14 +30,6 @@ all_with_other P (z ∷ p) q x y next h =
     All-cons P z (p ++ y ∷ q) (All-head P z (p ++ x ∷ q) h) (all_with_other P p q x y next (All-tail P z (p ++ x ∷ q) h))
 
 module _ (e : List Atom) where
-  pub alone_holds : (k : List Lit) (s : List (List Lit)) → s ≡ k ∷ [] → IsTrue (cube_holds e k) → IsTrue (holds e s)
-  alone_holds k s is h =
-      subst (λ z. IsTrue (holds e z)) (sym is) (or_left (cube_holds e k) false h)
-
-  pub literal_fails : (l : Lit) (s : List (List Lit)) → s ≡ (l ∷ []) ∷ [] → IsFalse (lit_holds e l) → IsTrue (not (holds e s))
-  literal_fails l s is h =
-      subst (λ z. IsTrue (not (holds e z))) (sym is) (ap (λ b. not ((b && true) || false)) h)
-
   -- ---- literals
   without : (p q : List Lit) (l : Lit) → IsTrue (cube_holds e (p ++ l ∷ q)) → IsTrue (cube_holds e (p ++ q))
   without p q l h =
@@ -46,6 +41,25 @@ module _ (e : List Atom) where
   with_one p q l one h =
       let both = and_parts (cube_holds e p) (cube_holds e q) (sym (cubes_append e p q) ∙ h) in
       cubes_append e p (l ∷ q) ∙ and_from (cube_holds e p) (cube_holds e (l ∷ q)) both.0 (and_from (lit_holds e l) (cube_holds e q) one both.1)
+
+  pub with_last : (k r : List Lit) (l : Lit) → r ≡ k ++ l ∷ [] → IsTrue (cube_holds e k) → IsTrue (lit_holds e l) → IsTrue (cube_holds e r)
+  with_last k r l is h one =
+      subst (λ z. IsTrue (cube_holds e z)) (sym is) (cubes_append e k (l ∷ []) ∙ and_from (cube_holds e k) (cube_holds e (l ∷ [])) h (and_from (lit_holds e l) true one refl))
+
+  -- what follows from each of some literals follows where one of them holds
+  pub one_more_gained : (g : List (List Lit)) (ls : List Lit) (i : ℕ) (d : Lit) → i < length ls → (IsTrue (list_any (lit_holds e) (take i ls)) → IsTrue (holds e g)) → (IsTrue (lit_holds e (get_or ls i d)) → IsTrue (holds e g)) → IsTrue (list_any (lit_holds e) (take (i + 1) ls)) → IsTrue (holds e g)
+  one_more_gained g ls i d inside before next h =
+      let l = get_or ls i d in
+      elim (or_cases (list_any (lit_holds e) (take i ls)) (list_any (lit_holds e) (l ∷ [])) (sym (list_any-append (lit_holds e) (take i ls) (l ∷ [])) ∙ subst (λ z. IsTrue (list_any (lit_holds e) z)) (take_more ls i d inside) h)) [
+        | inl j ↦ before j
+        | inr j ↦ elim (or_cases (lit_holds e l) false j) [
+          | inl n ↦ next n
+          | inr n ↦ absurd (cc)
+        ]
+      ]
+
+  pub one_turned_holds : (l : Lit) → IsFalse (lit_holds e l) → IsTrue (list_any (lit_holds e) (alternatives l))
+  one_turned_holds l fails = alternatives_hold e l ∙ ap not fails
 
   -- ---- cubes
   before_or_behind : (p q : List (List Lit)) → IsTrue (holds e (p ++ q)) → IsTrue (holds e p) ⊎ IsTrue (holds e q)
@@ -83,23 +97,6 @@ module _ (e : List Atom) where
       go : IsTrue (holds e p) ⊎ IsTrue (holds e (k ∷ q)) → IsTrue (holds e g)
       go (inl i) = others (in_before p q i)
       go (inr i) = behind (first_or_rest k q i)
-
-  -- ---- a list of cubes that is looked through
-  pub at_index : (g : List (List Lit)) (i : ℕ) (k : List Lit) → i < length g → k ≡ get_or g i k → IsTrue (cube_holds e k) → IsTrue (holds e g)
-  at_index g i k l is h =
-      let there : g ≡ take i g ++ k ∷ drop (i + 1) g = sym (take-append-drop i g) ∙ ap (λ z. take i g ++ z) (rest_is g i k l is) in
-      subst (λ z. IsTrue (holds e z)) (sym there) (in_middle (take i g) (drop (i + 1) g) k h)
-
-  pub one_more_within : (g others : List (List Lit)) (i : ℕ) (k : List Lit) → i < length g → k ≡ get_or g i k → (IsTrue (holds e (take i g)) → IsTrue (holds e others)) → (IsTrue (cube_holds e k) → IsTrue (holds e others)) → IsTrue (holds e (take (i + 1) g)) → IsTrue (holds e others)
-  one_more_within g others i k l is so_far next h =
-      let more : take (i + 1) g ≡ take i g ++ k ∷ [] = take_more g i k l ∙ ap (λ z. take i g ++ z ∷ []) (sym is) in
-      elim (before_or_behind (take i g) (k ∷ []) (subst (λ z. IsTrue (holds e z)) more h)) [
-        | inl j ↦ so_far j
-        | inr j ↦ elim (first_or_rest k [] j) [
-          | inl n ↦ next n
-          | inr n ↦ absurd (cc)
-        ]
-      ]
 
 module _ (u g : List (List Lit)) (k : List Lit) where
   pub weakened_begin : CubeEntails u k g → IsWeakened u g k k

@@ -5,7 +5,6 @@ mod answering;
 mod covering;
 mod distinct;
 mod fixing;
-mod guessing;
 mod moving;
 mod rounds;
 mod shortening;

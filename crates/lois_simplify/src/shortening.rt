@@ -5,9 +5,8 @@ ghost use Rattle.lois_base.specs.Atom.{Atom};
 ghost use Rattle.lois_base.specs.Truth.{lit_holds, cube_holds, holds};
 ghost use Rattle.lois_simplify.specs.Shortened.{CubeEntails, IsWeakened, IsShortened};
 
-use crate::guessing::may_lie_within;
 use lois_base::{Constraint, Cube, Lit, NoMemory};
-use lois_constraint::{and_not, meet, or, prune, within};
+use lois_constraint::{alternatives, has_cube, or, prune};
 use std::alloc::Global;
 
 fn alone(alloc: Global, cube: &Cube) -> Result<Constraint, NoMemory>
@@ -16,14 +15,6 @@ fn alone(alloc: Global, cube: &Cube) -> Result<Constraint, NoMemory>
     let mut constraint = Constraint::new(alloc);
     constraint.push(cube.copy(alloc)?)?;
     Ok(constraint)
-}
-
-fn with_literal(alloc: Global, lit: Lit) -> Result<Constraint, NoMemory>
-    ensures { IfOk result (λ r. r ≡ (lit ∷ []) ∷ []) }
-{
-    let mut cube = Cube::new(alloc);
-    cube.push(lit)?;
-    alone(alloc, &cube)
 }
 
 fn joined_cubes(alloc: Global, before: &Constraint, behind: &[Cube]) -> Result<Constraint, NoMemory>
@@ -46,55 +37,13 @@ fn joined_literals(alloc: Global, before: &Cube, behind: &[Lit]) -> Result<Cube,
     Ok(joined)
 }
 
-// Whether the cube lies within the other one.
-fn is_within(alloc: Global, cube: &Cube, other: &Cube) -> Result<bool, NoMemory>
-    ensures { IfOk result (λ b. IsTrue b → (e : List Atom) → IsTrue (cube_holds e cube.now) → IsTrue (cube_holds e other.now)) }
+// The cube with a literal more.
+fn with_one_more(alloc: Global, cube: &Cube, lit: Lit) -> Result<Cube, NoMemory>
+    ensures { IfOk result (λ r. r ≡ cube.now ++ lit ∷ []) }
 {
-    if !may_lie_within(cube, other) {
-        return Ok(false);
-    }
-    within(alloc, cube, other)
-}
-
-// Whether the cube lies within one of the others.
-fn is_within_one(alloc: Global, cube: &Cube, others: &Constraint) -> Result<bool, NoMemory>
-    ensures { IfOk result (λ b. IsTrue b → (e : List Atom) → IsTrue (cube_holds e cube.now) → IsTrue (holds e others.now)) }
-{
-    for other in others.as_slice() {
-        if is_within(alloc, cube, other)? {
-            return Ok(true);
-        }
-    }
-    Ok(false)
-}
-
-// Whether each cube lies within one of the others.
-fn lies_within(alloc: Global, c: &Constraint, others: &Constraint) -> Result<bool, NoMemory>
-    ensures { IfOk result (λ b. IsTrue b → (e : List Atom) → IsTrue (holds e c.now) → IsTrue (holds e others.now)) }
-{
-    for cube in c.as_slice() {
-        if !is_within_one(alloc, cube, others)? {
-            return Ok(false);
-        }
-    }
-    Ok(true)
-}
-
-// Whether the others have the cube wherever `under` holds.
-fn has_cube(
-    alloc: Global,
-    others: &Constraint,
-    cube: &Cube,
-    under: &Constraint,
-) -> Result<bool, NoMemory>
-    ensures { IfOk result (λ b. IsTrue b → CubeEntails under.now cube.now others.now) }
-{
-    if others.len() == 0 {
-        return Ok(false);
-    }
-    let single = alone(alloc, cube)?;
-    let here = meet(alloc, &single, under)?;
-    lies_within(alloc, &here, others)
+    let mut longer = cube.copy(alloc)?;
+    longer.push(lit)?;
+    Ok(longer)
 }
 
 // Whether the others have, wherever `under` holds, what the cube gains where the literal is left out.
@@ -107,11 +56,14 @@ fn has_gained(
 ) -> Result<bool, NoMemory>
     ensures { IfOk result (λ b. IsTrue b → (e : List Atom) → IsTrue (holds e under.now) → IsTrue (cube_holds e without.now) → IsFalse (lit_holds e lit) → IsTrue (holds e others.now)) }
 {
-    let single = alone(alloc, without)?;
-    let here = meet(alloc, &single, under)?;
-    let left_out = with_literal(alloc, lit)?;
-    let gained = and_not(alloc, &here, &left_out)?;
-    lies_within(alloc, &gained, others)
+    let turned = alternatives(alloc, lit)?;
+    for other in turned.as_slice() {
+        let gained = with_one_more(alloc, without, *other)?;
+        if !has_cube(alloc, others, &gained, under)? {
+            return Ok(false);
+        }
+    }
+    Ok(true)
 }
 
 // The cube without the literals that can be left out, one after the other.

@@ -20,7 +20,7 @@ loop-known-preserved-in-Continue-1 c =
     let before = c.loop-known.invariant in
     let grown : within ++ x ∷ [] ≡ c.push.new.self.items = sym c.in_ok-push.ensures.items in
     record {
-      truth = λ e. subst (λ (r : List (List Lit)). (holds e r || (holds e others && holds e c.args.c.now)) ≡ (holds e (xs ++ x ∷ []) && holds e c.args.c.now)) grown (within_grows e (holds e c.args.c.now) within others xs x (before.truth e) (c.lies_within_one.ensures c.if-lies_within_one.true e));
+      truth = λ e. subst (λ (r : List (List Lit)). (holds e r || (holds e others && holds e c.args.c.now)) ≡ (holds e (xs ++ x ∷ []) && holds e c.args.c.now)) grown (within_grows e (holds e c.args.c.now) within others xs x (before.truth e) (c.lies_within_one.ensures.inside c.if-lies_within_one.true e));
       pruned = λ p. subst IsPruned grown (kept_pruned within x (before.pruned (front_pruned xs x p)) (all_last CanBeMet xs x p.met) (before.apart x (front_apart xs x p)));
       apart = λ z h. subst (All (λ k. AreApart k z)) grown (All-push (λ k. AreApart k z) within x (before.apart z (all_before (λ k. AreApart k z) xs x h)) (all_last (λ k. AreApart k z) xs x h));
       within_rules = λ rule h. subst (ConstraintObeys rule) grown (All-push (CubeObeys rule) within x (before.within_rules rule (all_before (CubeObeys rule) xs x h)) (all_last (CubeObeys rule) xs x h));

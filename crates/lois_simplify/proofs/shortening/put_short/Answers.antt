@@ -7,7 +7,7 @@ pub returns-then-branch : goal.returns-then-branch
 returns-then-branch c =
     let u = c.args.under.now in
     let k = c.args.cube.now in
-    cube_left_out u c.args.before c.args.behind.now k (subst (CubeEntails u k) c.in_ok-others.ensures (c.in_ok-has_cube.ensures c.if-branch.true))
+    cube_left_out u c.args.before c.args.behind.now k (subst (CubeEntails u k) c.in_ok-others.ensures (c.in_ok-has_cube.ensures.yes c.if-branch.true))
 
 pub returns : goal.returns
 returns c =

@@ -13,7 +13,7 @@ returns-clause-nowhere c =
     let rows : List Row = c.self.inside.rows.items in
     let lit : Lit = c.args.lit in
     let told : c.is_denied.result ≡ is_denied (at_most rows) cube lit.op lit.left lit.right = c.is_denied.ensures ∙ ap (λ (r : List Row). is_denied (at_most r) cube lit.op lit.left lit.right) c.deref.ensures.value in
-    subst (λ (k : List Lit). c.is_denied.result ≡ true → (e : List Atom) → cube_holds e k ≡ true → lit_holds e lit ≡ false) c.self.view_is (denied_nowhere (at_most rows) cube c.self.invariant lit c.is_denied.result told)
+    subst (λ (k : List Lit). c.is_denied.result ≡ true → (e : List Atom) → cube_holds e k ≡ true → lit_holds e lit ≡ false) c.self.view_is (denied_nowhere (at_most rows) cube c.self.invariant.0 lit c.is_denied.result told)
 
 pub returns-clause-met : goal.returns-clause-met
 returns-clause-met c =
@@ -21,4 +21,4 @@ returns-clause-met c =
     let rows : List Row = c.self.inside.rows.items in
     let lit : Lit = c.args.lit in
     let told : c.is_denied.result ≡ is_denied (at_most rows) cube lit.op lit.left lit.right = c.is_denied.ensures ∙ ap (λ (r : List Row). is_denied (at_most r) cube lit.op lit.left lit.right) c.deref.ensures.value in
-    subst (λ (k : List Lit). c.is_denied.result ≡ false → CanBeMet (k ++ lit ∷ [])) c.self.view_is (undenied_met (at_most rows) cube c.self.invariant lit c.is_denied.result told)
+    subst (λ (k : List Lit). c.is_denied.result ≡ false → CanBeMet (k ++ lit ∷ [])) c.self.view_is (undenied_met (at_most rows) cube c.self.invariant.0 lit c.is_denied.result told)

@@ -1,4 +1,4 @@
-use Rattle.std.proofs.Common.{ℕ, Bool, List, [], ◌∷◌, ◌++◌, sym, subst}
+use Rattle.std.proofs.Common.{ℕ, Bool, List, [], ◌∷◌, ◌++◌, length, sym, ap, subst, arith}
 use mathlib.Core.Path.{fun_ext}
 use Rattle.lois_base.specs.declared.guards.Lit.{Lit}
 use Rattle.lois_constraint.specs.Met.{CanBeMet}
@@ -12,5 +12,5 @@ invariant_of-result c =
     let rows : List Row = c.self.inside.rows.items in
     let lit : Lit = c.args.lit in
     let met : CanBeMet (cube ++ lit ∷ []) = subst (λ (k : List Lit). CanBeMet (k ++ lit ∷ [])) (sym c.self.view_is) c.requires in
-    let order : IsOrderOf (extended lit.op lit.left lit.right (at_most rows)) (cube ++ lit ∷ []) = met_extended (at_most rows) cube c.self.invariant lit met in
-    subst (IsOrderOf (at_most c.in_ok-rows.rows.items)) (sym c.in_ok-push.ensures.ok) (subst (λ (le : ℕ → ℕ → Bool). IsOrderOf le (cube ++ lit ∷ [])) (sym (fun_ext (λ a. fun_ext (λ b. c.in_ok-rows.ensures a b)))) order)
+    let order : IsOrderOf (extended lit.op lit.left lit.right (at_most rows)) (cube ++ lit ∷ []) = met_extended (at_most rows) cube c.self.invariant.0 lit met in
+    (subst (IsOrderOf (at_most c.in_ok-rows.rows.items)) (sym c.in_ok-push.ensures.ok) (subst (λ (le : ℕ → ℕ → Bool). IsOrderOf le (cube ++ lit ∷ [])) (sym (fun_ext (λ a. fun_ext (λ b. c.in_ok-rows.ensures a b)))) order), λ l. absurd (omega (arith, l, ap length c.none.ensures)))

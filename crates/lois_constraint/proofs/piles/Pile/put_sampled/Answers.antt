@@ -3,7 +3,7 @@ use Rattle.std.specs.List.{All}
 use Rattle.lois_base.specs.declared.guards.Lit.{Lit}
 use Rattle.lois_constraint.specs.Met.{LiesWithin, IsPruned}
 use Rattle.lois_constraint.proofs.Pruned.{pruned_more}
-use Rattle.lois_constraint.proofs.piles.Pile.put.Goals as goal
+use Rattle.lois_constraint.proofs.piles.Pile.put_sampled.Goals as goal
 
 pub invariant_of-result : goal.invariant_of-result
 invariant_of-result c =
