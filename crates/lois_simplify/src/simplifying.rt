@@ -98,8 +98,9 @@ fn simplified<T: Structure, D: Answers>(
             alloc, parts, under, size, decider,
         )?)),
         Term::Coll(comps) => {
-            let lean = lean_comps::<T, D>(alloc, comps, under, size, decider)?;
-            Ok(Term::Coll(uncovered::<T, D>(alloc, &lean, under, size, decider)?))
+            let own = comps.copy(alloc)?;
+            let lean = lean_comps::<T, D>(alloc, own, under, size, decider)?;
+            Ok(Term::Coll(uncovered::<T, D>(alloc, lean, under, size, decider)?))
         }
     }
 }
@@ -134,49 +135,49 @@ fn simplified_parts<T: Structure, D: Answers>(
 #[cycle(simplifying)]
 fn lean_comps<T: Structure, D: Answers>(
     alloc: Global,
-    comps: &Comps,
+    comps: Comps,
     under: &Constraint,
     size: usize,
     decider: &mut D,
 ) -> Result<Comps, NoMemory>
     requires sound { D.sound }
-    requires levels { ItemsFit size (comps_of comps.now) }
+    requires levels { ItemsFit size (comps_of comps) }
     requires under_levels { ConstraintFits size under.now }
-    requires operators { AdmitsItems T.ordered (comps_of comps.now) }
+    requires operators { AdmitsItems T.ordered (comps_of comps) }
     requires under_operators { AdmitsConstraint T.ordered under.now }
-    ensures kept { IfOk result (λ r. IsKept under.now size (set_of comps.now) (set_of r)) }
+    ensures kept { IfOk result (λ r. IsKept under.now size (set_of comps) (set_of r)) }
     ensures lean { IfOk result (All (IsLeanComp under.now size)) }
     ensures asked { D.reaches decider.old decider.new }
 {
     let several = distinct(alloc, comps)?;
     let mut found = Comps::new(alloc);
-    for comp in several.as_slice() {
+    for comp in several.into_vec() {
         if let Some(simple) = lean_comp::<T, D>(alloc, comp, under, size, decider)? {
             found.push(simple)?;
         }
     }
-    distinct(alloc, &found)
+    distinct(alloc, found)
 }
 
 // The comprehension made lean by itself, or `None` where it has no members.
 #[cycle(simplifying)]
 fn lean_comp<T: Structure, D: Answers>(
     alloc: Global,
-    comp: &Comp,
+    comp: Comp,
     under: &Constraint,
     size: usize,
     decider: &mut D,
 ) -> Result<Option<Comp>, NoMemory>
     requires sound { D.sound }
-    requires levels { CompFits size (comp_of comp.now) }
+    requires levels { CompFits size (comp_of comp) }
     requires under_levels { ConstraintFits size under.now }
-    requires operators { AdmitsComp T.ordered (comp_of comp.now) }
+    requires operators { AdmitsComp T.ordered (comp_of comp) }
     requires under_operators { AdmitsConstraint T.ordered under.now }
-    ensures kept { IfOk result (λ o. IsKept under.now size (set_of (only (comp_of comp.now))) (set_of (listed o))) }
+    ensures kept { IfOk result (λ o. IsKept under.now size (set_of (only (comp_of comp))) (set_of (listed o))) }
     ensures lean { IfOk result (λ o. IfSome o (λ k. IsLeanComp under.now size (comp_of k))) }
     ensures asked { D.reaches decider.old decider.new }
 {
-    let mut current = comp.copy(alloc)?;
+    let mut current = comp;
     'rounds: loop {
         match one_round::<T, D>(alloc, current, under, size, decider)? {
             Round::Lean(simple) => return Ok(Some(simple)),

@@ -1,8 +1,10 @@
-use Rattle.std.proofs.Common.{◌≡◌, ◌++◌, [], ◌∷◌, List, take, map, sym, ap, subst, arith}
+use Rattle.std.proofs.Common.{◌≡◌, ◌++◌, [], ◌∷◌, List, length, take, map, sym, ap, ◌∙◌, subst, arith}
 use Rattle.std.specs.List.{All, Contains}
 use Rattle.std.proofs.lemmas.List.Elements.{All-contains}
 use Rattle.std.proofs.lemmas.Result.{IfOk-weaker}
-use Rattle.lois_base.specs.Data.{TermD, CompD}
+use Rattle.lois_base.specs.Data.{TermD, CompD, depth}
+use Rattle.lois_base.specs.Fits.{Fits}
+use Rattle.lois_base.specs.Validity.{AdmitsTerm}
 use Rattle.lois_base.specs.Tree.{tree, comp_of}
 use Rattle.lois_base.specs.declared.values.Comp.{Comp}
 use Rattle.lois_deciders.proofs.Asking.{some_is}
@@ -15,17 +17,20 @@ use Rattle.lois_simplify.proofs.Kept.{kept_refl, kept_trans}
 use Rattle.lois_simplify.proofs.Members.{items_fit_each, items_admit_each, comp_depth_le}
 use Rattle.lois_simplify.proofs.OneRound.{item_kept, round_closed}
 use Rattle.lois_simplify.proofs.Tuples.{IsSimplified, PartsSimplified, part_behind, tuple_kept, parts_normal, parts_guards}
-use Rattle.lois_simplify.proofs.LeanComps.{LeanSoFar, lean_found, lean_none, lean_kept, fewer_lean}
+use Rattle.lois_simplify.proofs.LeanComps.{LeanSoFar, lean_begin, lean_found, lean_none, lean_kept, fewer_lean}
 use Rattle.lois_simplify.proofs.Under.{set_is_normal, set_has_normal_guards}
 use Rattle.lois_base.proofs.Viewed.{one_more, contains_item, all_taken}
+use Rattle.std.proofs.lemmas.Iterator.Adapters.{YieldsList-from_vec}
+use Rattle.std.proofs.lemmas.Iterator.Consumers.{YieldsList-turn, YieldsList-end}
+use Rattle.std.proofs.lemmas.List.{map-id, map-append}
 use Rattle.lois_simplify.proofs.simplifying.+simplifying.Goals as goal
 use Rattle.lois_simplify.proofs.simplifying.+simplifying.Goals.{lean_comps-in-Some+in_ok-push, lean_comps-in_default}
 
 pub lean_comp-rounds-init : goal.lean_comp-rounds-init
 lean_comp-rounds-init g t c =
-    let whole : TermD = set_of (only (comp_of c.args.comp.now)) in
+    let whole : TermD = set_of (only (comp_of c.args.comp)) in
     record {
-      kept = subst (λ z. IsKept c.args.under.now c.args.size whole (set_of (only (comp_of z)))) (sym c.in_ok-current.ensures) (kept_refl c.args.under.now c.args.size whole);
+      kept = kept_refl c.args.under.now c.args.size whole;
       asked = g.met.D.Answers.reaches_itself c.args.decider.now;
     }
 
@@ -34,7 +39,7 @@ lean_comp-returns-in-Lean-clause-kept g t c =
     let u = c.args.under.now in
     let n = c.args.size in
     let round = subst (IsRoundOf u n c.rounds.current) c.in-Lean.is c.in_ok-simple.ensures.round in
-    kept_trans u n (set_of (only (comp_of c.args.comp.now))) (set_of (only (comp_of c.rounds.current))) (set_of (only (comp_of c.in-Lean.simple))) c.rounds.invariant.kept round.0
+    kept_trans u n (set_of (only (comp_of c.args.comp))) (set_of (only (comp_of c.rounds.current))) (set_of (only (comp_of c.in-Lean.simple))) c.rounds.invariant.kept round.0
 
 pub lean_comp-rounds-preserved : goal.lean_comp-rounds-preserved
 lean_comp-rounds-preserved g t c =
@@ -42,28 +47,41 @@ lean_comp-rounds-preserved g t c =
     let n = c.args.size in
     let round = subst (IsRoundOf u n c.rounds.current) c.in-Shorter.is c.in_ok-simple.ensures.round in
     record {
-      kept = kept_trans u n (set_of (only (comp_of c.args.comp.now))) (set_of (only (comp_of c.rounds.current))) (set_of (only (comp_of c.in-Shorter.shorter))) c.rounds.invariant.kept round.0;
+      kept = kept_trans u n (set_of (only (comp_of c.args.comp))) (set_of (only (comp_of c.rounds.current))) (set_of (only (comp_of c.in-Shorter.shorter))) c.rounds.invariant.kept round.0;
       asked = g.met.D.Answers.reaches_then c.args.decider.now c.rounds.decider c.one_round.new.decider c.rounds.invariant.asked c.one_round.ensures.asked;
+    }
+
+pub lean_comps-loop-comp-init : goal.lean_comps-loop-comp-init
+lean_comps-loop-comp-init g t c =
+    record {
+      can_next = tt;
+      is_finite = tt;
+      lean = subst (LeanSoFar c.args.under.now c.args.size []) (sym c.new-found.ensures) (lean_begin c.args.under.now c.args.size);
+      asked = g.met.D.Answers.reaches_itself c.args.decider.now;
     }
 
 pub lean_comps-lean_comp-requires : goal.lean_comps-lean_comp-requires
 lean_comps-lean_comp-requires g t c κs within =
-    let comps = c.args.comps.now in
-    let k : CompD = comp_of c.comp-item.result in
-    let there : Contains comps k = c.in_ok-several.ensures.only k (contains_item comp_of c.as_slice-comp-items.result.now c.in_ok-several.several c.loop-comp.comp-index c.comp-item.result c.as_slice-comp-items.ensures c.loop-comp-test.true c.comp-item.is) in
+    let comps = c.args.comps in
+    let items = c.into_vec-comp-items.result.items in
+    let seen = c.loop-comp.yielded in
+    let k : CompD = comp_of c.in-Some.comp in
+    let turn = YieldsList-turn (YieldsList-from_vec items (cc) (cc)) seen c.loop-comp.comp-iterator c.loop-comp.yielded_by c.next.result c.next.new.self c.in-Some.comp c.in-Some.is c.next.ensures.steps in
+    let there : Contains comps k = c.in_ok-several.ensures.only k (contains_item comp_of items c.in_ok-several.several (length seen) c.in-Some.comp c.into_vec-comp-items.ensures turn.0 turn.1) in
     (omega (arith, comp_depth_le comps k there), (within.0, (within.1, (c.requires.sound, (items_fit_each c.args.size comps k c.requires.levels there, (c.requires.under_levels, (items_admit_each g.T.Structure.ordered comps k c.requires.operators there, c.requires.under_operators)))))))
 
 pub lean_comps-loop-comp-preserved : goal.lean_comps-loop-comp-preserved
 lean_comps-loop-comp-preserved g t c =
     let u = c.args.under.now in
     let n = c.args.size in
-    let items = c.as_slice-comp-items.result.now in
-    let i = c.loop-comp.comp-index in
-    let k : CompD = comp_of c.comp-item.result in
-    let done : List CompD = map comp_of (take i items) in
+    let seen = c.loop-comp.yielded in
+    let k : CompD = comp_of c.in-Some.comp in
+    let done : List CompD = map comp_of seen in
     record {
+      can_next = tt;
+      is_finite = tt;
       lean =
-          subst (λ z. LeanSoFar u n z c.match-branch-3.found) (sym (one_more comp_of items i c.comp-item.result c.loop-comp-test.true c.comp-item.is))
+          subst (λ z. LeanSoFar u n z c.match-branch-3.found) (sym (map-append comp_of seen (c.in-Some.comp ∷ [])))
           (elim c.match-branch-3.branch [
             | lean_comps-in-Some+in_ok-push w ↦
                 let kept = subst (λ o. IsKept u n (set_of (only k)) (set_of (listed o))) w.in-Some.is c.in_ok-simple.ensures.kept in
@@ -82,9 +100,12 @@ lean_comps-returns-clause-kept g t c =
     let n = c.args.size in
     let several = c.in_ok-several.several in
     let found = c.loop-comp.found in
-    let so_far = subst (λ z. LeanSoFar u n z found) (all_taken comp_of c.as_slice-comp-items.result.now several c.loop-comp.comp-index c.as_slice-comp-items.ensures c.loop-comp-test.false) c.loop-comp.invariant.lean in
-    ok_both (λ r. (k : CompD) → Contains found k → Contains r k) (λ r. (k : CompD) → Contains r k → Contains found k) (λ r. IsKept u n (set_of c.args.comps.now) (set_of r)) c.distinct-2.result
-    (λ r all only. lean_kept u n c.args.comps.now several found r c.in_ok-several.ensures.all c.in_ok-several.ensures.only so_far all only) c.distinct-2.ensures.all c.distinct-2.ensures.only
+    let items = c.into_vec-comp-items.result.items in
+    let end = YieldsList-end (YieldsList-from_vec items (cc) (cc)) c.loop-comp.yielded c.loop-comp.comp-iterator c.loop-comp.yielded_by c.next.result c.next.new.self c.in-None.is c.next.ensures.steps in
+    let all : c.loop-comp.yielded ≡ items = sym (map-id c.loop-comp.yielded) ∙ end.0 in
+    let so_far = subst (λ z. LeanSoFar u n z found) (ap (map comp_of) all ∙ c.into_vec-comp-items.ensures) c.loop-comp.invariant.lean in
+    ok_both (λ r. (k : CompD) → Contains found k → Contains r k) (λ r. (k : CompD) → Contains r k → Contains found k) (λ r. IsKept u n (set_of c.args.comps) (set_of r)) c.distinct-2.result
+    (λ r all only. lean_kept u n c.args.comps several found r c.in_ok-several.ensures.all c.in_ok-several.ensures.only so_far all only) c.distinct-2.ensures.all c.distinct-2.ensures.only
 
 pub lean_comps-returns-clause-lean : goal.lean_comps-returns-clause-lean
 lean_comps-returns-clause-lean g t c =
@@ -105,14 +126,20 @@ one_round-returns-clause-round g t c =
     (λ x closing. round_closed u n k now r.here x c.requires.under_levels kept opened.1 opened.2 c.in_ok-simplified.ensures.normal c.in_ok-simplified.ensures.guards closing)
     c.close_round.ensures
 
+pub simplified-lean_comps-requires-in-Coll : goal.simplified-lean_comps-requires-in-Coll
+simplified-lean_comps-requires-in-Coll g t c κs within =
+    let is : set_of c.in_ok-own-in-Coll.own ≡ tree c.args.term.now = ap set_of c.in_ok-own-in-Coll.ensures ∙ sym (ap tree c.in-Coll.is) in
+    (omega (arith, ap depth is), (within.0, (within.1, (c.requires.sound, (subst (Fits c.args.size) (sym is) c.requires.levels, (c.requires.under_levels, (subst (AdmitsTerm g.T.Structure.ordered) (sym is) c.requires.operators, c.requires.under_operators)))))))
+
 pub simplified-returns-in_ok-uncovered-in-Coll-clause-kept : goal.simplified-returns-in_ok-uncovered-in-Coll-clause-kept
 simplified-returns-in_ok-uncovered-in-Coll-clause-kept g t c =
     let u = c.args.under.now in
     let n = c.args.size in
+    let own = c.in_ok-own-in-Coll.own in
     let lean = c.in_ok-lean-in-Coll.lean in
     let r = c.in_ok-uncovered-in-Coll.field-0 in
-    let is : tree c.args.term.now ≡ set_of c.in-Coll.comps = ap tree c.in-Coll.is in
-    subst (λ z. IsKept u n z (set_of r)) (sym is) (kept_trans u n (set_of c.in-Coll.comps) (set_of lean) (set_of r) c.in_ok-lean-in-Coll.ensures.kept c.in_ok-uncovered-in-Coll.ensures.kept)
+    let is : set_of own ≡ tree c.args.term.now = ap set_of c.in_ok-own-in-Coll.ensures ∙ sym (ap tree c.in-Coll.is) in
+    subst (λ z. IsKept u n z (set_of r)) is (kept_trans u n (set_of own) (set_of lean) (set_of r) c.in_ok-lean-in-Coll.ensures.kept c.in_ok-uncovered-in-Coll.ensures.kept)
 
 pub simplified-returns-in_ok-uncovered-in-Coll-clause-normal : goal.simplified-returns-in_ok-uncovered-in-Coll-clause-normal
 simplified-returns-in_ok-uncovered-in-Coll-clause-normal g t c =
