@@ -15,7 +15,7 @@ pub record LeanSoFar (u : List (List Lit)) (n : ℕ) (done found : List CompD) :
 
 module _ (u : List (List Lit)) (n : ℕ) where
   pub lean_begin : LeanSoFar u n [] []
-  lean_begin = record { kept = kept_refl u n (set_of []); lean = All-nil (IsLeanComp u n); }
+  lean_begin = record { kept = kept_refl u n (set_of []); lean = All-nil (IsLeanComp u n) }
 
   pub lean_found : (done found pushed now : List CompD) (k r : CompD) → pushed ≡ found ++ r ∷ [] → now ≡ pushed → LeanSoFar u n done found → IsKept u n (set_of (k ∷ [])) (set_of (r ∷ [])) → IsLeanComp u n r → LeanSoFar u n (done ++ k ∷ []) now
   lean_found done found pushed now k r p q so_far kept lean =

@@ -1,11 +1,14 @@
-use Rattle.std.proofs.Common.{◌≡◌, ◌++◌, [], ◌∷◌, List, length, take, map, sym, ap, ◌∙◌, subst, arith}
+use Rattle.std.proofs.Common.{◌≡◌, ◌++◌, [], ◌∷◌, List, length, refl, take, map, sym, ap, ◌∙◌, subst, arith}
 use Rattle.std.specs.List.{All, Contains}
+use Rattle.std.proofs.lemmas.Iterator.Adapters.{YieldsList-from_vec}
+use Rattle.std.proofs.lemmas.Iterator.Consumers.{YieldsList-turn, YieldsList-end}
+use Rattle.std.proofs.lemmas.List.{map-id, map-append}
 use Rattle.std.proofs.lemmas.List.Elements.{All-contains}
 use Rattle.std.proofs.lemmas.Result.{IfOk-weaker}
 use Rattle.lois_base.specs.Data.{TermD, CompD, depth}
 use Rattle.lois_base.specs.Fits.{Fits}
-use Rattle.lois_base.specs.Validity.{AdmitsTerm}
 use Rattle.lois_base.specs.Tree.{tree, comp_of}
+use Rattle.lois_base.specs.Validity.{AdmitsTerm}
 use Rattle.lois_base.specs.declared.values.Comp.{Comp}
 use Rattle.lois_deciders.proofs.Asking.{some_is}
 use Rattle.lois_relate.proofs.Parts.{is_part_of}
@@ -20,11 +23,7 @@ use Rattle.lois_simplify.proofs.Tuples.{IsSimplified, PartsSimplified, part_behi
 use Rattle.lois_simplify.proofs.LeanComps.{LeanSoFar, lean_begin, lean_found, lean_none, lean_kept, fewer_lean}
 use Rattle.lois_simplify.proofs.Under.{set_is_normal, set_has_normal_guards}
 use Rattle.lois_base.proofs.Viewed.{one_more, contains_item, all_taken}
-use Rattle.std.proofs.lemmas.Iterator.Adapters.{YieldsList-from_vec}
-use Rattle.std.proofs.lemmas.Iterator.Consumers.{YieldsList-turn, YieldsList-end}
-use Rattle.std.proofs.lemmas.List.{map-id, map-append}
 use Rattle.lois_simplify.proofs.simplifying.+simplifying.Goals as goal
-use Rattle.lois_simplify.proofs.simplifying.+simplifying.Goals.{lean_comps-in-Some+in_ok-push, lean_comps-in_default}
 
 pub lean_comp-rounds-init : goal.lean_comp-rounds-init
 lean_comp-rounds-init g t c =
@@ -70,27 +69,37 @@ lean_comps-lean_comp-requires g t c κs within =
     let there : Contains comps k = c.in_ok-several.ensures.only k (contains_item comp_of items c.in_ok-several.several (length seen) c.in-Some.comp c.into_vec-comp-items.ensures turn.0 turn.1) in
     (omega (arith, comp_depth_le comps k there), (within.0, (within.1, (c.requires.sound, (items_fit_each c.args.size comps k c.requires.levels there, (c.requires.under_levels, (items_admit_each g.T.Structure.ordered comps k c.requires.operators there, c.requires.under_operators)))))))
 
+pub lean_comps-loop-comp-preserved-in-Continue-branch-4 : goal.lean_comps-loop-comp-preserved-in-Continue-branch-4
+lean_comps-loop-comp-preserved-in-Continue-branch-4 g t c =
+    let u = c.args.under.now in
+    let n = c.args.size in
+    let seen = c.loop-comp.yielded in
+    let k : CompD = comp_of c.in-Some.comp in
+    let done : List CompD = map comp_of seen in
+    let kept = subst (λ o. IsKept u n (set_of (only k)) (set_of (listed o))) c.in-Some-2.is c.in_ok-simple.ensures.kept in
+    let lean = some_is (λ j. IsLeanComp u n (comp_of j)) c.in_ok-simple.field-0 c.in-Some-2.simple c.in-Some-2.is c.in_ok-simple.ensures.lean in
+    record {
+      can_next = tt;
+      is_finite = tt;
+      lean =
+          subst (λ z. LeanSoFar u n z c.push.new.self) (sym (map-append comp_of seen (c.in-Some.comp ∷ [])))
+          (lean_found u n done c.loop-comp.found c.push.new.self c.push.new.self k (comp_of c.in-Some-2.simple) c.in_ok-push.ensures.ok refl c.loop-comp.invariant.lean kept lean);
+      asked = g.met.D.Answers.reaches_then c.args.decider.now c.loop-comp.decider c.lean_comp.new.decider c.loop-comp.invariant.asked c.lean_comp.ensures.asked;
+    }
+
 pub lean_comps-loop-comp-preserved : goal.lean_comps-loop-comp-preserved
 lean_comps-loop-comp-preserved g t c =
     let u = c.args.under.now in
     let n = c.args.size in
     let seen = c.loop-comp.yielded in
     let k : CompD = comp_of c.in-Some.comp in
-    let done : List CompD = map comp_of seen in
+    let kept = subst (λ o. IsKept u n (set_of (only k)) (set_of (listed o))) c.in_default.is c.in_ok-simple.ensures.kept in
     record {
       can_next = tt;
       is_finite = tt;
       lean =
-          subst (λ z. LeanSoFar u n z c.match-branch-3.found) (sym (map-append comp_of seen (c.in-Some.comp ∷ [])))
-          (elim c.match-branch-3.branch [
-            | lean_comps-in-Some+in_ok-push w ↦
-                let kept = subst (λ o. IsKept u n (set_of (only k)) (set_of (listed o))) w.in-Some.is c.in_ok-simple.ensures.kept in
-                let lean = some_is (λ j. IsLeanComp u n (comp_of j)) c.in_ok-simple.field-0 w.in-Some.simple w.in-Some.is c.in_ok-simple.ensures.lean in
-                lean_found u n done c.loop-comp.found w.push.new.self c.match-branch-3.found k (comp_of w.in-Some.simple) w.in_ok-push.ensures.ok w.found-is c.loop-comp.invariant.lean kept lean
-            | lean_comps-in_default w ↦
-                let kept = subst (λ o. IsKept u n (set_of (only k)) (set_of (listed o))) w.in_default.is c.in_ok-simple.ensures.kept in
-                subst (LeanSoFar u n (done ++ k ∷ [])) (sym w.found-is) (lean_none u n done c.loop-comp.found k c.loop-comp.invariant.lean kept)
-          ]);
+          subst (λ z. LeanSoFar u n z c.loop-comp.found) (sym (map-append comp_of seen (c.in-Some.comp ∷ [])))
+          (lean_none u n (map comp_of seen) c.loop-comp.found k c.loop-comp.invariant.lean kept);
       asked = g.met.D.Answers.reaches_then c.args.decider.now c.loop-comp.decider c.lean_comp.new.decider c.loop-comp.invariant.asked c.lean_comp.ensures.asked;
     }
 
@@ -126,8 +135,8 @@ one_round-returns-clause-round g t c =
     (λ x closing. round_closed u n k now r.here x c.requires.under_levels kept opened.1 opened.2 c.in_ok-simplified.ensures.normal c.in_ok-simplified.ensures.guards closing)
     c.close_round.ensures
 
-pub simplified-lean_comps-requires-in-Coll : goal.simplified-lean_comps-requires-in-Coll
-simplified-lean_comps-requires-in-Coll g t c κs within =
+pub simplified-lean_comps-requires : goal.simplified-lean_comps-requires
+simplified-lean_comps-requires g t c κs within =
     let is : set_of c.in_ok-own-in-Coll.own ≡ tree c.args.term.now = ap set_of c.in_ok-own-in-Coll.ensures ∙ sym (ap tree c.in-Coll.is) in
     (omega (arith, ap depth is), (within.0, (within.1, (c.requires.sound, (subst (Fits c.args.size) (sym is) c.requires.levels, (c.requires.under_levels, (subst (AdmitsTerm g.T.Structure.ordered) (sym is) c.requires.operators, c.requires.under_operators)))))))
 
