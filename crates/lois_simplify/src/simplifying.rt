@@ -70,11 +70,11 @@ pub fn simplify<T: Structure>(
             ensures only_asked { HasOnlyAsked (λ b. kind_of (b.vtable, b.value)) (λ b. questions (b.vtable, b.value)) asked.old asked.new }
         { asked.entails(alloc, c, d, size) },
     };
-    simplified::<T, _>(alloc, term, under, size, &mut asking)
+    simplified_copy::<T, _>(alloc, term, under, size, &mut asking)
 }
 
-#[cycle(simplifying)]
-fn simplified<T: Structure, D: Answers>(
+// A copy of the term, simplified: below, whatever is kept is moved.
+fn simplified_copy<T: Structure, D: Answers>(
     alloc: Global,
     term: &Term,
     under: &Constraint,
@@ -91,15 +91,36 @@ fn simplified<T: Structure, D: Answers>(
     ensures guards { IfOk result (λ r. HasNormalGuards (tree r)) }
     ensures asked { D.reaches decider.old decider.new }
 {
+    let own = term.copy(alloc)?;
+    simplified::<T, D>(alloc, own, under, size, decider)
+}
+
+#[cycle(simplifying)]
+fn simplified<T: Structure, D: Answers>(
+    alloc: Global,
+    term: Term,
+    under: &Constraint,
+    size: usize,
+    decider: &mut D,
+) -> Result<Term, NoMemory>
+    requires sound { D.sound }
+    requires levels { Fits size (tree term) }
+    requires under_levels { ConstraintFits size under.now }
+    requires operators { AdmitsTerm T.ordered (tree term) }
+    requires under_operators { AdmitsConstraint T.ordered under.now }
+    ensures kept { IfOk result (λ r. IsKept under.now size (tree term) (tree r)) }
+    ensures normal { IfOk result (λ r. IsNormal (tree r) under.now size) }
+    ensures guards { IfOk result (λ r. HasNormalGuards (tree r)) }
+    ensures asked { D.reaches decider.old decider.new }
+{
     match term {
-        Term::Var(level) => Ok(Term::Var(*level)),
-        Term::Tag(name) => Ok(Term::Tag(name.copy(alloc)?)),
+        Term::Var(level) => Ok(Term::Var(level)),
+        Term::Tag(name) => Ok(Term::Tag(name)),
         Term::Tup(parts) => Ok(Term::Tup(simplified_parts::<T, D>(
             alloc, parts, under, size, decider,
         )?)),
         Term::Coll(comps) => {
-            let own = comps.copy(alloc)?;
-            let lean = lean_comps::<T, D>(alloc, own, under, size, decider)?;
+            let lean = lean_comps::<T, D>(alloc, comps, under, size, decider)?;
             Ok(Term::Coll(uncovered::<T, D>(alloc, lean, under, size, decider)?))
         }
     }
@@ -108,23 +129,23 @@ fn simplified<T: Structure, D: Answers>(
 #[cycle(simplifying)]
 fn simplified_parts<T: Structure, D: Answers>(
     alloc: Global,
-    parts: &Terms,
+    parts: Terms,
     under: &Constraint,
     size: usize,
     decider: &mut D,
 ) -> Result<Terms, NoMemory>
     requires sound { D.sound }
-    requires levels { PartsFit size (terms_of parts.now) }
+    requires levels { PartsFit size (terms_of parts) }
     requires under_levels { ConstraintFits size under.now }
-    requires operators { AdmitsParts T.ordered (terms_of parts.now) }
+    requires operators { AdmitsParts T.ordered (terms_of parts) }
     requires under_operators { AdmitsConstraint T.ordered under.now }
-    ensures kept { IfOk result (λ r. IsKept under.now size (tup (terms_of parts.now)) (tup (terms_of r))) }
+    ensures kept { IfOk result (λ r. IsKept under.now size (tup (terms_of parts)) (tup (terms_of r))) }
     ensures normal { IfOk result (λ r. PartsAreNormal (terms_of r) under.now size) }
     ensures guards { IfOk result (λ r. PartsHaveNormalGuards (terms_of r)) }
     ensures asked { D.reaches decider.old decider.new }
 {
     let mut simple = Terms::new(alloc);
-    for part in parts.as_slice() {
+    for part in parts.into_vec() {
         simple.push(simplified::<T, D>(alloc, part, under, size, decider)?)?;
     }
     Ok(simple)
@@ -209,10 +230,16 @@ fn one_round<T: Structure, D: Answers>(
         Opening::Open(open) => open,
     };
     let inner = size + comp.binders;
+    let Comp {
+        binders,
+        guard,
+        item,
+    } = comp;
+    let item = simplified::<T, D>(alloc, item, &here, inner, decider)?;
     let comp = Comp {
-        binders: comp.binders,
-        guard: comp.guard,
-        item: simplified::<T, D>(alloc, &comp.item, &here, inner, decider)?,
+        binders,
+        guard,
+        item,
     };
     close_round::<T>(alloc, comp, size)
 }

@@ -1,4 +1,4 @@
-use Rattle.std.proofs.Common.{◌≡◌, ◌+◌, take, sym, ap, ◌∙◌, subst, take_all, le_refl, arith}
+use Rattle.std.proofs.Common.{◌≡◌, take, sym, ◌∙◌, subst, take_all, arith}
 use Rattle.std.specs.Bool.{IsTrue}
 use Rattle.lois_base.specs.Truth.{holds}
 use Rattle.lois_simplify.proofs.Shortened.{one_more_within}

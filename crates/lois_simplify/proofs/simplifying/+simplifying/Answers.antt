@@ -1,14 +1,12 @@
-use Rattle.std.proofs.Common.{◌≡◌, ◌++◌, [], ◌∷◌, List, length, refl, take, map, sym, ap, ◌∙◌, subst, arith}
+use Rattle.std.proofs.Common.{◌≡◌, ◌++◌, [], ◌∷◌, List, length, refl, map, sym, ap, ◌∙◌, subst, arith}
 use Rattle.std.specs.List.{All, Contains}
 use Rattle.std.proofs.lemmas.Iterator.Adapters.{YieldsList-from_vec}
 use Rattle.std.proofs.lemmas.Iterator.Consumers.{YieldsList-turn, YieldsList-end}
 use Rattle.std.proofs.lemmas.List.{map-id, map-append}
 use Rattle.std.proofs.lemmas.List.Elements.{All-contains}
 use Rattle.std.proofs.lemmas.Result.{IfOk-weaker}
-use Rattle.lois_base.specs.Data.{TermD, CompD, depth}
-use Rattle.lois_base.specs.Fits.{Fits}
+use Rattle.lois_base.specs.Data.{TermD, CompD}
 use Rattle.lois_base.specs.Tree.{tree, comp_of}
-use Rattle.lois_base.specs.Validity.{AdmitsTerm}
 use Rattle.lois_base.specs.declared.values.Comp.{Comp}
 use Rattle.lois_deciders.proofs.Asking.{some_is}
 use Rattle.lois_relate.proofs.Parts.{is_part_of}
@@ -22,7 +20,7 @@ use Rattle.lois_simplify.proofs.OneRound.{item_kept, round_closed}
 use Rattle.lois_simplify.proofs.Tuples.{IsSimplified, PartsSimplified, part_behind, tuple_kept, parts_normal, parts_guards}
 use Rattle.lois_simplify.proofs.LeanComps.{LeanSoFar, lean_begin, lean_found, lean_none, lean_kept, fewer_lean}
 use Rattle.lois_simplify.proofs.Under.{set_is_normal, set_has_normal_guards}
-use Rattle.lois_base.proofs.Viewed.{one_more, contains_item, all_taken}
+use Rattle.lois_base.proofs.Viewed.{contains_item}
 use Rattle.lois_simplify.proofs.simplifying.+simplifying.Goals as goal
 
 pub lean_comp-rounds-init : goal.lean_comp-rounds-init
@@ -126,29 +124,23 @@ one_round-returns-clause-round g t c =
     let n = c.args.size in
     let k = c.args.comp in
     let r = c.in-Open.open in
-    let item = c.in_ok-simplified.field-0 in
+    let item = c.in_ok-item.item in
     let now : Comp = record { binders = r.comp.binders; guard = r.comp.guard; item = item } in
     let opened = subst (IsOpeningOf u n k) c.in-Open.is c.in_ok-round.ensures.opening in
     let kept = kept_trans u n (set_of (only (comp_of k))) (set_of (only (comp_of r.comp))) (set_of (only (comp_of now))) opened.0
-    (item_kept u n r.comp.binders r.comp.guard r.here (tree r.comp.item) (tree item) c.requires.under_levels (opened.2).here c.in_ok-simplified.ensures.kept) in
+    (item_kept u n r.comp.binders r.comp.guard r.here (tree r.comp.item) (tree item) c.requires.under_levels (opened.2).here c.in_ok-item.ensures.kept) in
     IfOk-weaker c.close_round.result (IsClosingOf n now) (IsRoundOf u n k)
-    (λ x closing. round_closed u n k now r.here x c.requires.under_levels kept opened.1 opened.2 c.in_ok-simplified.ensures.normal c.in_ok-simplified.ensures.guards closing)
+    (λ x closing. round_closed u n k now r.here x c.requires.under_levels kept opened.1 opened.2 c.in_ok-item.ensures.normal c.in_ok-item.ensures.guards closing)
     c.close_round.ensures
-
-pub simplified-lean_comps-requires : goal.simplified-lean_comps-requires
-simplified-lean_comps-requires g t c κs within =
-    let is : set_of c.in_ok-own-in-Coll.own ≡ tree c.args.term.now = ap set_of c.in_ok-own-in-Coll.ensures ∙ sym (ap tree c.in-Coll.is) in
-    (omega (arith, ap depth is), (within.0, (within.1, (c.requires.sound, (subst (Fits c.args.size) (sym is) c.requires.levels, (c.requires.under_levels, (subst (AdmitsTerm g.T.Structure.ordered) (sym is) c.requires.operators, c.requires.under_operators)))))))
 
 pub simplified-returns-in_ok-uncovered-in-Coll-clause-kept : goal.simplified-returns-in_ok-uncovered-in-Coll-clause-kept
 simplified-returns-in_ok-uncovered-in-Coll-clause-kept g t c =
     let u = c.args.under.now in
     let n = c.args.size in
-    let own = c.in_ok-own-in-Coll.own in
     let lean = c.in_ok-lean-in-Coll.lean in
     let r = c.in_ok-uncovered-in-Coll.field-0 in
-    let is : set_of own ≡ tree c.args.term.now = ap set_of c.in_ok-own-in-Coll.ensures ∙ sym (ap tree c.in-Coll.is) in
-    subst (λ z. IsKept u n z (set_of r)) is (kept_trans u n (set_of own) (set_of lean) (set_of r) c.in_ok-lean-in-Coll.ensures.kept c.in_ok-uncovered-in-Coll.ensures.kept)
+    let is : tree c.args.term ≡ set_of c.in-Coll.comps = ap tree c.in-Coll.is in
+    subst (λ z. IsKept u n z (set_of r)) (sym is) (kept_trans u n (set_of c.in-Coll.comps) (set_of lean) (set_of r) c.in_ok-lean-in-Coll.ensures.kept c.in_ok-uncovered-in-Coll.ensures.kept)
 
 pub simplified-returns-in_ok-uncovered-in-Coll-clause-normal : goal.simplified-returns-in_ok-uncovered-in-Coll-clause-normal
 simplified-returns-in_ok-uncovered-in-Coll-clause-normal g t c =
@@ -164,26 +156,38 @@ simplified-returns-in_ok-uncovered-in-Coll-clause-guards g t c =
     let r = c.in_ok-uncovered-in-Coll.field-0 in
     set_has_normal_guards u n r (λ k h. All-contains (IsLeanComp u n) c.in_ok-lean-in-Coll.lean k c.in_ok-lean-in-Coll.ensures.lean (c.in_ok-uncovered-in-Coll.ensures.only k h))
 
+pub simplified_parts-loop-part-init : goal.simplified_parts-loop-part-init
+simplified_parts-loop-part-init g t c =
+    record {
+      can_next = tt;
+      is_finite = tt;
+      simplified = subst (PartsSimplified c.args.under.now c.args.size []) (sym c.new-simple.ensures) tt;
+      asked = g.met.D.Answers.reaches_itself c.args.decider.now;
+    }
+
 pub simplified_parts-simplified-requires : goal.simplified_parts-simplified-requires
 simplified_parts-simplified-requires g t c κs within =
-    let p = is_part_of c.as_slice-part-items.result.now c.args.parts.now c.loop-part.part-index c.part-item.result c.as_slice-part-items.ensures c.loop-part-test.true c.part-item.is in
+    let items = c.into_vec-part-items.result.items in
+    let seen = c.loop-part.yielded in
+    let turn = YieldsList-turn (YieldsList-from_vec items (cc) (cc)) seen c.loop-part.part-iterator c.loop-part.yielded_by c.next.result c.next.new.self c.in-Some.part c.in-Some.is c.next.ensures.steps in
+    let p = is_part_of items c.args.parts (length seen) c.in-Some.part c.into_vec-part-items.ensures turn.0 turn.1 in
     (omega (arith, p.depth), (within.0, (within.1, (c.requires.sound, (p.fits c.args.size c.requires.levels, (c.requires.under_levels, (p.admits g.T.Structure.ordered c.requires.operators, c.requires.under_operators)))))))
 
 pub simplified_parts-loop-part-preserved : goal.simplified_parts-loop-part-preserved
 simplified_parts-loop-part-preserved g t c =
     let u = c.args.under.now in
     let n = c.args.size in
-    let items = c.as_slice-part-items.result.now in
-    let i = c.loop-part.part-index in
-    let p = c.part-item.result in
+    let seen = c.loop-part.yielded in
+    let p = c.in-Some.part in
     let s = c.in_ok-simplified.field-0 in
-    let done : List TermD = map tree (take i items) in
-    let pushed : c.push.new.self ≡ c.loop-part.simple ++ tree s ∷ [] = c.in_ok-push.ensures.ok in
+    let done : List TermD = map tree seen in
     let one : IsSimplified u n (tree p) (tree s) = record { kept = c.in_ok-simplified.ensures.kept; normal = c.in_ok-simplified.ensures.normal; guards = c.in_ok-simplified.ensures.guards } in
     record {
+      can_next = tt;
+      is_finite = tt;
       simplified =
-          subst (λ z. PartsSimplified u n z c.push.new.self) (sym (one_more tree items i p c.loop-part-test.true c.part-item.is))
-          (subst (PartsSimplified u n (done ++ tree p ∷ [])) (sym pushed) (part_behind u n done c.loop-part.simple (tree p) (tree s) c.loop-part.invariant.simplified one));
+          subst (λ z. PartsSimplified u n z c.push.new.self) (sym (map-append tree seen (p ∷ [])))
+          (subst (PartsSimplified u n (done ++ tree p ∷ [])) (sym c.in_ok-push.ensures.ok) (part_behind u n done c.loop-part.simple (tree p) (tree s) c.loop-part.invariant.simplified one));
       asked = g.met.D.Answers.reaches_then c.args.decider.now c.loop-part.decider c.simplified.new.decider c.loop-part.invariant.asked c.simplified.ensures.asked;
     }
 
@@ -191,22 +195,28 @@ pub simplified_parts-returns-clause-kept : goal.simplified_parts-returns-clause-
 simplified_parts-returns-clause-kept g t c =
     let u = c.args.under.now in
     let n = c.args.size in
-    let parts = c.args.parts.now in
-    let all = subst (λ z. PartsSimplified u n z c.loop-part.simple) (all_taken tree c.as_slice-part-items.result.now parts c.loop-part.part-index c.as_slice-part-items.ensures c.loop-part-test.false) c.loop-part.invariant.simplified in
-    tuple_kept u n parts c.loop-part.simple all
+    let items = c.into_vec-part-items.result.items in
+    let end = YieldsList-end (YieldsList-from_vec items (cc) (cc)) c.loop-part.yielded c.loop-part.part-iterator c.loop-part.yielded_by c.next.result c.next.new.self c.in-None.is c.next.ensures.steps in
+    let seen : c.loop-part.yielded ≡ items = sym (map-id c.loop-part.yielded) ∙ end.0 in
+    let all = subst (λ z. PartsSimplified u n z c.loop-part.simple) (ap (map tree) seen ∙ c.into_vec-part-items.ensures) c.loop-part.invariant.simplified in
+    tuple_kept u n c.args.parts c.loop-part.simple all
 
 pub simplified_parts-returns-clause-normal : goal.simplified_parts-returns-clause-normal
 simplified_parts-returns-clause-normal g t c =
     let u = c.args.under.now in
     let n = c.args.size in
-    let parts = c.args.parts.now in
-    let all = subst (λ z. PartsSimplified u n z c.loop-part.simple) (all_taken tree c.as_slice-part-items.result.now parts c.loop-part.part-index c.as_slice-part-items.ensures c.loop-part-test.false) c.loop-part.invariant.simplified in
-    parts_normal u n parts c.loop-part.simple all
+    let items = c.into_vec-part-items.result.items in
+    let end = YieldsList-end (YieldsList-from_vec items (cc) (cc)) c.loop-part.yielded c.loop-part.part-iterator c.loop-part.yielded_by c.next.result c.next.new.self c.in-None.is c.next.ensures.steps in
+    let seen : c.loop-part.yielded ≡ items = sym (map-id c.loop-part.yielded) ∙ end.0 in
+    let all = subst (λ z. PartsSimplified u n z c.loop-part.simple) (ap (map tree) seen ∙ c.into_vec-part-items.ensures) c.loop-part.invariant.simplified in
+    parts_normal u n c.args.parts c.loop-part.simple all
 
 pub simplified_parts-returns-clause-guards : goal.simplified_parts-returns-clause-guards
 simplified_parts-returns-clause-guards g t c =
     let u = c.args.under.now in
     let n = c.args.size in
-    let parts = c.args.parts.now in
-    let all = subst (λ z. PartsSimplified u n z c.loop-part.simple) (all_taken tree c.as_slice-part-items.result.now parts c.loop-part.part-index c.as_slice-part-items.ensures c.loop-part-test.false) c.loop-part.invariant.simplified in
-    parts_guards u n parts c.loop-part.simple all
+    let items = c.into_vec-part-items.result.items in
+    let end = YieldsList-end (YieldsList-from_vec items (cc) (cc)) c.loop-part.yielded c.loop-part.part-iterator c.loop-part.yielded_by c.next.result c.next.new.self c.in-None.is c.next.ensures.steps in
+    let seen : c.loop-part.yielded ≡ items = sym (map-id c.loop-part.yielded) ∙ end.0 in
+    let all = subst (λ z. PartsSimplified u n z c.loop-part.simple) (ap (map tree) seen ∙ c.into_vec-part-items.ensures) c.loop-part.invariant.simplified in
+    parts_guards u n c.args.parts c.loop-part.simple all

@@ -1,4 +1,4 @@
-use Rattle.std.proofs.Common.{◌+◌, ◌*◌, take, map}
+use Rattle.std.proofs.Common.{◌+◌, ◌*◌, map}
 use Rattle.lois_base.specs.Data.{depth, depth_of_terms, depth_of_comps}
 use Rattle.lois_base.specs.Tree.{tree, comp_of}
 use Rattle.lois_simplify.specs.Kept.{IsKept, set_of}
@@ -9,10 +9,10 @@ use Rattle.lois_simplify.proofs.simplifying.+simplifying.Given as goal
 
 -- each call goes into a part of the term, or on to a function of a lower rank
 abbrev pub decreases-simplified : goal.decreases-simplified
-decreases-simplified g l = 6 * depth (tree l.term.now)
+decreases-simplified g l = 6 * depth (tree l.term)
 
 abbrev pub decreases-simplified_parts : goal.decreases-simplified_parts
-decreases-simplified_parts g l = 6 * depth_of_terms l.parts.now + 1
+decreases-simplified_parts g l = 6 * depth_of_terms l.parts + 1
 
 abbrev pub decreases-lean_comps : goal.decreases-lean_comps
 decreases-lean_comps g l = 6 * depth_of_comps l.comps + 3
@@ -26,7 +26,9 @@ decreases-one_round g l = 6 * depth (tree l.comp.item) + 1
 abbrev pub invariant-simplified_parts-loop-part : goal.invariant-simplified_parts-loop-part
 invariant-simplified_parts-loop-part g l =
     record {
-      simplified : PartsSimplified l.under l.size (map tree (take l.part-index l.part-items)) l.simple;
+      can_next : (goal.iterator-simplified_parts-loop-part g).can_next l.part-iterator;
+      is_finite : (goal.iterator-simplified_parts-loop-part g).is_finite l.part-iterator;
+      simplified : PartsSimplified l.under l.size (map tree l.yielded) l.simple;
       asked : g.D.Answers.reaches l.fn.decider l.decider;
     }
 
