@@ -1,12 +1,12 @@
 -- The comprehensions of a set made lean one by one.
 use Rattle.std.proofs.Common.{◌≡◌, ℕ, List, [], ◌∷◌, ◌++◌, sym, ◌∙◌, subst, append-nil}
 use Rattle.std.specs.List.{All, Contains}
-use Rattle.std.proofs.lemmas.List.Elements.{All-push, All-weaker, All-contains, All-contains_itself}
+use Rattle.std.proofs.lemmas.List.Elements.{All-nil, All-push, All-weaker, All-contains, All-contains_itself}
 use Rattle.lois_base.specs.Data.{CompD}
 use Rattle.lois_base.specs.declared.guards.Lit.{Lit}
 use Rattle.lois_simplify.specs.Kept.{IsKept, set_of}
 use Rattle.lois_simplify.specs.Lean.{IsLeanComp}
-use Rattle.lois_simplify.proofs.Kept.{kept_trans, alike_kept, kept-append}
+use Rattle.lois_simplify.proofs.Kept.{kept_refl, kept_trans, alike_kept, kept-append}
 
 -- the comprehensions found are lean, and stand for those that are done
 pub record LeanSoFar (u : List (List Lit)) (n : ℕ) (done found : List CompD) : Type 0 where
@@ -14,6 +14,9 @@ pub record LeanSoFar (u : List (List Lit)) (n : ℕ) (done found : List CompD) :
   pub lean : All (IsLeanComp u n) found
 
 module _ (u : List (List Lit)) (n : ℕ) where
+  pub lean_begin : LeanSoFar u n [] []
+  lean_begin = record { kept = kept_refl u n (set_of []); lean = All-nil (IsLeanComp u n) }
+
   pub lean_found : (done found pushed now : List CompD) (k r : CompD) → pushed ≡ found ++ r ∷ [] → now ≡ pushed → LeanSoFar u n done found → IsKept u n (set_of (k ∷ [])) (set_of (r ∷ [])) → IsLeanComp u n r → LeanSoFar u n (done ++ k ∷ []) now
   lean_found done found pushed now k r p q so_far kept lean =
       subst (LeanSoFar u n (done ++ k ∷ [])) (sym (q ∙ p)) (record {

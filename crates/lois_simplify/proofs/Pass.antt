@@ -1,8 +1,8 @@
 -- One pass over comprehensions that drops each of those that the others cover.
-use Rattle.std.proofs.Common.{◌≡◌, ℕ, ◌+◌, ◌-◌, ◌<◌, List, [], ◌∷◌, ◌++◌, length, get_or, take, drop, map, sym, ap, subst, append_assoc, length-drop, arith}
+use Rattle.std.proofs.Common.{◌≡◌, ℕ, ◌+◌, ◌-◌, ◌<◌, List, [], ◌∷◌, ◌++◌, length, get_or, set, take, drop, map, sym, ap, ◌∙◌, subst, append_assoc, length-drop, arith}
 use Rattle.std.specs.Prelude.{Bool}
 use Rattle.std.specs.List.{Contains}
-use Rattle.std.proofs.lemmas.List.{take_all}
+use Rattle.std.proofs.lemmas.List.{take_all, drop-set-lt}
 use Rattle.std.proofs.lemmas.List.Elements.{Contains-append_left, Contains-append_right}
 use Rattle.lois_base.specs.Data.{CompD, comps_of}
 use Rattle.lois_base.specs.Fits.{ItemsFit}
@@ -31,9 +31,13 @@ module _ (u : List (List Lit)) (n : ℕ) (whole : List CompD) where
   pub uncovered_begin : UncoveredSoFar u n whole [] whole
   uncovered_begin = record { value = kept_refl u n (set_of whole); only = λ k h. h; own = tt }
 
-  pub next_of : (kept : List CompD) (items : List Comp) (i : ℕ) (x : Comp) → i < length items → x ≡ get_or items i x → UncoveredSoFar u n whole kept (map comp_of (drop i items)) → UncoveredSoFar u n whole kept (comp_of x ∷ map comp_of (drop (i + 1) items))
-  next_of kept items i x l e so_far =
-      subst (UncoveredSoFar u n whole kept) (ap (map comp_of) (rest_is items i x l e)) so_far
+  -- the next one is moved away, and y stands in its place
+  pub next_moved : (kept : List CompD) (items now : List Comp) (i : ℕ) (x there y : Comp) → i < length items → x ≡ there → there ≡ get_or items i there → now ≡ set items i y → UncoveredSoFar u n whole kept (map comp_of (drop i items)) → UncoveredSoFar u n whole kept (comp_of x ∷ map comp_of (drop (i + 1) now))
+  next_moved kept items now i x there y l is at e so_far =
+      let found : x ≡ get_or items i x = subst (λ z. z ≡ get_or items i z) (sym is) at in
+      let rest : drop (i + 1) now ≡ drop (i + 1) items = ap (drop (i + 1)) e ∙ drop-set-lt (i + 1) items i y (omega arith) in
+      subst (λ z. UncoveredSoFar u n whole kept (comp_of x ∷ map comp_of z)) (sym rest)
+      (subst (UncoveredSoFar u n whole kept) (ap (map comp_of) (rest_is items i x l found)) so_far)
 
   module _ (kept coming : List CompD) (k : CompD) (so_far : UncoveredSoFar u n whole kept (k ∷ coming)) where
     pub next_is_there : Contains whole k

@@ -13,12 +13,13 @@ ghost use Rattle.lois_simplify.specs.Lean.{HasOwn, EachHasOwn};
 ghost use Rattle.lois_simplify.specs.Covered.{IsCovered};
 
 use crate::answering::Answers;
-use lois_base::{Comp, Comps, Constraint, Formula, NoMemory, Structure};
+use lois_base::{Comp, Comps, Constraint, Formula, NoMemory, Structure, Term};
 use lois_constraint::meet;
 use lois_elim::quantifier_free;
 use lois_relate::building::either;
 use lois_relate::item_formula;
 use std::alloc::Global;
+use std::mem;
 
 // Where the item of the comprehension is among the members of those before it and behind it.
 fn item_among(
@@ -70,30 +71,40 @@ fn is_covered<T: Structure, D: Answers>(
     Ok(sample.is_none())
 }
 
+// What stands in the place of a comprehension that was moved.
+fn moved_away(alloc: Global) -> Comp {
+    Comp {
+        binders: 0,
+        guard: Constraint::new(alloc),
+        item: Term::Var(0),
+    }
+}
+
 /// The comprehensions without those whose members the others have wherever `under` holds. One pass serves, since the others
 /// only get fewer.
 pub(crate) fn uncovered<T: Structure, D: Answers>(
     alloc: Global,
-    comps: &Comps,
+    comps: Comps,
     under: &Constraint,
     size: usize,
     decider: &mut D,
 ) -> Result<Comps, NoMemory>
     requires sound { D.sound }
-    requires levels { ItemsFit size (comps_of comps.now) }
+    requires levels { ItemsFit size (comps_of comps) }
     requires under_levels { ConstraintFits size under.now }
-    requires operators { AdmitsItems T.ordered (comps_of comps.now) }
-    ensures kept { IfOk result (λ r. IsKept under.now size (set_of comps.now) (set_of r)) }
-    ensures only { IfOk result (λ r. (k : CompD) → Contains r k → Contains comps.now k) }
+    requires operators { AdmitsItems T.ordered (comps_of comps) }
+    ensures kept { IfOk result (λ r. IsKept under.now size (set_of comps) (set_of r)) }
+    ensures only { IfOk result (λ r. (k : CompD) → Contains r k → Contains comps k) }
     ensures own { IfOk result (λ r. EachHasOwn under.now size [] r []) }
     ensures asked { D.reaches decider.old decider.new }
 {
-    let items = comps.as_slice();
+    let mut items = comps.into_vec();
     let mut kept = Comps::new(alloc);
-    for (index, comp) in items.iter().enumerate() {
+    for index in 0..items.len() {
+        let comp = mem::replace(&mut items[index], moved_away(alloc));
         let coming = &items[index + 1..];
-        if !is_covered::<T, D>(alloc, comp, &kept, coming, under, size, decider)? {
-            kept.push(comp.copy(alloc)?)?;
+        if !is_covered::<T, D>(alloc, &comp, &kept, coming, under, size, decider)? {
+            kept.push(comp)?;
         }
     }
     Ok(kept)

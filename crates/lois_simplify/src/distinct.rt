@@ -19,14 +19,14 @@ fn is_written_in(comp: &Comp, comps: &Comps) -> bool
 }
 
 /// Each comprehension once, as it is written.
-pub(crate) fn distinct(alloc: Global, comps: &Comps) -> Result<Comps, NoMemory>
-    ensures all { IfOk result (λ r. (k : CompD) → Contains comps.now k → Contains r k) }
-    ensures only { IfOk result (λ r. (k : CompD) → Contains r k → Contains comps.now k) }
+pub(crate) fn distinct(alloc: Global, comps: Comps) -> Result<Comps, NoMemory>
+    ensures all { IfOk result (λ r. (k : CompD) → Contains comps k → Contains r k) }
+    ensures only { IfOk result (λ r. (k : CompD) → Contains r k → Contains comps k) }
 {
     let mut kept = Comps::new(alloc);
-    for comp in comps.as_slice() {
-        if !is_written_in(comp, &kept) {
-            kept.push(comp.copy(alloc)?)?;
+    for comp in comps.into_vec() {
+        if !is_written_in(&comp, &kept) {
+            kept.push(comp)?;
         }
     }
     Ok(kept)

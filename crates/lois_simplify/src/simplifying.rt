@@ -70,11 +70,11 @@ pub fn simplify<T: Structure>(
             ensures only_asked { HasOnlyAsked (λ b. kind_of (b.vtable, b.value)) (λ b. questions (b.vtable, b.value)) asked.old asked.new }
         { asked.entails(alloc, c, d, size) },
     };
-    simplified::<T, _>(alloc, term, under, size, &mut asking)
+    simplified_copy::<T, _>(alloc, term, under, size, &mut asking)
 }
 
-#[cycle(simplifying)]
-fn simplified<T: Structure, D: Answers>(
+// A copy of the term, simplified: below, whatever is kept is moved.
+fn simplified_copy<T: Structure, D: Answers>(
     alloc: Global,
     term: &Term,
     under: &Constraint,
@@ -91,15 +91,37 @@ fn simplified<T: Structure, D: Answers>(
     ensures guards { IfOk result (λ r. HasNormalGuards (tree r)) }
     ensures asked { D.reaches decider.old decider.new }
 {
+    let own = term.copy(alloc)?;
+    simplified::<T, D>(alloc, own, under, size, decider)
+}
+
+#[cycle(simplifying)]
+fn simplified<T: Structure, D: Answers>(
+    alloc: Global,
+    term: Term,
+    under: &Constraint,
+    size: usize,
+    decider: &mut D,
+) -> Result<Term, NoMemory>
+    requires sound { D.sound }
+    requires levels { Fits size (tree term) }
+    requires under_levels { ConstraintFits size under.now }
+    requires operators { AdmitsTerm T.ordered (tree term) }
+    requires under_operators { AdmitsConstraint T.ordered under.now }
+    ensures kept { IfOk result (λ r. IsKept under.now size (tree term) (tree r)) }
+    ensures normal { IfOk result (λ r. IsNormal (tree r) under.now size) }
+    ensures guards { IfOk result (λ r. HasNormalGuards (tree r)) }
+    ensures asked { D.reaches decider.old decider.new }
+{
     match term {
-        Term::Var(level) => Ok(Term::Var(*level)),
-        Term::Tag(name) => Ok(Term::Tag(name.copy(alloc)?)),
+        Term::Var(level) => Ok(Term::Var(level)),
+        Term::Tag(name) => Ok(Term::Tag(name)),
         Term::Tup(parts) => Ok(Term::Tup(simplified_parts::<T, D>(
             alloc, parts, under, size, decider,
         )?)),
         Term::Coll(comps) => {
             let lean = lean_comps::<T, D>(alloc, comps, under, size, decider)?;
-            Ok(Term::Coll(uncovered::<T, D>(alloc, &lean, under, size, decider)?))
+            Ok(Term::Coll(uncovered::<T, D>(alloc, lean, under, size, decider)?))
         }
     }
 }
@@ -107,23 +129,23 @@ fn simplified<T: Structure, D: Answers>(
 #[cycle(simplifying)]
 fn simplified_parts<T: Structure, D: Answers>(
     alloc: Global,
-    parts: &Terms,
+    parts: Terms,
     under: &Constraint,
     size: usize,
     decider: &mut D,
 ) -> Result<Terms, NoMemory>
     requires sound { D.sound }
-    requires levels { PartsFit size (terms_of parts.now) }
+    requires levels { PartsFit size (terms_of parts) }
     requires under_levels { ConstraintFits size under.now }
-    requires operators { AdmitsParts T.ordered (terms_of parts.now) }
+    requires operators { AdmitsParts T.ordered (terms_of parts) }
     requires under_operators { AdmitsConstraint T.ordered under.now }
-    ensures kept { IfOk result (λ r. IsKept under.now size (tup (terms_of parts.now)) (tup (terms_of r))) }
+    ensures kept { IfOk result (λ r. IsKept under.now size (tup (terms_of parts)) (tup (terms_of r))) }
     ensures normal { IfOk result (λ r. PartsAreNormal (terms_of r) under.now size) }
     ensures guards { IfOk result (λ r. PartsHaveNormalGuards (terms_of r)) }
     ensures asked { D.reaches decider.old decider.new }
 {
     let mut simple = Terms::new(alloc);
-    for part in parts.as_slice() {
+    for part in parts.into_vec() {
         simple.push(simplified::<T, D>(alloc, part, under, size, decider)?)?;
     }
     Ok(simple)
@@ -134,49 +156,49 @@ fn simplified_parts<T: Structure, D: Answers>(
 #[cycle(simplifying)]
 fn lean_comps<T: Structure, D: Answers>(
     alloc: Global,
-    comps: &Comps,
+    comps: Comps,
     under: &Constraint,
     size: usize,
     decider: &mut D,
 ) -> Result<Comps, NoMemory>
     requires sound { D.sound }
-    requires levels { ItemsFit size (comps_of comps.now) }
+    requires levels { ItemsFit size (comps_of comps) }
     requires under_levels { ConstraintFits size under.now }
-    requires operators { AdmitsItems T.ordered (comps_of comps.now) }
+    requires operators { AdmitsItems T.ordered (comps_of comps) }
     requires under_operators { AdmitsConstraint T.ordered under.now }
-    ensures kept { IfOk result (λ r. IsKept under.now size (set_of comps.now) (set_of r)) }
+    ensures kept { IfOk result (λ r. IsKept under.now size (set_of comps) (set_of r)) }
     ensures lean { IfOk result (All (IsLeanComp under.now size)) }
     ensures asked { D.reaches decider.old decider.new }
 {
     let several = distinct(alloc, comps)?;
     let mut found = Comps::new(alloc);
-    for comp in several.as_slice() {
+    for comp in several.into_vec() {
         if let Some(simple) = lean_comp::<T, D>(alloc, comp, under, size, decider)? {
             found.push(simple)?;
         }
     }
-    distinct(alloc, &found)
+    distinct(alloc, found)
 }
 
 // The comprehension made lean by itself, or `None` where it has no members.
 #[cycle(simplifying)]
 fn lean_comp<T: Structure, D: Answers>(
     alloc: Global,
-    comp: &Comp,
+    comp: Comp,
     under: &Constraint,
     size: usize,
     decider: &mut D,
 ) -> Result<Option<Comp>, NoMemory>
     requires sound { D.sound }
-    requires levels { CompFits size (comp_of comp.now) }
+    requires levels { CompFits size (comp_of comp) }
     requires under_levels { ConstraintFits size under.now }
-    requires operators { AdmitsComp T.ordered (comp_of comp.now) }
+    requires operators { AdmitsComp T.ordered (comp_of comp) }
     requires under_operators { AdmitsConstraint T.ordered under.now }
-    ensures kept { IfOk result (λ o. IsKept under.now size (set_of (only (comp_of comp.now))) (set_of (listed o))) }
+    ensures kept { IfOk result (λ o. IsKept under.now size (set_of (only (comp_of comp))) (set_of (listed o))) }
     ensures lean { IfOk result (λ o. IfSome o (λ k. IsLeanComp under.now size (comp_of k))) }
     ensures asked { D.reaches decider.old decider.new }
 {
-    let mut current = comp.copy(alloc)?;
+    let mut current = comp;
     'rounds: loop {
         match one_round::<T, D>(alloc, current, under, size, decider)? {
             Round::Lean(simple) => return Ok(Some(simple)),
@@ -208,10 +230,16 @@ fn one_round<T: Structure, D: Answers>(
         Opening::Open(open) => open,
     };
     let inner = size + comp.binders;
+    let Comp {
+        binders,
+        guard,
+        item,
+    } = comp;
+    let item = simplified::<T, D>(alloc, item, &here, inner, decider)?;
     let comp = Comp {
-        binders: comp.binders,
-        guard: comp.guard,
-        item: simplified::<T, D>(alloc, &comp.item, &here, inner, decider)?,
+        binders,
+        guard,
+        item,
     };
     close_round::<T>(alloc, comp, size)
 }

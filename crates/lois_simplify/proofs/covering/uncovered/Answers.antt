@@ -1,4 +1,6 @@
-use Rattle.std.proofs.Common.{◌≡◌, ◌+◌, ◌++◌, [], ◌∷◌, List, drop, map, sym, ap, subst, ◌∙◌}
+use Rattle.std.proofs.Common.{◌+◌, ◌++◌, [], List, drop, map, sym, ap, subst, ◌∙◌, arith}
+use Rattle.std.specs.Bool.{IsTrue}
+use Rattle.std.proofs.lemmas.List.{length-set}
 use Rattle.lois_base.specs.Data.{CompD, comps_of}
 use Rattle.lois_base.specs.Fits.{ItemsFit}
 use Rattle.lois_base.specs.Tree.{comp_of}
@@ -6,15 +8,16 @@ use Rattle.lois_base.specs.Validity.{AdmitsItems}
 use Rattle.lois_simplify.specs.Covered.{IsCovered}
 use Rattle.lois_simplify.specs.Lean.{HasOwn}
 use Rattle.lois_simplify.proofs.Members.{items_fit_each, items_admit_each}
-use Rattle.lois_simplify.proofs.Pass.{UncoveredSoFar, uncovered_begin, next_of, next_is_there, kept_fit, coming_fit, kept_admit, coming_admit, next_dropped, next_kept, to_the_end}
+use Rattle.lois_simplify.proofs.Pass.{UncoveredSoFar, uncovered_begin, next_moved, next_is_there, kept_fit, coming_fit, kept_admit, coming_admit, next_dropped, next_kept, to_the_end}
 use Rattle.lois_simplify.proofs.covering.uncovered.Goals as goal
-use Rattle.lois_simplify.proofs.covering.uncovered.Goals.{then-not-branch+in_ok-copy+in_ok-push, else-not-branch}
+use Rattle.lois_simplify.proofs.covering.uncovered.Goals.{then-not-branch+in_ok-push, else-not-branch+in-Tag-1, else-not-branch+in-Tup-1, else-not-branch+in-Coll-1, else-not-branch+in-Var-1}
 
 pub loop-index-init : goal.loop-index-init
 loop-index-init g c =
     record {
-      so_far = subst (λ z. UncoveredSoFar c.args.under.now c.args.size c.args.comps.now z (map comp_of c.as_slice-items.result.now)) (sym c.new-kept.ensures)
-          (subst (UncoveredSoFar c.args.under.now c.args.size c.args.comps.now []) (sym c.as_slice-items.ensures) (uncovered_begin c.args.under.now c.args.size c.args.comps.now));
+      count = sym c.into_vec-items.result.ok.0 ∙ sym c.len-index-end.ensures;
+      so_far = subst (λ z. UncoveredSoFar c.args.under.now c.args.size c.args.comps z (map comp_of c.into_vec-items.result.items)) (sym c.new-kept.ensures)
+          (subst (UncoveredSoFar c.args.under.now c.args.size c.args.comps []) (sym c.into_vec-items.ensures) (uncovered_begin c.args.under.now c.args.size c.args.comps));
       asked = g.met.D.Answers.reaches_itself c.args.decider.now;
     }
 
@@ -22,83 +25,87 @@ pub is_covered-requires-clause-levels : goal.is_covered-requires-clause-levels
 is_covered-requires-clause-levels g c =
     let u = c.args.under.now in
     let n = c.args.size in
-    let items = c.as_slice-items.result.now in
+    let now = c.deref.result.now in
     let i = c.loop-index.index in
-    let k = c.index-items-index.result in
-    let so_far = next_of u n c.args.comps.now c.loop-index.kept items i k c.loop-index-test.true c.index-items-index.is c.loop-index.invariant.so_far in
-    items_fit_each n c.args.comps.now (comp_of k) c.requires.levels (next_is_there u n c.args.comps.now c.loop-index.kept (map comp_of (drop (i + 1) items)) (comp_of k) so_far)
+    let k = c.replace-comp.result in
+    let so_far = next_moved u n c.args.comps c.loop-index.kept c.loop-index.items.items now i k c.index_mut.result.now c.replace-comp.new.dest (omega (arith, c.loop-index-test.true, c.loop-index.invariant.count)) c.replace-comp.ensures.value c.index_mut.ensures.value c.deref.ensures.value c.loop-index.invariant.so_far in
+    items_fit_each n c.args.comps (comp_of k) c.requires.levels (next_is_there u n c.args.comps c.loop-index.kept (map comp_of (drop (i + 1) now)) (comp_of k) so_far)
 
 pub is_covered-requires-clause-kept_levels : goal.is_covered-requires-clause-kept_levels
 is_covered-requires-clause-kept_levels g c =
     let u = c.args.under.now in
     let n = c.args.size in
-    let items = c.as_slice-items.result.now in
+    let now = c.deref.result.now in
     let i = c.loop-index.index in
-    let k = c.index-items-index.result in
-    let so_far = next_of u n c.args.comps.now c.loop-index.kept items i k c.loop-index-test.true c.index-items-index.is c.loop-index.invariant.so_far in
-    kept_fit u n c.args.comps.now c.loop-index.kept (map comp_of (drop (i + 1) items)) (comp_of k) so_far c.requires.levels
+    let k = c.replace-comp.result in
+    let so_far = next_moved u n c.args.comps c.loop-index.kept c.loop-index.items.items now i k c.index_mut.result.now c.replace-comp.new.dest (omega (arith, c.loop-index-test.true, c.loop-index.invariant.count)) c.replace-comp.ensures.value c.index_mut.ensures.value c.deref.ensures.value c.loop-index.invariant.so_far in
+    kept_fit u n c.args.comps c.loop-index.kept (map comp_of (drop (i + 1) now)) (comp_of k) so_far c.requires.levels
 
 pub is_covered-requires-clause-coming_levels : goal.is_covered-requires-clause-coming_levels
 is_covered-requires-clause-coming_levels g c =
     let u = c.args.under.now in
     let n = c.args.size in
-    let items = c.as_slice-items.result.now in
+    let now = c.deref.result.now in
     let i = c.loop-index.index in
-    let k = c.index-items-index.result in
-    let so_far = next_of u n c.args.comps.now c.loop-index.kept items i k c.loop-index-test.true c.index-items-index.is c.loop-index.invariant.so_far in
-    subst (λ z. ItemsFit n (comps_of (map comp_of z))) (sym (to_the_end items (i + 1))) (coming_fit u n c.args.comps.now c.loop-index.kept (map comp_of (drop (i + 1) items)) (comp_of k) so_far c.requires.levels)
+    let k = c.replace-comp.result in
+    let so_far = next_moved u n c.args.comps c.loop-index.kept c.loop-index.items.items now i k c.index_mut.result.now c.replace-comp.new.dest (omega (arith, c.loop-index-test.true, c.loop-index.invariant.count)) c.replace-comp.ensures.value c.index_mut.ensures.value c.deref.ensures.value c.loop-index.invariant.so_far in
+    subst (λ z. ItemsFit n (comps_of (map comp_of z))) (sym (to_the_end now (i + 1))) (coming_fit u n c.args.comps c.loop-index.kept (map comp_of (drop (i + 1) now)) (comp_of k) so_far c.requires.levels)
 
 pub is_covered-requires-clause-operators : goal.is_covered-requires-clause-operators
 is_covered-requires-clause-operators g c =
     let u = c.args.under.now in
     let n = c.args.size in
-    let items = c.as_slice-items.result.now in
+    let now = c.deref.result.now in
     let i = c.loop-index.index in
-    let k = c.index-items-index.result in
-    let so_far = next_of u n c.args.comps.now c.loop-index.kept items i k c.loop-index-test.true c.index-items-index.is c.loop-index.invariant.so_far in
-    items_admit_each g.T.Structure.ordered c.args.comps.now (comp_of k) c.requires.operators (next_is_there u n c.args.comps.now c.loop-index.kept (map comp_of (drop (i + 1) items)) (comp_of k) so_far)
+    let k = c.replace-comp.result in
+    let so_far = next_moved u n c.args.comps c.loop-index.kept c.loop-index.items.items now i k c.index_mut.result.now c.replace-comp.new.dest (omega (arith, c.loop-index-test.true, c.loop-index.invariant.count)) c.replace-comp.ensures.value c.index_mut.ensures.value c.deref.ensures.value c.loop-index.invariant.so_far in
+    items_admit_each g.T.Structure.ordered c.args.comps (comp_of k) c.requires.operators (next_is_there u n c.args.comps c.loop-index.kept (map comp_of (drop (i + 1) now)) (comp_of k) so_far)
 
 pub is_covered-requires-clause-kept_operators : goal.is_covered-requires-clause-kept_operators
 is_covered-requires-clause-kept_operators g c =
     let u = c.args.under.now in
     let n = c.args.size in
-    let items = c.as_slice-items.result.now in
+    let now = c.deref.result.now in
     let i = c.loop-index.index in
-    let k = c.index-items-index.result in
-    let so_far = next_of u n c.args.comps.now c.loop-index.kept items i k c.loop-index-test.true c.index-items-index.is c.loop-index.invariant.so_far in
-    kept_admit u n c.args.comps.now c.loop-index.kept (map comp_of (drop (i + 1) items)) (comp_of k) so_far g.T.Structure.ordered c.requires.operators
+    let k = c.replace-comp.result in
+    let so_far = next_moved u n c.args.comps c.loop-index.kept c.loop-index.items.items now i k c.index_mut.result.now c.replace-comp.new.dest (omega (arith, c.loop-index-test.true, c.loop-index.invariant.count)) c.replace-comp.ensures.value c.index_mut.ensures.value c.deref.ensures.value c.loop-index.invariant.so_far in
+    kept_admit u n c.args.comps c.loop-index.kept (map comp_of (drop (i + 1) now)) (comp_of k) so_far g.T.Structure.ordered c.requires.operators
 
 pub is_covered-requires-clause-coming_operators : goal.is_covered-requires-clause-coming_operators
 is_covered-requires-clause-coming_operators g c =
     let u = c.args.under.now in
     let n = c.args.size in
-    let items = c.as_slice-items.result.now in
+    let now = c.deref.result.now in
     let i = c.loop-index.index in
-    let k = c.index-items-index.result in
-    let so_far = next_of u n c.args.comps.now c.loop-index.kept items i k c.loop-index-test.true c.index-items-index.is c.loop-index.invariant.so_far in
-    subst (λ z. AdmitsItems g.T.Structure.ordered (comps_of (map comp_of z))) (sym (to_the_end items (i + 1))) (coming_admit u n c.args.comps.now c.loop-index.kept (map comp_of (drop (i + 1) items)) (comp_of k) so_far g.T.Structure.ordered c.requires.operators)
+    let k = c.replace-comp.result in
+    let so_far = next_moved u n c.args.comps c.loop-index.kept c.loop-index.items.items now i k c.index_mut.result.now c.replace-comp.new.dest (omega (arith, c.loop-index-test.true, c.loop-index.invariant.count)) c.replace-comp.ensures.value c.index_mut.ensures.value c.deref.ensures.value c.loop-index.invariant.so_far in
+    subst (λ z. AdmitsItems g.T.Structure.ordered (comps_of (map comp_of z))) (sym (to_the_end now (i + 1))) (coming_admit u n c.args.comps c.loop-index.kept (map comp_of (drop (i + 1) now)) (comp_of k) so_far g.T.Structure.ordered c.requires.operators)
 
 pub loop-index-preserved : goal.loop-index-preserved
 loop-index-preserved g c =
     let u = c.args.under.now in
     let n = c.args.size in
-    let whole = c.args.comps.now in
-    let kept = c.loop-index.kept in
-    let items = c.as_slice-items.result.now in
+    let now = c.deref.result.now in
     let i = c.loop-index.index in
-    let k = c.index-items-index.result in
-    let coming : List CompD = map comp_of (drop (i + 1) items) in
-    let so_far = next_of u n whole kept items i k c.loop-index-test.true c.index-items-index.is c.loop-index.invariant.so_far in
+    let k = c.replace-comp.result in
+    let so_far = next_moved u n c.args.comps c.loop-index.kept c.loop-index.items.items now i k c.index_mut.result.now c.replace-comp.new.dest (omega (arith, c.loop-index-test.true, c.loop-index.invariant.count)) c.replace-comp.ensures.value c.index_mut.ensures.value c.deref.ensures.value c.loop-index.invariant.so_far in
+    let whole = c.args.comps in
+    let kept = c.loop-index.kept in
+    let coming : List CompD = map comp_of (drop (i + 1) now) in
+    let others = ap (λ z. kept ++ map comp_of z) (to_the_end now (i + 1)) in
+    let dropped : IsTrue c.in_ok-is_covered.field-0 → UncoveredSoFar u n whole kept coming = λ t. next_dropped u n whole kept coming (comp_of k) so_far (subst (λ z. IsCovered u n z (comp_of k)) others (c.in_ok-is_covered.ensures.covered t)) in
     record {
+      count = length-set c.loop-index.items.items i c.replace-comp.new.dest ∙ c.loop-index.invariant.count;
       so_far =
-          elim c.if-not-branch.branch [
-            | then-not-branch+in_ok-copy+in_ok-push w ↦
-                let pushed : c.if-not-branch.kept ≡ kept ++ comp_of k ∷ [] = w.kept-is ∙ (w.in_ok-push.ensures.ok ∙ ap (λ z. kept ++ comp_of z ∷ []) w.in_ok-copy.ensures) in
-                let own = subst (λ z. HasOwn u n z (comp_of k)) (ap (λ z. c.loop-index.kept ++ map comp_of z) (to_the_end items (i + 1))) (c.in_ok-is_covered.ensures.own w.if-not-branch.true) in
-                subst (λ z. UncoveredSoFar u n whole z coming) (sym pushed) (next_kept u n whole kept coming (comp_of k) so_far own)
-            | else-not-branch w ↦
-                let covered = subst (λ z. IsCovered u n z (comp_of k)) (ap (λ z. c.loop-index.kept ++ map comp_of z) (to_the_end items (i + 1))) (c.in_ok-is_covered.ensures.covered w.if-not-branch.false) in
-                subst (λ z. UncoveredSoFar u n whole z coming) (sym w.kept-is) (next_dropped u n whole kept coming (comp_of k) so_far covered)
-          ];
+          subst (λ z. UncoveredSoFar u n whole c.if-not-branch.kept (map comp_of (drop (i + 1) z))) c.deref.ensures.value
+          (elim c.if-not-branch.branch [
+            | then-not-branch+in_ok-push w ↦
+                let own = subst (λ z. HasOwn u n z (comp_of k)) others (c.in_ok-is_covered.ensures.own w.if-not-branch.true) in
+                subst (λ z. UncoveredSoFar u n whole z coming) (sym (w.kept-is ∙ w.in_ok-push.ensures.ok)) (next_kept u n whole kept coming (comp_of k) so_far own)
+            | else-not-branch+in-Tag-1 w ↦ subst (λ z. UncoveredSoFar u n whole z coming) (sym w.kept-is) (dropped w.if-not-branch.false)
+            | else-not-branch+in-Tup-1 w ↦ subst (λ z. UncoveredSoFar u n whole z coming) (sym w.kept-is) (dropped w.if-not-branch.false)
+            | else-not-branch+in-Coll-1 w ↦ subst (λ z. UncoveredSoFar u n whole z coming) (sym w.kept-is) (dropped w.if-not-branch.false)
+            | else-not-branch+in-Var-1 w ↦ subst (λ z. UncoveredSoFar u n whole z coming) (sym w.kept-is) (dropped w.if-not-branch.false)
+          ]);
       asked = g.met.D.Answers.reaches_then c.args.decider.now c.loop-index.decider c.is_covered.new.decider c.loop-index.invariant.asked c.is_covered.ensures.asked;
     }

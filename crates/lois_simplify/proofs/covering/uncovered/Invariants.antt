@@ -1,10 +1,11 @@
-use Rattle.std.proofs.Common.{drop, map}
+use Rattle.std.proofs.Common.{◌≡◌, length, drop, map}
 use Rattle.lois_base.specs.Tree.{comp_of}
 use Rattle.lois_simplify.proofs.Pass.{UncoveredSoFar}
 use Rattle.lois_simplify.proofs.covering.uncovered.Given as goal
 
 abbrev pub invariant-loop-index : goal.invariant-loop-index
 invariant-loop-index g l = record {
-  so_far : UncoveredSoFar l.under l.size l.comps l.kept (map comp_of (drop l.index l.items));
+  count : length l.items.items ≡ l.index-end;
+  so_far : UncoveredSoFar l.under l.size l.fn.comps l.kept (map comp_of (drop l.index l.items.items));
   asked : g.D.Answers.reaches l.fn.decider l.decider;
 }

@@ -1,24 +1,27 @@
-use Rattle.std.proofs.Common.{◌≡◌, [], ◌∷◌, ◌++◌, ◌+◌, take, map, sym, subst, ap, ◌∙◌}
+use Rattle.std.proofs.Common.{[], ◌∷◌, ◌++◌, length, map, sym, subst}
+use Rattle.std.proofs.lemmas.Iterator.Adapters.{YieldsList-from_vec}
+use Rattle.std.proofs.lemmas.Iterator.Consumers.{YieldsList-turn}
+use Rattle.std.proofs.lemmas.List.{map-append}
 use Rattle.std.specs.List.{Contains}
 use Rattle.lois_base.specs.Data.{CompD}
 use Rattle.lois_base.specs.Tree.{comp_of}
-use Rattle.lois_base.proofs.Viewed.{one_more, contains_item}
+use Rattle.lois_base.proofs.Viewed.{contains_item}
 use Rattle.lois_simplify.proofs.Seen.{HasSeen, seen_again, seen_new}
 use Rattle.lois_simplify.proofs.distinct.distinct.Goals as goal
-use Rattle.lois_simplify.proofs.distinct.distinct.Goals.{then-not-is_written_in+in_ok-copy+in_ok-push, else-not-is_written_in}
 
-pub loop-comp-preserved : goal.loop-comp-preserved
-loop-comp-preserved c =
-    let items = c.as_slice-comp-items.result.now in
-    let i = c.loop-comp.comp-index in
-    let k : CompD = comp_of c.comp-item.result in
-    let seen : map comp_of (take (i + 1) items) ≡ map comp_of (take i items) ++ k ∷ [] = one_more comp_of items i c.comp-item.result c.loop-comp-test.true c.comp-item.is in
-    let there : Contains c.args.comps.now k = contains_item comp_of items c.args.comps.now i c.comp-item.result c.as_slice-comp-items.ensures c.loop-comp-test.true c.comp-item.is in
-    subst (λ s. HasSeen s c.args.comps.now c.if-not-is_written_in.kept) (sym seen)
-    (elim c.if-not-is_written_in.branch [
-      | then-not-is_written_in+in_ok-copy+in_ok-push w ↦
-          let pushed : c.if-not-is_written_in.kept ≡ c.loop-comp.kept ++ k ∷ [] = w.kept-is ∙ (w.in_ok-push.ensures.ok ∙ ap (λ z. c.loop-comp.kept ++ comp_of z ∷ []) w.in_ok-copy.ensures) in
-          subst (HasSeen (map comp_of (take i items) ++ k ∷ []) c.args.comps.now) (sym pushed) (seen_new (map comp_of (take i items)) c.args.comps.now c.loop-comp.kept k c.loop-comp.invariant there)
-      | else-not-is_written_in w ↦
-          subst (HasSeen (map comp_of (take i items) ++ k ∷ []) c.args.comps.now) (sym w.kept-is) (seen_again (map comp_of (take i items)) c.args.comps.now c.loop-comp.kept k c.loop-comp.invariant (c.is_written_in.ensures w.if-not-is_written_in.false))
-    ])
+pub loop-comp-preserved-in-Continue-1 : goal.loop-comp-preserved-in-Continue-1
+loop-comp-preserved-in-Continue-1 c =
+    let items = c.into_vec-comp-items.result.items in
+    let seen = c.loop-comp.yielded in
+    let k : CompD = comp_of c.in-Some.comp in
+    let turn = YieldsList-turn (YieldsList-from_vec items (cc) (cc)) seen c.loop-comp.comp-iterator c.loop-comp.yielded_by c.next.result c.next.new.self c.in-Some.comp c.in-Some.is c.next.ensures.steps in
+    let there : Contains c.args.comps k = contains_item comp_of items c.args.comps (length seen) c.in-Some.comp c.into_vec-comp-items.ensures turn.0 turn.1 in
+    subst (λ s. HasSeen s c.args.comps c.push.new.self) (sym (map-append comp_of seen (c.in-Some.comp ∷ [])))
+    (subst (HasSeen (map comp_of seen ++ k ∷ []) c.args.comps) (sym c.in_ok-push.ensures.ok) (seen_new (map comp_of seen) c.args.comps c.loop-comp.kept k c.loop-comp.invariant there))
+
+pub loop-comp-preserved-else-not-is_written_in : goal.loop-comp-preserved-else-not-is_written_in
+loop-comp-preserved-else-not-is_written_in c =
+    let seen = c.loop-comp.yielded in
+    let k : CompD = comp_of c.in-Some.comp in
+    subst (λ s. HasSeen s c.args.comps c.loop-comp.kept) (sym (map-append comp_of seen (c.in-Some.comp ∷ [])))
+    (seen_again (map comp_of seen) c.args.comps c.loop-comp.kept k c.loop-comp.invariant (c.is_written_in.ensures c.if-not-is_written_in.false))

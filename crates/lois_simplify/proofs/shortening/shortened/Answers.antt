@@ -1,4 +1,4 @@
-use Rattle.std.proofs.Common.{◌≡◌, ◌+◌, [], ◌∷◌, ◌++◌, drop, sym, ap, ◌∙◌, subst}
+use Rattle.std.proofs.Common.{◌+◌, ◌∷◌, ◌++◌, drop, sym, subst}
 use Rattle.lois_base.proofs.Viewed.{rest_is}
 use Rattle.lois_simplify.specs.Shortened.{IsShortened}
 use Rattle.lois_simplify.proofs.Pass.{to_the_end}

@@ -1,5 +1,8 @@
-use Rattle.std.proofs.Common.{◌≡◌, ◌++◌, [], ◌∷◌, List, take, map, sym, ap, subst, arith}
+use Rattle.std.proofs.Common.{◌≡◌, ◌++◌, [], ◌∷◌, List, length, refl, map, sym, ap, ◌∙◌, subst, arith}
 use Rattle.std.specs.List.{All, Contains}
+use Rattle.std.proofs.lemmas.Iterator.Adapters.{YieldsList-from_vec}
+use Rattle.std.proofs.lemmas.Iterator.Consumers.{YieldsList-turn, YieldsList-end}
+use Rattle.std.proofs.lemmas.List.{map-id, map-append}
 use Rattle.std.proofs.lemmas.List.Elements.{All-contains}
 use Rattle.std.proofs.lemmas.Result.{IfOk-weaker}
 use Rattle.lois_base.specs.Data.{TermD, CompD}
@@ -15,17 +18,16 @@ use Rattle.lois_simplify.proofs.Kept.{kept_refl, kept_trans}
 use Rattle.lois_simplify.proofs.Members.{items_fit_each, items_admit_each, comp_depth_le}
 use Rattle.lois_simplify.proofs.OneRound.{item_kept, round_closed}
 use Rattle.lois_simplify.proofs.Tuples.{IsSimplified, PartsSimplified, part_behind, tuple_kept, parts_normal, parts_guards}
-use Rattle.lois_simplify.proofs.LeanComps.{LeanSoFar, lean_found, lean_none, lean_kept, fewer_lean}
+use Rattle.lois_simplify.proofs.LeanComps.{LeanSoFar, lean_begin, lean_found, lean_none, lean_kept, fewer_lean}
 use Rattle.lois_simplify.proofs.Under.{set_is_normal, set_has_normal_guards}
-use Rattle.lois_base.proofs.Viewed.{one_more, contains_item, all_taken}
+use Rattle.lois_base.proofs.Viewed.{contains_item}
 use Rattle.lois_simplify.proofs.simplifying.+simplifying.Goals as goal
-use Rattle.lois_simplify.proofs.simplifying.+simplifying.Goals.{lean_comps-in-Some+in_ok-push, lean_comps-in_default}
 
 pub lean_comp-rounds-init : goal.lean_comp-rounds-init
 lean_comp-rounds-init g t c =
-    let whole : TermD = set_of (only (comp_of c.args.comp.now)) in
+    let whole : TermD = set_of (only (comp_of c.args.comp)) in
     record {
-      kept = subst (λ z. IsKept c.args.under.now c.args.size whole (set_of (only (comp_of z)))) (sym c.in_ok-current.ensures) (kept_refl c.args.under.now c.args.size whole);
+      kept = kept_refl c.args.under.now c.args.size whole;
       asked = g.met.D.Answers.reaches_itself c.args.decider.now;
     }
 
@@ -34,7 +36,7 @@ lean_comp-returns-in-Lean-clause-kept g t c =
     let u = c.args.under.now in
     let n = c.args.size in
     let round = subst (IsRoundOf u n c.rounds.current) c.in-Lean.is c.in_ok-simple.ensures.round in
-    kept_trans u n (set_of (only (comp_of c.args.comp.now))) (set_of (only (comp_of c.rounds.current))) (set_of (only (comp_of c.in-Lean.simple))) c.rounds.invariant.kept round.0
+    kept_trans u n (set_of (only (comp_of c.args.comp))) (set_of (only (comp_of c.rounds.current))) (set_of (only (comp_of c.in-Lean.simple))) c.rounds.invariant.kept round.0
 
 pub lean_comp-rounds-preserved : goal.lean_comp-rounds-preserved
 lean_comp-rounds-preserved g t c =
@@ -42,37 +44,60 @@ lean_comp-rounds-preserved g t c =
     let n = c.args.size in
     let round = subst (IsRoundOf u n c.rounds.current) c.in-Shorter.is c.in_ok-simple.ensures.round in
     record {
-      kept = kept_trans u n (set_of (only (comp_of c.args.comp.now))) (set_of (only (comp_of c.rounds.current))) (set_of (only (comp_of c.in-Shorter.shorter))) c.rounds.invariant.kept round.0;
+      kept = kept_trans u n (set_of (only (comp_of c.args.comp))) (set_of (only (comp_of c.rounds.current))) (set_of (only (comp_of c.in-Shorter.shorter))) c.rounds.invariant.kept round.0;
       asked = g.met.D.Answers.reaches_then c.args.decider.now c.rounds.decider c.one_round.new.decider c.rounds.invariant.asked c.one_round.ensures.asked;
+    }
+
+pub lean_comps-loop-comp-init : goal.lean_comps-loop-comp-init
+lean_comps-loop-comp-init g t c =
+    record {
+      can_next = tt;
+      is_finite = tt;
+      lean = subst (LeanSoFar c.args.under.now c.args.size []) (sym c.new-found.ensures) (lean_begin c.args.under.now c.args.size);
+      asked = g.met.D.Answers.reaches_itself c.args.decider.now;
     }
 
 pub lean_comps-lean_comp-requires : goal.lean_comps-lean_comp-requires
 lean_comps-lean_comp-requires g t c κs within =
-    let comps = c.args.comps.now in
-    let k : CompD = comp_of c.comp-item.result in
-    let there : Contains comps k = c.in_ok-several.ensures.only k (contains_item comp_of c.as_slice-comp-items.result.now c.in_ok-several.several c.loop-comp.comp-index c.comp-item.result c.as_slice-comp-items.ensures c.loop-comp-test.true c.comp-item.is) in
+    let comps = c.args.comps in
+    let items = c.into_vec-comp-items.result.items in
+    let seen = c.loop-comp.yielded in
+    let k : CompD = comp_of c.in-Some.comp in
+    let turn = YieldsList-turn (YieldsList-from_vec items (cc) (cc)) seen c.loop-comp.comp-iterator c.loop-comp.yielded_by c.next.result c.next.new.self c.in-Some.comp c.in-Some.is c.next.ensures.steps in
+    let there : Contains comps k = c.in_ok-several.ensures.only k (contains_item comp_of items c.in_ok-several.several (length seen) c.in-Some.comp c.into_vec-comp-items.ensures turn.0 turn.1) in
     (omega (arith, comp_depth_le comps k there), (within.0, (within.1, (c.requires.sound, (items_fit_each c.args.size comps k c.requires.levels there, (c.requires.under_levels, (items_admit_each g.T.Structure.ordered comps k c.requires.operators there, c.requires.under_operators)))))))
+
+pub lean_comps-loop-comp-preserved-in-Continue-branch-4 : goal.lean_comps-loop-comp-preserved-in-Continue-branch-4
+lean_comps-loop-comp-preserved-in-Continue-branch-4 g t c =
+    let u = c.args.under.now in
+    let n = c.args.size in
+    let seen = c.loop-comp.yielded in
+    let k : CompD = comp_of c.in-Some.comp in
+    let done : List CompD = map comp_of seen in
+    let kept = subst (λ o. IsKept u n (set_of (only k)) (set_of (listed o))) c.in-Some-2.is c.in_ok-simple.ensures.kept in
+    let lean = some_is (λ j. IsLeanComp u n (comp_of j)) c.in_ok-simple.field-0 c.in-Some-2.simple c.in-Some-2.is c.in_ok-simple.ensures.lean in
+    record {
+      can_next = tt;
+      is_finite = tt;
+      lean =
+          subst (λ z. LeanSoFar u n z c.push.new.self) (sym (map-append comp_of seen (c.in-Some.comp ∷ [])))
+          (lean_found u n done c.loop-comp.found c.push.new.self c.push.new.self k (comp_of c.in-Some-2.simple) c.in_ok-push.ensures.ok refl c.loop-comp.invariant.lean kept lean);
+      asked = g.met.D.Answers.reaches_then c.args.decider.now c.loop-comp.decider c.lean_comp.new.decider c.loop-comp.invariant.asked c.lean_comp.ensures.asked;
+    }
 
 pub lean_comps-loop-comp-preserved : goal.lean_comps-loop-comp-preserved
 lean_comps-loop-comp-preserved g t c =
     let u = c.args.under.now in
     let n = c.args.size in
-    let items = c.as_slice-comp-items.result.now in
-    let i = c.loop-comp.comp-index in
-    let k : CompD = comp_of c.comp-item.result in
-    let done : List CompD = map comp_of (take i items) in
+    let seen = c.loop-comp.yielded in
+    let k : CompD = comp_of c.in-Some.comp in
+    let kept = subst (λ o. IsKept u n (set_of (only k)) (set_of (listed o))) c.in_default.is c.in_ok-simple.ensures.kept in
     record {
+      can_next = tt;
+      is_finite = tt;
       lean =
-          subst (λ z. LeanSoFar u n z c.match-branch-3.found) (sym (one_more comp_of items i c.comp-item.result c.loop-comp-test.true c.comp-item.is))
-          (elim c.match-branch-3.branch [
-            | lean_comps-in-Some+in_ok-push w ↦
-                let kept = subst (λ o. IsKept u n (set_of (only k)) (set_of (listed o))) w.in-Some.is c.in_ok-simple.ensures.kept in
-                let lean = some_is (λ j. IsLeanComp u n (comp_of j)) c.in_ok-simple.field-0 w.in-Some.simple w.in-Some.is c.in_ok-simple.ensures.lean in
-                lean_found u n done c.loop-comp.found w.push.new.self c.match-branch-3.found k (comp_of w.in-Some.simple) w.in_ok-push.ensures.ok w.found-is c.loop-comp.invariant.lean kept lean
-            | lean_comps-in_default w ↦
-                let kept = subst (λ o. IsKept u n (set_of (only k)) (set_of (listed o))) w.in_default.is c.in_ok-simple.ensures.kept in
-                subst (LeanSoFar u n (done ++ k ∷ [])) (sym w.found-is) (lean_none u n done c.loop-comp.found k c.loop-comp.invariant.lean kept)
-          ]);
+          subst (λ z. LeanSoFar u n z c.loop-comp.found) (sym (map-append comp_of seen (c.in-Some.comp ∷ [])))
+          (lean_none u n (map comp_of seen) c.loop-comp.found k c.loop-comp.invariant.lean kept);
       asked = g.met.D.Answers.reaches_then c.args.decider.now c.loop-comp.decider c.lean_comp.new.decider c.loop-comp.invariant.asked c.lean_comp.ensures.asked;
     }
 
@@ -82,9 +107,12 @@ lean_comps-returns-clause-kept g t c =
     let n = c.args.size in
     let several = c.in_ok-several.several in
     let found = c.loop-comp.found in
-    let so_far = subst (λ z. LeanSoFar u n z found) (all_taken comp_of c.as_slice-comp-items.result.now several c.loop-comp.comp-index c.as_slice-comp-items.ensures c.loop-comp-test.false) c.loop-comp.invariant.lean in
-    ok_both (λ r. (k : CompD) → Contains found k → Contains r k) (λ r. (k : CompD) → Contains r k → Contains found k) (λ r. IsKept u n (set_of c.args.comps.now) (set_of r)) c.distinct-2.result
-    (λ r all only. lean_kept u n c.args.comps.now several found r c.in_ok-several.ensures.all c.in_ok-several.ensures.only so_far all only) c.distinct-2.ensures.all c.distinct-2.ensures.only
+    let items = c.into_vec-comp-items.result.items in
+    let end = YieldsList-end (YieldsList-from_vec items (cc) (cc)) c.loop-comp.yielded c.loop-comp.comp-iterator c.loop-comp.yielded_by c.next.result c.next.new.self c.in-None.is c.next.ensures.steps in
+    let all : c.loop-comp.yielded ≡ items = sym (map-id c.loop-comp.yielded) ∙ end.0 in
+    let so_far = subst (λ z. LeanSoFar u n z found) (ap (map comp_of) all ∙ c.into_vec-comp-items.ensures) c.loop-comp.invariant.lean in
+    ok_both (λ r. (k : CompD) → Contains found k → Contains r k) (λ r. (k : CompD) → Contains r k → Contains found k) (λ r. IsKept u n (set_of c.args.comps) (set_of r)) c.distinct-2.result
+    (λ r all only. lean_kept u n c.args.comps several found r c.in_ok-several.ensures.all c.in_ok-several.ensures.only so_far all only) c.distinct-2.ensures.all c.distinct-2.ensures.only
 
 pub lean_comps-returns-clause-lean : goal.lean_comps-returns-clause-lean
 lean_comps-returns-clause-lean g t c =
@@ -96,13 +124,13 @@ one_round-returns-clause-round g t c =
     let n = c.args.size in
     let k = c.args.comp in
     let r = c.in-Open.open in
-    let item = c.in_ok-simplified.field-0 in
+    let item = c.in_ok-item.item in
     let now : Comp = record { binders = r.comp.binders; guard = r.comp.guard; item = item } in
     let opened = subst (IsOpeningOf u n k) c.in-Open.is c.in_ok-round.ensures.opening in
     let kept = kept_trans u n (set_of (only (comp_of k))) (set_of (only (comp_of r.comp))) (set_of (only (comp_of now))) opened.0
-    (item_kept u n r.comp.binders r.comp.guard r.here (tree r.comp.item) (tree item) c.requires.under_levels (opened.2).here c.in_ok-simplified.ensures.kept) in
+    (item_kept u n r.comp.binders r.comp.guard r.here (tree r.comp.item) (tree item) c.requires.under_levels (opened.2).here c.in_ok-item.ensures.kept) in
     IfOk-weaker c.close_round.result (IsClosingOf n now) (IsRoundOf u n k)
-    (λ x closing. round_closed u n k now r.here x c.requires.under_levels kept opened.1 opened.2 c.in_ok-simplified.ensures.normal c.in_ok-simplified.ensures.guards closing)
+    (λ x closing. round_closed u n k now r.here x c.requires.under_levels kept opened.1 opened.2 c.in_ok-item.ensures.normal c.in_ok-item.ensures.guards closing)
     c.close_round.ensures
 
 pub simplified-returns-in_ok-uncovered-in-Coll-clause-kept : goal.simplified-returns-in_ok-uncovered-in-Coll-clause-kept
@@ -111,7 +139,7 @@ simplified-returns-in_ok-uncovered-in-Coll-clause-kept g t c =
     let n = c.args.size in
     let lean = c.in_ok-lean-in-Coll.lean in
     let r = c.in_ok-uncovered-in-Coll.field-0 in
-    let is : tree c.args.term.now ≡ set_of c.in-Coll.comps = ap tree c.in-Coll.is in
+    let is : tree c.args.term ≡ set_of c.in-Coll.comps = ap tree c.in-Coll.is in
     subst (λ z. IsKept u n z (set_of r)) (sym is) (kept_trans u n (set_of c.in-Coll.comps) (set_of lean) (set_of r) c.in_ok-lean-in-Coll.ensures.kept c.in_ok-uncovered-in-Coll.ensures.kept)
 
 pub simplified-returns-in_ok-uncovered-in-Coll-clause-normal : goal.simplified-returns-in_ok-uncovered-in-Coll-clause-normal
@@ -128,26 +156,38 @@ simplified-returns-in_ok-uncovered-in-Coll-clause-guards g t c =
     let r = c.in_ok-uncovered-in-Coll.field-0 in
     set_has_normal_guards u n r (λ k h. All-contains (IsLeanComp u n) c.in_ok-lean-in-Coll.lean k c.in_ok-lean-in-Coll.ensures.lean (c.in_ok-uncovered-in-Coll.ensures.only k h))
 
+pub simplified_parts-loop-part-init : goal.simplified_parts-loop-part-init
+simplified_parts-loop-part-init g t c =
+    record {
+      can_next = tt;
+      is_finite = tt;
+      simplified = subst (PartsSimplified c.args.under.now c.args.size []) (sym c.new-simple.ensures) tt;
+      asked = g.met.D.Answers.reaches_itself c.args.decider.now;
+    }
+
 pub simplified_parts-simplified-requires : goal.simplified_parts-simplified-requires
 simplified_parts-simplified-requires g t c κs within =
-    let p = is_part_of c.as_slice-part-items.result.now c.args.parts.now c.loop-part.part-index c.part-item.result c.as_slice-part-items.ensures c.loop-part-test.true c.part-item.is in
+    let items = c.into_vec-part-items.result.items in
+    let seen = c.loop-part.yielded in
+    let turn = YieldsList-turn (YieldsList-from_vec items (cc) (cc)) seen c.loop-part.part-iterator c.loop-part.yielded_by c.next.result c.next.new.self c.in-Some.part c.in-Some.is c.next.ensures.steps in
+    let p = is_part_of items c.args.parts (length seen) c.in-Some.part c.into_vec-part-items.ensures turn.0 turn.1 in
     (omega (arith, p.depth), (within.0, (within.1, (c.requires.sound, (p.fits c.args.size c.requires.levels, (c.requires.under_levels, (p.admits g.T.Structure.ordered c.requires.operators, c.requires.under_operators)))))))
 
 pub simplified_parts-loop-part-preserved : goal.simplified_parts-loop-part-preserved
 simplified_parts-loop-part-preserved g t c =
     let u = c.args.under.now in
     let n = c.args.size in
-    let items = c.as_slice-part-items.result.now in
-    let i = c.loop-part.part-index in
-    let p = c.part-item.result in
+    let seen = c.loop-part.yielded in
+    let p = c.in-Some.part in
     let s = c.in_ok-simplified.field-0 in
-    let done : List TermD = map tree (take i items) in
-    let pushed : c.push.new.self ≡ c.loop-part.simple ++ tree s ∷ [] = c.in_ok-push.ensures.ok in
+    let done : List TermD = map tree seen in
     let one : IsSimplified u n (tree p) (tree s) = record { kept = c.in_ok-simplified.ensures.kept; normal = c.in_ok-simplified.ensures.normal; guards = c.in_ok-simplified.ensures.guards } in
     record {
+      can_next = tt;
+      is_finite = tt;
       simplified =
-          subst (λ z. PartsSimplified u n z c.push.new.self) (sym (one_more tree items i p c.loop-part-test.true c.part-item.is))
-          (subst (PartsSimplified u n (done ++ tree p ∷ [])) (sym pushed) (part_behind u n done c.loop-part.simple (tree p) (tree s) c.loop-part.invariant.simplified one));
+          subst (λ z. PartsSimplified u n z c.push.new.self) (sym (map-append tree seen (p ∷ [])))
+          (subst (PartsSimplified u n (done ++ tree p ∷ [])) (sym c.in_ok-push.ensures.ok) (part_behind u n done c.loop-part.simple (tree p) (tree s) c.loop-part.invariant.simplified one));
       asked = g.met.D.Answers.reaches_then c.args.decider.now c.loop-part.decider c.simplified.new.decider c.loop-part.invariant.asked c.simplified.ensures.asked;
     }
 
@@ -155,22 +195,28 @@ pub simplified_parts-returns-clause-kept : goal.simplified_parts-returns-clause-
 simplified_parts-returns-clause-kept g t c =
     let u = c.args.under.now in
     let n = c.args.size in
-    let parts = c.args.parts.now in
-    let all = subst (λ z. PartsSimplified u n z c.loop-part.simple) (all_taken tree c.as_slice-part-items.result.now parts c.loop-part.part-index c.as_slice-part-items.ensures c.loop-part-test.false) c.loop-part.invariant.simplified in
-    tuple_kept u n parts c.loop-part.simple all
+    let items = c.into_vec-part-items.result.items in
+    let end = YieldsList-end (YieldsList-from_vec items (cc) (cc)) c.loop-part.yielded c.loop-part.part-iterator c.loop-part.yielded_by c.next.result c.next.new.self c.in-None.is c.next.ensures.steps in
+    let seen : c.loop-part.yielded ≡ items = sym (map-id c.loop-part.yielded) ∙ end.0 in
+    let all = subst (λ z. PartsSimplified u n z c.loop-part.simple) (ap (map tree) seen ∙ c.into_vec-part-items.ensures) c.loop-part.invariant.simplified in
+    tuple_kept u n c.args.parts c.loop-part.simple all
 
 pub simplified_parts-returns-clause-normal : goal.simplified_parts-returns-clause-normal
 simplified_parts-returns-clause-normal g t c =
     let u = c.args.under.now in
     let n = c.args.size in
-    let parts = c.args.parts.now in
-    let all = subst (λ z. PartsSimplified u n z c.loop-part.simple) (all_taken tree c.as_slice-part-items.result.now parts c.loop-part.part-index c.as_slice-part-items.ensures c.loop-part-test.false) c.loop-part.invariant.simplified in
-    parts_normal u n parts c.loop-part.simple all
+    let items = c.into_vec-part-items.result.items in
+    let end = YieldsList-end (YieldsList-from_vec items (cc) (cc)) c.loop-part.yielded c.loop-part.part-iterator c.loop-part.yielded_by c.next.result c.next.new.self c.in-None.is c.next.ensures.steps in
+    let seen : c.loop-part.yielded ≡ items = sym (map-id c.loop-part.yielded) ∙ end.0 in
+    let all = subst (λ z. PartsSimplified u n z c.loop-part.simple) (ap (map tree) seen ∙ c.into_vec-part-items.ensures) c.loop-part.invariant.simplified in
+    parts_normal u n c.args.parts c.loop-part.simple all
 
 pub simplified_parts-returns-clause-guards : goal.simplified_parts-returns-clause-guards
 simplified_parts-returns-clause-guards g t c =
     let u = c.args.under.now in
     let n = c.args.size in
-    let parts = c.args.parts.now in
-    let all = subst (λ z. PartsSimplified u n z c.loop-part.simple) (all_taken tree c.as_slice-part-items.result.now parts c.loop-part.part-index c.as_slice-part-items.ensures c.loop-part-test.false) c.loop-part.invariant.simplified in
-    parts_guards u n parts c.loop-part.simple all
+    let items = c.into_vec-part-items.result.items in
+    let end = YieldsList-end (YieldsList-from_vec items (cc) (cc)) c.loop-part.yielded c.loop-part.part-iterator c.loop-part.yielded_by c.next.result c.next.new.self c.in-None.is c.next.ensures.steps in
+    let seen : c.loop-part.yielded ≡ items = sym (map-id c.loop-part.yielded) ∙ end.0 in
+    let all = subst (λ z. PartsSimplified u n z c.loop-part.simple) (ap (map tree) seen ∙ c.into_vec-part-items.ensures) c.loop-part.invariant.simplified in
+    parts_guards u n c.args.parts c.loop-part.simple all

@@ -1,4 +1,4 @@
-use Rattle.std.proofs.Common.{◌+◌, ◌*◌, take, map}
+use Rattle.std.proofs.Common.{◌+◌, ◌*◌, map}
 use Rattle.lois_base.specs.Data.{depth, depth_of_terms, depth_of_comps}
 use Rattle.lois_base.specs.Tree.{tree, comp_of}
 use Rattle.lois_simplify.specs.Kept.{IsKept, set_of}
@@ -9,16 +9,16 @@ use Rattle.lois_simplify.proofs.simplifying.+simplifying.Given as goal
 
 -- each call goes into a part of the term, or on to a function of a lower rank
 abbrev pub decreases-simplified : goal.decreases-simplified
-decreases-simplified g l = 6 * depth (tree l.term.now)
+decreases-simplified g l = 6 * depth (tree l.term)
 
 abbrev pub decreases-simplified_parts : goal.decreases-simplified_parts
-decreases-simplified_parts g l = 6 * depth_of_terms l.parts.now + 1
+decreases-simplified_parts g l = 6 * depth_of_terms l.parts + 1
 
 abbrev pub decreases-lean_comps : goal.decreases-lean_comps
-decreases-lean_comps g l = 6 * depth_of_comps l.comps.now + 3
+decreases-lean_comps g l = 6 * depth_of_comps l.comps + 3
 
 abbrev pub decreases-lean_comp : goal.decreases-lean_comp
-decreases-lean_comp g l = 6 * depth (tree l.comp.now.item) + 2
+decreases-lean_comp g l = 6 * depth (tree l.comp.item) + 2
 
 abbrev pub decreases-one_round : goal.decreases-one_round
 decreases-one_round g l = 6 * depth (tree l.comp.item) + 1
@@ -26,21 +26,25 @@ decreases-one_round g l = 6 * depth (tree l.comp.item) + 1
 abbrev pub invariant-simplified_parts-loop-part : goal.invariant-simplified_parts-loop-part
 invariant-simplified_parts-loop-part g l =
     record {
-      simplified : PartsSimplified l.under l.size (map tree (take l.part-index l.part-items)) l.simple;
+      can_next : (goal.iterator-simplified_parts-loop-part g).can_next l.part-iterator;
+      is_finite : (goal.iterator-simplified_parts-loop-part g).is_finite l.part-iterator;
+      simplified : PartsSimplified l.under l.size (map tree l.yielded) l.simple;
       asked : g.D.Answers.reaches l.fn.decider l.decider;
     }
 
 abbrev pub invariant-lean_comps-loop-comp : goal.invariant-lean_comps-loop-comp
 invariant-lean_comps-loop-comp g l =
     record {
-      lean : LeanSoFar l.under l.size (map comp_of (take l.comp-index l.comp-items)) l.found;
+      can_next : (goal.iterator-lean_comps-loop-comp g).can_next l.comp-iterator;
+      is_finite : (goal.iterator-lean_comps-loop-comp g).is_finite l.comp-iterator;
+      lean : LeanSoFar l.under l.size (map comp_of l.yielded) l.found;
       asked : g.D.Answers.reaches l.fn.decider l.decider;
     }
 
 abbrev pub invariant-lean_comp-rounds : goal.invariant-lean_comp-rounds
 invariant-lean_comp-rounds g l =
     record {
-      kept : IsKept l.under l.size (set_of (only (comp_of l.comp))) (set_of (only (comp_of l.current)));
+      kept : IsKept l.under l.size (set_of (only (comp_of l.fn.comp))) (set_of (only (comp_of l.current)));
       asked : g.D.Answers.reaches l.fn.decider l.decider;
     }
 

@@ -14,6 +14,6 @@ returns-clause-only_asked g c =
         | inl x ↦ kept_between Keeps a b x.before.now x.after.now x.from x.to x.call.1.1.1
         | inr x ↦ kept_between Keeps a b x.before.now x.after.now x.from x.to x.call.1.1.1
       ]
-    ]) _ _ c.simplified.ensures.asked.0 in
-    let same = c.simplified.ensures.asked.1 in
+    ]) _ _ c.simplified_copy.ensures.asked.0 in
+    let same = c.simplified_copy.ensures.asked.1 in
     search rules
