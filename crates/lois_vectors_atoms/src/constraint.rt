@@ -6,8 +6,8 @@ use crate::making::{Comparison, Dice, constraint_of, cube_of, lit};
 use lois_base::Op::{Eq, Lt, Ne};
 use lois_base::{Constraint, Cube, NoMemory};
 use lois_constraint::{
-    and, and_not, conflict, conjoin_cube, implies, meet, negate, normalise, or, prune, shift,
-    substitute, substitute_cube, tighten, within,
+    alternatives, and, and_not, conflict, conjoin_cube, has_cube, implies, meet, negate, normalise,
+    or, prune, shift, substitute, substitute_cube, tighten, within,
 };
 use std::alloc::Global;
 use std::process::Abort;
@@ -146,6 +146,9 @@ fn levels_are_moved(rt: HostRuntime) -> Result<(), Fail> {
 // a level far above all others
 const FAR: usize = 5000;
 
+// steps upward over levels that a table of words of 64 bits holds in three words
+const FURTHER_UP: [Comparison; 2] = [(63, Lt, 64), (64, Lt, 128)];
+
 // levels that are tied by a third one, and a level apart from them
 const TIED: [Comparison; 3] = [(0, Eq, 1), (1, Eq, 2), (2, Ne, 3)];
 
@@ -164,13 +167,17 @@ fn is_implied(
 
 #[test]
 fn what_ties_and_sets_apart_is_told(rt: HostRuntime) -> Result<(), Fail> {
-    let rows: [(&[Comparison], Comparison, bool); 6] = [
+    let rows: [(&[Comparison], Comparison, bool); 10] = [
         (&TIED, (0, Eq, 2), true),
         (&TIED, (3, Ne, 0), true),
         (&TIED, (0, Lt, 3), false),
         (&[], (0, Eq, 1), false),
         (&[(0, Lt, FAR)], (FAR, Ne, 0), true),
         (&UP, (0, Lt, 2), true),
+        (&FURTHER_UP, (63, Lt, 128), true),
+        (&FURTHER_UP, (63, Ne, 64), true),
+        (&FURTHER_UP, (63, Lt, 127), false),
+        (&FURTHER_UP, (0, Lt, 128), false),
     ];
     for (literals, comparison, wanted) in rows {
         let implied = is_implied(rt.alloc(), literals, comparison)?;
@@ -196,6 +203,54 @@ fn cubes_are_compared(rt: HostRuntime) -> Result<(), Fail> {
     assert!(rt; !is_within(alloc, &ENDS_APART, &UP)?);
     let far = cube_of(alloc, &[(0, Lt, FAR)])?;
     assert!(rt; !conflict(alloc, &far)?);
+    Ok(())
+}
+
+// The others, a constraint, and whether the others have the cube 0<1 wherever it holds.
+type Had<'a> = (&'a [&'a [Comparison]], &'a [&'a [Comparison]], bool);
+
+const HAD: [Had<'static>; 7] = [
+    (&[&[(0, Lt, 2)]], &[&[(1, Lt, 2)]], true),
+    (&[&[(0, Lt, 2)]], &[&[(2, Lt, 1)]], false),
+    (&[&[(0, Lt, 2)]], &[&[(1, Lt, 2)], &[(2, Lt, 1)]], false),
+    (&[&[(0, Lt, 2)], &[(0, Ne, 1)]], &[&[]], true),
+    (&[&[(0, Lt, 2)], &[(2, Lt, 1)]], &[&[]], false),
+    (&[], &[&[(1, Lt, 0)]], true),
+    (&[], &[&[]], false),
+];
+
+fn have_the_step(
+    alloc: Global,
+    others: &[&[Comparison]],
+    under: &[&[Comparison]],
+) -> Result<bool, NoMemory> {
+    let others = constraint_of(alloc, others)?;
+    let under = constraint_of(alloc, under)?;
+    let step = cube_of(alloc, &[(0, Lt, 1)])?;
+    has_cube(alloc, &others, &step, &under)
+}
+
+#[test]
+fn cubes_are_had_where_a_constraint_holds(rt: HostRuntime) -> Result<(), Fail> {
+    for (others, under, wanted) in HAD {
+        let had = have_the_step(rt.alloc(), others, under)?;
+        assert_eq!(rt; had, wanted, "{others:?} {under:?}");
+    }
+    Ok(())
+}
+
+#[test]
+fn literals_are_turned(rt: HostRuntime) -> Result<(), Fail> {
+    let rows: [(Comparison, &[Comparison]); 3] = [
+        ((0, Eq, 1), &[(0, Ne, 1)]),
+        ((0, Ne, 1), &[(0, Eq, 1)]),
+        ((0, Lt, 1), &[(0, Eq, 1), (1, Lt, 0)]),
+    ];
+    for (literal, others) in rows {
+        let turned = alternatives(rt.alloc(), lit(literal))?;
+        let wanted = cube_of(rt.alloc(), others)?;
+        assert!(rt; turned.as_slice() == wanted.as_slice(), "{literal:?}");
+    }
     Ok(())
 }
 
