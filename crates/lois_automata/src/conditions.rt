@@ -179,7 +179,8 @@ fn where_differing<T: Structure>(
     for_some_more::<T>(alloc, clash, size, both.binders)
 }
 
-fn where_same<T: Structure>(
+/// Where two terms have the same value.
+pub fn where_same<T: Structure>(
     alloc: Global,
     s: &Term,
     t: &Term,

@@ -15,6 +15,7 @@ mod verdicts;
 
 pub use checks::{check_automaton, check_complete, check_deterministic};
 pub use columns::{Shape, column, misfits};
+pub use conditions::where_same;
 pub use memberships::{among_more, membership};
 pub use operations::{complement, empty, product, reach};
 pub use pairing::{Joint, beside, pairs, side_by_side};

@@ -22,5 +22,5 @@ pub use covering::has_cube;
 pub use levels::{shift, substitute, substitute_cube};
 pub use negation::{and_not, negate};
 pub use normal::normalise;
-pub use products::{and, conjoin_cube, or};
+pub use products::{alone, and, conjoin_cube, or};
 pub use pruning::{meet, prune, tighten};

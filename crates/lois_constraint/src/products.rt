@@ -1,6 +1,6 @@
 //! Both and either, with nothing dropped.
 
-ghost use Rattle.std.specs.Prelude.{◌≡◌, ℕ, Bool, List, ◌++◌, ◌&&◌, ◌||◌, map, IfOk, OnOk};
+ghost use Rattle.std.specs.Prelude.{◌≡◌, ℕ, Bool, List, [], ◌∷◌, ◌++◌, ◌&&◌, ◌||◌, map, IfOk, OnOk};
 ghost use Rattle.lois_base.specs.Atom.{Atom};
 ghost use Rattle.lois_base.specs.Fits.{ConstraintFits};
 ghost use Rattle.lois_base.specs.Normal.{both};
@@ -9,6 +9,15 @@ ghost use Rattle.lois_base.specs.Validity.{AdmitsConstraint, UsesOnly};
 
 use lois_base::{Constraint, Cube, NoMemory};
 use std::alloc::Global;
+
+/// The constraint of one cube alone. Errors: `NoMemory`.
+pub fn alone(alloc: Global, cube: &Cube) -> Result<Constraint, NoMemory>
+    ensures cubes { IfOk result (λ r. r ≡ cube.now ∷ []) }
+{
+    let mut one = Constraint::new(alloc);
+    one.push(cube.copy(alloc)?)?;
+    Ok(one)
+}
 
 /// A cube that holds where both hold: the literals of the one, then those of the other.
 pub fn conjoin_cube(alloc: Global, a: &Cube, b: &Cube) -> Result<Cube, NoMemory>

@@ -11,7 +11,7 @@ ghost use Rattle.lois_deciders.specs.Choice.{IsWanted, IsUnwanted, IsFirstWanted
 ghost use Rattle.lois_deciders.specs.Met.{AreMet, ExcludeEachOther};
 
 use lois_base::{Constraint, Cube, Decider, Kind, NoMemory, Numbers};
-use lois_constraint::{and, and_not, meet};
+use lois_constraint::{alone, and, and_not, meet};
 use std::alloc::Global;
 
 /// A constraint, and numbers at which it holds.
@@ -73,15 +73,6 @@ fn put(
         }
     }
     Ok(None)
-}
-
-// the constraint of the cube alone
-fn alone(alloc: Global, cube: &Cube) -> Result<Constraint, NoMemory>
-    ensures { IfOk result (λ r. r ≡ cube.now ∷ []) }
-{
-    let mut one = Constraint::new(alloc);
-    one.push(cube.copy(alloc)?)?;
-    Ok(one)
 }
 
 impl Chosen {

@@ -8,7 +8,8 @@ ghost use Rattle.lois_deciders.specs.Asked.{CanBeMet};
 ghost use Rattle.lois_deciders.specs.OnlyAsked.{HasOnlyAsked};
 ghost use Rattle.lois_words.specs.Stages.{IsNarrowed};
 
-use lois_base::{Constraint, Cube, Decider, NoMemory, Numbers};
+use lois_base::{Constraint, Decider, NoMemory, Numbers};
+use lois_constraint::alone;
 use lois_deciders::{Chosen, Met};
 use std::alloc::Global;
 
@@ -41,16 +42,8 @@ fn cube_at(alloc: Global, wanted: &Constraint, sample: &[u64]) -> Result<Constra
 {
     for cube in wanted.as_slice() {
         if cube.at(sample) {
-            return only(alloc, cube);
+            return alone(alloc, cube);
         }
     }
     Ok(Constraint::new(alloc))
-}
-
-fn only(alloc: Global, cube: &Cube) -> Result<Constraint, NoMemory>
-    ensures { IfOk result (λ r. r ≡ cube.now ∷ []) }
-{
-    let mut one = Constraint::new(alloc);
-    one.push(cube.copy(alloc)?)?;
-    Ok(one)
 }

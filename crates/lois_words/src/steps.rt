@@ -5,9 +5,7 @@ ghost use Rattle.lois_base.specs.Data.{comps_of};
 ghost use Rattle.lois_base.specs.Fits.{ConstraintFits, Fits, CompFits, ItemsFit};
 ghost use Rattle.lois_base.specs.Tree.{tree, comp_of};
 ghost use Rattle.lois_base.specs.Validity.{AdmitsTerm, AdmitsComp, AdmitsItems, HasUsualWidths, CompHasUsualWidths, ItemsHaveUsualWidths};
-ghost use Rattle.lois_base.specs.Values.{point, IsSame};
 ghost use Rattle.lois_algebra.specs.Gathered.{IsAmong, IsMadeBy};
-ghost use Rattle.lois_automata.specs.Throughout.{HoldsWhere};
 ghost use Rattle.lois_deciders.specs.OnlyAsked.{HasOnlyAsked};
 ghost use Rattle.lois_words.specs.Layers.{IsReadable};
 ghost use Rattle.lois_words.specs.Stages.{IsStage};
@@ -15,12 +13,10 @@ ghost use Rattle.lois_words.specs.Steps.{HoldsWhereGoing, IsTaken, NeverGoes};
 
 use crate::narrowing::narrowed;
 use crate::stages::Stage;
-use lois_automata::{Step, among_more, membership, step_parts};
+use lois_automata::{Step, among_more, membership, step_parts, where_same};
 use lois_base::{Comp, Comps, Constraint, Decider, NoMemory, Structure, Term};
 use lois_constraint::meet;
 use lois_deciders::Chosen;
-use lois_elim::quantifier_free;
-use lois_relate::equal_formula;
 use lois_terms::instantiate;
 use std::alloc::Global;
 
@@ -135,21 +131,4 @@ fn where_going<T: Structure>(
     let admitted = meet(alloc, &stage.admitted, guard)?;
     let joins = meet(alloc, &begins, &ends)?;
     meet(alloc, &admitted, &joins)
-}
-
-fn where_same<T: Structure>(
-    alloc: Global,
-    s: &Term,
-    t: &Term,
-    size: usize,
-) -> Result<Constraint, NoMemory>
-    requires levels { Fits size (tree s.now) }
-    requires operators { AdmitsTerm T.ordered (tree s.now) }
-    requires other_levels { Fits size (tree t.now) }
-    requires other_operators { AdmitsTerm T.ordered (tree t.now) }
-    ensures truth { IfOk result (HoldsWhere size (λ c. IsSame (point (tree s.now) c) (point (tree t.now) c))) }
-    ensures levels { IfOk result (ConstraintFits size) }
-{
-    let formula = equal_formula(alloc, s, t, size)?;
-    quantifier_free::<T>(alloc, &formula, size)
 }
