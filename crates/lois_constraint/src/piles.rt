@@ -211,6 +211,46 @@ impl Pile {
         Ok(pile)
     }
 
+    // One more cube where the constraint holds too: as it is where it lies within one of the constraint's cubes, and else with each.
+    fn put_met(self, alloc: Global, known: Known, c: &Constraint) -> Result<Self, NoMemory>
+        ensures truth { IfOk result (λ r. (e : List Atom) → holds e r ≡ (holds e self || (cube_holds e known && holds e c.now))) }
+        ensures rules { IfOk result (λ r. (rule : Rule) → ConstraintObeys rule self → CubeObeys rule known → ConstraintObeys rule c.now → ConstraintObeys rule r) }
+    {
+        if lies_within_one(&known, c) {
+            return self.put(alloc, known);
+        }
+        self.put_with_each(alloc, &known, c)
+    }
+
+    // One more cube where the constraint holds too, if there is one.
+    fn put_some_met(
+        self,
+        alloc: Global,
+        found: Option<Known>,
+        c: &Constraint,
+    ) -> Result<Self, NoMemory>
+        ensures truth { IfOk result (λ r. (e : List Atom) → holds e r ≡ (holds e self || (some_holds e found && holds e c.now))) }
+        ensures rules { IfOk result (λ r. (rule : Rule) → ConstraintObeys rule self → SomeObeys rule found → ConstraintObeys rule c.now → ConstraintObeys rule r) }
+    {
+        match found {
+            Some(known) => Ok(self.put_met(alloc, known, c)?),
+            None => Ok(self),
+        }
+    }
+
+    /// What holds where two constraints do. The cubes of the first are not compared with one another: only what they are where the
+    /// second holds is put into the pile.
+    pub(crate) fn of_both(alloc: Global, a: &Constraint, b: &Constraint) -> Result<Self, NoMemory>
+        ensures truth { IfOk result (λ r. (e : List Atom) → holds e r ≡ (holds e a.now && holds e b.now)) }
+        ensures rules { IfOk result (λ r. (rule : Rule) → ConstraintObeys rule a.now → ConstraintObeys rule b.now → ConstraintObeys rule r) }
+    {
+        let mut pile = Pile::new(alloc);
+        for cube in a.as_slice() {
+            pile = pile.put_some_met(alloc, Known::of(alloc, cube)?, b)?;
+        }
+        Ok(pile)
+    }
+
     /// The pile where a constraint holds too. What lies within one of its cubes stays as it is, and isn't compared with the rest
     /// of the pile again: none of a pile lies within another.
     pub(crate) fn meet(self, alloc: Global, c: &Constraint) -> Result<Self, NoMemory>
