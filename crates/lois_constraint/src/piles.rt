@@ -161,11 +161,15 @@ impl Pile {
         Ok(Pile { items: kept })
     }
 
-    /// One more cube, unless it adds nothing. It is compared with all the others, which its numbers make quick.
+    /// One more cube, unless it adds nothing. It is compared with all the others, which its numbers make quick; beside no others it
+    /// needs none.
     pub(crate) fn put(self, alloc: Global, known: Known) -> Result<Self, NoMemory>
         ensures truth { IfOk result (λ r. (c : List Atom) → holds c r ≡ (holds c self || cube_holds c known)) }
         ensures rules { IfOk result (λ r. (rule : Rule) → ConstraintObeys rule self → CubeObeys rule known → ConstraintObeys rule r) }
     {
+        if self.items.is_empty() {
+            return self.put_sampled(alloc, known);
+        }
         let sampled = known.with_sample(alloc)?;
         self.put_sampled(alloc, sampled)
     }

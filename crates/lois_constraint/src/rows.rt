@@ -44,6 +44,16 @@ impl Row {
         (self.word(level / 64) >> (level % 64)) & 1 == 1
     }
 
+    // How many levels it has, with its own, where all are below 64. Nothing is proved of it.
+    fn count_with(&self, level: usize) -> usize {
+        let others = self.word(0).count_ones() as usize;
+        if self.reaches(level) {
+            others
+        } else {
+            others.saturating_add(1)
+        }
+    }
+
     fn empty(alloc: Global) -> Row
         ensures { result ≡ [] }
     {
@@ -132,6 +142,14 @@ pub(crate) fn at_most(rows: &[Row], low: usize, high: usize) -> bool
     ensures { result ≡ at_most rows.now low high }
 {
     low == high || are_at_most(rows, low, high)
+}
+
+/// How many levels are at least as high as one, itself too, where all are below 64. Nothing is proved of it.
+pub(crate) fn count_above(rows: &[Row], level: usize) -> usize {
+    match rows.get(level) {
+        Some(row) => row.count_with(level),
+        None => 1,
+    }
 }
 
 /// Whether each of two levels is at most the other.
