@@ -1,13 +1,11 @@
 -- Cubes that others have, and cubes that none of several others contains.
-use Rattle.std.proofs.Common.{◌≡◌, ℕ, ◌+◌, ◌<◌, ◌⊎◌, inl, inr, ◌&&◌, ◌||◌, List, [], ◌∷◌, ◌++◌, length, get_or, take, sym, ap, ◌∙◌, subst}
-use Rattle.std.proofs.lemmas.Bool.{or_cases}
-use Rattle.std.proofs.lemmas.List.{take_more}
+use Rattle.std.proofs.Common.{◌≡◌, ◌&&◌, List, ◌++◌, sym, ap, ◌∙◌}
 use Rattle.std.proofs.lemmas.List.Elements.{All-weaker}
 use Rattle.std.specs.Bool.{IsTrue}
 use Rattle.std.specs.List.{All}
-use Rattle.lois_base.proofs.Both.{cubes_append, holds_append}
+use Rattle.lois_base.proofs.Both.{cubes_append}
 use Rattle.lois_base.specs.Atom.{Atom}
-use Rattle.lois_base.specs.Truth.{cube_holds, holds}
+use Rattle.lois_base.specs.Truth.{cube_holds}
 use Rattle.lois_base.specs.declared.guards.Lit.{Lit}
 use Rattle.lois_constraint.specs.Met.{CanBeMet, LiesWithin}
 use Rattle.lois_constraint.specs.Outside.{IsOutside}
@@ -31,17 +29,3 @@ alike_outside k q p g same out = record {
   where
     here : (c : List Atom) → cube_holds c (q ++ p) ≡ cube_holds c (k ++ p)
     here c = cubes_append c q p ∙ ap (λ b. b && cube_holds c p) (sym (same c)) ∙ sym (cubes_append c k p)
-
--- one more of the cubes that others have
-pub one_more_had : (c : List Atom) (g others : List (List Lit)) (i : ℕ) (p : List Lit) → i < length g → p ≡ get_or g i p → (IsTrue (holds c (take i g)) → IsTrue (holds c others)) → (IsTrue (cube_holds c p) → IsTrue (holds c others)) → IsTrue (holds c (take (i + 1) g)) → IsTrue (holds c others)
-one_more_had c g others i p l is before next h =
-    let more : take (i + 1) g ≡ take i g ++ p ∷ [] = take_more g i p l ∙ ap (λ z. take i g ++ z ∷ []) (sym is) in
-    go (or_cases (holds c (take i g)) (holds c (p ∷ [])) (sym (holds_append c (take i g) (p ∷ [])) ∙ subst (λ z. IsTrue (holds c z)) more h))
-  where
-    last : IsTrue (cube_holds c p) ⊎ IsTrue (holds c []) → IsTrue (holds c others)
-    last (inl n) = next n
-    last (inr n) = absurd (cc)
-
-    go : IsTrue (holds c (take i g)) ⊎ IsTrue (holds c (p ∷ [])) → IsTrue (holds c others)
-    go (inl j) = before j
-    go (inr j) = last (or_cases (cube_holds c p) (holds c []) j)

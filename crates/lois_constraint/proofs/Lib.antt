@@ -1,4 +1,5 @@
 pub mod Raising
+pub mod Words
 pub mod Told
 pub mod Ranked
 pub mod Joined

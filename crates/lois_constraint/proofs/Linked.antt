@@ -1,15 +1,16 @@
 -- Orders of the levels of a cube, with one literal more.
-use Rattle.std.proofs.Common.{◌≡◌, ℕ, Bool, true, false, ◌&&◌, ◌||◌, ◌⊎◌, inl, inr, List, [], ◌∷◌, ◌++◌, refl, sym, ◌∙◌}
+use Rattle.std.proofs.Common.{◌≡◌, ℕ, Bool, true, false, ◌&&◌, ◌||◌, ◌⊎◌, inl, inr, List, [], ◌∷◌, ◌++◌, eqb, eq-eqb, eqb-true, refl, sym, ◌∙◌, subst}
 use Rattle.std.proofs.lemmas.Bool.{or_cases, and_parts, and_from}
-use Rattle.std.proofs.lemmas.List.Elements.{All-push, All-weaker}
+use Rattle.std.proofs.lemmas.List.Elements.{All-nil, All-push, All-weaker}
 use Rattle.std.proofs.lemmas.List.Folds.{list_all-append}
-use Rattle.lois_base.proofs.Order.{below_at_most, at_most_below, below_asym}
+use Rattle.lois_base.proofs.Order.{below_at_most, at_most_below, below_asym, below_irrefl}
 use Rattle.lois_base.specs.Atom.{Atom, below}
 use Rattle.lois_base.specs.Truth.{atom_at, lit_holds, cube_holds}
 use Rattle.lois_base.specs.declared.guards.Lit.{Lit}
 use Rattle.lois_base.specs.declared.guards.Op.{Op}
 use Rattle.lois_base.specs.declared.guards.Op.TheVariants.{Eq, Ne, Lt}
-use Rattle.lois_constraint.specs.Order.{linked, is_tied, Stands, IsOrderOf}
+use Rattle.lois_constraint.specs.Order.{at_most, linked, is_tied, Stands, IsOrderOf}
+use Rattle.lois_constraint.proofs.Words.{reaches_nothing}
 
 abbrev pub lit_of : Op → ℕ → ℕ → Lit
 lit_of o x y = record { op = o; left = x; right = y }
@@ -32,6 +33,27 @@ first_holds c k l h =
     let parts = and_parts (cube_holds c k) (lit_holds c l && true) whole in
     (parts.0, (and_parts (lit_holds c l) true parts.1).0)
 
+-- ---- a table without rows
+alone : (a b : ℕ) → at_most [] a b ≡ eqb a b
+alone a b = rw (reaches_nothing b) (go (eqb a b))
+  where
+    go : (p : Bool) → (p || false) ≡ p
+    go true = refl
+    go false = refl
+
+same : (a b : ℕ) → at_most [] a b ≡ true → a ≡ b
+same a b h = eqb-true a b (sym (alone a b) ∙ h)
+
+pub no_order : IsOrderOf (at_most []) []
+no_order = record {
+  itself = λ a. alone a a ∙ eq-eqb a a refl;
+  trans = λ a b c p q. alone a c ∙ eq-eqb a c (same a b p ∙ same b c q);
+  stands = All-nil (λ l. Stands (at_most []) l.op l.left l.right);
+  at_most = λ c h a b m. subst (λ (z : ℕ). below (atom_at c z) (atom_at c a) ≡ false) (same a b m) (below_irrefl (atom_at c a));
+  under = λ c h a b m n. clash (at_most [] b a) (alone b a ∙ eq-eqb b a (sym (same a b m))) n;
+}
+
+-- ---- one level at most another one
 module _ (le : ℕ → ℕ → Bool) (x y : ℕ) where
   pub linked_cases : (a b : ℕ) → linked x y le a b ≡ true → (le a b ≡ true) ⊎ ((le a x ≡ true) × (le y b ≡ true))
   linked_cases a b h =

@@ -1,37 +1,11 @@
--- Rows with one entry more, and tables with one row more.
-use Rattle.std.proofs.Common.{◌≡◌, ◌≢◌, ℕ, ◌+◌, ◌<◌, ◌≤◌, Bool, true, false, ◌||◌, ◌&&◌, ◌==◌, ◌⊎◌, inl, inr, List, [], ◌∷◌, ◌++◌, length, get_or, set, replicate, eqb, refl, sym, ◌∙◌, arith}
+-- Tables with one row more, and rows with the levels of another one.
+use Rattle.std.proofs.Common.{◌≡◌, ◌≢◌, ℕ, ◌+◌, ◌<◌, ◌≤◌, Bool, true, false, ◌||◌, ◌&&◌, ◌==◌, ◌⊎◌, inl, inr, List, [], ◌∷◌, ◌++◌, length, get_or, set, eqb, refl, sym, ap, ◌∙◌, arith}
 use Rattle.std.proofs.Math.ListN.{get_or-eq_default}
 use Rattle.std.proofs.lemmas.Bool.{cases_order}
 use Rattle.std.proofs.lemmas.Bool.Decides.{eqb_tells}
-use Rattle.std.proofs.lemmas.Grind.{common_steps}
-use Rattle.std.proofs.lemmas.List.{get_or_append_left, get_or_push, get_or-set_same, get_or-set_other, get_or-replicate, length-replicate}
+use Rattle.std.proofs.lemmas.List.{get_or_append_left, get_or_push, get_or-set_same, get_or-set_other}
 use Rattle.lois_constraint.specs.Order.{Row, reaches, are_at_most}
-
-module _ {X : Type 0} (xs : List X) (x d : X) (i : ℕ) where
-  beyond : length xs < i → get_or (xs ++ x ∷ []) i d ≡ d
-  beyond more =
-      let past : length (xs ++ x ∷ []) ≤ i = grind (arith, common_steps) in get_or-eq_default (xs ++ x ∷ []) d past
-
--- ---- rows
-pub only_last : (n b : ℕ) → reaches (replicate n false ++ true ∷ []) b ≡ (n == b)
-only_last n b = go (cases_order b n) (eqb_tells n b)
-  where
-    xs : Row
-    xs = replicate n false
-
-    l : length xs ≡ n
-    l = length-replicate n false
-
-    go : (b ≡ n) ⊎ ((b < n) ⊎ (n < b)) → ((eqb n b ≡ true) × (n ≡ b)) ⊎ ((eqb n b ≡ false) × (n ≢ b)) → reaches (xs ++ true ∷ []) b ≡ (n == b)
-    go (inl at) (inl t) = get_or_push xs true false b (l ∙ sym at) ∙ sym t.0
-    go (inl at) (inr t) = absurd (t.1 (omega arith))
-    go (inr (inl less)) (inl t) = let same = t.1 in absurd (omega arith)
-    go (inr (inl less)) (inr t) =
-        let inside : b < length xs = rw l less in
-        get_or_append_left xs (true ∷ []) false b inside ∙ (get_or-replicate n b false false less ∙ sym t.0)
-    go (inr (inr more)) (inl t) = let same = t.1 in absurd (omega arith)
-    go (inr (inr more)) (inr t) =
-        let past : length xs < b = rw l more in beyond xs true false b past ∙ sym t.0
+use Rattle.lois_constraint.proofs.Words.{beyond, or_nothing, reaches_nothing}
 
 pub other_way : (p q : Bool) → (p || q) ≡ (q || p)
 other_way true true = refl
@@ -39,66 +13,69 @@ other_way true false = refl
 other_way false true = refl
 other_way false false = refl
 
-or_nothing : (p : Bool) → p ≡ (p || false)
-or_nothing true = refl
-or_nothing false = refl
-
-or_all : (p : Bool) → true ≡ (p || true)
-or_all true = refl
-or_all false = refl
-
--- r: a row, s: one that isn't longer, row: r with the levels of s below n
-module _ (r s row : Row) (n : ℕ) where
-  pub below_put : n < length row → reaches s n ≡ true → ((b : ℕ) → b < n → reaches row b ≡ (reaches r b || reaches s b)) → (b : ℕ) → b < n + 1 → reaches (set row n true) b ≡ (reaches r b || reaches s b)
-  below_put inside has below b l = go (cases_order b n)
-    where
-      go : (b ≡ n) ⊎ ((b < n) ⊎ (n < b)) → reaches (set row n true) b ≡ (reaches r b || reaches s b)
-      go (inl at) = rw (at, get_or-set_same row n true false inside, has) (or_all (reaches r n))
-      go (inr (inl less)) = get_or-set_other row n b true false (λ e. omega (arith, e)) ∙ below b less
-      go (inr (inr more)) = absurd (omega arith)
-
-  pub above_put : ((b : ℕ) → n ≤ b → reaches row b ≡ reaches r b) → (b : ℕ) → n + 1 ≤ b → reaches (set row n true) b ≡ reaches r b
-  above_put above b l = get_or-set_other row n b true false (λ e. omega (arith, e)) ∙ above b (omega arith)
-
-  pub below_left : reaches s n ≡ false → ((b : ℕ) → b < n → reaches row b ≡ (reaches r b || reaches s b)) → ((b : ℕ) → n ≤ b → reaches row b ≡ reaches r b) → (b : ℕ) → b < n + 1 → reaches row b ≡ (reaches r b || reaches s b)
-  below_left lacks below above b l = go (cases_order b n)
-    where
-      go : (b ≡ n) ⊎ ((b < n) ⊎ (n < b)) → reaches row b ≡ (reaches r b || reaches s b)
-      go (inl at) = rw (at, lacks) (above n (omega arith) ∙ or_nothing (reaches r n))
-      go (inr (inl less)) = below b less
-      go (inr (inr more)) = absurd (omega arith)
-
-  pub all_joined : length s ≡ n → ((b : ℕ) → b < n → reaches row b ≡ (reaches r b || reaches s b)) → ((b : ℕ) → n ≤ b → reaches row b ≡ reaches r b) → (b : ℕ) → reaches row b ≡ (reaches r b || reaches s b)
-  all_joined l below above b = go (cases_order b n)
-    where
-      past : n ≤ b → reaches row b ≡ (reaches r b || reaches s b)
-      past far =
-          let lacks : reaches s b ≡ false = get_or-eq_default s false (omega arith) in
-          rw lacks (above b far ∙ or_nothing (reaches r b))
-
-      go : (b ≡ n) ⊎ ((b < n) ⊎ (n < b)) → reaches row b ≡ (reaches r b || reaches s b)
-      go (inl at) = past (omega arith)
-      go (inr (inl less)) = below b less
-      go (inr (inr more)) = past (omega arith)
-
 -- ---- tables
 pub either_way : (p q r : Bool) → ((p || q) || r) ≡ (p || (q || r))
 either_way true q r = refl
 either_way false q r = refl
 
-pub row_raised : (low a b : ℕ) (more : Row) (raised yielded : List Row) (r row : Row) → length raised ≡ length yielded → reaches r b ≡ (reaches row b || (reaches row low && reaches more b)) → are_at_most raised a b ≡ (are_at_most yielded a b || (are_at_most yielded a low && reaches more b)) → are_at_most (raised ++ r ∷ []) a b ≡ (are_at_most (yielded ++ row ∷ []) a b || (are_at_most (yielded ++ row ∷ []) a low && reaches more b))
-row_raised low a b more raised yielded r row l above before = go (cases_order a (length yielded))
-  where
-    go : (a ≡ length yielded) ⊎ ((a < length yielded) ⊎ (length yielded < a)) → are_at_most (raised ++ r ∷ []) a b ≡ (are_at_most (yielded ++ row ∷ []) a b || (are_at_most (yielded ++ row ∷ []) a low && reaches more b))
-    go (inl at) = rw (get_or_push raised r [] a (l ∙ sym at), get_or_push yielded row [] a (sym at)) above
-    go (inr (inl less)) =
-        let inside : a < length raised = omega arith in
-        rw (get_or_append_left raised (r ∷ []) [] a inside, get_or_append_left yielded (row ∷ []) [] a less) before
-    go (inr (inr far)) =
-        let past : length raised < a = omega arith in rw (beyond raised r [] a past, beyond yielded row [] a far) refl
+-- raised: the rows, those below i with more levels above where they have the given one
+module _ (rows raised : List Row) (level i : ℕ) (more : Row) where
+  abbrev AboveKept : List Row → ℕ → Type 0
+  AboveKept xs n = (a : ℕ) → n ≤ a → get_or xs a [] ≡ get_or rows a []
 
-pub one_longer : (raised yielded : List Row) (r row : Row) → length raised ≡ length yielded → length (raised ++ r ∷ []) ≡ length (yielded ++ row ∷ [])
-one_longer raised yielded r row l = grind (arith, common_steps)
+  abbrev BelowRaised : List Row → ℕ → Type 0
+  BelowRaised xs n = (a b : ℕ) → a < n → are_at_most xs a b ≡ (are_at_most rows a b || (are_at_most rows a level && reaches more b))
+
+  pub raised_put : (r : Row) → i < length raised → reaches (get_or raised i []) level ≡ true → ((b : ℕ) → reaches r b ≡ (reaches (get_or raised i []) b || reaches more b)) → BelowRaised raised i → AboveKept raised i → BelowRaised (set raised i r) (i + 1)
+  raised_put r inside has is below above a b l = go (cases_order a i)
+    where
+      old : get_or raised i [] ≡ get_or rows i []
+      old = above i (omega arith)
+
+      here : reaches r b ≡ (are_at_most rows i b || (are_at_most rows i level && reaches more b))
+      here =
+          let had : reaches (get_or rows i []) level ≡ true = sym (ap (λ (row : Row). reaches row level) old) ∙ has in
+          is b ∙ (ap (λ (row : Row). reaches row b || reaches more b) old ∙ ap (λ (p : Bool). reaches (get_or rows i []) b || (p && reaches more b)) (sym had))
+
+      go : (a ≡ i) ⊎ ((a < i) ⊎ (i < a)) → are_at_most (set raised i r) a b ≡ (are_at_most rows a b || (are_at_most rows a level && reaches more b))
+      go (inl at) = rw (at, get_or-set_same raised i r [] inside) here
+      go (inr (inl less)) =
+          let other : get_or (set raised i r) a [] ≡ get_or raised a [] = get_or-set_other raised i a r [] (λ e. omega (arith, e)) in
+          ap (λ (row : Row). reaches row b) other ∙ below a b less
+      go (inr (inr far)) = absurd (omega arith)
+
+  pub above_raised : (r : Row) → AboveKept raised i → AboveKept (set raised i r) (i + 1)
+  above_raised r above a l = get_or-set_other raised i a r [] (λ e. omega (arith, e)) ∙ above a (omega arith)
+
+  pub raised_left : reaches (get_or raised i []) level ≡ false → BelowRaised raised i → AboveKept raised i → BelowRaised raised (i + 1)
+  raised_left lacks below above a b l = go (cases_order a i)
+    where
+      old : get_or raised i [] ≡ get_or rows i []
+      old = above i (omega arith)
+
+      here : are_at_most raised i b ≡ (are_at_most rows i b || (are_at_most rows i level && reaches more b))
+      here =
+          let had : reaches (get_or rows i []) level ≡ false = sym (ap (λ (row : Row). reaches row level) old) ∙ lacks in
+          ap (λ (row : Row). reaches row b) old ∙ (or_nothing (reaches (get_or rows i []) b) ∙ ap (λ (p : Bool). reaches (get_or rows i []) b || (p && reaches more b)) (sym had))
+
+      go : (a ≡ i) ⊎ ((a < i) ⊎ (i < a)) → are_at_most raised a b ≡ (are_at_most rows a b || (are_at_most rows a level && reaches more b))
+      go (inl at) = rw at here
+      go (inr (inl less)) = below a b less
+      go (inr (inr far)) = absurd (omega arith)
+
+  pub all_raised : length raised ≤ i → BelowRaised raised i → AboveKept raised i → (a b : ℕ) → are_at_most raised a b ≡ (are_at_most rows a b || (are_at_most rows a level && reaches more b))
+  all_raised whole below above a b = go (cases_order a i)
+    where
+      past : i ≤ a → are_at_most raised a b ≡ (are_at_most rows a b || (are_at_most rows a level && reaches more b))
+      past far =
+          let none : get_or raised a [] ≡ [] = get_or-eq_default raised [] (omega arith) in
+          let old : get_or rows a [] ≡ [] = sym (above a far) ∙ none in
+          rw (none, old, reaches_nothing b, reaches_nothing level) refl
+
+      go : (a ≡ i) ⊎ ((a < i) ⊎ (i < a)) → are_at_most raised a b ≡ (are_at_most rows a b || (are_at_most rows a level && reaches more b))
+      go (inl at) = past (omega arith)
+      go (inr (inl less)) = below a b less
+      go (inr (inr far)) = past (omega arith)
 
 pub no_row_more : (rows : List Row) (a b : ℕ) → are_at_most (rows ++ [] ∷ []) a b ≡ are_at_most rows a b
 no_row_more rows a b = go (cases_order a (length rows))
@@ -121,7 +98,7 @@ module _ (rows : List Row) (level a b : ℕ) (more : Row) where
       go : (a ≡ length rows) ⊎ ((a < length rows) ⊎ (length rows < a)) → ((eqb a level ≡ true) × (a ≡ level)) ⊎ ((eqb a level ≡ false) × (a ≢ level)) → are_at_most (rows ++ more ∷ []) a b ≡ (are_at_most rows a b || (a == level && reaches more b))
       go (inl at) (inl t) =
           let old : get_or rows a [] ≡ [] = get_or-eq_default rows [] (omega arith) in
-          rw (get_or_push rows more [] a (sym at), old, t.0) refl
+          rw (get_or_push rows more [] a (sym at), old, t.0, reaches_nothing b) refl
       go (inl at) (inr t) = absurd (t.1 (omega arith))
       go (inr (inl less)) (inl t) = let same = t.1 in absurd (omega arith)
       go (inr (inl less)) (inr t) =
@@ -129,7 +106,7 @@ module _ (rows : List Row) (level a b : ℕ) (more : Row) where
       go (inr (inr far)) (inl t) = let same = t.1 in absurd (omega arith)
       go (inr (inr far)) (inr t) =
           let old : get_or rows a [] ≡ [] = get_or-eq_default rows [] (omega arith) in
-          rw (beyond rows more [] a far, old, t.0) refl
+          rw (beyond rows more [] a far, old, t.0, reaches_nothing b) refl
 
   pub row_put : (r : Row) → level < length rows → reaches r b ≡ (reaches (get_or rows level []) b || reaches more b) → are_at_most (set rows level r) a b ≡ (are_at_most rows a b || (a == level && reaches more b))
   row_put r inside is = go (eqb_tells a level)

@@ -136,6 +136,23 @@ met_grows c s met xs g x t = rw (t, list_any-append (cube_holds c) xs (x ∷ [])
     spread false false true false = refl
     spread false false false r = refl
 
+-- one cube more of those that were read, beside what holds where s does
+pub met_read : (c : List Atom) (s : Bool) (g r xs : List (List Lit)) (x : List Lit) (i : ℕ) → i < length xs → x ≡ get_or xs i x → holds c g ≡ (holds c (take i xs) && s) → holds c r ≡ (holds c g || (cube_holds c x && s)) → holds c r ≡ (holds c (take (i + 1) xs) && s)
+met_read c s g r xs x i b is t e =
+    e ∙ (ap (λ p. p || (cube_holds c x && s)) t ∙ (spread (holds c (take i xs)) (cube_holds c x) s ∙ ap (λ p. p && s) (ap (λ y. holds c (take i xs) || cube_holds c y) is ∙ sym (list_any_more (cube_holds c) xs i x b))))
+  where
+    spread : (p q r : Bool) → ((p && r) || (q && r)) ≡ ((p || q) && r)
+    spread true q true = refl
+    spread true true false = refl
+    spread true false false = refl
+    spread false q r = refl
+
+-- a cube within the cubes that it is met with
+pub inside_met : (s k g : Bool) → (k ≡ true → g ≡ true) → (s || k) ≡ (s || (k && g))
+inside_met true k g f = refl
+inside_met false true g f = sym (f refl)
+inside_met false false g f = refl
+
 -- ---- a cube that was tightened, or that can't be met
 pub none_exactly : (k : List Lit) (o : Option (List Lit)) (b : Bool) → ((c : List Atom) → some_holds c o ≡ cube_holds c k) → IfSome o CanBeMet → is_some o ≡ not b → (b ≡ true) ↔ ((c : List Atom) → cube_holds c k ≡ false)
 none_exactly k None true truth met is = (λ t c. sym (truth c), λ f. refl)

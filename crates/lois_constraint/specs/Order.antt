@@ -1,5 +1,6 @@
 -- What a cube says of the order of its levels.
-use Rattle.std.specs.Prelude.{ℕ, Bool, true, false, not, ◌&&◌, ◌||◌, ◌==◌, List, [], get_or, IsTrue, IsFalse}
+use Rattle.std.specs.Prelude.{ℕ, ◌/◌, ◌%◌, Bool, true, false, not, ◌&&◌, ◌||◌, ◌==◌, List, [], get_or, IsTrue, IsFalse}
+use Rattle.std.specs.Int.{bit_at}
 use Rattle.std.specs.List.{All, list_any}
 use Rattle.lois_base.specs.Atom.{Atom, below}
 use Rattle.lois_base.specs.Truth.{atom_at, cube_holds}
@@ -7,12 +8,12 @@ use Rattle.lois_base.specs.declared.guards.Lit.{Lit}
 use Rattle.lois_base.specs.declared.guards.Op.{Op}
 use Rattle.lois_base.specs.declared.guards.Op.TheVariants.{Eq, Ne, Lt}
 
--- which levels are at least as high as one level; those beyond the end aren't
+-- which levels are at least as high as one level, a bit for each, in words of 64; those beyond the end aren't
 abbrev pub Row : Type 0
-Row = List Bool
+Row = List ℕ
 
-abbrev pub reaches : Row → ℕ → Bool
-reaches r b = get_or r b false
+unfoldable pub reaches : Row → ℕ → Bool
+reaches r b = bit_at (get_or r (b / 64) 0) (b % 64) == 1
 
 -- the row of a level, which has nothing beyond the last row, has the other one
 abbrev pub are_at_most : List Row → ℕ → ℕ → Bool

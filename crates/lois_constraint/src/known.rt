@@ -36,6 +36,7 @@ impl Model for Known {
 
 impl Known {
     /// The cube without literals.
+    #[tactic(auto, using(crate::proofs::Linked::no_order))]
     pub(crate) fn new(alloc: Global) -> Self
         ensures { result ≡ [] }
     {

@@ -161,11 +161,15 @@ impl Pile {
         Ok(Pile { items: kept })
     }
 
-    /// One more cube, unless it adds nothing. It is compared with all the others, which its numbers make quick.
+    /// One more cube, unless it adds nothing. It is compared with all the others, which its numbers make quick; beside no others it
+    /// needs none.
     pub(crate) fn put(self, alloc: Global, known: Known) -> Result<Self, NoMemory>
         ensures truth { IfOk result (λ r. (c : List Atom) → holds c r ≡ (holds c self || cube_holds c known)) }
         ensures rules { IfOk result (λ r. (rule : Rule) → ConstraintObeys rule self → CubeObeys rule known → ConstraintObeys rule r) }
     {
+        if self.items.is_empty() {
+            return self.put_sampled(alloc, known);
+        }
         let sampled = known.with_sample(alloc)?;
         self.put_sampled(alloc, sampled)
     }
@@ -207,6 +211,46 @@ impl Pile {
         for other in others.as_slice() {
             let both = known.copy(alloc)?.and(alloc, other)?;
             pile = pile.put_some(alloc, both)?;
+        }
+        Ok(pile)
+    }
+
+    // One more cube where the constraint holds too: as it is where it lies within one of the constraint's cubes, and else with each.
+    fn put_met(self, alloc: Global, known: Known, c: &Constraint) -> Result<Self, NoMemory>
+        ensures truth { IfOk result (λ r. (e : List Atom) → holds e r ≡ (holds e self || (cube_holds e known && holds e c.now))) }
+        ensures rules { IfOk result (λ r. (rule : Rule) → ConstraintObeys rule self → CubeObeys rule known → ConstraintObeys rule c.now → ConstraintObeys rule r) }
+    {
+        if lies_within_one(&known, c) {
+            return self.put(alloc, known);
+        }
+        self.put_with_each(alloc, &known, c)
+    }
+
+    // One more cube where the constraint holds too, if there is one.
+    fn put_some_met(
+        self,
+        alloc: Global,
+        found: Option<Known>,
+        c: &Constraint,
+    ) -> Result<Self, NoMemory>
+        ensures truth { IfOk result (λ r. (e : List Atom) → holds e r ≡ (holds e self || (some_holds e found && holds e c.now))) }
+        ensures rules { IfOk result (λ r. (rule : Rule) → ConstraintObeys rule self → SomeObeys rule found → ConstraintObeys rule c.now → ConstraintObeys rule r) }
+    {
+        match found {
+            Some(known) => Ok(self.put_met(alloc, known, c)?),
+            None => Ok(self),
+        }
+    }
+
+    /// What holds where two constraints do. The cubes of the first are not compared with one another: only what they are where the
+    /// second holds is put into the pile.
+    pub(crate) fn of_both(alloc: Global, a: &Constraint, b: &Constraint) -> Result<Self, NoMemory>
+        ensures truth { IfOk result (λ r. (e : List Atom) → holds e r ≡ (holds e a.now && holds e b.now)) }
+        ensures rules { IfOk result (λ r. (rule : Rule) → ConstraintObeys rule a.now → ConstraintObeys rule b.now → ConstraintObeys rule r) }
+    {
+        let mut pile = Pile::new(alloc);
+        for cube in a.as_slice() {
+            pile = pile.put_some_met(alloc, Known::of(alloc, cube)?, b)?;
         }
         Ok(pile)
     }

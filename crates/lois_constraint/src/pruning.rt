@@ -46,6 +46,5 @@ pub fn meet(alloc: Global, a: &Constraint, b: &Constraint) -> Result<Constraint,
     ensures fits { IfOk result (λ r. (n : ℕ) → ConstraintFits n a.now → ConstraintFits n b.now → ConstraintFits n r) }
     ensures operators { IfOk result (λ r. (o : Bool) → AdmitsConstraint o a.now → AdmitsConstraint o b.now → AdmitsConstraint o r) }
 {
-    let met = Pile::of(alloc, a)?.meet(alloc, b)?;
-    met.into_constraint(alloc)
+    Pile::of_both(alloc, a, b)?.into_constraint(alloc)
 }

@@ -1,6 +1,6 @@
 //! The levels that a cube puts at most as high as others, in a table that levels index.
 
-ghost use Rattle.std.specs.Prelude.{◌≡◌, ℕ, Bool, List, [], length, ◌<◌, ◌≤◌, set, true, ◌||◌, ◌&&◌, ◌==◌, IfOk};
+ghost use Rattle.std.specs.Prelude.{◌≡◌, ℕ, Bool, List, [], length, ◌<◌, ◌≤◌, get_or, set, bit_or, ◌||◌, ◌&&◌, ◌==◌, IfOk};
 ghost use Rattle.std.specs.List.{list_any};
 ghost use Rattle.lois_constraint.specs.Order.{reaches, at_most, are_at_most, is_tied, is_under, is_apart, sets_apart, are_apart, is_told, is_denied, linked, extended};
 
@@ -9,30 +9,48 @@ use smallvec::SmallVec;
 use std::alloc::Global;
 use std::marker::Model;
 
-// Most cubes speak of low levels alone, and their rows take no allocation.
-const INLINE_LEVELS: usize = 16;
+// Most cubes speak of levels below 64 alone, and their rows take no allocation.
+const INLINE_WORDS: usize = 1;
 
-/// Which levels are at least as high as one level. Those beyond the end aren't.
+/// Which levels are at least as high as one level: a bit for each, in words. Those beyond the end aren't.
 #[derive(Drop)]
 pub(crate) struct Row {
-    above: SmallVec<bool, INLINE_LEVELS>,
+    words: SmallVec<u64, INLINE_WORDS>,
 }
 
 impl Model for Row {
-    ghost use Rattle.std.specs.Prelude.{Bool, List};
+    ghost use Rattle.std.specs.Prelude.{ℕ, List};
 
-    ghost Value = { List Bool };
+    ghost Value = { List ℕ };
 
-    ghost view = { λ r. r.above.items };
+    ghost view = { λ r. r.words.items };
 }
 
 impl Row {
+    // The levels of one word.
+    fn word(&self, index: usize) -> u64
+        ensures { result ≡ get_or self.now index 0 }
+    {
+        match self.words.as_slice().get(index) {
+            Some(word) => *word,
+            None => 0,
+        }
+    }
+
+    #[tactic(auto, using(crate::proofs::Words::bit_read))]
     fn reaches(&self, level: usize) -> bool
         ensures { result ≡ reaches self.now level }
     {
-        match self.above.as_slice().get(level) {
-            Some(said) => *said,
-            None => false,
+        (self.word(level / 64) >> (level % 64)) & 1 == 1
+    }
+
+    // How many levels it has, with its own, where all are below 64. Nothing is proved of it.
+    fn count_with(&self, level: usize) -> usize {
+        let others = self.word(0).count_ones() as usize;
+        if self.reaches(level) {
+            others
+        } else {
+            others.saturating_add(1)
         }
     }
 
@@ -40,27 +58,27 @@ impl Row {
         ensures { result ≡ [] }
     {
         Row {
-            above: SmallVec::new(alloc),
+            words: SmallVec::new(alloc),
         }
     }
 
     // The row of one level alone.
-    #[tactic(auto, using(crate::proofs::Raising::only_last))]
+    #[tactic(auto, using(crate::proofs::Words::only_bit))]
     fn of(alloc: Global, level: usize) -> Result<Row, NoMemory>
         ensures { IfOk result (λ r. (b : ℕ) → reaches r b ≡ (level == b)) }
     {
-        let mut above = SmallVec::from_elem(alloc, false, level)?;
-        above.push(true)?;
-        Ok(Row { above })
+        let mut words = SmallVec::from_elem(alloc, 0_u64, level / 64)?;
+        words.push(1_u64 << (level % 64))?;
+        Ok(Row { words })
     }
 
-    // One level more, below the end.
-    fn put(&mut self, level: usize)
-        requires { level < length self.old }
-        ensures { self.new ≡ set self.old level true }
+    // More levels of one word, which isn't beyond the end.
+    fn put(&mut self, index: usize, levels: u64)
+        requires { index < length self.old }
+        ensures { self.new ≡ set self.old index (bit_or (get_or self.old index 0) levels) }
     {
-        if let Some(said) = self.above.get_mut(level) {
-            *said = true;
+        if let Some(word) = self.words.get_mut(index) {
+            *word |= levels;
         }
     }
 
@@ -70,10 +88,8 @@ impl Row {
         ensures { (b : ℕ) → reaches result b ≡ (reaches self b || reaches shorter.now b) }
     {
         let mut row = self;
-        for level in 0..shorter.above.len() {
-            if shorter.reaches(level) {
-                row.put(level);
-            }
+        for index in 0..shorter.words.len() {
+            row.put(index, shorter.word(index));
         }
         row
     }
@@ -83,21 +99,11 @@ impl Row {
     fn either(self, alloc: Global, other: &Row) -> Result<Row, NoMemory>
         ensures { IfOk result (λ r. (b : ℕ) → reaches r b ≡ (reaches self b || reaches other.now b)) }
     {
-        if self.above.len() < other.above.len() {
+        if self.words.len() < other.words.len() {
             let longer = other.copy(alloc)?;
             return Ok(longer.with(&self));
         }
         Ok(self.with(other))
-    }
-
-    // The row with more levels above, where it has the given one.
-    fn raised(self, alloc: Global, level: usize, more: &Row) -> Result<Row, NoMemory>
-        ensures { IfOk result (λ r. (b : ℕ) → reaches r b ≡ (reaches self b || (reaches self level && reaches more.now b))) }
-    {
-        if self.reaches(level) {
-            return self.either(alloc, more);
-        }
-        Ok(self)
     }
 
     /// An equal row.
@@ -105,7 +111,7 @@ impl Row {
         ensures { IfOk result (λ r. r ≡ self.now) }
     {
         Ok(Row {
-            above: SmallVec::from_slice(alloc, self.above.as_slice())?,
+            words: SmallVec::from_slice(alloc, self.words.as_slice())?,
         })
     }
 }
@@ -121,6 +127,7 @@ pub(crate) fn copy_rows(alloc: Global, rows: &[Row]) -> Result<Vec<Row>, NoMemor
     Ok(copy)
 }
 
+#[tactic(auto, using(crate::proofs::Words::reaches_nothing))]
 fn are_at_most(rows: &[Row], low: usize, high: usize) -> bool
     ensures { result ≡ are_at_most rows.now low high }
 {
@@ -135,6 +142,14 @@ pub(crate) fn at_most(rows: &[Row], low: usize, high: usize) -> bool
     ensures { result ≡ at_most rows.now low high }
 {
     low == high || are_at_most(rows, low, high)
+}
+
+/// How many levels are at least as high as one, itself too, where all are below 64. Nothing is proved of it.
+pub(crate) fn count_above(rows: &[Row], level: usize) -> usize {
+    match rows.get(level) {
+        Some(row) => row.count_with(level),
+        None => 1,
+    }
 }
 
 /// Whether each of two levels is at most the other.
@@ -212,6 +227,7 @@ pub(crate) fn is_denied(rows: &[Row], cube: &Cube, lit: Lit) -> bool
 }
 
 // The level, and those that are at least as high.
+#[tactic(auto, using(crate::proofs::Words::nothing_above))]
 fn from_on(alloc: Global, rows: &[Row], level: usize) -> Result<Row, NoMemory>
     ensures { IfOk result (λ r. (b : ℕ) → reaches r b ≡ at_most rows.now level b) }
 {
@@ -222,13 +238,26 @@ fn from_on(alloc: Global, rows: &[Row], level: usize) -> Result<Row, NoMemory>
     }
 }
 
-// The rows with more levels above, where they have the given one.
+// The rows with another one in the place of one of them.
+fn with_row(rows: Vec<Row>, level: usize, row: Row) -> Vec<Row>
+    requires { level < length rows.items }
+    ensures { result.items ≡ set rows.items level row }
+{
+    let mut changed = rows;
+    changed[level] = row;
+    changed
+}
+
+// The rows with more levels above, where they have the given one. The others stay where they are.
 fn raise(alloc: Global, rows: Vec<Row>, level: usize, more: &Row) -> Result<Vec<Row>, NoMemory>
     ensures { IfOk result (λ r. (a b : ℕ) → are_at_most r.items a b ≡ (are_at_most rows.items a b || (are_at_most rows.items a level && reaches more.now b))) }
 {
-    let mut raised = Vec::with_capacity(alloc, rows.len())?;
-    for row in rows {
-        raised.push(row.raised(alloc, level, more)?)?;
+    let mut raised = rows;
+    for index in 0..raised.len() {
+        if raised[index].reaches(level) {
+            let both = raised[index].copy(alloc)?.either(alloc, more)?;
+            raised = with_row(raised, index, both);
+        }
     }
     Ok(raised)
 }
@@ -248,15 +277,16 @@ fn with_rows_below(alloc: Global, rows: Vec<Row>, level: usize) -> Result<Vec<Ro
 }
 
 // The rows with more levels above the given one.
+#[tactic(auto, using(crate::proofs::Raising::row_put, crate::proofs::Raising::row_pushed))]
 fn with_above(alloc: Global, rows: Vec<Row>, level: usize, more: Row) -> Result<Vec<Row>, NoMemory>
     ensures { IfOk result (λ r. (a b : ℕ) → are_at_most r.items a b ≡ (are_at_most rows.items a b || (a == level && reaches more b))) }
 {
     let mut grown = with_rows_below(alloc, rows, level)?;
     if level < grown.len() {
-        grown[level] = grown[level].copy(alloc)?.either(alloc, &more)?;
-    } else {
-        grown.push(more)?;
+        let both = grown[level].copy(alloc)?.either(alloc, &more)?;
+        return Ok(with_row(grown, level, both));
     }
+    grown.push(more)?;
     Ok(grown)
 }
 

@@ -4,12 +4,12 @@ ghost use Rattle.std.specs.Prelude.{◌≡◌, ◌==◌, [], length, get_or, IfO
 ghost use Rattle.lois_base.specs.Truth.{lit_holds, cube_holds, sampled};
 ghost use Rattle.lois_constraint.specs.Met.{IsKeptFor};
 
-use crate::rows::{Row, are_tied, at_most};
+use crate::rows::{Row, are_tied, count_above};
 use lois_base::{Cube, Lit, NoMemory, Op};
 use std::alloc::Global;
 use std::marker::Model;
 
-// Numbers for more levels cost more than they spare: each level is held against each other one.
+// As many levels as one word of a row has, which is all that is counted.
 const MOST_LEVELS: usize = 64;
 
 /// A number for each level, and zero for those beyond the end. No numbers say nothing.
@@ -106,12 +106,12 @@ fn level_bound(cube: &Cube) -> usize {
     bound
 }
 
-// Levels are numbered by how many are at most as high, which orders those that the cube orders. Of those with as many, tied
-// ones have one number, and others don't, by the least level that each is tied to. Nothing is proved of this, since whether the cube
-// holds at the numbers is looked at.
+// Levels are numbered by how many are at least as high, the lower with more of them, which orders those that the cube orders. Of
+// those with as many, tied ones have one number, and others don't, by the least level that each is tied to. Nothing is proved of
+// this, since whether the cube holds at the numbers is looked at.
 fn number_of(rows: &[Row], bound: usize, level: usize) -> u16 {
-    let lower = (0..bound).filter(|low| at_most(rows, *low, level)).count();
-    let least = (0..bound)
+    let lower = bound.saturating_sub(count_above(rows, level));
+    let least = (0..level)
         .find(|other| are_tied(rows, *other, level))
         .unwrap_or(level);
     let number = lower.saturating_mul(bound).saturating_add(least);
