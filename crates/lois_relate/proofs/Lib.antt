@@ -12,3 +12,4 @@ pub mod Single
 pub mod Turned
 pub mod Rows
 pub mod Pairs
+pub mod Apart

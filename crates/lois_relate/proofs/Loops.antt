@@ -79,6 +79,20 @@ module _ (n : ℕ) (Rest Whole : List Atom → Type 0) (A : Bool → Type 0) whe
         | inr p ↦ inr p
       ]
 
+  -- a part that holds nowhere is passed over
+  pub any_pass : (Q Rest' : List Atom → Type 0) (f : FormulaD) → AnySoFar n Rest Whole A f → ((c : List Atom) → Rest c ↔ (Q c ⊎ Rest' c)) → ((c : List Atom) → Q c → ⊥) → AnySoFar n Rest' Whole A f
+  any_pass Q Rest' f so_far split never = record {
+    truth = λ c k. (
+      λ h. (so_far.truth c k).0 (elim h [ inl p ↦ inl p | inr p ↦ inr ((split c).1 (inr p)) ]),
+      λ h. elim ((so_far.truth c k).1 h) [
+        | inl p ↦ inl p
+        | inr p ↦ elim ((split c).0 p) [ inl q ↦ absurd (never c q) | inr q ↦ inr q ]
+      ],
+    );
+    levels = so_far.levels;
+    operators = so_far.operators;
+  }
+
   pub any_end : (f : FormulaD) → ((c : List Atom) → Rest c → ⊥) → AnySoFar n Rest Whole A f → Says n Whole A f
   any_end f rest so_far = record {
     truth = λ c k. (

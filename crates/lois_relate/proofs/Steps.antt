@@ -1,5 +1,5 @@
 -- The steps of the loops over guards, parts and comprehensions.
-use Rattle.std.proofs.Common.{◌≡◌, ℕ, ◌+◌, ◌<◌, ◌≤◌, ◌⊎◌, ◌↔◌, true, false, List, [], ◌∷◌, ◌++◌, length, get_or, drop, map, sym, ap, subst, ◌∙◌}
+use Rattle.std.proofs.Common.{◌≡◌, ℕ, ◌+◌, ◌<◌, ◌≤◌, ◌⊎◌, ◌↔◌, List, ◌∷◌, ◌++◌, length, get_or, drop, map, sym, ap, subst, ◌∙◌}
 use Rattle.std.proofs.lemmas.Bool.{false≢true}
 use Rattle.std.proofs.lemmas.List.{drop_all}
 use Rattle.std.specs.Bool.{IsTrue}
@@ -9,7 +9,7 @@ use Rattle.lois_base.specs.Fits.{LitFits, ConstraintFits, Fits, CompFits}
 use Rattle.lois_base.specs.FormulaData.{FormulaD, lit, any, no_formulas}
 use Rattle.lois_base.specs.Tree.{tree}
 use Rattle.lois_base.specs.Truth.{atom_at, lit_holds, cube_holds, holds}
-use Rattle.lois_base.specs.Validity.{AdmitsLit, AdmitsTerm, AdmitsParts, AdmitsComp, AdmitsItems}
+use Rattle.lois_base.specs.Validity.{AdmitsLit, AdmitsTerm, AdmitsParts, AdmitsItems}
 use Rattle.lois_base.specs.Values.{SameAt, SamePartsAt, AllInAt, EachInAt, SomeIsAt, OneIsAt}
 use Rattle.lois_base.specs.declared.guards.Lit.{Lit}
 use Rattle.lois_base.specs.declared.values.Term.{Term}
@@ -82,15 +82,6 @@ parts_apart n sn tn ts us vs ws f m k differ e = subst (Says n (λ c. SamePartsA
   levels = tt;
   operators = λ o h. tt;
 })
-
--- ---- a comprehension whose guard has no cube
-pub nothing_is : (n m : ℕ) (sn tn : List ℕ) (g : List (List Lit)) (t s : TermD) (f : FormulaD) → length g ≡ 0 → f ≡ any no_formulas → Says n (λ c. OneIsAt (comp m g t) (chosen tn c) s (chosen sn c)) (λ o. AdmitsComp o (comp m g t) × AdmitsTerm o s) f
-nothing_is n m sn tn [] t s f none e = subst (Says n (λ c. OneIsAt (comp m [] t) (chosen tn c) s (chosen sn c)) (λ o. AdmitsComp o (comp m [] t) × AdmitsTerm o s)) (sym e) (record {
-  truth = λ c l. (λ h. absurd h, λ h. absurd (let no : false ≡ true = h.1.guard in cc));
-  levels = tt;
-  operators = λ o h. tt;
-})
-nothing_is n m sn tn (k ∷ g) t s f none e = absurd (cc)
 
 -- ---- atoms and sets
 pub atoms_say : (n : ℕ) (sn tn : List ℕ) (i j l r : ℕ) (f : FormulaD) → AreBelow n sn → AreBelow n tn → i < length sn → j < length tn → l ≡ get_or sn i 0 → r ≡ get_or tn j 0 → ((k : ℕ) → l < k → r < k → Says k (λ c. IsTrue (equal (atom_at c l) (atom_at c r))) (λ o. Unit {0}) f) → (s t : TermD) → s ≡ var i → t ≡ var j → Says n (λ c. SameAt s (chosen sn c) t (chosen tn c)) (λ o. AdmitsTerm o s × AdmitsTerm o t) f

@@ -4,3 +4,4 @@ pub mod Built
 pub mod Alike
 pub mod Singles
 pub mod Compared
+pub mod Apart

@@ -2,9 +2,11 @@
 #![tactic(auto)]
 
 pub mod building;
+mod clashes;
 mod comparing;
 mod matching;
 mod naming;
 mod relating;
 
+pub use clashes::clash;
 pub use relating::{equal_formula, included_formula, item_formula, member_formula};

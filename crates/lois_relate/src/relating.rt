@@ -20,6 +20,7 @@ ghost use Rattle.lois_relate.specs.Relations.{HoldsWhereSame, HoldsWhereIn, Hold
 use crate::building::{
     always, both, either, for_some, implied, is_always, is_never, negated, never,
 };
+use crate::clashes::leaves_out;
 use crate::comparing::{Comparison, Known, both_ways};
 use crate::matching::{is_listed, sets_match};
 use crate::naming::{entered, guard_formula, inner_size};
@@ -387,6 +388,9 @@ fn one_found(
     if let Some(paired) = known {
         return for_some(alloc, paired.copy(alloc)?, other.binders);
     }
+    if leaves_out(other, &comp.item) {
+        return Ok(never(alloc));
+    }
     let inner = inner_size(size, comp.binders)?;
     let longer = entered(alloc, s_names, size, comp.binders)?;
     let names = longer.as_slice();
@@ -411,16 +415,18 @@ fn member(
 {
     let mut found = never(alloc);
     for comp in comps {
-        let one = is_item(alloc, s, s_names, comp, t_names, size)?;
-        found = either(alloc, found, one)?;
-        if is_always(&found) {
-            return Ok(found);
+        if !leaves_out(comp, s) {
+            let one = is_item(alloc, s, s_names, comp, t_names, size)?;
+            found = either(alloc, found, one)?;
+            if is_always(&found) {
+                return Ok(found);
+            }
         }
     }
     Ok(found)
 }
 
-// Where the value is an item of the comprehension at some choice of its binders that its guard admits: nowhere, where it has no cube, and where the item is never the value.
+// Where the value is an item of the comprehension at some choice of its binders that its guard admits: nowhere, where the item is never the value.
 #[cycle(relating)]
 fn is_item(
     alloc: Global,
@@ -436,9 +442,6 @@ fn is_item(
     requires right_names { AreBelow size t_names.now }
     ensures { IfOk result (λ f. Says size (λ c. OneIsAt (comp_of comp.now) (chosen t_names.now c) (tree s.now) (chosen s_names.now c)) (λ o. AdmitsComp o (comp_of comp.now) × AdmitsTerm o (tree s.now)) (view f)) }
 {
-    if comp.guard.len() == 0 {
-        return Ok(never(alloc));
-    }
     let inner = inner_size(size, comp.binders)?;
     let longer = entered(alloc, t_names, size, comp.binders)?;
     let names = longer.as_slice();
@@ -578,6 +581,12 @@ fn pair_compared(
     ensures forth { IfOk result (λ r. SaysPaired size s_names.now (comp_of comp.now) t_names.now (comp_of other.now) (view r.forth)) }
     ensures back { IfOk result (λ r. SaysPaired size t_names.now (comp_of other.now) s_names.now (comp_of comp.now) (view r.back)) }
 {
+    if leaves_out(other, &comp.item) {
+        return Ok(Comparison {
+            forth: never(alloc),
+            back: never(alloc),
+        });
+    }
     let inner = inner_size(size, comp.binders)?;
     let whole = inner_size(inner, other.binders)?;
     let own = entered(alloc, s_names, size, comp.binders)?;

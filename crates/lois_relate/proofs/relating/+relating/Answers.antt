@@ -12,12 +12,13 @@ use Rattle.lois_relate.specs.Built.{Says, IsBoth, IsForSome}
 use Rattle.lois_relate.specs.Compared.{IsForEach, SaysPaired, SaysFound, IsKnown}
 use Rattle.lois_relate.specs.Named.{chosen, levels_from}
 use Rattle.lois_relate.proofs.AlikeSame.{always_says, listed_each, sets_alike}
+use Rattle.lois_relate.proofs.Apart.{item_left_out, pair_left_out, pair_left_out_back}
 use Rattle.lois_relate.proofs.Binders.{one_says, none_says}
 use Rattle.lois_relate.proofs.Loops.{all_go_on, all_cut}
 use Rattle.lois_relate.proofs.Pairs.{item_got, found_goes_on, each_found, pair_item, guarded_item}
 use Rattle.lois_relate.proofs.Parts.{terms_from, terms_are, comps_from, comps_are, is_part_of, is_comp_of}
 use Rattle.lois_relate.proofs.Single.{singles_say, singles_sets, bare_say}
-use Rattle.lois_relate.proofs.Steps.{all_in_split, parts_split, names_below, item_fits, guard_fits, own_below_more, parts_apart, nothing_is, atoms_say, sets_say}
+use Rattle.lois_relate.proofs.Steps.{all_in_split, parts_split, names_below, item_fits, guard_fits, own_below_more, parts_apart, atoms_say, sets_say}
 use Rattle.lois_relate.proofs.Rows.{one_longer, mapped_pushed, rows_more, rows_known, row_more}
 use Rattle.lois_relate.proofs.Turned.{pair_says, pair_stays, pair_turns}
 use Rattle.lois_relate.proofs.relating.+relating.Goals as goal
@@ -72,6 +73,11 @@ one_found-returns-in-Some t c =
     let pair : SaysPaired c.args.size c.args.s_names.now (comp_of comp) c.args.t_names.now (comp_of other) (view c.in_ok-copy.field-0) = subst (SaysPaired c.args.size c.args.s_names.now (comp_of comp) c.args.t_names.now (comp_of other)) (sym c.in_ok-copy.ensures) known in
     IfOk-weaker c.for_some.result (λ r. IsForSome other.binders (view c.in_ok-copy.field-0) (view r)) _ (λ r some. pair_item c.args.size c.args.s_names.now c.args.t_names.now comp.binders comp.guard (tree comp.item) c.requires.left_names c.requires.right_names other.binders other.guard (tree other.item) (view c.in_ok-copy.field-0) (view r) pair some) c.for_some.ensures
 
+pub one_found-returns-then-leaves_out : goal.one_found-returns-then-leaves_out
+one_found-returns-then-leaves_out t c =
+    let comp = c.args.comp.now in
+    item_left_out c.args.size c.args.s_names.now c.args.t_names.now comp.binders comp.guard (tree comp.item) (view c.never.result) c.never.ensures (comp_of c.args.other.now) (c.leaves_out.ensures c.if-leaves_out.true)
+
 pub one_found-is_item-requires : goal.one_found-is_item-requires
 one_found-is_item-requires t c =
     let comp = c.args.comp.now in
@@ -118,11 +124,6 @@ included-returns-then-is_never t c =
     let i = c.loop-place.place in
     let k = is_comp_of items c.args.comps.now i c.index-items-place.result c.as_slice-items.ensures c.loop-place-test.true c.index-items-place.is in
     all_cut c.args.size (λ a. AllInAt (comps_from items (i + 1)) (chosen c.args.s_names.now a) (comps_of c.args.others.now) (chosen c.args.t_names.now a)) _ _ (view c.in_ok-met.met) (c.is_never.ensures.0 c.if-is_never.true) (all_go_on c.args.size _ _ _ _ _ _ (view c.loop-place.met) (view c.in_ok-one.one) (view c.in_ok-met.met) c.loop-place.invariant (λ a. all_in_split (comps_from items i) (comps_from items (i + 1)) (comp_of c.index-items-place.result) (comps_are items i c.index-items-place.result c.loop-place-test.true c.index-items-place.is) (chosen c.args.s_names.now a) (comps_of c.args.others.now) (chosen c.args.t_names.now a)) c.in_ok-one.ensures (λ o h. (k.admits o h.0, h.1)) c.in_ok-met.ensures)
-
-pub is_item-returns-then-len-eq0 : goal.is_item-returns-then-len-eq0
-is_item-returns-then-len-eq0 t c =
-    let comp = c.args.comp.now in
-    nothing_is c.args.size comp.binders c.args.s_names.now c.args.t_names.now comp.guard (tree comp.item) (tree c.args.s.now) (view c.never.result) (sym c.len.ensures ∙ c.if-len-eq0.true) c.never.ensures
 
 pub is_item-same-requires : goal.is_item-same-requires
 is_item-same-requires t c =
@@ -286,6 +287,18 @@ item_compared-loop-other-preserved t c =
       one_longer (views c.loop-other.pairs) _ (views c.push.new.self) i c.loop-other.invariant.1 c.in_ok-push.ensures.ok,
       row_more n (comp_of comp) sn (map comp_of items) tn (views c.loop-other.pairs) (views c.push.new.self) i (comp_of other) _ c.loop-other.invariant.2 c.loop-other.invariant.1 at c.in_ok-push.ensures.ok c.in_ok-forth.ensures.back,
     )
+
+pub pair_compared-returns-then-leaves_out-clause-forth : goal.pair_compared-returns-then-leaves_out-clause-forth
+pair_compared-returns-then-leaves_out-clause-forth t c =
+    let comp = c.args.comp.now in
+    let other = c.args.other.now in
+    pair_left_out c.args.size c.args.s_names.now c.args.t_names.now comp.binders comp.guard (tree comp.item) (view c.never.result) c.never.ensures other.binders other.guard (tree other.item) (c.leaves_out.ensures c.if-leaves_out.true)
+
+pub pair_compared-returns-then-leaves_out-clause-back : goal.pair_compared-returns-then-leaves_out-clause-back
+pair_compared-returns-then-leaves_out-clause-back t c =
+    let comp = c.args.comp.now in
+    let other = c.args.other.now in
+    pair_left_out_back c.args.size c.args.s_names.now c.args.t_names.now comp.binders comp.guard (tree comp.item) (view c.never-then-leaves_out.result) c.never-then-leaves_out.ensures other.binders other.guard (tree other.item) (c.leaves_out.ensures c.if-leaves_out.true)
 
 pub pair_compared-same-requires : goal.pair_compared-same-requires
 pair_compared-same-requires t c =
