@@ -2,7 +2,7 @@
 
 use crate::making::{comps_of, each, lit, pair, set_of};
 use lois_base::{Comp, Comps, Formula, Formulas, Lit, Name, NoMemory, Op, Term, is_name};
-use lois_relate::{equal_formula, included_formula, item_formula, member_formula};
+use lois_relate::{clash, equal_formula, included_formula, item_formula, member_formula};
 use std::alloc::Global;
 use std::process::Abort;
 use std::test::Fail;
@@ -242,6 +242,41 @@ fn values_are_equal(rt: HostRuntime) -> Result<(), Fail> {
         let t = value_of(&rt, alloc, second)?;
         assert_eq!(rt; equal(&rt, alloc, &s, &t)?, wanted, "{first:?} {second:?}");
     }
+    Ok(())
+}
+
+// values that clash have another shape, wherever their atoms lie
+#[test]
+fn shapes_clash(rt: HostRuntime) -> Result<(), Fail> {
+    let alloc = rt.alloc();
+    let rows = [
+        (Value::Tag(b"a"), Value::Tag(b"a"), false),
+        (Value::Tag(b"a"), Value::Tag(b"b"), true),
+        (Value::Tag(b"a"), Value::Atom(0), true),
+        (Value::Atom(0), Value::Atom(1), false),
+        (Value::Pair(0, 0), Value::Pair(0, 1), false),
+        (Value::Pair(0, 1), Value::Of(Set::Atoms), true),
+        (Value::Of(Set::SetsAbove), Value::Of(Set::Atoms), false),
+    ];
+    for (first, second, wanted) in rows {
+        let s = value_of(&rt, alloc, first)?;
+        let t = value_of(&rt, alloc, second)?;
+        assert_eq!(rt; clash(&s, &t), wanted, "{first:?} {second:?}");
+    }
+    Ok(())
+}
+
+// tuples of other lengths, and tuples with a part that clashes
+#[test]
+fn tuples_clash(rt: HostRuntime) -> Result<(), Fail> {
+    let alloc = rt.alloc();
+    let mut three = pair(alloc, Term::Var(0), Term::Var(1))?;
+    three.push(Term::Var(0))?;
+    let two = value_of(&rt, alloc, Value::Pair(0, 1))?;
+    let tagged = Term::Tup(pair(alloc, Term::Var(0), tag(&rt, alloc, b"a")?)?);
+    assert!(rt; clash(&two, &Term::Tup(three)));
+    assert!(rt; clash(&two, &tagged));
+    assert!(rt; !clash(&tagged, &tagged));
     Ok(())
 }
 
