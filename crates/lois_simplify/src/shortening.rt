@@ -37,8 +37,8 @@ fn joined_literals(alloc: Global, before: &Cube, behind: &[Lit]) -> Result<Cube,
     Ok(joined)
 }
 
-// The cube with a literal more.
-fn with_one_more(alloc: Global, cube: &Cube, lit: Lit) -> Result<Cube, NoMemory>
+// A cube that is longer by the literal.
+fn longer_cube(alloc: Global, cube: &Cube, lit: Lit) -> Result<Cube, NoMemory>
     ensures { IfOk result (λ r. r ≡ cube.now ++ lit ∷ []) }
 {
     let mut longer = cube.copy(alloc)?;
@@ -58,7 +58,7 @@ fn has_gained(
 {
     let turned = alternatives(alloc, lit)?;
     for other in turned.as_slice() {
-        let gained = with_one_more(alloc, without, *other)?;
+        let gained = longer_cube(alloc, without, *other)?;
         if !has_cube(alloc, others, &gained, under)? {
             return Ok(false);
         }
