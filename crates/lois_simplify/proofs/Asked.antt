@@ -77,6 +77,10 @@ pub some_there : {X : Type 0} (P : X → Type 0) (o : Option X) (b : Bool) → i
 some_there P None b e f h = absurd (cc)
 some_there P (Some x) b e f h = (x, h)
 
+pub some_yes : {X : Type 0} (P : X → Type 0) (o : Option X) (b : Bool) → b ≡ is_some o → IsTrue b → IfSome o P → (x : X) × P x
+some_yes P None b e t h = absurd (cc)
+some_yes P (Some x) b e t h = (x, h)
+
 pub ok_both : {X E : Type 0} (P Q R : X → Type 0) (r : Result X E) → ((x : X) → P x → Q x → R x) → IfOk r P → IfOk r Q → IfOk r R
 ok_both P Q R (Ok x) f p q = f x p q
 ok_both P Q R (Err e) f p q = p

@@ -1,5 +1,5 @@
 -- Comprehensions beside others: what they still have of their own, and what the others cover.
-use Rattle.std.proofs.Common.{◌≡◌, ℕ, ◌+◌, ◌⊎◌, inl, inr, ◌&&◌, ◌↔◌, List, [], ◌∷◌, ◌++◌, length, take, drop, sym, ap, ◌∙◌, subst, arith, append_assoc, length-append}
+use Rattle.std.proofs.Common.{◌≡◌, ℕ, refl, ◌+◌, ◌⊎◌, inl, inr, ◌&&◌, ◌↔◌, List, [], ◌∷◌, ◌++◌, length, take, drop, sym, ap, ◌∙◌, subst, arith, append_assoc, length-append}
 use Rattle.std.proofs.lemmas.Bool.{and_parts}
 use Rattle.std.proofs.lemmas.List.{take-append-drop, length-take-le, length-drop}
 use Rattle.std.specs.Bool.{IsTrue, IsFalse}
@@ -8,16 +8,19 @@ use Rattle.std.proofs.lemmas.List.Elements.{Contains-append_left, Contains-appen
 use Rattle.lois_base.specs.Atom.{Atom}
 use Rattle.lois_base.specs.Data.{TermD, CompD, comp, comps_of}
 use Rattle.lois_base.specs.Fits.{ConstraintFits}
-use Rattle.lois_base.specs.FormulaData.{FormulaD}
+use Rattle.lois_base.specs.FormulaData.{FormulaD, any, no_formulas}
+use Rattle.lois_base.specs.FormulaTruth.{FormulaHolds}
+use Rattle.lois_base.specs.Normal.{both}
 use Rattle.lois_base.specs.Truth.{holds}
 use Rattle.lois_base.specs.Values.{MakesAt, MemberAt, InAt}
 use Rattle.lois_base.specs.declared.guards.Lit.{Lit}
+use Rattle.lois_base.proofs.Both.{holds_both}
 use Rattle.lois_elim.specs.Bound.{AgreesWith}
 use Rattle.lois_relate.specs.Built.{IsEither}
 use Rattle.lois_relate.specs.Relations.{HoldsWhereItemIn}
 use Rattle.lois_simplify.specs.Covered.{IsCovered}
 use Rattle.lois_simplify.specs.Kept.{IsSameWhere, set_of}
-use Rattle.lois_simplify.specs.Lean.{HasOwn, EachHasOwn}
+use Rattle.lois_simplify.specs.Lean.{IsLeanAlone, HasOwn, EachHasOwn}
 use Rattle.lois_simplify.proofs.Inserted.{holds_before}
 use Rattle.lois_simplify.proofs.Members.{contains_cases, member_made, made_member, member_more, member_in, in_more, sets_same}
 
@@ -134,3 +137,13 @@ module _ (u : List (List Lit)) (n m : ℕ) (g : List (List Lit)) (t : TermD) (ot
           λ p. (agrees (c ++ e) long).1 ((member c e l k).1 p),
         );
   }
+
+-- where no other can have the item, the comprehension has a member of its own
+pub alone_has_own : (u : List (List Lit)) (n m : ℕ) (g : List (List Lit)) (t : TermD) (others : List CompD) (f : FormulaD) → ConstraintFits n u → HoldsWhereItemIn n m t (comps_of others) f → f ≡ any no_formulas → IsLeanAlone u n m g t → HasOwn u n others (comp m g t)
+alone_has_own u n m g t others f fits member never lean =
+    let asked : IsAsked u n m g t others (both u g) [] = record {
+      under = fits;
+      here = λ c. holds_both c u g;
+      within = λ c e l k. ((λ p. absurd (cc)), λ i. absurd (subst (FormulaHolds (c ++ e)) never ((member c e l k).1 i)));
+    } in
+    asked_own u n m g t others (both u g) [] asked lean.met.0 (lean.met.1).count (lean.met.1).met refl

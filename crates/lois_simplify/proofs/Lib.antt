@@ -1,3 +1,4 @@
+pub mod Always
 pub mod Asked
 pub mod Beside
 pub mod Inserted

@@ -1,5 +1,5 @@
 -- One comprehension in the place of another, round by round.
-use Rattle.std.proofs.Common.{◌≡◌, ℕ, suc, ◌+◌, ◌<◌, ◌≤◌, ◌⊎◌, inl, inr, ◌&&◌, List, [], sym, ap, ◌∙◌, subst, arith}
+use Rattle.std.proofs.Common.{◌≡◌, ℕ, suc, ◌+◌, ◌<◌, ◌≤◌, ◌⊎◌, inl, inr, ◌&&◌, List, [], ◌∷◌, sym, ap, ◌∙◌, subst, arith}
 use Rattle.std.specs.Prelude.{Bool}
 use Rattle.std.specs.Bool.{IsTrue}
 use Rattle.std.proofs.lemmas.Bool.{cases_order}
@@ -16,15 +16,19 @@ use Rattle.lois_base.specs.declared.guards.Lit.{Lit}
 use Rattle.lois_base.specs.declared.values.Comp.{Comp}
 use Rattle.lois_base.proofs.Both.{holds_both}
 use Rattle.lois_base.proofs.RenamedForm.{NamesFit, depth_renamed, widths_renamed, admits_renamed, fits_renamed}
+use Rattle.lois_constraint.specs.Normalised.{IsNormalised}
 use Rattle.lois_deciders.specs.Asked.{CanBeMet}
 use Rattle.lois_base.specs.Bound.{HoldsForSome}
 use Rattle.lois_simplify.specs.Fixed.{IsFixed}
 use Rattle.lois_simplify.specs.Kept.{IsSameWhere, IsKept, set_of}
 use Rattle.lois_simplify.specs.Lean.{HasNormalGuards, IsLeanAlone, IsLeanComp}
 use Rattle.lois_simplify.specs.Moved.{moved}
-use Rattle.lois_simplify.specs.Rounds.{only, IsRoundOf, IsOpen, IsClosingOf, IsKeptEverywhere}
+use Rattle.lois_simplify.specs.Rounds.{only, IsRoundOf, IsOpen, IsOpeningOf, IsClosingOf, IsKeptEverywhere}
+use Rattle.lois_simplify.specs.declared.rounds.Opening.{Opening}
+use Rattle.lois_simplify.specs.declared.rounds.Opening.TheVariants.{Over, Open}
 use Rattle.lois_simplify.specs.declared.rounds.Round.{Round}
 use Rattle.lois_simplify.specs.declared.rounds.Round.TheVariants.{Lean, Empty, Shorter}
+use Rattle.lois_simplify.proofs.Always.{always_adds_nothing, always_is_normalised}
 use Rattle.lois_simplify.proofs.Inserted.{moved_below, moved_at, moved_above}
 use Rattle.lois_simplify.proofs.Kept.{kept_refl, kept_trans}
 use Rattle.lois_simplify.proofs.Single.{guard_changed, item_changed, nothing_there, CanLeave, binder_left_out}
@@ -148,18 +152,36 @@ module _ (n : ℕ) where
   unused_less m m' b g h t s count e from below some levels admits whole unused u f =
       binder_less u n m m' b 0 g h t s count e f from below some levels admits whole (unused_can_leave u n (n + m) b 0 g t unused)
 
--- ---- unused binders are left out, and the guard is shortened and normalised
-module _ (n : ℕ) (k : CompD) (m : ℕ) (g h : List (List Lit)) (t : TermD) (used : IsKeptEverywhere n k (comp m g t)) where
-  pub prepared_fits : ((j : ℕ) → ConstraintFits j g → ConstraintFits j h) → CompFits n k → CompFits n (comp m h t)
-  prepared_fits fits f =
-      let whole = everywhere_fits n k (comp m g t) used f in (whole.0, fits (n + m) whole.1, whole.2)
+-- ---- a comprehension without binders, whose guard always holds
+pub always_open : (u : List (List Lit)) (n m : ℕ) (g : List (List Lit)) → m ≡ 0 → g ≡ [] ∷ [] → ConstraintFits n u → CanBeMet n u → IsOpen u n m g u
+always_open u n m g none always fits met =
+    let same : n ≡ n + m = omega (arith, none) in
+    record {
+      levels = subst (λ j. ConstraintFits j u) same fits;
+      operators = λ o a b. a;
+      here = always_adds_nothing u g always;
+      guard = subst IsNormalised (sym always) always_is_normalised;
+      met = subst (λ j. CanBeMet j u) same met;
+      free = λ b from below. absurd (omega (arith, none, from, below));
+    }
 
-  pub prepared_admits : (o : Bool) → (AdmitsConstraint o g → AdmitsConstraint o h) → AdmitsComp o k → AdmitsConstraint o h
-  prepared_admits o admits f = admits (everywhere_admits n k (comp m g t) used o f).0
-
-  pub prepared_kept : (u : List (List Lit)) → ConstraintFits n u → ((c : List Atom) → IsTrue (holds c u) → holds c h ≡ holds c g) → ((j : ℕ) → ConstraintFits j g → ConstraintFits j h) → ((o : Bool) → AdmitsConstraint o g → AdmitsConstraint o h) → IsKept u n (set_of (only k)) (set_of (only (comp m h t)))
-  prepared_kept u f same fits admits =
-      kept_trans u n (set_of (only k)) (set_of (only (comp m g t))) (set_of (only (comp m h t))) (used u f) (guard_kept u n m g h t f same fits admits)
+-- ---- what is made of the comprehension without its unused binders is made of the comprehension
+pub opened_without_unused : (u : List (List Lit)) (n : ℕ) (k s : Comp) (x : Opening) → ConstraintFits n u → IsKeptEverywhere n (comp_of k) (comp_of s) → s.binders ≤ k.binders → IsOpeningOf u n s x → IsOpeningOf u n k x
+opened_without_unused u n k s (Over (Lean r)) fits kept less o = (
+  kept_trans u n (set_of (only (comp_of k))) (set_of (only (comp_of s))) (set_of (only (comp_of r))) (kept u fits) o.0,
+  o.1,
+)
+opened_without_unused u n k s (Over Empty) fits kept less o =
+    kept_trans u n (set_of (only (comp_of k))) (set_of (only (comp_of s))) (set_of []) (kept u fits) o
+opened_without_unused u n k s (Over (Shorter r)) fits kept less o = (
+  kept_trans u n (set_of (only (comp_of k))) (set_of (only (comp_of s))) (set_of (only (comp_of r))) (kept u fits) o.0,
+  omega (arith, o.1, less),
+)
+opened_without_unused u n k s (Open r) fits kept less o = (
+  kept_trans u n (set_of (only (comp_of k))) (set_of (only (comp_of s))) (set_of (only (comp_of r.comp))) (kept u fits) o.0,
+  omega (arith, o.1, less),
+  o.2,
+)
 
 -- binders that were unused are left out
 pub record UsedSoFar (n : ℕ) (k r : Comp) : Type 0 where

@@ -1,10 +1,10 @@
 -- Cubes and literals that are left out where others have what they hold.
-use Rattle.std.proofs.Common.{◌≡◌, ℕ, ◌+◌, ◌<◌, ◌⊎◌, inl, inr, ◌&&◌, ◌||◌, not, Bool, true, false, List, [], ◌∷◌, ◌++◌, length, get_or, take, drop, refl, sym, ap, ◌∙◌, subst}
+use Rattle.std.proofs.Common.{◌≡◌, ℕ, ◌+◌, ◌<◌, ◌⊎◌, inl, inr, ◌&&◌, ◌||◌, not, Bool, true, false, List, [], ◌∷◌, ◌++◌, length, get_or, take, drop, refl, sym, ap, ◌∙◌, subst, arith}
 use Rattle.std.proofs.lemmas.Bool.{and_parts, and_from, or_cases, or_left, or_right}
 use Rattle.std.proofs.lemmas.List.{take_more, take-append-drop}
 use Rattle.std.specs.Bool.{IsTrue, IsFalse}
-use Rattle.std.specs.List.{All, list_any}
-use Rattle.std.proofs.lemmas.List.Elements.{All-cons, All-head, All-tail}
+use Rattle.std.specs.List.{All, list_any, remove}
+use Rattle.std.proofs.lemmas.List.Elements.{All-cons, All-head, All-tail, All-push}
 use Rattle.std.proofs.lemmas.List.Folds.{list_any-append}
 use Rattle.lois_base.specs.Atom.{Atom}
 use Rattle.lois_base.specs.Fits.{LitFits, CubeFits, ConstraintFits}
@@ -151,6 +151,42 @@ module _ (u : List (List Lit)) where
       whole : (e : List Atom) → IsTrue (cube_holds e k) ⊎ IsTrue (holds e (p ++ q)) → IsTrue (holds e (p ++ k ∷ q))
       whole e (inl i) = in_middle e p q k i
       whole e (inr i) = with_middle e p q k i
+
+  -- ---- the first cube goes behind the others
+  pub shortened_itself : (g : List (List Lit)) → IsShortened u g g
+  shortened_itself g = shortened_alike g g (λ e. refl) (λ n f. f) (λ o f. f)
+
+  first_behind : (q : List (List Lit)) (r : List Lit) → IsShortened u (r ∷ q) (q ++ r ∷ [])
+  first_behind q r =
+      shortened_alike (r ∷ q) (q ++ r ∷ []) (λ e. holds_append e q (r ∷ []) ∙ turned (holds e q) (cube_holds e r))
+      (λ n f. All-push (CubeFits n) q r (All-tail (CubeFits n) r q f) (All-head (CubeFits n) r q f))
+      (λ o f. All-push (AdmitsCube o) q r (All-tail (AdmitsCube o) r q f) (All-head (AdmitsCube o) r q f))
+    where
+      turned : (a b : Bool) → (a || (b || false)) ≡ (b || a)
+      turned true true = refl
+      turned true false = refl
+      turned false true = refl
+      turned false false = refl
+
+  pub first_left_out : (g q : List (List Lit)) (k : List Lit) → g ≡ k ∷ q → CubeEntails u k q → IsShortened u g q
+  first_left_out g q k e covered =
+      subst (λ z. IsShortened u z q) (sym e) (cube_left_out [] q k covered)
+
+  pub first_weakened : (g q p : List (List Lit)) (k r : List Lit) → g ≡ k ∷ q → p ≡ q ++ r ∷ [] → IsWeakened u (k ∷ q) k r → IsShortened u g p
+  first_weakened g q p k r e f w =
+      subst (λ z. IsShortened u z p) (sym e)
+      (subst (IsShortened u (k ∷ q)) (sym f) (shortened_then (k ∷ q) (r ∷ q) (q ++ r ∷ []) (cube_weakened [] q k r w) (first_behind q r)))
+
+  pub cube_itself : (q : List (List Lit)) (k : List Lit) → IsWeakened u (k ∷ q) k k
+  cube_itself q k = weakened_begin u (k ∷ q) k (λ e o h. or_left (cube_holds e k) (holds e q) h)
+
+pub held_by_others : (e : List Atom) (k : List Lit) (q : List (List Lit)) → IsTrue (holds e q) → IsTrue (holds e (k ∷ q))
+held_by_others e k q h = or_right (cube_holds e k) (holds e q) h
+
+-- the first of a list, and what is left of it
+pub first_and_rest : {X : Type 0} (xs rest : List X) (x : X) → 0 < length xs → x ≡ get_or xs 0 x → rest ≡ remove xs 0 → xs ≡ x ∷ rest
+first_and_rest [] rest x l e r = absurd (omega (arith, l))
+first_and_rest (y ∷ ys) rest x l e r = ap (λ z. z ∷ ys) (sym e) ∙ ap (λ z. x ∷ z) (sym r)
 
 -- what is alike wherever u holds is equally true there
 pub equally_true : (u g r : List (List Lit)) → IsShortened u g r → (e : List Atom) → IsTrue (holds e u) → holds e r ≡ holds e g

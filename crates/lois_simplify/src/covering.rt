@@ -1,7 +1,8 @@
 //! Comprehensions whose members the others have.
 
-ghost use Rattle.std.specs.Prelude.{◌+◌, [], ◌++◌, map, Bool, IfOk, IsTrue, IsFalse, Contains};
-ghost use Rattle.lois_base.specs.Data.{CompD, comps_of};
+ghost use Rattle.std.specs.Prelude.{◌≡◌, ◌+◌, [], ◌++◌, map, Bool, IfOk, IsTrue, IsFalse, Contains};
+ghost use Rattle.std.specs.List.{All};
+ghost use Rattle.lois_base.specs.Data.{CompD, comp, var, comps_of};
 ghost use Rattle.lois_base.specs.Fits.{ConstraintFits, CompFits, ItemsFit};
 ghost use Rattle.lois_base.specs.FormulaData.{FormulaFits};
 ghost use Rattle.lois_base.specs.FormulaView.{view};
@@ -9,14 +10,14 @@ ghost use Rattle.lois_base.specs.Tree.{tree, comp_of};
 ghost use Rattle.lois_base.specs.Validity.{AdmitsTerm, AdmitsComp, AdmitsItems, AdmitsFormula};
 ghost use Rattle.lois_relate.specs.Relations.{HoldsWhereItemIn};
 ghost use Rattle.lois_simplify.specs.Kept.{IsKept, set_of};
-ghost use Rattle.lois_simplify.specs.Lean.{HasOwn, EachHasOwn};
+ghost use Rattle.lois_simplify.specs.Lean.{IsLeanComp, HasOwn, EachHasOwn};
 ghost use Rattle.lois_simplify.specs.Covered.{IsCovered};
 
 use crate::answering::Answers;
+use crate::guards::inside;
 use lois_base::{Comp, Comps, Constraint, Formula, NoMemory, Structure, Term};
-use lois_constraint::meet;
 use lois_elim::quantifier_free;
-use lois_relate::building::either;
+use lois_relate::building::{either, is_never};
 use lois_relate::item_formula;
 use std::alloc::Global;
 use std::mem;
@@ -41,7 +42,8 @@ fn item_among(
     either(alloc, before, behind)
 }
 
-// Whether those before it and behind it have each member of the comprehension wherever `under` holds.
+// Whether those before it and behind it have each member of the comprehension wherever `under` holds. Where none of them can
+// have the item, they haven't the members that the comprehension has.
 fn is_covered<T: Structure, D: Answers>(
     alloc: Global,
     comp: &Comp,
@@ -59,20 +61,26 @@ fn is_covered<T: Structure, D: Answers>(
     requires operators { AdmitsComp T.ordered (comp_of comp.now) }
     requires kept_operators { AdmitsItems T.ordered (comps_of kept.now) }
     requires coming_operators { AdmitsItems T.ordered (comps_of (map comp_of coming.now)) }
+    requires lean { IsLeanComp under.now size (comp_of comp.now) }
     ensures covered { IfOk result (λ b. IsTrue b → IsCovered under.now size (kept.now ++ map comp_of coming.now) (comp_of comp.now)) }
     ensures own { IfOk result (λ b. IsFalse b → HasOwn under.now size (kept.now ++ map comp_of coming.now) (comp_of comp.now)) }
     ensures asked { D.reaches decider.old decider.new }
 {
-    let inner = size + comp.binders;
     let membership = item_among(alloc, comp, kept, coming, size)?;
+    if is_never(&membership) {
+        return Ok(false);
+    }
+    let inner = size + comp.binders;
     let within = quantifier_free::<T>(alloc, &membership, inner)?;
-    let here = meet(alloc, under, &comp.guard)?;
+    let here = inside(alloc, under, &comp.guard)?;
     let sample = decider.counterexample(alloc, &here, &within, inner)?;
     Ok(sample.is_none())
 }
 
 // What stands in the place of a comprehension that was moved.
-fn moved_away(alloc: Global) -> Comp {
+fn moved_away(alloc: Global) -> Comp
+    ensures { comp_of result ≡ comp 0 [] (var 0) }
+{
     Comp {
         binders: 0,
         guard: Constraint::new(alloc),
@@ -93,6 +101,7 @@ pub(crate) fn uncovered<T: Structure, D: Answers>(
     requires levels { ItemsFit size (comps_of comps) }
     requires under_levels { ConstraintFits size under.now }
     requires operators { AdmitsItems T.ordered (comps_of comps) }
+    requires lean { All (IsLeanComp under.now size) comps }
     ensures kept { IfOk result (λ r. IsKept under.now size (set_of comps) (set_of r)) }
     ensures only { IfOk result (λ r. (k : CompD) → Contains r k → Contains comps k) }
     ensures own { IfOk result (λ r. EachHasOwn under.now size [] r []) }

@@ -11,7 +11,7 @@ ghost use Rattle.lois_simplify.specs.Fixed.{IsFixed, CanBeApart};
 
 use crate::answering::Answers;
 use lois_base::{Constraint, Cube, Lit, NoMemory, Op, Term};
-use lois_constraint::meet;
+use lois_constraint::and;
 use lois_terms::occurs;
 use std::alloc::Global;
 
@@ -37,7 +37,7 @@ fn apart(alloc: Global, left: usize, right: usize) -> Result<Constraint, NoMemor
 }
 
 // Whether the binder has the atom of the level wherever the constraint holds. The sample tells of most pairs that they can
-// differ.
+// differ. A question needs no pruned constraint.
 fn is_fixed<D: Answers>(
     alloc: Global,
     here: &Constraint,
@@ -59,7 +59,7 @@ fn is_fixed<D: Answers>(
     if sample[level] != sample[binder] {
         return Ok(false);
     }
-    let different = meet(alloc, here, &apart(alloc, binder, level)?)?;
+    let different = and(alloc, here, &apart(alloc, binder, level)?)?;
     let other = decider.sample(alloc, &different, size)?;
     Ok(other.is_none())
 }

@@ -5,6 +5,7 @@ mod answering;
 mod covering;
 mod distinct;
 mod fixing;
+mod guards;
 mod moving;
 mod rounds;
 mod shortening;

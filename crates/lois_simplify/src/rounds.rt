@@ -1,13 +1,15 @@
 //! One round of making a comprehension lean: what is seen of it before its item is simplified, and after.
 
-ghost use Rattle.std.specs.Prelude.{◌+◌, ◌≤◌, IfOk};
+ghost use Rattle.std.specs.Prelude.{◌≡◌, ◌+◌, ◌≤◌, [], ◌∷◌, IfOk, IsTrue};
 ghost use Rattle.lois_base.specs.Fits.{ConstraintFits, CompFits};
 ghost use Rattle.lois_base.specs.Tree.{comp_of};
 ghost use Rattle.lois_base.specs.Validity.{AdmitsComp};
+ghost use Rattle.lois_deciders.specs.Asked.{CanBeMet};
 ghost use Rattle.lois_simplify.specs.Rounds.{IsOpeningOf, IsClosingOf, IsKeptEverywhere};
 
 use crate::answering::Answers;
 use crate::fixing::{fixed_binder, unused_binder};
+use crate::guards::is_always;
 use crate::moving::without_binder;
 use crate::shortening::shortened;
 use lois_base::{Comp, Constraint, NoMemory, Structure};
@@ -50,9 +52,46 @@ fn with_used_binders<T: Structure>(alloc: Global, comp: Comp, size: usize) -> Re
     Ok(current)
 }
 
+// Whether it is written as a comprehension that has one member at each choice.
+fn has_one_member(alloc: Global, comp: &Comp) -> Result<bool, NoMemory>
+    ensures { IfOk result (λ b. IsTrue b → (comp.now.binders ≡ 0) × (comp.now.guard ≡ [] ∷ [])) }
+{
+    if comp.binders != 0 {
+        return Ok(false);
+    }
+    is_always(alloc, &comp.guard)
+}
+
 /// Drops a comprehension without members, and leaves out the first binder that is fixed. Binders that the item doesn't use go
-/// before any decider is asked.
+/// before any decider is asked. `met` says that `under` is known to be met somewhere: then nothing is asked about a comprehension
+/// that has one member at each choice.
 pub(crate) fn open_round<T: Structure, D: Answers>(
+    alloc: Global,
+    comp: Comp,
+    under: &Constraint,
+    met: bool,
+    size: usize,
+    decider: &mut D,
+) -> Result<Opening, NoMemory>
+    requires sound { D.sound }
+    requires levels { CompFits size (comp_of comp) }
+    requires under_levels { ConstraintFits size under.now }
+    requires operators { AdmitsComp T.ordered (comp_of comp) }
+    requires met { IsTrue met → CanBeMet size under.now }
+    ensures opening { IfOk result (IsOpeningOf under.now size comp) }
+    ensures asked { D.reaches decider.old decider.new }
+{
+    let comp = with_used_binders::<T>(alloc, comp, size)?;
+    let single = has_one_member(alloc, &comp)?;
+    if met && single {
+        let here = under.copy(alloc)?;
+        return Ok(Opening::Open(Open { comp, here }));
+    }
+    open_asked::<T, D>(alloc, comp, under, size, decider)
+}
+
+// The same where a decider has to be asked.
+fn open_asked<T: Structure, D: Answers>(
     alloc: Global,
     comp: Comp,
     under: &Constraint,
@@ -66,7 +105,6 @@ pub(crate) fn open_round<T: Structure, D: Answers>(
     ensures opening { IfOk result (IsOpeningOf under.now size comp) }
     ensures asked { D.reaches decider.old decider.new }
 {
-    let comp = with_used_binders::<T>(alloc, comp, size)?;
     let inner = size + comp.binders;
     let guard = shortened(alloc, &comp.guard, under)?;
     let comp = Comp {

@@ -3,28 +3,20 @@
 ghost use Rattle.std.specs.Prelude.{◌≡◌, [], ◌∷◌, ◌++◌, List, IfOk, IsTrue, IsFalse};
 ghost use Rattle.lois_base.specs.Atom.{Atom};
 ghost use Rattle.lois_base.specs.Truth.{lit_holds, cube_holds, holds};
-ghost use Rattle.lois_simplify.specs.Shortened.{CubeEntails, IsWeakened, IsShortened};
+ghost use Rattle.lois_simplify.specs.Shortened.{IsWeakened, IsShortened};
 
 use lois_base::{Constraint, Cube, Lit, NoMemory};
-use lois_constraint::{alternatives, has_cube, or, prune};
+use lois_constraint::{alternatives, has_cube, prune};
 use std::alloc::Global;
 
-fn alone(alloc: Global, cube: &Cube) -> Result<Constraint, NoMemory>
-    ensures { IfOk result (λ r. r ≡ cube.now ∷ []) }
+fn constraint_of(alloc: Global, cubes: Vec<Cube>) -> Result<Constraint, NoMemory>
+    ensures { IfOk result (λ r. r ≡ cubes.items) }
 {
     let mut constraint = Constraint::new(alloc);
-    constraint.push(cube.copy(alloc)?)?;
-    Ok(constraint)
-}
-
-fn joined_cubes(alloc: Global, before: &Constraint, behind: &[Cube]) -> Result<Constraint, NoMemory>
-    ensures { IfOk result (λ r. r ≡ before.now ++ behind.now) }
-{
-    let mut joined = before.copy(alloc)?;
-    for cube in behind {
-        joined.push(cube.copy(alloc)?)?;
+    for cube in cubes {
+        constraint.push(cube)?;
     }
-    Ok(joined)
+    Ok(constraint)
 }
 
 fn joined_literals(alloc: Global, before: &Cube, behind: &[Lit]) -> Result<Cube, NoMemory>
@@ -37,8 +29,8 @@ fn joined_literals(alloc: Global, before: &Cube, behind: &[Lit]) -> Result<Cube,
     Ok(joined)
 }
 
-// The cube with a literal more.
-fn with_one_more(alloc: Global, cube: &Cube, lit: Lit) -> Result<Cube, NoMemory>
+// A cube that is longer by the literal.
+fn longer_cube(alloc: Global, cube: &Cube, lit: Lit) -> Result<Cube, NoMemory>
     ensures { IfOk result (λ r. r ≡ cube.now ++ lit ∷ []) }
 {
     let mut longer = cube.copy(alloc)?;
@@ -58,7 +50,7 @@ fn has_gained(
 {
     let turned = alternatives(alloc, lit)?;
     for other in turned.as_slice() {
-        let gained = with_one_more(alloc, without, *other)?;
+        let gained = longer_cube(alloc, without, *other)?;
         if !has_cube(alloc, others, &gained, under)? {
             return Ok(false);
         }
@@ -66,15 +58,15 @@ fn has_gained(
     Ok(true)
 }
 
-// The cube without the literals that can be left out, one after the other.
+// The cube without the literals that can be left out, one after the other. What it gains by that lies outside of the cube, so
+// the others have to have it.
 fn weakened(
     alloc: Global,
     cube: &Cube,
     others: &Constraint,
     under: &Constraint,
 ) -> Result<Cube, NoMemory>
-    requires { CubeEntails under.now cube.now others.now }
-    ensures { IfOk result (IsWeakened under.now others.now cube.now) }
+    ensures { IfOk result (IsWeakened under.now (cube.now ∷ others.now) cube.now) }
 {
     let literals = cube.as_slice();
     let mut kept = Cube::new(alloc);
@@ -87,26 +79,22 @@ fn weakened(
     Ok(kept)
 }
 
-// The cubes before the cube, and what of it those before and behind it haven't.
-fn put_short(
-    alloc: Global,
-    before: Constraint,
-    cube: &Cube,
-    behind: &[Cube],
-    under: &Constraint,
-) -> Result<Constraint, NoMemory>
-    ensures { IfOk result (λ r. IsShortened under.now (before ++ cube.now ∷ behind.now) (r ++ behind.now)) }
+// The first cube goes behind the others, with what they haven't of it.
+fn turned(alloc: Global, constraint: Constraint, under: &Constraint) -> Result<Constraint, NoMemory>
+    ensures { IfOk result (IsShortened under.now constraint) }
 {
-    let others = joined_cubes(alloc, &before, behind)?;
-    if has_cube(alloc, &others, cube, under)? {
-        return Ok(before);
+    if constraint.len() == 0 {
+        return Ok(constraint);
     }
-    let single = alone(alloc, cube)?;
-    let all = or(alloc, &single, &others)?;
-    let short = weakened(alloc, cube, &all, under)?;
-    let mut kept = before;
-    kept.push(short)?;
-    Ok(kept)
+    let mut cubes = constraint.into_vec();
+    let first = cubes.remove(0);
+    let mut others = constraint_of(alloc, cubes)?;
+    if has_cube(alloc, &others, &first, under)? {
+        return Ok(others);
+    }
+    let short = weakened(alloc, &first, &others, under)?;
+    others.push(short)?;
+    Ok(others)
 }
 
 /// A constraint that holds at the same choices as the given one wherever `under` does, without cubes that others have there, and
@@ -118,11 +106,9 @@ pub(crate) fn shortened(
 ) -> Result<Constraint, NoMemory>
     ensures { IfOk result (IsShortened under.now c.now) }
 {
-    let pruned = prune(alloc, c)?;
-    let cubes = pruned.as_slice();
-    let mut kept = Constraint::new(alloc);
-    for (index, cube) in cubes.iter().enumerate() {
-        kept = put_short(alloc, kept, cube, &cubes[index + 1..], under)?;
+    let mut held = prune(alloc, c)?;
+    for _ in 0..held.len() {
+        held = turned(alloc, held, under)?;
     }
-    Ok(kept)
+    Ok(held)
 }

@@ -1,6 +1,6 @@
 //! Normal terms.
 
-ghost use Rattle.std.specs.Prelude.{◌+◌, ◌<◌, ◌≤◌, ◌↔◌, Bool, IfOk, IfSome, IsNone};
+ghost use Rattle.std.specs.Prelude.{◌+◌, ◌<◌, ◌≤◌, ◌↔◌, Bool, IfOk, IfSome, IsNone, IsTrue};
 ghost use Rattle.std.specs.List.{All};
 ghost use Rattle.lois_base.specs.Data.{depth, tup, terms_of, comps_of};
 ghost use Rattle.lois_base.specs.Fits.{ConstraintFits, Fits, PartsFit, CompFits, ItemsFit};
@@ -17,6 +17,7 @@ ghost use Rattle.lois_simplify.specs.Rounds.{only, listed, IsRoundOf};
 use crate::answering::{Answers, Asking};
 use crate::covering::uncovered;
 use crate::distinct::distinct;
+use crate::guards::is_always;
 use crate::rounds::{Open, Opening, Round, close_round, open_round};
 use lois_base::{Comp, Comps, Constraint, Decider, NoMemory, Structure, Term, Terms};
 use lois_deciders::Chosen;
@@ -73,6 +74,54 @@ pub fn simplify<T: Structure>(
     simplified_copy::<T, _>(alloc, term, under, size, &mut asking)
 }
 
+fn is_plain(term: &Term) -> bool {
+    match term {
+        Term::Var(_) => true,
+        Term::Tag(_) => true,
+        _ => false,
+    }
+}
+
+fn are_plain(parts: &Terms) -> bool {
+    for part in parts.as_slice() {
+        if !is_plain(part) {
+            return false;
+        }
+    }
+    true
+}
+
+// Whether the term may have sets. Nothing rests on the answer but whether a question is worth its time.
+fn may_have_sets(term: &Term) -> bool {
+    match term {
+        Term::Tup(parts) => !are_plain(parts),
+        other => !is_plain(other),
+    }
+}
+
+// Whether `under` is known to be met somewhere. That isn't asked for a term without sets.
+fn is_known_met<D: Answers>(
+    alloc: Global,
+    term: &Term,
+    under: &Constraint,
+    size: usize,
+    decider: &mut D,
+) -> Result<bool, NoMemory>
+    requires sound { D.sound }
+    requires levels { ConstraintFits size under.now }
+    ensures met { IfOk result (λ b. IsTrue b → CanBeMet size under.now) }
+    ensures asked { D.reaches decider.old decider.new }
+{
+    if !may_have_sets(term) {
+        return Ok(false);
+    }
+    if is_always(alloc, under)? {
+        return Ok(true);
+    }
+    let sample = decider.sample(alloc, under, size)?;
+    Ok(sample.is_some())
+}
+
 // A copy of the term, simplified: below, whatever is kept is moved.
 fn simplified_copy<T: Structure, D: Answers>(
     alloc: Global,
@@ -92,7 +141,8 @@ fn simplified_copy<T: Structure, D: Answers>(
     ensures asked { D.reaches decider.old decider.new }
 {
     let own = term.copy(alloc)?;
-    simplified::<T, D>(alloc, own, under, size, decider)
+    let met = is_known_met(alloc, term, under, size, decider)?;
+    simplified::<T, D>(alloc, own, under, met, size, decider)
 }
 
 #[cycle(simplifying)]
@@ -100,12 +150,14 @@ fn simplified<T: Structure, D: Answers>(
     alloc: Global,
     term: Term,
     under: &Constraint,
+    met: bool,
     size: usize,
     decider: &mut D,
 ) -> Result<Term, NoMemory>
     requires sound { D.sound }
     requires levels { Fits size (tree term) }
     requires under_levels { ConstraintFits size under.now }
+    requires met { IsTrue met → CanBeMet size under.now }
     requires operators { AdmitsTerm T.ordered (tree term) }
     requires under_operators { AdmitsConstraint T.ordered under.now }
     ensures kept { IfOk result (λ r. IsKept under.now size (tree term) (tree r)) }
@@ -117,10 +169,10 @@ fn simplified<T: Structure, D: Answers>(
         Term::Var(level) => Ok(Term::Var(level)),
         Term::Tag(name) => Ok(Term::Tag(name)),
         Term::Tup(parts) => Ok(Term::Tup(simplified_parts::<T, D>(
-            alloc, parts, under, size, decider,
+            alloc, parts, under, met, size, decider,
         )?)),
         Term::Coll(comps) => {
-            let lean = lean_comps::<T, D>(alloc, comps, under, size, decider)?;
+            let lean = lean_comps::<T, D>(alloc, comps, under, met, size, decider)?;
             Ok(Term::Coll(uncovered::<T, D>(alloc, lean, under, size, decider)?))
         }
     }
@@ -131,12 +183,14 @@ fn simplified_parts<T: Structure, D: Answers>(
     alloc: Global,
     parts: Terms,
     under: &Constraint,
+    met: bool,
     size: usize,
     decider: &mut D,
 ) -> Result<Terms, NoMemory>
     requires sound { D.sound }
     requires levels { PartsFit size (terms_of parts) }
     requires under_levels { ConstraintFits size under.now }
+    requires met { IsTrue met → CanBeMet size under.now }
     requires operators { AdmitsParts T.ordered (terms_of parts) }
     requires under_operators { AdmitsConstraint T.ordered under.now }
     ensures kept { IfOk result (λ r. IsKept under.now size (tup (terms_of parts)) (tup (terms_of r))) }
@@ -146,7 +200,7 @@ fn simplified_parts<T: Structure, D: Answers>(
 {
     let mut simple = Terms::new(alloc);
     for part in parts.into_vec() {
-        simple.push(simplified::<T, D>(alloc, part, under, size, decider)?)?;
+        simple.push(simplified::<T, D>(alloc, part, under, met, size, decider)?)?;
     }
     Ok(simple)
 }
@@ -158,12 +212,14 @@ fn lean_comps<T: Structure, D: Answers>(
     alloc: Global,
     comps: Comps,
     under: &Constraint,
+    met: bool,
     size: usize,
     decider: &mut D,
 ) -> Result<Comps, NoMemory>
     requires sound { D.sound }
     requires levels { ItemsFit size (comps_of comps) }
     requires under_levels { ConstraintFits size under.now }
+    requires met { IsTrue met → CanBeMet size under.now }
     requires operators { AdmitsItems T.ordered (comps_of comps) }
     requires under_operators { AdmitsConstraint T.ordered under.now }
     ensures kept { IfOk result (λ r. IsKept under.now size (set_of comps) (set_of r)) }
@@ -173,7 +229,7 @@ fn lean_comps<T: Structure, D: Answers>(
     let several = distinct(alloc, comps)?;
     let mut found = Comps::new(alloc);
     for comp in several.into_vec() {
-        if let Some(simple) = lean_comp::<T, D>(alloc, comp, under, size, decider)? {
+        if let Some(simple) = lean_comp::<T, D>(alloc, comp, under, met, size, decider)? {
             found.push(simple)?;
         }
     }
@@ -186,12 +242,14 @@ fn lean_comp<T: Structure, D: Answers>(
     alloc: Global,
     comp: Comp,
     under: &Constraint,
+    met: bool,
     size: usize,
     decider: &mut D,
 ) -> Result<Option<Comp>, NoMemory>
     requires sound { D.sound }
     requires levels { CompFits size (comp_of comp) }
     requires under_levels { ConstraintFits size under.now }
+    requires met { IsTrue met → CanBeMet size under.now }
     requires operators { AdmitsComp T.ordered (comp_of comp) }
     requires under_operators { AdmitsConstraint T.ordered under.now }
     ensures kept { IfOk result (λ o. IsKept under.now size (set_of (only (comp_of comp))) (set_of (listed o))) }
@@ -200,7 +258,7 @@ fn lean_comp<T: Structure, D: Answers>(
 {
     let mut current = comp;
     'rounds: loop {
-        match one_round::<T, D>(alloc, current, under, size, decider)? {
+        match one_round::<T, D>(alloc, current, under, met, size, decider)? {
             Round::Lean(simple) => return Ok(Some(simple)),
             Round::Empty => return Ok(None),
             Round::Shorter(shorter) => current = shorter,
@@ -214,18 +272,20 @@ fn one_round<T: Structure, D: Answers>(
     alloc: Global,
     comp: Comp,
     under: &Constraint,
+    met: bool,
     size: usize,
     decider: &mut D,
 ) -> Result<Round, NoMemory>
     requires sound { D.sound }
     requires levels { CompFits size (comp_of comp) }
     requires under_levels { ConstraintFits size under.now }
+    requires met { IsTrue met → CanBeMet size under.now }
     requires operators { AdmitsComp T.ordered (comp_of comp) }
     requires under_operators { AdmitsConstraint T.ordered under.now }
     ensures round { IfOk result (IsRoundOf under.now size comp) }
     ensures asked { D.reaches decider.old decider.new }
 {
-    let Open { comp, here } = match open_round::<T, D>(alloc, comp, under, size, decider)? {
+    let Open { comp, here } = match open_round::<T, D>(alloc, comp, under, met, size, decider)? {
         Opening::Over(round) => return Ok(round),
         Opening::Open(open) => open,
     };
@@ -235,7 +295,7 @@ fn one_round<T: Structure, D: Answers>(
         guard,
         item,
     } = comp;
-    let item = simplified::<T, D>(alloc, item, &here, inner, decider)?;
+    let item = simplified::<T, D>(alloc, item, &here, true, inner, decider)?;
     let comp = Comp {
         binders,
         guard,

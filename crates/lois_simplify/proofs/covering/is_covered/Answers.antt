@@ -7,8 +7,13 @@ use Rattle.lois_base.specs.Truth.{sampled}
 use Rattle.lois_base.proofs.Validity.{fits_longer}
 use Rattle.lois_deciders.specs.Asked.{Parts}
 use Rattle.lois_simplify.proofs.Asked.{none_there, some_there}
-use Rattle.lois_simplify.proofs.Beside.{is_asked, asked_covered, asked_own}
+use Rattle.lois_simplify.proofs.Beside.{is_asked, asked_covered, asked_own, alone_has_own}
 use Rattle.lois_simplify.proofs.covering.is_covered.Goals as goal
+
+pub returns-then-is_never-clause-own : goal.returns-then-is_never-clause-own
+returns-then-is_never-clause-own g c = λ e.
+    let k = c.args.comp.now in
+    alone_has_own c.args.under.now c.args.size k.binders k.guard (tree k.item) (c.args.kept.now ++ map comp_of c.args.coming.now) (view c.in_ok-membership.membership) c.requires.under_levels c.in_ok-membership.ensures.truth (c.is_never.ensures.0 c.if-is_never.true) c.requires.lean
 
 pub quantifier_free-requires-clause-operators : goal.quantifier_free-requires-clause-operators
 quantifier_free-requires-clause-operators g c =

@@ -65,7 +65,7 @@ lean_comps-lean_comp-requires g t c κs within =
     let k : CompD = comp_of c.in-Some.comp in
     let turn = YieldsList-turn (YieldsList-from_vec items (cc) (cc)) seen c.loop-comp.comp-iterator c.loop-comp.yielded_by c.next.result c.next.new.self c.in-Some.comp c.in-Some.is c.next.ensures.steps in
     let there : Contains comps k = c.in_ok-several.ensures.only k (contains_item comp_of items c.in_ok-several.several (length seen) c.in-Some.comp c.into_vec-comp-items.ensures turn.0 turn.1) in
-    (omega (arith, comp_depth_le comps k there), (within.0, (within.1, (c.requires.sound, (items_fit_each c.args.size comps k c.requires.levels there, (c.requires.under_levels, (items_admit_each g.T.Structure.ordered comps k c.requires.operators there, c.requires.under_operators)))))))
+    (omega (arith, comp_depth_le comps k there), (within.0, (within.1, (c.requires.sound, (items_fit_each c.args.size comps k c.requires.levels there, (c.requires.under_levels, (c.requires.met, (items_admit_each g.T.Structure.ordered comps k c.requires.operators there, c.requires.under_operators))))))))
 
 pub lean_comps-loop-comp-preserved-in-Continue-branch-4 : goal.lean_comps-loop-comp-preserved-in-Continue-branch-4
 lean_comps-loop-comp-preserved-in-Continue-branch-4 g t c =
@@ -171,7 +171,7 @@ simplified_parts-simplified-requires g t c κs within =
     let seen = c.loop-part.yielded in
     let turn = YieldsList-turn (YieldsList-from_vec items (cc) (cc)) seen c.loop-part.part-iterator c.loop-part.yielded_by c.next.result c.next.new.self c.in-Some.part c.in-Some.is c.next.ensures.steps in
     let p = is_part_of items c.args.parts (length seen) c.in-Some.part c.into_vec-part-items.ensures turn.0 turn.1 in
-    (omega (arith, p.depth), (within.0, (within.1, (c.requires.sound, (p.fits c.args.size c.requires.levels, (c.requires.under_levels, (p.admits g.T.Structure.ordered c.requires.operators, c.requires.under_operators)))))))
+    (omega (arith, p.depth), (within.0, (within.1, (c.requires.sound, (p.fits c.args.size c.requires.levels, (c.requires.under_levels, (c.requires.met, (p.admits g.T.Structure.ordered c.requires.operators, c.requires.under_operators))))))))
 
 pub simplified_parts-loop-part-preserved : goal.simplified_parts-loop-part-preserved
 simplified_parts-loop-part-preserved g t c =
