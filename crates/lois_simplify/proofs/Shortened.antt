@@ -1,7 +1,7 @@
 -- Cubes and literals that are left out where others have what they hold.
-use Rattle.std.proofs.Common.{◌≡◌, ℕ, ◌+◌, ◌<◌, ◌⊎◌, inl, inr, ◌&&◌, ◌||◌, not, Bool, true, false, List, [], ◌∷◌, ◌++◌, length, get_or, take, drop, refl, sym, ap, ◌∙◌, subst, arith}
+use Rattle.std.proofs.Common.{◌≡◌, ℕ, ◌+◌, ◌<◌, ◌⊎◌, inl, inr, ◌||◌, not, Bool, true, false, List, [], ◌∷◌, ◌++◌, length, get_or, take, refl, sym, ap, ◌∙◌, subst, arith}
 use Rattle.std.proofs.lemmas.Bool.{and_parts, and_from, or_cases, or_left, or_right}
-use Rattle.std.proofs.lemmas.List.{take_more, take-append-drop}
+use Rattle.std.proofs.lemmas.List.{take_more}
 use Rattle.std.specs.Bool.{IsTrue, IsFalse}
 use Rattle.std.specs.List.{All, list_any, remove}
 use Rattle.std.proofs.lemmas.List.Elements.{All-cons, All-head, All-tail, All-push}
@@ -12,7 +12,6 @@ use Rattle.lois_base.specs.Truth.{lit_holds, cube_holds, holds}
 use Rattle.lois_base.specs.Validity.{AdmitsLit, AdmitsCube, AdmitsConstraint}
 use Rattle.lois_base.specs.declared.guards.Lit.{Lit}
 use Rattle.lois_base.proofs.Both.{cubes_append, holds_append}
-use Rattle.lois_base.proofs.Viewed.{rest_is}
 use Rattle.lois_constraint.proofs.Denied.{alternatives_hold}
 use Rattle.lois_constraint.specs.Alternatives.{alternatives}
 use Rattle.lois_simplify.specs.Shortened.{CubeEntails, IsWeakened, IsShortened}

@@ -1,8 +1,4 @@
-use Rattle.std.proofs.Common.{List, take, subst, arith}
-use Rattle.std.specs.Bool.{IsTrue}
-use Rattle.std.specs.List.{list_any}
-use Rattle.lois_base.specs.Truth.{lit_holds}
-use Rattle.lois_simplify.proofs.Shortened.{with_last, one_more_gained, one_turned_holds}
+use Rattle.lois_simplify.proofs.Shortened.{with_last, one_more_gained}
 use Rattle.lois_simplify.proofs.shortening.has_gained.Goals as goal
 
 pub loop-other-preserved : goal.loop-other-preserved

@@ -1,5 +1,4 @@
-use Rattle.std.proofs.Common.{◌≡◌, ◌∷◌, sym, ap, ◌∙◌, subst, arith}
-use Rattle.lois_simplify.specs.Shortened.{CubeEntails}
+use Rattle.std.proofs.Common.{◌≡◌, ◌∷◌, sym, ◌∙◌, arith}
 use Rattle.lois_simplify.proofs.Shortened.{shortened_itself, first_left_out, first_weakened, first_and_rest}
 use Rattle.lois_simplify.proofs.shortening.turned.Goals as goal
 
