@@ -3,16 +3,17 @@
 ghost use Rattle.std.specs.Prelude.{◌≡◌, ◌<◌, [], ◌∷◌, ◌++◌, length, map, take, slice_get, slice_set, option_map, ◌↔◌, IsTrue, IsFalse, IsNone, IfSome, IfOk, OnOk, OnErr};
 ghost use Rattle.std.specs.List.{HoldsAt};
 
-use lois_base::{Name, NoMemory, Term};
+use crate::SharedTerm;
+use lois_base::{Name, NoMemory};
 use std::alloc::Global;
 use std::marker::Model;
 
-/// A name and the term that it holds. In a set that was made outside of the innermost loop, the first `from`
+/// A name and the term that it holds, which copies of the slot share. In a set that was made outside of the innermost loop, the first `from`
 /// comprehensions stood there when that loop was entered.
 #[derive(Drop)]
 pub struct Slot {
     pub name: Name,
-    pub term: Term,
+    pub term: SharedTerm,
     pub from: usize,
 }
 
@@ -37,13 +38,13 @@ impl Model for Store {
 impl Slot {
     ghost use Rattle.lois_context.specs.SlotView.{slot_of};
 
-    /// An equal slot.
+    /// An equal slot, which shares the term.
     pub fn copy(&self, alloc: Global) -> Result<Self, NoMemory>
         ensures same { IfOk result (λ r. slot_of r ≡ slot_of self.now) }
     {
         Ok(Slot {
             name: self.name.copy(alloc)?,
-            term: self.term.copy(alloc)?,
+            term: self.term.share()?,
             from: self.from,
         })
     }
@@ -159,7 +160,7 @@ impl Store {
         self.items.push(item).map_err(|_| NoMemory)
     }
 
-    /// Equal slots.
+    /// Equal slots, which share their terms.
     pub fn copy(&self, alloc: Global) -> Result<Self, NoMemory>
         ensures same { IfOk result (λ r. r ≡ self.now) }
     {

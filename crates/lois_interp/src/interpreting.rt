@@ -14,7 +14,7 @@ use crate::printing::all_printed;
 use crate::running::run_block;
 use lois_answers::{Lines, Results};
 use lois_base::{Constraint, Decider, NoMemory, Numbers, Structure, Term};
-use lois_context::{Context, Slot, Store, merge_equal};
+use lois_context::{Context, SharedTerm, Slot, Store, merge_equal};
 use lois_deciders::Chosen;
 use lois_meaning::Stop;
 use lois_scope::Scoped;
@@ -69,7 +69,7 @@ fn opening_store(alloc: Global, parameters: &Params) -> Result<Store, NoMemory>
         let level = store.len();
         store.push(Slot {
             name: parameter.name.copy(alloc)?,
-            term: Term::Var(level),
+            term: SharedTerm::new(alloc, Term::Var(level))?,
             from: 0,
         })?;
     }

@@ -19,7 +19,7 @@ ghost use Rattle.lois_interp.specs.Tidied.{IsTidied, AreTidied, AreCounted, coun
 
 use crate::members::put_once;
 use lois_base::{Comp, Comps, Constraint, Decider, NoMemory, Structure, Term};
-use lois_context::{Context, Slot, Store, join_loop};
+use lois_context::{Context, SharedTerm, Slot, Store, join_loop};
 use lois_deciders::Chosen;
 use lois_simplify::simplify;
 use std::alloc::Global;
@@ -64,7 +64,7 @@ fn counts_of(alloc: Global, store: &Store) -> Result<Vec<usize>, NoMemory>
 {
     let mut counts = Vec::new(alloc);
     for slot in store.as_slice() {
-        counts.push(count_of(&slot.term))?;
+        counts.push(count_of(slot.term.get()))?;
     }
     Ok(counts)
 }
@@ -100,10 +100,10 @@ fn tidied_store<T: Structure>(
 {
     let mut tidied = Store::new(alloc);
     for (slot, first) in store.as_slice().iter().zip(counts) {
-        let term = tidied_term::<T>(alloc, &slot.term, *first, when, size, chosen)?;
+        let term = tidied_term::<T>(alloc, slot.term.get(), *first, when, size, chosen)?;
         tidied.push(Slot {
             name: slot.name.copy(alloc)?,
-            term,
+            term: SharedTerm::new(alloc, term)?,
             from: slot.from,
         })?;
     }

@@ -24,7 +24,7 @@ use crate::members::with_member;
 use crate::values::normal_value;
 use lois_answers::{FaultKind, Line};
 use lois_base::{Decider, Name, NoMemory, Structure, Term};
-use lois_context::{Context, Slot};
+use lois_context::{Context, SharedTerm, Slot};
 use lois_deciders::Chosen;
 use lois_eval::decide;
 use lois_meaning::Stop;
@@ -72,7 +72,7 @@ fn run_let<T: Structure>(
     let term = normal_value::<T>(alloc, e, &context, chosen)?;
     let slot = Slot {
         name: name.copy(alloc)?,
-        term,
+        term: SharedTerm::new(alloc, term)?,
         from: 0,
     };
     Ok(one(alloc, with_slot(context, slot)?)?)
@@ -97,7 +97,7 @@ fn run_assign<T: Structure>(
     };
     let slot = Slot {
         name: name.copy(alloc)?,
-        term,
+        term: SharedTerm::new(alloc, term)?,
         from: 0,
     };
     Ok(one(alloc, with_slot_at(context, index, slot))?)
@@ -123,14 +123,14 @@ fn run_add<T: Structure>(
     let slots = context.store.as_slice();
     let slot = &slots[index];
     let from = slot.from;
-    let extended = with_member(alloc, &slot.term, item)?;
+    let extended = with_member(alloc, slot.term.get(), item)?;
     let Some(set) = extended else {
         return Err(fault_under(alloc, pos, FaultKind::NotASet, &context.sample));
     };
     check_depth::<T>(alloc, pos, &set, &context, chosen)?;
     let slot = Slot {
         name: name.copy(alloc)?,
-        term: set,
+        term: SharedTerm::new(alloc, set)?,
         from,
     };
     Ok(one(alloc, with_slot_at(context, index, slot))?)

@@ -12,7 +12,7 @@ ghost use Rattle.lois_interp.specs.Opened.{IsOpening};
 use crate::making::{chosen, script_of};
 use lois_answers::Lines;
 use lois_base::{Comp, Comps, Constraint, Name, NoMemory, Numbers, Term, is_name};
-use lois_context::{Context, Slot, Store};
+use lois_context::{Context, SharedTerm, Slot, Store};
 use lois_deciders::Chosen;
 use lois_interp::run_block;
 use lois_meaning::Stop;
@@ -39,12 +39,12 @@ fn opening(alloc: Global, parameters: &Params) -> Result<Option<Context>, NoMemo
     let mut store = Store::new(alloc);
     store.push(Slot {
         name: a.name.copy(alloc)?,
-        term: Term::Var(0),
+        term: SharedTerm::new(alloc, Term::Var(0))?,
         from: 0,
     })?;
     store.push(Slot {
         name: b.name.copy(alloc)?,
-        term: Term::Var(1),
+        term: SharedTerm::new(alloc, Term::Var(1))?,
         from: 0,
     })?;
     Ok(Some(Context {
@@ -104,7 +104,7 @@ fn context_of(alloc: Global, name: &Name, set: Term, from: usize) -> Result<Cont
     let mut store = Store::new(alloc);
     store.push(Slot {
         name: name.copy(alloc)?,
-        term: set,
+        term: SharedTerm::new(alloc, set)?,
         from,
     })?;
     Ok(Context {
@@ -178,7 +178,7 @@ fn kept_comprehensions(contexts: &[Context], from: usize) -> Option<&[Comp]> {
     if slot.from != from {
         return None;
     }
-    match &slot.term {
+    match slot.term.get() {
         Term::Coll(comps) => Some(comps.as_slice()),
         _ => None,
     }
