@@ -114,11 +114,7 @@ fn inner_store(
 fn bound_slot(alloc: Global, name: &Name, item: &Term) -> Result<Slot, NoMemory>
     ensures { IfOk result (λ r. slot_of r ≡ bound name.now (tree item.now)) }
 {
-    Ok(Slot {
-        name: name.copy(alloc)?,
-        term: SharedTerm::new(alloc, item.copy(alloc)?)?,
-        from: 0,
-    })
+    Slot::new(alloc, name.copy(alloc)?, item.copy(alloc)?, 0)
 }
 
 // The slots with `by` levels put in after the first `size`.
@@ -149,6 +145,7 @@ fn carried_slot(alloc: Global, slot: &Slot, size: usize, by: usize) -> Result<Sl
 }
 
 // Where no level is put in, the term is shared: so a loop over a set that lists its members holds each of the other sets once.
+#[tactic(auto, using(crate::proofs::Unshifted::shift_none))]
 fn carried_shared(
     alloc: Global,
     term: &SharedTerm,

@@ -14,7 +14,7 @@ ghost use Rattle.lois_context.specs.Kept.{IsSlot, AreSlots, HasDistinctNames};
 ghost use Rattle.lois_context.specs.Slots.{comps_in, store_at};
 ghost use Rattle.lois_context.specs.SlotView.{slot_of};
 
-use crate::{Context, SharedTerm, Slot, Store};
+use crate::{Context, Slot, Store};
 use lois_base::{Comp, Comps, Constraint, NoMemory, Term};
 use lois_constraint::meet;
 use std::alloc::Global;
@@ -105,12 +105,9 @@ fn joined_slot(
         return Ok(slot);
     }
     let Slot { name, term, from } = slot;
-    let grown = joined_term(alloc, term.into_term(alloc)?, added, when, size, by)?;
-    Ok(Slot {
-        name,
-        term: SharedTerm::new(alloc, grown)?,
-        from,
-    })
+    let whole = term.into_term(alloc)?;
+    let grown = joined_term(alloc, whole, added, when, size, by)?;
+    Slot::new(alloc, name, grown, from)
 }
 
 // What was appended to a set since the loop was entered.

@@ -16,7 +16,6 @@ pub struct SharedTerm {
 
 impl Model for SharedTerm {
     ghost use Rattle.lois_base.specs.declared.values.Term.{Term};
-
     ghost use Rattle.lois_base.specs.contracts.values.Term as term;
     ghost use Rattle.std.specs.Coded.{codes};
 

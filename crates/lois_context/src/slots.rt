@@ -1,12 +1,13 @@
 //! Slots and stores.
 
-ghost use Rattle.std.specs.Prelude.{◌≡◌, ◌<◌, [], ◌∷◌, ◌++◌, length, map, take, slice_get, slice_set, option_map, ◌↔◌, IsTrue, IsFalse, IsNone, IfSome, IfOk, OnOk, OnErr};
+ghost use Rattle.std.specs.Prelude.{◌≡◌, ◌<◌, [], ◌∷◌, ◌++◌, length, map, take, slice_get, get_or, slice_set, option_map, ◌↔◌, IsTrue, IsFalse, IsNone, IfSome, IfOk, OnOk, OnErr};
 ghost use Rattle.std.specs.List.{HoldsAt};
 
 use crate::SharedTerm;
-use lois_base::{Name, NoMemory};
+use lois_base::{Name, NoMemory, Term};
 use std::alloc::Global;
 use std::marker::Model;
+use std::mem::replace;
 
 /// A name and the term that it holds, which copies of the slot share. In a set that was made outside of the innermost loop, the first `from`
 /// comprehensions stood there when that loop was entered.
@@ -36,7 +37,16 @@ impl Model for Store {
 }
 
 impl Slot {
+    ghost use Rattle.lois_base.specs.Tree.{tree};
     ghost use Rattle.lois_context.specs.SlotView.{slot_of};
+
+    /// The slot of a name that holds this term alone.
+    pub fn new(alloc: Global, name: Name, term: Term, from: usize) -> Result<Self, NoMemory>
+        ensures made { IfOk result (λ r. slot_of r ≡ record { name = name; term = tree term; from = from }) }
+    {
+        let term = SharedTerm::new(alloc, term)?;
+        Ok(Slot { name, term, from })
+    }
 
     /// An equal slot, which shares the term.
     pub fn copy(&self, alloc: Global) -> Result<Self, NoMemory>
@@ -126,6 +136,15 @@ impl Store {
         ensures { self.new ≡ slice_set self.old index (slot_of item) }
     {
         self.items[index] = item;
+    }
+
+    /// The same, and hands the slot back that stood there.
+    pub fn replace(&mut self, index: usize, item: Slot) -> Slot
+        requires { index < length self.old }
+        ensures after { self.new ≡ slice_set self.old index (slot_of item) }
+        ensures before { slot_of result ≡ get_or self.old index (slot_of result) }
+    {
+        replace(&mut self.items[index], item)
     }
 
     /// Keeps the first `count` slots alone, or all where there are fewer.
