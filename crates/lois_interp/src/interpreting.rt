@@ -14,7 +14,7 @@ use crate::printing::all_printed;
 use crate::running::run_block;
 use lois_answers::{Lines, Results};
 use lois_base::{Constraint, Decider, NoMemory, Numbers, Structure, Term};
-use lois_context::{Context, SharedTerm, Slot, Store, merge_equal};
+use lois_context::{Context, Slot, Store, merge_equal};
 use lois_deciders::Chosen;
 use lois_meaning::Stop;
 use lois_scope::Scoped;
@@ -67,11 +67,8 @@ fn opening_store(alloc: Global, parameters: &Params) -> Result<Store, NoMemory>
     let mut store = Store::new(alloc);
     for parameter in parameters.as_slice() {
         let level = store.len();
-        store.push(Slot {
-            name: parameter.name.copy(alloc)?,
-            term: SharedTerm::new(alloc, Term::Var(level))?,
-            from: 0,
-        })?;
+        let slot = Slot::new(alloc, parameter.name.copy(alloc)?, Term::Var(level), 0)?;
+        store.push(slot)?;
     }
     Ok(store)
 }

@@ -11,7 +11,7 @@ use crate::making::{
     admits, chosen, compared, each, guard_of, name_of, opening, part, set_of, set_where,
 };
 use lois_base::{Comp, Constraint, Name, NoMemory, Op, Term};
-use lois_context::{Context, SharedTerm, Slot, Split, Store, enter_loop, join_loop, split};
+use lois_context::{Context, Slot, Split, Store, enter_loop, join_loop, split};
 use std::alloc::Global;
 use std::process::Abort;
 use std::test::Fail;
@@ -241,11 +241,7 @@ fn grown_slot(
     grown.push(comp.copy(alloc)?)?;
     let term = Term::Coll(grown);
     assert!(rt; term.fits(size));
-    Ok(Slot {
-        name: slot.name.copy(alloc)?,
-        term: SharedTerm::new(alloc, term)?,
-        from: slot.from,
-    })
+    Ok(Slot::new(alloc, slot.name.copy(alloc)?, term, slot.from)?)
 }
 
 // two slots, the first with one comprehension more in its set

@@ -12,7 +12,7 @@ ghost use Rattle.lois_interp.specs.Opened.{IsOpening};
 use crate::making::{chosen, script_of};
 use lois_answers::Lines;
 use lois_base::{Comp, Comps, Constraint, Name, NoMemory, Numbers, Term, is_name};
-use lois_context::{Context, SharedTerm, Slot, Store};
+use lois_context::{Context, Slot, Store};
 use lois_deciders::Chosen;
 use lois_interp::run_block;
 use lois_meaning::Stop;
@@ -37,16 +37,10 @@ fn opening(alloc: Global, parameters: &Params) -> Result<Option<Context>, NoMemo
     sample.push(0)?;
     sample.push(0)?;
     let mut store = Store::new(alloc);
-    store.push(Slot {
-        name: a.name.copy(alloc)?,
-        term: SharedTerm::new(alloc, Term::Var(0))?,
-        from: 0,
-    })?;
-    store.push(Slot {
-        name: b.name.copy(alloc)?,
-        term: SharedTerm::new(alloc, Term::Var(1))?,
-        from: 0,
-    })?;
+    let first = Slot::new(alloc, a.name.copy(alloc)?, Term::Var(0), 0)?;
+    store.push(first)?;
+    let second = Slot::new(alloc, b.name.copy(alloc)?, Term::Var(1), 0)?;
+    store.push(second)?;
     Ok(Some(Context {
         size: 2,
         when: Constraint::always(alloc)?,
@@ -102,11 +96,8 @@ fn context_of(alloc: Global, name: &Name, set: Term, from: usize) -> Result<Cont
     ensures lines { IfOk result (λ k. k.lines ≡ []) }
 {
     let mut store = Store::new(alloc);
-    store.push(Slot {
-        name: name.copy(alloc)?,
-        term: SharedTerm::new(alloc, set)?,
-        from,
-    })?;
+    let slot = Slot::new(alloc, name.copy(alloc)?, set, from)?;
+    store.push(slot)?;
     Ok(Context {
         size: 0,
         when: Constraint::always(alloc)?,
