@@ -1,6 +1,6 @@
 //! What stands behind a loop. What the loop has added is simplified; what stood there before isn't looked at again.
 
-ghost use Rattle.std.specs.Prelude.{◌≡◌, ◌<◌, ◌≤◌, List, [], ◌∷◌, ◌++◌, length, get_or, take, drop, IfOk, OnOk};
+ghost use Rattle.std.specs.Prelude.{◌≡◌, ◌<◌, ◌≤◌, List, [], ◌∷◌, ◌++◌, length, get_or, take, drop, ◌↔◌, IsTrue, IfOk, OnOk};
 ghost use Rattle.std.specs.List.{All};
 ghost use Rattle.lois_base.specs.Data.{coll, CompD, comps_of};
 ghost use Rattle.lois_base.specs.Fits.{ConstraintFits, Fits, ItemsFit};
@@ -135,13 +135,20 @@ fn tidied_slot<T: Structure>(
     // whatever is answered
     ensures only_asked { HasOnlyAsked (λ b. (⟦<dyn Decider as Decider>⟧ b.vtable).kind_of b.value) (λ b. (⟦<dyn Decider as Decider>⟧ b.vtable).questions b.value) chosen.old chosen.new }
 {
-    if count_of(slot.term.get()) == first {
+    if !has_more(&slot, first) {
         return Ok(slot);
     }
     let Slot { name, term, from } = slot;
     let whole = term.into_term(alloc)?;
     let lean = tidied_term::<T>(alloc, whole, first, when, size, chosen)?;
     Slot::new(alloc, name, lean, from)
+}
+
+// Whether there are comprehensions behind the first ones.
+fn has_more(slot: &Slot, first: usize) -> bool
+    ensures { IsTrue result ↔ first < comps_in (tree slot.now.term) }
+{
+    first < count_of(slot.term.get())
 }
 
 // A term in which the comprehensions behind the first ones are simplified.
