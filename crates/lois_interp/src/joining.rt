@@ -196,7 +196,8 @@ fn tidied_set<T: Structure>(
     // whatever is answered
     ensures only_asked { HasOnlyAsked (λ b. (⟦<dyn Decider as Decider>⟧ b.vtable).kind_of b.value) (λ b. (⟦<dyn Decider as Decider>⟧ b.vtable).questions b.value) chosen.old chosen.new }
 {
-    let (old, added) = parted(alloc, comps, first)?;
+    let parts = parted(alloc, comps, first)?;
+    let (old, added) = parts;
     let added = Term::Coll(added);
     let lean = simplify::<T>(alloc, &added, when, size, chosen)?;
     with_items(old, lean)

@@ -112,12 +112,13 @@ fn run_add<T: Structure>(
     let Some(index) = context.store.place_of(name) else {
         unreachable!();
     };
+    let out = take_out(alloc, context, index, name)?;
     let Taken {
         rest,
         name,
         term,
         from,
-    } = take_out(alloc, context, index, name)?;
+    } = out;
     let extended = with_member(alloc, term, item)?;
     let Some(set) = extended else {
         return Err(fault_under(alloc, pos, FaultKind::NotASet, &rest.sample));

@@ -17,24 +17,24 @@ use Rattle.lois_interp.proofs.joining.tidied_set.Goals as goal
 pub simplify-requires-clause-levels : goal.simplify-requires-clause-levels
 simplify-requires-clause-levels g c =
     let ks = c.args.comps in let first = c.args.first in
-    subst (λ z. ItemsFit c.args.size (comps_of z)) (sym c.in_ok-parted.ensures.added)
+    subst (λ z. ItemsFit c.args.size (comps_of z)) (sym c.in_ok-parts.ensures.added)
     (items_fit_last c.args.size (take first ks) (drop first ks) (subst (λ z. ItemsFit c.args.size (comps_of z)) (sym (take-append-drop first ks)) c.requires.levels))
 
 pub simplify-requires-clause-operators : goal.simplify-requires-clause-operators
 simplify-requires-clause-operators g c =
     let ks = c.args.comps in let first = c.args.first in let o = g.T.Structure.ordered in
-    subst (λ z. AdmitsItems o (comps_of z)) (sym c.in_ok-parted.ensures.added)
+    subst (λ z. AdmitsItems o (comps_of z)) (sym c.in_ok-parts.ensures.added)
     (items_admit_last o (take first ks) (drop first ks) (subst (λ z. AdmitsItems o (comps_of z)) (sym (take-append-drop first ks)) c.requires.operators))
 
 pub with_items-requires : goal.with_items-requires
 with_items-requires g c =
-    still_set c.args.size c.args.«when».now (comps_of c.in_ok-parted.field-0.1) (tree c.in_ok-lean.lean) c.requires.met c.in_ok-lean.ensures.value
+    still_set c.args.size c.args.«when».now (comps_of c.in_ok-parts.parts.1) (tree c.in_ok-lean.lean) c.requires.met c.in_ok-lean.ensures.value
 
 pub returns-clause-tidied : goal.returns-clause-tidied
 returns-clause-tidied g c =
     let n = c.args.size in let u = c.args.«when».now in
     let ks = c.args.comps in let first = c.args.first in
-    let parts = c.in_ok-parted.field-0 in let P = c.in_ok-parted.ensures in
+    let parts = c.in_ok-parts.parts in let P = c.in_ok-parts.ensures in
     let lean = tree c.in_ok-lean.lean in let E = c.in_ok-lean.ensures in
     IfOk-weaker c.with_items.result (λ r. ArePutBehind parts.0 (comps_listed lean) (tree r)) (λ r. IsTidied n u first (coll (comps_of ks)) (tree r))
     (λ r is.

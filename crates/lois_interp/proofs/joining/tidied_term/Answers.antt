@@ -9,5 +9,5 @@ pub tidied_set-requires-clause-count : goal.tidied_set-requires-clause-count
 tidied_set-requires-clause-count g c =
     omega (arith, c.requires.count, ap (λ z. comps_in (tree z)) c.in-Coll.is, count_of c.in-Coll.comps)
 
-pub returns-in-other-clause-tidied : goal.returns-in-other-clause-tidied
-returns-in-other-clause-tidied g c = tidied_same c.args.size c.args.«when».now c.args.first (tree c.args.term) c.requires.levels
+pub returns-in_default-clause-tidied : goal.returns-in_default-clause-tidied
+returns-in_default-clause-tidied g c = tidied_same c.args.size c.args.«when».now c.args.first (tree c.args.term) c.requires.levels

@@ -3,6 +3,7 @@ use Rattle.lois_answers.specs.declared.faults.FaultKind.TheVariants.{NotASet}
 use Rattle.lois_base.specs.Fits.{Fits}
 use Rattle.lois_base.specs.Tree.{tree as term_tree}
 use Rattle.lois_deciders.proofs.Asking.{none_is}
+use Rattle.lois_deciders.proofs.OnlyAsked.{only_asked_then}
 use Rattle.lois_script.specs.Tree.{add}
 use Rattle.lois_script.specs.View.{tree}
 use Rattle.lois_meaning.specs.Faults.{Fails}
@@ -45,15 +46,15 @@ take_out-requires-clause-name g c = c.in-Some.ensures.found.1
 pub returns-in_default-extended-clause-fault : goal.returns-in_default-extended-clause-fault
 returns-in_default-extended-clause-fault g c =
     let x = c.args.name.now in let e = tree c.args.e.now in let k = c.args.context in let i = c.in-Some.index in
-    let taken = c.in_ok-take_out.field-0 in let t = term_tree taken.term in
-    let held = slot_held k x i (held_of taken) c.in-Some.ensures.found c.in_ok-take_out.ensures.slot in
+    let taken = c.in_ok-out.out in let t = term_tree taken.term in
+    let held = slot_held k x i (held_of taken) c.in-Some.ensures.found c.in_ok-out.ensures.slot in
     let none = subst (IsExtended t (term_tree c.in_ok-item.item)) (c.in_default-extended.is) c.in_ok-extended.ensures in
     if_fault c.fault_under.result (IsFaultWith c.args.pos NotASet taken.rest.sample) (FailsWithin (stmt_run (add e c.args.pos.offset x)) k)
-    (λ f h. add_no_set c.args.pos x e k t (λ a. held_value x k.store t a held) f none (subst (λ z. IsFaultWith c.args.pos NotASet z f) c.in_ok-take_out.ensures.sample h)) c.fault_under.ensures
+    (λ f h. add_no_set c.args.pos x e k t (λ a. held_value x k.store t a held) f none (subst (λ z. IsFaultWith c.args.pos NotASet z f) c.in_ok-out.ensures.sample h)) c.fault_under.ensures
 
 pub check_depth-requires-clause-levels : goal.check_depth-requires-clause-levels
 check_depth-requires-clause-levels g c =
-    let k = c.args.context in let taken = c.in_ok-take_out.field-0 in let T = c.in_ok-take_out.ensures in let item = term_tree c.in_ok-item.item in
+    let k = c.args.context in let taken = c.in_ok-out.out in let T = c.in_ok-out.ensures in let item = term_tree c.in_ok-item.item in
     let set = term_tree c.in-Some-extended.set in
     let more = subst (IsExtended (term_tree taken.term) item) c.in-Some-extended.is c.in_ok-extended.ensures in
     subst (λ n. Fits n set) (sym T.size) (set_fits k c.args.name.now c.in-Some.index (held_of taken) c.in-Some.ensures.found T.slot item set more (omega arith) c.in_ok-item.ensures.levels)
@@ -61,16 +62,16 @@ check_depth-requires-clause-levels g c =
 pub check_depth-requires-clause-operators : goal.check_depth-requires-clause-operators
 check_depth-requires-clause-operators g c =
     let x = c.args.name.now in let e = tree c.args.e.now in let k = c.args.context in let o = g.T.Structure.ordered in
-    let taken = c.in_ok-take_out.field-0 in let item = term_tree c.in_ok-item.item in
+    let taken = c.in_ok-out.out in let item = term_tree c.in_ok-item.item in
     let more = subst (IsExtended (term_tree taken.term) item) c.in-Some-extended.is c.in_ok-extended.ensures in
-    set_admits k x c.in-Some.index (held_of taken) c.in-Some.ensures.found c.in_ok-take_out.ensures.slot item (term_tree c.in-Some-extended.set) more o c.requires.operators
+    set_admits k x c.in-Some.index (held_of taken) c.in-Some.ensures.found c.in_ok-out.ensures.slot item (term_tree c.in-Some-extended.set) more o c.requires.operators
     (c.in_ok-item.ensures.operators o (add_set c.args.pos.offset x e o k c.requires))
 
 pub returns-in_err-check_depth-clause-fault : goal.returns-in_err-check_depth-clause-fault
 returns-in_err-check_depth-clause-fault g c =
     let x = c.args.name.now in let e = tree c.args.e.now in let k = c.args.context in let i = c.in-Some.index in
     let found = c.in-Some.ensures.found in
-    let taken = c.in_ok-take_out.field-0 in let T = c.in_ok-take_out.ensures in let t = term_tree taken.term in
+    let taken = c.in_ok-out.out in let T = c.in_ok-out.ensures in let t = term_tree taken.term in
     let item = term_tree c.in_ok-item.item in let set = term_tree c.in-Some-extended.set in
     let more = subst (IsExtended t item) c.in-Some-extended.is c.in_ok-extended.ensures in
     passed_on c.from_residual-in_err-check_depth.result c.in_err-check_depth.field-0.0 (IsDepthFault taken.rest set c.args.pos.offset) (FailsWithin (stmt_run (add e c.args.pos.offset x)) k) c.from_residual-in_err-check_depth.ensures.1
@@ -79,7 +80,7 @@ returns-in_err-check_depth-clause-fault g c =
 
 pub with_slot_at-requires-clause-levels : goal.with_slot_at-requires-clause-levels
 with_slot_at-requires-clause-levels g c =
-    let k = c.args.context in let taken = c.in_ok-take_out.field-0 in let T = c.in_ok-take_out.ensures in let item = term_tree c.in_ok-item.item in
+    let k = c.args.context in let taken = c.in_ok-out.out in let T = c.in_ok-out.ensures in let item = term_tree c.in_ok-item.item in
     let set = term_tree c.in-Some-extended.set in
     let more = subst (IsExtended (term_tree taken.term) item) c.in-Some-extended.is c.in_ok-extended.ensures in
     subst (λ (z : SlotD). Fits taken.rest.size z.term) (sym c.in_ok-slot.ensures.made)
@@ -87,22 +88,22 @@ with_slot_at-requires-clause-levels g c =
 
 pub with_slot_at-requires-clause-from : goal.with_slot_at-requires-clause-from
 with_slot_at-requires-clause-from g c =
-    let k = c.args.context in let taken = c.in_ok-take_out.field-0 in let item = term_tree c.in_ok-item.item in
+    let k = c.args.context in let taken = c.in_ok-out.out in let item = term_tree c.in_ok-item.item in
     let more = subst (IsExtended (term_tree taken.term) item) c.in-Some-extended.is c.in_ok-extended.ensures in
     subst (λ (z : SlotD). z.from ≤ comps_in z.term) (sym c.in_ok-slot.ensures.made)
-    (set_from k c.args.name.now c.in-Some.index (held_of taken) c.in-Some.ensures.found c.in_ok-take_out.ensures.slot item (term_tree c.in-Some-extended.set) more)
+    (set_from k c.args.name.now c.in-Some.index (held_of taken) c.in-Some.ensures.found c.in_ok-out.ensures.slot item (term_tree c.in-Some-extended.set) more)
 
 pub with_slot_at-requires-clause-index : goal.with_slot_at-requires-clause-index
-with_slot_at-requires-clause-index g c = omega (arith, c.in-Some.ensures.found.0, c.in_ok-take_out.ensures.count)
+with_slot_at-requires-clause-index g c = omega (arith, c.in-Some.ensures.found.0, c.in_ok-out.ensures.count)
 
 pub with_slot_at-requires-clause-name : goal.with_slot_at-requires-clause-name
-with_slot_at-requires-clause-name g c = λ q. c.in_ok-take_out.ensures.named q ∙ sym (ap (λ (z : SlotD). z.name) c.in_ok-slot.ensures.made)
+with_slot_at-requires-clause-name g c = λ q. c.in_ok-out.ensures.named q ∙ sym (ap (λ (z : SlotD). z.name) c.in_ok-slot.ensures.made)
 
 pub returns-clause-runs : goal.returns-clause-runs
 returns-clause-runs g c =
     let p = c.args.pos.offset in let x = c.args.name.now in let e = tree c.args.e.now in let k = c.args.context in let i = c.in-Some.index in
     let found = c.in-Some.ensures.found in
-    let taken = c.in_ok-take_out.field-0 in let T = c.in_ok-take_out.ensures in let t = term_tree taken.term in
+    let taken = c.in_ok-out.out in let T = c.in_ok-out.ensures in let t = term_tree taken.term in
     let item = term_tree c.in_ok-item.item in let set = term_tree c.in-Some-extended.set in
     let more = subst (IsExtended t item) c.in-Some-extended.is c.in_ok-extended.ensures in
     let V = c.in_ok-item.ensures in
@@ -116,3 +117,11 @@ returns-clause-runs g c =
     (λ a adm. c.in_ok-check_depth.ensures.shallow a (admitted_there k taken.rest T.size T.«when» a adm))
     (λ o h. set_admits k x i (held_of taken) found T.slot item set more o h.operators (V.operators o (add_set p s.name e o k h)))
     (λ w. set_widths k x i (held_of taken) found T.slot item set more w (V.widths w))))
+
+pub returns-in_err-one-clause-only_asked : goal.returns-in_err-one-clause-only_asked
+returns-in_err-one-clause-only_asked g c =
+    only_asked_then (λ b. (goal.Decider-dyn g (b.vtable, b.value)).kind_of b.value) (λ b. (goal.Decider-dyn g (b.vtable, b.value)).questions b.value) c.args.chosen.now c.normal_value.new.chosen c.check_depth.new.chosen c.normal_value.ensures.only_asked c.check_depth.ensures.only_asked
+
+pub returns-clause-only_asked : goal.returns-clause-only_asked
+returns-clause-only_asked g c =
+    only_asked_then (λ b. (goal.Decider-dyn g (b.vtable, b.value)).kind_of b.value) (λ b. (goal.Decider-dyn g (b.vtable, b.value)).questions b.value) c.args.chosen.now c.normal_value.new.chosen c.check_depth.new.chosen c.normal_value.ensures.only_asked c.check_depth.ensures.only_asked
