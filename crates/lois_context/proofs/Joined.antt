@@ -412,6 +412,15 @@ count_behind : (ks rs : List CompD) → count_of_items (comps_of ks) ≤ count_o
 count_behind [] rs = omega arith
 count_behind (k ∷ ks) rs = omega (arith, count_behind ks rs)
 
+-- where nothing was added, a term is as it was
+pub nothing_added : (g : List (List Lit)) (by : ℕ) (added : List CompD) (t : TermD) → length added ≡ 0 → IsJoinedTerm g by added t t
+nothing_added g by added (var i) e = refl
+nothing_added g by added (tag x) e = refl
+nothing_added g by added (tup ts) e = refl
+nothing_added g by [] (coll ks) e =
+    ([], tt, sym (ap (λ z. coll (comps_of z)) (append-nil (items_listed ks)) ∙ ap coll (of_listed ks)))
+nothing_added g by (k ∷ added) (coll ks) e = absurd (omega arith)
+
 pub set_grown : (n : ℕ) (g : List (List Lit)) (by : ℕ) (added ks rs : List CompD) (s t : TermD) → s ≡ coll (comps_of ks) → t ≡ coll (comps_of rs) → Fits n s → IsWithMoved n g by added ks rs → IsGrownTerm n g by added s t
 set_grown n g by added ks rs s t e d fits h =
     let behind : t ≡ coll (comps_of (ks ++ h.behind)) = d ∙ ap (λ z. coll (comps_of z)) h.comps in

@@ -1,6 +1,7 @@
 pub mod Later
 pub mod Sides
 pub mod Longer
+pub mod Unshifted
 pub mod Carried
 pub mod Entered
 pub mod Joined

@@ -14,12 +14,10 @@ use Rattle.lois_base.specs.Truth.{holds}
 use Rattle.lois_base.specs.Validity.{AdmitsCube, AdmitsConstraint, AdmitsTerm, HasUsualWidths}
 use Rattle.lois_base.specs.declared.guards.Lit.{Lit}
 use Rattle.lois_base.proofs.Both.{holds_append}
-use Rattle.lois_answers.specs.ResultsData.{LineD}
 use Rattle.lois_context.specs.Choices.{IsAdmitted, AdmitsContext, ContextHasUsualWidths}
 use Rattle.lois_context.specs.Counted.{admits, times}
 use Rattle.lois_context.specs.Merged.{AreApart, held_by, IsLike, IsLikeOneOf, HasSampleOfOne, AreMerged, IsTakenIn}
 use Rattle.lois_context.specs.Prints.{print_of_held, printed}
-use Rattle.lois_context.specs.Slots.{SlotD}
 use Rattle.lois_context.specs.declared.contexts.Context.{Context}
 use Rattle.lois_context.proofs.Counts.{admits_is, times_append, times_of}
 

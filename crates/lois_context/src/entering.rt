@@ -12,7 +12,7 @@ ghost use Rattle.lois_context.specs.Kept.{IsSlot, AreSlots, LinesFit, HasDistinc
 ghost use Rattle.lois_context.specs.Slots.{IsNew, comps_in};
 ghost use Rattle.lois_context.specs.SlotView.{slot_of};
 
-use crate::{Context, Slot, Store};
+use crate::{Context, SharedTerm, Slot, Store};
 use lois_answers::{Line, Lines};
 use lois_base::{Comp, Comps, Decider, Name, NoMemory, Term};
 use lois_deciders::Chosen;
@@ -114,11 +114,7 @@ fn inner_store(
 fn bound_slot(alloc: Global, name: &Name, item: &Term) -> Result<Slot, NoMemory>
     ensures { IfOk result (λ r. slot_of r ≡ bound name.now (tree item.now)) }
 {
-    Ok(Slot {
-        name: name.copy(alloc)?,
-        term: item.copy(alloc)?,
-        from: 0,
-    })
+    Slot::new(alloc, name.copy(alloc)?, item.copy(alloc)?, 0)
 }
 
 // The slots with `by` levels put in after the first `size`.
@@ -143,9 +139,28 @@ fn carried_slot(alloc: Global, slot: &Slot, size: usize, by: usize) -> Result<Sl
 {
     Ok(Slot {
         name: slot.name.copy(alloc)?,
-        term: carried_term(alloc, &slot.term, size, by)?,
-        from: count_of_comps(&slot.term),
+        term: carried_shared(alloc, &slot.term, size, by)?,
+        from: count_of_comps(slot.term.get()),
     })
+}
+
+// Where no level is put in, the term is shared: so a loop over a set that lists its members holds each of the other sets once.
+#[tactic(auto, using(crate::proofs::Unshifted::shift_none))]
+fn carried_shared(
+    alloc: Global,
+    term: &SharedTerm,
+    size: usize,
+    by: usize,
+) -> Result<SharedTerm, NoMemory>
+    requires fits { Fits size (tree term.now) }
+    requires levels { size + by < 2 ^ 64 }
+    ensures carried { IfOk result (λ r. tree r ≡ shift size by (tree term.now)) }
+    ensures fits { IfOk result (λ r. Fits (size + by) (tree r)) }
+{
+    if by == 0 {
+        return term.share();
+    }
+    SharedTerm::new(alloc, carried_term(alloc, term.get(), size, by)?)
 }
 
 fn carried_lines(alloc: Global, lines: &Lines, size: usize, by: usize) -> Result<Lines, NoMemory>

@@ -84,6 +84,8 @@ fn slot_at(slots: &[Slot], index: usize) -> &Slot
     &slots[index]
 }
 
+// A slot to which nothing was added is left as it is. The term of another is taken out: after the first end with additions it
+// has no other owner.
 fn joined_slot(
     alloc: Global,
     slot: Slot,
@@ -98,10 +100,14 @@ fn joined_slot(
     ensures joined { IfOk result (λ r. IsJoinedSlot when.now by (slot_of end.now) (slot_of slot) (slot_of r)) }
     ensures slot { IfOk result (λ r. IsSlot size (slot_of r)) }
 {
-    let Slot { name, term, from } = slot;
     let added = added_inside(end);
-    let term = joined_term(alloc, term, added, when, size, by)?;
-    Ok(Slot { name, term, from })
+    if added.is_empty() {
+        return Ok(slot);
+    }
+    let Slot { name, term, from } = slot;
+    let whole = term.into_term(alloc)?;
+    let grown = joined_term(alloc, whole, added, when, size, by)?;
+    Slot::new(alloc, name, grown, from)
 }
 
 // What was appended to a set since the loop was entered.
@@ -109,7 +115,7 @@ fn added_inside(slot: &Slot) -> &[Comp]
     requires { slot.now.from ≤ comps_in (tree slot.now.term) }
     ensures { map comp_of result.now ≡ added_to (slot_of slot.now) }
 {
-    match &slot.term {
+    match slot.term.get() {
         Term::Coll(comps) => from_index(comps.as_slice(), slot.from),
         _ => &[],
     }

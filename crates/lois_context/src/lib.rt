@@ -7,6 +7,7 @@ mod entering;
 mod joining;
 mod merging;
 mod prints;
+mod shared;
 mod slots;
 mod splitting;
 
@@ -14,5 +15,6 @@ pub use contexts::{Context, Split};
 pub use entering::enter_loop;
 pub use joining::join_loop;
 pub use merging::merge_equal;
+pub use shared::SharedTerm;
 pub use slots::{Slot, Store};
 pub use splitting::{side, split};

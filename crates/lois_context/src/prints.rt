@@ -26,7 +26,7 @@ fn print_store(seed: u64, store: &Store) -> u64
 {
     let mut print = seed;
     for slot in store.as_slice() {
-        print = print_term(print, &slot.term);
+        print = print_term(print, slot.term.get());
     }
     print
 }

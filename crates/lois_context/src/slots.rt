@@ -1,18 +1,20 @@
 //! Slots and stores.
 
-ghost use Rattle.std.specs.Prelude.{◌≡◌, ◌<◌, [], ◌∷◌, ◌++◌, length, map, take, slice_get, slice_set, option_map, ◌↔◌, IsTrue, IsFalse, IsNone, IfSome, IfOk, OnOk, OnErr};
+ghost use Rattle.std.specs.Prelude.{◌≡◌, ◌<◌, [], ◌∷◌, ◌++◌, length, map, take, slice_get, get_or, slice_set, option_map, ◌↔◌, IsTrue, IsFalse, IsNone, IfSome, IfOk, OnOk, OnErr};
 ghost use Rattle.std.specs.List.{HoldsAt};
 
+use crate::SharedTerm;
 use lois_base::{Name, NoMemory, Term};
 use std::alloc::Global;
 use std::marker::Model;
+use std::mem::replace;
 
-/// A name and the term that it holds. In a set that was made outside of the innermost loop, the first `from`
+/// A name and the term that it holds, which copies of the slot share. In a set that was made outside of the innermost loop, the first `from`
 /// comprehensions stood there when that loop was entered.
 #[derive(Drop)]
 pub struct Slot {
     pub name: Name,
-    pub term: Term,
+    pub term: SharedTerm,
     pub from: usize,
 }
 
@@ -35,15 +37,24 @@ impl Model for Store {
 }
 
 impl Slot {
+    ghost use Rattle.lois_base.specs.Tree.{tree};
     ghost use Rattle.lois_context.specs.SlotView.{slot_of};
 
-    /// An equal slot.
+    /// The slot of a name that holds this term alone.
+    pub fn new(alloc: Global, name: Name, term: Term, from: usize) -> Result<Self, NoMemory>
+        ensures made { IfOk result (λ r. slot_of r ≡ record { name = name; term = tree term; from = from }) }
+    {
+        let term = SharedTerm::new(alloc, term)?;
+        Ok(Slot { name, term, from })
+    }
+
+    /// An equal slot, which shares the term.
     pub fn copy(&self, alloc: Global) -> Result<Self, NoMemory>
         ensures same { IfOk result (λ r. slot_of r ≡ slot_of self.now) }
     {
         Ok(Slot {
             name: self.name.copy(alloc)?,
-            term: self.term.copy(alloc)?,
+            term: self.term.share()?,
             from: self.from,
         })
     }
@@ -127,6 +138,15 @@ impl Store {
         self.items[index] = item;
     }
 
+    /// The same, and hands the slot back that stood there.
+    pub fn replace(&mut self, index: usize, item: Slot) -> Slot
+        requires { index < length self.old }
+        ensures after { self.new ≡ slice_set self.old index (slot_of item) }
+        ensures before { slot_of result ≡ get_or self.old index (slot_of result) }
+    {
+        replace(&mut self.items[index], item)
+    }
+
     /// Keeps the first `count` slots alone, or all where there are fewer.
     pub fn truncate(&mut self, count: usize)
         ensures { self.new ≡ take count self.old }
@@ -159,7 +179,7 @@ impl Store {
         self.items.push(item).map_err(|_| NoMemory)
     }
 
-    /// Equal slots.
+    /// Equal slots, which share their terms.
     pub fn copy(&self, alloc: Global) -> Result<Self, NoMemory>
         ensures same { IfOk result (λ r. r ≡ self.now) }
     {

@@ -26,7 +26,7 @@ pub(crate) fn held(alloc: Global, name: &Name, context: &Context) -> Result<Term
     ensures { IfOk result (λ t. IsHeldBy name.now context.now.store (tree t)) }
 {
     match context.store.place_of(name) {
-        Some(place) => context.store.as_slice()[place].term.copy(alloc),
+        Some(place) => context.store.as_slice()[place].term.get().copy(alloc),
         None => unreachable!(),
     }
 }

@@ -1,61 +1,70 @@
 -- The set that a slot holds, with a member more.
-use Rattle.std.proofs.Common.{◌≡◌, ℕ, ◌+◌, ◌<◌, ◌≤◌, ◌^◌, Bool, List, [], ◌∷◌, ◌++◌, length, length-append, get_or, map, sym, ap, ◌∙◌, subst, arith}
+use Rattle.std.proofs.Common.{◌≡◌, ℕ, zero, suc, refl, set, ◌+◌, ◌<◌, ◌≤◌, ◌^◌, Bool, List, [], ◌∷◌, ◌++◌, length, length-append, get_or, map, sym, ap, ◌∙◌, subst, arith}
+use Rattle.std.specs.Bool.{IsTrue}
 use Rattle.std.specs.List.{HoldsAt}
-use Rattle.std.proofs.lemmas.List.{length-map}
 use Rattle.std.proofs.lemmas.List.Elements.{All-cons, All-nil}
 use Rattle.lois_base.specs.Atom.{Atom}
 use Rattle.lois_base.specs.Data.{TermD, coll, CompsD}
 use Rattle.lois_base.specs.Fits.{LitFits, CubeFits, CompFits, Fits, ItemsFit}
-use Rattle.lois_base.specs.Tree.{tree}
 use Rattle.lois_base.specs.Validity.{AdmitsLit, AdmitsCube, AdmitsTerm, AdmitsItems, HasUsualWidths, ItemsHaveUsualWidths}
+use Rattle.lois_base.specs.Truth.{holds, sampled}
 use Rattle.lois_base.specs.Values.{point}
-use Rattle.lois_base.proofs.Viewed.{item_at, item_has}
 use Rattle.lois_algebra.proofs.Among.{items_fit-append, admits_items-append, widths-append}
 use Rattle.lois_meaning.specs.Runs.{IsSetWith}
+use Rattle.lois_meaning.specs.declared.faults.Fault.{Fault}
 use Rattle.lois_terms.specs.Guarded.{IsSet}
-use Rattle.lois_context.specs.Choices.{AdmitsContext, ContextHasUsualWidths}
+use Rattle.lois_context.specs.Choices.{IsAdmitted, AdmitsContext, ContextHasUsualWidths}
 use Rattle.lois_context.specs.Entered.{items_listed}
 use Rattle.lois_context.specs.Kept.{IsSlot}
 use Rattle.lois_context.specs.Slots.{SlotD, comps_in, count_of_items}
-use Rattle.lois_context.specs.SlotView.{slot_of}
 use Rattle.lois_context.specs.declared.contexts.Context.{Context}
-use Rattle.lois_context.specs.declared.slots.Slot.{Slot}
 use Rattle.lois_context.proofs.Carried.{count_of}
 use Rattle.lois_context.proofs.Joined.{of_listed}
+use Rattle.lois_eval.specs.Checks.{IsDepthFault}
 use Rattle.lois_eval.specs.Made.{bare, IsHeldBy}
 use Rattle.lois_eval.proofs.Names.{held_at}
 use Rattle.lois_interp.specs.Members.{IsWithItem}
 use Rattle.lois_interp.proofs.PutOnce.{with_fits, with_admits, with_widths, with_count, set_with}
 
 -- ---- the slot with the name
-pub in_slots : (k : Context) (slots : List Slot) (i : ℕ) → map slot_of slots ≡ k.store → i < length k.store → i < length slots
-in_slots k slots i seen lt = omega (arith, ap length seen, length-map slots slot_of)
+module _ (k : Context) (x : List ℕ) (i : ℕ) (slot : SlotD) (found : (i < length k.store) × HoldsAt (λ s. s.name ≡ x) k.store i) (there : slot ≡ get_or k.store i slot) where
+  pub slot_held : IsHeldBy x k.store slot.term
+  slot_held = subst (λ (s : SlotD). IsHeldBy x k.store s.term) (sym there) (held_at x k.store i slot k.names found.0 (found.1 slot))
 
-module _ (k : Context) (x : List ℕ) (slots : List Slot) (i : ℕ) (slot : Slot) (seen : map slot_of slots ≡ k.store) (found : (i < length k.store) × HoldsAt (λ s. s.name ≡ x) k.store i) (is : slot ≡ get_or slots i slot) where
-  within : i < length slots
-  within = in_slots k slots i seen found.0
+  old_slot : IsSlot k.size slot
+  old_slot = subst (IsSlot k.size) (sym there) (k.slots i slot found.0)
 
-  pub slot_there : slot_of slot ≡ get_or k.store i (slot_of slot)
-  slot_there = item_at slot_of slots k.store i slot seen within is
-
-  pub slot_held : IsHeldBy x k.store (tree slot.term)
-  slot_held = subst (λ (s : SlotD). IsHeldBy x k.store s.term) (sym slot_there) (held_at x k.store i (slot_of slot) k.names found.0 (found.1 (slot_of slot)))
-
-  old_slot : IsSlot k.size (slot_of slot)
-  old_slot = item_has slot_of (IsSlot k.size) slots k.store i slot seen within is k.slots
-
-  module _ (item set : TermD) (more : IsSet (tree slot.term) × IsWithItem (tree slot.term) item set) where
+  module _ (item set : TermD) (more : IsSet slot.term × IsWithItem slot.term item set) where
     pub set_fits : k.size < 2 ^ 64 → Fits k.size item → Fits k.size set
-    set_fits room h = with_fits (tree slot.term) item set more.0.0 more.0.1 more.1 k.size room old_slot.0 h
+    set_fits room h = with_fits slot.term item set more.0.0 more.0.1 more.1 k.size room old_slot.0 h
 
     pub set_from : slot.from ≤ comps_in set
-    set_from = omega (arith, old_slot.1, with_count (tree slot.term) item set more.0.0 more.0.1 more.1)
+    set_from = omega (arith, old_slot.1, with_count slot.term item set more.0.0 more.0.1 more.1)
 
     pub set_admits : (o : Bool) → AdmitsContext o k → AdmitsTerm o item → AdmitsTerm o set
-    set_admits o old h = with_admits (tree slot.term) item set more.0.0 more.0.1 more.1 o (item_has slot_of (λ s. AdmitsTerm o s.term) slots k.store i slot seen within is old.store) h
+    set_admits o old h = with_admits slot.term item set more.0.0 more.0.1 more.1 o (subst (λ (s : SlotD). AdmitsTerm o s.term) (sym there) (old.store i slot found.0)) h
 
     pub set_widths : ContextHasUsualWidths k → HasUsualWidths item → HasUsualWidths set
-    set_widths old h = with_widths (tree slot.term) item set more.0.0 more.0.1 more.1 (item_has slot_of (λ s. HasUsualWidths s.term) slots k.store i slot seen within is old.store) h
+    set_widths old h = with_widths slot.term item set more.0.0 more.0.1 more.1 (subst (λ (s : SlotD). HasUsualWidths s.term) (sym there) (old.store i slot found.0)) h
 
-    pub set_joined : (a : List Atom) → IsSetWith (point set a) (point (tree slot.term) a) (point item a)
-    set_joined a = set_with (tree slot.term) item set more.0.0 more.0.1 more.1 a
+    pub set_joined : (a : List Atom) → IsSetWith (point set a) (point slot.term a) (point item a)
+    set_joined a = set_with slot.term item set more.0.0 more.0.1 more.1 a
+
+-- ---- the context without what the slot held
+module _ (k d : Context) (size : d.size ≡ k.size) (when_is : d.«when» ≡ k.«when») where
+  pub admitted_there : (a : List Atom) → IsAdmitted a k → IsAdmitted a d
+  admitted_there a adm = (adm.0 ∙ sym size, subst (λ g. IsTrue (holds a g)) (sym when_is) adm.1)
+
+  pub depth_fault_there : (t : TermD) (p : ℕ) (f : Fault) → IsDepthFault d t p f → IsDepthFault k t p f
+  depth_fault_there t p f h =
+      record { fault = record { admitted = (h.fault.admitted.0 ∙ size, subst (λ g. IsTrue (holds (sampled f.sample.items) g)) when_is h.fault.admitted.1); place = h.fault.place; elements = h.fault.elements }; kind = h.kind; deep = h.deep }
+
+pub set_twice : (ss : List SlotD) (i : ℕ) (a b : SlotD) → set (set ss i a) i b ≡ set ss i b
+set_twice [] i a b = refl
+set_twice (q ∷ ss) zero a b = refl
+set_twice (q ∷ ss) (suc i) a b = ap (λ z. q ∷ z) (set_twice ss i a b)
+
+pub set_length : (ss : List SlotD) (i : ℕ) (a : SlotD) → length (set ss i a) ≡ length ss
+set_length [] i a = refl
+set_length (q ∷ ss) zero a = refl
+set_length (q ∷ ss) (suc i) a = ap suc (set_length ss i a)

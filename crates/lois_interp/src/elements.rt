@@ -129,7 +129,7 @@ pub(crate) fn held_by<'a>(store: &'a Store, name: &Name) -> Option<&'a Term>
 {
     for slot in store.as_slice() {
         if slot.name == *name {
-            return Some(&slot.term);
+            return Some(slot.term.get());
         }
     }
     None

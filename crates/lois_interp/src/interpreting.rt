@@ -67,11 +67,8 @@ fn opening_store(alloc: Global, parameters: &Params) -> Result<Store, NoMemory>
     let mut store = Store::new(alloc);
     for parameter in parameters.as_slice() {
         let level = store.len();
-        store.push(Slot {
-            name: parameter.name.copy(alloc)?,
-            term: Term::Var(level),
-            from: 0,
-        })?;
+        let slot = Slot::new(alloc, parameter.name.copy(alloc)?, Term::Var(level), 0)?;
+        store.push(slot)?;
     }
     Ok(store)
 }

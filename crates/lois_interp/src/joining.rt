@@ -1,8 +1,8 @@
 //! What stands behind a loop. What the loop has added is simplified; what stood there before isn't looked at again.
 
-ghost use Rattle.std.specs.Prelude.{◌≡◌, ◌≤◌, ◌++◌, length, map, IfOk};
+ghost use Rattle.std.specs.Prelude.{◌≡◌, ◌<◌, ◌≤◌, List, [], ◌∷◌, ◌++◌, length, get_or, take, drop, ◌↔◌, IsTrue, IfOk, OnOk};
 ghost use Rattle.std.specs.List.{All};
-ghost use Rattle.lois_base.specs.Data.{coll, comps_of};
+ghost use Rattle.lois_base.specs.Data.{coll, CompD, comps_of};
 ghost use Rattle.lois_base.specs.Fits.{ConstraintFits, Fits, ItemsFit};
 ghost use Rattle.lois_base.specs.Tree.{tree, comp_of};
 ghost use Rattle.lois_base.specs.Validity.{AdmitsConstraint, AdmitsTerm, AdmitsItems};
@@ -14,8 +14,9 @@ ghost use Rattle.lois_context.specs.Joined.{IsEnd};
 ghost use Rattle.lois_context.specs.Entered.{comps_listed};
 ghost use Rattle.lois_context.specs.Kept.{AreSlots};
 ghost use Rattle.lois_context.specs.Slots.{comps_in};
+ghost use Rattle.lois_context.specs.SlotView.{slot_of};
 ghost use Rattle.lois_interp.specs.Members.{ArePutBehind};
-ghost use Rattle.lois_interp.specs.Tidied.{IsTidied, AreTidied, AreCounted, counts_in, IsBehindLoop};
+ghost use Rattle.lois_interp.specs.Tidied.{AreParts, IsTidied, IsTidiedSlot, AreTidied, AreCounted, counts_in, IsBehindLoop};
 
 use crate::members::put_once;
 use lois_base::{Comp, Comps, Constraint, Decider, NoMemory, Structure, Term};
@@ -48,7 +49,7 @@ pub(crate) fn behind_loop<T: Structure>(
         store,
         lines,
     } = joined;
-    let store = tidied_store::<T>(alloc, &store, &counts, &when, size, chosen)?;
+    let store = tidied_store::<T>(alloc, store, &counts, &when, size, chosen)?;
     Ok(Context {
         size,
         when,
@@ -64,7 +65,7 @@ fn counts_of(alloc: Global, store: &Store) -> Result<Vec<usize>, NoMemory>
 {
     let mut counts = Vec::new(alloc);
     for slot in store.as_slice() {
-        counts.push(count_of(&slot.term))?;
+        counts.push(count_of(slot.term.get()))?;
     }
     Ok(counts)
 }
@@ -81,94 +82,148 @@ fn count_of(term: &Term) -> usize
 // The slots, in which the comprehensions behind so many are simplified.
 fn tidied_store<T: Structure>(
     alloc: Global,
-    store: &Store,
+    store: Store,
     counts: &[usize],
     when: &Constraint,
     size: usize,
     chosen: &mut Chosen,
 ) -> Result<Store, NoMemory>
-    requires counted { AreCounted counts.now store.now }
-    requires slots { AreSlots size store.now }
+    requires counted { AreCounted counts.now store }
+    requires slots { AreSlots size store }
     requires met { CanBeMet size when.now }
     requires when_levels { ConstraintFits size when.now }
-    requires operators { All (λ s. AdmitsTerm T.ordered s.term) store.now }
+    requires operators { All (λ s. AdmitsTerm T.ordered s.term) store }
     requires when_operators { AdmitsConstraint T.ordered when.now }
-    ensures tidied { IfOk result (AreTidied size when.now counts.now store.now) }
+    ensures tidied { IfOk result (AreTidied size when.now counts.now store) }
 
     // whatever is answered
     ensures only_asked { HasOnlyAsked (λ b. (⟦<dyn Decider as Decider>⟧ b.vtable).kind_of b.value) (λ b. (⟦<dyn Decider as Decider>⟧ b.vtable).questions b.value) chosen.old chosen.new }
 {
+    let slots = store.into_vec();
     let mut tidied = Store::new(alloc);
-    for (slot, first) in store.as_slice().iter().zip(counts) {
-        let term = tidied_term::<T>(alloc, &slot.term, *first, when, size, chosen)?;
-        tidied.push(Slot {
-            name: slot.name.copy(alloc)?,
-            term,
-            from: slot.from,
-        })?;
+    for slot in slots {
+        let first = count_at(counts, tidied.len());
+        tidied.push(tidied_slot::<T>(alloc, slot, first, when, size, chosen)?)?;
     }
     Ok(tidied)
+}
+
+fn count_at(counts: &[usize], index: usize) -> usize
+    requires { index < length counts.now }
+    ensures { result ≡ get_or counts.now index 0 }
+{
+    counts[index]
+}
+
+// A slot to which the loop has added nothing stays as it is.
+fn tidied_slot<T: Structure>(
+    alloc: Global,
+    slot: Slot,
+    first: usize,
+    when: &Constraint,
+    size: usize,
+    chosen: &mut Chosen,
+) -> Result<Slot, NoMemory>
+    requires count { first ≤ comps_in (tree slot.term) }
+    requires levels { Fits size (tree slot.term) }
+    requires met { CanBeMet size when.now }
+    requires when_levels { ConstraintFits size when.now }
+    requires operators { AdmitsTerm T.ordered (tree slot.term) }
+    requires when_operators { AdmitsConstraint T.ordered when.now }
+    ensures tidied { IfOk result (λ r. IsTidiedSlot size when.now first (slot_of slot) (slot_of r)) }
+
+    // whatever is answered
+    ensures only_asked { HasOnlyAsked (λ b. (⟦<dyn Decider as Decider>⟧ b.vtable).kind_of b.value) (λ b. (⟦<dyn Decider as Decider>⟧ b.vtable).questions b.value) chosen.old chosen.new }
+{
+    if !has_more(&slot, first) {
+        return Ok(slot);
+    }
+    let Slot { name, term, from } = slot;
+    let whole = term.into_term(alloc)?;
+    let lean = tidied_term::<T>(alloc, whole, first, when, size, chosen)?;
+    Slot::new(alloc, name, lean, from)
+}
+
+// Whether there are comprehensions behind the first ones.
+fn has_more(slot: &Slot, first: usize) -> bool
+    ensures { IsTrue result ↔ first < comps_in (tree slot.now.term) }
+{
+    first < count_of(slot.term.get())
 }
 
 // A term in which the comprehensions behind the first ones are simplified.
 fn tidied_term<T: Structure>(
     alloc: Global,
-    term: &Term,
+    term: Term,
     first: usize,
     when: &Constraint,
     size: usize,
     chosen: &mut Chosen,
 ) -> Result<Term, NoMemory>
-    requires count { first ≤ comps_in (tree term.now) }
-    requires levels { Fits size (tree term.now) }
+    requires count { first ≤ comps_in (tree term) }
+    requires levels { Fits size (tree term) }
     requires met { CanBeMet size when.now }
     requires when_levels { ConstraintFits size when.now }
-    requires operators { AdmitsTerm T.ordered (tree term.now) }
+    requires operators { AdmitsTerm T.ordered (tree term) }
     requires when_operators { AdmitsConstraint T.ordered when.now }
-    ensures tidied { IfOk result (λ r. IsTidied size when.now first (tree term.now) (tree r)) }
+    ensures tidied { IfOk result (λ r. IsTidied size when.now first (tree term) (tree r)) }
 
     // whatever is answered
     ensures only_asked { HasOnlyAsked (λ b. (⟦<dyn Decider as Decider>⟧ b.vtable).kind_of b.value) (λ b. (⟦<dyn Decider as Decider>⟧ b.vtable).questions b.value) chosen.old chosen.new }
 {
     match term {
         Term::Coll(comps) => tidied_set::<T>(alloc, comps, first, when, size, chosen),
-        _ => term.copy(alloc),
+        other => Ok(other),
     }
 }
 
 fn tidied_set<T: Structure>(
     alloc: Global,
-    comps: &Comps,
+    comps: Comps,
     first: usize,
     when: &Constraint,
     size: usize,
     chosen: &mut Chosen,
 ) -> Result<Term, NoMemory>
-    requires count { first ≤ length comps.now }
-    requires levels { ItemsFit size (comps_of comps.now) }
+    requires count { first ≤ length comps }
+    requires levels { ItemsFit size (comps_of comps) }
     requires met { CanBeMet size when.now }
     requires when_levels { ConstraintFits size when.now }
-    requires operators { AdmitsItems T.ordered (comps_of comps.now) }
+    requires operators { AdmitsItems T.ordered (comps_of comps) }
     requires when_operators { AdmitsConstraint T.ordered when.now }
-    ensures tidied { IfOk result (λ r. IsTidied size when.now first (coll (comps_of comps.now)) (tree r)) }
+    ensures tidied { IfOk result (λ r. IsTidied size when.now first (coll (comps_of comps)) (tree r)) }
 
     // whatever is answered
     ensures only_asked { HasOnlyAsked (λ b. (⟦<dyn Decider as Decider>⟧ b.vtable).kind_of b.value) (λ b. (⟦<dyn Decider as Decider>⟧ b.vtable).questions b.value) chosen.old chosen.new }
 {
-    let items = comps.as_slice();
-    let added = Term::Coll(copied(alloc, &items[first..])?);
+    let parts = parted(alloc, comps, first)?;
+    let (old, added) = parts;
+    let added = Term::Coll(added);
     let lean = simplify::<T>(alloc, &added, when, size, chosen)?;
-    with_items(copied(alloc, &items[..first])?, lean)
+    with_items(old, lean)
 }
 
-fn copied(alloc: Global, comps: &[Comp]) -> Result<Comps, NoMemory>
-    ensures { IfOk result (λ r. r ≡ map comp_of comps.now) }
+// The first comprehensions, and those behind them.
+fn parted(alloc: Global, comps: Comps, first: usize) -> Result<(Comps, Comps), NoMemory>
+    ensures old { IfOk result (λ r. r.0 ≡ take first comps) }
+    ensures added { IfOk result (λ r. r.1 ≡ drop first comps) }
 {
-    let mut copy = Comps::new(alloc);
-    for comp in comps {
-        copy.push(comp.copy(alloc)?)?;
+    let mut old = Comps::new(alloc);
+    let mut added = Comps::new(alloc);
+    for comp in comps.into_vec() {
+        put_part(&mut old, &mut added, first, comp)?;
     }
-    Ok(copy)
+    Ok((old, added))
+}
+
+// One comprehension more, behind the first ones while there are fewer than `first`.
+fn put_part(old: &mut Comps, added: &mut Comps, first: usize, comp: Comp) -> Result<(), NoMemory>
+    ensures { OnOk result ((ks : List CompD) → AreParts first ks old.old added.old → AreParts first (ks ++ comp_of comp ∷ []) old.new added.new) }
+{
+    if old.len() < first {
+        return old.push(comp);
+    }
+    added.push(comp)
 }
 
 // The comprehensions of a set behind others, without those that are written there already.

@@ -12,7 +12,7 @@ ghost use Rattle.lois_context.specs.SlotView.{slot_of};
 ghost use Rattle.lois_eval.specs.Standing.{IsPlaced};
 ghost use Rattle.lois_eval.specs.Throughout.{IfFault};
 ghost use Rattle.lois_interp.specs.Failed.{FailsWithin};
-ghost use Rattle.lois_interp.specs.Leaves.{IsWithStore, IsWithLine, IsLeaf};
+ghost use Rattle.lois_interp.specs.Leaves.{IsWithStore, IsWithLine, IsLeaf, IsTaken};
 ghost use Rattle.lois_interp.specs.Reached.{RunsAs};
 ghost use Rattle.lois_interp.specs.Run.{stmt_run};
 ghost use Rattle.lois_interp.specs.Standing.{StmtMayStand};
@@ -23,7 +23,7 @@ use crate::elements::item_of;
 use crate::members::with_member;
 use crate::values::normal_value;
 use lois_answers::{FaultKind, Line};
-use lois_base::{Decider, Name, NoMemory, Structure, Term};
+use lois_base::{Comps, Decider, Name, NoMemory, Structure, Term};
 use lois_context::{Context, Slot};
 use lois_deciders::Chosen;
 use lois_eval::decide;
@@ -70,11 +70,7 @@ fn run_let<T: Structure>(
     ensures only_asked { HasOnlyAsked (λ b. (⟦<dyn Decider as Decider>⟧ b.vtable).kind_of b.value) (λ b. (⟦<dyn Decider as Decider>⟧ b.vtable).questions b.value) chosen.old chosen.new }
 {
     let term = normal_value::<T>(alloc, e, &context, chosen)?;
-    let slot = Slot {
-        name: name.copy(alloc)?,
-        term,
-        from: 0,
-    };
+    let slot = Slot::new(alloc, name.copy(alloc)?, term, 0)?;
     Ok(one(alloc, with_slot(context, slot)?)?)
 }
 
@@ -95,11 +91,7 @@ fn run_assign<T: Structure>(
     let Some(index) = context.store.place_of(name) else {
         unreachable!();
     };
-    let slot = Slot {
-        name: name.copy(alloc)?,
-        term,
-        from: 0,
-    };
+    let slot = Slot::new(alloc, name.copy(alloc)?, term, 0)?;
     Ok(one(alloc, with_slot_at(context, index, slot))?)
 }
 
@@ -120,20 +112,20 @@ fn run_add<T: Structure>(
     let Some(index) = context.store.place_of(name) else {
         unreachable!();
     };
-    let slots = context.store.as_slice();
-    let slot = &slots[index];
-    let from = slot.from;
-    let extended = with_member(alloc, &slot.term, item)?;
-    let Some(set) = extended else {
-        return Err(fault_under(alloc, pos, FaultKind::NotASet, &context.sample));
-    };
-    check_depth::<T>(alloc, pos, &set, &context, chosen)?;
-    let slot = Slot {
-        name: name.copy(alloc)?,
-        term: set,
+    let out = take_out(alloc, context, index, name)?;
+    let Taken {
+        rest,
+        name,
+        term,
         from,
+    } = out;
+    let extended = with_member(alloc, term, item)?;
+    let Some(set) = extended else {
+        return Err(fault_under(alloc, pos, FaultKind::NotASet, &rest.sample));
     };
-    Ok(one(alloc, with_slot_at(context, index, slot))?)
+    check_depth::<T>(alloc, pos, &set, &rest, chosen)?;
+    let slot = Slot::new(alloc, name, set, from)?;
+    Ok(one(alloc, with_slot_at(rest, index, slot))?)
 }
 
 fn run_assert<T: Structure>(
@@ -194,6 +186,44 @@ fn with_slot(context: Context, slot: Slot) -> Result<Context, NoMemory>
         sample,
         store,
         lines,
+    })
+}
+
+// What a slot of a context held, and the context, whose slot of that name is empty meanwhile.
+#[derive(Drop)]
+struct Taken {
+    rest: Context,
+    name: Name,
+    term: Term,
+    from: usize,
+}
+
+// Takes out what the slot at an index holds: so it isn't copied where no other context holds it.
+fn take_out(alloc: Global, context: Context, index: usize, name: &Name) -> Result<Taken, NoMemory>
+    requires index { index < length context.store }
+    requires name { HoldsAt (λ s. s.name ≡ name.now) context.store index }
+    ensures { IfOk result (IsTaken index context) }
+{
+    let Context {
+        size,
+        when,
+        sample,
+        mut store,
+        lines,
+    } = context;
+    let empty = Slot::new(alloc, name.copy(alloc)?, Term::Coll(Comps::new(alloc)), 0)?;
+    let Slot { name, term, from } = store.replace(index, empty);
+    Ok(Taken {
+        rest: Context {
+            size,
+            when,
+            sample,
+            store,
+            lines,
+        },
+        name,
+        term: term.into_term(alloc)?,
+        from,
     })
 }
 

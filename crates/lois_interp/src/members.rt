@@ -8,22 +8,26 @@ use lois_base::{Comp, Comps, Constraint, NoMemory, Term};
 use std::alloc::Global;
 
 /// The set with one member more, or `None` where the term is no set.
-pub(crate) fn with_member(alloc: Global, term: &Term, item: Term) -> Result<Option<Term>, NoMemory>
-    ensures { IfOk result (IsExtended (tree term.now) (tree item)) }
+pub(crate) fn with_member(alloc: Global, term: Term, item: Term) -> Result<Option<Term>, NoMemory>
+    ensures { IfOk result (IsExtended (tree term) (tree item)) }
 {
-    let Term::Coll(comps) = term else {
-        return Ok(None);
+    let comp = Comp {
+        binders: 0,
+        guard: Constraint::always(alloc)?,
+        item,
     };
-    let mut comps = comps.copy(alloc)?;
-    put_once(
-        &mut comps,
-        Comp {
-            binders: 0,
-            guard: Constraint::always(alloc)?,
-            item,
-        },
-    )?;
-    Ok(Some(Term::Coll(comps)))
+    match term {
+        Term::Coll(comps) => Ok(Some(Term::Coll(with_comp(comps, comp)?))),
+        _ => Ok(None),
+    }
+}
+
+fn with_comp(comps: Comps, comp: Comp) -> Result<Comps, NoMemory>
+    ensures { IfOk result (IsPutOnce comps (comp_of comp)) }
+{
+    let mut all = comps;
+    put_once(&mut all, comp)?;
+    Ok(all)
 }
 
 /// Puts the comprehension at the end, but where one is there that is written alike: so what is added again and again

@@ -123,7 +123,7 @@ fn loops_have_a_context_for_each_comprehension(rt: HostRuntime) -> Result<(), Fa
 fn deepest(rt: &impl Abort, alloc: Global, x: &Name, y: &Name) -> Result<Context, Fail> {
     let context = outer(rt, alloc, x)?;
     let held = context.store.get(0).ok_or("no slot")?;
-    only_inside(rt, alloc, &context, &held.term, y)
+    only_inside(rt, alloc, &context, held.term.get(), y)
 }
 
 #[test]
@@ -135,7 +135,7 @@ fn loops_stand_in_loops(rt: HostRuntime) -> Result<(), Fail> {
     assert!(rt; admits(&deepest, &[0, 1, 5, 5]) && !admits(&deepest, &[0, 1, 5, 6]));
     assert!(rt; holds_one_set(&deepest.store, &x));
     let last = deepest.store.get(1).ok_or("no slot")?;
-    assert!(rt; last.name == y && matches!(last.term, Term::Var(3)) && last.from == 0);
+    assert!(rt; last.name == y && matches!(last.term.get(), Term::Var(3)) && last.from == 0);
     let slots = deepest.store.into_vec();
     assert!(rt; slots.len() == 2 && slots[0].name == x && slots[1].name == y);
     Ok(())
@@ -143,17 +143,17 @@ fn loops_stand_in_loops(rt: HostRuntime) -> Result<(), Fail> {
 
 // `{$4 for $4 if $4=$2}` under the name, of which all stood there before
 fn holds_one_set(store: &Store, name: &Name) -> bool {
-    match store.get(0) {
-        Some(
-            Slot {
-                name: own,
-                term: Term::Coll(comps),
-                from: 1,
-            },
-        ) => match comps.as_slice() {
+    let Some(slot) = store.get(0) else {
+        return false;
+    };
+    slot.name == *name && slot.from == 1 && is_one_set(slot.term.get())
+}
+
+fn is_one_set(term: &Term) -> bool {
+    match term {
+        Term::Coll(comps) => match comps.as_slice() {
             [comp] => {
-                *own == *name
-                    && comp.binders == 1
+                comp.binders == 1
                     && matches!(comp.item, Term::Var(4))
                     && comp.guard.fits(5)
                     && comp.guard.at(&[0, 1, 5, 6, 5])
@@ -205,7 +205,7 @@ fn a_loop_that_adds_nothing_changes_nothing(rt: HostRuntime) -> Result<(), Fail>
     assert!(rt; holds_only(&behind, &x));
     assert!(rt; admits(&behind, &[0, 1, 5]) && !admits(&behind, &[5, 1, 5]));
     let held = behind.store.get(0).ok_or("no slot")?;
-    assert!(rt; has_one_comprehension(&held.term));
+    assert!(rt; has_one_comprehension(held.term.get()));
     Ok(())
 }
 
@@ -234,18 +234,14 @@ fn grown_slot(
     ensures name { IfOk result (λ r. r.name ≡ slot.now.name) }
     ensures end { IfOk result (λ r. (n by : ℕ) (s : SlotD) → IsEndSlot n by s (slot_of slot.now) → IsEndSlot n by s (slot_of r)) }
 {
-    let Term::Coll(comps) = &slot.term else {
+    let Term::Coll(comps) = slot.term.get() else {
         return Err("no set".into());
     };
     let mut grown = comps.copy(alloc)?;
     grown.push(comp.copy(alloc)?)?;
     let term = Term::Coll(grown);
     assert!(rt; term.fits(size));
-    Ok(Slot {
-        name: slot.name.copy(alloc)?,
-        term,
-        from: slot.from,
-    })
+    Ok(Slot::new(alloc, slot.name.copy(alloc)?, term, slot.from)?)
 }
 
 // two slots, the first with one comprehension more in its set
@@ -324,7 +320,7 @@ fn what_ends_add_is_joined(rt: HostRuntime) -> Result<(), Fail> {
     let behind = behind_a_body(&rt, alloc, &x)?;
     assert!(rt; holds_only(&behind, &x));
     let held = behind.store.get(0).ok_or("no slot")?;
-    let Term::Coll(comps) = &held.term else {
+    let Term::Coll(comps) = held.term.get() else {
         return Err("no set".into());
     };
     assert!(rt; are_three_parts(comps.as_slice()));

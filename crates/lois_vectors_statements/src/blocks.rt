@@ -37,16 +37,10 @@ fn opening(alloc: Global, parameters: &Params) -> Result<Option<Context>, NoMemo
     sample.push(0)?;
     sample.push(0)?;
     let mut store = Store::new(alloc);
-    store.push(Slot {
-        name: a.name.copy(alloc)?,
-        term: Term::Var(0),
-        from: 0,
-    })?;
-    store.push(Slot {
-        name: b.name.copy(alloc)?,
-        term: Term::Var(1),
-        from: 0,
-    })?;
+    let first = Slot::new(alloc, a.name.copy(alloc)?, Term::Var(0), 0)?;
+    store.push(first)?;
+    let second = Slot::new(alloc, b.name.copy(alloc)?, Term::Var(1), 0)?;
+    store.push(second)?;
     Ok(Some(Context {
         size: 2,
         when: Constraint::always(alloc)?,
@@ -102,11 +96,8 @@ fn context_of(alloc: Global, name: &Name, set: Term, from: usize) -> Result<Cont
     ensures lines { IfOk result (λ k. k.lines ≡ []) }
 {
     let mut store = Store::new(alloc);
-    store.push(Slot {
-        name: name.copy(alloc)?,
-        term: set,
-        from,
-    })?;
+    let slot = Slot::new(alloc, name.copy(alloc)?, set, from)?;
+    store.push(slot)?;
     Ok(Context {
         size: 0,
         when: Constraint::always(alloc)?,
@@ -178,7 +169,7 @@ fn kept_comprehensions(contexts: &[Context], from: usize) -> Option<&[Comp]> {
     if slot.from != from {
         return None;
     }
-    match &slot.term {
+    match slot.term.get() {
         Term::Coll(comps) => Some(comps.as_slice()),
         _ => None,
     }

@@ -1,7 +1,7 @@
 use Rattle.std.proofs.Common.{◌+◌, [], ◌∷◌, ◌++◌, sym, ap, ◌∙◌, subst, arith}
 use Rattle.std.proofs.lemmas.List.Elements.{All-push}
 use Rattle.lois_base.specs.Tree.{tree}
-use Rattle.lois_context.specs.Entered.{carried, bound}
+use Rattle.lois_context.specs.Entered.{bound}
 use Rattle.lois_context.specs.Kept.{IsSlot, AreSlots, HasDistinctNames}
 use Rattle.lois_context.proofs.Carried.{distinct_more}
 use Rattle.lois_context.proofs.entering.inner_store.Goals as goal

@@ -1,4 +1,4 @@
-use Rattle.std.proofs.Common.{◌≡◌, take}
+use Rattle.std.proofs.Common.{take}
 use Rattle.std.specs.List.{All}
 use Rattle.lois_context.specs.Merged.{IsLike}
 use Rattle.lois_context.proofs.merging.place_of.Given as goal

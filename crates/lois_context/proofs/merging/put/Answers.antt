@@ -1,4 +1,4 @@
-use Rattle.std.proofs.Common.{◌≡◌, ◌<◌, ◌++◌, ◌∷◌, [], length, get_or, sym, ap, ◌∙◌, subst}
+use Rattle.std.proofs.Common.{◌<◌, ◌++◌, ◌∷◌, [], length, sym, ap, subst}
 use Rattle.std.specs.List.{All, HoldsAt}
 use Rattle.lois_deciders.proofs.Asking.{on_ok, some_is, none_is}
 use Rattle.lois_context.specs.Merged.{AreMerged, IsLike, IsTakenIn}

@@ -18,8 +18,8 @@ returns c =
     let slot = c.index-as_slice-place.result in
     let found = some_is (λ i. (i < length store) × HoldsAt (λ s. s.name ≡ x) store i) c.place_of.result i c.in-Some.is c.place_of.ensures.found in
     let at = item_at slot_of c.as_slice.result.now store i slot c.as_slice.ensures.items (omega (arith, found.0, length-map c.as_slice.result.now slot_of, ap length c.as_slice.ensures.items)) c.index-as_slice-place.is in
-    IfOk-weaker c.copy.result (λ r. r ≡ (get_or c.as_slice.result.now i slot).term) _
-    (λ r is. subst (IsHeldBy x store) (ap (λ s. s.term) (sym at) ∙ sym (ap tree (is ∙ ap (λ s. s.term) (sym c.index-as_slice-place.is)))) (held_at x store i (slot_of slot) c.args.context.now.names found.0 (found.1 (slot_of slot)))) c.copy.ensures
+    IfOk-weaker c.copy.result (λ r. r ≡ c.get.result.now) _
+    (λ r is. subst (IsHeldBy x store) (ap (λ s. s.term) (sym at) ∙ sym (ap tree (is ∙ (c.get.ensures.same ∙ ap (λ s. s.term) (sym c.index-as_slice-place.is))))) (held_at x store i (slot_of slot) c.args.context.now.names found.0 (found.1 (slot_of slot)))) c.copy.ensures
 
 pub unreachable-requires : goal.unreachable-requires
 unreachable-requires c = not_new c.args.name.now c.args.context.now.store c.requires (c.place_of.ensures.none.0 (none_is c.place_of.result c.in-None.is))

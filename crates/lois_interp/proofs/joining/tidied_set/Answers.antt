@@ -1,61 +1,48 @@
-use Rattle.std.proofs.Common.{◌≡◌, ℕ, ◌-◌, Bool, List, ◌++◌, length, take, drop, map, IsTrue, sym, ap, subst, ◌∙◌, arith}
-use Rattle.std.proofs.lemmas.List.{take_all, take-map, drop-map, length-drop, take-append-drop}
+use Rattle.std.proofs.Common.{◌≡◌, Bool, List, take, drop, length, IsTrue, sym, subst}
+use Rattle.std.proofs.lemmas.List.{take-append-drop}
 use Rattle.std.proofs.lemmas.Result.{IfOk-weaker}
 use Rattle.lois_base.specs.Atom.{Atom}
-use Rattle.lois_base.specs.Data.{coll, CompD, comps_of}
+use Rattle.lois_base.specs.Data.{coll, comps_of}
 use Rattle.lois_base.specs.Fits.{ItemsFit}
-use Rattle.lois_base.specs.Tree.{tree, comp_of}
+use Rattle.lois_base.specs.Tree.{tree}
 use Rattle.lois_base.specs.Truth.{holds}
 use Rattle.lois_base.specs.Validity.{AdmitsItems, AdmitsTerm, HasUsualWidths}
 use Rattle.lois_base.specs.Values.{point, IsSame}
-use Rattle.lois_base.specs.declared.values.Comp.{Comp}
 use Rattle.lois_context.specs.Entered.{comps_listed}
 use Rattle.lois_interp.specs.Members.{ArePutBehind}
 use Rattle.lois_interp.specs.Tidied.{IsTidied}
 use Rattle.lois_interp.proofs.Tidying.{set_tidied, still_set, items_fit_last, items_admit_last}
 use Rattle.lois_interp.proofs.joining.tidied_set.Goals as goal
 
--- what is copied from the items that a view gives
-behind : (items : List Comp) (ks : List CompD) (first : ℕ) → map comp_of items ≡ ks → map comp_of (take (length items - first) (drop first items)) ≡ drop first ks
-behind items ks first is =
-    ap (map comp_of) (take_all (length items - first) (drop first items) (omega (arith, length-drop first items))) ∙ (sym (drop-map comp_of first items) ∙ ap (drop first) is)
-
-front : (items : List Comp) (ks : List CompD) (first : ℕ) → map comp_of items ≡ ks → map comp_of (take first items) ≡ take first ks
-front items ks first is = sym (take-map comp_of first items) ∙ ap (take first) is
-
 pub simplify-requires-clause-levels : goal.simplify-requires-clause-levels
 simplify-requires-clause-levels g c =
-    let ks = c.args.comps.now in let first = c.args.first in
-    let added = c.in_ok-copied.ensures ∙ behind c.as_slice-items.result.now ks first c.as_slice-items.ensures in
-    subst (λ z. ItemsFit c.args.size (comps_of z)) (sym added)
+    let ks = c.args.comps in let first = c.args.first in
+    subst (λ z. ItemsFit c.args.size (comps_of z)) (sym c.in_ok-parts.ensures.added)
     (items_fit_last c.args.size (take first ks) (drop first ks) (subst (λ z. ItemsFit c.args.size (comps_of z)) (sym (take-append-drop first ks)) c.requires.levels))
 
 pub simplify-requires-clause-operators : goal.simplify-requires-clause-operators
 simplify-requires-clause-operators g c =
-    let ks = c.args.comps.now in let first = c.args.first in let o = g.T.Structure.ordered in
-    let added = c.in_ok-copied.ensures ∙ behind c.as_slice-items.result.now ks first c.as_slice-items.ensures in
-    subst (λ z. AdmitsItems o (comps_of z)) (sym added)
+    let ks = c.args.comps in let first = c.args.first in let o = g.T.Structure.ordered in
+    subst (λ z. AdmitsItems o (comps_of z)) (sym c.in_ok-parts.ensures.added)
     (items_admit_last o (take first ks) (drop first ks) (subst (λ z. AdmitsItems o (comps_of z)) (sym (take-append-drop first ks)) c.requires.operators))
 
 pub with_items-requires : goal.with_items-requires
 with_items-requires g c =
-    still_set c.args.size c.args.«when».now (comps_of c.in_ok-copied.field-0) (tree c.in_ok-lean.lean) c.requires.met c.in_ok-lean.ensures.value
+    still_set c.args.size c.args.«when».now (comps_of c.in_ok-parts.parts.1) (tree c.in_ok-lean.lean) c.requires.met c.in_ok-lean.ensures.value
 
 pub returns-clause-tidied : goal.returns-clause-tidied
 returns-clause-tidied g c =
     let n = c.args.size in let u = c.args.«when».now in
-    let ks = c.args.comps.now in let first = c.args.first in
+    let ks = c.args.comps in let first = c.args.first in
+    let parts = c.in_ok-parts.parts in let P = c.in_ok-parts.ensures in
     let lean = tree c.in_ok-lean.lean in let E = c.in_ok-lean.ensures in
-    let items = c.as_slice-items.result.now in
-    let added = c.in_ok-copied.ensures ∙ behind items ks first c.as_slice-items.ensures in
-    let old = c.in_ok-copied-2.ensures ∙ front items ks first c.as_slice-items.ensures in
-    IfOk-weaker c.with_items.result (λ r. ArePutBehind c.in_ok-copied-2.field-0 (comps_listed lean) (tree r)) (λ r. IsTidied n u first (coll (comps_of ks)) (tree r))
+    IfOk-weaker c.with_items.result (λ r. ArePutBehind parts.0 (comps_listed lean) (tree r)) (λ r. IsTidied n u first (coll (comps_of ks)) (tree r))
     (λ r is.
     set_tidied n u first ks lean (tree r) c.requires.count c.requires.levels
-    (still_set n u (comps_of c.in_ok-copied.field-0) lean c.requires.met E.value)
-    (subst (λ z. ArePutBehind z (comps_listed lean) (tree r)) old is)
+    (still_set n u (comps_of parts.1) lean c.requires.met E.value)
+    (subst (λ z. ArePutBehind z (comps_listed lean) (tree r)) P.old is)
     E.levels
-    (subst (λ z. (a : List Atom) → length a ≡ n → IsTrue (holds a u) → IsSame (point (coll (comps_of z)) a) (point lean a)) added E.value)
-    (subst (λ z. (o : Bool) → AdmitsTerm o (coll (comps_of z)) → AdmitsTerm o lean) added E.operators)
-    (subst (λ z. HasUsualWidths (coll (comps_of z)) → HasUsualWidths lean) added E.widths))
+    (subst (λ z. (a : List Atom) → length a ≡ n → IsTrue (holds a u) → IsSame (point (coll (comps_of z)) a) (point lean a)) P.added E.value)
+    (subst (λ z. (o : Bool) → AdmitsTerm o (coll (comps_of z)) → AdmitsTerm o lean) P.added E.operators)
+    (subst (λ z. HasUsualWidths (coll (comps_of z)) → HasUsualWidths lean) P.added E.widths))
     c.with_items.ensures

@@ -1,14 +1,16 @@
-use Rattle.std.proofs.Common.{[], ◌∷◌, sym, subst, ◌∙◌}
+use Rattle.std.proofs.Common.{[], ◌∷◌, ◌≤◌, slice_set, sym, ap, subst, ◌∙◌, arith}
+use Rattle.lois_base.specs.Fits.{Fits}
 use Rattle.lois_base.specs.Tree.{tree as term_tree}
 use Rattle.lois_deciders.proofs.Asking.{none_is}
 use Rattle.lois_script.specs.Tree.{assign}
 use Rattle.lois_script.specs.View.{tree}
 use Rattle.lois_meaning.specs.Faults.{Fails}
-use Rattle.lois_context.specs.Slots.{SlotD}
+use Rattle.lois_context.specs.Slots.{SlotD, comps_in}
 use Rattle.lois_eval.specs.Throughout.{IsFaultOf}
 use Rattle.lois_eval.proofs.Handed.{passed_on}
 use Rattle.lois_eval.proofs.Names.{not_new}
 use Rattle.lois_interp.specs.Failed.{FailsWithin}
+use Rattle.lois_interp.specs.Leaves.{IsWithStore}
 use Rattle.lois_interp.specs.Reached.{RunsAs}
 use Rattle.lois_interp.specs.Run.{stmt_run}
 use Rattle.lois_interp.proofs.LeafGlue.{assign_set, assign_named, assign_fails}
@@ -32,7 +34,13 @@ pub with_slot_at-requires-clause-index : goal.with_slot_at-requires-clause-index
 with_slot_at-requires-clause-index g c = c.in-Some.ensures.found.0
 
 pub with_slot_at-requires-clause-name : goal.with_slot_at-requires-clause-name
-with_slot_at-requires-clause-name g c = λ q. c.in-Some.ensures.found.1 q ∙ sym c.in_ok-copy.ensures
+with_slot_at-requires-clause-name g c = λ q. c.in-Some.ensures.found.1 q ∙ (sym c.in_ok-copy.ensures ∙ sym (ap (λ (z : SlotD). z.name) c.in_ok-slot.ensures.made))
+
+pub with_slot_at-requires-clause-levels : goal.with_slot_at-requires-clause-levels
+with_slot_at-requires-clause-levels g c = subst (λ (z : SlotD). Fits c.args.context.size z.term) (sym c.in_ok-slot.ensures.made) c.in_ok-term.ensures.levels
+
+pub with_slot_at-requires-clause-from : goal.with_slot_at-requires-clause-from
+with_slot_at-requires-clause-from g c = subst (λ (z : SlotD). z.from ≤ comps_in z.term) (sym c.in_ok-slot.ensures.made) (omega arith)
 
 pub returns-clause-runs : goal.returns-clause-runs
 returns-clause-runs g c =
@@ -43,4 +51,4 @@ returns-clause-runs g c =
     let d = c.with_slot_at.result in
     subst (RunsAs (stmt_run (assign p x e)) k) (sym c.in_ok-one.ensures)
     (subst (λ z. RunsAs (stmt_run (assign p z e)) k (d ∷ [])) c.in_ok-copy.ensures
-    (assign_runs s c.in-Some.index k d c.with_slot_at.ensures found.0 (λ q. found.1 q ∙ sym c.in_ok-copy.ensures) p e V.value (λ o h. V.operators o (assign_set p s.name e o k h)) V.widths))
+    (assign_runs s c.in-Some.index k d (subst (λ z. IsWithStore (slice_set k.store c.in-Some.index z) k d) c.in_ok-slot.ensures.made c.with_slot_at.ensures) found.0 (λ q. found.1 q ∙ sym c.in_ok-copy.ensures) p e V.value (λ o h. V.operators o (assign_set p s.name e o k h)) V.widths))

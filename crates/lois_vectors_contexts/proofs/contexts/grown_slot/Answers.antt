@@ -1,10 +1,11 @@
-use Rattle.std.proofs.Common.{rules, ◌≡◌, ℕ, List, [], ◌∷◌, ◌++◌, length, length-append, map, refl, sym, ap, ◌∙◌, append_assoc, arith}
+use Rattle.std.proofs.Common.{rules, ◌≡◌, ℕ, List, [], ◌∷◌, ◌++◌, length, length-append, map, refl, sym, ap, ◌∙◌, subst, append_assoc, arith}
 use Rattle.lois_base.specs.Data.{TermD, var, tag, tup, coll, CompD, comps_of}
 use Rattle.lois_base.specs.Fits.{Fits}
 use Rattle.lois_base.specs.Shift.{shift_comp}
 use Rattle.lois_base.specs.Tree.{tree, comp_of}
 use Rattle.lois_context.specs.Entered.{items_listed}
 use Rattle.lois_context.specs.Joined.{IsGoneOn, IsEndSlot}
+use Rattle.lois_context.specs.Kept.{IsSlot}
 use Rattle.lois_context.specs.Slots.{SlotD, comps_in}
 use Rattle.lois_context.specs.SlotView.{slot_of}
 use Rattle.lois_context.proofs.Carried.{count_of}
@@ -28,10 +29,14 @@ end_slot_more n by s e r ks k name from was is end =
 pub returns-clause-slot : goal.returns-clause-slot
 returns-clause-slot g c =
     let fits : Fits c.args.size (coll (comps_of c.push.new.self)) = search rules in
-    (fits, omega (arith, c.requires.1, ap (λ z. comps_in (tree z)) c.in-Coll.is, count_of c.in-Coll.comps, count_of c.push.new.self, ap length c.in_ok-grown.ensures, ap length c.in_ok-push.ensures.ok, length-append c.in_ok-grown.grown (comp_of c.in_ok-copy.field-0 ∷ [])))
+    subst (IsSlot c.args.size) (sym c.in_ok-new.ensures.made) (fits, omega (arith, c.requires.1, ap (λ z. comps_in (tree z)) (sym c.get.ensures.same ∙ c.in-Coll.is), count_of c.in-Coll.comps, count_of c.push.new.self, ap length c.in_ok-grown.ensures, ap length c.in_ok-push.ensures.ok, length-append c.in_ok-grown.grown (comp_of c.in_ok-copy.field-0 ∷ [])))
 
 pub returns-clause-end : goal.returns-clause-end
 returns-clause-end g c = λ n by s end.
     let k = comp_of c.in_ok-copy.field-0 in
-    end_slot_more n by s (slot_of c.args.slot.now) _ c.in-Coll.comps k c.in_ok-copy-2.ensures refl (ap tree c.in-Coll.is)
-    (ap (λ z. coll (comps_of z)) (c.in_ok-push.ensures.ok ∙ ap (λ z. z ++ k ∷ []) c.in_ok-grown.ensures)) end
+    subst (IsEndSlot n by s) (sym c.in_ok-new.ensures.made)
+    (end_slot_more n by s (slot_of c.args.slot.now) _ c.in-Coll.comps k c.in_ok-copy-2.ensures refl (ap tree (sym c.get.ensures.same ∙ c.in-Coll.is))
+    (ap (λ z. coll (comps_of z)) (c.in_ok-push.ensures.ok ∙ ap (λ z. z ++ k ∷ []) c.in_ok-grown.ensures)) end)
+
+pub returns-clause-name : goal.returns-clause-name
+returns-clause-name g c = ap (λ (z : SlotD). z.name) c.in_ok-new.ensures.made ∙ c.in_ok-copy-2.ensures

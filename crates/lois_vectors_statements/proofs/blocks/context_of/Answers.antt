@@ -13,7 +13,7 @@ use Rattle.lois_vectors_statements.proofs.blocks.context_of.Goals as goal
 pub invariant_of-result : goal.invariant_of-result
 invariant_of-result c =
     let s : SlotD = record { name = c.in_ok-copy.field-0; term = tree c.args.set; from = c.args.from } in
-    let store : c.push.new.self ≡ s ∷ [] = c.in_ok-push.ensures.appended ∙ ap (λ z. z ++ s ∷ []) c.new-store.ensures.empty in
+    let store : c.push.new.self ≡ s ∷ [] = c.in_ok-push.ensures.appended ∙ (ap (λ z. c.new-store.result ++ z ∷ []) c.in_ok-slot.ensures.made ∙ ap (λ z. z ++ s ∷ []) c.new-store.ensures.empty) in
     record {
       levels = subst (ConstraintFits 0) (sym c.in_ok-always.ensures) (always_fits 0);
       count = ap length c.new.ensures;

@@ -16,7 +16,7 @@ pub invariant_of-result : goal.invariant_of-result
 invariant_of-result c =
     let a = c.a-item.result in
     let b = c.b-item.result in
-    let store = two_slots c.new-store.result c.push-3.new.self c.push-4.new.self c.in_ok-copy.field-0 c.in_ok-copy-2.field-0 a.name b.name c.new-store.ensures.empty c.in_ok-push-3.ensures.appended c.in_ok-push-4.ensures.appended c.in_ok-copy.ensures c.in_ok-copy-2.ensures in
+    let store = two_slots c.new-store.result c.push-3.new.self c.push-4.new.self c.in_ok-copy.field-0 c.in_ok-copy-2.field-0 a.name b.name c.new-store.ensures.empty (c.in_ok-push-3.ensures.appended ∙ ap (λ z. c.new-store.result ++ z ∷ []) c.in_ok-first.ensures.made) (c.in_ok-push-4.ensures.appended ∙ ap (λ z. c.push-3.new.self ++ z ∷ []) c.in_ok-second.ensures.made) c.in_ok-copy.ensures c.in_ok-copy-2.ensures in
     record {
       levels = subst (ConstraintFits 2) (sym c.in_ok-always.ensures) (always_fits 2);
       count = ap length (c.in_ok-push-2.ensures.ok ∙ ap (λ z. z ++ 0 ∷ []) (c.in_ok-push.ensures.ok ∙ ap (λ z. z ++ 0 ∷ []) c.new-sample.ensures));
@@ -36,6 +36,6 @@ returns c =
     record {
       size = sym (ap length params);
       «when» = c.in_ok-always.ensures;
-      store = two_slots c.new-store.result c.push-3.new.self c.push-4.new.self c.in_ok-copy.field-0 c.in_ok-copy-2.field-0 a.name b.name c.new-store.ensures.empty c.in_ok-push-3.ensures.appended c.in_ok-push-4.ensures.appended c.in_ok-copy.ensures c.in_ok-copy-2.ensures ∙ ap (λ ps. opening_slots ps 0) (sym params);
+      store = two_slots c.new-store.result c.push-3.new.self c.push-4.new.self c.in_ok-copy.field-0 c.in_ok-copy-2.field-0 a.name b.name c.new-store.ensures.empty (c.in_ok-push-3.ensures.appended ∙ ap (λ z. c.new-store.result ++ z ∷ []) c.in_ok-first.ensures.made) (c.in_ok-push-4.ensures.appended ∙ ap (λ z. c.push-3.new.self ++ z ∷ []) c.in_ok-second.ensures.made) c.in_ok-copy.ensures c.in_ok-copy-2.ensures ∙ ap (λ ps. opening_slots ps 0) (sym params);
       lines = c.new.ensures.empty;
     }
