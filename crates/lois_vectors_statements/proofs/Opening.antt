@@ -1,14 +1,11 @@
 -- Contexts that are made by hand.
-use Rattle.std.proofs.Common.{◌≡◌, ℕ, ◌<◌, ◌≤◌, Bool, false, List, [], ◌∷◌, ◌++◌, length, get_or, map, bytes_eq, refl, sym, ap, ◌∙◌, subst, arith}
-use Rattle.std.specs.List.{All, IsDistinct}
+use Rattle.std.proofs.Common.{◌≡◌, ℕ, ◌≤◌, false, List, [], ◌∷◌, ◌++◌, length, get_or, bytes_eq, sym, ap, ◌∙◌, arith}
+use Rattle.std.specs.List.{IsDistinct}
 use Rattle.std.proofs.lemmas.List.Elements.{All-nil, All-cons}
-use Rattle.lois_base.specs.Data.{TermD, var}
+use Rattle.lois_base.specs.Data.{var}
 use Rattle.lois_base.specs.Fits.{Fits}
-use Rattle.lois_context.specs.Kept.{IsSlot, AreSlots, HasDistinctNames}
+use Rattle.lois_context.specs.Kept.{IsSlot, AreSlots}
 use Rattle.lois_context.specs.Slots.{SlotD, comps_in}
-use Rattle.lois_script.specs.Tree.{ParamD}
-use Rattle.lois_script.specs.View.{param_tree}
-use Rattle.lois_script.specs.declared.script.Param.{Param}
 
 pub pair_is : {X : Type 0} (xs : List X) (a b : X) → length xs ≡ 2 → a ≡ get_or xs 0 a → b ≡ get_or xs 1 b → xs ≡ a ∷ b ∷ []
 pair_is [] a b l p q = absurd (omega (arith, l))
