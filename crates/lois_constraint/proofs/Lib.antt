@@ -1,11 +1,12 @@
 pub mod Raising
 pub mod Words
+pub mod Lows
 pub mod Told
 pub mod Ranked
 pub mod Joined
 pub mod Linked
 pub mod Listed
-pub mod Numbers
+pub mod Shown
 pub mod Both
 pub mod Had
 pub mod Denied

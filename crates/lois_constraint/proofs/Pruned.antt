@@ -14,6 +14,7 @@ use Rattle.lois_base.specs.declared.guards.Lit.{Lit}
 use Rattle.lois_constraint.specs.Met.{CanBeMet, LiesWithin, AreApart, IsPruned}
 use Rattle.lois_constraint.proofs.Sorted.{pairs_permuted}
 use Rattle.lois_constraint.proofs.Tightened.{constraint_grows}
+use Rattle.lois_constraint.proofs.Words.{or_nothing}
 
 -- the kept cubes are apart from each of the cubes from i on
 abbrev pub ApartFrom : List (List Lit) → ℕ → List (List Lit) → Type 0
@@ -130,11 +131,7 @@ apart_swapped a b h = (h.1, h.0)
 module _ (g xs : List (List Lit)) (x y : List Lit) (i : ℕ) (b : i < length xs) (is : x ≡ get_or xs i x) (same : (c : List Atom) → cube_holds c y ≡ cube_holds c x) where
   pub read_holds : (c : List Atom) → holds c g ≡ holds c (take i xs) → holds c (g ++ y ∷ []) ≡ holds c (take (i + 1) xs)
   read_holds c t =
-      constraint_grows c g (g ++ y ∷ []) xs x i b is t (list_any-append (cube_holds c) g (y ∷ []) ∙ (ap (λ p. holds c g || p) (or_nothing (cube_holds c y)) ∙ ap (λ p. holds c g || p) (same c)))
-    where
-      or_nothing : (p : Bool) → (p || false) ≡ p
-      or_nothing true = refl
-      or_nothing false = refl
+      constraint_grows c g (g ++ y ∷ []) xs x i b is t (list_any-append (cube_holds c) g (y ∷ []) ∙ (ap (λ p. holds c g || p) (sym (or_nothing (cube_holds c y))) ∙ ap (λ p. holds c g || p) (same c)))
 
   module _ (whole : IsPruned xs) (later : ApartFrom xs i g) where
     pub read_pruned : IsPruned g → IsPruned (g ++ y ∷ [])

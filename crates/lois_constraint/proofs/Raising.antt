@@ -1,17 +1,11 @@
 -- Tables with one row more, and rows with the levels of another one.
-use Rattle.std.proofs.Common.{◌≡◌, ◌≢◌, ℕ, ◌+◌, ◌<◌, ◌≤◌, Bool, true, false, ◌||◌, ◌&&◌, ◌==◌, ◌⊎◌, inl, inr, List, [], ◌∷◌, ◌++◌, length, get_or, set, eqb, refl, sym, ap, ◌∙◌, arith}
+use Rattle.std.proofs.Common.{◌≡◌, ◌≢◌, ℕ, ◌<◌, ◌≤◌, Bool, true, false, ◌||◌, ◌&&◌, ◌==◌, ◌⊎◌, inl, inr, List, [], ◌∷◌, ◌++◌, length, get_or, set, eqb, refl, sym, ◌∙◌, arith}
 use Rattle.std.proofs.Math.ListN.{get_or-eq_default}
 use Rattle.std.proofs.lemmas.Bool.{cases_order}
 use Rattle.std.proofs.lemmas.Bool.Decides.{eqb_tells}
 use Rattle.std.proofs.lemmas.List.{get_or_append_left, get_or_push, get_or-set_same, get_or-set_other}
 use Rattle.lois_constraint.specs.Order.{Row, reaches, are_at_most}
-use Rattle.lois_constraint.proofs.Words.{beyond, or_nothing, reaches_nothing}
-
-pub other_way : (p q : Bool) → (p || q) ≡ (q || p)
-other_way true true = refl
-other_way true false = refl
-other_way false true = refl
-other_way false false = refl
+use Rattle.lois_constraint.proofs.Words.{beyond, reaches_nothing}
 
 -- ---- tables
 pub either_way : (p q r : Bool) → ((p || q) || r) ≡ (p || (q || r))
@@ -25,43 +19,6 @@ module _ (rows raised : List Row) (level i : ℕ) (more : Row) where
 
   abbrev BelowRaised : List Row → ℕ → Type 0
   BelowRaised xs n = (a b : ℕ) → a < n → are_at_most xs a b ≡ (are_at_most rows a b || (are_at_most rows a level && reaches more b))
-
-  pub raised_put : (r : Row) → i < length raised → reaches (get_or raised i []) level ≡ true → ((b : ℕ) → reaches r b ≡ (reaches (get_or raised i []) b || reaches more b)) → BelowRaised raised i → AboveKept raised i → BelowRaised (set raised i r) (i + 1)
-  raised_put r inside has is below above a b l = go (cases_order a i)
-    where
-      old : get_or raised i [] ≡ get_or rows i []
-      old = above i (omega arith)
-
-      here : reaches r b ≡ (are_at_most rows i b || (are_at_most rows i level && reaches more b))
-      here =
-          let had : reaches (get_or rows i []) level ≡ true = sym (ap (λ (row : Row). reaches row level) old) ∙ has in
-          is b ∙ (ap (λ (row : Row). reaches row b || reaches more b) old ∙ ap (λ (p : Bool). reaches (get_or rows i []) b || (p && reaches more b)) (sym had))
-
-      go : (a ≡ i) ⊎ ((a < i) ⊎ (i < a)) → are_at_most (set raised i r) a b ≡ (are_at_most rows a b || (are_at_most rows a level && reaches more b))
-      go (inl at) = rw (at, get_or-set_same raised i r [] inside) here
-      go (inr (inl less)) =
-          let other : get_or (set raised i r) a [] ≡ get_or raised a [] = get_or-set_other raised i a r [] (λ e. omega (arith, e)) in
-          ap (λ (row : Row). reaches row b) other ∙ below a b less
-      go (inr (inr far)) = absurd (omega arith)
-
-  pub above_raised : (r : Row) → AboveKept raised i → AboveKept (set raised i r) (i + 1)
-  above_raised r above a l = get_or-set_other raised i a r [] (λ e. omega (arith, e)) ∙ above a (omega arith)
-
-  pub raised_left : reaches (get_or raised i []) level ≡ false → BelowRaised raised i → AboveKept raised i → BelowRaised raised (i + 1)
-  raised_left lacks below above a b l = go (cases_order a i)
-    where
-      old : get_or raised i [] ≡ get_or rows i []
-      old = above i (omega arith)
-
-      here : are_at_most raised i b ≡ (are_at_most rows i b || (are_at_most rows i level && reaches more b))
-      here =
-          let had : reaches (get_or rows i []) level ≡ false = sym (ap (λ (row : Row). reaches row level) old) ∙ lacks in
-          ap (λ (row : Row). reaches row b) old ∙ (or_nothing (reaches (get_or rows i []) b) ∙ ap (λ (p : Bool). reaches (get_or rows i []) b || (p && reaches more b)) (sym had))
-
-      go : (a ≡ i) ⊎ ((a < i) ⊎ (i < a)) → are_at_most raised a b ≡ (are_at_most rows a b || (are_at_most rows a level && reaches more b))
-      go (inl at) = rw at here
-      go (inr (inl less)) = below a b less
-      go (inr (inr far)) = absurd (omega arith)
 
   pub all_raised : length raised ≤ i → BelowRaised raised i → AboveKept raised i → (a b : ℕ) → are_at_most raised a b ≡ (are_at_most rows a b || (are_at_most rows a level && reaches more b))
   all_raised whole below above a b = go (cases_order a i)
@@ -77,15 +34,16 @@ module _ (rows raised : List Row) (level i : ℕ) (more : Row) where
       go (inr (inl less)) = below a b less
       go (inr (inr far)) = past (omega arith)
 
-pub no_row_more : (rows : List Row) (a b : ℕ) → are_at_most (rows ++ [] ∷ []) a b ≡ are_at_most rows a b
-no_row_more rows a b = go (cases_order a (length rows))
+pub no_row_more : (rows : List Row) (row : Row) (a b : ℕ) → reaches row b ≡ false → are_at_most (rows ++ row ∷ []) a b ≡ are_at_most rows a b
+no_row_more rows row a b empty = go (cases_order a (length rows))
   where
-    go : (a ≡ length rows) ⊎ ((a < length rows) ⊎ (length rows < a)) → are_at_most (rows ++ [] ∷ []) a b ≡ are_at_most rows a b
+    go : (a ≡ length rows) ⊎ ((a < length rows) ⊎ (length rows < a)) → are_at_most (rows ++ row ∷ []) a b ≡ are_at_most rows a b
     go (inl at) =
-        let old : get_or rows a [] ≡ [] = get_or-eq_default rows [] (omega arith) in rw (get_or_push rows [] [] a (sym at), old) refl
-    go (inr (inl less)) = rw (get_or_append_left rows ([] ∷ []) [] a less) refl
+        let old : get_or rows a [] ≡ [] = get_or-eq_default rows [] (omega arith) in
+        rw (get_or_push rows row [] a (sym at), old) (empty ∙ sym (reaches_nothing b))
+    go (inr (inl less)) = rw (get_or_append_left rows (row ∷ []) [] a less) refl
     go (inr (inr far)) =
-        let old : get_or rows a [] ≡ [] = get_or-eq_default rows [] (omega arith) in rw (beyond rows [] [] a far, old) refl
+        let old : get_or rows a [] ≡ [] = get_or-eq_default rows [] (omega arith) in rw (beyond rows row [] a far, old) refl
 
 module _ (rows : List Row) (level a b : ℕ) (more : Row) where
   stays : (p : Bool) → eqb a level ≡ false → p ≡ (p || (a == level && reaches more b))
@@ -114,15 +72,3 @@ module _ (rows : List Row) (level a b : ℕ) (more : Row) where
       go : ((eqb a level ≡ true) × (a ≡ level)) ⊎ ((eqb a level ≡ false) × (a ≢ level)) → are_at_most (set rows level r) a b ≡ (are_at_most rows a b || (a == level && reaches more b))
       go (inl t) = rw (t.0, t.1, get_or-set_same rows level r [] inside) is
       go (inr t) = rw (get_or-set_other rows level a r [] t.1) (stays (are_at_most rows a b) t.0)
-
--- with e: the same level, l: the low one, r: the old rows have it, s: and the low one, h: what is put above that
-pub linked_rows : (e l r s h : Bool) → (e || ((r || (s && h)) || (l && h))) ≡ ((e || r) || ((l || s) && h))
-linked_rows true l r s h = refl
-linked_rows false l true s h = refl
-linked_rows false true false true true = refl
-linked_rows false true false false true = refl
-linked_rows false true false true false = refl
-linked_rows false true false false false = refl
-linked_rows false false false true true = refl
-linked_rows false false false true false = refl
-linked_rows false false false false h = refl

@@ -24,6 +24,14 @@ last_of_and true true = refl
 last_of_and true false = refl
 last_of_and false q = refl
 
+follows : (p q : Bool) → (p ≡ true → q ≡ true) → p ≡ (p && q)
+follows true q f = sym (f refl)
+follows false q f = refl
+
+fails : (p q : Bool) → (p ≡ true → q ≡ false) → false ≡ (p && q)
+fails true q f = sym (f refl)
+fails false q f = refl
+
 -- the part of the cube that was read, with its last literal
 module _ (c : List Atom) (tight xs : List Lit) (i : ℕ) (d : Lit) (b : i < length xs) (t : cube_holds c tight ≡ cube_holds c (take i xs)) where
   pub tight_grows : (r : List Lit) → r ≡ tight ++ get_or xs i d ∷ [] → cube_holds c r ≡ cube_holds c (take (i + 1) xs)
@@ -33,10 +41,6 @@ module _ (c : List Atom) (tight xs : List Lit) (i : ℕ) (d : Lit) (b : i < leng
   pub tight_stays : (IsTrue (cube_holds c tight) → IsTrue (lit_holds c (get_or xs i d))) → cube_holds c tight ≡ cube_holds c (take (i + 1) xs)
   tight_stays f =
       follows (cube_holds c tight) (lit_holds c (get_or xs i d)) f ∙ (ap (λ p. p && lit_holds c (get_or xs i d)) t ∙ sym (list_all_more (lit_holds c) xs i d b))
-    where
-      follows : (p q : Bool) → (p ≡ true → q ≡ true) → p ≡ (p && q)
-      follows true q f = sym (f refl)
-      follows false q f = refl
 
 pub constraint_grows : (c : List Atom) (g r xs : List (List Lit)) (x : List Lit) (i : ℕ) → i < length xs → x ≡ get_or xs i x → holds c g ≡ holds c (take i xs) → holds c r ≡ (holds c g || cube_holds c x) → holds c r ≡ holds c (take (i + 1) xs)
 constraint_grows c g r xs x i b is t e =
@@ -62,15 +66,19 @@ module _ (c : List Atom) (s : Bool) (known xs : List Lit) (i : ℕ) (d : Lit) (b
       grouped true q r = refl
       grouped false q r = refl
 
-  pub both_grow : (more : List Lit) → cube_holds c more ≡ (cube_holds c known && lit_holds c (get_or xs i d)) → cube_holds c more ≡ (s && cube_holds c (take (i + 1) xs))
-  both_grow more e = e ∙ read_with
+  pub both_stay : (cube_holds c known ≡ true → lit_holds c (get_or xs i d) ≡ true) → cube_holds c known ≡ (s && cube_holds c (take (i + 1) xs))
+  both_stay f = follows (cube_holds c known) (lit_holds c (get_or xs i d)) f ∙ read_with
 
-  pub both_fail : (k : List Lit) → xs ≡ k → false ≡ (cube_holds c known && lit_holds c (get_or xs i d)) → false ≡ (s && cube_holds c k)
-  both_fail k is e = go s (sym (e ∙ read_with))
+  pub both_grow : (more : List Lit) → more ≡ known ++ get_or xs i d ∷ [] → cube_holds c more ≡ (s && cube_holds c (take (i + 1) xs))
+  both_grow more e =
+      ap (cube_holds c) e ∙ (list_all-append (lit_holds c) known (get_or xs i d ∷ []) ∙ (last_of_and (cube_holds c known) (lit_holds c (get_or xs i d)) ∙ read_with))
+
+  pub both_fail : (cube_holds c known ≡ true → lit_holds c (get_or xs i d) ≡ false) → false ≡ (s && cube_holds c xs)
+  both_fail f = go s (sym (fails (cube_holds c known) (lit_holds c (get_or xs i d)) f ∙ read_with))
     where
-      go : (p : Bool) → (p && cube_holds c (take (i + 1) xs)) ≡ false → false ≡ (p && cube_holds c k)
-      go true f = sym (ap (cube_holds c) (sym is) ∙ part_fails (lit_holds c) xs (i + 1) f)
-      go false f = refl
+      go : (p : Bool) → (p && cube_holds c (take (i + 1) xs)) ≡ false → false ≡ (p && cube_holds c xs)
+      go true h = sym (part_fails (lit_holds c) xs (i + 1) h)
+      go false h = refl
 
 -- ---- the literals that were read and don't follow, beside what holds where k does
 module _ (c : List Atom) (k : Bool) (kept xs : List Lit) (i : ℕ) (d : Lit) (b : i < length xs) (same : (k && cube_holds c kept) ≡ (k && cube_holds c (take i xs))) where
@@ -146,12 +154,6 @@ met_read c s g r xs x i b is t e =
     spread true true false = refl
     spread true false false = refl
     spread false q r = refl
-
--- a cube within the cubes that it is met with
-pub inside_met : (s k g : Bool) → (k ≡ true → g ≡ true) → (s || k) ≡ (s || (k && g))
-inside_met true k g f = refl
-inside_met false true g f = sym (f refl)
-inside_met false false g f = refl
 
 -- ---- a cube that was tightened, or that can't be met
 pub none_exactly : (k : List Lit) (o : Option (List Lit)) (b : Bool) → ((c : List Atom) → some_holds c o ≡ cube_holds c k) → IfSome o CanBeMet → is_some o ≡ not b → (b ≡ true) ↔ ((c : List Atom) → cube_holds c k ≡ false)

@@ -24,7 +24,7 @@ no_more : (b : Bool) → b ≡ false → not b ≡ true
 no_more true h = absurd (cc)
 no_more false h = refl
 
-under_parts : (p q : Bool) → (p && not q) ≡ true → (p ≡ true) × (q ≡ false)
+pub under_parts : (p q : Bool) → (p && not q) ≡ true → (p ≡ true) × (q ≡ false)
 under_parts true true e = absurd (cc)
 under_parts true false e = (refl, refl)
 under_parts false q e = absurd (cc)
@@ -137,12 +137,3 @@ module _ (le : ℕ → ℕ → Bool) (k : List Lit) (h : IsOrderOf le k) where
 
   pub denied_nowhere : (l : Lit) (b : Bool) → b ≡ is_denied le k l.op l.left l.right → b ≡ true → (c : List Atom) → cube_holds c k ≡ true → lit_holds c l ≡ false
   denied_nowhere l b e t c holds = denied_fails c holds l.op l.left l.right (sym e ∙ t)
-
-  pub undenied_met : (l : Lit) (b : Bool) → b ≡ is_denied le k l.op l.left l.right → b ≡ false → CanBeMet (k ++ l ∷ [])
-  undenied_met l b e t = order_met _ _ (order_extended l.op l.left l.right (sym e ∙ t))
-
-  -- what can be met with the cube isn't denied
-  pub met_extended : (l : Lit) → CanBeMet (k ++ l ∷ []) → IsOrderOf (extended l.op l.left l.right le) (k ++ l ∷ [])
-  met_extended l met =
-      let both = first_holds met.0 k l met.1 in
-      order_extended l.op l.left l.right (not_true (is_denied le k l.op l.left l.right) (λ t. clash (lit_holds met.0 l) both.1 (denied_fails met.0 both.0 l.op l.left l.right t)))

@@ -7,3 +7,4 @@ pub mod Rules
 pub mod Tight
 pub mod Normalised
 pub mod Order
+pub mod Prints

@@ -1,8 +1,8 @@
 -- Cubes that some choice of atoms meets, and cubes that lie within others.
-use Rattle.std.specs.Prelude.{ℕ, ◌<◌, List, length, IsTrue}
+use Rattle.std.specs.Prelude.{List, IsTrue}
 use Rattle.std.specs.List.{All, AllPairs}
 use Rattle.lois_base.specs.Atom.{Atom}
-use Rattle.lois_base.specs.Truth.{cube_holds, sampled}
+use Rattle.lois_base.specs.Truth.{cube_holds}
 use Rattle.lois_base.specs.declared.guards.Lit.{Lit}
 
 -- the cube holds at some choice
@@ -21,7 +21,3 @@ AreApart a b = (LiesWithin a b → ⊥) × (LiesWithin b a → ⊥)
 pub record IsPruned (g : List (List Lit)) : Type 0 where
   pub met : All CanBeMet g
   pub apart : AllPairs AreApart g
-
--- if there are numbers, the cube holds at them
-abbrev pub IsKeptFor : List ℕ → List Lit → Type 0
-IsKeptFor s k = 0 < length s → IsTrue (cube_holds (sampled s) k)

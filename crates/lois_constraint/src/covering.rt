@@ -22,7 +22,7 @@ fn has_both(
     ensures yes { IfOk result (λ b. IsTrue b → (c : List Atom) → IsTrue (cube_holds c known.now) → IsTrue (cube_holds c cube.now) → IsTrue (holds c others.now)) }
     ensures no { IfOk result (λ b. IsFalse b → IsOutside (known.now ++ cube.now) others.now) }
 {
-    let Some(both) = known.copy(alloc)?.and(alloc, cube)? else {
+    let Some(both) = known.meet(alloc, cube)? else {
         return Ok(true);
     };
     // asked for what its clause tells: some choice meets it

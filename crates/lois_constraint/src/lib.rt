@@ -11,10 +11,10 @@ mod levels;
 mod negation;
 mod normal;
 mod piles;
+mod prints;
 mod products;
 mod pruning;
 mod rows;
-mod samples;
 mod sorting;
 
 pub use conflicts::{alternatives, conflict, implies, within};

@@ -9,14 +9,15 @@ ghost use Rattle.lois_constraint.specs.Rules.{Rule, CubeObeys, ConstraintObeys};
 ghost use Rattle.lois_constraint.specs.Tight.{some_holds, SomeObeys};
 
 use crate::known::Known;
+use crate::prints::Printed;
 use lois_base::{Constraint, Cube, NoMemory};
 use std::alloc::Global;
 use std::marker::Model;
 
-/// Cubes of which none lies within another, each with what it says.
+/// Cubes of which none lies within another, each with its print.
 #[derive(Drop)]
 pub(crate) struct Pile {
-    items: Vec<Known>,
+    items: Vec<Printed>,
 }
 
 impl Model for Pile {
@@ -32,11 +33,11 @@ impl Model for Pile {
 }
 
 // Whether one of the cubes lies within the cube.
-fn some_lies_within(cubes: &[Known], cube: &Cube) -> bool
+fn some_lies_within(cubes: &[Printed], cube: &Printed) -> bool
     ensures { IsFalse result → All (λ k. LiesWithin k cube.now → ⊥) cubes.now }
 {
-    for known in cubes {
-        if known.lies_within(cube) {
+    for other in cubes {
+        if other.lies_within(cube) {
             return true;
         }
     }
@@ -44,7 +45,11 @@ fn some_lies_within(cubes: &[Known], cube: &Cube) -> bool
 }
 
 // The cubes that don't lie within the cube, moved together.
-fn without_narrower(alloc: Global, cubes: Vec<Known>, cube: &Cube) -> Result<Vec<Known>, NoMemory>
+fn without_narrower(
+    alloc: Global,
+    cubes: Vec<Printed>,
+    cube: &Printed,
+) -> Result<Vec<Printed>, NoMemory>
     ensures truth { IfOk result (λ r. (c : List Atom) → (holds c r.items || cube_holds c cube.now) ≡ (holds c cubes.items || cube_holds c cube.now)) }
     ensures outside { IfOk result (λ r. All (λ k. LiesWithin k cube.now → ⊥) r.items) }
     ensures uncovered { IfOk result (λ r. All (λ k. LiesWithin cube.now k → ⊥) cubes.items → All (λ k. LiesWithin cube.now k → ⊥) r.items) }
@@ -52,16 +57,16 @@ fn without_narrower(alloc: Global, cubes: Vec<Known>, cube: &Cube) -> Result<Vec
     ensures rules { IfOk result (λ r. (rule : Rule) → ConstraintObeys rule cubes.items → ConstraintObeys rule r.items) }
 {
     let mut kept = Vec::new(alloc);
-    for known in cubes {
-        if !known.lies_within(cube) {
-            kept.push(known)?;
+    for other in cubes {
+        if !other.lies_within(cube) {
+            kept.push(other)?;
         }
     }
     Ok(kept)
 }
 
 // The cubes that don't lie within the cube. Mostly all of them, and then they stay where they are.
-fn outside(alloc: Global, cubes: Vec<Known>, cube: &Cube) -> Result<Vec<Known>, NoMemory>
+fn outside(alloc: Global, cubes: Vec<Printed>, cube: &Printed) -> Result<Vec<Printed>, NoMemory>
     ensures truth { IfOk result (λ r. (c : List Atom) → (holds c r.items || cube_holds c cube.now) ≡ (holds c cubes.items || cube_holds c cube.now)) }
     ensures outside { IfOk result (λ r. All (λ k. LiesWithin k cube.now → ⊥) r.items) }
     ensures uncovered { IfOk result (λ r. All (λ k. LiesWithin cube.now k → ⊥) cubes.items → All (λ k. LiesWithin cube.now k → ⊥) r.items) }
@@ -90,11 +95,11 @@ pub(crate) fn lies_within_one(known: &Known, others: &Constraint) -> bool
 // The cubes that lie within one of a constraint's cubes, and the others.
 #[derive(Drop)]
 struct Parts {
-    within: Vec<Known>,
-    others: Vec<Known>,
+    within: Vec<Printed>,
+    others: Vec<Printed>,
 }
 
-fn parted(alloc: Global, cubes: Vec<Known>, c: &Constraint) -> Result<Parts, NoMemory>
+fn parted(alloc: Global, cubes: Vec<Printed>, c: &Constraint) -> Result<Parts, NoMemory>
     ensures truth { IfOk result (λ r. (e : List Atom) → (holds e r.within.items || (holds e r.others.items && holds e c.now)) ≡ (holds e cubes.items && holds e c.now)) }
     ensures pruned { IfOk result (λ r. IsPruned cubes.items → IsPruned r.within.items) }
     ensures within_rules { IfOk result (λ r. (rule : Rule) → ConstraintObeys rule cubes.items → ConstraintObeys rule r.within.items) }
@@ -102,24 +107,29 @@ fn parted(alloc: Global, cubes: Vec<Known>, c: &Constraint) -> Result<Parts, NoM
 {
     let mut within = Vec::new(alloc);
     let mut others = Vec::new(alloc);
-    for known in cubes {
-        if lies_within_one(&known, c) {
-            within.push(known)?;
+    for cube in cubes {
+        if lies_within_one(cube.known(), c) {
+            within.push(cube)?;
         } else {
-            others.push(known)?;
+            others.push(cube)?;
         }
     }
     Ok(Parts { within, others })
 }
 
 // More cubes, each where the constraint holds too.
-fn with_met(alloc: Global, pile: Pile, cubes: Vec<Known>, c: &Constraint) -> Result<Pile, NoMemory>
+fn with_met(
+    alloc: Global,
+    pile: Pile,
+    cubes: Vec<Printed>,
+    c: &Constraint,
+) -> Result<Pile, NoMemory>
     ensures truth { IfOk result (λ r. (e : List Atom) → holds e r ≡ (holds e pile || (holds e cubes.items && holds e c.now))) }
     ensures rules { IfOk result (λ r. (rule : Rule) → ConstraintObeys rule pile → ConstraintObeys rule cubes.items → ConstraintObeys rule c.now → ConstraintObeys rule r) }
 {
     let mut met = pile;
-    for known in cubes {
-        met = met.put_with_each(alloc, &known, c)?;
+    for cube in cubes {
+        met = met.put_with_each(alloc, cube.known(), c)?;
     }
     Ok(met)
 }
@@ -135,43 +145,39 @@ impl Pile {
     }
 
     // Whether the cube lies within one of the pile.
-    fn covers(&self, known: &Known) -> bool
-        ensures covered { IsTrue result → (c : List Atom) → IsTrue (cube_holds c known.now) → IsTrue (holds c self.now) }
-        ensures uncovered { IsFalse result → All (λ k. LiesWithin known.now k → ⊥) self.now }
+    fn covers(&self, cube: &Printed) -> bool
+        ensures covered { IsTrue result → (c : List Atom) → IsTrue (cube_holds c cube.now) → IsTrue (holds c self.now) }
+        ensures uncovered { IsFalse result → All (λ k. LiesWithin cube.now k → ⊥) self.now }
     {
         for other in &self.items {
-            if known.lies_within(other.cube()) {
+            if cube.lies_within(other) {
                 return true;
             }
         }
         false
     }
 
-    // One more cube, unless it adds nothing.
-    fn put_sampled(self, alloc: Global, known: Known) -> Result<Self, NoMemory>
-        ensures truth { IfOk result (λ r. (c : List Atom) → holds c r ≡ (holds c self || cube_holds c known)) }
-        ensures rules { IfOk result (λ r. (rule : Rule) → ConstraintObeys rule self → CubeObeys rule known → ConstraintObeys rule r) }
+    // One more cube, unless it adds nothing. It is compared with all the others, which prints make quick.
+    fn put_printed(self, alloc: Global, cube: Printed) -> Result<Self, NoMemory>
+        ensures truth { IfOk result (λ r. (c : List Atom) → holds c r ≡ (holds c self || cube_holds c cube)) }
+        ensures rules { IfOk result (λ r. (rule : Rule) → ConstraintObeys rule self → CubeObeys rule cube → ConstraintObeys rule r) }
     {
-        if self.covers(&known) {
+        if self.covers(&cube) {
             return Ok(self);
         }
         let Pile { items } = self;
-        let mut kept = outside(alloc, items, known.cube())?;
-        kept.push(known)?;
+        let mut kept = outside(alloc, items, &cube)?;
+        kept.push(cube)?;
         Ok(Pile { items: kept })
     }
 
-    /// One more cube, unless it adds nothing. It is compared with all the others, which its numbers make quick; beside no others it
-    /// needs none.
+    /// One more cube, unless it adds nothing.
     pub(crate) fn put(self, alloc: Global, known: Known) -> Result<Self, NoMemory>
         ensures truth { IfOk result (λ r. (c : List Atom) → holds c r ≡ (holds c self || cube_holds c known)) }
         ensures rules { IfOk result (λ r. (rule : Rule) → ConstraintObeys rule self → CubeObeys rule known → ConstraintObeys rule r) }
     {
-        if self.items.is_empty() {
-            return self.put_sampled(alloc, known);
-        }
-        let sampled = known.with_sample(alloc)?;
-        self.put_sampled(alloc, sampled)
+        let cube = Printed::of(alloc, known)?;
+        self.put_printed(alloc, cube)
     }
 
     // One more cube, where there is one.
@@ -209,7 +215,7 @@ impl Pile {
     {
         let mut pile = self;
         for other in others.as_slice() {
-            let both = known.copy(alloc)?.and(alloc, other)?;
+            let both = known.meet(alloc, other)?;
             pile = pile.put_some(alloc, both)?;
         }
         Ok(pile)
@@ -249,6 +255,9 @@ impl Pile {
         ensures rules { IfOk result (λ r. (rule : Rule) → ConstraintObeys rule a.now → ConstraintObeys rule b.now → ConstraintObeys rule r) }
     {
         let mut pile = Pile::new(alloc);
+        if b.len() == 0 {
+            return Ok(pile);
+        }
         for cube in a.as_slice() {
             pile = pile.put_some_met(alloc, Known::of(alloc, cube)?, b)?;
         }
@@ -273,8 +282,8 @@ impl Pile {
     {
         let Pile { items } = self;
         let mut c = Constraint::new(alloc);
-        for known in items {
-            c.push(known.into_cube())?;
+        for cube in items {
+            c.push(cube.into_known().into_cube())?;
         }
         Ok(c)
     }

@@ -1,119 +1,208 @@
 //! The levels that a cube puts at most as high as others, in a table that levels index.
 
-ghost use Rattle.std.specs.Prelude.{◌≡◌, ℕ, Bool, List, [], length, ◌<◌, ◌≤◌, get_or, set, bit_or, ◌||◌, ◌&&◌, ◌==◌, IfOk};
+ghost use Rattle.std.specs.Prelude.{◌≡◌, ◌≢◌, ℕ, ◌+◌, ◌*◌, ◌^◌, Bool, List, length, max, vec_len, ◌<◌, ◌≤◌, get_or, bit_or, ◌||◌, ◌&&◌, ◌==◌, IsFalse, IfOk, OnOk};
+ghost use Rattle.std.specs.Int.{bit_at};
 ghost use Rattle.std.specs.List.{list_any};
 ghost use Rattle.lois_constraint.specs.Order.{reaches, at_most, are_at_most, is_tied, is_under, is_apart, sets_apart, are_apart, is_told, is_denied, linked, extended};
 
 use lois_base::{Cube, Lit, NoMemory, Op};
-use smallvec::SmallVec;
 use std::alloc::Global;
 use std::marker::Model;
 
-// Most cubes speak of levels below 64 alone, and their rows take no allocation.
-const INLINE_WORDS: usize = 1;
+// As many levels as a word has bits.
+const WORD_LEVELS: usize = 64;
+
+// How many levels are low, so that one word has their order.
+const LOW_LEVELS: usize = 8;
+
+// Each low level is at most itself.
+const EACH_ITSELF: u64 = 0x8040_2010_0804_0201;
 
 /// Which levels are at least as high as one level: a bit for each, in words. Those beyond the end aren't.
+// Most cubes speak of levels below 64 alone. Their rows take no allocation, and what is cold here is only for the words beyond the first.
 #[derive(Drop)]
 pub(crate) struct Row {
-    words: SmallVec<u64, INLINE_WORDS>,
+    first: u64,
+    more: Vec<u64>,
 }
 
 impl Model for Row {
-    ghost use Rattle.std.specs.Prelude.{ℕ, List};
+    ghost use Rattle.std.specs.Prelude.{ℕ, List, ◌∷◌};
 
     ghost Value = { List ℕ };
 
-    ghost view = { λ r. r.words.items };
+    ghost view = { λ r. r.first ∷ r.more.items };
 }
 
 impl Row {
     // The levels of one word.
+    #[tactic(auto, using(crate::proofs::Words::beyond_first))]
     fn word(&self, index: usize) -> u64
         ensures { result ≡ get_or self.now index 0 }
     {
-        match self.words.as_slice().get(index) {
+        if index == 0 {
+            return self.first;
+        }
+        match self.more.get(index - 1) {
             Some(word) => *word,
             None => 0,
         }
     }
 
-    #[tactic(auto, using(crate::proofs::Words::bit_read))]
+    #[inline]
+    #[tactic(auto, using(crate::proofs::Words::first_read))]
     fn reaches(&self, level: usize) -> bool
         ensures { result ≡ reaches self.now level }
     {
-        (self.word(level / 64) >> (level % 64)) & 1 == 1
-    }
-
-    // How many levels it has, with its own, where all are below 64. Nothing is proved of it.
-    fn count_with(&self, level: usize) -> usize {
-        let others = self.word(0).count_ones() as usize;
-        if self.reaches(level) {
-            others
-        } else {
-            others.saturating_add(1)
+        if level < WORD_LEVELS {
+            return (self.first >> level) & 1 == 1;
         }
+        self.reaches_far(level)
     }
 
+    // The same, by the word that has the level.
+    #[cold]
+    #[inline(never)]
+    #[tactic(auto, using(crate::proofs::Words::bit_read))]
+    fn reaches_far(&self, level: usize) -> bool
+        ensures { result ≡ reaches self.now level }
+    {
+        (self.word(level / WORD_LEVELS) >> (level % WORD_LEVELS)) & 1 == 1
+    }
+
+    // The low levels that it has.
+    #[tactic(auto, using(crate::proofs::Lows::low_bit, crate::proofs::Lows::low_bound))]
+    fn low_levels(&self) -> u64
+        ensures levels { (b : ℕ) → b < 8 → (bit_at result b == 1) ≡ reaches self.now b }
+        ensures low { result < 2 ^ 8 }
+    {
+        self.first & 0xFF
+    }
+
+    // The row without levels.
+    #[tactic(auto, using(crate::proofs::Words::reaches_no_bit))]
     fn empty(alloc: Global) -> Row
-        ensures { result ≡ [] }
+        ensures { (b : ℕ) → IsFalse (reaches result b) }
     {
         Row {
-            words: SmallVec::new(alloc),
+            first: 0,
+            more: Vec::new(alloc),
         }
     }
 
-    // The row of one level alone.
-    #[tactic(auto, using(crate::proofs::Words::only_bit))]
-    fn of(alloc: Global, level: usize) -> Result<Row, NoMemory>
-        ensures { IfOk result (λ r. (b : ℕ) → reaches r b ≡ (level == b)) }
+    // One level more.
+    #[tactic(auto, using(crate::proofs::Words::put_first, crate::proofs::Words::put_beyond))]
+    fn put(&mut self, level: usize) -> Result<(), NoMemory>
+        ensures { OnOk result ((b : ℕ) → reaches self.new b ≡ (level == b || reaches self.old b)) }
     {
-        let mut words = SmallVec::from_elem(alloc, 0_u64, level / 64)?;
-        words.push(1_u64 << (level % 64))?;
-        Ok(Row { words })
+        let bit = 1_u64 << (level % WORD_LEVELS);
+        if level < WORD_LEVELS {
+            self.first |= bit;
+            return Ok(());
+        }
+        put_word(&mut self.more, level / WORD_LEVELS - 1, bit)
     }
 
-    // More levels of one word, which isn't beyond the end.
-    fn put(&mut self, index: usize, levels: u64)
-        requires { index < length self.old }
-        ensures { self.new ≡ set self.old index (bit_or (get_or self.old index 0) levels) }
+    // The levels of another row too.
+    #[inline]
+    #[tactic(auto, using(crate::proofs::Words::rows_joined, crate::proofs::Words::first_joined))]
+    fn join(&mut self, other: &Row) -> Result<(), NoMemory>
+        ensures { OnOk result ((b : ℕ) → reaches self.new b ≡ (reaches self.old b || reaches other.now b)) }
     {
-        if let Some(word) = self.words.get_mut(index) {
-            *word |= levels;
+        self.first |= other.first;
+        if other.more.is_empty() {
+            return Ok(());
         }
+        join_words(&mut self.more, &other.more)
     }
 
-    // The row, and the levels of one that isn't longer.
-    fn with(self, shorter: &Row) -> Row
-        requires { length shorter.now ≤ length self }
-        ensures { (b : ℕ) → reaches result b ≡ (reaches self b || reaches shorter.now b) }
+    // The levels of another row too, if it has the given one.
+    fn raise(&mut self, level: usize, more: &Row) -> Result<(), NoMemory>
+        ensures { OnOk result ((b : ℕ) → reaches self.new b ≡ (reaches self.old b || (reaches self.old level && reaches more.now b))) }
     {
-        let mut row = self;
-        for index in 0..shorter.words.len() {
-            row.put(index, shorter.word(index));
+        if self.reaches(level) {
+            return self.join(more);
         }
-        row
-    }
-
-    // The levels of one row or of the other. The longer one stays, and is copied only where it is the other.
-    #[tactic(auto, using(crate::proofs::Raising::other_way))]
-    fn either(self, alloc: Global, other: &Row) -> Result<Row, NoMemory>
-        ensures { IfOk result (λ r. (b : ℕ) → reaches r b ≡ (reaches self b || reaches other.now b)) }
-    {
-        if self.words.len() < other.words.len() {
-            let longer = other.copy(alloc)?;
-            return Ok(longer.with(&self));
-        }
-        Ok(self.with(other))
+        Ok(())
     }
 
     /// An equal row.
+    #[inline]
     fn copy(&self, alloc: Global) -> Result<Row, NoMemory>
         ensures { IfOk result (λ r. r ≡ self.now) }
     {
         Ok(Row {
-            words: SmallVec::from_slice(alloc, self.words.as_slice())?,
+            first: self.first,
+            more: copy_words(alloc, &self.more)?,
         })
     }
+}
+
+// Equal words.
+#[inline]
+fn copy_words(alloc: Global, words: &[u64]) -> Result<Vec<u64>, NoMemory>
+    ensures { IfOk result (λ w. w.items ≡ words.now) }
+{
+    if words.is_empty() {
+        return Ok(Vec::new(alloc));
+    }
+    copy_some_words(alloc, words)
+}
+
+// The same, where there are some.
+#[cold]
+#[inline(never)]
+fn copy_some_words(alloc: Global, words: &[u64]) -> Result<Vec<u64>, NoMemory>
+    ensures { IfOk result (λ w. w.items ≡ words.now) }
+{
+    Ok(Vec::from_slice(alloc, words)?)
+}
+
+// As many zeros as are missing.
+#[tactic(auto, using(crate::proofs::Words::zeros_more))]
+fn grow(words: &mut Vec<u64>, length: usize) -> Result<(), NoMemory>
+    ensures same { OnOk result ((i : ℕ) → get_or words.new.items i 0 ≡ get_or words.old.items i 0) }
+    ensures there { OnOk result (length ≤ vec_len words.new) }
+{
+    if length <= words.len() {
+        return Ok(());
+    }
+    words.resize(length, 0)?;
+    Ok(())
+}
+
+// The bits of one word more.
+#[cold]
+#[inline(never)]
+fn put_word(words: &mut Vec<u64>, index: usize, bits: u64) -> Result<(), NoMemory>
+    requires { index < usize.MAX }
+    ensures here { OnOk result (get_or words.new.items index 0 ≡ bit_or (get_or words.old.items index 0) bits) }
+    ensures others { OnOk result ((i : ℕ) → i ≢ index → get_or words.new.items i 0 ≡ get_or words.old.items i 0) }
+{
+    grow(words, index + 1)?;
+    words[index] |= bits;
+    Ok(())
+}
+
+// The bits of other words, of which there aren't more.
+fn join_all(words: &mut [u64], others: &[u64])
+    requires { length others.now ≤ length words.old }
+    ensures { (i : ℕ) → get_or words.new i 0 ≡ bit_or (get_or words.old i 0) (get_or others.now i 0) }
+{
+    for index in 0..others.len() {
+        words[index] |= others[index];
+    }
+}
+
+// The bits of other words too.
+#[cold]
+#[inline(never)]
+fn join_words(words: &mut Vec<u64>, others: &[u64]) -> Result<(), NoMemory>
+    ensures { OnOk result ((i : ℕ) → get_or words.new.items i 0 ≡ bit_or (get_or words.old.items i 0) (get_or others.now i 0)) }
+{
+    grow(words, others.len())?;
+    join_all(words, others);
+    Ok(())
 }
 
 /// Equal rows.
@@ -122,11 +211,13 @@ pub(crate) fn copy_rows(alloc: Global, rows: &[Row]) -> Result<Vec<Row>, NoMemor
 {
     let mut copy = Vec::with_capacity(alloc, rows.len())?;
     for row in rows {
-        copy.push(row.copy(alloc)?)?;
+        let same = row.copy(alloc)?;
+        copy.push_reserved(same);
     }
     Ok(copy)
 }
 
+#[inline]
 #[tactic(auto, using(crate::proofs::Words::reaches_nothing))]
 fn are_at_most(rows: &[Row], low: usize, high: usize) -> bool
     ensures { result ≡ are_at_most rows.now low high }
@@ -138,21 +229,27 @@ fn are_at_most(rows: &[Row], low: usize, high: usize) -> bool
 }
 
 /// Whether one level is at most another.
+#[inline]
 pub(crate) fn at_most(rows: &[Row], low: usize, high: usize) -> bool
     ensures { result ≡ at_most rows.now low high }
 {
     low == high || are_at_most(rows, low, high)
 }
 
-/// How many levels are at least as high as one, itself too, where all are below 64. Nothing is proved of it.
-pub(crate) fn count_above(rows: &[Row], level: usize) -> usize {
-    match rows.get(level) {
-        Some(row) => row.count_with(level),
-        None => 1,
+/// The order of the levels below eight: bit 8 * a + b says whether level a is at most b.
+#[tactic(auto, using(crate::proofs::Lows::diagonal))]
+pub(crate) fn low_order(rows: &[Row]) -> u64
+    ensures { (a b : ℕ) → a < 8 → b < 8 → (bit_at result (8 * a + b) == 1) ≡ at_most rows.now a b }
+{
+    let mut order = EACH_ITSELF;
+    for level in 0..rows.len().min(LOW_LEVELS) {
+        order |= rows[level].low_levels() << (8 * level);
     }
+    order
 }
 
 /// Whether each of two levels is at most the other.
+#[inline]
 pub(crate) fn are_tied(rows: &[Row], a: usize, b: usize) -> bool
     ensures { result ≡ is_tied (at_most rows.now) a b }
 {
@@ -227,76 +324,69 @@ pub(crate) fn is_denied(rows: &[Row], cube: &Cube, lit: Lit) -> bool
 }
 
 // The level, and those that are at least as high.
-#[tactic(auto, using(crate::proofs::Words::nothing_above))]
 fn from_on(alloc: Global, rows: &[Row], level: usize) -> Result<Row, NoMemory>
     ensures { IfOk result (λ r. (b : ℕ) → reaches r b ≡ at_most rows.now level b) }
 {
-    let itself = Row::of(alloc, level)?;
+    let mut above = copy_row(alloc, rows, level)?;
+    above.put(level)?;
+    Ok(above)
+}
+
+// An equal row, or an empty one where there is none.
+#[tactic(auto, using(crate::proofs::Words::no_row))]
+fn copy_row(alloc: Global, rows: &[Row], level: usize) -> Result<Row, NoMemory>
+    ensures { IfOk result (λ r. (b : ℕ) → reaches r b ≡ are_at_most rows.now level b) }
+{
     match rows.get(level) {
-        Some(row) => itself.either(alloc, row),
-        None => Ok(itself),
+        Some(row) => row.copy(alloc),
+        None => Ok(Row::empty(alloc)),
     }
 }
 
-// The rows with another one in the place of one of them.
-fn with_row(rows: Vec<Row>, level: usize, row: Row) -> Vec<Row>
-    requires { level < length rows.items }
-    ensures { result.items ≡ set rows.items level row }
+// More levels above those that are at most the given one.
+fn raise(rows: &mut [Row], level: usize, more: &Row) -> Result<(), NoMemory>
+    ensures { OnOk result ((a b : ℕ) → are_at_most rows.new a b ≡ (are_at_most rows.old a b || (are_at_most rows.old a level && reaches more.now b))) }
 {
-    let mut changed = rows;
-    changed[level] = row;
-    changed
-}
-
-// The rows with more levels above, where they have the given one. The others stay where they are.
-fn raise(alloc: Global, rows: Vec<Row>, level: usize, more: &Row) -> Result<Vec<Row>, NoMemory>
-    ensures { IfOk result (λ r. (a b : ℕ) → are_at_most r.items a b ≡ (are_at_most rows.items a b || (are_at_most rows.items a level && reaches more.now b))) }
-{
-    let mut raised = rows;
-    for index in 0..raised.len() {
-        if raised[index].reaches(level) {
-            let both = raised[index].copy(alloc)?.either(alloc, more)?;
-            raised = with_row(raised, index, both);
-        }
+    for row in rows.iter_mut() {
+        row.raise(level, more)?;
     }
-    Ok(raised)
+    Ok(())
 }
 
-// The rows, and as many empty ones as are missing below the level.
-fn with_rows_below(alloc: Global, rows: Vec<Row>, level: usize) -> Result<Vec<Row>, NoMemory>
-    ensures same { IfOk result (λ r. (a b : ℕ) → are_at_most r.items a b ≡ are_at_most rows.items a b) }
-    ensures there { IfOk result (λ r. level ≤ length r.items) }
+// As many empty rows as are missing below the level.
+#[tactic(auto, using(crate::proofs::Raising::no_row_more))]
+fn put_rows_below(alloc: Global, rows: &mut Vec<Row>, level: usize) -> Result<(), NoMemory>
+    ensures same { OnOk result ((a b : ℕ) → are_at_most rows.new.items a b ≡ are_at_most rows.old.items a b) }
+    ensures there { OnOk result (length rows.new.items ≡ max (length rows.old.items) level) }
 {
     let missing = level.saturating_sub(rows.len());
-    let mut grown = rows;
-    grown.reserve(missing)?;
+    rows.reserve(missing)?;
     for _ in 0..missing {
-        grown.push(Row::empty(alloc))?;
+        rows.push(Row::empty(alloc))?;
     }
-    Ok(grown)
+    Ok(())
 }
 
-// The rows with more levels above the given one.
+// More levels above the given one.
 #[tactic(auto, using(crate::proofs::Raising::row_put, crate::proofs::Raising::row_pushed))]
-fn with_above(alloc: Global, rows: Vec<Row>, level: usize, more: Row) -> Result<Vec<Row>, NoMemory>
-    ensures { IfOk result (λ r. (a b : ℕ) → are_at_most r.items a b ≡ (are_at_most rows.items a b || (a == level && reaches more b))) }
+fn put_above(alloc: Global, rows: &mut Vec<Row>, level: usize, more: Row) -> Result<(), NoMemory>
+    ensures { OnOk result ((a b : ℕ) → are_at_most rows.new.items a b ≡ (are_at_most rows.old.items a b || (a == level && reaches more b))) }
 {
-    let mut grown = with_rows_below(alloc, rows, level)?;
-    if level < grown.len() {
-        let both = grown[level].copy(alloc)?.either(alloc, &more)?;
-        return Ok(with_row(grown, level, both));
+    if level < rows.len() {
+        return rows[level].join(&more);
     }
-    grown.push(more)?;
-    Ok(grown)
+    put_rows_below(alloc, rows, level)?;
+    rows.push(more)?;
+    Ok(())
 }
 
-// The rows with `low` at most `high`.
-fn link(alloc: Global, rows: Vec<Row>, low: usize, high: usize) -> Result<Vec<Row>, NoMemory>
-    ensures { IfOk result (λ r. (a b : ℕ) → at_most r.items a b ≡ linked low high (at_most rows.items) a b) }
+// `low` is at most `high`.
+fn link(alloc: Global, rows: &mut Vec<Row>, low: usize, high: usize) -> Result<(), NoMemory>
+    ensures { OnOk result ((a b : ℕ) → at_most rows.new.items a b ≡ linked low high (at_most rows.old.items) a b) }
 {
-    let above = from_on(alloc, &rows, high)?;
-    let raised = raise(alloc, rows, low, &above)?;
-    with_above(alloc, raised, low, above)
+    let above = from_on(alloc, rows, high)?;
+    raise(rows, low, &above)?;
+    put_above(alloc, rows, low, above)
 }
 
 /// The rows of a cube with one literal more.
@@ -304,12 +394,14 @@ pub(crate) fn extend(alloc: Global, rows: Vec<Row>, lit: Lit) -> Result<Vec<Row>
     ensures { IfOk result (λ r. (a b : ℕ) → at_most r.items a b ≡ extended lit.op lit.left lit.right (at_most rows.items) a b) }
 {
     let Lit { op, left, right } = lit;
+    let mut changed = rows;
     match op {
         Op::Eq => {
-            let once = link(alloc, rows, left, right)?;
-            Ok(link(alloc, once, right, left)?)
+            link(alloc, &mut changed, left, right)?;
+            link(alloc, &mut changed, right, left)?;
         }
-        Op::Ne => Ok(rows),
-        Op::Lt => Ok(link(alloc, rows, left, right)?),
+        Op::Ne => {}
+        Op::Lt => link(alloc, &mut changed, left, right)?,
     }
+    Ok(changed)
 }

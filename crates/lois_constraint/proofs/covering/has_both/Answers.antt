@@ -9,5 +9,5 @@ pub returns-clause-no : goal.returns-clause-no
 returns-clause-no c = λ fails.
     let known = c.args.known.now in
     let q = c.args.cube.now in
-    let same : (e : List Atom) → cube_holds e c.in-Some.both ≡ (cube_holds e known && cube_holds e q) = λ e. ap (some_holds e) (sym c.in-Some.is) ∙ (c.in_ok-both.ensures.truth e ∙ ap (λ z. cube_holds e z && cube_holds e q) c.in_ok-copy.ensures) in
+    let same : (e : List Atom) → cube_holds e c.in-Some.both ≡ (cube_holds e known && cube_holds e q) = λ e. ap (some_holds e) (sym c.in-Some.is) ∙ c.in_ok-both.ensures.truth e in
     both_outside known q c.in-Some.both c.args.others.now same c.cube-met.ensures.met (c.lies_within_one.ensures.outside fails)

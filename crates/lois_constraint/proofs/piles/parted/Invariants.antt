@@ -7,8 +7,8 @@ use Rattle.lois_constraint.specs.Met.{AreApart, IsPruned}
 use Rattle.lois_constraint.specs.Rules.{Rule, ConstraintObeys}
 use Rattle.lois_constraint.proofs.piles.parted.Given as goal
 
-abbrev pub invariant-loop-known : goal.invariant-loop-known
-invariant-loop-known l = record {
+abbrev pub invariant-loop-cube : goal.invariant-loop-cube
+invariant-loop-cube l = record {
   truth : (e : List Atom) → (holds e l.within.items || (holds e l.others.items && holds e l.c)) ≡ (holds e l.yielded && holds e l.c);
   pruned : IsPruned l.yielded → IsPruned l.within.items;
   apart : (z : List Lit) → All (λ k. AreApart k z) l.yielded → All (λ k. AreApart k z) l.within.items;

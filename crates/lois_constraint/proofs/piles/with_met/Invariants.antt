@@ -4,8 +4,8 @@ use Rattle.lois_base.specs.Truth.{holds}
 use Rattle.lois_constraint.specs.Rules.{Rule, ConstraintObeys}
 use Rattle.lois_constraint.proofs.piles.with_met.Given as goal
 
-abbrev pub invariant-loop-known : goal.invariant-loop-known
-invariant-loop-known l = record {
+abbrev pub invariant-loop-cube : goal.invariant-loop-cube
+invariant-loop-cube l = record {
   truth : (e : List Atom) → holds e l.met ≡ (holds e l.fn.pile || (holds e l.yielded && holds e l.c));
   rules : (rule : Rule) → ConstraintObeys rule l.fn.pile → ConstraintObeys rule l.yielded → ConstraintObeys rule l.c → ConstraintObeys rule l.met;
 }

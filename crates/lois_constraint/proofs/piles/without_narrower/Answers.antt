@@ -8,13 +8,13 @@ use Rattle.lois_constraint.specs.Rules.{CubeObeys, ConstraintObeys}
 use Rattle.lois_constraint.proofs.Pruned.{all_before, all_last, front_pruned, front_apart, kept_pruned, kept_holds, dropped_holds}
 use Rattle.lois_constraint.proofs.piles.without_narrower.Goals as goal
 
-pub loop-known-preserved-in-Continue-1 : goal.loop-known-preserved-in-Continue-1
-loop-known-preserved-in-Continue-1 c =
+pub loop-other-preserved-in-Continue-1 : goal.loop-other-preserved-in-Continue-1
+loop-other-preserved-in-Continue-1 c =
     let cube : List Lit = c.args.cube.now in
-    let x : List Lit = c.in-Some.known in
-    let xs : List (List Lit) = c.loop-known.yielded in
-    let kept : List (List Lit) = c.loop-known.kept.items in
-    let before = c.loop-known.invariant in
+    let x : List Lit = c.in-Some.other in
+    let xs : List (List Lit) = c.loop-other.yielded in
+    let kept : List (List Lit) = c.loop-other.kept.items in
+    let before = c.loop-other.invariant in
     let grown : kept ++ x ∷ [] ≡ c.push.new.self.items = sym c.in_ok-push.ensures.items in
     record {
       truth = λ e. subst (λ (r : List (List Lit)). (holds e r || cube_holds e cube) ≡ (holds e (xs ++ x ∷ []) || cube_holds e cube)) grown (kept_holds e (cube_holds e cube) kept xs x (before.truth e));
@@ -25,14 +25,14 @@ loop-known-preserved-in-Continue-1 c =
       rules = λ rule h. subst (ConstraintObeys rule) grown (All-push (CubeObeys rule) kept x (before.rules rule (all_before (CubeObeys rule) xs x h)) (all_last (CubeObeys rule) xs x h));
     }
 
-pub loop-known-preserved : goal.loop-known-preserved
-loop-known-preserved c =
+pub loop-other-preserved : goal.loop-other-preserved
+loop-other-preserved c =
     let cube : List Lit = c.args.cube.now in
-    let x : List Lit = c.in-Some.known in
-    let xs : List (List Lit) = c.loop-known.yielded in
-    let before = c.loop-known.invariant in
+    let x : List Lit = c.in-Some.other in
+    let xs : List (List Lit) = c.loop-other.yielded in
+    let before = c.loop-other.invariant in
     record {
-      truth = λ e. dropped_holds e (cube_holds e cube) c.loop-known.kept.items xs x (before.truth e) (c.lies_within.ensures.0 c.if-not-lies_within.false e);
+      truth = λ e. dropped_holds e (cube_holds e cube) c.loop-other.kept.items xs x (before.truth e) (c.lies_within.ensures.0 c.if-not-lies_within.false e);
       outside = before.outside;
       uncovered = λ h. before.uncovered (all_before (λ k. LiesWithin cube k → ⊥) xs x h);
       pruned = λ p. before.pruned (front_pruned xs x p);

@@ -7,8 +7,8 @@ use Rattle.lois_constraint.specs.Met.{LiesWithin, AreApart, IsPruned}
 use Rattle.lois_constraint.specs.Rules.{Rule, ConstraintObeys}
 use Rattle.lois_constraint.proofs.piles.without_narrower.Given as goal
 
-abbrev pub invariant-loop-known : goal.invariant-loop-known
-invariant-loop-known l = record {
+abbrev pub invariant-loop-other : goal.invariant-loop-other
+invariant-loop-other l = record {
   truth : (c : List Atom) → (holds c l.kept.items || cube_holds c l.cube) ≡ (holds c l.yielded || cube_holds c l.cube);
   outside : All (λ k. LiesWithin k l.cube → ⊥) l.kept.items;
   uncovered : All (λ k. LiesWithin l.cube k → ⊥) l.yielded → All (λ k. LiesWithin l.cube k → ⊥) l.kept.items;

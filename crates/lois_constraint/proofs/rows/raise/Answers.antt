@@ -6,6 +6,6 @@ use Rattle.lois_constraint.proofs.rows.raise.Goals as goal
 
 pub returns : goal.returns
 returns c =
-    let raised : List Row = c.loop-index.raised.items in
-    let whole : length raised ≤ c.loop-index.index = grind (arith, common_steps) in
-    all_raised c.args.rows.items raised c.args.level c.loop-index.index c.args.more.now whole c.loop-index.invariant.below c.loop-index.invariant.above
+    let raised : List Row = c.loop-row.rows in
+    let whole : length raised ≤ c.loop-row.row-index = grind (arith, common_steps) in
+    all_raised c.args.rows.now raised c.args.level c.loop-row.row-index c.args.more.now whole c.loop-row.invariant.below c.loop-row.invariant.above

@@ -1,10 +1,9 @@
-use Rattle.std.proofs.Common.{◌≡◌, ℕ, ◌<◌, ◌≤◌, ◌||◌, ◌&&◌, [], length, get_or}
+use Rattle.std.proofs.Common.{◌≡◌, ℕ, ◌<◌, ◌≤◌, ◌||◌, ◌&&◌, [], get_or}
 use Rattle.lois_constraint.specs.Order.{reaches, are_at_most}
 use Rattle.lois_constraint.proofs.rows.raise.Given as goal
 
-abbrev pub invariant-loop-index : goal.invariant-loop-index
-invariant-loop-index l = record {
-  length : length l.raised.items ≡ length l.fn.rows.items;
-  below : (a b : ℕ) → a < l.index → are_at_most l.raised.items a b ≡ (are_at_most l.fn.rows.items a b || (are_at_most l.fn.rows.items a l.level && reaches l.more b));
-  above : (a : ℕ) → l.index ≤ a → get_or l.raised.items a [] ≡ get_or l.fn.rows.items a [];
+abbrev pub invariant-loop-row : goal.invariant-loop-row
+invariant-loop-row l = record {
+  below : (a b : ℕ) → a < l.row-index → are_at_most l.rows a b ≡ (are_at_most l.initial.rows a b || (are_at_most l.initial.rows a l.level && reaches l.more b));
+  above : (a : ℕ) → l.row-index ≤ a → get_or l.rows a [] ≡ get_or l.initial.rows a [];
 }

@@ -4,4 +4,4 @@ use Rattle.lois_constraint.proofs.Ranked.{order_met}
 use Rattle.lois_constraint.proofs.known.Known.cube.Goals as goal
 
 pub returns-clause-met : goal.returns-clause-met
-returns-clause-met c = subst CanBeMet c.self.view_is (order_met _ _ c.self.invariant.0)
+returns-clause-met c = subst CanBeMet c.self.view_is (order_met _ _ c.self.invariant)

@@ -1,24 +1,15 @@
-use Rattle.std.proofs.Common.{◌≡◌, true, false, List, [], ◌∷◌, ◌++◌, ap, ◌∙◌, subst}
+use Rattle.std.proofs.Common.{◌≡◌, true, false, List, ap, ◌∙◌, subst}
 use Rattle.lois_base.specs.Atom.{Atom}
 use Rattle.lois_base.specs.Truth.{lit_holds, cube_holds}
 use Rattle.lois_base.specs.declared.guards.Lit.{Lit}
-use Rattle.lois_constraint.specs.Met.{CanBeMet}
 use Rattle.lois_constraint.specs.Order.{Row, at_most, is_denied}
-use Rattle.lois_constraint.proofs.Told.{denied_nowhere, undenied_met}
+use Rattle.lois_constraint.proofs.Told.{denied_nowhere}
 use Rattle.lois_constraint.proofs.known.Known.denies.Goals as goal
 
-pub returns-clause-nowhere : goal.returns-clause-nowhere
-returns-clause-nowhere c =
+pub returns : goal.returns
+returns c =
     let cube : List Lit = c.self.inside.cube in
     let rows : List Row = c.self.inside.rows.items in
     let lit : Lit = c.args.lit in
     let told : c.is_denied.result ≡ is_denied (at_most rows) cube lit.op lit.left lit.right = c.is_denied.ensures ∙ ap (λ (r : List Row). is_denied (at_most r) cube lit.op lit.left lit.right) c.deref.ensures.value in
-    subst (λ (k : List Lit). c.is_denied.result ≡ true → (e : List Atom) → cube_holds e k ≡ true → lit_holds e lit ≡ false) c.self.view_is (denied_nowhere (at_most rows) cube c.self.invariant.0 lit c.is_denied.result told)
-
-pub returns-clause-met : goal.returns-clause-met
-returns-clause-met c =
-    let cube : List Lit = c.self.inside.cube in
-    let rows : List Row = c.self.inside.rows.items in
-    let lit : Lit = c.args.lit in
-    let told : c.is_denied.result ≡ is_denied (at_most rows) cube lit.op lit.left lit.right = c.is_denied.ensures ∙ ap (λ (r : List Row). is_denied (at_most r) cube lit.op lit.left lit.right) c.deref.ensures.value in
-    subst (λ (k : List Lit). c.is_denied.result ≡ false → CanBeMet (k ++ lit ∷ [])) c.self.view_is (undenied_met (at_most rows) cube c.self.invariant.0 lit c.is_denied.result told)
+    subst (λ (k : List Lit). c.is_denied.result ≡ true → (e : List Atom) → cube_holds e k ≡ true → lit_holds e lit ≡ false) c.self.view_is (denied_nowhere (at_most rows) cube c.self.invariant lit c.is_denied.result told)

@@ -12,4 +12,4 @@ returns c =
     let rows : List Row = c.self.inside.rows.items in
     let lit : Lit = c.args.lit in
     let told : c.is_told.result ≡ is_told (at_most rows) cube lit.op lit.left lit.right = c.is_told.ensures ∙ ap (λ (r : List Row). is_told (at_most r) cube lit.op lit.left lit.right) c.deref.ensures.value in
-    subst (λ (k : List Lit). (c.is_told.result ≡ true) ↔ ((e : List Atom) → cube_holds e k ≡ true → lit_holds e lit ≡ true)) c.self.view_is (told_exactly (at_most rows) cube c.self.invariant.0 lit c.is_told.result told)
+    subst (λ (k : List Lit). (c.is_told.result ≡ true) ↔ ((e : List Atom) → cube_holds e k ≡ true → lit_holds e lit ≡ true)) c.self.view_is (told_exactly (at_most rows) cube c.self.invariant lit c.is_told.result told)

@@ -4,4 +4,4 @@ use Rattle.lois_constraint.specs.Met.{LiesWithin}
 use Rattle.lois_constraint.proofs.piles.Pile.covers.Given as goal
 
 abbrev pub invariant-loop-other : goal.invariant-loop-other
-invariant-loop-other l = (k : ℕ) (d : List Lit) → k < l.other-index → LiesWithin l.known (get_or l.other-items k d) → ⊥
+invariant-loop-other l = (k : ℕ) (d : List Lit) → k < l.other-index → LiesWithin l.cube (get_or l.other-items k d) → ⊥

@@ -1,7 +1,6 @@
-use Rattle.std.proofs.Common.{◌&&◌, List, sym, ap, ◌∙◌, subst, arith}
+use Rattle.std.proofs.Common.{List, ◌∙◌, arith}
 use Rattle.lois_base.specs.Truth.{cube_holds, holds}
 use Rattle.lois_base.specs.declared.guards.Lit.{Lit}
-use Rattle.lois_constraint.specs.Rules.{CubeObeys}
 use Rattle.lois_constraint.proofs.Tightened.{product_grows}
 use Rattle.lois_constraint.proofs.Uses.{item_obeys}
 use Rattle.lois_constraint.proofs.piles.Pile.put_with_each.Goals as goal
@@ -12,6 +11,6 @@ loop-other-preserved c =
     let x : List Lit = c.other-item.result in
     let items : List (List Lit) = c.as_slice-other-items.result.now in
     record {
-      truth = λ e. c.in_ok-pile.ensures.truth e ∙ product_grows e (holds e c.args.self) (cube_holds e known) c.loop-other.pile items c.loop-other.other-index x (omega arith) c.other-item.is (c.loop-other.invariant.truth e) _ (c.in_ok-both.ensures.truth e ∙ ap (λ (k : List Lit). cube_holds e k && cube_holds e x) c.in_ok-copy.ensures);
-      rules = λ rule h k o. c.in_ok-pile.ensures.rules rule (c.loop-other.invariant.rules rule h k o) (c.in_ok-both.ensures.rules rule (subst (CubeObeys rule) (sym c.in_ok-copy.ensures) k) (item_obeys rule c.args.others.now items c.loop-other.other-index x c.as_slice-other-items.ensures (omega arith) c.other-item.is o));
+      truth = λ e. c.in_ok-pile.ensures.truth e ∙ product_grows e (holds e c.args.self) (cube_holds e known) c.loop-other.pile items c.loop-other.other-index x (omega arith) c.other-item.is (c.loop-other.invariant.truth e) _ (c.in_ok-both.ensures.truth e);
+      rules = λ rule h k o. c.in_ok-pile.ensures.rules rule (c.loop-other.invariant.rules rule h k o) (c.in_ok-both.ensures.rules rule k (item_obeys rule c.args.others.now items c.loop-other.other-index x c.as_slice-other-items.ensures (omega arith) c.other-item.is o));
     }
