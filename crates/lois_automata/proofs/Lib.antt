@@ -19,3 +19,4 @@ pub mod FiveMachine
 pub mod Telling
 pub mod Clashes
 pub mod Checked
+pub mod Apart

@@ -1,5 +1,6 @@
 -- Constraints that stand for memberships, and members of families.
-use Rattle.std.proofs.Common.{◌≡◌, ℕ, ◌+◌, not, ◌&&◌, ◌||◌, List, [], ◌++◌, length, length-append, append-nil, refl, sym, subst, ◌∙◌, arith}
+use Rattle.std.proofs.Common.{◌≡◌, ℕ, ◌+◌, not, ◌&&◌, ◌||◌, List, [], ◌∷◌, ◌++◌, length, length-append, append-nil, refl, sym, subst, ◌∙◌, arith}
+use Rattle.std.proofs.lemmas.Bool.{false≢true}
 use Rattle.lois_base.specs.Atom.{Atom}
 use Rattle.lois_base.specs.Data.{TermD, coll, CompsD}
 use Rattle.lois_base.specs.Fits.{ConstraintFits}
@@ -47,6 +48,11 @@ admitted_is n m u g item t found admitted r fits is two one c e k l =
           (sym longer ∙ y.0, y.1, there.0 x.1),
       λ h. one d ∙ outer.1 (two d ∙ inner.1 (longer ∙ h.0, h.1), there.1 h.2),
     )
+
+-- what is in the set nowhere is admitted in it nowhere
+pub admitted_nowhere : (n m : ℕ) (u g : List (List Lit)) (item t : TermD) (found : List (List Lit)) → length found ≡ 0 → HoldsWhereIn n m item t found → HoldsWhereAdmittedIn n m u g item t found
+admitted_nowhere n m u g item t [] none is c e k l = (λ h. absurd (false≢true h), λ h. (is c e k l).1 h.2)
+admitted_nowhere n m u g item t (cube ∷ found) none is c e k l = absurd (cc)
 
 pub fresh_is : (n m : ℕ) (u g : List (List Lit)) (item t : TermD) (b : MemberD) (found r : List (List Lit)) → HoldsWhereAdmittedIn n m u g item t found →
     ((d : List Atom) → holds d r ≡ (holds d found && not (holds d b.1))) → IsPruned r → IsFreshMember n u t m g item b (b.0, r)

@@ -1,5 +1,6 @@
 -- What moves lead to from the members of a set, comprehension by comprehension.
-use Rattle.std.proofs.Common.{◌≡◌, ℕ, ◌+◌, Bool, ◌&&◌, ◌↔◌, List, ◌++◌, length, sym, ◌∙◌}
+use Rattle.std.proofs.Common.{◌≡◌, ℕ, ◌+◌, Bool, ◌&&◌, ◌↔◌, List, [], ◌∷◌, ◌++◌, length, sym, ◌∙◌}
+use Rattle.std.proofs.lemmas.Bool.{false≢true}
 use Rattle.std.specs.Bool.{IsTrue}
 use Rattle.lois_base.specs.Atom.{Atom}
 use Rattle.lois_base.specs.Data.{TermD, coll, comp, CompsD}
@@ -53,6 +54,18 @@ module _ (n m : ℕ) (g found guard : List (List Lit)) (a b s : TermD) (is : Hol
       ((o : Bool) → AdmitsConstraint o g → AdmitsTerm o a → AdmitsTerm o s → AdmitsConstraint o guard) → AddsTarget n (comp m g (pair_of a b)) s before after
   adds_target before after put fits admits = added_put n (comp m guard b) _ _ _ _ before after put target_is
       (λ f. (f.0, fits f.1, f.2.1.0)) (λ o k. (admits o k.0.0 k.0.1.0 k.1, k.0.1.1.0)) (λ u. u.2.1.0)
+
+-- moves whose first part is in the set nowhere lead to nothing
+pub no_sources : (n m : ℕ) (g found : List (List Lit)) (a b s : TermD) → HoldsWhereIn n m a s found → length found ≡ 0 → (before : CompsD) → AddsTarget n (comp m g (pair_of a b)) s before before
+no_sources n m g [] a b s is none before = adds_nothing n _ _ _ _ before never
+  where
+    never : (c : List Atom) → length c ≡ n → (w : PointValue) → IsMadeOfOne (IsLedFrom s c) (IsMadeBy (comp m g (pair_of a b)) c) w → ⊥
+    never c l w (x, (e, ext, same), (p, pair, i)) =
+        let d = c ++ e in
+        let t = pair_of a b in
+        let f = pair_here a b d p w (pair_to x (point t d) p w (same_sym (point t d) x same) pair) in
+        false≢true ((is c e l ext.count).1 (in_same p (point a d) (point s c) f.0 i))
+no_sources n m g (cube ∷ found) a b s is none before = absurd (cc)
 
 pub are_targets : (n : ℕ) (whole made : CompsD) (s : TermD) → ((c : List Atom) → length c ≡ n → (w : PointValue) → IsIn w (point (coll made) c) ↔ IsMadeOfOne (IsLedFrom s c) (IsAmong whole c) w) → AreTargets n (coll whole) s (coll made)
 are_targets n whole made s same c l w = (there, back)

@@ -15,6 +15,7 @@ ghost use Rattle.lois_automata.specs.Throughout.{HoldsWhere, HoldsUnless};
 use crate::columns::{Shape, column, misfits};
 use crate::pairing::{beside, pairs};
 use crate::parts::{FiveSets, pair_parts};
+use crate::unmatched::keys_clash;
 use lois_base::{Comp, Comps, Constraint, NoMemory, Structure, Term};
 use lois_constraint::{and_not, meet, negate, or};
 use lois_elim::{for_some_more, quantifier_free};
@@ -164,6 +165,9 @@ fn where_differing<T: Structure>(
     ensures truth { IfOk result (HoldsUnless size (λ c. AllAgree (IsMadeBy (comp_of first.now) c) (IsMadeBy (comp_of second.now) c))) }
     ensures levels { IfOk result (ConstraintFits size) }
 {
+    if keys_clash(first, second) {
+        return Ok(Constraint::new(alloc));
+    }
     let both = beside(alloc, first, second, size)?;
     let Some((key, value)) = pair_parts(&both.first) else {
         return Ok(Constraint::new(alloc));

@@ -11,6 +11,7 @@ mod pairing;
 mod parts;
 mod reaching;
 mod spreading;
+mod unmatched;
 mod verdicts;
 
 pub use checks::{check_automaton, check_complete, check_deterministic};
@@ -21,4 +22,5 @@ pub use operations::{complement, empty, product, reach};
 pub use pairing::{Joint, beside, pairs, side_by_side};
 pub use parts::{FiveSets, Step, five, of_five, pair, pair_parts, step_parts, triple};
 pub use reaching::reached;
+pub use spreading::targets_from;
 pub use verdicts::Verdict;

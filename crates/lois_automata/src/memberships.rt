@@ -77,6 +77,9 @@ pub fn admitted_in<T: Structure>(
     ensures operators { IfOk result (λ r. (o : Bool) → AdmitsComp o (comp_of comp.now) → AdmitsTerm o (tree t.now) → AdmitsConstraint o under.now → AdmitsConstraint o r) }
 {
     let found = membership::<T>(alloc, &comp.item, t, size, comp.binders)?;
+    if found.len() == 0 {
+        return Ok(found);
+    }
     let admitted = meet(alloc, under, &comp.guard)?;
     meet(alloc, &admitted, &found)
 }

@@ -12,6 +12,7 @@ ghost use Rattle.lois_automata.specs.Columns.{AreSideBySide, pair_of, triple_of}
 
 use crate::memberships::among_more;
 use crate::parts::{Step, pair, step_parts, triple};
+use crate::unmatched::letters_clash;
 use lois_algebra::put;
 use lois_base::{Comp, Comps, Constraint, NoMemory, Structure, Term};
 use lois_constraint::meet;
@@ -169,6 +170,9 @@ fn add_step<T: Structure>(
     requires second_operators { AdmitsComp T.ordered (comp_of second.now) }
     ensures { OnOk result (AddsOfTwo IsStepOf size (comp_of first.now) (comp_of second.now) (comps_of made.old) (comps_of made.new)) }
 {
+    if letters_clash(first, second) {
+        return Ok(());
+    }
     let both = beside(alloc, first, second, size)?;
     let Some(one) = step_parts(&both.first) else {
         return Ok(());

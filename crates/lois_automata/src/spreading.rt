@@ -4,7 +4,7 @@ ghost use Rattle.std.specs.Prelude.{◌≡◌, ℕ, ◌+◌, Bool, IfOk, OnOk, �
 ghost use Rattle.lois_base.specs.Data.{coll, comps_of};
 ghost use Rattle.lois_base.specs.Fits.{ConstraintFits, Fits, CompFits, ItemsFit};
 ghost use Rattle.lois_base.specs.Tree.{tree, comp_of};
-ghost use Rattle.lois_base.specs.Validity.{AdmitsConstraint, AdmitsTerm, AdmitsComp, AdmitsItems};
+ghost use Rattle.lois_base.specs.Validity.{AdmitsConstraint, AdmitsTerm, AdmitsComp, AdmitsItems, HasUsualWidths, ItemsHaveUsualWidths};
 ghost use Rattle.lois_terms.specs.Guarded.{IsSet};
 ghost use Rattle.lois_automata.specs.Built.{AreTargets, AddsTarget};
 ghost use Rattle.lois_base.specs.OneProof.{items_prop};
@@ -93,8 +93,9 @@ fn news_of<'a>(known: &Family, news: &'a Family, family: &'a Family) -> &'a Fami
     family
 }
 
-// What the moves lead to from members of the set `held`.
-fn targets_from<T: Structure>(
+/// What pairs lead to from members of a set: the second parts of those whose first part is in the set `held`. Members of `moves` that
+/// are no pairs are left out.
+pub fn targets_from<T: Structure>(
     alloc: Global,
     moves: &Comps,
     held: &Term,
@@ -109,6 +110,7 @@ fn targets_from<T: Structure>(
     ensures set { IfOk result (λ r. IsSet (tree r)) }
     ensures levels { IfOk result (λ r. Fits size (tree r)) }
     ensures operators { IfOk result (λ r. (o : Bool) → AdmitsItems o (comps_of moves.now) → AdmitsTerm o (tree held.now) → AdmitsTerm o (tree r)) }
+    ensures widths { IfOk result (λ r. ItemsHaveUsualWidths (comps_of moves.now) → HasUsualWidths (tree r)) }
 {
     let mut targets = Comps::new(alloc);
     for comp in moves.as_slice() {
@@ -135,6 +137,9 @@ fn add_target<T: Structure>(
         return Ok(());
     };
     let found = membership::<T>(alloc, from, held, size, comp.binders)?;
+    if found.len() == 0 {
+        return Ok(());
+    }
     let guard = meet(alloc, &comp.guard, &found)?;
     let item = to.copy(alloc)?;
     put(

@@ -10,9 +10,8 @@ ghost use Rattle.lois_base.specs.Values.{point};
 ghost use Rattle.lois_terms.specs.Guarded.{IsSet};
 ghost use Rattle.lois_minimise.specs.Classes.{AreClassed, AddsClass, IsClassTerm, IsSingle};
 
-use crate::leading::led_from;
 use lois_algebra::{minus, put};
-use lois_automata::{among_more, pair};
+use lois_automata::{among_more, pair, targets_from};
 use lois_base::{Comp, Comps, Constraint, NoMemory, Structure, Term};
 use std::alloc::Global;
 
@@ -99,7 +98,7 @@ fn class_of<T: Structure>(
         unreachable!()
     };
     let own = single(alloc, item)?;
-    let others = led_from::<T>(alloc, &told, &own, size + by)?;
+    let others = targets_from::<T>(alloc, &told, &own, size + by)?;
     minus::<T>(alloc, &all, &others, size + by)
 }
 

@@ -2,8 +2,8 @@
 #![tactic(auto)]
 
 mod classing;
-mod leading;
 mod minimising;
+mod pairs;
 mod sharing;
 mod telling;
 mod transitions;

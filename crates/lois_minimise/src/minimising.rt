@@ -12,10 +12,10 @@ ghost use Rattle.lois_minimise.specs.Classes.{IsQuotientTerm};
 ghost use Rattle.lois_minimise.specs.Minimal.{IsMinimalAt, IsLeastAt};
 
 use crate::classing::with_classes;
-use crate::leading::{led_from, second_parts};
+use crate::pairs::second_parts;
 use crate::telling::told_apart;
 use crate::transitions::class_steps;
-use lois_automata::{FiveSets, five, of_five};
+use lois_automata::{FiveSets, five, of_five, targets_from};
 use lois_base::{Comps, Constraint, Decider, NoMemory, Structure, Term};
 use lois_deciders::Chosen;
 use std::alloc::Global;
@@ -85,8 +85,8 @@ fn quotient<T: Structure>(
     let letters = Term::Coll(sets.letters.copy(alloc)?);
     let steps = class_steps::<T>(alloc, classes, sets.letters, sets.steps, size)?;
     let starts = Term::Coll(sets.initial.copy(alloc)?);
-    let initial = led_from::<T>(alloc, classes, &starts, size)?;
+    let initial = targets_from::<T>(alloc, classes, &starts, size)?;
     let ends = Term::Coll(sets.accepting.copy(alloc)?);
-    let accepting = led_from::<T>(alloc, classes, &ends, size)?;
+    let accepting = targets_from::<T>(alloc, classes, &ends, size)?;
     of_five(alloc, states, letters, steps, initial, accepting)
 }

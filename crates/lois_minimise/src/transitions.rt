@@ -11,9 +11,8 @@ ghost use Rattle.lois_terms.specs.Guarded.{IsSet};
 ghost use Rattle.lois_automata.specs.Columns.{AddsOfOne, pair_of, triple_of};
 ghost use Rattle.lois_minimise.specs.Classes.{AreClassSteps, AreStepMoves, IsStepMove, transition_of};
 
-use crate::leading::led_from;
 use lois_algebra::put;
-use lois_automata::{pair, pair_parts, pairs, triple};
+use lois_automata::{pair, pair_parts, pairs, targets_from, triple};
 use lois_base::{Comp, Comps, NoMemory, Structure, Term};
 use std::alloc::Global;
 
@@ -56,7 +55,7 @@ pub fn class_steps<T: Structure>(
     };
     let moves = step_moves(alloc, &both)?;
     let all = Term::Coll(steps.copy(alloc)?);
-    led_from::<T>(alloc, &moves, &all, size)
+    targets_from::<T>(alloc, &moves, &all, size)
 }
 
 // Of each transition, the pair of the step between its states and the step between their classes.

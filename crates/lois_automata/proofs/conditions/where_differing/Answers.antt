@@ -4,13 +4,18 @@ use Rattle.lois_base.specs.Tree.{tree, comp_of}
 use Rattle.lois_elim.specs.Bound.{HoldsForSomeMore}
 use Rattle.lois_automata.specs.Built.{AreBeside}
 use Rattle.lois_automata.specs.Columns.{pair_of}
+use Rattle.lois_automata.proofs.Apart.{differs_nowhere}
 use Rattle.lois_automata.proofs.Clashes.{first_is_no_pair, second_is_no_pair, differing}
 use Rattle.lois_automata.proofs.conditions.where_differing.Goals as goal
+
+pub returns-then-keys_clash-clause-truth : goal.returns-then-keys_clash-clause-truth
+returns-then-keys_clash-clause-truth g c =
+    differs_nowhere c.args.size _ c.new.result c.new.ensures (c.keys_clash.ensures c.if-keys_clash.true)
 
 pub returns-in_default-clause-truth : goal.returns-in_default-clause-truth
 returns-in_default-clause-truth g c =
     let both = c.in_ok-both.both in
-    first_is_no_pair c.args.size (comp_of c.args.first.now) (comp_of c.args.second.now) both.binders both.guard (tree both.first) (tree both.second) c.in_ok-both.ensures.made c.new.result c.new.ensures c.in_default.ensures.none
+    first_is_no_pair c.args.size (comp_of c.args.first.now) (comp_of c.args.second.now) both.binders both.guard (tree both.first) (tree both.second) c.in_ok-both.ensures.made c.new-in_default.result c.new-in_default.ensures c.in_default.ensures.none
 
 pub returns-in_default-pair_parts-clause-truth : goal.returns-in_default-pair_parts-clause-truth
 returns-in_default-pair_parts-clause-truth g c =

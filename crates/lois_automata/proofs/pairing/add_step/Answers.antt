@@ -5,9 +5,14 @@ use Rattle.lois_base.specs.FormulaView.{view}
 use Rattle.lois_base.specs.Tree.{tree, comp_of}
 use Rattle.lois_base.specs.Values.{point, IsSame}
 use Rattle.lois_algebra.specs.Gathered.{IsPut}
+use Rattle.lois_automata.proofs.Apart.{no_steps_added}
 use Rattle.lois_automata.proofs.Joined.{first_is_no_step, second_is_no_step, step_put}
 use Rattle.lois_automata.proofs.Telling.{formula_where}
 use Rattle.lois_automata.proofs.pairing.add_step.Goals as goal
+
+pub returns-then-letters_clash : goal.returns-then-letters_clash
+returns-then-letters_clash g c =
+    no_steps_added c.args.size (comp_of c.args.first.now) (comp_of c.args.second.now) (comps_of c.args.made.now) (c.letters_clash.ensures c.if-letters_clash.true)
 
 pub returns-in_default : goal.returns-in_default
 returns-in_default g c =

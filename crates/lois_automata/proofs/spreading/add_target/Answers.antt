@@ -1,17 +1,26 @@
-use Rattle.std.proofs.Common.{◌≡◌, ◌+◌, sym, subst}
+use Rattle.std.proofs.Common.{◌≡◌, ◌+◌, sym, subst, ◌∙◌}
 use Rattle.std.proofs.lemmas.Result.{IfOk-weaker}
 use Rattle.lois_base.specs.Data.{comp, comps_of}
 use Rattle.lois_base.specs.Tree.{tree}
 use Rattle.lois_algebra.specs.Gathered.{IsPut}
 use Rattle.lois_automata.specs.Built.{AddsTarget}
 use Rattle.lois_automata.specs.Columns.{pair_of}
-use Rattle.lois_automata.proofs.Targets.{no_targets, adds_target}
+use Rattle.lois_automata.proofs.Targets.{no_targets, no_sources, adds_target}
 use Rattle.lois_automata.proofs.spreading.add_target.Goals as goal
 
 pub returns-in_default : goal.returns-in_default
 returns-in_default g c =
     let k = c.args.comp.now in
     no_targets c.args.size k.binders k.guard (tree k.item) (tree c.args.held.now) (comps_of c.args.targets.now) c.in_default.ensures.none
+
+pub returns-then-len-eq0 : goal.returns-then-len-eq0
+returns-then-len-eq0 g c =
+    let k = c.args.comp.now in
+    let a = tree c.in-Some.from.now in
+    let b = tree c.in-Some.to.now in
+    let held = tree c.args.held.now in
+    let targets = comps_of c.args.targets.now in
+    subst (λ z. AddsTarget c.args.size (comp k.binders k.guard z) held targets targets) (sym c.in-Some.ensures.some) (no_sources c.args.size k.binders k.guard c.in_ok-found.found a b held c.in_ok-found.ensures.truth (sym c.len.ensures ∙ c.if-len-eq0.true) targets)
 
 pub returns : goal.returns
 returns g c =

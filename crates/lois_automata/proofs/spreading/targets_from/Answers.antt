@@ -43,3 +43,6 @@ returns-clause-levels g c = c.loop-comp.invariant.levels c.requires.levels tt
 
 pub returns-clause-operators : goal.returns-clause-operators
 returns-clause-operators g c = λ o a b. c.loop-comp.invariant.operators o (a, b) tt
+
+pub returns-clause-widths : goal.returns-clause-widths
+returns-clause-widths g c = λ u. c.loop-comp.invariant.widths u tt

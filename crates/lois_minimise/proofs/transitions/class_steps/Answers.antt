@@ -19,6 +19,6 @@ returns-clause-steps g c =
     let one : ArePairs n classes letters reads = subst (λ z. ArePairs n classes letters z) (ap tree c.in-Coll.is) c.in_ok-reads.ensures.members in
     let two : ArePairs n reads classes both = subst (λ z. ArePairs n reads classes z) (ap tree c.in-Coll-2.is) c.in_ok-both.ensures.members in
     let all = coll (comps_of c.in_ok-copy.field-0) in
-    IfOk-weaker c.led_from.result (λ r. AreTargets n moves all (tree r)) _ (λ r led d l.
+    IfOk-weaker c.targets_from.result (λ r. AreTargets n moves all (tree r)) _ (λ r led d l.
     subst (λ z. AreClassSteps (point classes d) (point letters d) (point (coll (comps_of z)) d) (point (tree r) d)) c.in_ok-copy.ensures
-    (class_steps_are n classes letters all reads both moves (tree r) d l one two (c.in_ok-moves.ensures.moves n) led)) c.led_from.ensures.members
+    (class_steps_are n classes letters all reads both moves (tree r) d l one two (c.in_ok-moves.ensures.moves n) led)) c.targets_from.ensures.members

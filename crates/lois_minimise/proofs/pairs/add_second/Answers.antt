@@ -6,7 +6,7 @@ use Rattle.lois_algebra.specs.Gathered.{IsPut}
 use Rattle.lois_automata.specs.Columns.{AddsOfOne}
 use Rattle.lois_minimise.specs.Classes.{IsSecondOf}
 use Rattle.lois_minimise.proofs.Seconds.{adds_second, no_second}
-use Rattle.lois_minimise.proofs.leading.add_second.Goals as goal
+use Rattle.lois_minimise.proofs.pairs.add_second.Goals as goal
 
 pub returns-in_default : goal.returns-in_default
 returns-in_default c = λ n.

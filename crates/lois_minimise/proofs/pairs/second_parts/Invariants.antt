@@ -3,7 +3,7 @@ use Rattle.lois_base.specs.Data.{comps_of}
 use Rattle.lois_relate.proofs.Parts.{comps_from}
 use Rattle.lois_automata.proofs.Loops.{OnesSoFar}
 use Rattle.lois_minimise.specs.Classes.{IsSecondOf}
-use Rattle.lois_minimise.proofs.leading.second_parts.Given as goal
+use Rattle.lois_minimise.proofs.pairs.second_parts.Given as goal
 
 abbrev pub invariant-loop-comp : goal.invariant-loop-comp
 invariant-loop-comp l = (n : ℕ) → OnesSoFar (λ _. IsSecondOf) (λ _. Unit {0}) n l.pairs (comps_from l.comp-items l.comp-index) (comps_of l.made)

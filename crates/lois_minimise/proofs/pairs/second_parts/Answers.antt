@@ -6,7 +6,7 @@ use Rattle.lois_automata.proofs.Adding.{added_members}
 use Rattle.lois_automata.proofs.Loops.{AddsOnes, ones_begin, ones_more, ones_end}
 use Rattle.lois_minimise.specs.Classes.{IsSecondOf}
 use Rattle.lois_minimise.proofs.Seconds.{are_seconds}
-use Rattle.lois_minimise.proofs.leading.second_parts.Goals as goal
+use Rattle.lois_minimise.proofs.pairs.second_parts.Goals as goal
 
 pub loop-comp-init : goal.loop-comp-init
 loop-comp-init c = λ n. ones_begin (λ _. IsSecondOf) (λ _. Unit {0}) n c.args.pairs.now c.as_slice-comp-items.result.now c.new-made.result c.as_slice-comp-items.ensures c.new-made.ensures
