@@ -2,12 +2,13 @@
 use Rattle.std.proofs.Common.{◌≡◌, ℕ, ◌+◌, ◌<◌, ◌≤◌, ◌⊎◌, inl, inr, Bool, true, false, ◌&&◌, ◌||◌, cond, List, [], ◌∷◌, ◌++◌, length, map, set, take, get_or, nat_eq, refl, sym, ap, ◌∙◌, subst, arith}
 use Rattle.std.proofs.Math.Seq.{map-set_same}
 use Rattle.std.proofs.lemmas.List.{map-append, get_or-map, get_or_default, get_or-set_same, get_or-set_other, length-map, length-set}
-use Rattle.std.proofs.lemmas.Bool.{cases_eq}
+use Rattle.std.proofs.lemmas.Bool.{cases_eq, false≢true}
 use Rattle.std.proofs.lemmas.List.Elements.{All-push, All-set, All-take, All-weaker, All-append, All-contains, All-contains_itself, Contains-append_left, Contains-push, Contains-get_or}
 use Rattle.std.proofs.lemmas.List.Quantifiers.{all_pairs_push}
 use Rattle.std.proofs.lemmas.List.Sums.{sum_by-set}
 use Rattle.std.specs.Bool.{IsTrue}
 use Rattle.std.specs.List.{All, AllPairs, Contains, HoldsAt}
+use Rattle.std.specs.Prelude.{Option, Some, None, is_some, IsSome}
 use Rattle.lois_base.specs.Atom.{Atom}
 use Rattle.lois_base.specs.Fits.{CubeFits, ConstraintFits}
 use Rattle.lois_base.specs.Truth.{holds}
@@ -237,6 +238,25 @@ merged_few (k ∷ q ∷ ks) l = absurd (omega (arith, l))
 -- ---- prints
 pub prints_alike : (k d : Context) → IsLike k d → printed d ≡ printed k
 prints_alike k d like = ap print_of_held like
+
+-- where each print is found, and one isn't, no context with that print is there
+pub none_placed : (find : ℕ → Option ℕ) (ps : List ℕ) (ds : List Context) (k : Context) (p : ℕ) → All (λ q. IsSome (find q)) ps → ps ≡ map printed ds → p ≡ printed k → find p ≡ None → All (λ d. IsLike k d → ⊥) ds
+none_placed find ps ds k p all e own none = λ i d l like.
+    let inside : i < length ps = omega (arith, l, ap length e, length-map ds printed) in
+    let at : get_or ps i (printed d) ≡ p = ap (λ xs. get_or xs i (printed d)) e ∙ (get_or-map printed ds i d (printed d) l ∙ (prints_alike k (get_or ds i d) like ∙ sym own)) in
+    let there : IsSome (find p) = subst (λ q. IsSome (find q)) at (all i (printed d) inside) in
+    absurd (false≢true (subst IsSome none there))
+
+some_still : (b : Bool) (v : ℕ) (o : Option ℕ) → IsSome o → IsSome (cond b (Some v) o)
+some_still true v o h = refl
+some_still false v o h = h
+
+-- one print more has its place, and the others still have one
+pub all_placed : (was found : ℕ → Option ℕ) (ps : List ℕ) (p v : ℕ) → ((q : ℕ) → found q ≡ cond (nat_eq p q) (Some v) (was q)) → found p ≡ Some v → All (λ q. IsSome (was q)) ps → All (λ q. IsSome (found q)) (ps ++ p ∷ [])
+all_placed was found ps p v each own all =
+    All-push (λ q. IsSome (found q)) ps p
+    (All-weaker (λ q. IsSome (was q)) (λ q. IsSome (found q)) (λ q h. subst IsSome (sym (each q)) (some_still (nat_eq p q) v (was q) h)) ps all)
+    (ap is_some own)
 
 -- the prints stay where a context is taken into another
 pub prints_taken : (ps : List ℕ) (ds : List Context) (i : ℕ) (k d r : Context) → ps ≡ map printed ds → d ≡ get_or ds i d → IsTakenIn k d r → ps ≡ map printed (set ds i r)

@@ -1,8 +1,10 @@
--- Terms into which no levels are put.
-use Rattle.std.proofs.Common.{◌≡◌, ℕ, ◌+◌, Bool, true, false, List, [], ◌∷◌, refl, ap, ◌∙◌, if◌then◌else◌, nat_lt, arith}
+-- Terms and lines into which no levels are put.
+use Rattle.std.proofs.Common.{◌≡◌, ℕ, ◌+◌, Bool, true, false, List, [], ◌∷◌, map, refl, ap, ◌∙◌, if◌then◌else◌, nat_lt, arith}
 use Rattle.lois_base.specs.Data.{TermD, var, tag, tup, coll, TermsD, no_terms, term, CompD, comp, CompsD, no_comps, more}
 use Rattle.lois_base.specs.Shift.{shift_level, shift_lit, shift_cube, shift_constraint, shift, shift_parts, shift_comp, shift_items}
 use Rattle.lois_base.specs.declared.guards.Lit.{Lit}
+use Rattle.lois_answers.specs.ResultsData.{LineD}
+use Rattle.lois_context.specs.Entered.{carried_line}
 
 module _ (n : ℕ) where
   level_same : (i : ℕ) → shift_level n 0 i ≡ i
@@ -42,3 +44,8 @@ module _ (n : ℕ) where
     items_none : (ks : CompsD) → shift_items n 0 ks ≡ ks
     items_none no_comps = refl
     items_none (more k ks) = rw (comp_none k, items_none ks)
+
+  -- and lines are as they were
+  pub lines_none : (ls : List LineD) → map (carried_line n 0) ls ≡ ls
+  lines_none [] = refl
+  lines_none (l ∷ ls) = rw (shift_none l.term, lines_none ls)

@@ -5,18 +5,19 @@ ghost use Rattle.lois_base.specs.Fits.{ConstraintFits};
 ghost use Rattle.lois_base.specs.Truth.{holds, sampled};
 ghost use Rattle.lois_context.specs.Kept.{AreSlots, LinesFit, HasDistinctNames, are_slots_prop, lines_fit_prop, names_prop};
 
-use crate::Store;
+use crate::{Shared, Store};
 use lois_answers::Lines;
 use lois_base::{Constraint, Numbers};
 
 /// What a run has come to at all choices of `size` atoms at which `when` holds. It holds at the sample, so no context is empty.
+/// The sides of a split share its lines, and so do the contexts of a loop that puts no levels in.
 #[derive(Drop)]
 pub struct Context {
     pub size: usize,
     pub when: Constraint,
     pub sample: Numbers,
     pub store: Store,
-    pub lines: Lines,
+    pub lines: Shared<Lines>,
     ghost levels: { ConstraintFits size when },
     ghost count: { length sample ≡ size },
     ghost met: { IsTrue (holds (sampled sample) when) },

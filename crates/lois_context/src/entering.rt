@@ -1,6 +1,6 @@
 //! Contexts for the members of a set.
 
-ghost use Rattle.std.specs.Prelude.{◌≡◌, ◌+◌, ◌<◌, ◌^◌, [], ◌∷◌, ◌++◌, map, IfOk, IfSome, IsNone};
+ghost use Rattle.std.specs.Prelude.{◌≡◌, ◌+◌, ◌<◌, ◌^◌, [], ◌∷◌, ◌++◌, map, IfOk, IfSome, IsNone, IsTrue};
 ghost use Rattle.lois_base.specs.Data.{comps_of};
 ghost use Rattle.lois_base.specs.Fits.{Fits, CompFits, ItemsFit};
 ghost use Rattle.lois_base.specs.Shift.{shift};
@@ -12,11 +12,11 @@ ghost use Rattle.lois_context.specs.Kept.{IsSlot, AreSlots, LinesFit, HasDistinc
 ghost use Rattle.lois_context.specs.Slots.{IsNew, comps_in};
 ghost use Rattle.lois_context.specs.SlotView.{slot_of};
 
-use crate::{Context, SharedTerm, Slot, Store};
+use crate::{Context, Shared, Slot, Store};
 use lois_answers::{Line, Lines};
 use lois_base::{Comp, Comps, Decider, Name, NoMemory, Term};
 use lois_deciders::Chosen;
-use lois_terms::shift_term;
+use lois_terms::{binds_nothing, shift_term};
 use std::alloc::Global;
 
 /// Enters a loop over a set: one context for each comprehension that has members where the context admits, in which `name`
@@ -144,26 +144,56 @@ fn carried_slot(alloc: Global, slot: &Slot, size: usize, by: usize) -> Result<Sl
     })
 }
 
-// Where no level is put in, the term is shared: so a loop over a set that lists its members holds each of the other sets once.
-#[tactic(auto, using(crate::proofs::Unshifted::shift_none))]
+// A term that doesn't change is shared. So a loop over a set that lists its members holds each of the other sets once, and any
+// loop does so with sets that list theirs.
 fn carried_shared(
     alloc: Global,
-    term: &SharedTerm,
+    term: &Shared<Term>,
     size: usize,
     by: usize,
-) -> Result<SharedTerm, NoMemory>
+) -> Result<Shared<Term>, NoMemory>
     requires fits { Fits size (tree term.now) }
     requires levels { size + by < 2 ^ 64 }
     ensures carried { IfOk result (λ r. tree r ≡ shift size by (tree term.now)) }
     ensures fits { IfOk result (λ r. Fits (size + by) (tree r)) }
 {
-    if by == 0 {
+    if stays(term.get(), size, by) {
         return term.share();
     }
-    SharedTerm::new(alloc, carried_term(alloc, term.get(), size, by)?)
+    Shared::new(alloc, carried_term(alloc, term.get(), size, by)?)
 }
 
-fn carried_lines(alloc: Global, lines: &Lines, size: usize, by: usize) -> Result<Lines, NoMemory>
+// Whether no level is put in, or the term has none that would move.
+#[tactic(auto, using(crate::proofs::Unshifted::shift_none))]
+fn stays(term: &Term, size: usize, by: usize) -> bool
+    requires fits { Fits size (tree term.now) }
+    requires levels { size + by < 2 ^ 64 }
+    ensures carried { IsTrue result → tree term.now ≡ shift size by (tree term.now) }
+    ensures fits { IsTrue result → Fits (size + by) (tree term.now) }
+{
+    by == 0 || binds_nothing(term)
+}
+
+// The lines are shared where no level is put in. So a loop over a set that lists its members holds them once.
+#[tactic(auto, using(crate::proofs::Unshifted::lines_none))]
+fn carried_lines(
+    alloc: Global,
+    lines: &Shared<Lines>,
+    size: usize,
+    by: usize,
+) -> Result<Shared<Lines>, NoMemory>
+    requires fits { LinesFit size lines.now }
+    requires levels { size + by < 2 ^ 64 }
+    ensures carried { IfOk result (λ r. r ≡ map (carried_line size by) lines.now) }
+    ensures fits { IfOk result (LinesFit (size + by)) }
+{
+    if by == 0 {
+        return lines.share();
+    }
+    Shared::new(alloc, shifted_lines(alloc, lines.get(), size, by)?)
+}
+
+fn shifted_lines(alloc: Global, lines: &Lines, size: usize, by: usize) -> Result<Lines, NoMemory>
     requires fits { LinesFit size lines.now }
     requires levels { size + by < 2 ^ 64 }
     ensures carried { IfOk result (λ r. r ≡ map (carried_line size by) lines.now) }

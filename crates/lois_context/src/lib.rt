@@ -15,6 +15,6 @@ pub use contexts::{Context, Split};
 pub use entering::enter_loop;
 pub use joining::join_loop;
 pub use merging::merge_equal;
-pub use shared::SharedTerm;
+pub use shared::Shared;
 pub use slots::{Slot, Store};
 pub use splitting::{side, split};

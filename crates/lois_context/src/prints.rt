@@ -18,7 +18,7 @@ pub(crate) fn print_of(context: &Context) -> u64
     ensures { result ≡ printed context.now }
 {
     let stored = print_store(context.size as u64, &context.store);
-    print_lines(stored, &context.lines)
+    print_lines(stored, context.lines.get())
 }
 
 fn print_store(seed: u64, store: &Store) -> u64

@@ -1,74 +1,96 @@
-//! Terms with several owners.
+//! Values with several owners.
 
-ghost use Rattle.std.specs.Prelude.{◌≡◌, ◌↔◌, IsTrue, IfOk};
+ghost use Rattle.std.specs.Prelude.{◌≡◌, ◌↔◌, IsTrue, IfOk, IfErr};
 ghost use Rattle.lois_base.specs.Tree.{tree};
 
+use lois_answers::Lines;
 use lois_base::{NoMemory, Term};
 use std::alloc::Global;
 use std::marker::Model;
 use std::rc::Rc;
 
-/// A term with any number of owners, which a copy of the pointer shares.
+/// A value with any number of owners, which a copy of the pointer shares.
 #[derive(Drop)]
-pub struct SharedTerm {
-    inner: Rc<Term, Global>,
+pub struct Shared<T> {
+    inner: Rc<T, Global>,
 }
 
-impl Model for SharedTerm {
-    ghost use Rattle.lois_base.specs.declared.values.Term.{Term};
-    ghost use Rattle.lois_base.specs.contracts.values.Term as term;
-    ghost use Rattle.std.specs.Coded.{codes};
+impl<T> Model for Shared<T> {
+    ghost Value = { T };
 
-    ghost Value = { Term };
-
-    ghost coded = { Prim.hlevel (codes, term.the_row.coded) };
+    ghost coded = { T.code };
 
     ghost view = { λ s. s.inner.value };
 }
 
-impl SharedTerm {
-    /// The term, with one owner.
-    pub fn new(alloc: Global, term: Term) -> Result<Self, NoMemory>
-        ensures same { IfOk result (λ r. r ≡ term) }
+impl<T: Drop> Shared<T> {
+    /// The value, with one owner.
+    pub fn new(alloc: Global, value: T) -> Result<Self, NoMemory>
+        ensures same { IfOk result (λ r. r ≡ value) }
     {
-        match Rc::new(alloc, term) {
-            Ok(inner) => Ok(SharedTerm { inner }),
+        match Rc::new(alloc, value) {
+            Ok(inner) => Ok(Shared { inner }),
             Err(_) => Err(NoMemory),
         }
     }
 
-    /// The term.
-    pub fn get(&self) -> &Term
+    /// The value.
+    pub fn get(&self) -> &T
         ensures same { result.now ≡ self.now }
     {
         self.inner.as_ref()
     }
 
-    /// One owner more of the same term: nothing is copied.
+    /// One owner more of the same value: nothing is copied.
     pub fn share(&self) -> Result<Self, NoMemory>
         ensures same { IfOk result (λ r. r ≡ self.now) }
     {
         match self.inner.clone() {
-            Ok(inner) => Ok(SharedTerm { inner }),
+            Ok(inner) => Ok(Shared { inner }),
             Err(_) => Err(NoMemory),
         }
     }
 
+    /// The value, moved. Errors: itself, where it has other owners too.
+    fn into_inner(self) -> Result<T, Self>
+        ensures moved { IfOk result (λ r. r ≡ self) }
+        ensures kept { IfErr result (λ r. r ≡ self) }
+    {
+        let Shared { inner } = self;
+        match Rc::try_unwrap(inner) {
+            Ok(value) => Ok(value),
+            Err(inner) => Err(Shared { inner }),
+        }
+    }
+}
+
+impl Shared<Term> {
     /// The term by value: moved where this is its only owner, and else copied.
     pub fn into_term(self, alloc: Global) -> Result<Term, NoMemory>
         ensures same { IfOk result (λ r. tree r ≡ tree self) }
     {
-        let SharedTerm { inner } = self;
-        match Rc::try_unwrap(inner) {
+        match self.into_inner() {
             Ok(term) => Ok(term),
-            Err(inner) => inner.as_ref().copy(alloc),
+            Err(shared) => shared.get().copy(alloc),
         }
     }
 
     /// Whether both are the same term.
-    pub fn is_equal(&self, other: &SharedTerm) -> bool
+    pub fn is_equal(&self, other: &Self) -> bool
         ensures { IsTrue result ↔ tree self.now ≡ tree other.now }
     {
         self.get().is_equal(other.get())
+    }
+}
+
+impl Shared<Lines> {
+    /// The lines by value: moved where this is their only owner, and else copied.
+    pub fn into_lines(self, alloc: Global) -> Result<Lines, NoMemory>
+        ensures same { IfOk result (λ r. r ≡ self) }
+    {
+        match self.into_inner() {
+            Ok(lines) => Ok(lines),
+            Err(shared) => shared.get().copy(alloc),
+        }
     }
 }

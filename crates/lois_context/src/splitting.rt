@@ -124,6 +124,6 @@ fn narrowed_copy(alloc: Global, context: &Context, met: Met) -> Result<Context, 
         when: met.constraint,
         sample: met.sample,
         store: context.store.copy(alloc)?,
-        lines: context.lines.copy(alloc)?,
+        lines: context.lines.share()?,
     })
 }

@@ -57,5 +57,8 @@ fn one_case(alloc: Global, context: Context) -> Result<Case, NoMemory>
 {
     let when = normalise(alloc, &context.when)?;
     let Context { lines, .. } = context;
-    Ok(Case { when, lines })
+    Ok(Case {
+        when,
+        lines: lines.into_lines(alloc)?,
+    })
 }

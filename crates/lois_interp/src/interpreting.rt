@@ -14,7 +14,7 @@ use crate::printing::all_printed;
 use crate::running::run_block;
 use lois_answers::{Lines, Results};
 use lois_base::{Constraint, Decider, NoMemory, Numbers, Structure, Term};
-use lois_context::{Context, Slot, Store, merge_equal};
+use lois_context::{Context, Shared, Slot, Store, merge_equal};
 use lois_deciders::Chosen;
 use lois_meaning::Stop;
 use lois_scope::Scoped;
@@ -52,12 +52,13 @@ fn opening(alloc: Global, parameters: &Params) -> Result<Context, NoMemory>
     ensures { IfOk result (IsOpening (params_list parameters.now)) }
 {
     let size = parameters.len();
+    let lines = Shared::new(alloc, Lines::new(alloc))?;
     Ok(Context {
         size,
         when: Constraint::always(alloc)?,
         sample: zeros(alloc, size)?,
         store: opening_store(alloc, parameters)?,
-        lines: Lines::new(alloc),
+        lines,
     })
 }
 

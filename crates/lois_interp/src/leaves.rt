@@ -24,7 +24,7 @@ use crate::members::with_member;
 use crate::values::normal_value;
 use lois_answers::{FaultKind, Line};
 use lois_base::{Comps, Decider, Name, NoMemory, Structure, Term};
-use lois_context::{Context, Slot};
+use lois_context::{Context, Shared, Slot};
 use lois_deciders::Chosen;
 use lois_eval::decide;
 use lois_meaning::Stop;
@@ -162,7 +162,7 @@ fn run_print(
         name: name.copy(alloc)?,
         term: item_of(alloc, &context.store, name)?,
     };
-    Ok(one(alloc, with_line(context, line)?)?)
+    Ok(one(alloc, with_line(alloc, context, line)?)?)
 }
 
 // The context with a slot more.
@@ -253,7 +253,7 @@ fn with_slot_at(context: Context, index: usize, slot: Slot) -> Context
 }
 
 // The context with a line more.
-fn with_line(context: Context, line: Line) -> Result<Context, NoMemory>
+fn with_line(alloc: Global, context: Context, line: Line) -> Result<Context, NoMemory>
     requires { Fits context.size (term_tree line.term) }
     ensures { IfOk result (IsWithLine line context) }
 {
@@ -262,9 +262,11 @@ fn with_line(context: Context, line: Line) -> Result<Context, NoMemory>
         when,
         sample,
         store,
-        mut lines,
+        lines,
     } = context;
-    lines.push(line)?;
+    let mut printed = lines.into_lines(alloc)?;
+    printed.push(line)?;
+    let lines = Shared::new(alloc, printed)?;
     Ok(Context {
         size,
         when,

@@ -12,7 +12,7 @@ ghost use Rattle.lois_interp.specs.Printed.{IsPrintedLine, IsPrinted};
 
 use lois_answers::{Line, Lines, tags_are_names};
 use lois_base::{Constraint, Decider, NoMemory, Structure};
-use lois_context::{Context, Store};
+use lois_context::{Context, Shared, Store};
 use lois_deciders::Chosen;
 use lois_simplify::simplify;
 use std::alloc::Global;
@@ -45,7 +45,8 @@ fn one_printed<T: Structure>(
     ensures printed { IfOk result (IsPrinted context) }
     ensures only_asked { HasOnlyAsked (λ b. (⟦<dyn Decider as Decider>⟧ b.vtable).kind_of b.value) (λ b. (⟦<dyn Decider as Decider>⟧ b.vtable).questions b.value) chosen.old chosen.new }
 {
-    let lines = printed_lines::<T>(alloc, &context, chosen)?;
+    let printed = printed_lines::<T>(alloc, &context, chosen)?;
+    let lines = Shared::new(alloc, printed)?;
     let Context {
         size,
         when,
@@ -71,7 +72,7 @@ fn printed_lines<T: Structure>(
     ensures only_asked { HasOnlyAsked (λ b. (⟦<dyn Decider as Decider>⟧ b.vtable).kind_of b.value) (λ b. (⟦<dyn Decider as Decider>⟧ b.vtable).questions b.value) chosen.old chosen.new }
 {
     let mut lines = Lines::new(alloc);
-    for line in context.lines.as_slice() {
+    for line in context.lines.get().as_slice() {
         lines.push(printed_line::<T>(alloc, line, &context.when, context.size, chosen)?)?;
     }
     Ok(lines)

@@ -3,3 +3,4 @@ pub mod ShiftedFits
 pub mod MoreAtoms
 pub mod UnderGuard
 pub mod Heights
+pub mod Unmoved

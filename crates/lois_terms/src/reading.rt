@@ -1,11 +1,14 @@
-//! Which levels occur in a term, and how deeply it is nested.
+//! Which levels occur in a term, whether it binds any of its own, and how deeply it is nested.
 
-ghost use Rattle.std.specs.Prelude.{◌≤◌, IsTrue, ◌↔◌, List};
+ghost use Rattle.std.specs.Prelude.{◌≡◌, ℕ, ◌<◌, ◌≤◌, ◌^◌, IsTrue, ◌↔◌, List};
 ghost use Rattle.lois_base.specs.Atom.{Atom};
 ghost use Rattle.lois_base.specs.Data.{depth, depth_of_terms, depth_of_comps, terms_of, comps_of};
+ghost use Rattle.lois_base.specs.Fits.{Fits};
 ghost use Rattle.lois_base.specs.Normal.{LitUses, GuardUses, Occurs, OccursInPart, OccursInComp, OccursInItem};
+ghost use Rattle.lois_base.specs.Shift.{shift};
 ghost use Rattle.lois_base.specs.Tree.{tree, comp_of};
 ghost use Rattle.lois_base.specs.Values.{point, IsDeeper};
+ghost use Rattle.lois_terms.specs.Binding.{BindsNothing, PartsBindNothing, ItemsBindNothing};
 ghost use Rattle.std.specs.List.{Any};
 
 use lois_base::{Comp, Comps, Constraint, Cube, Term, Terms};
@@ -66,6 +69,45 @@ fn cube_uses(level: usize, cube: &Cube) -> bool
     cube.as_slice()
         .iter()
         .any(|lit| lit.left == level || lit.right == level)
+}
+
+/// Whether no comprehension in the term has binders. Then all of its levels are those of the choice at which it is read, so among more
+/// levels it is the same term, and no shift from its size on changes it.
+#[cycle(binding)]
+pub fn binds_nothing(t: &Term) -> bool
+    ensures written { IsTrue result ↔ BindsNothing (tree t.now) }
+    ensures unchanged { IsTrue result → (n by : ℕ) → Fits n (tree t.now) → shift n by (tree t.now) ≡ tree t.now }
+    ensures levels { IsTrue result → (n k : ℕ) → n ≤ k → k < 2 ^ 64 → Fits n (tree t.now) → Fits k (tree t.now) }
+{
+    match t {
+        Term::Var(_) | Term::Tag(_) => true,
+        Term::Tup(parts) => parts_bind_nothing(parts),
+        Term::Coll(comps) => items_bind_nothing(comps),
+    }
+}
+
+#[cycle(binding)]
+fn parts_bind_nothing(terms: &Terms) -> bool
+    ensures { IsTrue result ↔ PartsBindNothing (terms_of terms.now) }
+{
+    for part in terms.as_slice() {
+        if !binds_nothing(part) {
+            return false;
+        }
+    }
+    true
+}
+
+#[cycle(binding)]
+fn items_bind_nothing(comps: &Comps) -> bool
+    ensures { IsTrue result ↔ ItemsBindNothing (comps_of comps.now) }
+{
+    for comp in comps.as_slice() {
+        if comp.binders > 0 || !binds_nothing(&comp.item) {
+            return false;
+        }
+    }
+    true
 }
 
 /// Whether the term is written at most `limit` deep: an atom or a tag is 0 deep, a tuple or a set one more than its deepest part or item. No value of such a term is deeper than `limit`.

@@ -59,7 +59,7 @@ fn where_it_holds_there_is_one_side(rt: HostRuntime) -> Result<(), Fail> {
     let both = sides(&rt, alloc, opening(&rt, alloc, 2)?)?;
     let yes = both.yes.ok_or("no side where it holds")?;
     assert!(rt; admits(&yes, &[4, 4]) && !admits(&yes, &[4, 7]));
-    assert!(rt; yes.store.len() == 0 && yes.lines.len() == 0);
+    assert!(rt; yes.store.len() == 0 && yes.lines.get().len() == 0);
     let again = sides(&rt, alloc, yes)?;
     assert!(rt; again.yes.is_some() && again.no.is_none());
     Ok(())
@@ -190,7 +190,7 @@ fn behind_an_empty_body(rt: &impl Abort, alloc: Global, x: &Name) -> Result<Cont
 // whether only `x` is in the store, over three levels
 fn holds_only(context: &Context, x: &Name) -> bool {
     context.size == 3
-        && context.lines.len() == 0
+        && context.lines.get().len() == 0
         && match context.store.as_slice() {
             [held] => held.name == *x && held.from == 0,
             _ => false,
@@ -274,7 +274,7 @@ fn grown(rt: &impl Abort, alloc: Global, end: &Context, comp: &Comp) -> Result<C
         when: end.when.copy(alloc)?,
         sample: end.sample.copy(alloc)?,
         store: grown_store(rt, alloc, &end.store, comp, end.size)?,
-        lines: end.lines.copy(alloc)?,
+        lines: end.lines.share()?,
     })
 }
 

@@ -4,7 +4,7 @@ use lois_answers::Lines;
 use lois_base::{
     Comp, Comps, Constraint, Cube, Decider, Lit, Name, NoMemory, Numbers, Op, Term, is_name,
 };
-use lois_context::{Context, Store, side};
+use lois_context::{Context, Shared, Store, side};
 use lois_deciders::{Chosen, GraphDecider};
 use std::alloc::Global;
 use std::process::Abort;
@@ -92,7 +92,7 @@ pub(crate) fn opening(rt: &impl Abort, alloc: Global, size: usize) -> Result<Con
     assert!(rt; when.fits(size) && sample.len() == size);
     assert!(rt; when.at(sample.as_slice()));
     let store = Store::new(alloc);
-    let lines = Lines::new(alloc);
+    let lines = Shared::new(alloc, Lines::new(alloc))?;
     Ok(Context {
         size,
         when,

@@ -9,7 +9,7 @@ ghost use Rattle.lois_script.specs.View.{tree, cond_tree};
 use crate::standing::{condition_stands, stands};
 use lois_answers::{Case, FaultKind, Lines};
 use lois_base::{Comp, Comps, Constraint, Decider, Name, Names, NoMemory, Numbers, Term, is_name};
-use lois_context::{Context, Store, enter_loop};
+use lois_context::{Context, Shared, Store, enter_loop};
 use lois_deciders::{Chosen, GraphDecider};
 use lois_elim::quantifier_free;
 use lois_eval::{decide, eval};
@@ -71,7 +71,7 @@ fn empty(rt: &impl Abort, alloc: Global, size: usize) -> Result<Context, NoMemor
     assert!(rt; when.fits(size) && sample.len() == size);
     assert!(rt; when.at(sample.as_slice()));
     let store = Store::new(alloc);
-    let lines = Lines::new(alloc);
+    let lines = Shared::new(alloc, Lines::new(alloc))?;
     Ok(Context {
         size,
         when,

@@ -12,7 +12,7 @@ ghost use Rattle.lois_interp.specs.Opened.{IsOpening};
 use crate::making::{chosen, script_of};
 use lois_answers::Lines;
 use lois_base::{Comp, Comps, Constraint, Name, NoMemory, Numbers, Term, is_name};
-use lois_context::{Context, Slot, Store};
+use lois_context::{Context, Shared, Slot, Store};
 use lois_deciders::Chosen;
 use lois_interp::run_block;
 use lois_meaning::Stop;
@@ -41,12 +41,13 @@ fn opening(alloc: Global, parameters: &Params) -> Result<Option<Context>, NoMemo
     store.push(first)?;
     let second = Slot::new(alloc, b.name.copy(alloc)?, Term::Var(1), 0)?;
     store.push(second)?;
+    let lines = Shared::new(alloc, Lines::new(alloc))?;
     Ok(Some(Context {
         size: 2,
         when: Constraint::always(alloc)?,
         sample,
         store,
-        lines: Lines::new(alloc),
+        lines,
     }))
 }
 
@@ -98,12 +99,13 @@ fn context_of(alloc: Global, name: &Name, set: Term, from: usize) -> Result<Cont
     let mut store = Store::new(alloc);
     let slot = Slot::new(alloc, name.copy(alloc)?, set, from)?;
     store.push(slot)?;
+    let lines = Shared::new(alloc, Lines::new(alloc))?;
     Ok(Context {
         size: 0,
         when: Constraint::always(alloc)?,
         sample: Numbers::new(alloc),
         store,
-        lines: Lines::new(alloc),
+        lines,
     })
 }
 
@@ -218,7 +220,7 @@ fn blocks_end_in_different_contexts(rt: HostRuntime) -> Result<(), Fail> {
         for end in &ends {
             assert_eq!(rt; end.size, 2, "{statements}");
             assert_eq!(rt; end.store.len(), 2, "{statements}");
-            assert_eq!(rt; end.lines.len(), lines, "{statements}");
+            assert_eq!(rt; end.lines.get().len(), lines, "{statements}");
         }
     }
     Ok(())

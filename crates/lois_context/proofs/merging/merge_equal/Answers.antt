@@ -1,4 +1,6 @@
-use Rattle.std.proofs.Common.{◌≤◌, [], length, map, sym, ap, ◌∙◌, subst}
+use Rattle.std.proofs.Common.{◌≤◌, [], length, map, nat_eq, sym, ap, ◌∙◌, subst, arith}
+use Rattle.std.specs.HashMap.{ContainsKey}
+use Rattle.std.specs.List.{All}
 use Rattle.lois_context.specs.Merged.{AreMerged}
 use Rattle.lois_context.specs.Prints.{printed}
 use Rattle.lois_context.proofs.Merged.{merged_none, merged_few}
@@ -8,13 +10,21 @@ pub returns-then-as_slice-le1 : goal.returns-then-as_slice-le1
 returns-then-as_slice-le1 c = merged_few c.args.contexts.items (subst (λ xs. length xs ≤ 1) c.as_slice.ensures.value c.if-as_slice-le1.true)
 
 pub loop-context-init : goal.loop-context-init
-loop-context-init c = (
-  subst (AreMerged []) (sym c.new-merged.ensures.items) merged_none,
-  c.new-prints.ensures.items ∙ sym (ap (map printed) c.new-merged.ensures.items),
-)
+loop-context-init c = record {
+  merged = subst (AreMerged []) (sym c.new-merged.ensures.items) merged_none;
+  prints = c.new-prints.ensures.items ∙ sym (ap (map printed) c.new-merged.ensures.items);
+  places = subst (All (ContainsKey nat_eq c.new-places.result)) (sym c.new-prints.ensures.items) (λ i d l. absurd (omega (arith, l)));
+}
 
-pub put-requires : goal.put-requires
-put-requires c = c.loop-context.invariant.1
+pub put-requires-clause-prints : goal.put-requires-clause-prints
+put-requires-clause-prints c = c.loop-context.invariant.prints
+
+pub put-requires-clause-places : goal.put-requires-clause-places
+put-requires-clause-places c = c.loop-context.invariant.places
 
 pub loop-context-preserved : goal.loop-context-preserved
-loop-context-preserved c = (c.in_ok-put.ensures.merged c.loop-context.yielded c.loop-context.invariant.0, c.in_ok-put.ensures.prints)
+loop-context-preserved c = record {
+  merged = c.in_ok-put.ensures.merged c.loop-context.yielded c.loop-context.invariant.merged;
+  prints = c.in_ok-put.ensures.prints;
+  places = c.in_ok-put.ensures.places;
+}

@@ -1,4 +1,3 @@
-use Rattle.std.proofs.Common.{refl}
 use Rattle.lois_interp.proofs.cases.one_case.Goals as goal
 
 pub returns : goal.returns
@@ -7,5 +6,5 @@ returns c = record {
   normalised = c.in_ok-when.ensures.normalised;
   levels = c.in_ok-when.ensures.fits c.args.context.size c.args.context.levels;
   operators = c.in_ok-when.ensures.operators;
-  lines = refl;
+  lines = c.in_ok-into_lines.ensures.same;
 }

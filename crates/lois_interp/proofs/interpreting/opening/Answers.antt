@@ -18,6 +18,6 @@ invariant_of-result c =
       count = c.in_ok-zeros.ensures;
       met = ap (holds (sampled c.in_ok-zeros.field-0)) c.in_ok-always.ensures;
       slots = subst (AreSlots n) (sym c.in_ok-opening_store.ensures) (slots_fit ps 0 n (omega (arith, c.len-size.ensures.counted)));
-      fitting = subst (LinesFit n) (sym c.new.ensures.empty) (All-nil (λ l. Fits n l.term));
+      fitting = subst (LinesFit n) (sym (c.in_ok-lines.ensures.same ∙ c.new.ensures.empty)) (All-nil (λ l. Fits n l.term));
       names = subst (IsDistinct bytes_eq) (sym (slots_named ps 0) ∙ ap (map slot_name) (sym c.in_ok-opening_store.ensures)) c.requires;
     }

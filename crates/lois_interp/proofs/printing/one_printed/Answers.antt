@@ -1,5 +1,5 @@
 use Rattle.std.proofs.Common.{sym, subst}
-use Rattle.lois_context.specs.Kept.{AreSlots}
+use Rattle.lois_context.specs.Kept.{AreSlots, LinesFit}
 use Rattle.lois_context.proofs.Carried.{no_names}
 use Rattle.lois_interp.proofs.Opened.{no_slots}
 use Rattle.lois_interp.proofs.ScriptRuns.{printed_fit}
@@ -12,7 +12,7 @@ invariant_of-result g c =
       levels = k.levels;
       count = k.count;
       met = k.met;
-      slots = subst (AreSlots k.size) (sym c.new.ensures.empty) (no_slots k.size);
-      fitting = printed_fit k.size k.«when» k.lines c.in_ok-lines.lines c.in_ok-lines.ensures.printed;
-      names = no_names c.new.result c.new.ensures.empty;
+      slots = subst (AreSlots k.size) (sym c.new-2.ensures.empty) (no_slots k.size);
+      fitting = subst (LinesFit k.size) (sym c.in_ok-lines.ensures.same) (printed_fit k.size k.«when» k.lines c.in_ok-printed.printed c.in_ok-printed.ensures.printed);
+      names = no_names c.new-2.result c.new-2.ensures.empty;
     }

@@ -1,4 +1,4 @@
-use Rattle.std.proofs.Common.{◌≡◌, [], ◌∷◌, ◌++◌, ◌+◌, take, map, sym, subst}
+use Rattle.std.proofs.Common.{◌≡◌, [], ◌∷◌, ◌++◌, ◌+◌, take, map, sym, ◌∙◌, subst}
 use Rattle.std.specs.List.{AllZip}
 use Rattle.std.proofs.lemmas.List.Elements.{AllZip-push}
 use Rattle.lois_base.specs.Fits.{Fits}
@@ -12,12 +12,12 @@ use Rattle.lois_interp.proofs.printing.printed_lines.Goals as goal
 pub printed_line-requires-clause-levels : goal.printed_line-requires-clause-levels
 printed_line-requires-clause-levels g c =
     let k = c.args.context.now in
-    item_has line_of (λ l. Fits k.size l.term) c.as_slice-line-items.result.now k.lines c.loop-line.line-index c.line-item.result c.as_slice-line-items.ensures.items c.loop-line-test.true c.line-item.is k.fitting
+    item_has line_of (λ l. Fits k.size l.term) c.as_slice-line-items.result.now k.lines c.loop-line.line-index c.line-item.result (c.as_slice-line-items.ensures.items ∙ c.get.ensures.same) c.loop-line-test.true c.line-item.is k.fitting
 
 pub printed_line-requires-clause-operators : goal.printed_line-requires-clause-operators
 printed_line-requires-clause-operators g c =
     let k = c.args.context.now in
-    item_has line_of (λ l. AdmitsTerm g.T.Structure.ordered l.term) c.as_slice-line-items.result.now k.lines c.loop-line.line-index c.line-item.result c.as_slice-line-items.ensures.items c.loop-line-test.true c.line-item.is c.requires.lines
+    item_has line_of (λ l. AdmitsTerm g.T.Structure.ordered l.term) c.as_slice-line-items.result.now k.lines c.loop-line.line-index c.line-item.result (c.as_slice-line-items.ensures.items ∙ c.get.ensures.same) c.loop-line-test.true c.line-item.is c.requires.lines
 
 pub loop-line-preserved : goal.loop-line-preserved
 loop-line-preserved g c =
@@ -37,4 +37,4 @@ loop-line-preserved g c =
 
 pub returns-clause-printed : goal.returns-clause-printed
 returns-clause-printed g c =
-    subst (λ z. AllZip (IsPrintedLine c.args.context.now.size c.args.context.now.«when») z c.loop-line.lines) (all_taken line_of c.as_slice-line-items.result.now c.args.context.now.lines c.loop-line.line-index c.as_slice-line-items.ensures.items c.loop-line-test.false) c.loop-line.invariant.printed
+    subst (λ z. AllZip (IsPrintedLine c.args.context.now.size c.args.context.now.«when») z c.loop-line.lines) (all_taken line_of c.as_slice-line-items.result.now c.args.context.now.lines c.loop-line.line-index (c.as_slice-line-items.ensures.items ∙ c.get.ensures.same) c.loop-line-test.false) c.loop-line.invariant.printed

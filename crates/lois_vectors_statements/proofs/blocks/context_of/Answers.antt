@@ -16,9 +16,9 @@ invariant_of-result c =
     let store : c.push.new.self ≡ s ∷ [] = c.in_ok-push.ensures.appended ∙ (ap (λ z. c.new-store.result ++ z ∷ []) c.in_ok-slot.ensures.made ∙ ap (λ z. z ++ s ∷ []) c.new-store.ensures.empty) in
     record {
       levels = subst (ConstraintFits 0) (sym c.in_ok-always.ensures) (always_fits 0);
-      count = ap length c.new-2.ensures;
-      met = ap (holds (sampled c.new-2.result)) c.in_ok-always.ensures;
+      count = ap length c.new-4.ensures;
+      met = ap (holds (sampled c.new-4.result)) c.in_ok-always.ensures;
       slots = subst (AreSlots 0) (sym store) (one_slot s 0 c.requires.levels c.requires.from);
-      fitting = subst (LinesFit 0) (sym c.new-3.ensures.empty) (All-nil (λ l. Fits 0 l.term));
+      fitting = subst (LinesFit 0) (sym (c.in_ok-lines.ensures.same ∙ c.new-2.ensures.empty)) (All-nil (λ l. Fits 0 l.term));
       names = subst (λ z. IsDistinct bytes_eq (map slot_name z)) (sym store) (one_distinct s.name);
     }

@@ -22,7 +22,7 @@ invariant_of-result c =
       count = ap length (c.in_ok-push-2.ensures.ok ∙ ap (λ z. z ++ 0 ∷ []) (c.in_ok-push.ensures.ok ∙ ap (λ z. z ++ 0 ∷ []) c.new-sample.ensures));
       met = ap (holds (sampled c.push-2.new.self)) c.in_ok-always.ensures;
       slots = subst (AreSlots 2) (sym store) (slots_fit (param_tree a ∷ param_tree b ∷ []) 0 2 (omega arith));
-      fitting = subst (LinesFit 2) (sym c.new-3.ensures.empty) (All-nil (λ l. Fits 2 l.term));
+      fitting = subst (LinesFit 2) (sym (c.in_ok-lines.ensures.same ∙ c.new-3.ensures.empty)) (All-nil (λ l. Fits 2 l.term));
       names = subst (λ z. IsDistinct bytes_eq (map slot_name z)) (sym store) (two_distinct a.name b.name (sym c.eq.ensures ∙ c.if-eq.false));
     }
 
@@ -37,5 +37,5 @@ returns c =
       size = sym (ap length params);
       «when» = c.in_ok-always.ensures;
       store = two_slots c.new-store.result c.push-3.new.self c.push-4.new.self c.in_ok-copy.field-0 c.in_ok-copy-2.field-0 a.name b.name c.new-store.ensures.empty (c.in_ok-push-3.ensures.appended ∙ ap (λ z. c.new-store.result ++ z ∷ []) c.in_ok-first.ensures.made) (c.in_ok-push-4.ensures.appended ∙ ap (λ z. c.push-3.new.self ++ z ∷ []) c.in_ok-second.ensures.made) c.in_ok-copy.ensures c.in_ok-copy-2.ensures ∙ ap (λ ps. opening_slots ps 0) (sym params);
-      lines = c.new-3.ensures.empty;
+      lines = c.in_ok-lines.ensures.same ∙ c.new-3.ensures.empty;
     }

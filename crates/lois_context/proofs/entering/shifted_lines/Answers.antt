@@ -1,7 +1,7 @@
 use Rattle.lois_base.specs.Fits.{Fits}
 use Rattle.lois_answers.specs.LineView.{line_of}
 use Rattle.lois_base.proofs.Viewed.{item_has}
-use Rattle.lois_context.proofs.entering.carried_lines.Goals as goal
+use Rattle.lois_context.proofs.entering.shifted_lines.Goals as goal
 
 pub carried_term-requires-clause-fits : goal.carried_term-requires-clause-fits
 carried_term-requires-clause-fits c =
