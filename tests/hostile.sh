@@ -90,6 +90,7 @@ try_shape() {
 try_cuts() {
   local folder=$1 command=$2 text status='0 or 5'
   (
+    failed=0
     ulimit -s 1024 -v 4194304 -t $seconds
     for text in "$folder"/*.in; do
       "$lois" "$command" <"$text" >"$work/answer" 2>"$work/errors"
