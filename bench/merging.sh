@@ -11,7 +11,7 @@ program merging_time anyhow lois_answers lois_base lois_context lois_deciders <<
 
 use lois_answers::Lines;
 use lois_base::{Comp, Comps, Constraint, Cube, Decider, Lit, Name, NoMemory, Numbers, Op, Term, is_name};
-use lois_context::{Context, Store, enter_loop, merge_equal, side};
+use lois_context::{Context, Shared, Store, enter_loop, merge_equal, side};
 use lois_deciders::{Chosen, GraphDecider};
 use std::alloc::Global;
 use std::process::Abort;
@@ -39,7 +39,7 @@ fn opening(rt: &impl Abort, alloc: Global, size: usize) -> Result<Context, NoMem
     assert!(rt; when.fits(size) && sample.len() == size);
     assert!(rt; when.at(sample.as_slice()));
     let store = Store::new(alloc);
-    let lines = Lines::new(alloc);
+    let lines = Shared::new(alloc, Lines::new(alloc))?;
     Ok(Context {
         size,
         when,
