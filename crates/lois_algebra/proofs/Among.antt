@@ -4,7 +4,7 @@ use Rattle.std.proofs.lemmas.Bool.{false≢true}
 use Rattle.lois_base.specs.Atom.{Atom}
 use Rattle.lois_base.specs.Data.{TermD, coll, CompD, comp, CompsD, comps_of}
 use Rattle.lois_base.specs.Fits.{ItemsFit}
-use Rattle.lois_base.specs.Validity.{AdmitsItems, ItemsHaveUsualWidths}
+use Rattle.lois_base.specs.Validity.{AdmitsItems, ItemsHaveBoundedWidths}
 use Rattle.lois_base.specs.Values.{PointValue, point, IsIn}
 use Rattle.lois_base.specs.declared.guards.Lit.{Lit}
 use Rattle.lois_relate.proofs.Sets.{some_is_member}
@@ -42,7 +42,7 @@ pub admits_items-append : (o : Bool) (ks ls : List CompD) → AdmitsItems o (com
 admits_items-append o [] ls h g = g
 admits_items-append o (k ∷ ks) ls h g = (h.0, admits_items-append o ks ls h.1 g)
 
-pub widths-append : (ks ls : List CompD) → ItemsHaveUsualWidths (comps_of ks) → ItemsHaveUsualWidths (comps_of ls) → ItemsHaveUsualWidths (comps_of (ks ++ ls))
+pub widths-append : (ks ls : List CompD) → ItemsHaveBoundedWidths (comps_of ks) → ItemsHaveBoundedWidths (comps_of ls) → ItemsHaveBoundedWidths (comps_of (ks ++ ls))
 widths-append [] ls h g = g
 widths-append (k ∷ ks) ls h g = (h.0, widths-append ks ls h.1 g)
 

@@ -10,15 +10,15 @@ use Rattle.lois_base.specs.Truth.{lit_holds, holds}
 use Rattle.lois_base.specs.Validity.{AdmitsLit, AdmitsConstraint, AdmitsTerm, AdmitsParts, AdmitsComp, AdmitsItems}
 use Rattle.lois_base.specs.Values.{DeeperAt, SomePartDeeperAt, SomeMemberDeeperAt, OneDeeperAt}
 use Rattle.lois_base.specs.declared.guards.Lit.{Lit}
-use Rattle.lois_relate.specs.Built.{Says, IsBoth, IsForSome}
+use Rattle.lois_relate.specs.Built.{Defines, IsBoth, IsForSome}
 
-pub never_says : (n : ℕ) (Q : List Atom → Type 0) (A : Bool → Type 0) (f : FormulaD) → f ≡ any no_formulas → ((c : List Atom) → Q c → ⊥) → Says n Q A f
+pub never_says : (n : ℕ) (Q : List Atom → Type 0) (A : Bool → Type 0) (f : FormulaD) → f ≡ any no_formulas → ((c : List Atom) → Q c → ⊥) → Defines n Q A f
 never_says n Q A f e refuted =
-    subst (Says n Q A) (sym e) (record { truth = λ c k. (λ h. absurd h, λ h. refuted c h); levels = tt; operators = λ o h. tt })
+    subst (Defines n Q A) (sym e) (record { truth = λ c k. (λ h. absurd h, λ h. refuted c h); levels = tt; operators = λ o h. tt })
 
-pub literal_says : (n : ℕ) (l : Lit) (f : FormulaD) → f ≡ lit l → LitFits n l → Says n (λ c. IsTrue (lit_holds c l)) (λ o. AdmitsLit o l) f
+pub literal_says : (n : ℕ) (l : Lit) (f : FormulaD) → f ≡ lit l → LitFits n l → Defines n (λ c. IsTrue (lit_holds c l)) (λ o. AdmitsLit o l) f
 literal_says n l f e fits =
-    subst (Says n (λ c. IsTrue (lit_holds c l)) (λ o. AdmitsLit o l)) (sym e) (record { truth = λ c k. (λ h. h, λ h. h); levels = fits; operators = λ o h. h })
+    subst (Defines n (λ c. IsTrue (lit_holds c l)) (λ o. AdmitsLit o l)) (sym e) (record { truth = λ c k. (λ h. h, λ h. h); levels = fits; operators = λ o h. h })
 
 -- a tuple and a set are deeper than one more than their parts and members are
 pub tuple_deeper : (ts : TermsD) (c : List Atom) (k : ℕ) → 0 < k → SomePartDeeperAt ts c (k - 1) ↔ DeeperAt (tup ts) c k
@@ -39,15 +39,15 @@ tuple_deep t ts k e z c = subst (λ j. DeeperAt t c j) (sym z) (subst (λ u. Dee
 pub set_deep : (t : TermD) (ks : CompsD) (k : ℕ) → t ≡ coll ks → k ≡ 0 → (c : List Atom) → DeeperAt t c k
 set_deep t ks k e z c = subst (λ j. DeeperAt t c j) (sym z) (subst (λ u. DeeperAt u c 0) (sym e) tt)
 
-pub tuple_says : (n k : ℕ) (t : TermD) (ts : TermsD) (f : FormulaD) → t ≡ tup ts → 0 < k → Says n (λ c. SomePartDeeperAt ts c (k - 1)) (λ o. AdmitsParts o ts) f → Says n (λ c. DeeperAt t c k) (λ o. AdmitsTerm o t) f
-tuple_says n k t ts f e l says = subst (λ u. Says n (λ c. DeeperAt u c k) (λ o. AdmitsTerm o u) f) (sym e) (record {
+pub tuple_says : (n k : ℕ) (t : TermD) (ts : TermsD) (f : FormulaD) → t ≡ tup ts → 0 < k → Defines n (λ c. SomePartDeeperAt ts c (k - 1)) (λ o. AdmitsParts o ts) f → Defines n (λ c. DeeperAt t c k) (λ o. AdmitsTerm o t) f
+tuple_says n k t ts f e l says = subst (λ u. Defines n (λ c. DeeperAt u c k) (λ o. AdmitsTerm o u) f) (sym e) (record {
   truth = λ c a. let own = tuple_deeper ts c k l in (λ h. own.0 ((says.truth c a).0 h), λ h. (says.truth c a).1 (own.1 h));
   levels = says.levels;
   operators = says.operators;
 })
 
-pub set_says : (n k : ℕ) (t : TermD) (ks : CompsD) (f : FormulaD) → t ≡ coll ks → 0 < k → Says n (λ c. SomeMemberDeeperAt ks c (k - 1)) (λ o. AdmitsItems o ks) f → Says n (λ c. DeeperAt t c k) (λ o. AdmitsTerm o t) f
-set_says n k t ks f e l says = subst (λ u. Says n (λ c. DeeperAt u c k) (λ o. AdmitsTerm o u) f) (sym e) (record {
+pub set_says : (n k : ℕ) (t : TermD) (ks : CompsD) (f : FormulaD) → t ≡ coll ks → 0 < k → Defines n (λ c. SomeMemberDeeperAt ks c (k - 1)) (λ o. AdmitsItems o ks) f → Defines n (λ c. DeeperAt t c k) (λ o. AdmitsTerm o t) f
+set_says n k t ks f e l says = subst (λ u. Defines n (λ c. DeeperAt u c k) (λ o. AdmitsTerm o u) f) (sym e) (record {
   truth = λ c a. let own = set_deeper ks c k l in (λ h. own.0 ((says.truth c a).0 h), λ h. (says.truth c a).1 (own.1 h));
   levels = says.levels;
   operators = says.operators;
@@ -63,7 +63,7 @@ members_deeper_split k ks ks' q e c =
     subst (λ z. SomeMemberDeeperAt z c k ↔ (OneDeeperAt q c k ⊎ SomeMemberDeeperAt ks' c k)) (sym e) (λ h. h, λ h. h)
 
 -- ---- a comprehension
-pub one_deeper_says : (n m k inner : ℕ) (g : List (List Lit)) (t : TermD) (d h b r : FormulaD) → inner ≡ n + m → Says inner (λ c. DeeperAt t c k) (λ o. AdmitsTerm o t) d → Says inner (λ c. IsTrue (holds c g)) (λ o. AdmitsConstraint o g) h → IsBoth d h b → IsForSome m b r → Says n (λ c. OneDeeperAt (comp m g t) c k) (λ o. AdmitsComp o (comp m g t)) r
+pub one_deeper_says : (n m k inner : ℕ) (g : List (List Lit)) (t : TermD) (d h b r : FormulaD) → inner ≡ n + m → Defines inner (λ c. DeeperAt t c k) (λ o. AdmitsTerm o t) d → Defines inner (λ c. IsTrue (holds c g)) (λ o. AdmitsConstraint o g) h → IsBoth d h b → IsForSome m b r → Defines n (λ c. OneDeeperAt (comp m g t) c k) (λ o. AdmitsComp o (comp m g t)) r
 one_deeper_says n m k inner g t d h b r sum deep guard both some = record {
   truth = λ c a. (λ x. there c a ((some.truth c).0 x), λ x. back c a x);
   levels = some.levels n (subst (λ j. FormulaFits j b) sum (both.levels inner deep.levels guard.levels));
@@ -84,8 +84,8 @@ one_deeper_says n m k inner g t d h b r sum deep guard both some = record {
         (some.truth c).1 (e, l, (both.truth (c ++ e)).1 ((deep.truth (c ++ e) (longer c e a l)).1 p, (guard.truth (c ++ e) (longer c e a l)).1 y.guard))
 
 -- where no item is ever deeper, no member is
-pub none_deeper_says : (n m k inner : ℕ) (g : List (List Lit)) (t : TermD) (d : FormulaD) → inner ≡ n + m → Says inner (λ c. DeeperAt t c k) (λ o. AdmitsTerm o t) d → d ≡ any no_formulas → Says n (λ c. OneDeeperAt (comp m g t) c k) (λ o. AdmitsComp o (comp m g t)) d
-none_deeper_says n m k inner g t d sum deep e = subst (Says n (λ c. OneDeeperAt (comp m g t) c k) (λ o. AdmitsComp o (comp m g t))) (sym e) (record {
+pub none_deeper_says : (n m k inner : ℕ) (g : List (List Lit)) (t : TermD) (d : FormulaD) → inner ≡ n + m → Defines inner (λ c. DeeperAt t c k) (λ o. AdmitsTerm o t) d → d ≡ any no_formulas → Defines n (λ c. OneDeeperAt (comp m g t) c k) (λ o. AdmitsComp o (comp m g t)) d
+none_deeper_says n m k inner g t d sum deep e = subst (Defines n (λ c. OneDeeperAt (comp m g t) c k) (λ o. AdmitsComp o (comp m g t))) (sym e) (record {
   truth = λ c a. (λ h. absurd h, λ x. refuted c a x);
   levels = tt;
   operators = λ o h. tt;

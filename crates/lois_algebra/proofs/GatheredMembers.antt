@@ -7,7 +7,7 @@ use Rattle.lois_base.specs.Data.{TermD, var, tag, tup, coll, CompD, comp, CompsD
 use Rattle.lois_base.specs.Fits.{ConstraintFits, CompFits, Fits, ItemsFit}
 use Rattle.lois_base.specs.Tree.{tree, comp_of}
 use Rattle.lois_base.specs.Truth.{holds}
-use Rattle.lois_base.specs.Validity.{AdmitsConstraint, AdmitsComp, AdmitsItems, CompHasUsualWidths, ItemsHaveUsualWidths}
+use Rattle.lois_base.specs.Validity.{AdmitsConstraint, AdmitsComp, AdmitsItems, CompHasBoundedWidths, ItemsHaveBoundedWidths}
 use Rattle.lois_base.specs.Values.{PointValue, point, IsExtension, MemberAt, SameAt, IsIn}
 use Rattle.lois_base.specs.declared.guards.Lit.{Lit}
 use Rattle.lois_base.specs.declared.values.Comp.{Comp}
@@ -70,7 +70,7 @@ pub record ItemsSoFar (n m : ℕ) (g : List (List Lit)) (rest whole before after
   pub members : (c : List Atom) → length c ≡ n → (w : PointValue) → (IsAmong after c w ⊎ IsWithin m g rest c w) ↔ (IsAmong before c w ⊎ IsWithin m g whole c w)
   pub levels : ItemsFit n before → ItemsFit n after
   pub operators : (o : Bool) → AdmitsConstraint o g → AdmitsItems o whole → AdmitsItems o before → AdmitsItems o after
-  pub widths : ItemsHaveUsualWidths whole → ItemsHaveUsualWidths before → ItemsHaveUsualWidths after
+  pub widths : ItemsHaveBoundedWidths whole → ItemsHaveBoundedWidths before → ItemsHaveBoundedWidths after
 
 module _ (n m : ℕ) (g : List (List Lit)) where
   pub items_begin : (whole before : CompsD) → ItemsSoFar n m g whole whole before before
@@ -87,7 +87,7 @@ module _ (n m : ℕ) (g : List (List Lit)) where
     λ h. elim h [ inl p ↦ (p.0, p.1, inl p.2) | inr p ↦ (p.0, p.1, inr p.2) ],
   )
 
-  pub items_more : (rest rest' whole before after after' : CompsD) (k : ℕ) (q h : List (List Lit)) (t : TermD) → rest ≡ more (comp k q t) rest' → ItemsSoFar n m g rest whole before after → ConstraintFits (n + m) g → ((d : List Atom) → holds d h ≡ (holds d g && holds d q)) → CompFits n (comp (m + k) h t) → ((o : Bool) → AdmitsConstraint o g → AdmitsItems o whole → AdmitsComp o (comp (m + k) h t)) → (ItemsHaveUsualWidths whole → CompHasUsualWidths (comp (m + k) h t)) → IsPut (comp (m + k) h t) after after' → ItemsSoFar n m g rest' whole before after'
+  pub items_more : (rest rest' whole before after after' : CompsD) (k : ℕ) (q h : List (List Lit)) (t : TermD) → rest ≡ more (comp k q t) rest' → ItemsSoFar n m g rest whole before after → ConstraintFits (n + m) g → ((d : List Atom) → holds d h ≡ (holds d g && holds d q)) → CompFits n (comp (m + k) h t) → ((o : Bool) → AdmitsConstraint o g → AdmitsItems o whole → AdmitsComp o (comp (m + k) h t)) → (ItemsHaveBoundedWidths whole → CompHasBoundedWidths (comp (m + k) h t)) → IsPut (comp (m + k) h t) after after' → ItemsSoFar n m g rest' whole before after'
   items_more rest rest' whole before after after' k q h t e so_far guard_fits met fits admits widths put = record {
     members = λ c a w. (there c a w, λ x. back c a w ((so_far.members c a w).1 x));
     levels = λ x. put.levels n (so_far.levels x) fits;
@@ -136,7 +136,7 @@ pub record GatheredSoFar (n : ℕ) (rest whole after : CompsD) : Type 0 where
   pub members : (c : List Atom) → length c ≡ n → (w : PointValue) → (IsAmong after c w ⊎ IsInSome rest c w) ↔ IsInSome whole c w
   pub levels : ItemsFit n after
   pub operators : (o : Bool) → AdmitsItems o whole → AdmitsItems o after
-  pub widths : ItemsHaveUsualWidths whole → ItemsHaveUsualWidths after
+  pub widths : ItemsHaveBoundedWidths whole → ItemsHaveBoundedWidths after
 
 module _ (n : ℕ) where
   pub gathered_begin : (whole after : CompsD) → after ≡ no_comps → GatheredSoFar n whole whole after
@@ -147,7 +147,7 @@ module _ (n : ℕ) where
     widths = λ h. tt;
   })
 
-  pub gathered_more : (rest rest' whole after after' : CompsD) (k : CompD) → rest ≡ more k rest' → GatheredSoFar n rest whole after → ((o : Bool) → AdmitsItems o whole → AdmitsComp o k) → (ItemsHaveUsualWidths whole → CompHasUsualWidths k) → Gathers n k after after' → GatheredSoFar n rest' whole after'
+  pub gathered_more : (rest rest' whole after after' : CompsD) (k : CompD) → rest ≡ more k rest' → GatheredSoFar n rest whole after → ((o : Bool) → AdmitsItems o whole → AdmitsComp o k) → (ItemsHaveBoundedWidths whole → CompHasBoundedWidths k) → Gathers n k after after' → GatheredSoFar n rest' whole after'
   gathered_more rest rest' whole after after' k e so_far admits widths gathers = record {
     members = λ c a w. (there c a w, λ x. back c a w ((so_far.members c a w).1 x));
     levels = gathers.levels so_far.levels;

@@ -6,7 +6,7 @@ use Rattle.lois_base.specs.Data.{TermD, coll, comp, CompsD, no_comps, more}
 use Rattle.lois_base.specs.Fits.{CompFits, ItemsFit}
 use Rattle.lois_base.specs.FormulaData.{FormulaD}
 use Rattle.lois_base.specs.Truth.{holds}
-use Rattle.lois_base.specs.Validity.{AdmitsTerm, AdmitsComp, AdmitsItems, CompHasUsualWidths, ItemsHaveUsualWidths}
+use Rattle.lois_base.specs.Validity.{AdmitsTerm, AdmitsComp, AdmitsItems, CompHasBoundedWidths, ItemsHaveBoundedWidths}
 use Rattle.lois_base.specs.Values.{PointValue, point, IsExtension, SameAt, IsSame, IsIn}
 use Rattle.lois_base.specs.declared.guards.Lit.{Lit}
 use Rattle.lois_base.proofs.Members.{same_sym, in_same}
@@ -78,7 +78,7 @@ module _ (n : ℕ) (wanted : Bool) (t : TermD) where
     pub members : (c : List Atom) → length c ≡ n → (w : PointValue) → (IsAmong kept c w ⊎ (IsAmong rest c w × IsWanted wanted (IsIn w (point t c)))) ↔ (IsAmong whole c w × IsWanted wanted (IsIn w (point t c)))
     pub levels : ItemsFit n kept
     pub operators : (o : Bool) → AdmitsItems o whole → AdmitsTerm o t → AdmitsItems o kept
-    pub widths : ItemsHaveUsualWidths whole → ItemsHaveUsualWidths kept
+    pub widths : ItemsHaveBoundedWidths whole → ItemsHaveBoundedWidths kept
 
   pub selected_begin : (whole kept : CompsD) → kept ≡ no_comps → SelectedSoFar whole whole kept
   selected_begin whole kept e = subst (SelectedSoFar whole whole) (sym e) (record {
@@ -88,7 +88,7 @@ module _ (n : ℕ) (wanted : Bool) (t : TermD) where
     widths = λ h. tt;
   })
 
-  pub selected_more : (rest rest' whole kept kept' : CompsD) (m : ℕ) (g h : List (List Lit)) (item : TermD) → rest ≡ more (comp m g item) rest' → SelectedSoFar rest whole kept → IsSelectedGuard n m wanted g item t h → CompFits n (comp m h item) → ((o : Bool) → AdmitsItems o whole → AdmitsTerm o t → AdmitsComp o (comp m h item)) → (ItemsHaveUsualWidths whole → CompHasUsualWidths (comp m h item)) → IsPut (comp m h item) kept kept' → SelectedSoFar rest' whole kept'
+  pub selected_more : (rest rest' whole kept kept' : CompsD) (m : ℕ) (g h : List (List Lit)) (item : TermD) → rest ≡ more (comp m g item) rest' → SelectedSoFar rest whole kept → IsSelectedGuard n m wanted g item t h → CompFits n (comp m h item) → ((o : Bool) → AdmitsItems o whole → AdmitsTerm o t → AdmitsComp o (comp m h item)) → (ItemsHaveBoundedWidths whole → CompHasBoundedWidths (comp m h item)) → IsPut (comp m h item) kept kept' → SelectedSoFar rest' whole kept'
   selected_more rest rest' whole kept kept' m g h item e so_far selects fits admits widths put = record {
     members = λ c k w. (there c k w, λ x. back c k w ((so_far.members c k w).1 x));
     levels = put.levels n so_far.levels fits;

@@ -6,7 +6,7 @@ use Rattle.lois_base.specs.Atom.{Atom, equal, whole}
 use Rattle.lois_base.specs.Data.{TermD, var, coll, CompD, comp, no_comps, more, comps_of}
 use Rattle.lois_base.specs.Fits.{Fits}
 use Rattle.lois_base.specs.Truth.{atom_at}
-use Rattle.lois_base.specs.Validity.{AdmitsTerm, HasUsualWidths}
+use Rattle.lois_base.specs.Validity.{AdmitsTerm, HasBoundedWidths}
 use Rattle.lois_base.specs.Values.{PointValue, point, SameAt, IsIn}
 use Rattle.lois_base.proofs.Members.{same_as_atom}
 use Rattle.lois_base.proofs.Order.{equal_refl}
@@ -37,9 +37,9 @@ module _ (s t r : TermD) (ks ls all : List CompD) (left : s ≡ coll (comps_of k
   union_admits o h g =
       subst (AdmitsTerm o) (sym whole_is) (admits_items-append o ks ls (subst (AdmitsTerm o) left h) (subst (AdmitsTerm o) right g))
 
-  pub union_widths : HasUsualWidths s → HasUsualWidths t → HasUsualWidths r
+  pub union_widths : HasBoundedWidths s → HasBoundedWidths t → HasBoundedWidths r
   union_widths h g =
-      subst HasUsualWidths (sym whole_is) (widths-append ks ls (subst HasUsualWidths left h) (subst HasUsualWidths right g))
+      subst HasBoundedWidths (sym whole_is) (widths-append ks ls (subst HasBoundedWidths left h) (subst HasBoundedWidths right g))
 
 -- ---- all atoms
 abbrev pub atoms_term : ℕ → TermD

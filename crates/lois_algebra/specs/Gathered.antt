@@ -3,7 +3,7 @@ use Rattle.std.specs.Prelude.{◌≡◌, ℕ, Bool, List, ◌++◌, length, ◌�
 use Rattle.lois_base.specs.Atom.{Atom}
 use Rattle.lois_base.specs.Data.{coll, CompD, comp, CompsD, no_comps, more}
 use Rattle.lois_base.specs.Fits.{CompFits, ItemsFit}
-use Rattle.lois_base.specs.Validity.{AdmitsConstraint, AdmitsComp, AdmitsItems, CompHasUsualWidths, ItemsHaveUsualWidths}
+use Rattle.lois_base.specs.Validity.{AdmitsConstraint, AdmitsComp, AdmitsItems, CompHasBoundedWidths, ItemsHaveBoundedWidths}
 use Rattle.lois_base.specs.Values.{PointValue, IsExtension, SomeIsAt, OneIsAt}
 use Rattle.lois_base.specs.declared.guards.Lit.{Lit}
 
@@ -33,18 +33,18 @@ pub record IsPut (k : CompD) (before after : CompsD) : Type 0 where
   pub members : (c : List Atom) (w : PointValue) → IsAmong after c w ↔ (IsAmong before c w ⊎ IsMadeBy k c w)
   pub levels : (n : ℕ) → ItemsFit n before → CompFits n k → ItemsFit n after
   pub operators : (o : Bool) → AdmitsItems o before → AdmitsComp o k → AdmitsItems o after
-  pub widths : ItemsHaveUsualWidths before → CompHasUsualWidths k → ItemsHaveUsualWidths after
+  pub widths : ItemsHaveBoundedWidths before → CompHasBoundedWidths k → ItemsHaveBoundedWidths after
 
 -- the list `after` has the members of `before` and those of the members that k makes
 pub record Gathers (n : ℕ) (k : CompD) (before after : CompsD) : Type 0 where
   pub members : (c : List Atom) → length c ≡ n → (w : PointValue) → IsAmong after c w ↔ (IsAmong before c w ⊎ IsInMember k c w)
   pub levels : ItemsFit n before → ItemsFit n after
   pub operators : (o : Bool) → AdmitsComp o k → AdmitsItems o before → AdmitsItems o after
-  pub widths : CompHasUsualWidths k → ItemsHaveUsualWidths before → ItemsHaveUsualWidths after
+  pub widths : CompHasBoundedWidths k → ItemsHaveBoundedWidths before → ItemsHaveBoundedWidths after
 
 -- the same, of a comprehension whose item is the set with the comprehensions qs
 pub record GathersItems (n m : ℕ) (g : List (List Lit)) (qs before after : CompsD) : Type 0 where
   pub members : (c : List Atom) → length c ≡ n → (w : PointValue) → IsAmong after c w ↔ (IsAmong before c w ⊎ IsWithin m g qs c w)
   pub levels : ItemsFit n before → ItemsFit n after
   pub operators : (o : Bool) → AdmitsConstraint o g → AdmitsItems o qs → AdmitsItems o before → AdmitsItems o after
-  pub widths : ItemsHaveUsualWidths qs → ItemsHaveUsualWidths before → ItemsHaveUsualWidths after
+  pub widths : ItemsHaveBoundedWidths qs → ItemsHaveBoundedWidths before → ItemsHaveBoundedWidths after

@@ -4,12 +4,12 @@ ghost use Rattle.std.specs.Prelude.{◌+◌, Bool, IfOk, OnOk};
 ghost use Rattle.lois_base.specs.Data.{coll, comps_of};
 ghost use Rattle.lois_base.specs.Fits.{ConstraintFits, Fits, CompFits, ItemsFit};
 ghost use Rattle.lois_base.specs.Tree.{tree, comp_of};
-ghost use Rattle.lois_base.specs.Validity.{AdmitsTerm, AdmitsItems, HasUsualWidths, ItemsHaveUsualWidths};
+ghost use Rattle.lois_base.specs.Validity.{AdmitsTerm, AdmitsItems, HasBoundedWidths, ItemsHaveBoundedWidths};
 ghost use Rattle.lois_terms.specs.Guarded.{IsSet};
 ghost use Rattle.lois_algebra.specs.Gathered.{Gathers, GathersItems};
 ghost use Rattle.lois_algebra.specs.Sets.{IsUnionOfMembers, ItemsAreSets, IsSetOfSets};
 
-use crate::putting::put;
+use crate::putting::push_comp;
 use lois_base::{Comp, Comps, NoMemory, Term};
 use lois_constraint::meet;
 use std::alloc::Global;
@@ -22,7 +22,7 @@ pub fn collect_over(alloc: Global, s: &Term, size: usize) -> Result<Term, NoMemo
     ensures set { IfOk result (λ r. IsSet (tree r)) }
     ensures levels { IfOk result (λ r. Fits size (tree r)) }
     ensures operators { IfOk result (λ r. (ordered : Bool) → AdmitsTerm ordered (tree s.now) → AdmitsTerm ordered (tree r)) }
-    ensures widths { IfOk result (λ r. HasUsualWidths (tree s.now) → HasUsualWidths (tree r)) }
+    ensures widths { IfOk result (λ r. HasBoundedWidths (tree s.now) → HasBoundedWidths (tree r)) }
 {
     match s {
         Term::Coll(comps) => Ok(Term::Coll(collected(alloc, comps, size)?)),
@@ -36,7 +36,7 @@ fn collected(alloc: Global, comps: &Comps, size: usize) -> Result<Comps, NoMemor
     ensures members { IfOk result (λ r. IsUnionOfMembers size (coll (comps_of comps.now)) (coll (comps_of r))) }
     ensures levels { IfOk result (λ r. ItemsFit size (comps_of r)) }
     ensures operators { IfOk result (λ r. (ordered : Bool) → AdmitsItems ordered (comps_of comps.now) → AdmitsItems ordered (comps_of r)) }
-    ensures widths { IfOk result (λ r. ItemsHaveUsualWidths (comps_of comps.now) → ItemsHaveUsualWidths (comps_of r)) }
+    ensures widths { IfOk result (λ r. ItemsHaveBoundedWidths (comps_of comps.now) → ItemsHaveBoundedWidths (comps_of r)) }
 {
     let mut gathered = Comps::new(alloc);
     for comp in comps.as_slice() {
@@ -72,7 +72,7 @@ fn gather_items(
         let binders = comp.binders + inner.binders;
         let guard = meet(alloc, &comp.guard, &inner.guard)?;
         let item = inner.item.copy(alloc)?;
-        put(
+        push_comp(
             gathered,
             Comp {
                 binders,

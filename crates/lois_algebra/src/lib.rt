@@ -11,6 +11,6 @@ mod uniting;
 pub use depth::depth_formula;
 pub use gathering::collect_over;
 pub use parts::project;
-pub use putting::put;
+pub use putting::push_comp;
 pub use selecting::{inter, minus, selected_guard};
 pub use uniting::{all_atoms, union};

@@ -4,12 +4,12 @@ ghost use Rattle.std.specs.Prelude.{ℕ, ◌+◌, Bool, true, false, IfOk};
 ghost use Rattle.lois_base.specs.Data.{coll, comps_of};
 ghost use Rattle.lois_base.specs.Fits.{ConstraintFits, Fits, CompFits, ItemsFit};
 ghost use Rattle.lois_base.specs.Tree.{tree, comp_of};
-ghost use Rattle.lois_base.specs.Validity.{AdmitsConstraint, AdmitsTerm, AdmitsComp, AdmitsItems, HasUsualWidths, ItemsHaveUsualWidths};
+ghost use Rattle.lois_base.specs.Validity.{AdmitsConstraint, AdmitsTerm, AdmitsComp, AdmitsItems, HasBoundedWidths, ItemsHaveBoundedWidths};
 ghost use Rattle.lois_terms.specs.Guarded.{IsSet};
 ghost use Rattle.lois_algebra.specs.Selected.{IsSelection, IsSelectedGuard, IsNarrowed};
 ghost use Rattle.lois_algebra.specs.Sets.{IsIntersection, IsDifference};
 
-use crate::putting::put;
+use crate::putting::push_comp;
 use lois_base::{Comp, Comps, Constraint, NoMemory, Structure, Term};
 use lois_constraint::{and_not, meet};
 use lois_elim::quantifier_free;
@@ -28,7 +28,7 @@ pub fn inter<T: Structure>(alloc: Global, s: &Term, t: &Term, size: usize) -> Re
     ensures set { IfOk result (λ r. IsSet (tree r)) }
     ensures levels { IfOk result (λ r. Fits size (tree r)) }
     ensures operators { IfOk result (λ r. (ordered : Bool) → AdmitsTerm ordered (tree s.now) → AdmitsTerm ordered (tree t.now) → AdmitsTerm ordered (tree r)) }
-    ensures widths { IfOk result (λ r. HasUsualWidths (tree s.now) → HasUsualWidths (tree r)) }
+    ensures widths { IfOk result (λ r. HasBoundedWidths (tree s.now) → HasBoundedWidths (tree r)) }
 {
     match (s, t) {
         (Term::Coll(comps), Term::Coll(others)) => {
@@ -50,7 +50,7 @@ pub fn minus<T: Structure>(alloc: Global, s: &Term, t: &Term, size: usize) -> Re
     ensures set { IfOk result (λ r. IsSet (tree r)) }
     ensures levels { IfOk result (λ r. Fits size (tree r)) }
     ensures operators { IfOk result (λ r. (ordered : Bool) → AdmitsTerm ordered (tree s.now) → AdmitsTerm ordered (tree t.now) → AdmitsTerm ordered (tree r)) }
-    ensures widths { IfOk result (λ r. HasUsualWidths (tree s.now) → HasUsualWidths (tree r)) }
+    ensures widths { IfOk result (λ r. HasBoundedWidths (tree s.now) → HasBoundedWidths (tree r)) }
 {
     match (s, t) {
         (Term::Coll(comps), Term::Coll(others)) => {
@@ -75,13 +75,13 @@ fn selected<T: Structure>(
     ensures members { IfOk result (λ r. IsSelection size wanted (coll (comps_of comps.now)) (coll (comps_of others.now)) (coll (comps_of r))) }
     ensures levels { IfOk result (λ r. ItemsFit size (comps_of r)) }
     ensures operators { IfOk result (λ r. (ordered : Bool) → AdmitsItems ordered (comps_of comps.now) → AdmitsItems ordered (comps_of others.now) → AdmitsItems ordered (comps_of r)) }
-    ensures widths { IfOk result (λ r. ItemsHaveUsualWidths (comps_of comps.now) → ItemsHaveUsualWidths (comps_of r)) }
+    ensures widths { IfOk result (λ r. ItemsHaveBoundedWidths (comps_of comps.now) → ItemsHaveBoundedWidths (comps_of r)) }
 {
     let mut kept = Comps::new(alloc);
     for comp in comps.as_slice() {
         let guard = selected_guard::<T>(alloc, comp, others, size, wanted)?;
         let item = comp.item.copy(alloc)?;
-        put(
+        push_comp(
             &mut kept,
             Comp {
                 binders: comp.binders,

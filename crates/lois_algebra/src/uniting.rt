@@ -3,7 +3,7 @@
 ghost use Rattle.std.specs.Prelude.{◌≡◌, ℕ, ◌+◌, ◌<◌, ◌^◌, ◌++◌, Bool, [], ◌∷◌, IfOk, OnOk};
 ghost use Rattle.lois_base.specs.Fits.{Fits};
 ghost use Rattle.lois_base.specs.Tree.{tree, comp_of};
-ghost use Rattle.lois_base.specs.Validity.{AdmitsTerm, HasUsualWidths};
+ghost use Rattle.lois_base.specs.Validity.{AdmitsTerm, HasBoundedWidths};
 ghost use Rattle.lois_terms.specs.Guarded.{IsSet};
 ghost use Rattle.lois_algebra.specs.Sets.{IsUnion, HasAllAtoms};
 
@@ -18,7 +18,7 @@ pub fn union(alloc: Global, s: &Term, t: &Term) -> Result<Term, NoMemory>
     ensures set { IfOk result (λ r. IsSet (tree r)) }
     ensures levels { IfOk result (λ r. (n : ℕ) → Fits n (tree s.now) → Fits n (tree t.now) → Fits n (tree r)) }
     ensures operators { IfOk result (λ r. (ordered : Bool) → AdmitsTerm ordered (tree s.now) → AdmitsTerm ordered (tree t.now) → AdmitsTerm ordered (tree r)) }
-    ensures widths { IfOk result (λ r. HasUsualWidths (tree s.now) → HasUsualWidths (tree t.now) → HasUsualWidths (tree r)) }
+    ensures widths { IfOk result (λ r. HasBoundedWidths (tree s.now) → HasBoundedWidths (tree t.now) → HasBoundedWidths (tree r)) }
 {
     match (s, t) {
         (Term::Coll(comps), Term::Coll(others)) => {
@@ -46,17 +46,17 @@ pub fn all_atoms(alloc: Global, size: usize) -> Result<Term, NoMemory>
     ensures set { IfOk result (λ r. IsSet (tree r)) }
     ensures levels { IfOk result (λ r. Fits size (tree r)) }
     ensures operators { IfOk result (λ r. (ordered : Bool) → AdmitsTerm ordered (tree r)) }
-    ensures widths { IfOk result (λ r. HasUsualWidths (tree r)) }
+    ensures widths { IfOk result (λ r. HasBoundedWidths (tree r)) }
 {
     let comp = Comp {
         binders: 1,
         guard: Constraint::always(alloc)?,
         item: Term::Var(size),
     };
-    Ok(Term::Coll(alone(alloc, comp)?))
+    Ok(Term::Coll(singleton(alloc, comp)?))
 }
 
-fn alone(alloc: Global, comp: Comp) -> Result<Comps, NoMemory>
+fn singleton(alloc: Global, comp: Comp) -> Result<Comps, NoMemory>
     ensures { IfOk result (λ r. r ≡ comp_of comp ∷ []) }
 {
     let mut comps = Comps::new(alloc);

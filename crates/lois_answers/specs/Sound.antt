@@ -4,7 +4,7 @@ use Rattle.std.specs.List.{All}
 use Rattle.lois_base.specs.Data.{TermD, var, tag, tup, coll, TermsD, no_terms, term, CompD, comp, CompsD, no_comps, more, depth}
 use Rattle.lois_base.specs.Fits.{Fits, ConstraintFits}
 use Rattle.lois_base.specs.Names.{IsName}
-use Rattle.lois_base.specs.Validity.{AdmitsConstraint, AdmitsTerm, HasUsualWidths}
+use Rattle.lois_base.specs.Validity.{AdmitsConstraint, AdmitsTerm, HasBoundedWidths}
 use Rattle.lois_lexer.specs.Words.{reserved}
 use Rattle.lois_answers.specs.ResultsData.{LineD, CaseD}
 use Rattle.lois_answers.specs.declared.faults.Trace.{Trace}
@@ -38,7 +38,7 @@ abbrev mutual
 pub record IsSoundTerm (ordered : Bool) (n : ℕ) (t : TermD) : Type 0 where
   pub levels : Fits n t
   pub tags : HasTags t
-  pub widths : HasUsualWidths t
+  pub widths : HasBoundedWidths t
   pub operators : AdmitsTerm ordered t
   pub brackets : depth t ≤ 64
 

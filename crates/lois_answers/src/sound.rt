@@ -4,7 +4,7 @@ ghost use Rattle.std.specs.Prelude.{◌≡◌, ◌↔◌, ◌<◌, ◌≤◌, Is
 ghost use Rattle.std.specs.List.{All};
 ghost use Rattle.lois_base.specs.Data.{depth, depth_of_terms, depth_of_comps, terms_of, comps_of};
 ghost use Rattle.lois_base.specs.Tree.{tree, comp_of};
-ghost use Rattle.lois_base.specs.Validity.{is_admitted, AdmitsCube, AdmitsConstraint, AdmitsTerm, AdmitsParts, AdmitsItems, AdmitsComp, HasUsualWidths, PartsHaveUsualWidths, ItemsHaveUsualWidths};
+ghost use Rattle.lois_base.specs.Validity.{is_admitted, AdmitsCube, AdmitsConstraint, AdmitsTerm, AdmitsParts, AdmitsItems, AdmitsComp, HasBoundedWidths, PartsHaveBoundedWidths, ItemsHaveBoundedWidths};
 ghost use Rattle.lois_answers.specs.LineView.{line_of};
 ghost use Rattle.lois_answers.specs.CaseView.{case_of};
 ghost use Rattle.lois_answers.specs.Sound.{HasTags, PartsHaveTags, ItemsHaveTags, IsFreeName, IsSoundTerm, IsSoundLine, IsSoundCase, AreDistinct, AreParameters, IsSound, IsSoundTrace, IsPlaceNumber};
@@ -174,7 +174,7 @@ fn item_tags_are_names(comps: &Comps)
 #[cycle(widths)]
 #[tactic(auto, using(crate::proofs::Counts::count_is_length))]
 fn has_usual_widths(term: &Term) -> bool
-    ensures exact { IsTrue result ↔ HasUsualWidths (tree term.now) }
+    ensures exact { IsTrue result ↔ HasBoundedWidths (tree term.now) }
 {
     match term {
         Term::Var(_) => true,
@@ -190,7 +190,7 @@ fn has_usual_widths(term: &Term) -> bool
 
 #[cycle(widths)]
 fn parts_have_usual_widths(parts: &Terms) -> bool
-    ensures exact { IsTrue result ↔ PartsHaveUsualWidths (terms_of parts.now) }
+    ensures exact { IsTrue result ↔ PartsHaveBoundedWidths (terms_of parts.now) }
 {
     for part in parts.as_slice() {
         if !has_usual_widths(part) {
@@ -202,7 +202,7 @@ fn parts_have_usual_widths(parts: &Terms) -> bool
 
 #[cycle(widths)]
 fn items_have_usual_widths(comps: &Comps) -> bool
-    ensures exact { IsTrue result ↔ ItemsHaveUsualWidths (comps_of comps.now) }
+    ensures exact { IsTrue result ↔ ItemsHaveBoundedWidths (comps_of comps.now) }
 {
     for comp in comps.as_slice() {
         if !has_usual_widths(&comp.item) {

@@ -3,7 +3,7 @@ use Rattle.std.proofs.Common.{◌≡◌, ℕ, Bool, ◌⊎◌, inl, inr, ◌↔�
 use Rattle.lois_base.specs.Atom.{Atom}
 use Rattle.lois_base.specs.Data.{CompD, CompsD, no_comps, more, coll}
 use Rattle.lois_base.specs.Fits.{CompFits, ItemsFit}
-use Rattle.lois_base.specs.Validity.{AdmitsComp, AdmitsItems, CompHasUsualWidths, ItemsHaveUsualWidths}
+use Rattle.lois_base.specs.Validity.{AdmitsComp, AdmitsItems, CompHasBoundedWidths, ItemsHaveBoundedWidths}
 use Rattle.lois_base.specs.Values.{PointValue, point, IsIn}
 use Rattle.lois_algebra.specs.Gathered.{IsAmong, IsMadeBy, IsPut}
 use Rattle.lois_algebra.proofs.Among.{among_in}
@@ -20,7 +20,7 @@ adds_nothing n W F A U before never = record {
 
 -- one comprehension is put into the list
 pub added_put : (n : ℕ) (k : CompD) (W : List Atom → PointValue → Type 0) (F : Type 0) (A : Bool → Type 0) (U : Type 0) (before after : CompsD) → IsPut k before after →
-    ((c : List Atom) → length c ≡ n → (w : PointValue) → IsMadeBy k c w ↔ W c w) → (F → CompFits n k) → ((o : Bool) → A o → AdmitsComp o k) → (U → CompHasUsualWidths k) → Adds n W F A U before after
+    ((c : List Atom) → length c ≡ n → (w : PointValue) → IsMadeBy k c w ↔ W c w) → (F → CompFits n k) → ((o : Bool) → A o → AdmitsComp o k) → (U → CompHasBoundedWidths k) → Adds n W F A U before after
 added_put n k W F A U before after put same fits admits usual = record {
   members = λ c l w.
       let pushed = put.members c w in
@@ -38,7 +38,7 @@ pub record AddsSoFar (n : ℕ) (Rest W : List Atom → PointValue → Type 0) (F
   pub members : (c : List Atom) → length c ≡ n → (w : PointValue) → (IsAmong made c w ⊎ Rest c w) ↔ (IsAmong before c w ⊎ W c w)
   pub levels : F → ItemsFit n before → ItemsFit n made
   pub operators : (o : Bool) → A o → AdmitsItems o before → AdmitsItems o made
-  pub widths : U → ItemsHaveUsualWidths before → ItemsHaveUsualWidths made
+  pub widths : U → ItemsHaveBoundedWidths before → ItemsHaveBoundedWidths made
 
 module _ (n : ℕ) (W : List Atom → PointValue → Type 0) (F : Type 0) (A : Bool → Type 0) (U : Type 0) (before : CompsD) where
   pub adds_begin : AddsSoFar n W W F A U before before

@@ -9,9 +9,9 @@ use Rattle.lois_base.proofs.Members.{same_sym, same_trans}
 use Rattle.lois_algebra.specs.Gathered.{IsMadeBy}
 use Rattle.lois_meaning.specs.Automata.{IsPair, IsTriple}
 use Rattle.lois_meaning.proofs.Operations.{pair_to}
-use Rattle.lois_relate.specs.Apart.{AreApart}
+use Rattle.lois_relate.specs.Apart.{AreNeverSame}
 use Rattle.lois_automata.specs.Adding.{AddsOfTwo, IsMadeOfTwo, IsStepOf}
-use Rattle.lois_automata.specs.Columns.{AllAgree, pair_of, triple_of}
+use Rattle.lois_automata.specs.Projections.{AllAgree, pair_of, triple_of}
 use Rattle.lois_automata.specs.Throughout.{HoldsUnless}
 use Rattle.lois_automata.proofs.Adding.{adds_nothing}
 use Rattle.lois_automata.proofs.Tuples.{triple_to}
@@ -49,7 +49,7 @@ module _ (m : ℕ) (g : List (List Lit)) (t : TermD) (n : ℕ) (h : List (List L
   pub second_keyless : ((a b : TermD) → s ≡ pair_of a b → ⊥) → (c : List Atom) → AllAgree (IsMadeBy (comp m g t) c) (IsMadeBy (comp n h s) c)
   second_keyless never c = λ x y k v v' i j p p'. absurd (makes_no_pair n h s c y never j k v' p')
 
-  pub keys_apart : (a b a' b' : TermD) → t ≡ pair_of a b → s ≡ pair_of a' b' → AreApart a a' → (c : List Atom) → AllAgree (IsMadeBy (comp m g t) c) (IsMadeBy (comp n h s) c)
+  pub keys_apart : (a b a' b' : TermD) → t ≡ pair_of a b → s ≡ pair_of a' b' → AreNeverSame a a' → (c : List Atom) → AllAgree (IsMadeBy (comp m g t) c) (IsMadeBy (comp n h s) c)
   keys_apart a b a' b' is is' apart c = λ x y k v v' i j p p'.
       let one = makes_key m g t c x a b is i k v p in
       let two = makes_key n h s c y a' b' is' j k v' p' in
@@ -61,7 +61,7 @@ module _ (m : ℕ) (g : List (List Lit)) (t : TermD) (n : ℕ) (h : List (List L
   pub second_stepless : ((p l q : TermD) → s ≡ triple_of p l q → ⊥) → (c : List Atom) (w : PointValue) → IsMadeOfTwo IsStepOf (IsMadeBy (comp m g t) c) (IsMadeBy (comp n h s) c) w → ⊥
   second_stepless never c w (x, y, i, j, (P, L, P', Q, Q', S, S', one, two, i', j', made)) = makes_no_step n h s c y never j Q L Q' two
 
-  pub letters_apart : (p l q p' l' q' : TermD) → t ≡ triple_of p l q → s ≡ triple_of p' l' q' → AreApart l l' → (c : List Atom) (w : PointValue) → IsMadeOfTwo IsStepOf (IsMadeBy (comp m g t) c) (IsMadeBy (comp n h s) c) w → ⊥
+  pub letters_apart : (p l q p' l' q' : TermD) → t ≡ triple_of p l q → s ≡ triple_of p' l' q' → AreNeverSame l l' → (c : List Atom) (w : PointValue) → IsMadeOfTwo IsStepOf (IsMadeBy (comp m g t) c) (IsMadeBy (comp n h s) c) w → ⊥
   letters_apart p l q p' l' q' is is' apart c w (x, y, i, j, (P, L, P', Q, Q', S, S', one, two, i', j', made)) =
       let first = makes_letter m g t c x p l q is i P L P' one in
       let second = makes_letter n h s c y p' l' q' is' j Q L Q' two in

@@ -9,13 +9,13 @@ use Rattle.lois_base.specs.Truth.{holds, sampled}
 use Rattle.lois_base.specs.Values.{PointValue, point, IsSame, IsIn, IsIncluded}
 use Rattle.lois_base.specs.declared.guards.Lit.{Lit}
 use Rattle.lois_base.proofs.Members.{same_refl, same_sym, same_trans, in_same, in_included, member_in}
-use Rattle.lois_deciders.specs.Asked.{Parts}
+use Rattle.lois_deciders.specs.Satisfaction.{IsCounterexample}
 use Rattle.lois_meaning.specs.Automata.{IsPair, IsTriple, HasStep, IsDeterministic, IsComplete}
 use Rattle.lois_meaning.proofs.Operations.{pair_exists, pair_both, triple_both, step_move}
 use Rattle.lois_automata.specs.Built.{ArePairs}
-use Rattle.lois_automata.specs.Columns.{five_of, machine_at, IsStep, IsShaped, AreShaped, AreMisfits, AreTriples, ArePartsIn, HasOneAtMost, LeadsOnce, IsFunction, StepsJoin}
-use Rattle.lois_automata.specs.declared.columns.Shape.{Shape}
-use Rattle.lois_automata.specs.declared.columns.Shape.TheVariants.{Source, Label, Target, Outgoing, Keyed}
+use Rattle.lois_automata.specs.Projections.{five_of, automaton_at, IsStep, IsProjected, AreProjected, AreNonTriples, AreTriples, ArePartsIn, HasOneAtMost, HasUniqueTargets, IsFunction, StepsJoin}
+use Rattle.lois_automata.specs.declared.projections.Projection.{Projection}
+use Rattle.lois_automata.specs.declared.projections.Projection.TheVariants.{Source, Label, Target, Outgoing, Keyed}
 use Rattle.lois_automata.specs.declared.verdicts.Verdict.{Verdict}
 use Rattle.lois_automata.specs.declared.verdicts.Verdict.TheVariants.{Holds, Fails}
 use Rattle.lois_automata.specs.Machines.{IsAutomatonAt, IsDeterministicAt, IsCompleteAt}
@@ -58,7 +58,7 @@ triple_or_not_at (coll ks) d = inr (λ p l q h. h.3)
 
 module _ (n : ℕ) (t : CompsD) where
   -- no step is left over where each is a triple
-  pub all_triples : (others : TermD) → AreMisfits n (coll t) others → (c : List Atom) → length c ≡ n → IsIncluded (point others c) (point (coll no_comps) c) ↔ AreTriples (point (coll t) c)
+  pub all_triples : (others : TermD) → AreNonTriples n (coll t) others → (c : List Atom) → length c ≡ n → IsIncluded (point others c) (point (coll no_comps) c) ↔ AreTriples (point (coll t) c)
   all_triples others misfit c len = (there, back)
     where
       there : IsIncluded (point others c) (point (coll no_comps) c) → AreTriples (point (coll t) c)
@@ -73,7 +73,7 @@ module _ (n : ℕ) (t : CompsD) where
           let j = triples u h.0 in
           absurd (h.1 j.0 j.1 j.2 j.3)
 
-  pub parts_in : (shape : Shape) (parts whole : TermD) → AreShaped n shape (coll t) parts → (c : List Atom) → length c ≡ n → IsIncluded (point parts c) (point whole c) ↔ ArePartsIn shape (point (coll t) c) (point whole c)
+  pub parts_in : (shape : Projection) (parts whole : TermD) → AreProjected n shape (coll t) parts → (c : List Atom) → length c ≡ n → IsIncluded (point parts c) (point whole c) ↔ ArePartsIn shape (point (coll t) c) (point whole c)
   parts_in shape parts whole are c len = (
     λ inside w p l q step h. in_included w (point parts c) (point whole c) inside ((are c len w).1 (p, l, q, step, h)),
     λ all u i. let h = (are c len u).0 (member_in u (point parts c) i) in all u h.0 h.1 h.2 h.3 h.4,
@@ -111,25 +111,25 @@ steps_join states letters steps = (there, back)
             in_same j.1 u letters (same_sym u j.1 (same_trans u a j.1 same both.1)) j.5
 
 -- the steps are a function of state and letter
-pub led_once : (n : ℕ) (t : CompsD) (keyed : TermD) → AreShaped n Keyed (coll t) keyed → (c : List Atom) → length c ≡ n → IsFunction (point keyed c) ↔ LeadsOnce (point (coll t) c)
+pub led_once : (n : ℕ) (t : CompsD) (keyed : TermD) → AreProjected n Keyed (coll t) keyed → (c : List Atom) → length c ≡ n → IsFunction (point keyed c) ↔ HasUniqueTargets (point (coll t) c)
 led_once n t keyed are c len = (there, back)
   where
-    there : IsFunction (point keyed c) → LeadsOnce (point (coll t) c)
+    there : IsFunction (point keyed c) → HasUniqueTargets (point (coll t) c)
     there agree p a q r one two =
         let k = pair_exists p a in
         let x = pair_exists k.0 q in
         let y = pair_exists k.0 r in
         agree x.0 y.0 k.0 q r ((are c len x.0).1 (p, a, q, one, (k.0, k.1, x.1))) ((are c len y.0).1 (p, a, r, two, (k.0, k.1, y.1))) x.1 y.1
 
-    back : LeadsOnce (point (coll t) c) → IsFunction (point keyed c)
+    back : HasUniqueTargets (point (coll t) c) → IsFunction (point keyed c)
     back single x y k v v' in_x in_y h h' = go ((are c len x).0 in_x) ((are c len y).0 in_y)
       where
-        go : ((p a q : PointValue) × IsStep (point (coll t) c) p a q × IsShaped Keyed x p a q) → ((p a q : PointValue) × IsStep (point (coll t) c) p a q × IsShaped Keyed y p a q) → IsSame v v'
+        go : ((p a q : PointValue) × IsStep (point (coll t) c) p a q × IsProjected Keyed x p a q) → ((p a q : PointValue) × IsStep (point (coll t) c) p a q × IsProjected Keyed y p a q) → IsSame v v'
         go (p, a, q, one, (k1, m1, w1)) (p', a', q', two, (k2, m2, w2)) =
             let first : IsSame k1 k × IsSame q v = pair_both x x k1 q k v (same_refl x) w1 h in
             let second : IsSame k2 k × IsSame q' v' = pair_both y y k2 q' k v' (same_refl y) w2 h' in
             let keys : IsSame p' p × IsSame a' a = pair_both k2 k1 p' a' p a (same_trans k2 k k1 second.0 (same_sym k1 k first.0)) m2 m1 in
-            let moved : IsStep (point (coll t) c) p a q' = step_move (machine_at t t t t t c) p' a' q' p a q' keys.0 keys.1 (same_refl q') two in
+            let moved : IsStep (point (coll t) c) p a q' = step_move (automaton_at t t t t t c) p' a' q' p a q' keys.0 keys.1 (same_refl q') two in
             same_trans v q v' (same_sym q v first.1) (same_trans q q' v' (single p a q q' one moved) second.1)
 
 -- the pairs of members are a function where there is at most one
@@ -156,7 +156,7 @@ module _ (s l t i f : CompsD) (c : List Atom) where
     where
       there : StepsJoin (point (coll s) c) (point (coll l) c) (point (coll t) c) × (IsIncluded (point (coll i) c) (point (coll s) c) × IsIncluded (point (coll f) c) (point (coll s) c)) → IsAutomatonAt (five_of s l t i f) c
       there (join, (starts, ends)) = (
-        machine_at s l t i f c,
+        automaton_at s l t i f c,
         record {
           five = refl;
           states_set = tt;
@@ -175,37 +175,37 @@ module _ (s l t i f : CompsD) (c : List Atom) where
           let is = five_machine s l t i f c h in
           (is.steps_join, (λ u k. is.initial_states u (member_in u (point (coll i) c) k), λ u k. is.final_states u (member_in u (point (coll f) c) k)))
 
-  pub is_deterministic : IsAutomatonAt (five_of s l t i f) c → ((((w : PointValue) × IsIn w (point (coll i) c)) × HasOneAtMost (point (coll i) c)) × LeadsOnce (point (coll t) c)) ↔ IsDeterministicAt (five_of s l t i f) c
+  pub is_deterministic : IsAutomatonAt (five_of s l t i f) c → ((((w : PointValue) × IsIn w (point (coll i) c)) × HasOneAtMost (point (coll i) c)) × HasUniqueTargets (point (coll t) c)) ↔ IsDeterministicAt (five_of s l t i f) c
   is_deterministic h = (there, back)
     where
-      there : (((w : PointValue) × IsIn w (point (coll i) c)) × HasOneAtMost (point (coll i) c)) × LeadsOnce (point (coll t) c) → IsDeterministicAt (five_of s l t i f) c
-      there (((w, k), one), led) = (machine_at s l t i f c, five_machine s l t i f c h, ((w, k, λ q j. one w q k j), led))
+      there : (((w : PointValue) × IsIn w (point (coll i) c)) × HasOneAtMost (point (coll i) c)) × HasUniqueTargets (point (coll t) c) → IsDeterministicAt (five_of s l t i f) c
+      there (((w, k), one), led) = (automaton_at s l t i f c, five_machine s l t i f c h, ((w, k, λ q j. one w q k j), led))
 
-      back : IsDeterministicAt (five_of s l t i f) c → (((w : PointValue) × IsIn w (point (coll i) c)) × HasOneAtMost (point (coll i) c)) × LeadsOnce (point (coll t) c)
+      back : IsDeterministicAt (five_of s l t i f) c → (((w : PointValue) × IsIn w (point (coll i) c)) × HasOneAtMost (point (coll i) c)) × HasUniqueTargets (point (coll t) c)
       back (m, is, det) = go (subst IsDeterministic (five_equal s l t i f c m is) det)
         where
-          go : IsDeterministic (machine_at s l t i f c) → (((w : PointValue) × IsIn w (point (coll i) c)) × HasOneAtMost (point (coll i) c)) × LeadsOnce (point (coll t) c)
+          go : IsDeterministic (automaton_at s l t i f c) → (((w : PointValue) × IsIn w (point (coll i) c)) × HasOneAtMost (point (coll i) c)) × HasUniqueTargets (point (coll t) c)
           go ((p, k, only), single) = (((p, k), λ q r j j'. same_trans q p r (same_sym p q (only q j)) (only r j')), single)
 
-  pub is_complete : (n : ℕ) (wanted outgoing : TermD) → length c ≡ n → IsAutomatonAt (five_of s l t i f) c → ArePairs n (coll s) (coll l) wanted → AreShaped n Outgoing (coll t) outgoing → IsIncluded (point wanted c) (point outgoing c) ↔ IsCompleteAt (five_of s l t i f) c
+  pub is_complete : (n : ℕ) (wanted outgoing : TermD) → length c ≡ n → IsAutomatonAt (five_of s l t i f) c → ArePairs n (coll s) (coll l) wanted → AreProjected n Outgoing (coll t) outgoing → IsIncluded (point wanted c) (point outgoing c) ↔ IsCompleteAt (five_of s l t i f) c
   is_complete n wanted outgoing len h pairs are = (there, back)
     where
       there : IsIncluded (point wanted c) (point outgoing c) → IsCompleteAt (five_of s l t i f) c
-      there inside = (machine_at s l t i f c, five_machine s l t i f c h, full)
+      there inside = (automaton_at s l t i f c, five_machine s l t i f c h, full)
         where
-          full : IsComplete (machine_at s l t i f c)
+          full : IsComplete (automaton_at s l t i f c)
           full p a j k =
               let x = pair_exists p a in
               go x.0 x.1 ((are c len x.0).0 (in_included x.0 (point wanted c) (point outgoing c) inside ((pairs c len x.0).1 (p, a, j, k, x.1))))
             where
-              go : (x : PointValue) → IsPair x p a → ((p' a' q : PointValue) × IsStep (point (coll t) c) p' a' q × IsPair x p' a') → (q : PointValue) × HasStep (machine_at s l t i f c) p a q
+              go : (x : PointValue) → IsPair x p a → ((p' a' q : PointValue) × IsStep (point (coll t) c) p' a' q × IsPair x p' a') → (q : PointValue) × HasStep (automaton_at s l t i f c) p a q
               go x pair (p', a', q, step, pair') =
                   let both : IsSame p' p × IsSame a' a = pair_both x x p' a' p a (same_refl x) pair' pair in
-                  (q, step_move (machine_at s l t i f c) p' a' q p a q both.0 both.1 (same_refl q) step)
+                  (q, step_move (automaton_at s l t i f c) p' a' q p a q both.0 both.1 (same_refl q) step)
 
       back : IsCompleteAt (five_of s l t i f) c → IsIncluded (point wanted c) (point outgoing c)
       back (m, is, full) u k =
-          let whole : IsComplete (machine_at s l t i f c) = subst IsComplete (five_equal s l t i f c m is) full in
+          let whole : IsComplete (automaton_at s l t i f c) = subst IsComplete (five_equal s l t i f c m is) full in
           let w = (pairs c len u).0 (member_in u (point wanted c) k) in
           let step = whole w.0 w.1 w.2 w.3 in
           (are c len u).1 (w.0, w.1, step.0, step.1, w.4)
@@ -224,7 +224,7 @@ joined_where n s l t triples from to by ends parts r h from_is to_is by_is met1 
     let met = both_where n (λ d. AreTriples (point (coll t) d)) (λ d. (ArePartsIn Source (point (coll t) d) (point (coll s) d) × ArePartsIn Target (point (coll t) d) (point (coll s) d)) × ArePartsIn Label (point (coll t) d) (point (coll l) d)) triples parts r h all met3 c len in
     (λ x. one.0 (met.0 x), λ x. met.1 (one.1 x))
 
-pub parted_breaks : (n : ℕ) (u w : List (List Lit)) (s : List ℕ) → Parts n u w s → IsBreak n u (λ c. IsTrue (holds c w)) s
+pub parted_breaks : (n : ℕ) (u w : List (List Lit)) (s : List ℕ) → IsCounterexample n u w s → IsBreak n u (λ c. IsTrue (holds c w)) s
 parted_breaks n u w s (small, met, unmet) = record {
   count = small.count;
   admitted = met;
@@ -247,16 +247,16 @@ module _ (n : ℕ) (u : List (List Lit)) (a : TermD) (s l t i f : CompsD) (is : 
       (λ x. one.0 ((all c len).0 x), λ x. (all c len).1 (one.1 x))) told)
 
   module _ (automaton : HoldsThroughout n u (IsAutomatonAt a)) where
-    pub found_deterministic : (some one led start : List (List Lit)) → HoldsWhere n (λ c. (w : PointValue) × IsIn w (point (coll i) c)) some → HoldsWhere n (λ c. HasOneAtMost (point (coll i) c)) one → HoldsWhere n (λ c. LeadsOnce (point (coll t) c)) led →
+    pub found_deterministic : (some one led start : List (List Lit)) → HoldsWhere n (λ c. (w : PointValue) × IsIn w (point (coll i) c)) some → HoldsWhere n (λ c. HasOneAtMost (point (coll i) c)) one → HoldsWhere n (λ c. HasUniqueTargets (point (coll t) c)) led →
         ((d : List Atom) → holds d start ≡ (holds d some && holds d one)) → ((d : List Atom) → holds d wanted ≡ (holds d start && holds d led)) → IsVerdictOn n u (IsDeterministicAt a) v
     found_deterministic some one led start some_is one_is led_is met met' =
         let first = both_where n (λ c. (w : PointValue) × IsIn w (point (coll i) c)) (λ c. HasOneAtMost (point (coll i) c)) some one start some_is one_is met in
-        let all = both_where n (λ c. ((w : PointValue) × IsIn w (point (coll i) c)) × HasOneAtMost (point (coll i) c)) (λ c. LeadsOnce (point (coll t) c)) start led wanted first led_is met' in
+        let all = both_where n (λ c. ((w : PointValue) × IsIn w (point (coll i) c)) × HasOneAtMost (point (coll i) c)) (λ c. HasUniqueTargets (point (coll t) c)) start led wanted first led_is met' in
         subst (λ z. IsVerdictOn n u (IsDeterministicAt z) v) (sym is) (verdict_as n u (λ c. IsTrue (holds c wanted)) (IsDeterministicAt (five_of s l t i f)) v (λ c len m.
         let same = is_deterministic s l t i f c (subst (λ z. IsAutomatonAt z c) is (automaton c len m)) in
         (λ x. same.0 ((all c len).0 x), λ x. (all c len).1 (same.1 x))) told)
 
-    pub found_complete : (asked outgoing : TermD) → ArePairs n (coll s) (coll l) asked → AreShaped n Outgoing (coll t) outgoing → HoldsWhere n (λ c. IsIncluded (point asked c) (point outgoing c)) wanted → IsVerdictOn n u (IsCompleteAt a) v
+    pub found_complete : (asked outgoing : TermD) → ArePairs n (coll s) (coll l) asked → AreProjected n Outgoing (coll t) outgoing → HoldsWhere n (λ c. IsIncluded (point asked c) (point outgoing c)) wanted → IsVerdictOn n u (IsCompleteAt a) v
     found_complete asked outgoing pairs are inside =
         subst (λ z. IsVerdictOn n u (IsCompleteAt z) v) (sym is) (verdict_as n u (λ c. IsTrue (holds c wanted)) (IsCompleteAt (five_of s l t i f)) v (λ c len m.
         let same = is_complete s l t i f c n asked outgoing len (subst (λ z. IsAutomatonAt z c) is (automaton c len m)) pairs are in

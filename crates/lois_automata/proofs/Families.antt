@@ -14,7 +14,7 @@ use Rattle.lois_base.proofs.Connectives.{both_true}
 use Rattle.lois_base.proofs.Viewed.{rest_is}
 use Rattle.lois_relate.proofs.Parts.{comps_from, comps_are, no_comps_left}
 use Rattle.lois_rounds.specs.Families.{MemberD, FamilyD, AdmitsFamily, sizes}
-use Rattle.lois_automata.specs.Built.{IsFirstMember, AreFirstMembers, IsFreshMember, AreFreshMembers, IsJoinedMember, AreJoinedMembers, IsBlank}
+use Rattle.lois_automata.specs.Built.{IsFirstMember, AreFirstMembers, IsFreshMember, AreFreshMembers, IsJoinedMember, AreJoinedMembers, IsEmptyFamily}
 use Rattle.lois_automata.specs.Rounds.{is_over, held}
 use Rattle.lois_automata.proofs.Lists.{Completes, completes_more, completes_end, completes_begin}
 
@@ -88,17 +88,17 @@ pub alike_end : (f g : FamilyD) (i : ℕ) → length f ≤ i → length g ≤ i 
 alike_end f g i l l' h = h (drop_all i f l ∙ sym (drop_all i g l'))
 
 -- ---- blank
-pub blank_end : (f : FamilyD) (i : ℕ) → length f ≤ i → (IsBlank (drop i f) → IsBlank f) → IsBlank f
-blank_end f i l h = h (subst IsBlank (sym (drop_all i f l)) tt)
+pub blank_end : (f : FamilyD) (i : ℕ) → length f ≤ i → (IsEmptyFamily (drop i f) → IsEmptyFamily f) → IsEmptyFamily f
+blank_end f i l h = h (subst IsEmptyFamily (sym (drop_all i f l)) tt)
 
 no_cubes : (g : List (List Lit)) → length g ≡ 0 → g ≡ []
 no_cubes [] e = refl
 no_cubes (k ∷ g) e = absurd (omega arith)
 
-pub blank_more : (f : FamilyD) (i : ℕ) (m : MemberD) → i < length f → m ≡ get_or f i m → length m.1 ≡ 0 → (IsBlank (drop i f) → IsBlank f) → IsBlank (drop (i + 1) f) → IsBlank f
-blank_more f i m l is e h rest = h (subst IsBlank (sym (rest_is f i m l is)) (no_cubes m.1 e, rest))
+pub blank_more : (f : FamilyD) (i : ℕ) (m : MemberD) → i < length f → m ≡ get_or f i m → length m.1 ≡ 0 → (IsEmptyFamily (drop i f) → IsEmptyFamily f) → IsEmptyFamily (drop (i + 1) f) → IsEmptyFamily f
+blank_more f i m l is e h rest = h (subst IsEmptyFamily (sym (rest_is f i m l is)) (no_cubes m.1 e, rest))
 
-pub not_blank : (f : FamilyD) (i : ℕ) (m : MemberD) → i < length f → m ≡ get_or f i m → 0 < length m.1 → IsBlank f → ⊥
+pub not_blank : (f : FamilyD) (i : ℕ) (m : MemberD) → i < length f → m ≡ get_or f i m → 0 < length m.1 → IsEmptyFamily f → ⊥
 not_blank [] i m l is p h = absurd (omega arith)
 not_blank (n ∷ f) zero m l is p h = absurd (omega (arith, ap (λ z. length z.1) is, ap length h.0))
 not_blank (n ∷ f) (suc i) m l is p h = not_blank f i m (omega arith) is p h.1

@@ -8,21 +8,21 @@ use Rattle.lois_base.specs.Values.{PointValue, point, IsIn}
 use Rattle.lois_base.specs.declared.guards.Lit.{Lit}
 use Rattle.lois_algebra.specs.Sets.{IsIntersection, IsDifference}
 use Rattle.lois_terms.specs.Guarded.{IsSet}
-use Rattle.lois_meaning.specs.Automata.{Machine, IsAutomatonOf, Accepts, IsDeterministic, IsComplete, IsProductOf}
+use Rattle.lois_meaning.specs.Automata.{Automaton, IsAutomatonOf, Accepts, IsDeterministic, IsComplete, IsProductOf}
 use Rattle.lois_meaning.specs.Kinds.{IsSetOf}
 use Rattle.lois_meaning.proofs.Operations.{products_accept_both, complements_accept_others}
 use Rattle.lois_automata.specs.Built.{ArePairs}
-use Rattle.lois_automata.specs.Columns.{five_of, five_terms, machine_at, AreShaped, AreSideBySide}
-use Rattle.lois_automata.specs.declared.columns.Shape.TheVariants.{Move}
-use Rattle.lois_automata.specs.Machines.{IsAutomatonAt, IsReachAt, IsEmptyAt, AcceptsSomeAt, IsWholeAt, IsProductAt, IsComplementAt, AcceptsBothAt, AcceptsOthersAt}
-use Rattle.lois_automata.specs.Spread.{graph_at, IsReached}
+use Rattle.lois_automata.specs.Projections.{five_of, five_terms, automaton_at, AreProjected, AreSideBySide}
+use Rattle.lois_automata.specs.declared.projections.Projection.TheVariants.{Move}
+use Rattle.lois_automata.specs.Machines.{IsAutomatonAt, IsReachAt, IsEmptyAt, AcceptsSomeAt, IsCompleteDeterministicAt, IsProductAt, IsComplementAt, AcceptsBothAt, AcceptsOthersAt}
+use Rattle.lois_automata.specs.Reachability.{graph_at, IsReached}
 use Rattle.lois_automata.specs.Throughout.{HoldsThroughout, HoldsUnless}
 use Rattle.lois_automata.proofs.Machines.{product_automaton, with_final, is_complement, complement_automaton, accepts_some}
 use Rattle.lois_automata.proofs.ReachIs.{reach_exactly}
 
 module _ (s l t i f : CompsD) (c : List Atom) where
   -- an automaton that is its value has these five sets
-  pub five_equal : (m : Machine) → IsAutomatonOf (point (five_of s l t i f) c) m → m ≡ machine_at s l t i f c
+  pub five_equal : (m : Automaton) → IsAutomatonOf (point (five_of s l t i f) c) m → m ≡ automaton_at s l t i f c
   five_equal m is =
       let five : m.states ∷ m.letters ∷ m.steps ∷ m.initial ∷ m.final ∷ [] ≡ point (coll s) c ∷ point (coll l) c ∷ point (coll t) c ∷ point (coll i) c ∷ point (coll f) c ∷ [] = is.five in
       let e1 : m.states ≡ point (coll s) c = cc in
@@ -36,18 +36,18 @@ module _ (s l t i f : CompsD) (c : List Atom) where
       (subst (λ z. m ≡ record { states = point (coll s) c; letters = z; steps = m.steps; initial = m.initial; final = m.final }) e2
       (subst (λ z. m ≡ record { states = z; letters = m.letters; steps = m.steps; initial = m.initial; final = m.final }) e1 refl))))
 
-  pub five_machine : IsAutomatonAt (five_of s l t i f) c → IsAutomatonOf (point (five_of s l t i f) c) (machine_at s l t i f c)
+  pub five_machine : IsAutomatonAt (five_of s l t i f) c → IsAutomatonOf (point (five_of s l t i f) c) (automaton_at s l t i f c)
   five_machine (m, is) = subst (λ z. IsAutomatonOf (point (five_of s l t i f) c) z) (five_equal m is) is
 
-  pub is_reach : (n : ℕ) (moves r : TermD) → length c ≡ n → IsAutomatonAt (five_of s l t i f) c → AreShaped n Move (coll t) moves → IsSetOf (point r c) (IsReached (graph_at (coll s) (coll i) moves c)) → IsReachAt (five_of s l t i f) r c
+  pub is_reach : (n : ℕ) (moves r : TermD) → length c ≡ n → IsAutomatonAt (five_of s l t i f) c → AreProjected n Move (coll t) moves → IsSetOf (point r c) (IsReached (graph_at (coll s) (coll i) moves c)) → IsReachAt (five_of s l t i f) r c
   is_reach n moves r k h are set =
-      let m = machine_at s l t i f c in
+      let m = automaton_at s l t i f c in
       let is = five_machine h in
       let same = reach_exactly (point (five_of s l t i f) c) m is (point moves c) (are c k) in
       (m, is, (set.0, λ q. (λ x. (same q).0 ((set.1 q).0 x), λ x. (set.1 q).1 ((same q).1 x))))
 
   -- a set of the reachable final states has a member exactly where some word is accepted
-  tells_words : (n : ℕ) (r found : TermD) → length c ≡ n → IsReachAt (five_of s l t i f) r c → IsIntersection n r (coll f) found → (a : Machine) × IsAutomatonOf (point (five_of s l t i f) c) a × (((x : PointValue) × IsIn x (point found c)) ↔ ((word : List PointValue) × Accepts a word))
+  tells_words : (n : ℕ) (r found : TermD) → length c ≡ n → IsReachAt (five_of s l t i f) r c → IsIntersection n r (coll f) found → (a : Automaton) × IsAutomatonOf (point (five_of s l t i f) c) a × (((x : PointValue) × IsIn x (point found c)) ↔ ((word : List PointValue) × Accepts a word))
   tells_words n r found k (a, is, set) both =
       let final : point (coll f) c ≡ a.final = subst (λ z. point (coll f) c ≡ z.final) (sym (five_equal a is)) refl in
       let among : (x : PointValue) → IsIn x (point found c) ↔ (IsIn x (point r c) × IsIn x a.final) = subst (λ z. (x : PointValue) → IsIn x (point found c) ↔ (IsIn x (point r c) × IsIn x z)) final (both c k) in
@@ -58,7 +58,7 @@ module _ (s l t i f : CompsD) (c : List Atom) where
       (IsTrue b ↔ IsEmptyAt (five_of s l t i f) c) × (IsFalse b → AcceptsSomeAt (five_of s l t i f) c)
   is_empty n r found b k reach both unless = of (tells_words n r found k reach both)
     where
-      of : (a : Machine) × IsAutomatonOf (point (five_of s l t i f) c) a × (((x : PointValue) × IsIn x (point found c)) ↔ ((word : List PointValue) × Accepts a word)) → (IsTrue b ↔ IsEmptyAt (five_of s l t i f) c) × (IsFalse b → AcceptsSomeAt (five_of s l t i f) c)
+      of : (a : Automaton) × IsAutomatonOf (point (five_of s l t i f) c) a × (((x : PointValue) × IsIn x (point found c)) ↔ ((word : List PointValue) × Accepts a word)) → (IsTrue b ↔ IsEmptyAt (five_of s l t i f) c) × (IsFalse b → AcceptsSomeAt (five_of s l t i f) c)
       of (a, is, words) = (
         (λ x. (a, is, λ word accepted. unless.0 x (words.1 (word, accepted))), λ empty. go b unless.1 empty),
         λ x. (a, is, words.0 (unless.1 x)),
@@ -70,10 +70,10 @@ module _ (s l t i f : CompsD) (c : List Atom) where
               let word = words.0 (some refl) in
               absurd (never word.0 (subst (λ z. Accepts z word.0) (five_equal a is ∙ sym (five_equal m own)) word.1))
 
-  pub is_complement_at : (n : ℕ) (final : CompsD) → length c ≡ n → IsWholeAt (five_of s l t i f) c → IsDifference n (coll s) (coll f) (coll final) → IsComplementAt (five_of s l t i f) (five_of s l t i final) c × AcceptsOthersAt (five_of s l t i f) (five_of s l t i final) c
+  pub is_complement_at : (n : ℕ) (final : CompsD) → length c ≡ n → IsCompleteDeterministicAt (five_of s l t i f) c → IsDifference n (coll s) (coll f) (coll final) → IsComplementAt (five_of s l t i f) (five_of s l t i final) c × AcceptsOthersAt (five_of s l t i f) (five_of s l t i final) c
   is_complement_at n final k (m, is, one, whole) others =
       let v = point (five_of s l t i f) c in
-      let a = machine_at s l t i f c in
+      let a = automaton_at s l t i f c in
       let own = five_machine (m, is) in
       let r = with_final a (point (coll final) c) in
       let made = is_complement v a own (point (coll final) c) tt (others c k) in
@@ -93,9 +93,9 @@ module _ (s l t i f s' l' t' i' f' rs rl rt ri rf : CompsD) (n : ℕ) (c : List 
   pub is_product_at : length c ≡ n → IsAutomatonAt (five_of s l t i f) c → IsAutomatonAt (five_of s' l' t' i' f') c → ArePairs n (coll s) (coll s') (coll rs) → IsIntersection n (coll l) (coll l') (coll rl) → AreSideBySide n (coll t) (coll t') (coll rt) → ArePairs n (coll i) (coll i') (coll ri) → ArePairs n (coll f) (coll f') (coll rf) →
       IsProductAt (five_of s l t i f) (five_of s' l' t' i' f') (five_of rs rl rt ri rf) c × AcceptsBothAt (five_of s l t i f) (five_of s' l' t' i' f') (five_of rs rl rt ri rf) c
   is_product_at k h h' states letters steps initial final =
-      let a = machine_at s l t i f c in
-      let b = machine_at s' l' t' i' f' c in
-      let m = machine_at rs rl rt ri rf c in
+      let a = automaton_at s l t i f c in
+      let b = automaton_at s' l' t' i' f' c in
+      let m = automaton_at rs rl rt ri rf c in
       let is = five_machine s l t i f c h in
       let is' = five_machine s' l' t' i' f' c h' in
       let made : IsProductOf m a b = record {
@@ -121,7 +121,7 @@ module _ (s l t i f s' l' t' i' f' rs rl rt ri rf : CompsD) (n : ℕ) (c : List 
 -- ---- throughout the choices that a constraint admits
 module _ (n : ℕ) (u : List (List Lit)) (a r : TermD) (s l t i f : CompsD) (is : a ≡ five_of s l t i f) where
   -- the states, the letters, the steps and the initial states stay, and others are final
-  pub complement_throughout : (s2 l2 t2 i2 f2 : CompsD) (others : TermD) → HoldsThroughout n u (IsWholeAt a) → IsSet others → IsDifference n (coll s2) (coll f2) others → s2 ≡ s → l2 ≡ l → t2 ≡ t → i2 ≡ i → f2 ≡ f →
+  pub complement_throughout : (s2 l2 t2 i2 f2 : CompsD) (others : TermD) → HoldsThroughout n u (IsCompleteDeterministicAt a) → IsSet others → IsDifference n (coll s2) (coll f2) others → s2 ≡ s → l2 ≡ l → t2 ≡ t → i2 ≡ i → f2 ≡ f →
       r ≡ five_terms (coll s2) (coll l2) (coll t2) (coll i2) others → HoldsThroughout n u (IsComplementAt a r) × HoldsThroughout n u (AcceptsOthersAt a r)
   complement_throughout s2 l2 t2 i2 f2 others whole set difference es el et ei ef made =
       let final : CompsD = set.0 in
@@ -129,7 +129,7 @@ module _ (n : ℕ) (u : List (List Lit)) (a r : TermD) (s l t i f : CompsD) (is 
       let one : IsDifference n (coll s2) (coll f2) (coll final) = subst (λ z. IsDifference n (coll s2) (coll f2) z) set.1 difference in
       let two : IsDifference n (coll s) (coll f) (coll final) = subst (λ z. IsDifference n (coll z) (coll f) (coll final)) es (subst (λ z. IsDifference n (coll s2) (coll z) (coll final)) ef one) in
       let both : (c : List Atom) → length c ≡ n → IsTrue (holds c u) → IsComplementAt a r c × AcceptsOthersAt a r c = λ c k h.
-      let at = is_complement_at s l t i f c n final k (subst (λ z. IsWholeAt z c) is (whole c k h)) two in
+      let at = is_complement_at s l t i f c n final k (subst (λ z. IsCompleteDeterministicAt z c) is (whole c k h)) two in
       subst (λ z. IsComplementAt z r c × AcceptsOthersAt z r c) (sym is) (subst (λ z. IsComplementAt (five_of s l t i f) z c × AcceptsOthersAt (five_of s l t i f) z c) (sym here) at) in
       (λ c k h. (both c k h).0, λ c k h. (both c k h).1)
 

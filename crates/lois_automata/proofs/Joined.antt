@@ -5,7 +5,7 @@ use Rattle.lois_base.specs.Atom.{Atom}
 use Rattle.lois_base.specs.Data.{TermD, coll, CompD, comp, CompsD}
 use Rattle.lois_base.specs.Fits.{CompFits, Fits}
 use Rattle.lois_base.specs.Truth.{holds}
-use Rattle.lois_base.specs.Validity.{AdmitsConstraint, AdmitsTerm, AdmitsComp, HasUsualWidths, CompHasUsualWidths}
+use Rattle.lois_base.specs.Validity.{AdmitsConstraint, AdmitsTerm, AdmitsComp, HasBoundedWidths, CompHasBoundedWidths}
 use Rattle.lois_base.specs.Values.{PointValue, point, IsSame, IsIn, IsExtension}
 use Rattle.lois_base.specs.declared.guards.Lit.{Lit}
 use Rattle.lois_base.proofs.Members.{same_refl, same_sym, same_trans}
@@ -16,7 +16,7 @@ use Rattle.lois_meaning.proofs.Automata.{triple_same}
 use Rattle.lois_meaning.proofs.Operations.{pair_same, pair_to}
 use Rattle.lois_automata.specs.Adding.{IsMadeOfTwo, IsPairOf, IsStepOf, AddsOfTwo}
 use Rattle.lois_automata.specs.Built.{AreBeside, ArePairs}
-use Rattle.lois_automata.specs.Columns.{IsStep, AreSideBySide, pair_of, triple_of}
+use Rattle.lois_automata.specs.Projections.{IsStep, AreSideBySide, pair_of, triple_of}
 use Rattle.lois_automata.proofs.Adding.{added_put, adds_nothing, two_among}
 use Rattle.lois_automata.proofs.Joints.{made_of_two}
 use Rattle.lois_automata.proofs.Written.{pair_is, triple_is, triple_here, triple_term}
@@ -27,7 +27,7 @@ pair_of_same x y w x' y' w' a b s h = pair_to w w' x' y' s (pair_parts w x y x' 
 
 module _ (n : ℕ) (k q : CompD) (m : ℕ) (g : List (List Lit)) (one two : TermD) (beside : AreBeside n k q m g one two) where
   pub adds_pair : (before after : CompsD) → IsPut (comp m g (pair_of one two)) before after → CompFits n (comp m g (pair_of one two)) →
-      ((o : Bool) → AdmitsComp o k → AdmitsComp o q → AdmitsConstraint o g × AdmitsTerm o one × AdmitsTerm o two) → (CompHasUsualWidths k → HasUsualWidths one) → (CompHasUsualWidths q → HasUsualWidths two) → AddsOfTwo IsPairOf n k q before after
+      ((o : Bool) → AdmitsComp o k → AdmitsComp o q → AdmitsConstraint o g × AdmitsTerm o one × AdmitsTerm o two) → (CompHasBoundedWidths k → HasBoundedWidths one) → (CompHasBoundedWidths q → HasBoundedWidths two) → AddsOfTwo IsPairOf n k q before after
   adds_pair before after put fits admits first second = added_put n (comp m g (pair_of one two)) _ _ _ _ before after put
       (made_of_two n k q m g one two beside IsPairOf g (pair_of one two) pair_of_same
       (λ c e l x. (x, pair_is one two (c ++ e)))
@@ -118,7 +118,7 @@ module _ (n : ℕ) (k q : CompD) (m : ℕ) (g found guard : List (List Lit)) (p 
       (record { count = x.count; guard = met d ∙ (both_true (holds d g) (holds d found)).1 (x.guard, (is d all).1 f.0) }, f.1)
 
   pub adds_step : (before after : CompsD) → IsPut (comp m guard (step_term p l p' r r')) before after → CompFits n (comp m guard (step_term p l p' r r')) →
-      ((o : Bool) → AdmitsComp o k → AdmitsComp o q → AdmitsConstraint o guard × AdmitsTerm o (triple_of p l p') × AdmitsTerm o (triple_of r b r')) → (CompHasUsualWidths k → HasUsualWidths (triple_of p l p')) → (CompHasUsualWidths q → HasUsualWidths (triple_of r b r')) → AddsOfTwo IsStepOf n k q before after
+      ((o : Bool) → AdmitsComp o k → AdmitsComp o q → AdmitsConstraint o guard × AdmitsTerm o (triple_of p l p') × AdmitsTerm o (triple_of r b r')) → (CompHasBoundedWidths k → HasBoundedWidths (triple_of p l p')) → (CompHasBoundedWidths q → HasBoundedWidths (triple_of r b r')) → AddsOfTwo IsStepOf n k q before after
   adds_step before after put fits admits first second = added_put n (comp m guard (step_term p l p' r r')) _ _ _ _ before after put
       (made_of_two n k q m g (triple_of p l p') (triple_of r b r') beside IsStepOf guard (step_term p l p' r r') step_of_same made only)
       (λ f. fits)
@@ -128,7 +128,7 @@ module _ (n : ℕ) (k q : CompD) (m : ℕ) (g found guard : List (List Lit)) (p 
 -- the step as it is put into the list
 pub step_put : (n : ℕ) (k q : CompD) (m : ℕ) (g found guard : List (List Lit)) (one two p l p' r b r' item : TermD) (before after : CompsD) → one ≡ triple_of p l p' → two ≡ triple_of r b r' → item ≡ step_term p l p' r r' → AreBeside n k q m g one two →
     ((d : List Atom) → length d ≡ n + m → IsTrue (holds d found) ↔ IsSame (point l d) (point b d)) → ((d : List Atom) → holds d guard ≡ (holds d g && holds d found)) → IsPut (comp m guard item) before after → CompFits n (comp m guard one) → Fits (n + m) two →
-    ((o : Bool) → AdmitsComp o k → AdmitsComp o q → AdmitsConstraint o g × AdmitsTerm o one × AdmitsTerm o two) → ((o : Bool) → AdmitsConstraint o g → AdmitsTerm o l → AdmitsTerm o b → AdmitsConstraint o guard) → (CompHasUsualWidths k → HasUsualWidths one) → (CompHasUsualWidths q → HasUsualWidths two) → AddsOfTwo IsStepOf n k q before after
+    ((o : Bool) → AdmitsComp o k → AdmitsComp o q → AdmitsConstraint o g × AdmitsTerm o one × AdmitsTerm o two) → ((o : Bool) → AdmitsConstraint o g → AdmitsTerm o l → AdmitsTerm o b → AdmitsConstraint o guard) → (CompHasBoundedWidths k → HasBoundedWidths one) → (CompHasBoundedWidths q → HasBoundedWidths two) → AddsOfTwo IsStepOf n k q before after
 step_put n k q m g found guard one two p l p' r b r' item before after e1 e2 e3 beside is met put fits second admits own widths widths' =
     let x : Fits (n + m) (triple_of p l p') = subst (λ z. Fits (n + m) z) e1 fits.2 in
     let y : Fits (n + m) (triple_of r b r') = subst (λ z. Fits (n + m) z) e2 second in
@@ -139,7 +139,7 @@ step_put n k q m g found guard one two p l p' r b r' item before after e1 e2 e3 
     let one_admits : AdmitsTerm o (triple_of p l p') = subst (λ z. AdmitsTerm o z) e1 h.1 in
     let two_admits : AdmitsTerm o (triple_of r b r') = subst (λ z. AdmitsTerm o z) e2 h.2 in
     (own o h.0 one_admits.1.0 two_admits.1.0, one_admits, two_admits))
-    (λ u. subst HasUsualWidths e1 (widths u)) (λ u. subst HasUsualWidths e2 (widths' u))
+    (λ u. subst HasBoundedWidths e1 (widths u)) (λ u. subst HasBoundedWidths e2 (widths' u))
 
 pub are_side_by_side : (n : ℕ) (ks qs made : CompsD) → ((c : List Atom) → length c ≡ n → (w : PointValue) → IsIn w (point (coll made) c) ↔ IsMadeOfTwo IsStepOf (IsAmong ks c) (IsAmong qs c) w) → AreSideBySide n (coll ks) (coll qs) (coll made)
 are_side_by_side n ks qs made same c l w = (

@@ -11,13 +11,13 @@ use Rattle.lois_base.specs.declared.guards.Lit.{Lit}
 use Rattle.lois_base.proofs.Members.{same_refl, same_sym, same_trans}
 use Rattle.lois_algebra.specs.Gathered.{IsMadeBy}
 use Rattle.lois_base.proofs.Connectives.{both_true}
-use Rattle.lois_terms.specs.Raised.{IsRaised, IsPlacedGuard, IsPlacedItem}
+use Rattle.lois_terms.specs.Shifted.{IsShifted, IsPlacedGuard, IsPlacedItem}
 use Rattle.lois_automata.specs.Adding.{IsMadeOfTwo}
 use Rattle.lois_automata.specs.Built.{AreBeside}
 use Rattle.lois_automata.proofs.Members.{longer_is, raised_same}
 
 -- the binders of the second behind those of the first
-module _ (n m m' : ℕ) (g h placed guard : List (List Lit)) (s t raised item : TermD) (g_fits : ConstraintFits (n + m) g) (guard_is : (d : List Atom) → holds d guard ≡ (holds d g && holds d placed)) (placed_guard : IsPlacedGuard n (n + m) h placed) (is_raised : IsRaised (n + m) m' s raised) (placed_item : IsPlacedItem n (n + m) t item) where
+module _ (n m m' : ℕ) (g h placed guard : List (List Lit)) (s t raised item : TermD) (g_fits : ConstraintFits (n + m) g) (guard_is : (d : List Atom) → holds d guard ≡ (holds d g && holds d placed)) (placed_guard : IsPlacedGuard n (n + m) h placed) (is_raised : IsShifted (n + m) m' s raised) (placed_item : IsPlacedItem n (n + m) t item) where
   there : (c a b : List Atom) → length c ≡ n → IsExtension c m g a → IsExtension c m' h b →
       IsExtension c (m + m') guard (a ++ b) × IsSame (point raised (c ++ (a ++ b))) (point s (c ++ a)) × IsSame (point item (c ++ (a ++ b))) (point t (c ++ b))
   there c a b l x y =

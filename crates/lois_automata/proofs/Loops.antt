@@ -4,7 +4,7 @@ use Rattle.lois_base.specs.Atom.{Atom}
 use Rattle.lois_base.specs.Data.{CompD, CompsD, no_comps, comps_of}
 use Rattle.lois_base.specs.Fits.{CompFits, ItemsFit}
 use Rattle.lois_base.specs.Tree.{comp_of}
-use Rattle.lois_base.specs.Validity.{AdmitsComp, AdmitsItems, CompHasUsualWidths, ItemsHaveUsualWidths}
+use Rattle.lois_base.specs.Validity.{AdmitsComp, AdmitsItems, CompHasBoundedWidths, ItemsHaveBoundedWidths}
 use Rattle.lois_base.specs.Values.{PointValue}
 use Rattle.lois_base.specs.declared.values.Comp.{Comp}
 use Rattle.lois_algebra.specs.Gathered.{IsAmong, IsMadeBy}
@@ -15,17 +15,17 @@ use Rattle.lois_automata.proofs.Adding.{AddsSoFar, adds_begin, adds_more, adds_e
 -- of each comprehension of the list vs something is made; X says what further operators have to be admitted
 module _ (R : List Atom → PointValue → PointValue → Type 0) (X : Bool → Type 0) (n : ℕ) (vs : List CompD) where
   abbrev pub AddsOnes : CompsD → Type 0
-  AddsOnes made = Adds n (λ c. IsMadeOfOne (R c) (IsAmong (comps_of vs) c)) (ItemsFit n (comps_of vs)) (λ o. AdmitsItems o (comps_of vs) × X o) (ItemsHaveUsualWidths (comps_of vs)) no_comps made
+  AddsOnes made = Adds n (λ c. IsMadeOfOne (R c) (IsAmong (comps_of vs) c)) (ItemsFit n (comps_of vs)) (λ o. AdmitsItems o (comps_of vs) × X o) (ItemsHaveBoundedWidths (comps_of vs)) no_comps made
 
   abbrev pub OnesSoFar : CompsD → CompsD → Type 0
-  OnesSoFar rest made = AddsSoFar n (λ c. IsMadeOfOne (R c) (IsAmong rest c)) (λ c. IsMadeOfOne (R c) (IsAmong (comps_of vs) c)) (ItemsFit n (comps_of vs)) (λ o. AdmitsItems o (comps_of vs) × X o) (ItemsHaveUsualWidths (comps_of vs)) no_comps made
+  OnesSoFar rest made = AddsSoFar n (λ c. IsMadeOfOne (R c) (IsAmong rest c)) (λ c. IsMadeOfOne (R c) (IsAmong (comps_of vs) c)) (ItemsFit n (comps_of vs)) (λ o. AdmitsItems o (comps_of vs) × X o) (ItemsHaveBoundedWidths (comps_of vs)) no_comps made
 
   pub ones_begin : (items : List Comp) (made : List CompD) → map comp_of items ≡ vs → made ≡ [] → OnesSoFar (comps_from items 0) (comps_of made)
   ones_begin items made e empty =
       subst (λ z. OnesSoFar (comps_of z) (comps_of made)) (sym e) (subst (λ z. OnesSoFar (comps_of vs) (comps_of z)) (sym empty) (adds_begin n _ _ _ _ no_comps))
 
   pub ones_more : (A : Bool → Type 0) (items : List Comp) (i : ℕ) (k : Comp) (made longer : CompsD) → map comp_of items ≡ vs → i < length items → k ≡ get_or items i k → ((o : Bool) → AdmitsComp o (comp_of k) × X o → A o) →
-      OnesSoFar (comps_from items i) made → Adds n (λ c. IsMadeOfOne (R c) (IsMadeBy (comp_of k) c)) (CompFits n (comp_of k)) A (CompHasUsualWidths (comp_of k)) made longer → OnesSoFar (comps_from items (i + 1)) longer
+      OnesSoFar (comps_from items i) made → Adds n (λ c. IsMadeOfOne (R c) (IsMadeBy (comp_of k) c)) (CompFits n (comp_of k)) A (CompHasBoundedWidths (comp_of k)) made longer → OnesSoFar (comps_from items (i + 1)) longer
   ones_more A items i k made longer e l is admits h add =
       let of : IsCompOf vs k = is_comp_of items vs i k e l is in
       adds_more n _ _ _ _ no_comps _ _ _ _ _ _ made longer (one_split R (comps_from items i) (comps_from items (i + 1)) (comp_of k) (comps_are items i k l is))
@@ -38,7 +38,7 @@ module _ (R : PointValue → PointValue → PointValue → Type 0) (n : ℕ) whe
   -- of the comprehension k and each comprehension of the list
   module _ (k : CompD) (qs : List CompD) (before : CompsD) where
     abbrev pub SecondsSoFar : CompsD → CompsD → Type 0
-    SecondsSoFar rest made = AddsSoFar n (λ c. IsMadeOfTwo R (IsMadeBy k c) (IsAmong rest c)) (λ c. IsMadeOfTwo R (IsMadeBy k c) (IsAmong (comps_of qs) c)) (CompFits n k × ItemsFit n (comps_of qs)) (λ o. AdmitsComp o k × AdmitsItems o (comps_of qs)) (CompHasUsualWidths k × ItemsHaveUsualWidths (comps_of qs)) before made
+    SecondsSoFar rest made = AddsSoFar n (λ c. IsMadeOfTwo R (IsMadeBy k c) (IsAmong rest c)) (λ c. IsMadeOfTwo R (IsMadeBy k c) (IsAmong (comps_of qs) c)) (CompFits n k × ItemsFit n (comps_of qs)) (λ o. AdmitsComp o k × AdmitsItems o (comps_of qs)) (CompHasBoundedWidths k × ItemsHaveBoundedWidths (comps_of qs)) before made
 
     pub seconds_begin : (items : List Comp) → map comp_of items ≡ qs → SecondsSoFar (comps_from items 0) before
     seconds_begin items e = subst (λ z. SecondsSoFar (comps_of z) before) (sym e) (adds_begin n _ _ _ _ before)
@@ -56,10 +56,10 @@ module _ (R : PointValue → PointValue → PointValue → Type 0) (n : ℕ) whe
   -- of each comprehension of the one list and each of the other
   module _ (ks qs : List CompD) where
     abbrev pub AddsTwos : CompsD → Type 0
-    AddsTwos made = Adds n (λ c. IsMadeOfTwo R (IsAmong (comps_of ks) c) (IsAmong (comps_of qs) c)) (ItemsFit n (comps_of ks) × ItemsFit n (comps_of qs)) (λ o. AdmitsItems o (comps_of ks) × AdmitsItems o (comps_of qs)) (ItemsHaveUsualWidths (comps_of ks) × ItemsHaveUsualWidths (comps_of qs)) no_comps made
+    AddsTwos made = Adds n (λ c. IsMadeOfTwo R (IsAmong (comps_of ks) c) (IsAmong (comps_of qs) c)) (ItemsFit n (comps_of ks) × ItemsFit n (comps_of qs)) (λ o. AdmitsItems o (comps_of ks) × AdmitsItems o (comps_of qs)) (ItemsHaveBoundedWidths (comps_of ks) × ItemsHaveBoundedWidths (comps_of qs)) no_comps made
 
     abbrev pub FirstsSoFar : CompsD → CompsD → Type 0
-    FirstsSoFar rest made = AddsSoFar n (λ c. IsMadeOfTwo R (IsAmong rest c) (IsAmong (comps_of qs) c)) (λ c. IsMadeOfTwo R (IsAmong (comps_of ks) c) (IsAmong (comps_of qs) c)) (ItemsFit n (comps_of ks) × ItemsFit n (comps_of qs)) (λ o. AdmitsItems o (comps_of ks) × AdmitsItems o (comps_of qs)) (ItemsHaveUsualWidths (comps_of ks) × ItemsHaveUsualWidths (comps_of qs)) no_comps made
+    FirstsSoFar rest made = AddsSoFar n (λ c. IsMadeOfTwo R (IsAmong rest c) (IsAmong (comps_of qs) c)) (λ c. IsMadeOfTwo R (IsAmong (comps_of ks) c) (IsAmong (comps_of qs) c)) (ItemsFit n (comps_of ks) × ItemsFit n (comps_of qs)) (λ o. AdmitsItems o (comps_of ks) × AdmitsItems o (comps_of qs)) (ItemsHaveBoundedWidths (comps_of ks) × ItemsHaveBoundedWidths (comps_of qs)) no_comps made
 
     pub firsts_begin : (items : List Comp) (made : List CompD) → map comp_of items ≡ ks → made ≡ [] → FirstsSoFar (comps_from items 0) (comps_of made)
     firsts_begin items made e empty =

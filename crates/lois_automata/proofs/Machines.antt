@@ -2,12 +2,12 @@
 use Rattle.std.proofs.Common.{◌↔◌, List, [], ◌∷◌}
 use Rattle.lois_base.specs.Values.{PointValue, IsIn}
 use Rattle.lois_base.proofs.Members.{same_refl}
-use Rattle.lois_meaning.specs.Automata.{Machine, IsPair, IsTriple, JoinsStates, IsAutomatonOf, HasStep, Accepts, IsReachable, IsProductOf, IsComplementOf}
+use Rattle.lois_meaning.specs.Automata.{Automaton, IsPair, IsTriple, JoinsStates, IsAutomatonOf, HasStep, Accepts, IsReachable, IsProductOf, IsComplementOf}
 use Rattle.lois_meaning.specs.Kinds.{IsSet, HasParts}
 use Rattle.lois_meaning.proofs.Operations.{accepts_by_reach}
 use Rattle.lois_automata.proofs.Paths.{source_in, letter_in, target_in}
 
-module _ (v w : PointValue) (a b m : Machine) (is : IsAutomatonOf v a) (is' : IsAutomatonOf w b) (made : IsProductOf m a b) where
+module _ (v w : PointValue) (a b m : Automaton) (is : IsAutomatonOf v a) (is' : IsAutomatonOf w b) (made : IsProductOf m a b) where
   pair_in : (s p q : PointValue) → IsPair s p q → IsIn p a.states → IsIn q b.states → IsIn s m.states
   pair_in s p q h i j = (made.states.1 s).1 (p, q, i, j, h)
 
@@ -39,10 +39,10 @@ module _ (v w : PointValue) (a b m : Machine) (is : IsAutomatonOf v a) (is' : Is
   }
 
 -- the automaton with other final states
-abbrev pub with_final : Machine → PointValue → Machine
+abbrev pub with_final : Automaton → PointValue → Automaton
 with_final a final = record { states = a.states; letters = a.letters; steps = a.steps; initial = a.initial; final = final }
 
-module _ (v : PointValue) (a : Machine) (is : IsAutomatonOf v a) (final : PointValue) (set : IsSet final) (others : (x : PointValue) → IsIn x final ↔ (IsIn x a.states × (IsIn x a.final → ⊥))) where
+module _ (v : PointValue) (a : Automaton) (is : IsAutomatonOf v a) (final : PointValue) (set : IsSet final) (others : (x : PointValue) → IsIn x final ↔ (IsIn x a.states × (IsIn x a.final → ⊥))) where
   pub is_complement : IsComplementOf (with_final a final) a
   is_complement = record {
     states = same_refl a.states;
@@ -66,7 +66,7 @@ module _ (v : PointValue) (a : Machine) (is : IsAutomatonOf v a) (final : PointV
   }
 
 -- some reachable state is final exactly where some word is accepted
-pub accepts_some : (a : Machine) (reached found : PointValue) → ((x : PointValue) → IsIn x reached ↔ IsReachable a x) → ((x : PointValue) → IsIn x found ↔ (IsIn x reached × IsIn x a.final)) → ((x : PointValue) × IsIn x found) ↔ ((word : List PointValue) × Accepts a word)
+pub accepts_some : (a : Automaton) (reached found : PointValue) → ((x : PointValue) → IsIn x reached ↔ IsReachable a x) → ((x : PointValue) → IsIn x found ↔ (IsIn x reached × IsIn x a.final)) → ((x : PointValue) × IsIn x found) ↔ ((word : List PointValue) × Accepts a word)
 accepts_some a reached found are both = (
   λ h. let i = (both h.0).0 h.1 in (accepts_by_reach a).1 (h.0, (are h.0).0 i.0, i.1),
   λ h. let q = (accepts_by_reach a).0 h in (q.0, (both q.0).1 ((are q.0).1 q.1, q.2)),

@@ -9,15 +9,15 @@ use Rattle.lois_base.specs.Truth.{holds}
 use Rattle.lois_base.specs.Values.{point, SameAt, IsSame}
 use Rattle.lois_base.specs.declared.guards.Lit.{Lit}
 use Rattle.lois_base.proofs.Truths.{holds_longer}
-use Rattle.lois_constraint.specs.Met.{IsPruned}
+use Rattle.lois_constraint.specs.Entailment.{IsPruned}
 use Rattle.lois_elim.specs.Bound.{AgreesWith}
 use Rattle.lois_base.proofs.Connectives.{both_true, either_true, not_true}
 use Rattle.lois_relate.specs.Relations.{HoldsWhereItemIn}
 use Rattle.lois_rounds.specs.Families.{MemberD}
-use Rattle.lois_terms.specs.Raised.{IsRaised}
+use Rattle.lois_terms.specs.Shifted.{IsShifted}
 use Rattle.lois_automata.specs.Built.{HoldsWhereIn, HoldsWhereAdmittedIn, IsFreshMember, IsJoinedMember}
 
-pub raised_same : (n m : ℕ) (t raised : TermD) → IsRaised n m t raised → (c e : List Atom) → length c ≡ n → length e ≡ m → IsSame (point raised (c ++ e)) (point t c)
+pub raised_same : (n m : ℕ) (t raised : TermD) → IsShifted n m t raised → (c e : List Atom) → length c ≡ n → length e ≡ m → IsSame (point raised (c ++ e)) (point t c)
 raised_same n m t raised is_raised c e k l =
     let here : SameAt raised (c ++ (e ++ [])) t (c ++ []) = is_raised c e [] k l in
     subst (λ z. SameAt raised (c ++ z) t c) (append-nil e) (subst (λ z. SameAt raised (c ++ (e ++ [])) t z) (append-nil c) here)

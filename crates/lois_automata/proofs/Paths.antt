@@ -2,14 +2,14 @@
 use Rattle.std.proofs.Common.{List, [], ◌∷◌}
 use Rattle.lois_base.specs.Values.{PointValue, IsSame, IsIn}
 use Rattle.lois_base.proofs.Members.{same_refl, same_sym, in_same}
-use Rattle.lois_meaning.specs.Automata.{Machine, JoinsStates, IsAutomatonOf, HasStep, Reads, IsReachable}
+use Rattle.lois_meaning.specs.Automata.{Automaton, JoinsStates, IsAutomatonOf, HasStep, Reads, IsReachable}
 use Rattle.lois_meaning.proofs.Automata.{SameMachine}
 use Rattle.lois_meaning.proofs.Operations.{triple_both}
 
-pub machine_refl : (a : Machine) → SameMachine a a
+pub machine_refl : (a : Automaton) → SameMachine a a
 machine_refl a = record { states = same_refl a.states; letters = same_refl a.letters; steps = same_refl a.steps; initial = same_refl a.initial; final = same_refl a.final }
 
-module _ (v : PointValue) (a : Machine) (is : IsAutomatonOf v a) where
+module _ (v : PointValue) (a : Automaton) (is : IsAutomatonOf v a) where
   pub source_in : (p l q : PointValue) → HasStep a p l q → IsIn p a.states
   source_in p l q (x, i, t) =
       let j : JoinsStates x a = is.steps_join x i in

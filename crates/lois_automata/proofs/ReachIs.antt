@@ -2,15 +2,15 @@
 use Rattle.std.proofs.Common.{ℕ, zero, suc, inl, inr, ◌↔◌, List, [], ◌∷◌}
 use Rattle.lois_base.specs.Values.{PointValue, IsSame, IsIn}
 use Rattle.lois_base.proofs.Members.{same_refl, in_same}
-use Rattle.lois_meaning.specs.Automata.{Machine, IsPair, IsAutomatonOf, HasStep, Reads, IsReachable}
+use Rattle.lois_meaning.specs.Automata.{Automaton, IsPair, IsAutomatonOf, HasStep, Reads, IsReachable}
 use Rattle.lois_meaning.proofs.Automata.{step_same}
 use Rattle.lois_meaning.proofs.Operations.{pair_exists}
-use Rattle.lois_automata.specs.Spread.{Graph, LeadsTo, IsReachedBy, IsReached}
+use Rattle.lois_automata.specs.Reachability.{Graph, LeadsTo, IsReachedBy, IsReached}
 use Rattle.lois_meaning.proofs.Operations.{pair_both, reach_step}
 use Rattle.lois_automata.proofs.Paths.{machine_refl, target_in}
 use Rattle.lois_automata.proofs.Tuples.{leads_same}
 
-module _ (v : PointValue) (a : Machine) (is : IsAutomatonOf v a) (moves : PointValue) (made : (w : PointValue) → IsIn w moves ↔ ((p l q : PointValue) × HasStep a p l q × IsPair w p q)) where
+module _ (v : PointValue) (a : Automaton) (is : IsAutomatonOf v a) (moves : PointValue) (made : (w : PointValue) → IsIn w moves ↔ ((p l q : PointValue) × HasStep a p l q × IsPair w p q)) where
   abbrev pub states_graph : Graph
   states_graph = record { nodes = a.states; start = a.initial; moves = moves }
 

@@ -14,9 +14,9 @@ use Rattle.lois_meaning.specs.Kinds.{IsSetOf}
 use Rattle.lois_rounds.specs.Families.{MemberD, FamilyD, AreWeakened, IsWeakened}
 use Rattle.lois_rounds.specs.Rounds.{OnlyWeakens, IsFirstUnchanged}
 use Rattle.lois_automata.specs.Built.{AreFirstMembers}
-use Rattle.lois_automata.specs.Rounds.{Frame, is_over, held, IsSpreadMember, AreSpread, SpreadsIf, Spreads}
+use Rattle.lois_automata.specs.Rounds.{RoundParameters, is_over, held, IsPropagatedMember, ArePropagated, PropagatesIf, Propagates}
 use Rattle.lois_automata.specs.RoundsLaw.{IsOver, is_over_true, equal_weakened}
-use Rattle.lois_automata.specs.Spread.{graph_at, IsReachedBy, IsReached}
+use Rattle.lois_automata.specs.Reachability.{graph_at, IsReachedBy, IsReached}
 use Rattle.lois_automata.specs.Throughout.{HoldsThroughout}
 use Rattle.lois_automata.proofs.SpreadAfter.{holds_reached}
 use Rattle.std.proofs.lemmas.List.{take-append-drop, length-take, length-drop}
@@ -48,7 +48,7 @@ module _ (n : ℕ) (u : List (List Lit)) (t : TermD) (c : List Atom) (l : length
       )
 
 -- rounds only make members weaker
-member_weakened : (x : Frame) (f : FamilyD) (m : ℕ) (g : List (List Lit)) (t : TermD) (b a : MemberD) → b.0 ≡ x.size + m → IsSpreadMember x f m g t b a → IsWeakened b a
+member_weakened : (x : RoundParameters) (f : FamilyD) (m : ℕ) (g : List (List Lit)) (t : TermD) (b a : MemberD) → b.0 ≡ x.size + m → IsPropagatedMember x f m g t b a → IsWeakened b a
 member_weakened x f m g t b a over h = record {
   size = sym h.size;
   truth = λ d l p.
@@ -59,20 +59,20 @@ member_weakened x f m g t b a over h = record {
       subst (λ z. IsTrue (holds z a.1)) joint ((h.truth (take x.size d) (drop x.size d) lc le).1 (inl (subst (λ z. IsTrue (holds z b.1)) (sym joint) p)));
 }
 
-spread_weakened : (x : Frame) (f : FamilyD) (ks : CompsD) (b a : FamilyD) → IsOver x.size ks b → AreSpread x f ks b a → AreWeakened b a
+spread_weakened : (x : RoundParameters) (f : FamilyD) (ks : CompsD) (b a : FamilyD) → IsOver x.size ks b → ArePropagated x f ks b a → AreWeakened b a
 spread_weakened x f no_comps [] [] over h = tt
 spread_weakened x f (more (comp m g t) ks) (p ∷ b) (q ∷ a) over h = (member_weakened x f m g t p q over.0 h.0, spread_weakened x f ks b a over.1 h.1)
 spread_weakened x f _ _ _ over h = absurd (assumption (over, h))
 
-pub only_weakens : (x : Frame) → OnlyWeakens (Spreads x)
+pub only_weakens : (x : RoundParameters) → OnlyWeakens (Propagates x)
 only_weakens x f g fits led = go (is_over x.size x.nodes f) refl led
   where
-    go : (b : Bool) → is_over x.size x.nodes f ≡ b → SpreadsIf b x f g → AreWeakened f g
+    go : (b : Bool) → is_over x.size x.nodes f ≡ b → PropagatesIf b x f g → AreWeakened f g
     go true e h = spread_weakened x f x.nodes f g (is_over_true x.size x.nodes f e) h
     go false e h = equal_weakened f g h
 
 -- what the code's set is
-pub is_reached_set : (x : Frame) (start : TermD) (first f : FamilyD) → AreFirstMembers x.size x.under start x.nodes first → IsFirstUnchanged (Spreads x) first f →
+pub is_reached_set : (x : RoundParameters) (start : TermD) (first f : FamilyD) → AreFirstMembers x.size x.under start x.nodes first → IsFirstUnchanged (Propagates x) first f →
     HoldsThroughout x.size x.under (λ c. IsSetOf (point (coll (held x.nodes f)) c) (IsReached (graph_at (coll x.nodes) start x.moves c)))
 is_reached_set x start first f are unchanged c l admitted = (
   tt,

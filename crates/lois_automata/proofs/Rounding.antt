@@ -8,7 +8,7 @@ use Rattle.std.specs.Bool.{IsTrue}
 use Rattle.lois_base.specs.Atom.{Atom}
 use Rattle.lois_base.specs.Data.{TermD, coll, comp, CompsD, no_comps, more}
 use Rattle.lois_base.specs.Fits.{ConstraintFits, ItemsFit}
-use Rattle.lois_base.specs.Validity.{AdmitsCube, AdmitsConstraint, AdmitsItems, ItemsHaveUsualWidths}
+use Rattle.lois_base.specs.Validity.{AdmitsCube, AdmitsConstraint, AdmitsItems, ItemsHaveBoundedWidths}
 use Rattle.lois_base.specs.Truth.{holds}
 use Rattle.lois_base.specs.Values.{PointValue, point, IsIn}
 use Rattle.lois_base.specs.declared.guards.Lit.{Lit}
@@ -18,10 +18,10 @@ use Rattle.lois_algebra.proofs.Among.{among_in}
 use Rattle.lois_rounds.specs.Families.{MemberD, FamilyD, MemberFits, FamilyFits, AdmitsFamily, AreEquivalent, IsEquivalent, AreWeakened, sizes}
 use Rattle.lois_rounds.specs.Equivalences.{equivalent_refl}
 use Rattle.lois_rounds.specs.Rounds.{LeavesEquivalent}
-use Rattle.lois_automata.specs.Built.{AreTargets, IsFreshMember, AreFreshMembers, IsJoinedMember, AreJoinedMembers, IsBlank}
-use Rattle.lois_automata.specs.Rounds.{Frame, is_over, held, IsLedTo, IsSpreadMember, AreSpread, SpreadsIf, Spreads, IsSettledMember, AreSettled, IsSettled}
+use Rattle.lois_automata.specs.Built.{AreTargets, IsFreshMember, AreFreshMembers, IsJoinedMember, AreJoinedMembers, IsEmptyFamily}
+use Rattle.lois_automata.specs.Rounds.{RoundParameters, is_over, held, IsLedTo, IsPropagatedMember, ArePropagated, PropagatesIf, Propagates, IsSettledMember, AreSettled, IsSettled}
 use Rattle.lois_automata.specs.RoundsLaw.{IsOver, is_over_true, held_weaker, equal_weakened}
-use Rattle.lois_automata.specs.Spread.{LeadsTo}
+use Rattle.lois_automata.specs.Reachability.{LeadsTo}
 use Rattle.lois_automata.proofs.SpreadAfter.{spreads_where, where_spreads}
 
 -- true or not
@@ -62,7 +62,7 @@ weakened_sizes [] [] h = refl
 weakened_sizes (a ∷ g) (b ∷ f) h = rw (h.0.size, weakened_sizes g f h.1)
 weakened_sizes _ _ h = absurd (assumption h)
 
-module _ (x : Frame) (f g : FamilyD) (targets : TermD) (are : AreTargets x.size x.moves (coll (held x.nodes g)) targets) (within : AreWeakened g f) (g_over : IsOver x.size x.nodes g) where
+module _ (x : RoundParameters) (f g : FamilyD) (targets : TermD) (are : AreTargets x.size x.moves (coll (held x.nodes g)) targets) (within : AreWeakened g f) (g_over : IsOver x.size x.nodes g) where
   led_from : (c : List Atom) → length c ≡ x.size → (w : PointValue) → IsIn w (point targets c) → (p : PointValue) × IsAmong (held x.nodes g) c p × LeadsTo (point x.moves c) p w
   led_from c l w i =
       let t = (are c l w).0 i in
@@ -87,7 +87,7 @@ module _ (x : Frame) (f g : FamilyD) (targets : TermD) (are : AreTargets x.size 
       let new = led_from c k (point t (c ++ e)) y.2 in
       record { admitted = y.0; guard = y.1; from = (new.0, held_weaker x.size x.nodes g f c new.0 k g_over within new.1, new.2) }
 
-  joined_one : (m : ℕ) (q : List (List Lit)) (t : TermD) (b r a : MemberD) → IsFreshMember x.size x.under targets m q t b r → IsSettledMember x f g m q t b → IsJoinedMember b r a → IsSpreadMember x f m q t b a
+  joined_one : (m : ℕ) (q : List (List Lit)) (t : TermD) (b r a : MemberD) → IsFreshMember x.size x.under targets m q t b r → IsSettledMember x f g m q t b → IsJoinedMember b r a → IsPropagatedMember x f m q t b a
   joined_one m q t b r a fresh settled joined = record {
     size = joined.size;
     truth = λ c e k l. (
@@ -96,12 +96,12 @@ module _ (x : Frame) (f g : FamilyD) (targets : TermD) (are : AreTargets x.size 
     );
   }
 
-  joined_spread : (ks : CompsD) (b r a : FamilyD) → AreFreshMembers x.size x.under targets ks b r → AreSettled x f g ks b → AreJoinedMembers b r a → AreSpread x f ks b a
+  joined_spread : (ks : CompsD) (b r a : FamilyD) → AreFreshMembers x.size x.under targets ks b r → AreSettled x f g ks b → AreJoinedMembers b r a → ArePropagated x f ks b a
   joined_spread no_comps [] [] [] fresh settled joined = tt
   joined_spread (more (comp m q t) ks) (p ∷ b) (o ∷ r) (s ∷ a) fresh settled joined = (joined_one m q t p o s fresh.0 settled.0 joined.0, joined_spread ks b r a fresh.1 settled.1 joined.1)
   joined_spread _ _ _ _ fresh settled joined = absurd (assumption (fresh, joined))
 
-  blank_spread : (ks : CompsD) (b r : FamilyD) → AreFreshMembers x.size x.under targets ks b r → AreSettled x f g ks b → IsBlank r → AreSpread x f ks b b
+  blank_spread : (ks : CompsD) (b r : FamilyD) → AreFreshMembers x.size x.under targets ks b r → AreSettled x f g ks b → IsEmptyFamily r → ArePropagated x f ks b b
   blank_spread no_comps [] [] fresh settled blank = tt
   blank_spread (more (comp m q t) ks) (p ∷ b) (o ∷ r) fresh settled blank = (
     record {
@@ -122,7 +122,7 @@ module _ (x : Frame) (f g : FamilyD) (targets : TermD) (are : AreTargets x.size 
   blank_spread _ _ _ fresh settled blank = absurd (assumption fresh)
 
   -- where a round changes nothing, nothing is fresh
-  no_cubes : (m : ℕ) (q : List (List Lit)) (t : TermD) (b r a : MemberD) (ks : List (List Lit)) → r.1 ≡ ks → b.0 ≡ x.size + m → MemberFits r → IsFreshMember x.size x.under targets m q t b r → IsSpreadMember x f m q t b a → IsEquivalent b a → ks ≡ []
+  no_cubes : (m : ℕ) (q : List (List Lit)) (t : TermD) (b r a : MemberD) (ks : List (List Lit)) → r.1 ≡ ks → b.0 ≡ x.size + m → MemberFits r → IsFreshMember x.size x.under targets m q t b r → IsPropagatedMember x f m q t b a → IsEquivalent b a → ks ≡ []
   no_cubes m q t b r a [] is over fits fresh spread same = refl
   no_cubes m q t b r a (k ∷ ks) is over fits fresh spread same =
       let n = x.size + m in
@@ -139,7 +139,7 @@ module _ (x : Frame) (f g : FamilyD) (targets : TermD) (are : AreTargets x.size 
       let after : IsTrue (holds (c ++ e) a.1) = (spread.truth c e lc le).1 (inr (fresh_led m q t b r fresh c e lc le here)) in
       absurd (((fresh.truth c e lc le).0 here).3 (same.truth (c ++ e) all ∙ after))
 
-  same_blank : (ks : CompsD) (b r a : FamilyD) → IsOver x.size ks b → FamilyFits r → AreFreshMembers x.size x.under targets ks b r → AreSpread x f ks b a → AreEquivalent b a → IsBlank r
+  same_blank : (ks : CompsD) (b r a : FamilyD) → IsOver x.size ks b → FamilyFits r → AreFreshMembers x.size x.under targets ks b r → ArePropagated x f ks b a → AreEquivalent b a → IsEmptyFamily r
   same_blank no_comps [] [] [] over fits fresh spread same = tt
   same_blank (more (comp m q t) ks) (p ∷ b) (o ∷ r) (s ∷ a) over fits fresh spread same =
       (no_cubes m q t p o s o.1 refl over.0 (All-head MemberFits o r fits) fresh.0 spread.0 same.0, same_blank ks b r a over.1 (All-tail MemberFits o r fits) fresh.1 spread.1 same.1)
@@ -152,13 +152,13 @@ module _ (x : Frame) (f g : FamilyD) (targets : TermD) (are : AreTargets x.size 
   fresh_within _ _ _ _ fresh joined = absurd (assumption (fresh, joined))
 
   module _ (over : is_over x.size x.nodes f ≡ true) (settled : AreSettled x f g x.nodes f) (fresh : FamilyD) (fits : FamilyFits fresh) (are_fresh : AreFreshMembers x.size x.under targets x.nodes f fresh) where
-    pub led_on : (h : FamilyD) → AreJoinedMembers f fresh h → Spreads x f h
+    pub led_on : (h : FamilyD) → AreJoinedMembers f fresh h → Propagates x f h
     led_on h joined = where_spreads x f h over (joined_spread x.nodes f fresh h are_fresh settled joined)
 
-    pub left_alone : IsBlank fresh → LeavesEquivalent (Spreads x) f
+    pub left_alone : IsEmptyFamily fresh → LeavesEquivalent (Propagates x) f
     left_alone blank = (f, where_spreads x f f over (blank_spread x.nodes f fresh are_fresh settled blank), equivalent_refl f)
 
-    pub changed : (IsBlank fresh → ⊥) → LeavesEquivalent (Spreads x) f → ⊥
+    pub changed : (IsEmptyFamily fresh → ⊥) → LeavesEquivalent (Propagates x) f → ⊥
     changed never (h, led, same) = never (same_blank x.nodes f fresh h (is_over_true x.size x.nodes f over) fits are_fresh (spreads_where x f h over led) same)
 
     -- moves lead from f to nothing that the round's answer doesn't hold
@@ -169,7 +169,7 @@ module _ (x : Frame) (f g : FamilyD) (targets : TermD) (are : AreTargets x.size 
       operators = λ o. joined_admits o f fresh h joined;
     }
       where
-        settle : (ks : CompsD) (b a : FamilyD) → AreSpread x f ks b a → AreSettled x h fresh ks a
+        settle : (ks : CompsD) (b a : FamilyD) → ArePropagated x f ks b a → AreSettled x h fresh ks a
         settle no_comps b a spread = tt
         settle (more (comp m q t) ks) b [] spread = tt
         settle (more (comp m q t) ks) [] (s ∷ a) spread = absurd spread
@@ -182,7 +182,7 @@ module _ (x : Frame) (f g : FamilyD) (targets : TermD) (are : AreTargets x.size 
         )
 
 -- of any family all may be new
-pub all_new : (x : Frame) (f : FamilyD) → IsSettled x f f
+pub all_new : (x : RoundParameters) (f : FamilyD) → IsSettled x f f
 all_new x f = record { within = equal_weakened f f (equivalent_refl f); settled = go x.nodes f; operators = λ o h. h }
   where
     go : (ks : CompsD) (b : FamilyD) → AreSettled x f f ks b
@@ -191,8 +191,8 @@ all_new x f = record { within = equal_weakened f f (equivalent_refl f); settled 
     go (more (comp m q t) ks) (r ∷ b) = (λ c e k l led other. absurd (other led), go ks b)
 
 -- a family that isn't one over the nodes is left alone
-pub other_left : (x : Frame) (f : FamilyD) → is_over x.size x.nodes f ≡ false → LeavesEquivalent (Spreads x) f
-other_left x f e = (f, subst (λ b. SpreadsIf b x f f) (sym e) (equivalent_refl f), equivalent_refl f)
+pub other_left : (x : RoundParameters) (f : FamilyD) → is_over x.size x.nodes f ≡ false → LeavesEquivalent (Propagates x) f
+other_left x f e = (f, subst (λ b. PropagatesIf b x f f) (sym e) (equivalent_refl f), equivalent_refl f)
 
 pub fresh_sizes : (n : ℕ) (u : List (List Lit)) (t : TermD) (ks : CompsD) (b r : FamilyD) → AreFreshMembers n u t ks b r → sizes r ≡ sizes b
 fresh_sizes n u t no_comps [] [] h = refl
@@ -216,7 +216,7 @@ over_sizes n ks [] (b ∷ g) e = absurd (cc)
 over_sizes n ks (a ∷ f) [] e = absurd (cc)
 
 -- what is new in a family over the nodes is a family over the nodes
-pub news_over : (x : Frame) (f g : FamilyD) → IsSettled x f g → is_over x.size x.nodes f ≡ true → IsOver x.size x.nodes g
+pub news_over : (x : RoundParameters) (f g : FamilyD) → IsSettled x f g → is_over x.size x.nodes f ≡ true → IsOver x.size x.nodes g
 news_over x f g settled over = is_over_true x.size x.nodes g (over_sizes x.size x.nodes g f (weakened_sizes g f settled.within) ∙ over)
 
 pub held_fits : (n : ℕ) (ks : CompsD) (f : FamilyD) → IsOver n ks f → FamilyFits f → ItemsFit n ks → ItemsFit n (held ks f)
@@ -231,7 +231,7 @@ held_admits o (more (comp m g t) ks) [] a h = tt
 held_admits o (more (comp m g t) ks) (r ∷ f) a h =
     ((All-head (λ z. AdmitsConstraint o z.1) r f a, h.0.1), held_admits o ks f (All-tail (λ z. AdmitsConstraint o z.1) r f a) h.1)
 
-pub held_widths : (ks : CompsD) (f : FamilyD) → ItemsHaveUsualWidths ks → ItemsHaveUsualWidths (held ks f)
+pub held_widths : (ks : CompsD) (f : FamilyD) → ItemsHaveBoundedWidths ks → ItemsHaveBoundedWidths (held ks f)
 held_widths no_comps f h = tt
 held_widths (more (comp m g t) ks) [] h = tt
 held_widths (more (comp m g t) ks) (r ∷ f) h = (h.0, held_widths ks f h.1)

@@ -12,13 +12,13 @@ use Rattle.lois_algebra.proofs.Among.{among_in}
 use Rattle.lois_rounds.specs.Equivalences.{equivalent_sym}
 use Rattle.lois_rounds.specs.Families.{MemberD, FamilyD}
 use Rattle.lois_rounds.specs.Rounds.{LeadsAfter, LeavesEquivalent, IsFirstUnchanged}
-use Rattle.lois_automata.specs.Spread.{Graph, LeadsTo, IsReachedBy, IsReached}
-use Rattle.lois_automata.specs.Rounds.{Frame, is_over, held, IsSpreadMember, AreSpread, SpreadsIf, Spreads}
+use Rattle.lois_automata.specs.Reachability.{Graph, LeadsTo, IsReachedBy, IsReached}
+use Rattle.lois_automata.specs.Rounds.{RoundParameters, is_over, held, IsPropagatedMember, ArePropagated, PropagatesIf, Propagates}
 use Rattle.lois_automata.specs.RoundsLaw.{is_over_true, held_same}
 use Rattle.lois_automata.proofs.Tuples.{leads_same}
 
 -- a round keeps the sizes
-spread_over : (x : Frame) (n : ℕ) (f : FamilyD) (ks : CompsD) (b a : FamilyD) → AreSpread x f ks b a → is_over n ks a ≡ is_over n ks b
+spread_over : (x : RoundParameters) (n : ℕ) (f : FamilyD) (ks : CompsD) (b a : FamilyD) → ArePropagated x f ks b a → is_over n ks a ≡ is_over n ks b
 spread_over x n f no_comps [] [] h = refl
 spread_over x n f no_comps [] (s ∷ a) h = absurd h
 spread_over x n f no_comps (r ∷ b) [] h = absurd h
@@ -28,18 +28,18 @@ spread_over x n f (more (comp m q t) ks) (r ∷ b) [] h = absurd h
 spread_over x n f (more (comp m q t) ks) (r ∷ b) (s ∷ a) h = rw (h.0.size, spread_over x n f ks b a h.1)
 
 -- where a family over the nodes is led
-pub spreads_where : (x : Frame) (f g : FamilyD) → is_over x.size x.nodes f ≡ true → Spreads x f g → AreSpread x f x.nodes f g
-spreads_where x f g e h = subst (λ b. SpreadsIf b x f g) e h
+pub spreads_where : (x : RoundParameters) (f g : FamilyD) → is_over x.size x.nodes f ≡ true → Propagates x f g → ArePropagated x f x.nodes f g
+spreads_where x f g e h = subst (λ b. PropagatesIf b x f g) e h
 
-pub where_spreads : (x : Frame) (f g : FamilyD) → is_over x.size x.nodes f ≡ true → AreSpread x f x.nodes f g → Spreads x f g
-where_spreads x f g e h = subst (λ b. SpreadsIf b x f g) (sym e) h
+pub where_spreads : (x : RoundParameters) (f g : FamilyD) → is_over x.size x.nodes f ≡ true → ArePropagated x f x.nodes f g → Propagates x f g
+where_spreads x f g e h = subst (λ b. PropagatesIf b x f g) (sym e) h
 
-module _ (x : Frame) (c : List Atom) (l : length c ≡ x.size) (admitted : IsTrue (holds c x.under)) where
+module _ (x : RoundParameters) (c : List Atom) (l : length c ≡ x.size) (admitted : IsTrue (holds c x.under)) where
   -- a move leads to the node w from what the family holds
   abbrev pub IsNext : FamilyD → CompsD → PointValue → Type 0
   IsNext f ks w = IsAmong ks c w × ((p : PointValue) × IsAmong (held x.nodes f) c p × LeadsTo (point x.moves c) p w)
 
-  spread_one : (f : FamilyD) (m : ℕ) (q : List (List Lit)) (t : TermD) (b a : MemberD) (w : PointValue) → IsSpreadMember x f m q t b a →
+  spread_one : (f : FamilyD) (m : ℕ) (q : List (List Lit)) (t : TermD) (b a : MemberD) (w : PointValue) → IsPropagatedMember x f m q t b a →
       IsMadeBy (comp m a.1 t) c w ↔ (IsMadeBy (comp m b.1 t) c w ⊎ (IsMadeBy (comp m q t) c w × ((p : PointValue) × IsAmong (held x.nodes f) c p × LeadsTo (point x.moves c) p w)))
   spread_one f m q t b a w h = (there, back)
     where
@@ -53,7 +53,7 @@ module _ (x : Frame) (c : List Atom) (l : length c ≡ x.size) (admitted : IsTru
       back (inl (e, ext, s)) = (e, record { count = ext.count; guard = (h.truth c e l ext.count).1 (inl ext.guard) }, s)
       back (inr ((e, ext, s), (p, i, lead))) = (e, record { count = ext.count; guard = (h.truth c e l ext.count).1 (inr (record { admitted = admitted; guard = ext.guard; from = (p, i, leads_same (point x.moves c) p w p (point t (c ++ e)) (same_refl p) (same_sym (point t (c ++ e)) w s) lead) })) }, s)
 
-  pub held_spread : (f : FamilyD) (ks : CompsD) (b a : FamilyD) (w : PointValue) → AreSpread x f ks b a → IsAmong (held ks a) c w ↔ (IsAmong (held ks b) c w ⊎ IsNext f ks w)
+  pub held_spread : (f : FamilyD) (ks : CompsD) (b a : FamilyD) (w : PointValue) → ArePropagated x f ks b a → IsAmong (held ks a) c w ↔ (IsAmong (held ks b) c w ⊎ IsNext f ks w)
   held_spread f no_comps [] [] w h = (λ k. absurd k, λ k. elim k [ inl p ↦ p | inr p ↦ p.0 ])
   held_spread f no_comps [] (s ∷ a) w h = absurd h
   held_spread f no_comps (r ∷ b) [] w h = absurd h
@@ -82,7 +82,7 @@ module _ (x : Frame) (c : List Atom) (l : length c ≡ x.size) (admitted : IsTru
       abbrev IsAfter : ℕ → FamilyD → Type 0
       IsAfter k f = (is_over x.size x.nodes f ≡ true) × ((w : PointValue) → IsAmong (held x.nodes f) c w ↔ IsReachedBy graph k w)
 
-      one_more : (k : ℕ) (f h : FamilyD) → IsAfter k f → Spreads x f h → IsAfter (suc k) h
+      one_more : (k : ℕ) (f h : FamilyD) → IsAfter k f → Propagates x f h → IsAfter (suc k) h
       one_more k f h (o, same) led =
           let spread = spreads_where x f h o led in (
             spread_over x x.size f x.nodes f h spread ∙ o,
@@ -94,12 +94,12 @@ module _ (x : Frame) (c : List Atom) (l : length c ≡ x.size) (admitted : IsTru
                 ),
           )
 
-      after : (k : ℕ) (f : FamilyD) → LeadsAfter (Spreads x) k start f → IsAfter k f
+      after : (k : ℕ) (f : FamilyD) → LeadsAfter (Propagates x) k start f → IsAfter k f
       after zero f h = subst (λ g. IsAfter zero g) h (over, begun)
       after (suc k) f (g, led, fits, one) = one_more k g f (after k g led) one
 
       -- what one more move leads to is held already
-      closed : (f : FamilyD) (w : PointValue) → is_over x.size x.nodes f ≡ true → LeavesEquivalent (Spreads x) f → IsNext f x.nodes w → IsAmong (held x.nodes f) c w
+      closed : (f : FamilyD) (w : PointValue) → is_over x.size x.nodes f ≡ true → LeavesEquivalent (Propagates x) f → IsNext f x.nodes w → IsAmong (held x.nodes f) c w
       closed f w o (g, led, same) next =
           let spread = spreads_where x f g o led in
           let o' : is_over x.size x.nodes g ≡ true = spread_over x x.size f x.nodes f g spread ∙ o in
@@ -117,7 +117,7 @@ module _ (x : Frame) (c : List Atom) (l : length c ≡ x.size) (admitted : IsTru
       ]
 
       -- the first family that a round leaves equivalent holds exactly what is reached
-      pub holds_reached : (f : FamilyD) → IsFirstUnchanged (Spreads x) start f → (w : PointValue) → IsAmong (held x.nodes f) c w ↔ IsReached graph w
+      pub holds_reached : (f : FamilyD) → IsFirstUnchanged (Propagates x) start f → (w : PointValue) → IsAmong (held x.nodes f) c w ↔ IsReached graph w
       holds_reached f h w =
           let k = h.rounds in
           let done = after k f h.reached in

@@ -15,8 +15,8 @@ use Rattle.lois_base.proofs.Connectives.{both_true}
 use Rattle.lois_meaning.proofs.Operations.{pair_to}
 use Rattle.lois_automata.specs.Adding.{IsMadeOfOne}
 use Rattle.lois_automata.specs.Built.{HoldsWhereIn, AreTargets, IsLedFrom, AddsTarget}
-use Rattle.lois_automata.specs.Columns.{pair_of}
-use Rattle.lois_automata.specs.Spread.{LeadsTo}
+use Rattle.lois_automata.specs.Projections.{pair_of}
+use Rattle.lois_automata.specs.Reachability.{LeadsTo}
 use Rattle.lois_automata.proofs.Adding.{added_put, adds_nothing, one_among}
 use Rattle.lois_automata.proofs.Written.{pair_here, pair_at, pair_term}
 

@@ -5,7 +5,7 @@ use Rattle.lois_base.proofs.Members.{same_sym, same_trans}
 use Rattle.lois_meaning.specs.Automata.{IsPair, IsTriple}
 use Rattle.lois_meaning.specs.Kinds.{HasParts, AreSame}
 use Rattle.lois_meaning.proofs.Alike.{parts_same, tuples_same}
-use Rattle.lois_automata.specs.Spread.{LeadsTo}
+use Rattle.lois_automata.specs.Reachability.{LeadsTo}
 
 -- the parts of a pair up to being the same
 pub pair_parts : (x p q p' q' : PointValue) → IsSame p p' → IsSame q q' → IsPair x p q → IsPair x p' q'

@@ -10,7 +10,7 @@ use Rattle.lois_base.specs.declared.values.Term.{Term}
 use Rattle.lois_base.proofs.Members.{same_refl, same_sym}
 use Rattle.lois_meaning.specs.Automata.{IsPair, IsTriple}
 use Rattle.lois_meaning.specs.Kinds.{parts_at}
-use Rattle.lois_automata.specs.Columns.{pair_of, triple_of}
+use Rattle.lois_automata.specs.Projections.{pair_of, triple_of}
 use Rattle.lois_automata.specs.Machines.{IsAutomatonAt}
 
 counted : (vs : List TermD) → count_of_parts (terms_of vs) ≡ length vs

@@ -3,7 +3,7 @@ use Rattle.std.specs.Prelude.{◌≡◌, ℕ, Bool, List, length, ◌⊎◌, ◌
 use Rattle.lois_base.specs.Atom.{Atom}
 use Rattle.lois_base.specs.Data.{CompD, CompsD}
 use Rattle.lois_base.specs.Fits.{CompFits, ItemsFit}
-use Rattle.lois_base.specs.Validity.{AdmitsComp, AdmitsItems, CompHasUsualWidths, ItemsHaveUsualWidths}
+use Rattle.lois_base.specs.Validity.{AdmitsComp, AdmitsItems, CompHasBoundedWidths, ItemsHaveBoundedWidths}
 use Rattle.lois_base.specs.Values.{PointValue}
 use Rattle.lois_algebra.specs.Gathered.{IsAmong, IsMadeBy}
 use Rattle.lois_meaning.specs.Automata.{IsPair, IsTriple}
@@ -14,7 +14,7 @@ pub record Adds (n : ℕ) (W : List Atom → PointValue → Type 0) (F : Type 0)
   pub members : (c : List Atom) → length c ≡ n → (w : PointValue) → IsAmong after c w ↔ (IsAmong before c w ⊎ W c w)
   pub levels : F → ItemsFit n before → ItemsFit n after
   pub operators : (o : Bool) → A o → AdmitsItems o before → AdmitsItems o after
-  pub widths : U → ItemsHaveUsualWidths before → ItemsHaveUsualWidths after
+  pub widths : U → ItemsHaveBoundedWidths before → ItemsHaveBoundedWidths after
 
 -- some value x of a kind makes w
 abbrev pub IsMadeOfOne : (PointValue → PointValue → Type 0) → (PointValue → Type 0) → PointValue → Type 0
@@ -36,9 +36,9 @@ IsStepOf x y w =
 -- what R makes of a member of the one comprehension and a member of the other is added
 abbrev pub AddsOfTwo : (PointValue → PointValue → PointValue → Type 0) → ℕ → CompD → CompD → CompsD → CompsD → Type 0
 AddsOfTwo R n k q =
-    Adds n (λ c. IsMadeOfTwo R (IsMadeBy k c) (IsMadeBy q c)) (CompFits n k × CompFits n q) (λ o. AdmitsComp o k × AdmitsComp o q) (CompHasUsualWidths k × CompHasUsualWidths q)
+    Adds n (λ c. IsMadeOfTwo R (IsMadeBy k c) (IsMadeBy q c)) (CompFits n k × CompFits n q) (λ o. AdmitsComp o k × AdmitsComp o q) (CompHasBoundedWidths k × CompHasBoundedWidths q)
 
 -- what R makes of a member of the comprehension and a member of the list is added
 abbrev pub AddsWithEach : (PointValue → PointValue → PointValue → Type 0) → ℕ → CompD → CompsD → CompsD → CompsD → Type 0
 AddsWithEach R n k qs =
-    Adds n (λ c. IsMadeOfTwo R (IsMadeBy k c) (IsAmong qs c)) (CompFits n k × ItemsFit n qs) (λ o. AdmitsComp o k × AdmitsItems o qs) (CompHasUsualWidths k × ItemsHaveUsualWidths qs)
+    Adds n (λ c. IsMadeOfTwo R (IsMadeBy k c) (IsAmong qs c)) (CompFits n k × ItemsFit n qs) (λ o. AdmitsComp o k × AdmitsItems o qs) (CompHasBoundedWidths k × ItemsHaveBoundedWidths qs)

@@ -3,16 +3,16 @@ use Rattle.std.specs.Prelude.{◌≡◌, ℕ, ◌+◌, List, [], ◌∷◌, ◌+
 use Rattle.lois_base.specs.Atom.{Atom}
 use Rattle.lois_base.specs.Data.{TermD, CompD, comp, CompsD, no_comps, more}
 use Rattle.lois_base.specs.Fits.{CompFits}
-use Rattle.lois_base.specs.Validity.{AdmitsTerm, AdmitsComp, CompHasUsualWidths}
+use Rattle.lois_base.specs.Validity.{AdmitsTerm, AdmitsComp, CompHasBoundedWidths}
 use Rattle.lois_base.specs.Truth.{holds}
 use Rattle.lois_base.specs.Values.{PointValue, point, IsIn, IsSame, IsExtension}
 use Rattle.lois_base.specs.declared.guards.Lit.{Lit}
 use Rattle.lois_algebra.specs.Gathered.{IsMadeBy}
-use Rattle.lois_constraint.specs.Met.{IsPruned}
+use Rattle.lois_constraint.specs.Entailment.{IsPruned}
 use Rattle.lois_meaning.specs.Automata.{IsPair}
 use Rattle.lois_rounds.specs.Families.{MemberD, FamilyD}
 use Rattle.lois_automata.specs.Adding.{Adds, IsMadeOfOne}
-use Rattle.lois_automata.specs.Spread.{LeadsTo}
+use Rattle.lois_automata.specs.Reachability.{LeadsTo}
 
 -- with m further atoms, r holds exactly where the item is in the set t, whose levels are the first n
 abbrev pub HoldsWhereIn : ℕ → ℕ → TermD → TermD → List (List Lit) → Type 0
@@ -62,9 +62,9 @@ AreJoinedMembers (a ∷ f) (b ∷ g) (r ∷ h) = IsJoinedMember a b r × AreJoin
 AreJoinedMembers _ _ _ = ⊥
 
 -- no member has a cube
-abbrev pub IsBlank : FamilyD → Type 0
-IsBlank [] = Unit {0}
-IsBlank (r ∷ f) = (r.1 ≡ []) × IsBlank f
+abbrev pub IsEmptyFamily : FamilyD → Type 0
+IsEmptyFamily [] = Unit {0}
+IsEmptyFamily (r ∷ f) = (r.1 ≡ []) × IsEmptyFamily f
 
 -- two comprehensions one behind the other: guard g of m binders and then those of the second, and the two items at the same choices
 pub record AreBeside (n : ℕ) (k q : CompD) (m : ℕ) (g : List (List Lit)) (one two : TermD) : Type 0 where
@@ -82,4 +82,4 @@ IsLedFrom s c x w = (p : PointValue) × IsPair x p w × IsIn p (point s c)
 
 -- what the moves of k lead to from members of s is added
 abbrev pub AddsTarget : ℕ → CompD → TermD → CompsD → CompsD → Type 0
-AddsTarget n k s = Adds n (λ c. IsMadeOfOne (IsLedFrom s c) (IsMadeBy k c)) (CompFits n k) (λ o. AdmitsComp o k × AdmitsTerm o s) (CompHasUsualWidths k)
+AddsTarget n k s = Adds n (λ c. IsMadeOfOne (IsLedFrom s c) (IsMadeBy k c)) (CompFits n k) (λ o. AdmitsComp o k × AdmitsTerm o s) (CompHasBoundedWidths k)

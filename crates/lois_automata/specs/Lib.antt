@@ -1,8 +1,8 @@
 pub mod Throughout
 pub mod Machines
-pub mod Spread
+pub mod Reachability
 pub mod Rounds
 pub mod RoundsLaw
 pub mod Adding
 pub mod Built
-pub mod Columns
+pub mod Projections

@@ -3,8 +3,8 @@ use Rattle.std.specs.Prelude.{List, [], ◌∷◌, ◌↔◌}
 use Rattle.lois_base.specs.Atom.{Atom}
 use Rattle.lois_base.specs.Data.{TermD}
 use Rattle.lois_base.specs.Values.{PointValue, point}
-use Rattle.lois_meaning.specs.Automata.{Machine, IsAutomatonOf, IsAutomaton, Accepts, IsDeterministic, IsComplete}
-use Rattle.lois_meaning.specs.Expressions.{IsResultOf, IsWhole}
+use Rattle.lois_meaning.specs.Automata.{Automaton, IsAutomatonOf, IsAutomaton, Accepts, IsDeterministic, IsComplete}
+use Rattle.lois_meaning.specs.Expressions.{IsResultOf, IsCompleteDeterministic}
 use Rattle.lois_meaning.specs.Operations.{AreLetters}
 use Rattle.lois_script.specs.declared.syntax.Operation.TheVariants.{Reach, Product, Complement}
 
@@ -13,15 +13,15 @@ IsAutomatonAt t c = IsAutomaton (point t c)
 
 -- an automaton with exactly one initial state, and at most one step for a state and a letter
 abbrev pub IsDeterministicAt : TermD → List Atom → Type 0
-IsDeterministicAt t c = (a : Machine) × IsAutomatonOf (point t c) a × IsDeterministic a
+IsDeterministicAt t c = (a : Automaton) × IsAutomatonOf (point t c) a × IsDeterministic a
 
 -- an automaton with at least one step for a state and a letter
 abbrev pub IsCompleteAt : TermD → List Atom → Type 0
-IsCompleteAt t c = (a : Machine) × IsAutomatonOf (point t c) a × IsComplete a
+IsCompleteAt t c = (a : Automaton) × IsAutomatonOf (point t c) a × IsComplete a
 
 -- a complete deterministic automaton
-abbrev pub IsWholeAt : TermD → List Atom → Type 0
-IsWholeAt t c = IsWhole (point t c)
+abbrev pub IsCompleteDeterministicAt : TermD → List Atom → Type 0
+IsCompleteDeterministicAt t c = IsCompleteDeterministic (point t c)
 
 -- r is the set of the reachable states of t
 abbrev pub IsReachAt : TermD → TermD → List Atom → Type 0
@@ -29,11 +29,11 @@ IsReachAt t r c = IsResultOf (point r c) Reach (point t c ∷ [])
 
 -- t accepts no word
 abbrev pub IsEmptyAt : TermD → List Atom → Type 0
-IsEmptyAt t c = (a : Machine) × IsAutomatonOf (point t c) a × ((word : List PointValue) → Accepts a word → ⊥)
+IsEmptyAt t c = (a : Automaton) × IsAutomatonOf (point t c) a × ((word : List PointValue) → Accepts a word → ⊥)
 
 -- t accepts some word
 abbrev pub AcceptsSomeAt : TermD → List Atom → Type 0
-AcceptsSomeAt t c = (a : Machine) × IsAutomatonOf (point t c) a × ((word : List PointValue) × Accepts a word)
+AcceptsSomeAt t c = (a : Automaton) × IsAutomatonOf (point t c) a × ((word : List PointValue) × Accepts a word)
 
 -- r runs t and s side by side
 abbrev pub IsProductAt : TermD → TermD → TermD → List Atom → Type 0
@@ -45,9 +45,9 @@ IsComplementAt t r c = IsResultOf (point r c) Complement (point t c ∷ [])
 
 -- r accepts exactly the words that both t and s accept
 pub record AcceptsBothAt (t s r : TermD) (c : List Atom) : Type 0 where
-  pub first : Machine
-  pub second : Machine
-  pub made : Machine
+  pub first : Automaton
+  pub second : Automaton
+  pub made : Automaton
   pub first_is : IsAutomatonOf (point t c) first
   pub second_is : IsAutomatonOf (point s c) second
   pub made_is : IsAutomatonOf (point r c) made
@@ -55,8 +55,8 @@ pub record AcceptsBothAt (t s r : TermD) (c : List Atom) : Type 0 where
 
 -- r accepts exactly the words over the letters that t doesn't accept
 pub record AcceptsOthersAt (t r : TermD) (c : List Atom) : Type 0 where
-  pub first : Machine
-  pub made : Machine
+  pub first : Automaton
+  pub made : Automaton
   pub first_is : IsAutomatonOf (point t c) first
   pub made_is : IsAutomatonOf (point r c) made
   pub words : (word : List PointValue) → Accepts made word ↔ (AreLetters first word × (Accepts first word → ⊥))

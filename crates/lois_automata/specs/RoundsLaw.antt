@@ -17,7 +17,7 @@ use Rattle.lois_algebra.specs.Gathered.{IsAmong, IsMadeBy}
 use Rattle.lois_rounds.specs.Equivalences.{equivalent_sym, equivalent_trans}
 use Rattle.lois_rounds.specs.Families.{MemberD, FamilyD, AdmitsFamily, IsEquivalent, AreEquivalent, IsWeakened, AreWeakened}
 use Rattle.lois_rounds.specs.Rounds.{RespectsEquivalence}
-use Rattle.lois_automata.specs.Rounds.{Frame, is_over, held, IsLedTo, IsSpreadMember, AreSpread, SpreadsIf, Spreads, IsSettledMember, AreSettled, IsSettled}
+use Rattle.lois_automata.specs.Rounds.{RoundParameters, is_over, held, IsLedTo, IsPropagatedMember, ArePropagated, PropagatesIf, Propagates, IsSettledMember, AreSettled, IsSettled}
 
 -- each size is that of its comprehension
 abbrev pub IsOver : ℕ → CompsD → FamilyD → Type 0
@@ -67,15 +67,15 @@ pub held_same : (n : ℕ) (ks : CompsD) (f g : FamilyD) (c : List Atom) (w : Poi
 held_same n ks f g c w l over same h = held_weaker n ks f g c w l over (equal_weakened f g same) h
 
 -- a value that a family led to is one that an equivalent family led to
-led_same : (x : Frame) (f g : FamilyD) (q : List (List Lit)) (t : TermD) (c e : List Atom) → length c ≡ x.size → IsOver x.size x.nodes f → AreEquivalent f g → IsLedTo x f q t c e → IsLedTo x g q t c e
+led_same : (x : RoundParameters) (f g : FamilyD) (q : List (List Lit)) (t : TermD) (c e : List Atom) → length c ≡ x.size → IsOver x.size x.nodes f → AreEquivalent f g → IsLedTo x f q t c e → IsLedTo x g q t c e
 led_same x f g q t c e l over same h = record {
   admitted = h.admitted;
   guard = h.guard;
   from = (h.from.0, held_same x.size x.nodes f g c h.from.0 l over same h.from.1, h.from.2);
 }
 
-module _ (x : Frame) (f g : FamilyD) (f_over : IsOver x.size x.nodes f) (g_over : IsOver x.size x.nodes g) (there : AreEquivalent f g) (back : AreEquivalent g f) where
-  member_same : (m : ℕ) (q : List (List Lit)) (t : TermD) (b b' a a' : MemberD) → b.0 ≡ x.size + m → IsEquivalent b b' → IsSpreadMember x f m q t b a → IsSpreadMember x g m q t b' a' → IsEquivalent a a'
+module _ (x : RoundParameters) (f g : FamilyD) (f_over : IsOver x.size x.nodes f) (g_over : IsOver x.size x.nodes g) (there : AreEquivalent f g) (back : AreEquivalent g f) where
+  member_same : (m : ℕ) (q : List (List Lit)) (t : TermD) (b b' a a' : MemberD) → b.0 ≡ x.size + m → IsEquivalent b b' → IsPropagatedMember x f m q t b a → IsPropagatedMember x g m q t b' a' → IsEquivalent a a'
   member_same m q t b b' a a' over same one two = record {
     size = one.size ∙ (same.size ∙ sym two.size);
     truth = λ d l.
@@ -97,7 +97,7 @@ module _ (x : Frame) (f g : FamilyD) (f_over : IsOver x.size x.nodes f) (g_over 
         ])));
   }
 
-  spread_same : (ks : CompsD) (b b' a a' : FamilyD) → IsOver x.size ks b → AreEquivalent b b' → AreSpread x f ks b a → AreSpread x g ks b' a' → AreEquivalent a a'
+  spread_same : (ks : CompsD) (b b' a a' : FamilyD) → IsOver x.size ks b → AreEquivalent b b' → ArePropagated x f ks b a → ArePropagated x g ks b' a' → AreEquivalent a a'
   spread_same no_comps [] [] [] [] over same one two = tt
   spread_same (more (comp m q t) ks) (r ∷ b) (r' ∷ b') (s ∷ a) (s' ∷ a') over same one two =
       (member_same m q t r r' s s' over.0 same.0 one.0 two.0, spread_same ks b b' a a' over.1 same.1 one.1 two.1)
@@ -110,12 +110,12 @@ module _ (x : Frame) (f g : FamilyD) (f_over : IsOver x.size x.nodes f) (g_over 
   spread_same (more (comp m q t) ks) (r ∷ b) (r' ∷ b') [] a' over same one two = absurd one
   spread_same (more (comp m q t) ks) (r ∷ b) (r' ∷ b') (s ∷ a) [] over same one two = absurd two
 
-pub spreads_respect : (x : Frame) → RespectsEquivalence (Spreads x)
+pub spreads_respect : (x : RoundParameters) → RespectsEquivalence (Propagates x)
 spreads_respect x f g f' g' f_fits g_fits same led led' =
     let e : is_over x.size x.nodes f ≡ is_over x.size x.nodes g = over_same x.size x.nodes f g same in
-    go (is_over x.size x.nodes f) refl led (subst (λ b. SpreadsIf b x g g') (sym e) led')
+    go (is_over x.size x.nodes f) refl led (subst (λ b. PropagatesIf b x g g') (sym e) led')
   where
-    go : (b : Bool) → is_over x.size x.nodes f ≡ b → SpreadsIf b x f f' → SpreadsIf b x g g' → AreEquivalent f' g'
+    go : (b : Bool) → is_over x.size x.nodes f ≡ b → PropagatesIf b x f f' → PropagatesIf b x g g' → AreEquivalent f' g'
     go true e one two =
         let f_over = is_over_true x.size x.nodes f e in
         let g_over = is_over_true x.size x.nodes g (sym (over_same x.size x.nodes f g same) ∙ e) in
@@ -138,10 +138,10 @@ weakened_prop [] (b ∷ g) = hlevel
 weakened_prop (a ∷ f) [] = hlevel
 weakened_prop (a ∷ f) (b ∷ g) = ×_prop (member_prop a b) (weakened_prop f g)
 
-settled_member_prop : (x : Frame) (f g : FamilyD) (m : ℕ) (q : List (List Lit)) (t : TermD) (b : MemberD) → IsProp (IsSettledMember x f g m q t b)
+settled_member_prop : (x : RoundParameters) (f g : FamilyD) (m : ℕ) (q : List (List Lit)) (t : TermD) (b : MemberD) → IsProp (IsSettledMember x f g m q t b)
 settled_member_prop x f g m q t b = hlevel (true_prop)
 
-are_settled_prop : (x : Frame) (f g : FamilyD) (ks : CompsD) (b : FamilyD) → IsProp (AreSettled x f g ks b)
+are_settled_prop : (x : RoundParameters) (f g : FamilyD) (ks : CompsD) (b : FamilyD) → IsProp (AreSettled x f g ks b)
 are_settled_prop x f g no_comps b = Unit-prop
 are_settled_prop x f g (more (comp m q t) ks) [] = Unit-prop
 are_settled_prop x f g (more (comp m q t) ks) (r ∷ b) = ×_prop (settled_member_prop x f g m q t r) (are_settled_prop x f g ks b)
@@ -149,5 +149,5 @@ are_settled_prop x f g (more (comp m q t) ks) (r ∷ b) = ×_prop (settled_membe
 family_prop : (o : Bool) (f : FamilyD) → IsProp (AdmitsFamily o f)
 family_prop o f = all_prop (λ m. AdmitsConstraint o m.1) (λ m. admits_prop o m.1) f
 
-pub settled_prop : (x : Frame) (f g : FamilyD) → IsProp (IsSettled x f g)
+pub settled_prop : (x : RoundParameters) (f g : FamilyD) → IsProp (IsSettled x f g)
 settled_prop x f g = hlevel (weakened_prop g f, are_settled_prop x f g x.nodes f, family_prop)

@@ -10,12 +10,12 @@ ghost use Rattle.lois_deciders.specs.OnlyAsked.{HasOnlyAsked};
 ghost use Rattle.lois_automata.specs.Machines.{IsAutomatonAt, IsDeterministicAt, IsCompleteAt};
 ghost use Rattle.lois_automata.specs.Throughout.{HoldsThroughout, IsVerdictOn};
 
-use crate::columns::{Shape, column};
 use crate::conditions::{
-    where_included, where_inhabited, where_inside, where_joined, where_led_once, where_single,
+    where_included, where_inhabited, where_inside, where_joined, where_single, where_targets_unique,
 };
 use crate::pairing::pairs;
 use crate::parts::five;
+use crate::projections::{Projection, project_steps};
 use crate::verdicts::Verdict;
 use lois_base::{Constraint, Decider, NoMemory, Structure, Term};
 use lois_constraint::meet;
@@ -90,7 +90,7 @@ pub fn check_deterministic<T: Structure>(
     };
     let some = where_inhabited::<T>(alloc, sets.initial, size)?;
     let one = where_single::<T>(alloc, sets.initial, size)?;
-    let led = where_led_once::<T>(alloc, sets.steps, size)?;
+    let led = where_targets_unique::<T>(alloc, sets.steps, size)?;
     let start = meet(alloc, &some, &one)?;
     let wanted = meet(alloc, &start, &led)?;
     asked(alloc, under, &wanted, size, chosen)
@@ -115,7 +115,7 @@ pub fn check_complete<T: Structure>(
         return Ok(Verdict::Holds);
     };
     let wanted = pairs(alloc, sets.states, sets.letters, size)?;
-    let outgoing = column(alloc, sets.steps, Shape::Outgoing)?;
+    let outgoing = project_steps(alloc, sets.steps, Projection::Outgoing)?;
     let found = where_included::<T>(alloc, &wanted, &outgoing, size)?;
     asked(alloc, under, &found, size, chosen)
 }

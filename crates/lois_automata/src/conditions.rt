@@ -9,12 +9,12 @@ ghost use Rattle.lois_base.specs.Validity.{AdmitsConstraint, AdmitsTerm, AdmitsC
 ghost use Rattle.lois_base.specs.Values.{PointValue, point, IsIn, IsIncluded, IsSame};
 ghost use Rattle.lois_algebra.specs.Gathered.{IsAmong, IsMadeBy};
 ghost use Rattle.lois_terms.specs.Guarded.{IsSet};
-ghost use Rattle.lois_automata.specs.Columns.{AllAgree, IsFunction, HasOneAtMost, LeadsOnce, AreTriples, ArePartsIn, StepsJoin};
+ghost use Rattle.lois_automata.specs.Projections.{AllAgree, IsFunction, HasOneAtMost, HasUniqueTargets, AreTriples, ArePartsIn, StepsJoin};
 ghost use Rattle.lois_automata.specs.Throughout.{HoldsWhere, HoldsUnless};
 
-use crate::columns::{Shape, column, misfits};
 use crate::pairing::{beside, pairs};
 use crate::parts::{FiveSets, pair_parts};
+use crate::projections::{Projection, non_triples, project_steps};
 use crate::unmatched::keys_clash;
 use lois_base::{Comp, Comps, Constraint, NoMemory, Structure, Term};
 use lois_constraint::{and_not, meet, negate, or};
@@ -115,17 +115,17 @@ pub fn where_single<T: Structure>(
 }
 
 /// Where a state and a letter have at most one step.
-pub fn where_led_once<T: Structure>(
+pub fn where_targets_unique<T: Structure>(
     alloc: Global,
     steps: &Comps,
     size: usize,
 ) -> Result<Constraint, NoMemory>
     requires levels { ItemsFit size (comps_of steps.now) }
     requires operators { AdmitsItems T.ordered (comps_of steps.now) }
-    ensures truth { IfOk result (HoldsWhere size (λ c. LeadsOnce (point (coll (comps_of steps.now)) c))) }
+    ensures truth { IfOk result (HoldsWhere size (λ c. HasUniqueTargets (point (coll (comps_of steps.now)) c))) }
     ensures levels { IfOk result (ConstraintFits size) }
 {
-    let Term::Coll(keyed) = column(alloc, steps, Shape::Keyed)? else {
+    let Term::Coll(keyed) = project_steps(alloc, steps, Projection::Keyed)? else {
         unreachable!()
     };
     where_function::<T>(alloc, &keyed, size)
@@ -237,9 +237,9 @@ pub fn where_joined<T: Structure>(
     ensures levels { IfOk result (ConstraintFits size) }
 {
     let triples = where_triples::<T>(alloc, sets.steps, size)?;
-    let from = where_parts_in::<T>(alloc, sets.steps, Shape::Source, sets.states, size)?;
-    let by = where_parts_in::<T>(alloc, sets.steps, Shape::Label, sets.letters, size)?;
-    let to = where_parts_in::<T>(alloc, sets.steps, Shape::Target, sets.states, size)?;
+    let from = where_parts_in::<T>(alloc, sets.steps, Projection::Source, sets.states, size)?;
+    let by = where_parts_in::<T>(alloc, sets.steps, Projection::Label, sets.letters, size)?;
+    let to = where_parts_in::<T>(alloc, sets.steps, Projection::Target, sets.states, size)?;
     let ends = meet(alloc, &from, &to)?;
     let parts = meet(alloc, &ends, &by)?;
     meet(alloc, &triples, &parts)
@@ -257,7 +257,7 @@ fn where_triples<T: Structure>(
     ensures levels { IfOk result (ConstraintFits size) }
 {
     let none = Term::Coll(Comps::new(alloc));
-    let others = misfits(alloc, steps)?;
+    let others = non_triples(alloc, steps)?;
     where_included::<T>(alloc, &others, &none, size)
 }
 
@@ -265,7 +265,7 @@ fn where_triples<T: Structure>(
 fn where_parts_in<T: Structure>(
     alloc: Global,
     steps: &Comps,
-    shape: Shape,
+    shape: Projection,
     whole: &Comps,
     size: usize,
 ) -> Result<Constraint, NoMemory>
@@ -276,7 +276,7 @@ fn where_parts_in<T: Structure>(
     ensures truth { IfOk result (HoldsWhere size (λ c. ArePartsIn shape (point (coll (comps_of steps.now)) c) (point (coll (comps_of whole.now)) c))) }
     ensures levels { IfOk result (ConstraintFits size) }
 {
-    let parts = column(alloc, steps, shape)?;
+    let parts = project_steps(alloc, steps, shape)?;
     let outer = Term::Coll(whole.copy(alloc)?);
     where_included::<T>(alloc, &parts, &outer, size)
 }

@@ -2,25 +2,25 @@
 #![tactic(auto)]
 
 mod checks;
-mod columns;
 mod conditions;
+mod frontier;
 mod joining;
 mod memberships;
 mod operations;
 mod pairing;
 mod parts;
+mod projections;
 mod reaching;
-mod spreading;
 mod unmatched;
 mod verdicts;
 
 pub use checks::{check_automaton, check_complete, check_deterministic};
-pub use columns::{Shape, column, misfits};
 pub use conditions::where_same;
+pub use frontier::targets_from;
 pub use memberships::{among_more, membership};
 pub use operations::{complement, empty, product, reach};
-pub use pairing::{Joint, beside, pairs, side_by_side};
+pub use pairing::{PairedComp, beside, pairs, side_by_side};
 pub use parts::{FiveSets, Step, five, of_five, pair, pair_parts, step_parts, triple};
-pub use reaching::reached;
-pub use spreading::targets_from;
+pub use projections::{Projection, non_triples, project_steps};
+pub use reaching::reachable_set;
 pub use verdicts::Verdict;

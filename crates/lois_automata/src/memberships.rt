@@ -5,9 +5,9 @@ ghost use Rattle.lois_base.specs.Data.{coll, comps_of};
 ghost use Rattle.lois_base.specs.Fits.{ConstraintFits, Fits, CompFits};
 ghost use Rattle.lois_base.specs.Shift.{shift};
 ghost use Rattle.lois_base.specs.Tree.{tree, comp_of};
-ghost use Rattle.lois_base.specs.Validity.{AdmitsConstraint, AdmitsTerm, AdmitsComp, HasUsualWidths};
+ghost use Rattle.lois_base.specs.Validity.{AdmitsConstraint, AdmitsTerm, AdmitsComp, HasBoundedWidths};
 ghost use Rattle.lois_terms.specs.Guarded.{IsSet};
-ghost use Rattle.lois_terms.specs.Raised.{IsRaised};
+ghost use Rattle.lois_terms.specs.Shifted.{IsShifted};
 ghost use Rattle.lois_automata.specs.Built.{HoldsWhereIn, HoldsWhereAdmittedIn};
 
 use lois_base::{Comp, Constraint, NoMemory, Structure, Term};
@@ -22,10 +22,10 @@ pub fn among_more(alloc: Global, t: &Term, size: usize, by: usize) -> Result<Ter
     requires fits { Fits size (tree t.now) }
     requires levels { size + by < 2 ^ 64 }
     ensures raised { IfOk result (λ r. tree r ≡ shift size by (tree t.now)) }
-    ensures value { IfOk result (λ r. IsRaised size by (tree t.now) (tree r)) }
+    ensures value { IfOk result (λ r. IsShifted size by (tree t.now) (tree r)) }
     ensures fits { IfOk result (λ r. Fits (size + by) (tree r)) }
     ensures operators { IfOk result (λ r. (o : Bool) → AdmitsTerm o (tree t.now) → AdmitsTerm o (tree r)) }
-    ensures widths { IfOk result (λ r. HasUsualWidths (tree t.now) → HasUsualWidths (tree r)) }
+    ensures widths { IfOk result (λ r. HasBoundedWidths (tree t.now) → HasBoundedWidths (tree r)) }
 {
     if !t.fits(size + by) {
         return Err(NoMemory);

@@ -7,17 +7,17 @@ ghost use Rattle.lois_base.specs.Fits.{ConstraintFits, Fits, ItemsFit};
 ghost use Rattle.lois_base.specs.Tree.{tree};
 ghost use Rattle.lois_base.specs.Truth.{holds};
 ghost use Rattle.lois_algebra.specs.Sets.{IsIntersection};
-ghost use Rattle.lois_base.specs.Validity.{AdmitsConstraint, AdmitsTerm, AdmitsItems, HasUsualWidths, ItemsHaveUsualWidths};
+ghost use Rattle.lois_base.specs.Validity.{AdmitsConstraint, AdmitsTerm, AdmitsItems, HasBoundedWidths, ItemsHaveBoundedWidths};
 ghost use Rattle.lois_deciders.specs.OnlyAsked.{HasOnlyAsked};
 ghost use Rattle.lois_terms.specs.Guarded.{IsSet};
-ghost use Rattle.lois_automata.specs.Machines.{IsAutomatonAt, IsWholeAt, IsReachAt, IsEmptyAt, AcceptsSomeAt, IsProductAt, IsComplementAt, AcceptsBothAt, AcceptsOthersAt};
+ghost use Rattle.lois_automata.specs.Machines.{IsAutomatonAt, IsCompleteDeterministicAt, IsReachAt, IsEmptyAt, AcceptsSomeAt, IsProductAt, IsComplementAt, AcceptsBothAt, AcceptsOthersAt};
 ghost use Rattle.lois_automata.specs.Throughout.{HoldsThroughout};
 
-use crate::columns::{Shape, column};
 use crate::conditions::where_inhabited;
 use crate::pairing::{pairs, side_by_side};
 use crate::parts::{five, of_five};
-use crate::reaching::reached;
+use crate::projections::{Projection, project_steps};
+use crate::reaching::reachable_set;
 use lois_algebra::{inter, minus};
 use lois_base::{Comps, Constraint, Decider, NoMemory, Structure, Term};
 use lois_constraint::negate;
@@ -41,17 +41,17 @@ pub fn reach<T: Structure>(
     ensures set { IfOk result (λ r. IsSet (tree r)) }
     ensures levels { IfOk result (λ r. Fits size (tree r)) }
     ensures operators { IfOk result (λ r. (o : Bool) → AdmitsTerm o (tree a.now) → AdmitsConstraint o under.now → AdmitsTerm o (tree r)) }
-    ensures widths { IfOk result (λ r. HasUsualWidths (tree a.now) → HasUsualWidths (tree r)) }
+    ensures widths { IfOk result (λ r. HasBoundedWidths (tree a.now) → HasBoundedWidths (tree r)) }
     ensures only_asked { HasOnlyAsked (λ b. (⟦<dyn Decider as Decider>⟧ b.vtable).kind_of b.value) (λ b. (⟦<dyn Decider as Decider>⟧ b.vtable).questions b.value) chosen.old chosen.new }
 {
     let Some(sets) = five(a) else {
         return Ok(Term::Coll(Comps::new(alloc)));
     };
     let initial = Term::Coll(sets.initial.copy(alloc)?);
-    let Term::Coll(moves) = column(alloc, sets.steps, Shape::Move)? else {
+    let Term::Coll(moves) = project_steps(alloc, sets.steps, Projection::Move)? else {
         unreachable!()
     };
-    reached(alloc, sets.states, &initial, &moves, under, size)
+    reachable_set(alloc, sets.states, &initial, &moves, under, size)
 }
 
 /// A constraint that holds exactly where the automaton `a` accepts no word, of the choices that `under` admits: where none of its
@@ -105,7 +105,7 @@ pub fn product<T: Structure>(
     ensures words { IfOk result (λ r. HoldsThroughout size under.now (AcceptsBothAt (tree a.now) (tree b.now) (tree r))) }
     ensures levels { IfOk result (λ r. Fits size (tree r)) }
     ensures operators { IfOk result (λ r. (o : Bool) → AdmitsTerm o (tree a.now) → AdmitsTerm o (tree b.now) → AdmitsTerm o (tree r)) }
-    ensures widths { IfOk result (λ r. HasUsualWidths (tree a.now) → HasUsualWidths (tree b.now) → HasUsualWidths (tree r)) }
+    ensures widths { IfOk result (λ r. HasBoundedWidths (tree a.now) → HasBoundedWidths (tree b.now) → HasBoundedWidths (tree r)) }
     ensures only_asked { HasOnlyAsked (λ b. (⟦<dyn Decider as Decider>⟧ b.vtable).kind_of b.value) (λ b. (⟦<dyn Decider as Decider>⟧ b.vtable).questions b.value) chosen.old chosen.new }
 {
     let Some(one) = five(a) else {
@@ -137,7 +137,7 @@ fn in_both<T: Structure>(
     ensures set { IfOk result (λ r. IsSet (tree r)) }
     ensures levels { IfOk result (λ r. Fits size (tree r)) }
     ensures operators { IfOk result (λ r. (o : Bool) → AdmitsItems o (comps_of one.now) → AdmitsItems o (comps_of other.now) → AdmitsTerm o (tree r)) }
-    ensures widths { IfOk result (λ r. ItemsHaveUsualWidths (comps_of one.now) → HasUsualWidths (tree r)) }
+    ensures widths { IfOk result (λ r. ItemsHaveBoundedWidths (comps_of one.now) → HasBoundedWidths (tree r)) }
 {
     let first = Term::Coll(one.copy(alloc)?);
     let second = Term::Coll(other.copy(alloc)?);
@@ -154,12 +154,12 @@ pub fn complement<T: Structure>(
 ) -> Result<Term, NoMemory>
     requires levels { Fits size (tree a.now) }
     requires operators { AdmitsTerm T.ordered (tree a.now) }
-    requires whole { HoldsThroughout size under.now (IsWholeAt (tree a.now)) }
+    requires whole { HoldsThroughout size under.now (IsCompleteDeterministicAt (tree a.now)) }
     ensures complement { IfOk result (λ r. HoldsThroughout size under.now (IsComplementAt (tree a.now) (tree r))) }
     ensures words { IfOk result (λ r. HoldsThroughout size under.now (AcceptsOthersAt (tree a.now) (tree r))) }
     ensures levels { IfOk result (λ r. Fits size (tree r)) }
     ensures operators { IfOk result (λ r. (o : Bool) → AdmitsTerm o (tree a.now) → AdmitsTerm o (tree r)) }
-    ensures widths { IfOk result (λ r. HasUsualWidths (tree a.now) → HasUsualWidths (tree r)) }
+    ensures widths { IfOk result (λ r. HasBoundedWidths (tree a.now) → HasBoundedWidths (tree r)) }
     ensures only_asked { HasOnlyAsked (λ b. (⟦<dyn Decider as Decider>⟧ b.vtable).kind_of b.value) (λ b. (⟦<dyn Decider as Decider>⟧ b.vtable).questions b.value) chosen.old chosen.new }
 {
     let Some(sets) = five(a) else {

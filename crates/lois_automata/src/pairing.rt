@@ -4,16 +4,16 @@ ghost use Rattle.std.specs.Prelude.{◌≡◌, ℕ, ◌+◌, ◌<◌, ◌^◌, B
 ghost use Rattle.lois_base.specs.Data.{coll, comps_of};
 ghost use Rattle.lois_base.specs.Fits.{ConstraintFits, Fits, CompFits, ItemsFit};
 ghost use Rattle.lois_base.specs.Tree.{tree, comp_of};
-ghost use Rattle.lois_base.specs.Validity.{AdmitsConstraint, AdmitsTerm, AdmitsComp, AdmitsItems, HasUsualWidths, CompHasUsualWidths, ItemsHaveUsualWidths};
+ghost use Rattle.lois_base.specs.Validity.{AdmitsConstraint, AdmitsTerm, AdmitsComp, AdmitsItems, HasBoundedWidths, CompHasBoundedWidths, ItemsHaveBoundedWidths};
 ghost use Rattle.lois_terms.specs.Guarded.{IsSet};
 ghost use Rattle.lois_automata.specs.Adding.{AddsOfTwo, AddsWithEach, IsPairOf, IsStepOf};
 ghost use Rattle.lois_automata.specs.Built.{AreBeside, ArePairs};
-ghost use Rattle.lois_automata.specs.Columns.{AreSideBySide, pair_of, triple_of};
+ghost use Rattle.lois_automata.specs.Projections.{AreSideBySide, pair_of, triple_of};
 
 use crate::memberships::among_more;
 use crate::parts::{Step, pair, step_parts, triple};
 use crate::unmatched::letters_clash;
-use lois_algebra::put;
+use lois_algebra::push_comp;
 use lois_base::{Comp, Comps, Constraint, NoMemory, Structure, Term};
 use lois_constraint::meet;
 use lois_elim::quantifier_free;
@@ -23,7 +23,7 @@ use std::alloc::Global;
 
 /// Two comprehensions, the binders of the second behind those of the first.
 #[derive(Drop)]
-pub struct Joint {
+pub struct PairedComp {
     pub binders: usize,
     pub guard: Constraint,
     pub first: Term,
@@ -32,7 +32,7 @@ pub struct Joint {
 
 /// The comprehensions one behind the other: the guards together, and both items among the binders of both. Errors: `NoMemory`,
 /// also where a level would pass the greatest usize.
-pub fn beside(alloc: Global, one: &Comp, other: &Comp, size: usize) -> Result<Joint, NoMemory>
+pub fn beside(alloc: Global, one: &Comp, other: &Comp, size: usize) -> Result<PairedComp, NoMemory>
     requires first { CompFits size (comp_of one.now) }
     requires second { CompFits size (comp_of other.now) }
     ensures made { IfOk result (λ r. AreBeside size (comp_of one.now) (comp_of other.now) r.binders r.guard (tree r.first) (tree r.second)) }
@@ -41,15 +41,15 @@ pub fn beside(alloc: Global, one: &Comp, other: &Comp, size: usize) -> Result<Jo
     ensures first_fits { IfOk result (λ r. Fits (size + r.binders) (tree r.first)) }
     ensures second_fits { IfOk result (λ r. Fits (size + r.binders) (tree r.second)) }
     ensures operators { IfOk result (λ r. (o : Bool) → AdmitsComp o (comp_of one.now) → AdmitsComp o (comp_of other.now) → AdmitsConstraint o r.guard × AdmitsTerm o (tree r.first) × AdmitsTerm o (tree r.second)) }
-    ensures first_widths { IfOk result (λ r. CompHasUsualWidths (comp_of one.now) → HasUsualWidths (tree r.first)) }
-    ensures second_widths { IfOk result (λ r. CompHasUsualWidths (comp_of other.now) → HasUsualWidths (tree r.second)) }
+    ensures first_widths { IfOk result (λ r. CompHasBoundedWidths (comp_of one.now) → HasBoundedWidths (tree r.first)) }
+    ensures second_widths { IfOk result (λ r. CompHasBoundedWidths (comp_of other.now) → HasBoundedWidths (tree r.second)) }
 {
     let at = size + one.binders;
     if at.checked_add(other.binders).is_none() || !other.fits(at) {
         return Err(NoMemory);
     }
     let placed = instantiate(alloc, other, size, at)?;
-    Ok(Joint {
+    Ok(PairedComp {
         binders: one.binders + other.binders,
         guard: meet(alloc, &one.guard, &placed.guard)?,
         first: among_more(alloc, &one.item, at, other.binders)?,
@@ -65,7 +65,7 @@ pub fn pairs(alloc: Global, one: &Comps, other: &Comps, size: usize) -> Result<T
     ensures set { IfOk result (λ r. IsSet (tree r)) }
     ensures levels { IfOk result (λ r. Fits size (tree r)) }
     ensures operators { IfOk result (λ r. (o : Bool) → AdmitsItems o (comps_of one.now) → AdmitsItems o (comps_of other.now) → AdmitsTerm o (tree r)) }
-    ensures widths { IfOk result (λ r. ItemsHaveUsualWidths (comps_of one.now) → ItemsHaveUsualWidths (comps_of other.now) → HasUsualWidths (tree r)) }
+    ensures widths { IfOk result (λ r. ItemsHaveBoundedWidths (comps_of one.now) → ItemsHaveBoundedWidths (comps_of other.now) → HasBoundedWidths (tree r)) }
 {
     let mut made = Comps::new(alloc);
     for first in one.as_slice() {
@@ -104,7 +104,7 @@ fn add_pair(
 {
     let both = beside(alloc, first, second, size)?;
     let item = pair(alloc, &both.first, &both.second)?;
-    put(
+    push_comp(
         made,
         Comp {
             binders: both.binders,
@@ -129,7 +129,7 @@ pub fn side_by_side<T: Structure>(
     ensures set { IfOk result (λ r. IsSet (tree r)) }
     ensures levels { IfOk result (λ r. Fits size (tree r)) }
     ensures operators { IfOk result (λ r. (o : Bool) → AdmitsItems o (comps_of one.now) → AdmitsItems o (comps_of other.now) → AdmitsTerm o (tree r)) }
-    ensures widths { IfOk result (λ r. ItemsHaveUsualWidths (comps_of one.now) → ItemsHaveUsualWidths (comps_of other.now) → HasUsualWidths (tree r)) }
+    ensures widths { IfOk result (λ r. ItemsHaveBoundedWidths (comps_of one.now) → ItemsHaveBoundedWidths (comps_of other.now) → HasBoundedWidths (tree r)) }
 {
     let mut made = Comps::new(alloc);
     for first in one.as_slice() {
@@ -185,7 +185,7 @@ fn add_step<T: Structure>(
     let found = quantifier_free::<T>(alloc, &same, inner)?;
     let guard = meet(alloc, &both.guard, &found)?;
     let item = step_of(alloc, one, other)?;
-    put(
+    push_comp(
         made,
         Comp {
             binders: both.binders,

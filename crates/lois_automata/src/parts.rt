@@ -4,7 +4,7 @@ ghost use Rattle.std.specs.Prelude.{◌≡◌, IfOk, IfSome, IfNone, List};
 ghost use Rattle.lois_base.specs.Atom.{Atom};
 ghost use Rattle.lois_base.specs.Data.{TermD, comps_of};
 ghost use Rattle.lois_base.specs.Tree.{tree};
-ghost use Rattle.lois_automata.specs.Columns.{five_of, five_terms, pair_of, triple_of};
+ghost use Rattle.lois_automata.specs.Projections.{five_of, five_terms, pair_of, triple_of};
 ghost use Rattle.lois_automata.specs.Machines.{IsAutomatonAt};
 
 use lois_base::{Comps, NoMemory, Term, Terms};

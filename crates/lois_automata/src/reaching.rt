@@ -5,15 +5,15 @@ ghost use Rattle.lois_base.specs.Atom.{Atom};
 ghost use Rattle.lois_base.specs.Data.{coll, comps_of};
 ghost use Rattle.lois_base.specs.Fits.{ConstraintFits, Fits, ItemsFit};
 ghost use Rattle.lois_base.specs.Tree.{tree};
-ghost use Rattle.lois_base.specs.Validity.{AdmitsConstraint, AdmitsTerm, AdmitsItems, HasUsualWidths};
+ghost use Rattle.lois_base.specs.Validity.{AdmitsConstraint, AdmitsTerm, AdmitsItems, HasBoundedWidths};
 ghost use Rattle.lois_base.specs.Values.{point};
 ghost use Rattle.lois_meaning.specs.Kinds.{IsSetOf};
 ghost use Rattle.lois_terms.specs.Guarded.{IsSet};
-ghost use Rattle.lois_automata.specs.Spread.{graph_at, IsReached};
+ghost use Rattle.lois_automata.specs.Reachability.{graph_at, IsReached};
 ghost use Rattle.lois_automata.specs.Throughout.{HoldsThroughout};
 
+use crate::frontier::FrontierRound;
 use crate::joining::{first_family, held_set};
-use crate::spreading::Spreading;
 use lois_base::{Comps, Constraint, NoMemory, Term};
 use lois_order::OrderAtoms;
 use lois_rounds::{Family, grow};
@@ -21,7 +21,7 @@ use std::alloc::Global;
 
 /// The members of the set `nodes` that moves lead to from those in the set `start`, over nodes alone. A move is a pair in the
 /// set `moves`. Said of the choices that `under` admits. Errors: `NoMemory`, also where a level would pass the greatest usize.
-pub fn reached(
+pub fn reachable_set(
     alloc: Global,
     nodes: &Comps,
     start: &Term,
@@ -38,16 +38,16 @@ pub fn reached(
     ensures set { IfOk result (λ r. IsSet (tree r)) }
     ensures levels { IfOk result (λ r. Fits size (tree r)) }
     ensures operators { IfOk result (λ r. (o : Bool) → AdmitsItems o (comps_of nodes.now) → AdmitsTerm o (tree start.now) → AdmitsItems o (comps_of moves.now) → AdmitsConstraint o under.now → AdmitsTerm o (tree r)) }
-    ensures widths { IfOk result (λ r. HasUsualWidths (coll (comps_of nodes.now)) → HasUsualWidths (tree r)) }
+    ensures widths { IfOk result (λ r. HasBoundedWidths (coll (comps_of nodes.now)) → HasBoundedWidths (tree r)) }
 {
     let first = first_family::<OrderAtoms>(alloc, nodes, start, under, size)?;
-    let mut round = Spreading {
+    let mut round = FrontierRound {
         size,
         under: under.copy(alloc)?,
         nodes: nodes.copy(alloc)?,
         moves: moves.copy(alloc)?,
         known: Family::new(alloc),
-        news: Family::new(alloc),
+        frontier: Family::new(alloc),
     };
     let family = grow(alloc, &mut round, first)?;
     held_set(alloc, nodes, &family)

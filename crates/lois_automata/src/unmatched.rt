@@ -6,7 +6,7 @@ ghost use Rattle.lois_base.specs.Tree.{comp_of};
 ghost use Rattle.lois_base.specs.Values.{PointValue};
 ghost use Rattle.lois_algebra.specs.Gathered.{IsMadeBy};
 ghost use Rattle.lois_automata.specs.Adding.{IsMadeOfTwo, IsStepOf};
-ghost use Rattle.lois_automata.specs.Columns.{AllAgree};
+ghost use Rattle.lois_automata.specs.Projections.{AllAgree};
 
 use crate::parts::{pair_parts, step_parts};
 use lois_base::Comp;

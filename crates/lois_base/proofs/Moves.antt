@@ -7,7 +7,7 @@ use Rattle.lois_base.specs.Data.{TermD, var, tag, tup, coll, TermsD, no_terms, t
 use Rattle.lois_base.specs.Fits.{LitFits, ConstraintFits, Fits, PartsFit, CompFits, ItemsFit}
 use Rattle.lois_base.specs.FormulaData.{FormulaD, lit, all, any, neg, exists, forall, FormulasD, no_formulas, formula, FormulaFits, FormulasFit}
 use Rattle.lois_base.specs.FormulaTruth.{FormulaHolds, AllHold, AnyHolds}
-use Rattle.lois_base.specs.Patterns.{AreAlike, Keeps}
+use Rattle.lois_base.specs.Patterns.{AreAlike, IsEmbedding}
 use Rattle.lois_base.specs.Truth.{atom_at, holds}
 use Rattle.lois_base.specs.Validity.{AdmitsLit, AdmitsConstraint, AdmitsFormula, AdmitsFormulas, AdmitsTerm, AdmitsParts, AdmitsComp, AdmitsItems}
 use Rattle.lois_base.specs.Values.{IsExtension, MemberAt, SameAt, SamePartsAt, AllInAt, EachInAt, InAt, SomeIsAt, OneIsAt}
@@ -192,7 +192,7 @@ module _ (ordered : Bool) where
       same_carried ordered t (zipped (c ++ d) (c' ++ d')) (pattern_zipped ordered (c ++ d) (c' ++ d') k) (length c) c c' (carried_left c d c' d' h rest) p a s (length d) d d' (carried_right c d c' d' h rest) q b x
 
 -- ---- maps of atoms
-module _ (ordered : Bool) (f : Atom → Atom) (keeps : Keeps ordered f) where
+module _ (ordered : Bool) (f : Atom → Atom) (keeps : IsEmbedding ordered f) where
   pub alike_map : (c : List Atom) → AreAlike ordered c (map f c)
   alike_map c = record {
     count = sym (length-map c f);

@@ -7,7 +7,7 @@ use Rattle.lois_base.specs.Atom.{Atom}
 use Rattle.lois_base.specs.Data.{TermD, var, tag, tup, coll, TermsD, no_terms, term, comp, CompsD, no_comps, more, depth, depth_of_parts, depth_of_items}
 use Rattle.lois_base.specs.Fits.{LitFits, ConstraintFits, Fits, PartsFit, ItemsFit}
 use Rattle.lois_base.specs.Laws.{NormalIsAsDeep}
-use Rattle.lois_base.specs.Normal.{both, joined, Meets, IsNormal, PartsAreNormal, EachIsNormal}
+use Rattle.lois_base.specs.Normal.{both, joined, Satisfies, IsNormal, PartsAreNormal, EachIsNormal}
 use Rattle.lois_base.specs.Truth.{holds}
 use Rattle.lois_base.specs.Values.{IsExtension, DeeperAt, SomePartDeeperAt, SomeMemberDeeperAt, OneDeeperAt}
 use Rattle.lois_base.specs.declared.guards.Lit.{Lit}
@@ -17,11 +17,11 @@ use Rattle.lois_base.proofs.Validity.{fits_longer}
 
 -- a choice of n atoms at which u holds, and at which P holds
 abbrev MeetsSome : ℕ → List (List Lit) → (List Atom → Type 0) → Type 0
-MeetsSome n u P = (c : List Atom) × Meets n u c × P c
+MeetsSome n u P = (c : List Atom) × Satisfies n u c × P c
 
 -- the first atoms of a choice at which both guards hold meet the outer guard, and the others are an extension
 pub record AreHalves (n m : ℕ) (u g : List (List Lit)) (c e : List Atom) : Type 0 where
-  pub outer : Meets n u c
+  pub outer : Satisfies n u c
   pub inner : IsExtension c m g e
 
 halves : (n m : ℕ) (u g : List (List Lit)) → ConstraintFits n u → (c e : List Atom) → length c ≡ n → length e ≡ m → IsTrue (holds (c ++ e) (both u g)) → AreHalves n m u g c e
@@ -51,7 +51,7 @@ within_max d a b l = go (cases_lt d a)
     go (inr h) = inr (omega arith)
 
 mutual
-  deep_at : (t : TermD) (u : List (List Lit)) (n d : ℕ) → ConstraintFits n u → Fits n t → IsNormal t u n → (c : List Atom) → Meets n u c → d < depth t → MeetsSome n u (λ x. DeeperAt t x d)
+  deep_at : (t : TermD) (u : List (List Lit)) (n d : ℕ) → ConstraintFits n u → Fits n t → IsNormal t u n → (c : List Atom) → Satisfies n u c → d < depth t → MeetsSome n u (λ x. DeeperAt t x d)
   deep_at (var i) u n d fits own normal c meets l = absurd (omega arith)
   deep_at (tag t) u n d fits own normal c meets l = absurd (omega arith)
   deep_at (tup ts) u n zero fits own normal c meets l = (c, meets, tt)
@@ -59,7 +59,7 @@ mutual
   deep_at (coll ks) u n zero fits own normal c meets l = (c, meets, tt)
   deep_at (coll ks) u n (suc d) fits own normal c meets l = member_deep_at ks no_comps u n d fits own normal (omega arith)
 
-  part_deep_at : (ts : TermsD) (u : List (List Lit)) (n d : ℕ) → ConstraintFits n u → PartsFit n ts → PartsAreNormal ts u n → (c : List Atom) → Meets n u c → d < depth_of_parts ts → MeetsSome n u (λ x. SomePartDeeperAt ts x d)
+  part_deep_at : (ts : TermsD) (u : List (List Lit)) (n d : ℕ) → ConstraintFits n u → PartsFit n ts → PartsAreNormal ts u n → (c : List Atom) → Satisfies n u c → d < depth_of_parts ts → MeetsSome n u (λ x. SomePartDeeperAt ts x d)
   part_deep_at no_terms u n d fits own normal c meets l = absurd (omega arith)
   part_deep_at (term t ts) u n d fits own normal c meets l = elim (within_max d (depth t) (depth_of_parts ts) l) [
     | inl h ↦ let x = deep_at t u n d fits own.0 normal.0 c meets h in (x.0, x.1, inl x.2)

@@ -7,7 +7,7 @@ use Rattle.lois_base.specs.Data.{TermD, var, tag, tup, coll, TermsD, no_terms, t
 use Rattle.lois_base.specs.Fits.{LitFits, CubeFits, ConstraintFits, Fits, PartsFit, CompFits, ItemsFit}
 use Rattle.lois_base.specs.Normal.{GuardUses, Occurs, OccursInPart, OccursInComp, OccursInItem}
 use Rattle.lois_base.specs.Rename.{rename, rename_parts, rename_comp, rename_items, rename_lit, rename_cube, rename_constraint}
-use Rattle.lois_base.specs.Validity.{AdmitsLit, AdmitsCube, AdmitsConstraint, AdmitsTerm, AdmitsParts, AdmitsComp, AdmitsItems, count_of_parts, HasUsualWidths, PartsHaveUsualWidths, CompHasUsualWidths, ItemsHaveUsualWidths}
+use Rattle.lois_base.specs.Validity.{AdmitsLit, AdmitsCube, AdmitsConstraint, AdmitsTerm, AdmitsParts, AdmitsComp, AdmitsItems, count_of_parts, HasBoundedWidths, PartsHaveBoundedWidths, CompHasBoundedWidths, ItemsHaveBoundedWidths}
 use Rattle.lois_base.specs.declared.guards.Lit.{Lit}
 use Rattle.lois_base.proofs.Validity.{used_at, level_fits}
 
@@ -35,21 +35,21 @@ module _ (name : ℕ → ℕ) where
   count_renamed (term t ts) = ap suc (count_renamed ts)
 
   mutual
-    pub widths_renamed : (t : TermD) → HasUsualWidths t → HasUsualWidths (rename name t)
+    pub widths_renamed : (t : TermD) → HasBoundedWidths t → HasBoundedWidths (rename name t)
     widths_renamed (var i) h = h
     widths_renamed (tag n) h = h
     widths_renamed (tup ts) h =
         (subst (λ n. 2 ≤ n) (sym (count_renamed ts)) h.0, subst (λ n. n ≤ 8) (sym (count_renamed ts)) h.1, parts_widths_renamed ts h.2)
     widths_renamed (coll cs) h = items_widths_renamed cs h
 
-    parts_widths_renamed : (ts : TermsD) → PartsHaveUsualWidths ts → PartsHaveUsualWidths (rename_parts name ts)
+    parts_widths_renamed : (ts : TermsD) → PartsHaveBoundedWidths ts → PartsHaveBoundedWidths (rename_parts name ts)
     parts_widths_renamed no_terms h = h
     parts_widths_renamed (term t ts) h = (widths_renamed t h.0, parts_widths_renamed ts h.1)
 
-    comp_widths_renamed : (k : CompD) → CompHasUsualWidths k → CompHasUsualWidths (rename_comp name k)
+    comp_widths_renamed : (k : CompD) → CompHasBoundedWidths k → CompHasBoundedWidths (rename_comp name k)
     comp_widths_renamed (comp m g t) h = widths_renamed t h
 
-    items_widths_renamed : (ks : CompsD) → ItemsHaveUsualWidths ks → ItemsHaveUsualWidths (rename_items name ks)
+    items_widths_renamed : (ks : CompsD) → ItemsHaveBoundedWidths ks → ItemsHaveBoundedWidths (rename_items name ks)
     items_widths_renamed no_comps h = h
     items_widths_renamed (more k ks) h = (comp_widths_renamed k h.0, items_widths_renamed ks h.1)
 

@@ -7,7 +7,7 @@ use Rattle.lois_base.specs.Data.{coll}
 use Rattle.lois_base.specs.FormulaData.{FormulaD, FormulaFits}
 use Rattle.lois_base.specs.FormulaTruth.{FormulaHolds}
 use Rattle.lois_base.specs.Laws.{EqualIsEquivalence, IsDenseOrder, TruthRespectsEqual, SameIsEquivalence, SameIsRespected, SetsAreTheirMembers, OnlyItsLevelsCount, OnlyThePatternCounts, moved, MapsKeepMeaning, SmallNumbersSuffice}
-use Rattle.lois_base.specs.Patterns.{AreAlike, Keeps}
+use Rattle.lois_base.specs.Patterns.{AreAlike, IsEmbedding}
 use Rattle.lois_base.specs.Fits.{Fits}
 use Rattle.lois_base.specs.Truth.{sampled}
 use Rattle.lois_base.specs.Validity.{AdmitsFormula, AdmitsTerm}
@@ -70,7 +70,7 @@ pattern = record {
   values = same_alike;
 }
 
-formulas_kept : (ordered : Bool) (f : Atom → Atom) → Keeps ordered f → (g : FormulaD) (c : List Atom) → FormulaFits (length c) g → AdmitsFormula ordered g → FormulaHolds c g ↔ FormulaHolds (map f c) g
+formulas_kept : (ordered : Bool) (f : Atom → Atom) → IsEmbedding ordered f → (g : FormulaD) (c : List Atom) → FormulaFits (length c) g → AdmitsFormula ordered g → FormulaHolds c g ↔ FormulaHolds (map f c) g
 formulas_kept ordered f keeps g c p a =
     let there : AreAlike ordered c (map f c) = alike_map ordered f keeps c in
     let q : FormulaFits (length (map f c)) g = subst (λ n. FormulaFits n g) there.count p in (
@@ -78,7 +78,7 @@ formulas_kept ordered f keeps g c p a =
       (λ h. formula_alike ordered g (map f c) c (alike_sym ordered c (map f c) there) q a h),
     )
 
-values_kept : (ordered : Bool) (f : Atom → Atom) → Keeps ordered f → (v w : PointValue) → IsProper v → IsProper w → AdmitsTerm ordered v.term_of → AdmitsTerm ordered w.term_of → IsSame v w ↔ IsSame (moved f v) (moved f w)
+values_kept : (ordered : Bool) (f : Atom → Atom) → IsEmbedding ordered f → (v w : PointValue) → IsProper v → IsProper w → AdmitsTerm ordered v.term_of → AdmitsTerm ordered w.term_of → IsSame v w ↔ IsSame (moved f v) (moved f w)
 values_kept ordered f keeps v w p q a b =
     let there : AreAlike ordered (v.choice ++ w.choice) (map f v.choice ++ map f w.choice) = alike_maps ordered f keeps v.choice w.choice in
     let home = alike_sym ordered (v.choice ++ w.choice) (map f v.choice ++ map f w.choice) there in

@@ -6,8 +6,8 @@ use Rattle.lois_base.specs.Data.{TermD, coll, CompsD, depth}
 use Rattle.lois_base.specs.Fits.{ConstraintFits, Fits}
 use Rattle.lois_base.specs.FormulaData.{FormulaD, FormulaFits}
 use Rattle.lois_base.specs.FormulaTruth.{FormulaHolds}
-use Rattle.lois_base.specs.Normal.{GuardUses, Occurs, Meets, IsNormal}
-use Rattle.lois_base.specs.Patterns.{AreEqualFor, AreEqual, AreAlike, Keeps}
+use Rattle.lois_base.specs.Normal.{GuardUses, Occurs, Satisfies, IsNormal}
+use Rattle.lois_base.specs.Patterns.{AreEqualFor, AreEqual, AreAlike, IsEmbedding}
 use Rattle.lois_base.specs.Truth.{holds, sampled}
 use Rattle.lois_base.specs.Validity.{AdmitsConstraint, AdmitsFormula, AdmitsTerm}
 use Rattle.lois_base.specs.Values.{PointValue, point, IsProper, IsSame, IsIn, IsIncluded, IsDeeper}
@@ -69,9 +69,9 @@ moved f v = point v.term_of (map f v.choice)
 
 -- so every map of atoms that keeps equality, and order where `<` occurs, keeps truth and sameness
 pub record MapsKeepMeaning : Type 0 where
-  pub constraints : (ordered : Bool) (f : Atom → Atom) → Keeps ordered f → (g : List (List Lit)) (c : List Atom) → ConstraintFits (length c) g → AdmitsConstraint ordered g → holds c g ≡ holds (map f c) g
-  pub formulas : (ordered : Bool) (f : Atom → Atom) → Keeps ordered f → (g : FormulaD) (c : List Atom) → FormulaFits (length c) g → AdmitsFormula ordered g → FormulaHolds c g ↔ FormulaHolds (map f c) g
-  pub values : (ordered : Bool) (f : Atom → Atom) → Keeps ordered f → (v w : PointValue) → IsProper v → IsProper w → AdmitsTerm ordered v.term_of → AdmitsTerm ordered w.term_of → IsSame v w ↔ IsSame (moved f v) (moved f w)
+  pub constraints : (ordered : Bool) (f : Atom → Atom) → IsEmbedding ordered f → (g : List (List Lit)) (c : List Atom) → ConstraintFits (length c) g → AdmitsConstraint ordered g → holds c g ≡ holds (map f c) g
+  pub formulas : (ordered : Bool) (f : Atom → Atom) → IsEmbedding ordered f → (g : FormulaD) (c : List Atom) → FormulaFits (length c) g → AdmitsFormula ordered g → FormulaHolds c g ↔ FormulaHolds (map f c) g
+  pub values : (ordered : Bool) (f : Atom → Atom) → IsEmbedding ordered f → (v w : PointValue) → IsProper v → IsProper w → AdmitsTerm ordered v.term_of → AdmitsTerm ordered w.term_of → IsSame v w ↔ IsSame (moved f v) (moved f w)
 
 -- each choice of k atoms has k numbers below k that stand alike, at which each constraint over k levels has the same truth
 pub record SmallNumbersSuffice : Type 0 where
@@ -82,4 +82,4 @@ pub record SmallNumbersSuffice : Type 0 where
 -- most d deep.
 abbrev pub NormalIsAsDeep : Type 0
 NormalIsAsDeep =
-    (t : TermD) (u : List (List Lit)) (n d : ℕ) → ConstraintFits n u → Fits n t → IsNormal t u n → ((c : List Atom) × Meets n u c) → ((c : List Atom) → Meets n u c → IsDeeper (point t c) d → ⊥) → depth t ≤ d
+    (t : TermD) (u : List (List Lit)) (n d : ℕ) → ConstraintFits n u → Fits n t → IsNormal t u n → ((c : List Atom) × Satisfies n u c) → ((c : List Atom) → Satisfies n u c → IsDeeper (point t c) d → ⊥) → depth t ≤ d

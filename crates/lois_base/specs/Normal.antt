@@ -43,17 +43,17 @@ joined no_comps cs = cs
 joined (more k ks) cs = more k (joined ks cs)
 
 -- a choice of n atoms at which a guard holds
-pub record Meets (n : ℕ) (u : List (List Lit)) (c : List Atom) : Type 0 where
+pub record Satisfies (n : ℕ) (u : List (List Lit)) (c : List Atom) : Type 0 where
   pub count : length c ≡ n
   pub met : IsTrue (holds c u)
 
 -- A comprehension of m binders with a guard and an item, beside others, at the choices of n atoms at which u holds: it is met
 -- somewhere, each binder occurs in the item, no binder is fixed to an earlier level, and somewhere it has a member of its own.
-pub record IsLean (m : ℕ) (g : List (List Lit)) (t : TermD) (others : CompsD) (u : List (List Lit)) (n : ℕ) : Type 0 where
-  pub met : (c : List Atom) × Meets (n + m) (both u g) c
+pub record IsIrredundant (m : ℕ) (g : List (List Lit)) (t : TermD) (others : CompsD) (u : List (List Lit)) (n : ℕ) : Type 0 where
+  pub met : (c : List Atom) × Satisfies (n + m) (both u g) c
   pub used : (b : ℕ) → n ≤ b → b < n + m → Occurs b t
-  pub free : (b a : ℕ) → n ≤ b → b < n + m → a < b → (c : List Atom) × Meets (n + m) (both u g) c × IsFalse (equal (atom_at c b) (atom_at c a))
-  pub own : (c e : List Atom) × Meets n u c × IsExtension c m g e × (InAt t (c ++ e) others c → ⊥)
+  pub free : (b a : ℕ) → n ≤ b → b < n + m → a < b → (c : List Atom) × Satisfies (n + m) (both u g) c × IsFalse (equal (atom_at c b) (atom_at c a))
+  pub own : (c e : List Atom) × Satisfies n u c × IsExtension c m g e × (InAt t (c ++ e) others c → ⊥)
 
 -- Normal under u, with n levels. Each comprehension is judged beside those before and those after it.
 abbrev mutual
@@ -73,4 +73,4 @@ abbrev mutual
       IsNormalComp k (joined before ks) u n × EachIsNormal ks (joined before (more k no_comps)) u n
 
   pub IsNormalComp : CompD → CompsD → List (List Lit) → ℕ → Type 0
-  IsNormalComp (comp m g t) others u n = IsLean m g t others u n × IsNormal t (both u g) (n + m)
+  IsNormalComp (comp m g t) others u n = IsIrredundant m g t others u n × IsNormal t (both u g) (n + m)

@@ -25,6 +25,6 @@ pub record AreAlike (ordered : Bool) (c d : List Atom) : Type 0 where
   pub agree : (op : Op) → IsTrue (is_admitted ordered op) → Agree op c d
 
 -- the map keeps equality of atoms, and their order where atoms are ordered
-abbrev pub Keeps : Bool → (Atom → Atom) → Type 0
-Keeps ordered f =
+abbrev pub IsEmbedding : Bool → (Atom → Atom) → Type 0
+IsEmbedding ordered f =
     (op : Op) → IsTrue (is_admitted ordered op) → (a b : Atom) → op_holds op (f a) (f b) ≡ op_holds op a b

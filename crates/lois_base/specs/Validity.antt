@@ -75,22 +75,22 @@ count_of_parts (term t ts) = suc (count_of_parts ts)
 
 -- each tuple has 2 to 8 parts
 abbrev mutual
-  pub HasUsualWidths : TermD → Type 0
-  HasUsualWidths (var i) = Unit {0}
-  HasUsualWidths (tag t) = Unit {0}
-  HasUsualWidths (tup ts) = (LEAST_WIDTH ≤ count_of_parts ts) × (count_of_parts ts ≤ GREATEST_WIDTH) × PartsHaveUsualWidths ts
-  HasUsualWidths (coll cs) = ItemsHaveUsualWidths cs
+  pub HasBoundedWidths : TermD → Type 0
+  HasBoundedWidths (var i) = Unit {0}
+  HasBoundedWidths (tag t) = Unit {0}
+  HasBoundedWidths (tup ts) = (LEAST_WIDTH ≤ count_of_parts ts) × (count_of_parts ts ≤ GREATEST_WIDTH) × PartsHaveBoundedWidths ts
+  HasBoundedWidths (coll cs) = ItemsHaveBoundedWidths cs
 
-  pub PartsHaveUsualWidths : TermsD → Type 0
-  PartsHaveUsualWidths no_terms = Unit {0}
-  PartsHaveUsualWidths (term t ts) = HasUsualWidths t × PartsHaveUsualWidths ts
+  pub PartsHaveBoundedWidths : TermsD → Type 0
+  PartsHaveBoundedWidths no_terms = Unit {0}
+  PartsHaveBoundedWidths (term t ts) = HasBoundedWidths t × PartsHaveBoundedWidths ts
 
-  pub CompHasUsualWidths : CompD → Type 0
-  CompHasUsualWidths (comp m g t) = HasUsualWidths t
+  pub CompHasBoundedWidths : CompD → Type 0
+  CompHasBoundedWidths (comp m g t) = HasBoundedWidths t
 
-  pub ItemsHaveUsualWidths : CompsD → Type 0
-  ItemsHaveUsualWidths no_comps = Unit {0}
-  ItemsHaveUsualWidths (more c cs) = CompHasUsualWidths c × ItemsHaveUsualWidths cs
+  pub ItemsHaveBoundedWidths : CompsD → Type 0
+  ItemsHaveBoundedWidths no_comps = Unit {0}
+  ItemsHaveBoundedWidths (more c cs) = CompHasBoundedWidths c × ItemsHaveBoundedWidths cs
 
 -- a literal, a cube, a constraint uses only levels that the constraint g uses
 abbrev pub LitUsesOnly : List (List Lit) → Lit → Type 0

@@ -14,14 +14,14 @@ use Rattle.lois_base.specs.declared.guards.Lit.{Lit}
 use Rattle.lois_elim.specs.Bound.{AgreesWith}
 use Rattle.lois_relate.specs.Built.{IsBoth, IsForSome}
 use Rattle.lois_relate.specs.Relations.{HoldsWhereSame}
-use Rattle.lois_terms.specs.Raised.{IsRaised}
+use Rattle.lois_terms.specs.Shifted.{IsShifted}
 use Rattle.lois_census.specs.Alike.{SaysBehind}
 use Rattle.lois_census.specs.Left.{HoldsWhereInOrbit}
 use Rattle.lois_census.specs.OrbitData.{OrbitD}
 use Rattle.lois_census.specs.Orbits.{IsInOrbit}
 
 -- both items among the levels of both choices
-module _ (n m : ℕ) (t u own listed : TermD) (own_raised : IsRaised n m t own) (listed_raised : IsRaised 0 n u listed) (e d : List Atom) (le : length e ≡ n) (ld : length d ≡ m) where
+module _ (n m : ℕ) (t u own listed : TermD) (own_raised : IsShifted n m t own) (listed_raised : IsShifted 0 n u listed) (e d : List Atom) (le : length e ≡ n) (ld : length d ≡ m) where
   own_same : IsSame (point own (e ++ d)) (point t e)
   own_same =
       subst (λ z. IsSame (point own (e ++ d)) (point t z)) (append-nil e)
@@ -41,7 +41,7 @@ module _ (n m : ℕ) (t u own listed : TermD) (own_raised : IsRaised n m t own) 
       (same_trans (point u d) (point t e) (point own (e ++ d)) (same_sym (point t e) (point u d) h) (same_sym (point own (e ++ d)) (point t e) own_same))
 
 module _ (ordered : Bool) (n m : ℕ) (t : TermD) (o : OrbitD) (own listed : TermD) (standing same both some : FormulaD) (q r : List (List Lit)) where
-  pub inside : length o.sample ≡ m → IsRaised n m t own → IsRaised 0 n o.item listed → SaysBehind ordered n m (AreAlike ordered (sampled o.sample)) standing →
+  pub inside : length o.sample ≡ m → IsShifted n m t own → IsShifted 0 n o.item listed → SaysBehind ordered n m (AreAlike ordered (sampled o.sample)) standing →
       HoldsWhereSame (n + m) listed own same → IsBoth standing same both → IsForSome m both some → AgreesWith n some q → ((e : List Atom) → holds e r ≡ holds e q) → HoldsWhereInOrbit ordered n t o r
   inside count own_raised listed_raised stands is_same is_both is_some agrees normal e le = (in', out)
     where

@@ -16,10 +16,10 @@ use Rattle.lois_base.specs.Truth.{holds, sampled}
 use Rattle.lois_base.specs.Validity.{AdmitsConstraint}
 use Rattle.lois_base.specs.Values.{point, IsSame}
 use Rattle.lois_base.specs.declared.guards.Lit.{Lit}
-use Rattle.lois_deciders.specs.Asked.{Meets, CanBeMet}
+use Rattle.lois_deciders.specs.Satisfaction.{IsConstraintSample, ConstraintIsSatisfiable}
 use Rattle.lois_census.specs.Left.{HoldsWhereInOrbit, IsWithout, IsLeft, IsCovered}
 use Rattle.lois_census.specs.OrbitData.{OrbitD}
-use Rattle.lois_census.specs.Orbits.{IsInOrbit, IsOutside, AreApart}
+use Rattle.lois_census.specs.Orbits.{IsInOrbit, IsOutside, AreDisjointOrbits}
 use Rattle.lois_census.proofs.Lists.{Any-kept}
 
 both_in : (p a b : Bool) → p ≡ (a && not b) → IsTrue p → IsTrue a × IsFalse b
@@ -68,7 +68,7 @@ module _ (ordered : Bool) (n : ℕ) (t : TermD) where
 
     module _ (os : List OrbitD) (u : List (List Lit)) (left : IsLeft ordered n g t os u) where
       -- nothing is left
-      pub covered : (CanBeMet n u → ⊥) → IsCovered ordered os (comp n g t)
+      pub covered : (ConstraintIsSatisfiable n u → ⊥) → IsCovered ordered os (comp n g t)
       covered unmet e extension =
           elim (test (holds e u)) [
             | inl h ↦ absurd (unmet (e, extension.count, h))
@@ -77,7 +77,7 @@ module _ (ordered : Bool) (n : ℕ) (t : TermD) where
 
       -- No value of the orbit at a sample of what is left is in a listed orbit: what is left holds at all choices that are alike to
       -- the sample, and there the item is outside of all of them.
-      pub apart_from : ConstraintFits n u → AdmitsConstraint ordered u → (o : OrbitD) → o.item ≡ t → Meets n u o.sample → All (λ p. AreApart ordered p o) os
+      pub apart_from : ConstraintFits n u → AdmitsConstraint ordered u → (o : OrbitD) → o.item ≡ t → IsConstraintSample n u o.sample → All (λ p. AreDisjointOrbits ordered p o) os
       apart_from fits admits o is meets i p l v in_listed in_new =
           let c = in_new.0 in
           let alike : AreAlike ordered (sampled o.sample) c = in_new.1 in
@@ -88,6 +88,6 @@ module _ (ordered : Bool) (n : ℕ) (t : TermD) where
           let same : IsSame v (point t c) = subst (λ z. IsSame v (point z c)) is in_new.2 in
           outside (in_listed.0, in_listed.1, same_trans (point t c) v (point (get_or os i p).item in_listed.0) (same_sym v (point t c) same) in_listed.2)
 
-pub pairs_more : (ordered : Bool) (os : List OrbitD) (o : OrbitD) → AllPairs (AreApart ordered) os → All (λ p. AreApart ordered p o) os → AllPairs (AreApart ordered) (os ++ o ∷ [])
+pub pairs_more : (ordered : Bool) (os : List OrbitD) (o : OrbitD) → AllPairs (AreDisjointOrbits ordered) os → All (λ p. AreDisjointOrbits ordered p o) os → AllPairs (AreDisjointOrbits ordered) (os ++ o ∷ [])
 pairs_more ordered os o pairs apart =
-    all_pairs_push (AreApart ordered) os o pairs (λ k d l. apart k d l)
+    all_pairs_push (AreDisjointOrbits ordered) os o pairs (λ k d l. apart k d l)

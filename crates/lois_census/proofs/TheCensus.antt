@@ -7,7 +7,7 @@ use Rattle.lois_base.specs.Atom.{Atom}
 use Rattle.lois_base.specs.Data.{TermD, coll, CompD, comp, CompsD, more, comps_of}
 use Rattle.lois_base.specs.Fits.{Fits, CompFits, ItemsFit}
 use Rattle.lois_base.specs.Truth.{sampled}
-use Rattle.lois_base.specs.Validity.{AdmitsTerm, AdmitsComp, AdmitsItems, HasUsualWidths, CompHasUsualWidths, ItemsHaveUsualWidths}
+use Rattle.lois_base.specs.Validity.{AdmitsTerm, AdmitsComp, AdmitsItems, HasBoundedWidths, CompHasBoundedWidths, ItemsHaveBoundedWidths}
 use Rattle.lois_base.specs.Values.{PointValue, point, MakesAt, MemberAt, IsMember, IsIn}
 use Rattle.lois_census.specs.Left.{IsTakenFrom, IsTakenFromSome, IsCovered, AddsOnly, IsUsable}
 use Rattle.lois_census.specs.OrbitData.{OrbitD}
@@ -24,8 +24,8 @@ taken_fits (comp m g t) o fits h =
 pub taken_admits : (ordered : Bool) (k : CompD) (o : OrbitD) → AdmitsComp ordered k → IsTakenFrom k o → AdmitsTerm ordered o.item
 taken_admits ordered (comp m g t) o admits h = subst (AdmitsTerm ordered) (sym h.0) admits.1
 
-taken_widths : (k : CompD) (o : OrbitD) → CompHasUsualWidths k → IsTakenFrom k o → HasUsualWidths o.item
-taken_widths (comp m g t) o widths h = subst HasUsualWidths (sym h.0) widths
+taken_widths : (k : CompD) (o : OrbitD) → CompHasBoundedWidths k → IsTakenFrom k o → HasBoundedWidths o.item
+taken_widths (comp m g t) o widths h = subst HasBoundedWidths (sym h.0) widths
 
 pub taken_usable : (ordered : Bool) (k : CompD) (o : OrbitD) → CompFits 0 k → AdmitsComp ordered k → IsTakenFrom k o → IsUsable ordered o
 taken_usable ordered k o fits admits h =
@@ -65,9 +65,9 @@ pub all_admitted : (ordered : Bool) (ks : List CompD) → AdmitsItems ordered (c
 all_admitted ordered ks admits os h =
     all_have (AdmitsComp ordered) (AdmitsItems ordered) (λ k cs e. e) (λ o. AdmitsTerm ordered o.item) (taken_admits ordered) ks admits os h
 
-pub all_wide : (ks : List CompD) → ItemsHaveUsualWidths (comps_of ks) → (os : List OrbitD) → All (IsTakenFromSome ks) os → All (λ o. HasUsualWidths o.item) os
+pub all_wide : (ks : List CompD) → ItemsHaveBoundedWidths (comps_of ks) → (os : List OrbitD) → All (IsTakenFromSome ks) os → All (λ o. HasBoundedWidths o.item) os
 all_wide ks widths os h =
-    all_have CompHasUsualWidths ItemsHaveUsualWidths (λ k cs e. e) (λ o. HasUsualWidths o.item) taken_widths ks widths os h
+    all_have CompHasBoundedWidths ItemsHaveBoundedWidths (λ k cs e. e) (λ o. HasBoundedWidths o.item) taken_widths ks widths os h
 
 -- ---- members
 made_member : (ks : List CompD) (i : ℕ) (d : CompD) (w : TermD) (x : List Atom) → i < length ks → MakesAt w x (get_or ks i d) [] → MemberAt w x (comps_of ks) []

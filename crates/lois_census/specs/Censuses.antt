@@ -3,23 +3,23 @@ use Rattle.std.specs.Prelude.{◌≡◌, ℕ, suc, Bool, List, [], ◌∷◌, �
 use Rattle.std.specs.List.{All, AllPairs, AllZip}
 use Rattle.lois_base.specs.Data.{TermD}
 use Rattle.lois_base.specs.Truth.{holds}
-use Rattle.lois_base.specs.Validity.{AdmitsTerm, HasUsualWidths}
+use Rattle.lois_base.specs.Validity.{AdmitsTerm, HasBoundedWidths}
 use Rattle.lois_base.specs.Values.{PointValue, point, IsMember, IsIn}
 use Rattle.lois_answers.specs.LastNamed.{last_named}
 use Rattle.lois_answers.specs.ResultsData.{LineD, CaseD}
 use Rattle.lois_terms.specs.Guarded.{IsSet}
 use Rattle.lois_census.specs.CensusData.{CensusD}
 use Rattle.lois_census.specs.OrbitData.{OrbitD}
-use Rattle.lois_census.specs.Orbits.{value_of, IsListed, AreApart, FitsSample}
+use Rattle.lois_census.specs.Orbits.{value_of, IsListed, AreDisjointOrbits, FitsSample}
 
 -- each orbit is that of a member of the set t, and each member of it is in exactly one
 pub record AreOrbitsOf (ordered : Bool) (t : TermD) (os : List OrbitD) : Type 0 where
   pub levels : All FitsSample os
   pub members : All (λ o. IsMember (value_of o) (point t [])) os
   pub each : (v : PointValue) → IsIn v (point t []) → IsListed ordered os v
-  pub once : AllPairs (AreApart ordered) os
+  pub once : AllPairs (AreDisjointOrbits ordered) os
   pub operators : (o : Bool) → AdmitsTerm o t → All (λ k. AdmitsTerm o k.item) os
-  pub widths : HasUsualWidths t → All (λ k. HasUsualWidths k.item) os
+  pub widths : HasBoundedWidths t → All (λ k. HasBoundedWidths k.item) os
 
 -- a line of the name, of which the last counts
 abbrev pub HasLine : List ℕ → CaseD → Type 0

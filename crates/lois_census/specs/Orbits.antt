@@ -28,8 +28,8 @@ abbrev pub IsListed : Bool → List OrbitD → PointValue → Type 0
 IsListed ordered os v = Any (IsInOrbit ordered v) os
 
 -- no value is in both
-abbrev pub AreApart : Bool → OrbitD → OrbitD → Type 0
-AreApart ordered o p = (v : PointValue) → IsInOrbit ordered v o → IsInOrbit ordered v p → ⊥
+abbrev pub AreDisjointOrbits : Bool → OrbitD → OrbitD → Type 0
+AreDisjointOrbits ordered o p = (v : PointValue) → IsInOrbit ordered v o → IsInOrbit ordered v p → ⊥
 
 -- the item fits the length of the sample
 abbrev pub FitsSample : OrbitD → Type 0

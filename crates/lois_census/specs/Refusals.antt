@@ -37,6 +37,6 @@ pub record AreCensusesIn (ordered : Bool) (r : Results) (name : List ℕ) (es : 
   pub censuses : AreCensusesOf ordered name (numbered 1 r.cases) es
   pub text : HaveText es
 
-abbrev pub HasCause : Bool → Results → List ℕ → Answer → Type 0
-HasCause ordered r name (Listed es) = AreCensusesIn ordered r name es
-HasCause ordered r name (Refused cause) = IsRefusedAs r name cause
+abbrev pub IsCensusAnswer : Bool → Results → List ℕ → Answer → Type 0
+IsCensusAnswer ordered r name (Listed es) = AreCensusesIn ordered r name es
+IsCensusAnswer ordered r name (Refused cause) = IsRefusedAs r name cause

@@ -10,7 +10,7 @@ ghost use Rattle.lois_base.specs.Validity.{AdmitsLit};
 ghost use Rattle.lois_census.specs.Alike.{StandAlike, StandsBeside, SaysBehind};
 
 use lois_base::{Formula, Lit, NoMemory, Op, Structure};
-use lois_relate::building::{always, both};
+use lois_relate::building::{conjunction, true_formula};
 use std::alloc::Global;
 
 /// The literal that the atoms at two levels stand to one another as two numbers do.
@@ -58,10 +58,10 @@ fn alike_beside<T: Structure>(
     requires room { from + length sample.now < 2 ^ 64 }
     ensures { IfOk result (λ f. SaysBehind T.ordered from (length sample.now) (StandsBeside T.ordered sample.now last last) (view f)) }
 {
-    let mut met = always(alloc);
+    let mut met = true_formula(alloc);
     for i in 0..last {
         let literal = related::<T>(sample[i], sample[last], from + i, from + last);
-        met = both(alloc, met, Formula::Lit(literal))?;
+        met = conjunction(alloc, met, Formula::Lit(literal))?;
     }
     Ok(met)
 }
@@ -75,10 +75,10 @@ pub(crate) fn alike<T: Structure>(
     requires room { from + length sample.now < 2 ^ 64 }
     ensures { IfOk result (λ f. SaysBehind T.ordered from (length sample.now) (AreAlike T.ordered (sampled sample.now)) (view f)) }
 {
-    let mut met = always(alloc);
+    let mut met = true_formula(alloc);
     for last in 0..sample.len() {
         let beside = alike_beside::<T>(alloc, sample, last, from)?;
-        met = both(alloc, met, beside)?;
+        met = conjunction(alloc, met, beside)?;
     }
     Ok(met)
 }

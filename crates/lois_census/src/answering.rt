@@ -6,7 +6,7 @@ ghost use Rattle.lois_answers.specs.CaseView.{case_of};
 ghost use Rattle.lois_answers.specs.Sound.{IsSound, IsSoundCase};
 ghost use Rattle.lois_deciders.specs.OnlyAsked.{HasOnlyAsked};
 ghost use Rattle.lois_census.specs.Censuses.{HasLine, HasSet, AreOrbitsIn, AreCensusesOf, IsCensusAdded, numbered};
-ghost use Rattle.lois_census.specs.Refusals.{IsFirstWithout, HasCause};
+ghost use Rattle.lois_census.specs.Refusals.{IsFirstWithout, IsCensusAnswer};
 
 use crate::counting::{Answer, Census, Censuses, Refusal};
 use crate::listing::census;
@@ -26,7 +26,7 @@ pub fn census_of<T: Structure>(
 ) -> Result<Answer, NoMemory>
     requires sound { IsSound results.now }
     requires structure { T.ordered ≡ results.now.order }
-    ensures cause { IfOk result (HasCause T.ordered results.now name.now) }
+    ensures cause { IfOk result (IsCensusAnswer T.ordered results.now name.now) }
 
     // whatever is answered
     ensures only_asked { HasOnlyAsked (λ b. (⟦<dyn Decider as Decider>⟧ b.vtable).kind_of b.value) (λ b. (⟦<dyn Decider as Decider>⟧ b.vtable).questions b.value) chosen.old chosen.new }

@@ -4,7 +4,7 @@ ghost use Rattle.std.specs.Prelude.{◌≡◌, ℕ, ◌+◌, ◌<◌, ◌≤◌,
 ghost use Rattle.lois_base.specs.Fits.{ConstraintFits, Fits, CompFits};
 ghost use Rattle.lois_base.specs.Tree.{tree, comp_of};
 ghost use Rattle.lois_base.specs.Validity.{AdmitsConstraint, AdmitsTerm, AdmitsComp};
-ghost use Rattle.lois_terms.specs.Raised.{IsRaised};
+ghost use Rattle.lois_terms.specs.Shifted.{IsShifted};
 ghost use Rattle.lois_census.specs.Left.{HoldsWhereInOrbit, IsUsable, IsWithout};
 ghost use Rattle.lois_census.specs.OrbitView.{orbit_of};
 
@@ -13,7 +13,7 @@ use crate::orbits::Orbit;
 use lois_base::{Comp, Constraint, NoMemory, Structure, Term};
 use lois_constraint::{and_not, normalise};
 use lois_elim::quantifier_free;
-use lois_relate::building::{both, for_some};
+use lois_relate::building::{conjunction, for_some};
 use lois_relate::equal_formula;
 use lois_terms::shift_term;
 use std::alloc::Global;
@@ -36,7 +36,7 @@ fn among_more(
     requires order { from ≤ size }
     requires fits { Fits size (tree t.now) }
     requires room { size + by < 2 ^ 64 }
-    ensures value { IfOk result (λ r. IsRaised from by (tree t.now) (tree r)) }
+    ensures value { IfOk result (λ r. IsShifted from by (tree t.now) (tree r)) }
     ensures fits { IfOk result (λ r. Fits (size + by) (tree r)) }
     ensures operators { IfOk result (λ r. (o : Bool) → AdmitsTerm o (tree t.now) → AdmitsTerm o (tree r)) }
 {
@@ -68,7 +68,7 @@ fn in_orbit<T: Structure>(
     let own = among_more(alloc, item, size, size, count)?;
     let standing = alike::<T>(alloc, sample, size)?;
     let same = equal_formula(alloc, &listed, &own, all)?;
-    let somewhere = for_some(alloc, both(alloc, standing, same)?, count)?;
+    let somewhere = for_some(alloc, conjunction(alloc, standing, same)?, count)?;
     let inside = quantifier_free::<T>(alloc, &somewhere, size)?;
     normalise(alloc, &inside)
 }

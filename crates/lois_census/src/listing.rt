@@ -5,12 +5,12 @@ ghost use Rattle.std.specs.List.{All, AllPairs};
 ghost use Rattle.lois_base.specs.Data.{comps_of};
 ghost use Rattle.lois_base.specs.Fits.{ConstraintFits, Fits, CompFits, ItemsFit};
 ghost use Rattle.lois_base.specs.Tree.{tree, comp_of};
-ghost use Rattle.lois_base.specs.Validity.{AdmitsConstraint, AdmitsTerm, AdmitsComp, AdmitsItems, HasUsualWidths};
+ghost use Rattle.lois_base.specs.Validity.{AdmitsConstraint, AdmitsTerm, AdmitsComp, AdmitsItems, HasBoundedWidths};
 ghost use Rattle.lois_base.specs.Values.{PointValue, point, IsMember, IsIn};
 ghost use Rattle.lois_terms.specs.Guarded.{IsSet};
 ghost use Rattle.lois_deciders.specs.OnlyAsked.{HasOnlyAsked};
 ghost use Rattle.lois_census.specs.Left.{IsTakenFrom, IsTakenFromSome, IsCovered, AddsOnly, IsUsable, IsLeft};
-ghost use Rattle.lois_census.specs.Orbits.{value_of, IsListed, AreApart, FitsSample};
+ghost use Rattle.lois_census.specs.Orbits.{value_of, IsListed, AreDisjointOrbits, FitsSample};
 
 use crate::inside::without;
 use crate::orbits::{Orbit, Orbits};
@@ -35,10 +35,10 @@ pub fn census<T: Structure>(
 
     // each member is in one of them, and no value is in two
     ensures each { IfOk result (λ r. (v : PointValue) → IsIn v (point (tree set.now) []) → IsListed T.ordered r v) }
-    ensures once { IfOk result (AllPairs (AreApart T.ordered)) }
+    ensures once { IfOk result (AllPairs (AreDisjointOrbits T.ordered)) }
 
     ensures operators { IfOk result (λ r. (o : Bool) → AdmitsTerm o (tree set.now) → All (λ k. AdmitsTerm o k.item) r) }
-    ensures widths { IfOk result (λ r. HasUsualWidths (tree set.now) → All (λ k. HasUsualWidths k.item) r) }
+    ensures widths { IfOk result (λ r. HasBoundedWidths (tree set.now) → All (λ k. HasBoundedWidths k.item) r) }
 
     // whatever is answered
     ensures only_asked { HasOnlyAsked (λ b. (⟦<dyn Decider as Decider>⟧ b.vtable).kind_of b.value) (λ b. (⟦<dyn Decider as Decider>⟧ b.vtable).questions b.value) chosen.old chosen.new }
@@ -58,7 +58,7 @@ fn all_orbits<T: Structure>(
     requires operators { AdmitsItems T.ordered (comps_of comps.now) }
     ensures taken { IfOk result (All (IsTakenFromSome comps.now)) }
     ensures covered { IfOk result (λ r. All (IsCovered T.ordered r) comps.now) }
-    ensures apart { IfOk result (AllPairs (AreApart T.ordered)) }
+    ensures apart { IfOk result (AllPairs (AreDisjointOrbits T.ordered)) }
     ensures only_asked { HasOnlyAsked (λ b. (⟦<dyn Decider as Decider>⟧ b.vtable).kind_of b.value) (λ b. (⟦<dyn Decider as Decider>⟧ b.vtable).questions b.value) chosen.old chosen.new }
 {
     let mut orbits = Orbits::new(alloc);
@@ -78,10 +78,10 @@ fn add_orbits<T: Structure>(
     requires levels { CompFits 0 (comp_of comp.now) }
     requires operators { AdmitsComp T.ordered (comp_of comp.now) }
     requires usable { All (IsUsable T.ordered) orbits.old }
-    requires apart { AllPairs (AreApart T.ordered) orbits.old }
+    requires apart { AllPairs (AreDisjointOrbits T.ordered) orbits.old }
     ensures added { OnOk result (AddsOnly (IsTakenFrom (comp_of comp.now)) orbits.old orbits.new) }
     ensures covered { OnOk result (IsCovered T.ordered orbits.new (comp_of comp.now)) }
-    ensures apart { OnOk result (AllPairs (AreApart T.ordered) orbits.new) }
+    ensures apart { OnOk result (AllPairs (AreDisjointOrbits T.ordered) orbits.new) }
     ensures only_asked { HasOnlyAsked (λ b. (⟦<dyn Decider as Decider>⟧ b.vtable).kind_of b.value) (λ b. (⟦<dyn Decider as Decider>⟧ b.vtable).questions b.value) chosen.old chosen.new }
 {
     let mut left = not_listed::<T>(alloc, comp, orbits)?;

@@ -11,11 +11,11 @@ use Rattle.lois_base.specs.Truth.{atom_at, cube_holds}
 use Rattle.lois_base.specs.declared.guards.Lit.{Lit}
 use Rattle.lois_base.specs.declared.guards.Op.{Op}
 use Rattle.lois_base.specs.declared.guards.Op.TheVariants.{Eq, Ne, Lt}
-use Rattle.lois_constraint.specs.Order.{linked, is_tied, is_apart, sets_apart, are_apart, Stands, IsOrderOf}
+use Rattle.lois_constraint.specs.Order.{linked, is_tied, is_apart, sets_apart, are_apart, HoldsInOrder, IsOrderClosure}
 use Rattle.lois_constraint.proofs.Linked.{not_true, lit_of, either, clash, first_holds, linked_cases, linked_old, linked_new, linked_trans}
 
 -- ---- x and y are tied
-module _ (le : ℕ → ℕ → Bool) (k : List Lit) (h : IsOrderOf le k) (x y : ℕ) where
+module _ (le : ℕ → ℕ → Bool) (k : List Lit) (h : IsOrderClosure le k) (x y : ℕ) where
   abbrev once : ℕ → ℕ → Bool
   once = linked x y le
 
@@ -131,12 +131,12 @@ module _ (le : ℕ → ℕ → Bool) (k : List Lit) (h : IsOrderOf le k) (x y : 
         go (inl e) = found (either (is_tied le l.left x && is_tied le l.right y) (is_tied le l.left y && is_tied le l.right x) (inl (and_from (is_tied le l.left x) (is_tied le l.right y) e.0 e.1)))
         go (inr e) = found (either (is_tied le l.left x && is_tied le l.right y) (is_tied le l.left y && is_tied le l.right x) (inr (and_from (is_tied le l.left y) (is_tied le l.right x) e.0 e.1)))
 
-    stands_at : (i : ℕ) (l : Lit) → i < length k → get_or k i l ≡ l → (o : Op) → l.op ≡ o → Stands le o l.left l.right → Stands joined o l.left l.right
+    stands_at : (i : ℕ) (l : Lit) → i < length k → get_or k i l ≡ l → (o : Op) → l.op ≡ o → HoldsInOrder le o l.left l.right → HoldsInOrder joined o l.left l.right
     stands_at i l b is Eq o s = (joined_old l.left l.right s.0, joined_old l.right l.left s.1)
     stands_at i l b is Ne o s = still_apart i l b is o s
     stands_at i l b is Lt o s = (joined_old l.left l.right s.0, still_under l.left l.right s.0 s.1)
 
-    stand : All (λ l. Stands joined l.op l.left l.right) k
+    stand : All (λ l. HoldsInOrder joined l.op l.left l.right) k
     stand i d b = stands_at i (get_or k i d) b (get_or_default k i (get_or k i d) d b) (get_or k i d).op refl (h.stands i d b)
 
     module _ (c : List Atom) (holds : cube_holds c (k ++ lit_of Eq x y ∷ []) ≡ true) where
@@ -194,21 +194,21 @@ module _ (le : ℕ → ℕ → Bool) (k : List Lit) (h : IsOrderOf le k) (x y : 
               h.under c before a b e (not_true (le b a) (λ t. clash (joined b a) (joined_old b a t) back))
           go (inr e) = newly_under a b e.0 e.1 back
 
-    pub put_equal : IsOrderOf (linked y x (linked x y le)) (k ++ lit_of Eq x y ∷ [])
+    pub put_equal : IsOrderClosure (linked y x (linked x y le)) (k ++ lit_of Eq x y ∷ [])
     put_equal = record {
       itself = λ a. joined_old a a (h.itself a);
       trans = linked_trans once (linked_trans le h.trans x y) y x;
-      stands = All-push (λ l. Stands joined l.op l.left l.right) k (lit_of Eq x y) stand (joined_new x y (inl (h.itself x)) (inr (h.itself y)), joined_new y x (inr (h.itself y)) (inl (h.itself x)));
+      stands = All-push (λ l. HoldsInOrder joined l.op l.left l.right) k (lit_of Eq x y) stand (joined_new x y (inl (h.itself x)) (inr (h.itself y)), joined_new y x (inr (h.itself y)) (inl (h.itself x)));
       at_most = more_at_most;
       under = more_under;
     }
 
 -- ---- x and y are set apart
-pub put_apart : (le : ℕ → ℕ → Bool) (k : List Lit) → IsOrderOf le k → (x y : ℕ) → is_tied le x y ≡ false → IsOrderOf le (k ++ lit_of Ne x y ∷ [])
+pub put_apart : (le : ℕ → ℕ → Bool) (k : List Lit) → IsOrderClosure le k → (x y : ℕ) → is_tied le x y ≡ false → IsOrderClosure le (k ++ lit_of Ne x y ∷ [])
 put_apart le k h x y untied = record {
   itself = h.itself;
   trans = h.trans;
-  stands = All-push (λ l. Stands le l.op l.left l.right) k (lit_of Ne x y) h.stands untied;
+  stands = All-push (λ l. HoldsInOrder le l.op l.left l.right) k (lit_of Ne x y) h.stands untied;
   at_most = λ c holds. h.at_most c (first_holds c k (lit_of Ne x y) holds).0;
   under = λ c holds. h.under c (first_holds c k (lit_of Ne x y) holds).0;
 }

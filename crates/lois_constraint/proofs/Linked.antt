@@ -9,7 +9,7 @@ use Rattle.lois_base.specs.Truth.{atom_at, lit_holds, cube_holds}
 use Rattle.lois_base.specs.declared.guards.Lit.{Lit}
 use Rattle.lois_base.specs.declared.guards.Op.{Op}
 use Rattle.lois_base.specs.declared.guards.Op.TheVariants.{Eq, Ne, Lt}
-use Rattle.lois_constraint.specs.Order.{at_most, linked, is_tied, Stands, IsOrderOf}
+use Rattle.lois_constraint.specs.Order.{at_most, linked, is_tied, HoldsInOrder, IsOrderClosure}
 use Rattle.lois_constraint.proofs.Words.{reaches_nothing}
 
 abbrev pub lit_of : Op → ℕ → ℕ → Lit
@@ -44,11 +44,11 @@ alone a b = rw (reaches_nothing b) (go (eqb a b))
 same : (a b : ℕ) → at_most [] a b ≡ true → a ≡ b
 same a b h = eqb-true a b (sym (alone a b) ∙ h)
 
-pub no_order : IsOrderOf (at_most []) []
+pub no_order : IsOrderClosure (at_most []) []
 no_order = record {
   itself = λ a. alone a a ∙ eq-eqb a a refl;
   trans = λ a b c p q. alone a c ∙ eq-eqb a c (same a b p ∙ same b c q);
-  stands = All-nil (λ l. Stands (at_most []) l.op l.left l.right);
+  stands = All-nil (λ l. HoldsInOrder (at_most []) l.op l.left l.right);
   at_most = λ c h a b m. subst (λ (z : ℕ). below (atom_at c z) (atom_at c a) ≡ false) (same a b m) (below_irrefl (atom_at c a));
   under = λ c h a b m n. clash (at_most [] b a) (alone b a ∙ eq-eqb b a (sym (same a b m))) n;
 }
@@ -75,7 +75,7 @@ module _ (le : ℕ → ℕ → Bool) (trans : (a b c : ℕ) → le a b ≡ true 
       go (inr e) (inl f) = linked_new le x y a c e.0 (trans y b c e.1 f)
       go (inr e) (inr f) = linked_new le x y a c e.0 f.1
 
-module _ (le : ℕ → ℕ → Bool) (k : List Lit) (h : IsOrderOf le k) where
+module _ (le : ℕ → ℕ → Bool) (k : List Lit) (h : IsOrderClosure le k) where
   -- ---- x is put under y
   module _ (x y : ℕ) (no : le y x ≡ false) where
     abbrev more : ℕ → ℕ → Bool
@@ -97,7 +97,7 @@ module _ (le : ℕ → ℕ → Bool) (k : List Lit) (h : IsOrderOf le k) where
         go (inr e) (inl f) = clash (le y x) (h.trans y b x e.1 (h.trans b a x f e.0)) no
         go (inr e) (inr f) = clash (le y x) (h.trans y b x e.1 f.0) no
 
-    still_stands : (o : Op) (a b : ℕ) → Stands le o a b → Stands more o a b
+    still_stands : (o : Op) (a b : ℕ) → HoldsInOrder le o a b → HoldsInOrder more o a b
     still_stands Eq a b s = (linked_old le x y a b s.0, linked_old le x y b a s.1)
     still_stands Ne a b s =
         not_true (is_tied more a b) (λ m. let both = and_parts (more a b) (more b a) m in clash (is_tied le a b) (tied_before a b both.0 both.1) s)
@@ -125,17 +125,17 @@ module _ (le : ℕ → ℕ → Bool) (k : List Lit) (h : IsOrderOf le k) where
               h.under c (first_holds c k (lit_of Lt x y) holds).0 a b e (not_true (le b a) (λ t. clash (more b a) (linked_old le x y b a t) n))
           go (inr e) = new_below a b e.0 e.1
 
-    new_stands : Stands more Lt x y
+    new_stands : HoldsInOrder more Lt x y
     new_stands = (
       linked_new le x y x y (h.itself x) (h.itself y),
       not_true (more y x) (λ m. elim (linked_cases le x y y x m) [ inl e ↦ clash (le y x) e no | inr e ↦ clash (le y x) e.0 no ]),
     )
 
-    pub put_under : IsOrderOf (linked x y le) (k ++ lit_of Lt x y ∷ [])
+    pub put_under : IsOrderClosure (linked x y le) (k ++ lit_of Lt x y ∷ [])
     put_under = record {
       itself = λ a. linked_old le x y a a (h.itself a);
       trans = linked_trans le h.trans x y;
-      stands = All-push (λ l. Stands more l.op l.left l.right) k (lit_of Lt x y) (All-weaker (λ l. Stands le l.op l.left l.right) (λ l. Stands more l.op l.left l.right) (λ l. still_stands l.op l.left l.right) k h.stands) new_stands;
+      stands = All-push (λ l. HoldsInOrder more l.op l.left l.right) k (lit_of Lt x y) (All-weaker (λ l. HoldsInOrder le l.op l.left l.right) (λ l. HoldsInOrder more l.op l.left l.right) (λ l. still_stands l.op l.left l.right) k h.stands) new_stands;
       at_most = more_at_most;
       under = more_under;
     }

@@ -9,7 +9,7 @@ use Rattle.lois_base.specs.Shift.{top_of_lits}
 use Rattle.lois_base.specs.Theory.{IsSatisfiable}
 use Rattle.lois_base.specs.Truth.{atom_at, op_holds, cube_holds, holds}
 use Rattle.lois_base.specs.declared.guards.Lit.{Lit}
-use Rattle.lois_constraint.specs.Met.{CanBeMet, IsPruned}
+use Rattle.lois_constraint.specs.Entailment.{CubeIsSatisfiable, IsPruned}
 
 pub listed : (ℕ → Atom) → ℕ → List Atom
 listed atom zero = []
@@ -39,7 +39,7 @@ listed_meets atom n (l ∷ k) f =
     rw (listed_at atom n l.left g.0, listed_at atom n l.right g.1, listed_meets atom n k (All-tail (LitFits n) l k f)) refl
 
 -- a cube that can be met is met by a choice of as many atoms as it has levels
-pub satisfiable : (n : ℕ) (k : List Lit) → CubeFits n k → CanBeMet k → IsSatisfiable n k
+pub satisfiable : (n : ℕ) (k : List Lit) → CubeFits n k → CubeIsSatisfiable k → IsSatisfiable n k
 satisfiable n k fits met =
     let atom : ℕ → Atom = atom_at met.0 in
     (listed atom n, listed_length atom n, sym (listed_meets atom n k fits) ∙ met.1)
@@ -48,5 +48,5 @@ satisfiable n k fits met =
 pub met_at : (n : ℕ) (g : List (List Lit)) → ConstraintFits n g → IsPruned g → 0 < length g → (c : List Atom) × (length c ≡ n) × IsTrue (holds c g)
 met_at n [] fits pruned l = absurd (omega arith)
 met_at n (k ∷ g) fits pruned l =
-    let first : IsSatisfiable n k = satisfiable n k (All-head (CubeFits n) k g fits) (All-head CanBeMet k g pruned.met) in
+    let first : IsSatisfiable n k = satisfiable n k (All-head (CubeFits n) k g fits) (All-head CubeIsSatisfiable k g pruned.met) in
     (first.0, first.1, ap (λ b. b || holds first.0 g) first.2)

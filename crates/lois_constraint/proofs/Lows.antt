@@ -72,8 +72,8 @@ module _ (low n : ℕ) (small : low < 2 ^ 8) (inside : n < 8) where
 
   moved_here : (b : ℕ) → b < 8 → bit_at moved (8 * n + b) ≡ bit_at low b
   moved_here b m =
-      let place : 8 * n + b - 8 * n ≡ b = omega arith in
-      ap (λ x. bit_at x (8 * n + b)) (moved_is ∙ sym (add-zero (low * 2 ^ (8 * n)))) ∙ (bit_at_cat_high low (8 * n) 0 (8 * n + b) (pow_pos (8 * n)) (omega arith) ∙ ap (bit_at low) place)
+      let bit_index : 8 * n + b - 8 * n ≡ b = omega arith in
+      ap (λ x. bit_at x (8 * n + b)) (moved_is ∙ sym (add-zero (low * 2 ^ (8 * n)))) ∙ (bit_at_cat_high low (8 * n) 0 (8 * n + b) (pow_pos (8 * n)) (omega arith) ∙ ap (bit_at low) bit_index)
 
   moved_else : (a b : ℕ) → a ≢ n → b < 8 → bit_at moved (8 * a + b) ≡ 0
   moved_else a b other m = go (cases_order a n)

@@ -12,7 +12,7 @@ use Rattle.lois_base.specs.declared.guards.Op.TheVariants.{Eq, Ne, Lt}
 use Rattle.lois_base.specs.Atom.{Atom, equal, below}
 use Rattle.lois_base.specs.Truth.{atom_at, op_holds, lit_holds, cube_holds}
 use Rattle.lois_base.specs.declared.guards.Lit.{Lit}
-use Rattle.lois_constraint.specs.Met.{CanBeMet, AreApart, IsPruned}
+use Rattle.lois_constraint.specs.Entailment.{CubeIsSatisfiable, AreIncomparable, IsPruned}
 use Rattle.lois_constraint.specs.Normalised.{lit_same, cube_before, is_part, IsNormalCube, IsNormalised}
 use Rattle.lois_constraint.proofs.Linked.{not_true, clash}
 use Rattle.lois_constraint.proofs.Ordered.{lit_from_same, cube_before_trans, cube_before_irrefl, cube_equal}
@@ -50,7 +50,7 @@ module _ (c : List Atom) (turned xs : List Lit) (i : ℕ) (d : Lit) (b : i < len
   turned_grows r t e f =
       ap (cube_holds c) e ∙ (list_all-append (lit_holds c) turned (t ∷ []) ∙ (ap (λ p. cube_holds c turned && (p && true)) f ∙ (sym (list_all-append (lit_holds c) turned (get_or xs i d ∷ [])) ∙ tight_grows c turned xs i d b same (turned ++ get_or xs i d ∷ []) refl)))
 
-  pub turned_stays : CanBeMet xs → (get_or xs i d).left ≡ (get_or xs i d).right → cube_holds c turned ≡ cube_holds c (take (i + 1) xs)
+  pub turned_stays : CubeIsSatisfiable xs → (get_or xs i d).left ≡ (get_or xs i d).right → cube_holds c turned ≡ cube_holds c (take (i + 1) xs)
   turned_stays met joined =
       let l : Lit = get_or xs i d in
       let somewhere : lit_holds met.0 l ≡ true = AllPass-from_list_all (lit_holds met.0) xs met.1 i d b in
@@ -70,10 +70,10 @@ part_holds c (l ∷ a) b h t =
     and_from (lit_holds c l) (cube_holds c a) (same_holds c b l parts.0 t) (part_holds c a b parts.1 t)
 
 -- ---- a pruned constraint of normal cubes that are sorted
-not_part : (a b : List Lit) → AreApart a b → is_part a b ≡ false
+not_part : (a b : List Lit) → AreIncomparable a b → is_part a b ≡ false
 not_part a b apart = not_true (is_part a b) (λ h. apart.1 (λ c t. part_holds c a b h t))
 
-not_one : (a b : List Lit) → AreApart a b → a ≢ b
+not_one : (a b : List Lit) → AreIncomparable a b → a ≢ b
 not_one a b apart e = apart.0 (λ c t. subst (λ k. cube_holds c k ≡ true) e t)
 
 pub normalised_from : (g : List (List Lit)) → All IsNormalCube g → IsPruned g → AllPairs (λ a b. IsFalse (cube_before b a)) g → IsNormalised g

@@ -1,4 +1,4 @@
--- Cubes of which none lies within another.
+-- Cubes of which none entails another.
 use Rattle.std.proofs.Common.{◌≡◌, ℕ, ◌+◌, ◌<◌, ◌≤◌, Bool, true, false, ◌&&◌, ◌||◌, List, [], ◌∷◌, ◌++◌, length, length-append, get_or, take, refl, sym, ap, ◌∙◌, subst, arith}
 use Rattle.std.specs.List.{All}
 use Rattle.std.proofs.lemmas.List.{get_or_append_left, get_or_default, get_or_push}
@@ -11,14 +11,14 @@ use Rattle.std.specs.List.Sorted.{IsPermutation}
 use Rattle.lois_base.specs.Atom.{Atom}
 use Rattle.lois_base.specs.Truth.{cube_holds, holds}
 use Rattle.lois_base.specs.declared.guards.Lit.{Lit}
-use Rattle.lois_constraint.specs.Met.{CanBeMet, LiesWithin, AreApart, IsPruned}
+use Rattle.lois_constraint.specs.Entailment.{CubeIsSatisfiable, Entails, AreIncomparable, IsPruned}
 use Rattle.lois_constraint.proofs.Sorted.{pairs_permuted}
 use Rattle.lois_constraint.proofs.Tightened.{constraint_grows}
 use Rattle.lois_constraint.proofs.Words.{or_nothing}
 
 -- the kept cubes are apart from each of the cubes from i on
 abbrev pub ApartFrom : List (List Lit) → ℕ → List (List Lit) → Type 0
-ApartFrom xs i kept = (j : ℕ) (d : List Lit) → i ≤ j → j < length xs → All (λ k. AreApart k (get_or xs j d)) kept
+ApartFrom xs i kept = (j : ℕ) (d : List Lit) → i ≤ j → j < length xs → All (λ k. AreIncomparable k (get_or xs j d)) kept
 
 module _ {X : Type 0} (P : X → Type 0) (xs : List X) (x : X) (h : All P (xs ++ x ∷ [])) where
   pub all_before : All P xs
@@ -34,23 +34,23 @@ module _ (xs : List (List Lit)) (x : List Lit) (p : IsPruned (xs ++ x ∷ [])) w
 
   pub front_pruned : IsPruned xs
   front_pruned = record {
-    met = all_before CanBeMet xs x p.met;
-    apart = λ i j d l m. let h : AreApart (get_or (xs ++ x ∷ []) i d) (get_or (xs ++ x ∷ []) j d) = p.apart i j d l (omega (arith, longer)) in subst (λ (k : List Lit). AreApart k (get_or xs j d)) (get_or_append_left xs (x ∷ []) d i (omega arith)) (subst (AreApart (get_or (xs ++ x ∷ []) i d)) (get_or_append_left xs (x ∷ []) d j m) h);
+    met = all_before CubeIsSatisfiable xs x p.met;
+    apart = λ i j d l m. let h : AreIncomparable (get_or (xs ++ x ∷ []) i d) (get_or (xs ++ x ∷ []) j d) = p.apart i j d l (omega (arith, longer)) in subst (λ (k : List Lit). AreIncomparable k (get_or xs j d)) (get_or_append_left xs (x ∷ []) d i (omega arith)) (subst (AreIncomparable (get_or (xs ++ x ∷ []) i d)) (get_or_append_left xs (x ∷ []) d j m) h);
   }
 
-  pub front_apart : All (λ k. AreApart k x) xs
+  pub front_apart : All (λ k. AreIncomparable k x) xs
   front_apart i d l =
-      let h : AreApart (get_or (xs ++ x ∷ []) i d) (get_or (xs ++ x ∷ []) (length xs) d) = p.apart i (length xs) d l (omega (arith, longer)) in
-      subst (λ (k : List Lit). AreApart k x) (get_or_append_left xs (x ∷ []) d i l) (subst (AreApart (get_or (xs ++ x ∷ []) i d)) (get_or_push xs x d (length xs) refl) h)
+      let h : AreIncomparable (get_or (xs ++ x ∷ []) i d) (get_or (xs ++ x ∷ []) (length xs) d) = p.apart i (length xs) d l (omega (arith, longer)) in
+      subst (λ (k : List Lit). AreIncomparable k x) (get_or_append_left xs (x ∷ []) d i l) (subst (AreIncomparable (get_or (xs ++ x ∷ []) i d)) (get_or_push xs x d (length xs) refl) h)
 
-pub kept_pruned : (kept : List (List Lit)) (x : List Lit) → IsPruned kept → CanBeMet x → All (λ k. AreApart k x) kept → IsPruned (kept ++ x ∷ [])
-kept_pruned kept x p met apart = record { met = All-push CanBeMet kept x p.met met; apart = all_pairs_push AreApart kept x p.apart apart }
+pub kept_pruned : (kept : List (List Lit)) (x : List Lit) → IsPruned kept → CubeIsSatisfiable x → All (λ k. AreIncomparable k x) kept → IsPruned (kept ++ x ∷ [])
+kept_pruned kept x p met apart = record { met = All-push CubeIsSatisfiable kept x p.met met; apart = all_pairs_push AreIncomparable kept x p.apart apart }
 
--- a new cube that lies within none, and within which none lies
-pub pruned_more : (kept : List (List Lit)) (x : List Lit) → IsPruned kept → CanBeMet x → All (λ k. LiesWithin k x → ⊥) kept → All (λ k. LiesWithin x k → ⊥) kept → IsPruned (kept ++ x ∷ [])
+-- a new cube that entails none, and within which none lies
+pub pruned_more : (kept : List (List Lit)) (x : List Lit) → IsPruned kept → CubeIsSatisfiable x → All (λ k. Entails k x → ⊥) kept → All (λ k. Entails x k → ⊥) kept → IsPruned (kept ++ x ∷ [])
 pruned_more kept x p met out un = record {
-  met = All-push CanBeMet kept x p.met met;
-  apart = all_pairs_push AreApart kept x p.apart (λ k d l. (out k d l, un k d l));
+  met = All-push CubeIsSatisfiable kept x p.met met;
+  apart = all_pairs_push AreIncomparable kept x p.apart (λ k d l. (out k d l, un k d l));
 }
 
 -- ---- the cubes so far, beside one within which the dropped ones lie
@@ -76,7 +76,7 @@ module _ (c : List Atom) (q : Bool) (kept xs : List (List Lit)) (x : List Lit) (
   dropped_holds f =
       one_dropped (holds c kept) (holds c xs) (cube_holds c x) q f same ∙ ap (λ p. p || q) (sym (list_any-append (cube_holds c) xs (x ∷ [])))
 
--- ---- the cubes so far, parted by whether they lie within a constraint
+-- ---- the cubes so far, parted by whether they entail a constraint
 one_within : (w o y x g : Bool) → (x ≡ true → g ≡ true) → (w || (o && g)) ≡ (y && g) → ((w || (x || false)) || (o && g)) ≡ ((y || (x || false)) && g)
 one_within true o true true true f e = refl
 one_within true o false true true f e = refl
@@ -117,14 +117,14 @@ module _ (c : List Atom) (g : Bool) (within others xs : List (List Lit)) (x : Li
 
 -- ---- cubes that hold at the same choices
 module _ (a b : List Lit) (e : (c : List Atom) → cube_holds c a ≡ cube_holds c b) where
-  pub same_met : CanBeMet b → CanBeMet a
+  pub same_met : CubeIsSatisfiable b → CubeIsSatisfiable a
   same_met m = (m.0, e m.0 ∙ m.1)
 
-  pub same_apart : (z : List Lit) → AreApart b z → AreApart a z
+  pub same_apart : (z : List Lit) → AreIncomparable b z → AreIncomparable a z
   same_apart z h =
       (λ w. h.0 (λ c t. w c (e c ∙ t)), λ w. h.1 (λ c t. sym (e c) ∙ w c t))
 
-pub apart_swapped : (a b : List Lit) → AreApart a b → AreApart b a
+pub apart_swapped : (a b : List Lit) → AreIncomparable a b → AreIncomparable b a
 apart_swapped a b h = (h.1, h.0)
 
 -- ---- cubes with the same truth, as far as the cubes of a pruned constraint were read
@@ -136,20 +136,20 @@ module _ (g xs : List (List Lit)) (x y : List Lit) (i : ℕ) (b : i < length xs)
   module _ (whole : IsPruned xs) (later : ApartFrom xs i g) where
     pub read_pruned : IsPruned g → IsPruned (g ++ y ∷ [])
     read_pruned p =
-        let met : CanBeMet x = subst CanBeMet (sym is) (whole.met i x b) in
-        let apart : All (λ k. AreApart k x) g = subst (λ z. All (λ k. AreApart k z) g) (sym is) (later i x (omega arith) b) in
+        let met : CubeIsSatisfiable x = subst CubeIsSatisfiable (sym is) (whole.met i x b) in
+        let apart : All (λ k. AreIncomparable k x) g = subst (λ z. All (λ k. AreIncomparable k z) g) (sym is) (later i x (omega arith) b) in
         kept_pruned g y p (same_met y x same met) (λ k d l. apart_swapped y (get_or g k d) (same_apart y x same (get_or g k d) (apart_swapped (get_or g k d) x (apart k d l))))
 
     pub read_apart : ApartFrom xs (i + 1) (g ++ y ∷ [])
     read_apart j d l m =
         let z : List Lit = get_or xs j d in
-        let apart : AreApart (get_or xs i d) z = whole.apart i j d (omega arith) m in
+        let apart : AreIncomparable (get_or xs i d) z = whole.apart i j d (omega arith) m in
         let is_x : x ≡ get_or xs i d = is ∙ get_or_default xs i x d b in
-        All-push (λ k. AreApart k z) g y (later j d (omega arith) m) (same_apart y x same z (subst (λ k. AreApart k z) (sym is_x) apart))
+        All-push (λ k. AreIncomparable k z) g y (later j d (omega arith) m) (same_apart y x same z (subst (λ k. AreIncomparable k z) (sym is_x) apart))
 
 -- the cubes in another order
 pub pruned_permuted : (xs ys : List (List Lit)) → IsPermutation xs ys → IsPruned xs → IsPruned ys
 pruned_permuted xs ys p h = record {
-  met = All-permutation CanBeMet xs ys p h.met;
-  apart = pairs_permuted AreApart apart_swapped xs ys p h.apart;
+  met = All-permutation CubeIsSatisfiable xs ys p h.met;
+  apart = pairs_permuted AreIncomparable apart_swapped xs ys p h.apart;
 }

@@ -11,8 +11,8 @@ use Rattle.lois_base.specs.Truth.{op_holds}
 use Rattle.lois_base.specs.declared.guards.Lit.{Lit}
 use Rattle.lois_base.specs.declared.guards.Op.{Op}
 use Rattle.lois_base.specs.declared.guards.Op.TheVariants.{Eq, Ne, Lt}
-use Rattle.lois_constraint.specs.Met.{CanBeMet}
-use Rattle.lois_constraint.specs.Order.{is_tied, Stands, IsOrderOf}
+use Rattle.lois_constraint.specs.Entailment.{CubeIsSatisfiable}
+use Rattle.lois_constraint.specs.Order.{is_tied, HoldsInOrder, IsOrderClosure}
 use Rattle.lois_constraint.proofs.Linked.{clash}
 use Rattle.lois_constraint.proofs.Listed.{listed, fits_top, listed_meets}
 
@@ -93,7 +93,7 @@ split_equal a b r s m l k e = go (cases_order a b)
     go (inr (inr less)) =
         let t : (b + 1) * m ≤ a * m = mul-le-mul_right m (omega arith) in absurd (omega arith)
 
-module _ (le : ℕ → ℕ → Bool) (k : List Lit) (h : IsOrderOf le k) (n : ℕ) where
+module _ (le : ℕ → ℕ → Bool) (k : List Lit) (h : IsOrderClosure le k) (n : ℕ) where
   number : ℕ → ℕ
   number a = counted (λ j. le j a) n * (n + 1) + greatest (λ j. is_tied le j a) n
 
@@ -141,14 +141,14 @@ module _ (le : ℕ → ℕ → Bool) (k : List Lit) (h : IsOrderOf le k) (n : �
       let small : greatest (λ j. is_tied le j a) n ≤ n = greatest_le (λ j. is_tied le j a) n in
       omega arith
 
-  numbers_hold : (o : Op) (a b : ℕ) → a < n → b < n → Stands le o a b → op_holds o (whole (number a)) (whole (number b)) ≡ true
+  numbers_hold : (o : Op) (a b : ℕ) → a < n → b < n → HoldsInOrder le o a b → op_holds o (whole (number a)) (whole (number b)) ≡ true
   numbers_hold Eq a b l m s =
       let e : number a ≡ number b = tied_numbers a b (and_from (le a b) (le b a) s.0 s.1) in grind (arith, ints)
   numbers_hold Ne a b l m s =
       let e : number a ≡ number b → ⊥ = λ e. clash (is_tied le a b) (numbers_tied a b l m e) s in grind (arith, ints)
   numbers_hold Lt a b l m s = let e : number a < number b = numbers_rise a b m s.0 s.1 in grind (arith, ints)
 
-pub order_met : (le : ℕ → ℕ → Bool) (k : List Lit) → IsOrderOf le k → CanBeMet k
+pub order_met : (le : ℕ → ℕ → Bool) (k : List Lit) → IsOrderClosure le k → CubeIsSatisfiable k
 order_met le k h =
     let n : ℕ = top_of_lits k in
     let atom : ℕ → Atom = λ i. whole (number le k h n i) in

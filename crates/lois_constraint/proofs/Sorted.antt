@@ -36,7 +36,7 @@ module _ {X : Type 0} (R : X → X → Type 0) where
       from : ℕ
       inside : from < length xs
       is : get_or (swap xs i j) m d ≡ get_or xs from d
-      place : ((m ≡ i) × (from ≡ j)) ⊎ (((m ≡ j) × (from ≡ i)) ⊎ ((m ≡ i → ⊥) × (m ≡ j → ⊥) × (from ≡ m)))
+      bit_index : ((m ≡ i) × (from ≡ j)) ⊎ (((m ≡ j) × (from ≡ i)) ⊎ ((m ≡ i → ⊥) × (m ≡ j → ⊥) × (from ≡ m)))
 
     origin : (xs : List X) (i j m : ℕ) (d : X) → i < length xs → j < length xs → m < length xs → Origin xs i j m d
     origin xs i j m d l r b = go (cases_eq m i) (cases_eq m j)
@@ -49,18 +49,18 @@ module _ {X : Type 0} (R : X → X → Type 0) where
           from = j;
           inside = r;
           is = ap (λ n. get_or (swap xs i j) n d) e ∙ swapped.0;
-          place = inl (e, refl);
+          bit_index = inl (e, refl);
         }
         go (inr h) (inl e) = record {
           from = i;
           inside = l;
           is = ap (λ n. get_or (swap xs i j) n d) e ∙ swapped.1;
-          place = inr (inl (e, refl));
+          bit_index = inr (inl (e, refl));
         }
-        go (inr h) (inr k) = record { from = m; inside = b; is = swapped.2 m h k; place = inr (inr (h, k, refl)) }
+        go (inr h) (inr k) = record { from = m; inside = b; is = swapped.2 m h k; bit_index = inr (inr (h, k, refl)) }
 
     from_apart : (xs : List X) (i j m n : ℕ) (d : X) (p : Origin xs i j m d) (q : Origin xs i j n d) → m < n → p.from ≡ q.from → ⊥
-    from_apart xs i j m n d p q l e = go p.place q.place
+    from_apart xs i j m n d p q l e = go p.bit_index q.bit_index
       where
         go : ((m ≡ i) × (p.from ≡ j)) ⊎ (((m ≡ j) × (p.from ≡ i)) ⊎ ((m ≡ i → ⊥) × (m ≡ j → ⊥) × (p.from ≡ m))) → ((n ≡ i) × (q.from ≡ j)) ⊎ (((n ≡ j) × (q.from ≡ i)) ⊎ ((n ≡ i → ⊥) × (n ≡ j → ⊥) × (q.from ≡ n))) → ⊥
         go (inl a) (inl b) = omega (arith, a.0, b.0)

@@ -11,7 +11,7 @@ use Rattle.std.proofs.lemmas.List.Sums.{AllPass-from_list_all, list_all-from_All
 use Rattle.lois_base.specs.Atom.{Atom}
 use Rattle.lois_base.specs.Truth.{lit_holds, cube_holds, holds}
 use Rattle.lois_base.specs.declared.guards.Lit.{Lit}
-use Rattle.lois_constraint.specs.Met.{CanBeMet}
+use Rattle.lois_constraint.specs.Entailment.{CubeIsSatisfiable}
 use Rattle.lois_constraint.specs.Tight.{some_holds}
 use Rattle.lois_constraint.proofs.Linked.{not_true}
 
@@ -57,8 +57,8 @@ rest_shrinks c s g xs x refused i b is t fails =
     neither false p q = refl
 
 -- a cube with the literals that were read, beside what holds where s does
-module _ (c : List Atom) (s : Bool) (known xs : List Lit) (i : ℕ) (d : Lit) (b : i < length xs) (same : cube_holds c known ≡ (s && cube_holds c (take i xs))) where
-  read_with : (cube_holds c known && lit_holds c (get_or xs i d)) ≡ (s && cube_holds c (take (i + 1) xs))
+module _ (c : List Atom) (s : Bool) (closed xs : List Lit) (i : ℕ) (d : Lit) (b : i < length xs) (same : cube_holds c closed ≡ (s && cube_holds c (take i xs))) where
+  read_with : (cube_holds c closed && lit_holds c (get_or xs i d)) ≡ (s && cube_holds c (take (i + 1) xs))
   read_with =
       ap (λ p. p && lit_holds c (get_or xs i d)) same ∙ (grouped s (cube_holds c (take i xs)) (lit_holds c (get_or xs i d)) ∙ ap (λ p. s && p) (sym (list_all_more (lit_holds c) xs i d b)))
     where
@@ -66,15 +66,15 @@ module _ (c : List Atom) (s : Bool) (known xs : List Lit) (i : ℕ) (d : Lit) (b
       grouped true q r = refl
       grouped false q r = refl
 
-  pub both_stay : (cube_holds c known ≡ true → lit_holds c (get_or xs i d) ≡ true) → cube_holds c known ≡ (s && cube_holds c (take (i + 1) xs))
-  both_stay f = follows (cube_holds c known) (lit_holds c (get_or xs i d)) f ∙ read_with
+  pub both_stay : (cube_holds c closed ≡ true → lit_holds c (get_or xs i d) ≡ true) → cube_holds c closed ≡ (s && cube_holds c (take (i + 1) xs))
+  both_stay f = follows (cube_holds c closed) (lit_holds c (get_or xs i d)) f ∙ read_with
 
-  pub both_grow : (more : List Lit) → more ≡ known ++ get_or xs i d ∷ [] → cube_holds c more ≡ (s && cube_holds c (take (i + 1) xs))
+  pub both_grow : (more : List Lit) → more ≡ closed ++ get_or xs i d ∷ [] → cube_holds c more ≡ (s && cube_holds c (take (i + 1) xs))
   both_grow more e =
-      ap (cube_holds c) e ∙ (list_all-append (lit_holds c) known (get_or xs i d ∷ []) ∙ (last_of_and (cube_holds c known) (lit_holds c (get_or xs i d)) ∙ read_with))
+      ap (cube_holds c) e ∙ (list_all-append (lit_holds c) closed (get_or xs i d ∷ []) ∙ (last_of_and (cube_holds c closed) (lit_holds c (get_or xs i d)) ∙ read_with))
 
-  pub both_fail : (cube_holds c known ≡ true → lit_holds c (get_or xs i d) ≡ false) → false ≡ (s && cube_holds c xs)
-  both_fail f = go s (sym (fails (cube_holds c known) (lit_holds c (get_or xs i d)) f ∙ read_with))
+  pub both_fail : (cube_holds c closed ≡ true → lit_holds c (get_or xs i d) ≡ false) → false ≡ (s && cube_holds c xs)
+  both_fail f = go s (sym (fails (cube_holds c closed) (lit_holds c (get_or xs i d)) f ∙ read_with))
     where
       go : (p : Bool) → (p && cube_holds c (take (i + 1) xs)) ≡ false → false ≡ (p && cube_holds c xs)
       go true h = sym (part_fails (lit_holds c) xs (i + 1) h)
@@ -156,7 +156,7 @@ met_read c s g r xs x i b is t e =
     spread false q r = refl
 
 -- ---- a cube that was tightened, or that can't be met
-pub none_exactly : (k : List Lit) (o : Option (List Lit)) (b : Bool) → ((c : List Atom) → some_holds c o ≡ cube_holds c k) → IfSome o CanBeMet → is_some o ≡ not b → (b ≡ true) ↔ ((c : List Atom) → cube_holds c k ≡ false)
+pub none_exactly : (k : List Lit) (o : Option (List Lit)) (b : Bool) → ((c : List Atom) → some_holds c o ≡ cube_holds c k) → IfSome o CubeIsSatisfiable → is_some o ≡ not b → (b ≡ true) ↔ ((c : List Atom) → cube_holds c k ≡ false)
 none_exactly k None true truth met is = (λ t c. sym (truth c), λ f. refl)
 none_exactly k None false truth met is = absurd (cc)
 none_exactly k (Some x) true truth met is = absurd (cc)
@@ -165,7 +165,7 @@ none_exactly k (Some x) false truth met is = (
   λ f. let fails : cube_holds met.0 k ≡ false = f met.0 in let same : cube_holds met.0 x ≡ cube_holds met.0 k = truth met.0 in let holds : cube_holds met.0 x ≡ true = met.1 in absurd (cc),
 )
 
-pub some_met : (k : List Lit) (o : Option (List Lit)) (b : Bool) → ((c : List Atom) → some_holds c o ≡ cube_holds c k) → IfSome o CanBeMet → is_some o ≡ not b → b ≡ false → CanBeMet k
+pub some_met : (k : List Lit) (o : Option (List Lit)) (b : Bool) → ((c : List Atom) → some_holds c o ≡ cube_holds c k) → IfSome o CubeIsSatisfiable → is_some o ≡ not b → b ≡ false → CubeIsSatisfiable k
 some_met k None true truth met is e = absurd (cc)
 some_met k None false truth met is e = absurd (cc)
 some_met k (Some x) b truth met is e = (met.0, sym (truth met.0) ∙ met.1)

@@ -104,8 +104,8 @@ module _ (r s : Row) (n : ℕ) (here : get_or s (n / 64) 0 ≡ bit_or (get_or r 
 
       go : (b / 64 ≡ n / 64) ⊎ ((b / 64 < n / 64) ⊎ (n / 64 < b / 64)) → ((eqb n b ≡ true) × (n ≡ b)) ⊎ ((eqb n b ≡ false) × (n ≢ b)) → reaches s b ≡ (n == b || reaches r b)
       go (inl at) (inl t) =
-          let place : b % 64 ≡ n % 64 = ap (λ k. k % 64) (sym t.1) in
-          rw t.0 (at_word at ∙ (ap (λ i. bit_at (bit_or old bit) i == 1) place ∙ ap (λ k. eqb k 1) (bit_at_set_same w64 old (n % 64) inside)))
+          let bit_index : b % 64 ≡ n % 64 = ap (λ k. k % 64) (sym t.1) in
+          rw t.0 (at_word at ∙ (ap (λ i. bit_at (bit_or old bit) i == 1) bit_index ∙ ap (λ k. eqb k 1) (bit_at_set_same w64 old (n % 64) inside)))
       go (inl at) (inr t) =
           let other : b % 64 ≢ n % 64 = λ e. t.1 (omega (arith, e, at)) in
           rw t.0 (at_word at ∙ (ap (λ k. eqb k 1) (bit_at_set_other w64 old (n % 64) inside (b % 64) other) ∙ sym (word_is r b old refl)))

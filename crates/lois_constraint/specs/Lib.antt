@@ -1,10 +1,10 @@
 pub mod Substitution
 pub mod Alternatives
-pub mod Met
-pub mod Outside
+pub mod Entailment
+pub mod Uncovered
 pub mod Steps
 pub mod Rules
 pub mod Tight
 pub mod Normalised
 pub mod Order
-pub mod Prints
+pub mod Signature

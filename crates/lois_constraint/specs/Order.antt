@@ -48,29 +48,29 @@ abbrev pub are_apart : (ℕ → ℕ → Bool) → List Lit → ℕ → ℕ → B
 are_apart le k x y = is_under le x y || (is_under le y x || list_any (sets_apart le x y) k)
 
 -- the literal stands so in the order
-abbrev pub Stands : (ℕ → ℕ → Bool) → Op → ℕ → ℕ → Type 0
-Stands le Eq x y = IsTrue (le x y) × IsTrue (le y x)
-Stands le Ne x y = IsFalse (is_tied le x y)
-Stands le Lt x y = IsTrue (le x y) × IsFalse (le y x)
+abbrev pub HoldsInOrder : (ℕ → ℕ → Bool) → Op → ℕ → ℕ → Type 0
+HoldsInOrder le Eq x y = IsTrue (le x y) × IsTrue (le y x)
+HoldsInOrder le Ne x y = IsFalse (is_tied le x y)
+HoldsInOrder le Lt x y = IsTrue (le x y) × IsFalse (le y x)
 
 -- an order of levels in which each literal of the cube stands, and which says no more than the cube
-pub record IsOrderOf (le : ℕ → ℕ → Bool) (k : List Lit) : Type 0 where
+pub record IsOrderClosure (le : ℕ → ℕ → Bool) (k : List Lit) : Type 0 where
   pub itself : (a : ℕ) → IsTrue (le a a)
   pub trans : (a b c : ℕ) → IsTrue (le a b) → IsTrue (le b c) → IsTrue (le a c)
-  pub stands : All (λ l. Stands le l.op l.left l.right) k
+  pub stands : All (λ l. HoldsInOrder le l.op l.left l.right) k
   pub at_most : (c : List Atom) → IsTrue (cube_holds c k) → (a b : ℕ) → IsTrue (le a b) → IsFalse (below (atom_at c b) (atom_at c a))
   pub under : (c : List Atom) → IsTrue (cube_holds c k) → (a b : ℕ) → IsTrue (le a b) → IsFalse (le b a) → IsTrue (below (atom_at c a) (atom_at c b))
 
 -- a literal follows, or fails, by the order and the literals that set levels apart
-abbrev pub is_told : (ℕ → ℕ → Bool) → List Lit → Op → ℕ → ℕ → Bool
-is_told le k Eq x y = is_tied le x y
-is_told le k Ne x y = are_apart le k x y
-is_told le k Lt x y = is_under le x y
+abbrev pub is_implied : (ℕ → ℕ → Bool) → List Lit → Op → ℕ → ℕ → Bool
+is_implied le k Eq x y = is_tied le x y
+is_implied le k Ne x y = are_apart le k x y
+is_implied le k Lt x y = is_under le x y
 
-abbrev pub is_denied : (ℕ → ℕ → Bool) → List Lit → Op → ℕ → ℕ → Bool
-is_denied le k Eq x y = are_apart le k x y
-is_denied le k Ne x y = is_tied le x y
-is_denied le k Lt x y = le y x
+abbrev pub is_refuted : (ℕ → ℕ → Bool) → List Lit → Op → ℕ → ℕ → Bool
+is_refuted le k Eq x y = are_apart le k x y
+is_refuted le k Ne x y = is_tied le x y
+is_refuted le k Lt x y = le y x
 
 -- the order with one literal more
 abbrev pub extended : Op → ℕ → ℕ → (ℕ → ℕ → Bool) → ℕ → ℕ → Bool

@@ -5,10 +5,10 @@ ghost use Rattle.std.specs.List.{Contains};
 ghost use Rattle.lois_base.specs.Atom.{Atom};
 ghost use Rattle.lois_base.specs.Truth.{cube_holds, holds};
 ghost use Rattle.lois_base.specs.declared.guards.Lit.{Lit};
-ghost use Rattle.lois_constraint.specs.Outside.{IsOutside};
+ghost use Rattle.lois_constraint.specs.Uncovered.{IsUncovered};
 
-use crate::known::Known;
-use crate::piles::lies_within_one;
+use crate::antichain::entails_one;
+use crate::closed_cube::ClosedCube;
 use lois_base::{Constraint, Cube, NoMemory};
 use std::alloc::Global;
 
@@ -16,36 +16,36 @@ use std::alloc::Global;
 fn has_both(
     alloc: Global,
     others: &Constraint,
-    known: &Known,
+    closed: &ClosedCube,
     cube: &Cube,
 ) -> Result<bool, NoMemory>
-    ensures yes { IfOk result (λ b. IsTrue b → (c : List Atom) → IsTrue (cube_holds c known.now) → IsTrue (cube_holds c cube.now) → IsTrue (holds c others.now)) }
-    ensures no { IfOk result (λ b. IsFalse b → IsOutside (known.now ++ cube.now) others.now) }
+    ensures yes { IfOk result (λ b. IsTrue b → (c : List Atom) → IsTrue (cube_holds c closed.now) → IsTrue (cube_holds c cube.now) → IsTrue (holds c others.now)) }
+    ensures no { IfOk result (λ b. IsFalse b → IsUncovered (closed.now ++ cube.now) others.now) }
 {
-    let Some(both) = known.meet(alloc, cube)? else {
+    let Some(both) = closed.meet(alloc, cube)? else {
         return Ok(true);
     };
     // asked for what its clause tells: some choice meets it
     let _met = both.cube();
-    Ok(lies_within_one(&both, others))
+    Ok(entails_one(&both, others))
 }
 
 /// Whether for each cube of `under` one of the others contains it together with the given cube, if some choice meets the two. So
 /// the others have the given cube wherever `under` holds. Errors: `NoMemory`.
-pub fn has_cube(
+pub fn covers_cube(
     alloc: Global,
     others: &Constraint,
     cube: &Cube,
     under: &Constraint,
 ) -> Result<bool, NoMemory>
     ensures yes { IfOk result (λ b. IsTrue b → (c : List Atom) → IsTrue (holds c under.now) → IsTrue (cube_holds c cube.now) → IsTrue (holds c others.now)) }
-    ensures no { IfOk result (λ b. IsFalse b → (k : List Lit) × Contains under.now k × IsOutside (cube.now ++ k) others.now) }
+    ensures no { IfOk result (λ b. IsFalse b → (k : List Lit) × Contains under.now k × IsUncovered (cube.now ++ k) others.now) }
 {
-    let Some(known) = Known::of(alloc, cube)? else {
+    let Some(closed) = ClosedCube::of(alloc, cube)? else {
         return Ok(true);
     };
     for part in under.as_slice() {
-        if !has_both(alloc, others, &known, part)? {
+        if !has_both(alloc, others, &closed, part)? {
             return Ok(false);
         }
     }

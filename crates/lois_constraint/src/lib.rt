@@ -4,23 +4,23 @@
 //! [`meet`], [`negate`], [`and_not`] and [`normalise`] drop the cubes that can't be met and those that others cover.
 #![tactic(auto)]
 
+mod antichain;
+mod closed_cube;
 mod conflicts;
 mod covering;
-mod known;
 mod levels;
 mod negation;
 mod normal;
-mod piles;
-mod prints;
+mod order_closure;
 mod products;
 mod pruning;
-mod rows;
+mod signature;
 mod sorting;
 
-pub use conflicts::{alternatives, conflict, implies, within};
-pub use covering::has_cube;
+pub use conflicts::{alternatives, conflict, entails, implies};
+pub use covering::covers_cube;
 pub use levels::{shift, substitute, substitute_cube};
 pub use negation::{and_not, negate};
 pub use normal::normalise;
-pub use products::{alone, and, conjoin_cube, or};
+pub use products::{and, conjoin_cube, or, singleton};
 pub use pruning::{meet, prune, tighten};

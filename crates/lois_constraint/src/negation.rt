@@ -6,12 +6,12 @@ ghost use Rattle.lois_base.specs.Fits.{ConstraintFits};
 ghost use Rattle.lois_base.specs.Truth.{holds};
 ghost use Rattle.lois_base.specs.Validity.{AdmitsConstraint, UsesOnly};
 ghost use Rattle.lois_constraint.specs.Alternatives.{alternatives, denials};
-ghost use Rattle.lois_constraint.specs.Met.{IsPruned};
+ghost use Rattle.lois_constraint.specs.Entailment.{IsPruned};
 ghost use Rattle.lois_constraint.specs.Rules.{Rule, ConstraintObeys};
 
+use crate::antichain::Antichain;
+use crate::closed_cube::ClosedCube;
 use crate::conflicts::alternatives;
-use crate::known::Known;
-use crate::piles::Pile;
 use lois_base::{Constraint, Cube, Lit, NoMemory};
 use std::alloc::Global;
 
@@ -38,12 +38,12 @@ fn denied(alloc: Global, cube: &Cube) -> Result<Constraint, NoMemory>
     Ok(denied)
 }
 
-// The pile without the constraint, one cube after the other.
-fn take_off(alloc: Global, pile: Pile, c: &Constraint) -> Result<Pile, NoMemory>
-    ensures truth { IfOk result (λ r. (e : List Atom) → holds e r ≡ (holds e pile && not (holds e c.now))) }
-    ensures rules { IfOk result (λ r. (rule : Rule) → ConstraintObeys rule pile → ConstraintObeys rule c.now → ConstraintObeys rule r) }
+// The antichain without the constraint, one cube after the other.
+fn take_off(alloc: Global, antichain: Antichain, c: &Constraint) -> Result<Antichain, NoMemory>
+    ensures truth { IfOk result (λ r. (e : List Atom) → holds e r ≡ (holds e antichain && not (holds e c.now))) }
+    ensures rules { IfOk result (λ r. (rule : Rule) → ConstraintObeys rule antichain → ConstraintObeys rule c.now → ConstraintObeys rule r) }
 {
-    let mut rest = pile;
+    let mut rest = antichain;
     for cube in c.as_slice() {
         let refused = denied(alloc, cube)?;
         rest = rest.meet(alloc, &refused)?;
@@ -59,7 +59,7 @@ pub fn negate(alloc: Global, c: &Constraint) -> Result<Constraint, NoMemory>
     ensures fits { IfOk result (λ r. (n : ℕ) → ConstraintFits n c.now → ConstraintFits n r) }
     ensures operators { IfOk result (λ r. (o : Bool) → AdmitsConstraint o c.now → AdmitsConstraint o r) }
 {
-    let everywhere = Pile::new(alloc).put(alloc, Known::new(alloc))?;
+    let everywhere = Antichain::new(alloc).put(alloc, ClosedCube::new(alloc))?;
     let rest = take_off(alloc, everywhere, c)?;
     rest.into_constraint(alloc)
 }
@@ -72,6 +72,6 @@ pub fn and_not(alloc: Global, a: &Constraint, c: &Constraint) -> Result<Constrai
     ensures fits { IfOk result (λ r. (n : ℕ) → ConstraintFits n a.now → ConstraintFits n c.now → ConstraintFits n r) }
     ensures operators { IfOk result (λ r. (o : Bool) → AdmitsConstraint o a.now → AdmitsConstraint o c.now → AdmitsConstraint o r) }
 {
-    let rest = take_off(alloc, Pile::of(alloc, a)?, c)?;
+    let rest = take_off(alloc, Antichain::of(alloc, a)?, c)?;
     rest.into_constraint(alloc)
 }

@@ -6,12 +6,12 @@ ghost use Rattle.lois_base.specs.Atom.{Atom};
 ghost use Rattle.lois_base.specs.Fits.{ConstraintFits};
 ghost use Rattle.lois_base.specs.Truth.{lit_holds, cube_holds, holds};
 ghost use Rattle.lois_base.specs.Validity.{AdmitsConstraint, UsesOnly};
-ghost use Rattle.lois_constraint.specs.Met.{CanBeMet, IsPruned};
+ghost use Rattle.lois_constraint.specs.Entailment.{CubeIsSatisfiable, IsPruned};
 ghost use Rattle.lois_constraint.specs.Normalised.{IsTurned, IsNormalCube, IsNormalised};
 ghost use Rattle.lois_constraint.specs.Rules.{Rule, Obeys, CubeObeys, ConstraintObeys};
 ghost use Rattle.lois_constraint.specs.Steps.{is_step};
 
-use crate::known::Known;
+use crate::closed_cube::ClosedCube;
 use crate::pruning::prune;
 use crate::sorting::{sort_cubes, sort_literals};
 use lois_base::{Constraint, Cube, Lit, NoMemory, Op};
@@ -46,7 +46,7 @@ fn turned(lit: Lit) -> Lit
 
 // The literals turned, without those that join a level to itself.
 fn turned_literals(alloc: Global, literals: &[Lit]) -> Result<Vec<Lit>, NoMemory>
-    requires { CanBeMet literals.now }
+    requires { CubeIsSatisfiable literals.now }
     ensures truth { IfOk result (λ r. (c : List Atom) → cube_holds c r.items ≡ cube_holds c literals.now) }
     ensures apart { IfOk result (λ r. All (λ l. l.left ≢ l.right) r.items) }
     ensures turned { IfOk result (λ r. All (λ l. IsTurned l.op l.left l.right) r.items) }
@@ -62,13 +62,13 @@ fn turned_literals(alloc: Global, literals: &[Lit]) -> Result<Vec<Lit>, NoMemory
 }
 
 // The literals that don't follow from the known cube.
-fn not_implied(alloc: Global, known: &Known, literals: &[Lit]) -> Result<Vec<Lit>, NoMemory>
-    ensures truth { IfOk result (λ r. (c : List Atom) → (cube_holds c known.now && cube_holds c r.items) ≡ (cube_holds c known.now && cube_holds c literals.now)) }
+fn not_implied(alloc: Global, closed: &ClosedCube, literals: &[Lit]) -> Result<Vec<Lit>, NoMemory>
+    ensures truth { IfOk result (λ r. (c : List Atom) → (cube_holds c closed.now && cube_holds c r.items) ≡ (cube_holds c closed.now && cube_holds c literals.now)) }
     ensures rules { IfOk result (λ r. (rule : Rule) → CubeObeys rule literals.now → CubeObeys rule r.items) }
 {
     let mut kept = Vec::new(alloc);
     for lit in literals {
-        if !known.implies(*lit) {
+        if !closed.implies(*lit) {
             kept.push(*lit)?;
         }
     }
@@ -79,14 +79,14 @@ fn not_implied(alloc: Global, known: &Known, literals: &[Lit]) -> Result<Vec<Lit
 // beside the other one: so a literal is put into as many tables as the literals can be halved.
 fn needed(
     alloc: Global,
-    known: &Known,
+    closed: &ClosedCube,
     others: &[Lit],
     literals: &[Lit],
 ) -> Result<Vec<Lit>, NoMemory>
-    ensures truth { IfOk result (λ r. (c : List Atom) → (cube_holds c known.now && (cube_holds c others.now && cube_holds c r.items)) ≡ (cube_holds c known.now && (cube_holds c others.now && cube_holds c literals.now))) }
+    ensures truth { IfOk result (λ r. (c : List Atom) → (cube_holds c closed.now && (cube_holds c others.now && cube_holds c r.items)) ≡ (cube_holds c closed.now && (cube_holds c others.now && cube_holds c literals.now))) }
     ensures rules { IfOk result (λ r. (rule : Rule) → CubeObeys rule literals.now → CubeObeys rule r.items) }
 {
-    let Some(beside) = known.copy(alloc)?.and_literals(alloc, others)? else {
+    let Some(beside) = closed.copy(alloc)?.and_literals(alloc, others)? else {
         return Ok(Vec::new(alloc));
     };
     if literals.len() < 2 {
@@ -103,7 +103,7 @@ fn thinned(alloc: Global, literals: &[Lit]) -> Result<Vec<Lit>, NoMemory>
     ensures truth { IfOk result (λ r. (c : List Atom) → cube_holds c r.items ≡ cube_holds c literals.now) }
     ensures rules { IfOk result (λ r. (rule : Rule) → CubeObeys rule literals.now → CubeObeys rule r.items) }
 {
-    needed(alloc, &Known::new(alloc), &[], literals)
+    needed(alloc, &ClosedCube::new(alloc), &[], literals)
 }
 
 fn cube_of(alloc: Global, literals: &[Lit]) -> Result<Cube, NoMemory>
@@ -117,7 +117,7 @@ fn cube_of(alloc: Global, literals: &[Lit]) -> Result<Cube, NoMemory>
 }
 
 fn normal_cube(alloc: Global, cube: &Cube) -> Result<Cube, NoMemory>
-    requires { CanBeMet cube.now }
+    requires { CubeIsSatisfiable cube.now }
     ensures truth { IfOk result (λ r. (c : List Atom) → cube_holds c r ≡ cube_holds c cube.now) }
     ensures normal { IfOk result IsNormalCube }
     ensures rules { IfOk result (λ r. (rule : Rule) → CubeObeys rule cube.now → CubeObeys rule r) }

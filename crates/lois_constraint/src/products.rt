@@ -11,7 +11,7 @@ use lois_base::{Constraint, Cube, NoMemory};
 use std::alloc::Global;
 
 /// The constraint of one cube alone. Errors: `NoMemory`.
-pub fn alone(alloc: Global, cube: &Cube) -> Result<Constraint, NoMemory>
+pub fn singleton(alloc: Global, cube: &Cube) -> Result<Constraint, NoMemory>
     ensures cubes { IfOk result (λ r. r ≡ cube.now ∷ []) }
 {
     let mut one = Constraint::new(alloc);

@@ -5,23 +5,23 @@ ghost use Rattle.lois_base.specs.Atom.{Atom};
 ghost use Rattle.lois_base.specs.Fits.{ConstraintFits};
 ghost use Rattle.lois_base.specs.Truth.{cube_holds, holds};
 ghost use Rattle.lois_base.specs.Validity.{AdmitsConstraint, UsesOnly};
-ghost use Rattle.lois_constraint.specs.Met.{CanBeMet, IsPruned};
+ghost use Rattle.lois_constraint.specs.Entailment.{CubeIsSatisfiable, IsPruned};
 ghost use Rattle.lois_constraint.specs.Rules.{Rule, CubeObeys};
 ghost use Rattle.lois_constraint.specs.Tight.{some_holds};
 
-use crate::known::Known;
-use crate::piles::Pile;
+use crate::antichain::Antichain;
+use crate::closed_cube::ClosedCube;
 use lois_base::{Constraint, Cube, NoMemory};
 use std::alloc::Global;
 
 /// The cube without the literals that follow from earlier ones, or `None` where it can't be met.
 pub fn tighten(alloc: Global, cube: &Cube) -> Result<Option<Cube>, NoMemory>
     ensures truth { IfOk result (λ o. (c : List Atom) → some_holds c o ≡ cube_holds c cube.now) }
-    ensures met { IfOk result (λ o. IfSome o CanBeMet) }
+    ensures met { IfOk result (λ o. IfSome o CubeIsSatisfiable) }
     ensures rules { IfOk result (λ o. IfSome o (λ r. (rule : Rule) → CubeObeys rule cube.now → CubeObeys rule r)) }
 {
-    match Known::of(alloc, cube)? {
-        Some(known) => Ok(Some(known.into_cube())),
+    match ClosedCube::of(alloc, cube)? {
+        Some(closed) => Ok(Some(closed.into_cube())),
         None => Ok(None),
     }
 }
@@ -35,7 +35,7 @@ pub fn prune(alloc: Global, c: &Constraint) -> Result<Constraint, NoMemory>
     ensures fits { IfOk result (λ r. (n : ℕ) → ConstraintFits n c.now → ConstraintFits n r) }
     ensures operators { IfOk result (λ r. (o : Bool) → AdmitsConstraint o c.now → AdmitsConstraint o r) }
 {
-    Pile::of(alloc, c)?.into_constraint(alloc)
+    Antichain::of(alloc, c)?.into_constraint(alloc)
 }
 
 /// A constraint that holds where both do, pruned.
@@ -46,5 +46,5 @@ pub fn meet(alloc: Global, a: &Constraint, b: &Constraint) -> Result<Constraint,
     ensures fits { IfOk result (λ r. (n : ℕ) → ConstraintFits n a.now → ConstraintFits n b.now → ConstraintFits n r) }
     ensures operators { IfOk result (λ r. (o : Bool) → AdmitsConstraint o a.now → AdmitsConstraint o b.now → AdmitsConstraint o r) }
 {
-    Pile::of_both(alloc, a, b)?.into_constraint(alloc)
+    Antichain::of_both(alloc, a, b)?.into_constraint(alloc)
 }

@@ -7,7 +7,7 @@ use Rattle.std.specs.Bool.{IsFalse}
 use Rattle.lois_base.specs.Atom.{Atom}
 use Rattle.lois_base.specs.Data.{TermD, var, tag, tup, coll, CompD, CompsD, no_comps, more, comps_of}
 use Rattle.lois_base.specs.Shift.{shift, shift_level, shift_items}
-use Rattle.lois_base.specs.Validity.{AdmitsTerm, HasUsualWidths}
+use Rattle.lois_base.specs.Validity.{AdmitsTerm, HasBoundedWidths}
 use Rattle.lois_base.specs.Values.{point, IsSame, SameAt}
 use Rattle.lois_base.proofs.Members.{same_refl}
 use Rattle.lois_base.proofs.RenamedForm.{admits_renamed, widths_renamed}
@@ -91,14 +91,14 @@ module _ (n by : ℕ) where
   carried_admits ordered ss h =
       All-map (λ s. AdmitsTerm ordered s.term) (carried n by) ss (All-weaker (λ s. AdmitsTerm ordered s.term) _ (λ s k. admits_renamed (shift_level n by) ordered s.term k) ss h)
 
-  pub carried_widths : (ss : List SlotD) → All (λ s. HasUsualWidths s.term) ss → All (λ s. HasUsualWidths s.term) (map (carried n by) ss)
+  pub carried_widths : (ss : List SlotD) → All (λ s. HasBoundedWidths s.term) ss → All (λ s. HasBoundedWidths s.term) (map (carried n by) ss)
   carried_widths ss h =
-      All-map (λ s. HasUsualWidths s.term) (carried n by) ss (All-weaker (λ s. HasUsualWidths s.term) _ (λ s k. widths_renamed (shift_level n by) s.term k) ss h)
+      All-map (λ s. HasBoundedWidths s.term) (carried n by) ss (All-weaker (λ s. HasBoundedWidths s.term) _ (λ s k. widths_renamed (shift_level n by) s.term k) ss h)
 
   pub lines_admit : (ordered : Bool) (ls : List LineD) → All (λ l. AdmitsTerm ordered l.term) ls → All (λ l. AdmitsTerm ordered l.term) (map (carried_line n by) ls)
   lines_admit ordered ls h =
       All-map (λ l. AdmitsTerm ordered l.term) (carried_line n by) ls (All-weaker (λ l. AdmitsTerm ordered l.term) _ (λ l k. admits_renamed (shift_level n by) ordered l.term k) ls h)
 
-  pub lines_widths : (ls : List LineD) → All (λ l. HasUsualWidths l.term) ls → All (λ l. HasUsualWidths l.term) (map (carried_line n by) ls)
+  pub lines_widths : (ls : List LineD) → All (λ l. HasBoundedWidths l.term) ls → All (λ l. HasBoundedWidths l.term) (map (carried_line n by) ls)
   lines_widths ls h =
-      All-map (λ l. HasUsualWidths l.term) (carried_line n by) ls (All-weaker (λ l. HasUsualWidths l.term) _ (λ l k. widths_renamed (shift_level n by) l.term k) ls h)
+      All-map (λ l. HasBoundedWidths l.term) (carried_line n by) ls (All-weaker (λ l. HasBoundedWidths l.term) _ (λ l k. widths_renamed (shift_level n by) l.term k) ls h)

@@ -8,11 +8,11 @@ use Rattle.lois_base.specs.Atom.{Atom}
 use Rattle.lois_base.specs.Data.{TermD, coll, CompD, comp, CompsD, no_comps, more, comps_of}
 use Rattle.lois_base.specs.Truth.{holds}
 use Rattle.lois_base.specs.declared.guards.Lit.{Lit}
-use Rattle.lois_base.specs.Validity.{AdmitsConstraint, AdmitsTerm, AdmitsComp, AdmitsItems, HasUsualWidths, CompHasUsualWidths, ItemsHaveUsualWidths}
+use Rattle.lois_base.specs.Validity.{AdmitsConstraint, AdmitsTerm, AdmitsComp, AdmitsItems, HasBoundedWidths, CompHasBoundedWidths, ItemsHaveBoundedWidths}
 use Rattle.lois_base.specs.Values.{PointValue, point, MemberAt, MakesAt, IsMember}
 use Rattle.lois_meaning.specs.Store.{looked_up, stored, AreSameNamed}
-use Rattle.lois_context.specs.Choices.{IsAdmitted, AdmitsContext, ContextHasUsualWidths}
-use Rattle.lois_context.specs.Entered.{binders_of, guard_of, item_of, items_listed, comps_listed, carried, carried_line, bound, IsEntry, HasNoMembers, AreEntries, IsHeldInside, GoesOn, IsInside, AreEntered}
+use Rattle.lois_context.specs.Choices.{IsAdmitted, AdmitsContext, ContextHasBoundedWidths}
+use Rattle.lois_context.specs.Entered.{binders_of, guard_of, item_of, items_listed, comps_listed, carried, carried_line, bound, IsEntry, HasNoMembers, AreEntries, IsHeldInside, GoesOn, IsLoopContext, AreEntered}
 use Rattle.lois_context.specs.Slots.{IsNew, SlotD, slot_name, store_at, lines_at}
 use Rattle.lois_context.specs.declared.contexts.Context.{Context}
 use Rattle.lois_context.proofs.Carried.{lines_same, store_same, carried_new, held_last, carried_admits, carried_widths, lines_admit, lines_widths}
@@ -139,7 +139,7 @@ module _ (before : Context) (x : List ℕ) where
   names_carried n by t [] = refl
   names_carried n by t (s ∷ ss) = ap (λ ns. s.name ∷ ns) (names_carried n by t ss)
 
-  is_inside : IsNew x before.store → (k : CompD) (d : Context) → IsEntry before x k d → IsInside before x d
+  is_inside : IsNew x before.store → (k : CompD) (d : Context) → IsEntry before x k d → IsLoopContext before x d
   is_inside new k d entry = record {
     longer = omega (arith, entry.size);
     names = ap (map slot_name) entry.store ∙ names_carried before.size (binders_of k) (item_of k) before.store;
@@ -164,16 +164,16 @@ module _ (before : Context) (x : List ℕ) where
         all_entries (AdmitsComp ordered) (AdmitsContext ordered) (λ k d q e. e.operators ordered h q) ks ds
         (items_all (AdmitsComp ordered) (AdmitsItems ordered) (λ k qs p. p) ks (subst (AdmitsTerm ordered) is g)) entries
 
-    all_have_widths : ContextHasUsualWidths before → HasUsualWidths t → All ContextHasUsualWidths ds
+    all_have_widths : ContextHasBoundedWidths before → HasBoundedWidths t → All ContextHasBoundedWidths ds
     all_have_widths h g =
-        all_entries CompHasUsualWidths ContextHasUsualWidths (λ k d q e. e.widths h q) ks ds
-        (items_all CompHasUsualWidths ItemsHaveUsualWidths (λ k qs p. p) ks (subst HasUsualWidths is g)) entries
+        all_entries CompHasBoundedWidths ContextHasBoundedWidths (λ k d q e. e.widths h q) ks ds
+        (items_all CompHasBoundedWidths ItemsHaveBoundedWidths (λ k qs p. p) ks (subst HasBoundedWidths is g)) entries
 
     pub are_entered : IsNew x before.store → AreEntered before x t ds
     are_entered new = record {
       entries = subst (λ z. AreEntries before x z ds) (sym (listed_coll t ks is)) entries;
       members = members_are new;
-      inside = all_entries (λ k. Unit {0}) (IsInside before x) (λ k d q e. is_inside new k d e) ks ds (λ i d l. tt) entries;
+      inside = all_entries (λ k. Unit {0}) (IsLoopContext before x) (λ k d q e. is_inside new k d e) ks ds (λ i d l. tt) entries;
       outside = all_go_on new;
       operators = all_admit;
       widths = all_have_widths;
@@ -196,7 +196,7 @@ is_entry before x m g t inner size truth operators store lines = record {
     lines = subst (All (λ l. AdmitsTerm ordered l.term)) (sym lines) (lines_admit before.size m ordered before.lines h.lines);
   };
   widths = λ h k. record {
-    store = subst (All (λ s. HasUsualWidths s.term)) (sym store) (All-push (λ s. HasUsualWidths s.term) (map (carried before.size m) before.store) (bound x t) (carried_widths before.size m before.store h.store) k);
-    lines = subst (All (λ l. HasUsualWidths l.term)) (sym lines) (lines_widths before.size m before.lines h.lines);
+    store = subst (All (λ s. HasBoundedWidths s.term)) (sym store) (All-push (λ s. HasBoundedWidths s.term) (map (carried before.size m) before.store) (bound x t) (carried_widths before.size m before.store h.store) k);
+    lines = subst (All (λ l. HasBoundedWidths l.term)) (sym lines) (lines_widths before.size m before.lines h.lines);
   };
 }

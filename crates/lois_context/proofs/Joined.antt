@@ -11,7 +11,7 @@ use Rattle.lois_base.specs.Data.{TermD, var, tag, tup, coll, CompD, comp, CompsD
 use Rattle.lois_base.specs.Fits.{ConstraintFits, Fits, CompFits, ItemsFit}
 use Rattle.lois_base.specs.Shift.{shift, shift_comp, shift_items}
 use Rattle.lois_base.specs.Truth.{holds}
-use Rattle.lois_base.specs.Validity.{AdmitsTerm, AdmitsComp, AdmitsItems, HasUsualWidths, CompHasUsualWidths, ItemsHaveUsualWidths}
+use Rattle.lois_base.specs.Validity.{AdmitsTerm, AdmitsComp, AdmitsItems, HasBoundedWidths, CompHasBoundedWidths, ItemsHaveBoundedWidths}
 use Rattle.lois_base.specs.Values.{PointValue, point, IsSame, IsIn, SameAt, SomeIsAt, OneIsAt}
 use Rattle.lois_base.specs.declared.guards.Lit.{Lit}
 use Rattle.lois_base.proofs.Members.{same_in, same_sym}
@@ -19,7 +19,7 @@ use Rattle.lois_base.proofs.Shifted.{shift_items_of}
 use Rattle.lois_meaning.specs.Store.{looked_up}
 use Rattle.lois_relate.proofs.Sets.{some_is_member}
 use Rattle.lois_base.proofs.Validity.{fits_longer}
-use Rattle.lois_context.specs.Choices.{IsAdmitted, AdmitsContext, ContextHasUsualWidths}
+use Rattle.lois_context.specs.Choices.{IsAdmitted, AdmitsContext, ContextHasBoundedWidths}
 use Rattle.lois_context.specs.Entered.{binders_of, item_of, items_listed, comps_listed, carried, bound, AreEntries}
 use Rattle.lois_context.specs.Joined.{IsGoneOn, IsEndSlot, AreEndSlots, IsEnd, IsMoved, AreMoved, added_to, IsJoinedTerm, IsGrownTerm, IsJoinedSlot, AreJoinedSlots, AreJoined, IsAddedInside, HasJoined, IsWithMoved}
 use Rattle.lois_context.specs.Slots.{IsNew, SlotD, slot_name, count_of_items, comps_in, store_at}
@@ -497,11 +497,11 @@ admitted_items ordered (k ∷ ks) =
     let rest = admitted_items ordered ks in
     (λ h. All-cons (AdmitsComp ordered) k ks h.0 (rest.0 h.1), λ h. (All-head (AdmitsComp ordered) k ks h, rest.1 (All-tail (AdmitsComp ordered) k ks h)))
 
-items_with_widths : (ks : List CompD) → ItemsHaveUsualWidths (comps_of ks) ↔ All CompHasUsualWidths ks
-items_with_widths [] = (λ h. All-nil CompHasUsualWidths, λ h. tt)
+items_with_widths : (ks : List CompD) → ItemsHaveBoundedWidths (comps_of ks) ↔ All CompHasBoundedWidths ks
+items_with_widths [] = (λ h. All-nil CompHasBoundedWidths, λ h. tt)
 items_with_widths (k ∷ ks) =
     let rest = items_with_widths ks in
-    (λ h. All-cons CompHasUsualWidths k ks h.0 (rest.0 h.1), λ h. (All-head CompHasUsualWidths k ks h, rest.1 (All-tail CompHasUsualWidths k ks h)))
+    (λ h. All-cons CompHasBoundedWidths k ks h.0 (rest.0 h.1), λ h. (All-head CompHasBoundedWidths k ks h, rest.1 (All-tail CompHasBoundedWidths k ks h)))
 
 pub joined_admits : (ordered : Bool) (n : ℕ) (ds : List Context) (ss rs : List SlotD) → AreJoined n ds ss rs → All (AdmitsContext ordered) ds → All (λ s. AdmitsTerm ordered s.term) ss → All (λ s. AdmitsTerm ordered s.term) rs
 joined_admits ordered = of_store (AdmitsTerm ordered) (AdmitsComp ordered) (admitted_items ordered) (AdmitsContext ordered) keeps (λ d h. h.store)
@@ -509,11 +509,11 @@ joined_admits ordered = of_store (AdmitsTerm ordered) (AdmitsComp ordered) (admi
     keeps : (d : Context) (by : ℕ) → AdmitsContext ordered d → (k r : CompD) → IsMoved d.«when» by k r → AdmitsComp ordered k → AdmitsComp ordered r
     keeps d by h (comp m q t) (comp p g s) moved a = (moved.operators ordered h.«when» a.0, subst (AdmitsTerm ordered) (sym moved.item) a.1)
 
-pub joined_widths : (n : ℕ) (ds : List Context) (ss rs : List SlotD) → AreJoined n ds ss rs → All ContextHasUsualWidths ds → All (λ s. HasUsualWidths s.term) ss → All (λ s. HasUsualWidths s.term) rs
-joined_widths = of_store HasUsualWidths CompHasUsualWidths items_with_widths ContextHasUsualWidths keeps (λ d h. h.store)
+pub joined_widths : (n : ℕ) (ds : List Context) (ss rs : List SlotD) → AreJoined n ds ss rs → All ContextHasBoundedWidths ds → All (λ s. HasBoundedWidths s.term) ss → All (λ s. HasBoundedWidths s.term) rs
+joined_widths = of_store HasBoundedWidths CompHasBoundedWidths items_with_widths ContextHasBoundedWidths keeps (λ d h. h.store)
   where
-    keeps : (d : Context) (by : ℕ) → ContextHasUsualWidths d → (k r : CompD) → IsMoved d.«when» by k r → CompHasUsualWidths k → CompHasUsualWidths r
-    keeps d by h (comp m q t) (comp p g s) moved a = subst HasUsualWidths (sym moved.item) a
+    keeps : (d : Context) (by : ℕ) → ContextHasBoundedWidths d → (k r : CompD) → IsMoved d.«when» by k r → CompHasBoundedWidths k → CompHasBoundedWidths r
+    keeps d by h (comp m q t) (comp p g s) moved a = subst HasBoundedWidths (sym moved.item) a
 
 -- ---- a body that changes nothing
 carried_gone_on : (n by : ℕ) (t : TermD) → IsGoneOn n by t (shift n by t)

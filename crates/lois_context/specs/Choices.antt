@@ -5,7 +5,7 @@ use Rattle.std.specs.declared.option.Option.{Option}
 use Rattle.std.specs.declared.option.Option.TheVariants.{Some, None}
 use Rattle.lois_base.specs.Atom.{Atom}
 use Rattle.lois_base.specs.Truth.{holds}
-use Rattle.lois_base.specs.Validity.{AdmitsConstraint, AdmitsTerm, HasUsualWidths}
+use Rattle.lois_base.specs.Validity.{AdmitsConstraint, AdmitsTerm, HasBoundedWidths}
 use Rattle.lois_context.specs.declared.contexts.Context.{Context}
 
 -- a choice of as many atoms as the context has levels, at which its constraint holds
@@ -24,6 +24,6 @@ pub record AdmitsContext (ordered : Bool) (k : Context) : Type 0 where
   pub lines : All (λ l. AdmitsTerm ordered l.term) k.lines
 
 -- each tuple in the context has 2 to 8 parts
-pub record ContextHasUsualWidths (k : Context) : Type 0 where
-  pub store : All (λ s. HasUsualWidths s.term) k.store
-  pub lines : All (λ l. HasUsualWidths l.term) k.lines
+pub record ContextHasBoundedWidths (k : Context) : Type 0 where
+  pub store : All (λ s. HasBoundedWidths s.term) k.store
+  pub lines : All (λ l. HasBoundedWidths l.term) k.lines

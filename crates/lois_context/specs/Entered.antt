@@ -6,13 +6,13 @@ use Rattle.lois_base.specs.Atom.{Atom}
 use Rattle.lois_base.specs.Data.{TermD, coll, CompD, comp, CompsD, no_comps, more}
 use Rattle.lois_base.specs.Shift.{shift}
 use Rattle.lois_base.specs.Truth.{holds}
-use Rattle.lois_base.specs.Validity.{AdmitsTerm, AdmitsComp, HasUsualWidths, CompHasUsualWidths}
+use Rattle.lois_base.specs.Validity.{AdmitsTerm, AdmitsComp, HasBoundedWidths, CompHasBoundedWidths}
 use Rattle.lois_base.specs.Values.{PointValue, point, IsMember}
 use Rattle.lois_base.specs.declared.guards.Lit.{Lit}
 use Rattle.lois_answers.specs.ResultsData.{LineD}
 use Rattle.lois_meaning.specs.Store.{looked_up, stored, AreSameNamed}
-use Rattle.lois_deciders.specs.Met.{ExcludeEachOther}
-use Rattle.lois_context.specs.Choices.{IsAdmitted, AdmitsContext, ContextHasUsualWidths}
+use Rattle.lois_deciders.specs.Conjunction.{AreInconsistent}
+use Rattle.lois_context.specs.Choices.{IsAdmitted, AdmitsContext, ContextHasBoundedWidths}
 use Rattle.lois_context.specs.Slots.{SlotD, slot_name, comps_in, store_at, lines_at}
 use Rattle.lois_context.specs.declared.contexts.Context.{Context}
 
@@ -51,11 +51,11 @@ pub record IsEntry (before : Context) (x : List ℕ) (k : CompD) (inner : Contex
   pub store : inner.store ≡ map (carried before.size (binders_of k)) before.store ++ bound x (item_of k) ∷ []
   pub lines : inner.lines ≡ map (carried_line before.size (binders_of k)) before.lines
   pub operators : (ordered : Bool) → AdmitsContext ordered before → AdmitsComp ordered k → AdmitsContext ordered inner
-  pub widths : ContextHasUsualWidths before → CompHasUsualWidths k → ContextHasUsualWidths inner
+  pub widths : ContextHasBoundedWidths before → CompHasBoundedWidths k → ContextHasBoundedWidths inner
 
 -- the comprehension has no members where the context admits
 abbrev pub HasNoMembers : Context → CompD → Type 0
-HasNoMembers before k = ExcludeEachOther (before.size + binders_of k) before.«when» (guard_of k)
+HasNoMembers before k = AreInconsistent (before.size + binders_of k) before.«when» (guard_of k)
 
 -- one context for each comprehension that has members, in order
 abbrev pub AreEntries : Context → List ℕ → List CompD → List Context → Type 0
@@ -77,7 +77,7 @@ pub record GoesOn (before : Context) (x : List ℕ) (inner : Context) : Type 0 w
   pub lines : (c e : List Atom) → length c ≡ before.size → IsAdmitted (c ++ e) inner → AreSameNamed (lines_at (c ++ e) inner.lines) (lines_at c before.lines)
 
 -- Inside there are no fewer levels, the name stands behind those from outside, and it holds a value.
-pub record IsInside (before : Context) (x : List ℕ) (inner : Context) : Type 0 where
+pub record IsLoopContext (before : Context) (x : List ℕ) (inner : Context) : Type 0 where
   pub longer : before.size ≤ inner.size
   pub names : map slot_name inner.store ≡ map slot_name before.store ++ x ∷ []
   pub held : (c : List Atom) → (u : PointValue) × (looked_up x (store_at c inner.store) ≡ Some u)
@@ -87,7 +87,7 @@ pub record IsInside (before : Context) (x : List ℕ) (inner : Context) : Type 0
 pub record AreEntered (before : Context) (x : List ℕ) (t : TermD) (inner : List Context) : Type 0 where
   pub entries : AreEntries before x (comps_listed t) inner
   pub members : (c : List Atom) → IsAdmitted c before → (u : PointValue) → IsMember u (point t c) ↔ IsHeldInside inner x c u
-  pub inside : All (IsInside before x) inner
+  pub inside : All (IsLoopContext before x) inner
   pub outside : All (GoesOn before x) inner
   pub operators : (ordered : Bool) → AdmitsContext ordered before → AdmitsTerm ordered t → All (AdmitsContext ordered) inner
-  pub widths : ContextHasUsualWidths before → HasUsualWidths t → All ContextHasUsualWidths inner
+  pub widths : ContextHasBoundedWidths before → HasBoundedWidths t → All ContextHasBoundedWidths inner

@@ -6,5 +6,5 @@ pub mod Sides
 pub mod Entered
 pub mod Counted
 pub mod Merged
-pub mod Prints
+pub mod Hash
 pub mod Joined

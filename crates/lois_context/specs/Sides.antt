@@ -6,8 +6,8 @@ use Rattle.lois_base.specs.Atom.{Atom}
 use Rattle.lois_base.specs.Fits.{ConstraintFits}
 use Rattle.lois_base.specs.Truth.{holds}
 use Rattle.lois_base.specs.declared.guards.Lit.{Lit}
-use Rattle.lois_deciders.specs.Asked.{Meets}
-use Rattle.lois_deciders.specs.declared.chosen.Met.{Met}
+use Rattle.lois_deciders.specs.Satisfaction.{IsConstraintSample}
+use Rattle.lois_deciders.specs.declared.chosen.SampledConstraint.{SampledConstraint}
 use Rattle.lois_context.specs.declared.contexts.Context.{Context}
 
 -- The context as it was, where the test holds too.
@@ -25,11 +25,11 @@ pub record IsNarrowed (before : Context) (g : List (List Lit)) (side : Context) 
   pub lines : side.lines ≡ before.lines
 
 -- what was met over the context's levels
-abbrev pub CanNarrow : Context → Met → Type 0
-CanNarrow before m = ConstraintFits before.size m.constraint × Meets before.size m.constraint m.sample
+abbrev pub CanNarrow : Context → SampledConstraint → Type 0
+CanNarrow before m = ConstraintFits before.size m.constraint × IsConstraintSample before.size m.constraint m.sample
 
 -- there is a side where there is something that was met
-abbrev pub IsNarrowedBy : Context → Option Met → Option Context → Type 0
+abbrev pub IsNarrowedBy : Context → Option SampledConstraint → Option Context → Type 0
 IsNarrowedBy before None None = Unit {0}
 IsNarrowedBy before (Some m) (Some side) = IsNarrowed before m.constraint side
 IsNarrowedBy before _ _ = ⊥

@@ -8,7 +8,7 @@ ghost use Rattle.lois_base.specs.Fits.{ConstraintFits, Fits, CompFits, ItemsFit}
 ghost use Rattle.lois_base.specs.Tree.{tree, comp_of};
 ghost use Rattle.lois_base.specs.Values.{PointValue};
 ghost use Rattle.lois_meaning.specs.Store.{looked_up};
-ghost use Rattle.lois_context.specs.Choices.{IsAdmitted, AdmitsContext, ContextHasUsualWidths};
+ghost use Rattle.lois_context.specs.Choices.{IsAdmitted, AdmitsContext, ContextHasBoundedWidths};
 ghost use Rattle.lois_context.specs.Joined.{IsEnd, AreEndSlots, IsMoved, IsJoinedSlot, AreJoinedSlots, AreJoined, HasJoined, IsWithMoved, IsGrownTerm, added_to};
 ghost use Rattle.lois_context.specs.Kept.{IsSlot, AreSlots, HasDistinctNames};
 ghost use Rattle.lois_context.specs.Slots.{comps_in, store_at};
@@ -30,7 +30,7 @@ pub fn join_loop(alloc: Global, before: Context, ends: Vec<Context>) -> Result<C
     ensures joined { IfOk result (λ r. AreJoined before.size ends.items before.store r.store) }
     ensures members { IfOk result (λ r. (c : List Atom) → IsAdmitted c before → (x : List ℕ) (v : PointValue) → looked_up x (store_at c before.store) ≡ Some v → HasJoined ends.items x c v r.store) }
     ensures operators { IfOk result (λ r. (ordered : Bool) → AdmitsContext ordered before → All (AdmitsContext ordered) ends.items → AdmitsContext ordered r) }
-    ensures widths { IfOk result (λ r. ContextHasUsualWidths before → All ContextHasUsualWidths ends.items → ContextHasUsualWidths r) }
+    ensures widths { IfOk result (λ r. ContextHasBoundedWidths before → All ContextHasBoundedWidths ends.items → ContextHasBoundedWidths r) }
 {
     let store = joined(alloc, before.store, &ends, before.size)?;
     Ok(Context {

@@ -4,9 +4,9 @@
 
 mod contexts;
 mod entering;
+mod hashing;
 mod joining;
 mod merging;
-mod prints;
 mod shared;
 mod slots;
 mod splitting;

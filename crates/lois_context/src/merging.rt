@@ -7,11 +7,11 @@ ghost use Rattle.lois_base.specs.Atom.{Atom};
 ghost use Rattle.lois_base.specs.Fits.{ConstraintFits};
 ghost use Rattle.lois_base.specs.Truth.{holds};
 ghost use Rattle.lois_answers.specs.LineView.{line_of};
-ghost use Rattle.lois_context.specs.Merged.{AreMerged, IsLike, IsTakenIn};
-ghost use Rattle.lois_context.specs.Prints.{printed};
+ghost use Rattle.lois_context.specs.Merged.{AreMerged, HasSameContents, IsMergedInto};
+ghost use Rattle.lois_context.specs.Hash.{context_hash};
 
 use crate::Context;
-use crate::prints::print_of;
+use crate::hashing::hash_of;
 use lois_answers::{Line, Lines};
 use lois_base::{Constraint, NoMemory};
 use std::alloc::Global;
@@ -22,104 +22,104 @@ use std::collections::HashMap;
 pub fn merge_equal(alloc: Global, contexts: Vec<Context>) -> Result<Vec<Context>, NoMemory>
     ensures { IfOk result (λ r. AreMerged contexts.items r.items) }
 {
-    // one context alone needs no print
+    // one context alone needs no hash
     if contexts.as_slice().len() <= 1 {
         return Ok(contexts);
     }
     let mut merged = Vec::new(alloc);
-    let mut prints = Vec::new(alloc);
+    let mut hashes = Vec::new(alloc);
     let mut places = HashMap::new(alloc);
     for context in contexts {
-        put(alloc, &mut merged, &mut prints, &mut places, context)?;
+        put(alloc, &mut merged, &mut hashes, &mut places, context)?;
     }
     Ok(merged)
 }
 
-// Takes a context into the one that holds the same, or puts it behind the others where there is none. The prints are those of
-// the merged contexts, and each has a place, the index of a context with that print.
+// Takes a context into the one that holds the same, or puts it behind the others where there is none. The hashes are those of
+// the merged contexts, and each has a place, the index of a context with that hash.
 fn put(
     alloc: Global,
     merged: &mut Vec<Context>,
-    prints: &mut Vec<u64>,
+    hashes: &mut Vec<u64>,
     places: &mut HashMap<u64, usize>,
     context: Context,
 ) -> Result<(), NoMemory>
-    requires prints { prints.old.items ≡ map printed merged.old.items }
-    requires places { All (ContainsKey nat_eq places.old) prints.old.items }
+    requires hashes { hashes.old.items ≡ map context_hash merged.old.items }
+    requires places { All (ContainsKey nat_eq places.old) hashes.old.items }
     ensures merged { OnOk result ((ks : List Context) → AreMerged ks merged.old.items → AreMerged (ks ++ context ∷ []) merged.new.items) }
-    ensures prints { OnOk result (prints.new.items ≡ map printed merged.new.items) }
-    ensures places { OnOk result (All (ContainsKey nat_eq places.new) prints.new.items) }
+    ensures hashes { OnOk result (hashes.new.items ≡ map context_hash merged.new.items) }
+    ensures places { OnOk result (All (ContainsKey nat_eq places.new) hashes.new.items) }
 {
-    let print = print_of(&context);
-    if let Some(place) = partner_of(merged, prints, places, &context, print) {
-        return take_in(alloc, &mut merged[place], &context);
+    let hash = hash_of(&context);
+    if let Some(place) = partner_of(merged, hashes, places, &context, hash) {
+        return merge_into(alloc, &mut merged[place], &context);
     }
-    places.insert(print, merged.len())?;
+    places.insert(hash, merged.len())?;
     merged.push(context)?;
-    prints.push(print)?;
+    hashes.push(hash)?;
     Ok(())
 }
 
-// The index of a context with the same size, store and lines. Where the print has no place there is none. Where it has one, that
-// context is it, unless contexts that differ have one print: then all of them are looked at.
+// The index of a context with the same size, store and lines. Where the hash has no place there is none. Where it has one, that
+// context is it, unless contexts that differ have one hash: then all of them are looked at.
 fn partner_of(
     contexts: &[Context],
-    prints: &[u64],
+    hashes: &[u64],
     places: &HashMap<u64, usize>,
     context: &Context,
-    print: u64,
+    hash: u64,
 ) -> Option<usize>
-    requires prints { prints.now ≡ map printed contexts.now }
-    requires places { All (ContainsKey nat_eq places.now) prints.now }
-    requires print { print ≡ printed context.now }
-    ensures found { IfSome result (λ i. (i < length contexts.now) × HoldsAt (IsLike context.now) contexts.now i) }
-    ensures none { IsNone result → All (λ d. IsLike context.now d → ⊥) contexts.now }
+    requires hashes { hashes.now ≡ map context_hash contexts.now }
+    requires places { All (ContainsKey nat_eq places.now) hashes.now }
+    requires hash { hash ≡ context_hash context.now }
+    ensures found { IfSome result (λ i. (i < length contexts.now) × HoldsAt (HasSameContents context.now) contexts.now i) }
+    ensures none { IsNone result → All (λ d. HasSameContents context.now d → ⊥) contexts.now }
 {
-    let Some(place) = places.get(&print) else {
+    let Some(place) = places.get(&hash) else {
         return None;
     };
-    if is_like_at(contexts, *place, context) {
+    if has_same_contents_at(contexts, *place, context) {
         return Some(*place);
     }
-    place_of(contexts, prints, context, print)
+    place_of(contexts, hashes, context, hash)
 }
 
-fn is_like_at(contexts: &[Context], place: usize, context: &Context) -> bool
-    ensures { IsTrue result → (place < length contexts.now) × HoldsAt (IsLike context.now) contexts.now place }
+fn has_same_contents_at(contexts: &[Context], place: usize, context: &Context) -> bool
+    ensures { IsTrue result → (place < length contexts.now) × HoldsAt (HasSameContents context.now) contexts.now place }
 {
     match contexts.get(place) {
-        Some(other) => is_like(other, context),
+        Some(other) => has_same_contents(other, context),
         None => false,
     }
 }
 
-// The same, looked for among all. Those with other prints are passed by.
-fn place_of(contexts: &[Context], prints: &[u64], context: &Context, print: u64) -> Option<usize>
-    requires prints { prints.now ≡ map printed contexts.now }
-    requires print { print ≡ printed context.now }
-    ensures found { IfSome result (λ i. (i < length contexts.now) × HoldsAt (IsLike context.now) contexts.now i) }
-    ensures none { IsNone result → All (λ d. IsLike context.now d → ⊥) contexts.now }
+// The same, looked for among all. Those with other hashes are passed by.
+fn place_of(contexts: &[Context], hashes: &[u64], context: &Context, hash: u64) -> Option<usize>
+    requires hashes { hashes.now ≡ map context_hash contexts.now }
+    requires hash { hash ≡ context_hash context.now }
+    ensures found { IfSome result (λ i. (i < length contexts.now) × HoldsAt (HasSameContents context.now) contexts.now i) }
+    ensures none { IsNone result → All (λ d. HasSameContents context.now d → ⊥) contexts.now }
 {
     for index in 0..contexts.len() {
-        if is_found(&contexts[index], prints[index], context, print) {
+        if is_found(&contexts[index], hashes[index], context, hash) {
             return Some(index);
         }
     }
     None
 }
 
-// The contexts are compared only where their prints are equal.
-#[tactic(auto, using(crate::proofs::Merged::prints_alike))]
-fn is_found(other: &Context, others: u64, context: &Context, print: u64) -> bool
-    requires others { others ≡ printed other.now }
-    requires print { print ≡ printed context.now }
-    ensures { IsTrue result ↔ IsLike context.now other.now }
+// The contexts are compared only where their hashes are equal.
+#[tactic(auto, using(crate::proofs::Merged::hashes_agree))]
+fn is_found(other: &Context, others: u64, context: &Context, hash: u64) -> bool
+    requires others { others ≡ context_hash other.now }
+    requires hash { hash ≡ context_hash context.now }
+    ensures { IsTrue result ↔ HasSameContents context.now other.now }
 {
-    others == print && is_like(other, context)
+    others == hash && has_same_contents(other, context)
 }
 
-fn is_like(context: &Context, other: &Context) -> bool
-    ensures { IsTrue result ↔ IsLike other.now context.now }
+fn has_same_contents(context: &Context, other: &Context) -> bool
+    ensures { IsTrue result ↔ HasSameContents other.now context.now }
 {
     context.size == other.size
         && context.store.is_equal(&other.store)
@@ -149,9 +149,9 @@ fn is_equal(line: &Line, other: &Line) -> bool
 }
 
 // The context admits in addition what the other one does.
-fn take_in(alloc: Global, context: &mut Context, other: &Context) -> Result<(), NoMemory>
+fn merge_into(alloc: Global, context: &mut Context, other: &Context) -> Result<(), NoMemory>
     requires { context.old.size ≡ other.now.size }
-    ensures { OnOk result (IsTakenIn other.now context.old context.new) }
+    ensures { OnOk result (IsMergedInto other.now context.old context.new) }
 {
     add_cubes(alloc, &mut context.when, &other.when)
 }

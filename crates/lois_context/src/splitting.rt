@@ -12,7 +12,7 @@ ghost use Rattle.lois_context.specs.Sides.{IsSide, IsNarrowed, IsNarrowedBy, Can
 use crate::{Context, Split};
 use lois_base::{Constraint, Decider, NoMemory};
 use lois_constraint::negate;
-use lois_deciders::{Chosen, Met};
+use lois_deciders::{Chosen, SampledConstraint};
 use std::alloc::Global;
 
 /// Splits a context by a condition: each choice that it admits is admitted by exactly the side that the condition's truth
@@ -67,8 +67,8 @@ pub fn side(
 fn sides(
     alloc: Global,
     context: Context,
-    yes: Option<Met>,
-    no: Option<Met>,
+    yes: Option<SampledConstraint>,
+    no: Option<SampledConstraint>,
 ) -> Result<Split, NoMemory>
     requires yes { IfSome yes (CanNarrow context) }
     requires no { IfSome no (CanNarrow context) }
@@ -91,7 +91,7 @@ fn sides(
     })
 }
 
-fn narrowed_if(context: Context, met: Option<Met>) -> Option<Context>
+fn narrowed_if(context: Context, met: Option<SampledConstraint>) -> Option<Context>
     requires { IfSome met (CanNarrow context) }
     ensures { IsNarrowedBy context met result }
 {
@@ -102,7 +102,7 @@ fn narrowed_if(context: Context, met: Option<Met>) -> Option<Context>
 }
 
 // The context where what was met holds.
-fn narrowed(context: Context, met: Met) -> Context
+fn narrowed(context: Context, met: SampledConstraint) -> Context
     requires { CanNarrow context met }
     ensures { IsNarrowed context met.constraint result }
 {
@@ -115,7 +115,11 @@ fn narrowed(context: Context, met: Met) -> Context
     }
 }
 
-fn narrowed_copy(alloc: Global, context: &Context, met: Met) -> Result<Context, NoMemory>
+fn narrowed_copy(
+    alloc: Global,
+    context: &Context,
+    met: SampledConstraint,
+) -> Result<Context, NoMemory>
     requires { CanNarrow context.now met }
     ensures { IfOk result (IsNarrowed context.now met.constraint) }
 {

@@ -4,7 +4,7 @@ pub mod Classes
 pub mod Ranking
 pub mod Ranked
 pub mod Satisfied
-pub mod Asking
+pub mod Oracle
 pub mod Choosing
 pub mod Placed
 pub mod Staged

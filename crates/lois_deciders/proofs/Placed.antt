@@ -16,7 +16,7 @@ use Rattle.lois_base.specs.declared.guards.Op.TheVariants.{Eq, Ne, Lt}
 use Rattle.lois_base.proofs.Samples.{below_whole}
 use Rattle.lois_base.proofs.Order.{below_irrefl, below_asym, below_trans, below_respects, equal_refl, equals_from, trichotomy}
 use Rattle.lois_base.proofs.Truths.{holds_ordered}
-use Rattle.lois_deciders.specs.Asked.{IsSmall}
+use Rattle.lois_deciders.specs.Satisfaction.{IsSmall}
 use Rattle.lois_deciders.specs.Places.{raised_from}
 
 -- ---- numbers that stand to x as those before stand to an atom

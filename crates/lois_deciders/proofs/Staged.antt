@@ -9,7 +9,7 @@ use Rattle.lois_base.specs.Fits.{ConstraintFits}
 use Rattle.lois_base.specs.Theory.{Eliminates, IsSatisfiable}
 use Rattle.lois_base.specs.Truth.{cube_holds, holds, sampled}
 use Rattle.lois_base.specs.declared.guards.Lit.{Lit}
-use Rattle.lois_deciders.specs.Asked.{CanBeMet}
+use Rattle.lois_deciders.specs.Satisfaction.{ConstraintIsSatisfiable}
 use Rattle.lois_base.specs.Bound.{SomeAtomMeets, HoldsForSome}
 use Rattle.lois_deciders.specs.Stages.{AreStages}
 
@@ -105,29 +105,29 @@ split (x ∷ (y ∷ c)) (suc n) e =
     let r = split (y ∷ c) n (omega (arith, e)) in
     record { front = x ∷ r.front; end = r.end; count = omega (arith, r.count); is = ap (λ z. x ∷ z) r.is }
 
-met_below : (n : ℕ) (g r : List (List Lit)) → HoldsForSome n g r → CanBeMet (n + 1) g → CanBeMet n r
+met_below : (n : ℕ) (g r : List (List Lit)) → HoldsForSome n g r → ConstraintIsSatisfiable (n + 1) g → ConstraintIsSatisfiable n r
 met_below n g r step met =
     let parts = split met.0 n met.1 in
     (parts.front, parts.count, (step parts.front parts.count).1 (parts.end, subst (λ c. IsTrue (holds c g)) parts.is met.2))
 
 module _ (n : ℕ) (g : List (List Lit)) (stages : List (List (List Lit))) (h : AreStages n g n stages) where
-  met_at : (k : ℕ) → k ≤ n → CanBeMet n g → CanBeMet (n - k) (get_or stages k [])
+  met_at : (k : ℕ) → k ≤ n → ConstraintIsSatisfiable n g → ConstraintIsSatisfiable (n - k) (get_or stages k [])
   met_at zero l met =
       let e : n ≡ n - 0 = omega arith in
-      subst (λ j. CanBeMet j (get_or stages 0 [])) e (subst (CanBeMet n) (sym h.first) met)
+      subst (λ j. ConstraintIsSatisfiable j (get_or stages 0 [])) e (subst (ConstraintIsSatisfiable n) (sym h.first) met)
   met_at (suc k) l met =
       let m : n - k ≡ (n - k - 1) + 1 = omega arith in
       let e : n - k - 1 ≡ n - suc k = omega arith in
       let e' : k + 1 ≡ suc k = omega arith in
-      let r = met_below (n - k - 1) (get_or stages k []) (get_or stages (k + 1) []) (h.steps k (omega arith)) (subst (λ j. CanBeMet j (get_or stages k [])) m (met_at k (omega arith) met)) in
-      subst (λ j. CanBeMet j (get_or stages (suc k) [])) e (subst (λ i. CanBeMet (n - k - 1) (get_or stages i [])) e' r)
+      let r = met_below (n - k - 1) (get_or stages k []) (get_or stages (k + 1) []) (h.steps k (omega arith)) (subst (λ j. ConstraintIsSatisfiable j (get_or stages k [])) m (met_at k (omega arith) met)) in
+      subst (λ j. ConstraintIsSatisfiable j (get_or stages (suc k) [])) e (subst (λ i. ConstraintIsSatisfiable (n - k - 1) (get_or stages i [])) e' r)
 
   no_atoms : (c : List Atom) → length c ≡ n - n → c ≡ []
   no_atoms [] l = refl
   no_atoms (x ∷ c) l = absurd (omega (arith, l))
 
   -- where the last stage fails without atoms
-  pub never_met : IsFalse (holds [] (get_or stages n [])) → CanBeMet n g → ⊥
+  pub never_met : IsFalse (holds [] (get_or stages n [])) → ConstraintIsSatisfiable n g → ⊥
   never_met fails met =
       let m = met_at n (omega arith) met in
       let yes : holds [] (get_or stages n []) ≡ true = subst (λ c. IsTrue (holds c (get_or stages n []))) (no_atoms m.0 m.1) m.2 in
@@ -151,5 +151,5 @@ module _ (n : ℕ) (g : List (List Lit)) (stages : List (List (List Lit))) (h : 
 pub stage_read : (stages : List (List (List Lit))) (k : ℕ) (x : List (List Lit)) → k < length stages → x ≡ get_or stages k x → x ≡ get_or stages k []
 stage_read stages k x l is = is ∙ get_or_default stages k x [] l
 
-pub one_cube_met : (n : ℕ) (k : List Lit) → IsSatisfiable n k → CanBeMet n (k ∷ [])
+pub one_cube_met : (n : ℕ) (k : List Lit) → IsSatisfiable n k → ConstraintIsSatisfiable n (k ∷ [])
 one_cube_met n k met = (met.0, met.1, first_or (cube_holds met.0 k) false met.2)

@@ -1,11 +1,11 @@
 pub mod Labels
 pub mod Ranks
-pub mod Asked
-pub mod Met
+pub mod Satisfaction
+pub mod Conjunction
 pub mod Choice
 pub mod OnlyAsked
 pub mod Reached
-pub mod Asking
+pub mod Oracle
 pub mod Stages
 pub mod Places
 pub mod Kept

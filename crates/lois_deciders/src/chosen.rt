@@ -6,17 +6,17 @@ ghost use Rattle.lois_base.specs.Atom.{Atom};
 ghost use Rattle.lois_base.specs.Fits.{CubeFits, ConstraintFits};
 ghost use Rattle.lois_base.specs.Theory.{IsSatisfiable, IsSampleOf, risen};
 ghost use Rattle.lois_base.specs.Truth.{holds};
-ghost use Rattle.lois_deciders.specs.Asked.{Meets, CanBeMet, Parts, IsEntailed, HasRisen, IsNoLower};
+ghost use Rattle.lois_deciders.specs.Satisfaction.{IsConstraintSample, ConstraintIsSatisfiable, IsCounterexample, IsEntailed, HasRisen, IsNoLower};
 ghost use Rattle.lois_deciders.specs.Choice.{IsWanted, IsUnwanted, IsFirstWanted};
-ghost use Rattle.lois_deciders.specs.Met.{AreMet, ExcludeEachOther};
+ghost use Rattle.lois_deciders.specs.Conjunction.{IsSampledConjunction, AreInconsistent};
 
 use lois_base::{Constraint, Cube, Decider, Kind, NoMemory, Numbers};
-use lois_constraint::{alone, and, and_not, meet};
+use lois_constraint::{and, and_not, meet, singleton};
 use std::alloc::Global;
 
 /// A constraint, and numbers at which it holds.
 #[derive(Drop)]
-pub struct Met {
+pub struct SampledConstraint {
     pub constraint: Constraint,
     pub sample: Numbers,
 }
@@ -61,8 +61,8 @@ fn put(
     size: usize,
 ) -> Result<Option<Vec<u64>>, NoMemory>
     requires { ConstraintFits size c.now }
-    ensures sample { IfOk result (λ o. IfSome o (λ s. Meets size c.now s.items)) }
-    ensures none { IfOk result (λ o. IsNone o ↔ (CanBeMet size c.now → ⊥)) }
+    ensures sample { IfOk result (λ o. IfSome o (λ s. IsConstraintSample size c.now s.items)) }
+    ensures none { IfOk result (λ o. IsNone o ↔ (ConstraintIsSatisfiable size c.now → ⊥)) }
     ensures asked { OnOk result (0 < length c.now → HasRisen (questions decider.old) (questions decider.new)) }
     ensures kind { kind_of decider.new ≡ kind_of decider.old }
     ensures more { IsNoLower (questions decider.old) (questions decider.new) }
@@ -102,8 +102,8 @@ impl Chosen {
         size: usize,
     ) -> Result<Option<Vec<u64>>, NoMemory>
         requires { ConstraintFits size c.now }
-        ensures sample { IfOk result (λ o. IfSome o (λ s. Meets size c.now s.items)) }
-        ensures none { IfOk result (λ o. IsNone o ↔ (CanBeMet size c.now → ⊥)) }
+        ensures sample { IfOk result (λ o. IfSome o (λ s. IsConstraintSample size c.now s.items)) }
+        ensures none { IfOk result (λ o. IsNone o ↔ (ConstraintIsSatisfiable size c.now → ⊥)) }
         ensures asked { OnOk result (0 < length c.now → HoldsAt (λ b. HoldsAt (λ a. HasRisen ((⟦<dyn Decider as Decider>⟧ b.vtable).questions b.value) ((⟦<dyn Decider as Decider>⟧ a.vtable).questions a.value)) self.new.deciders.items self.new.position) self.old.deciders.items self.old.position) }
         ensures only_asked { HasOnlyAsked (λ b. kind_of b) (λ b. questions b) self.old self.new }
     {
@@ -118,16 +118,16 @@ impl Chosen {
         a: &Constraint,
         b: &Constraint,
         size: usize,
-    ) -> Result<Option<Met>, NoMemory>
+    ) -> Result<Option<SampledConstraint>, NoMemory>
         requires first { ConstraintFits size a.now }
         requires second { ConstraintFits size b.now }
-        ensures met { IfOk result (λ o. IfSome o (λ m. AreMet size a.now b.now m.constraint m.sample)) }
-        ensures none { IfOk result (λ o. IsNone o ↔ ExcludeEachOther size a.now b.now) }
+        ensures met { IfOk result (λ o. IfSome o (λ m. IsSampledConjunction size a.now b.now m.constraint m.sample)) }
+        ensures none { IfOk result (λ o. IsNone o ↔ AreInconsistent size a.now b.now) }
         ensures only_asked { HasOnlyAsked (λ b. kind_of b) (λ b. questions b) self.old self.new }
     {
         let constraint = meet(alloc, a, b)?;
         match self.ask_both(alloc, a, b, &constraint, size)? {
-            Some(sample) => Ok(Some(Met {
+            Some(sample) => Ok(Some(SampledConstraint {
                 constraint,
                 sample: Numbers::from_vec(sample),
             })),
@@ -148,8 +148,8 @@ impl Chosen {
         requires second { ConstraintFits size b.now }
         requires pruned { ConstraintFits size pruned.now }
         requires truth { (c : List Atom) → holds c pruned.now ≡ (holds c a.now && holds c b.now) }
-        ensures sample { IfOk result (λ o. IfSome o (λ s. Meets size pruned.now s.items)) }
-        ensures none { IfOk result (λ o. IsNone o ↔ (CanBeMet size pruned.now → ⊥)) }
+        ensures sample { IfOk result (λ o. IfSome o (λ s. IsConstraintSample size pruned.now s.items)) }
+        ensures none { IfOk result (λ o. IsNone o ↔ (ConstraintIsSatisfiable size pruned.now → ⊥)) }
         ensures only_asked { HasOnlyAsked (λ b. kind_of b) (λ b. questions b) self.old self.new }
     {
         if pruned.len() > 0 {
@@ -170,7 +170,7 @@ impl Chosen {
     ) -> Result<Option<Vec<u64>>, NoMemory>
         requires first { ConstraintFits size c.now }
         requires second { ConstraintFits size d.now }
-        ensures sample { IfOk result (λ o. IfSome o (λ s. Parts size c.now d.now s.items)) }
+        ensures sample { IfOk result (λ o. IfSome o (λ s. IsCounterexample size c.now d.now s.items)) }
         ensures none { IfOk result (λ o. IsNone o ↔ IsEntailed size c.now d.now) }
         ensures only_asked { HasOnlyAsked (λ b. kind_of b) (λ b. questions b) self.old self.new }
     {
@@ -192,11 +192,11 @@ impl Chosen {
     ) -> Result<Option<Vec<u64>>, NoMemory>
         requires first { CubeFits size cube.now }
         requires second { ConstraintFits size d.now }
-        ensures sample { IfOk result (λ o. IfSome o (λ s. Parts size (cube.now ∷ []) d.now s.items)) }
+        ensures sample { IfOk result (λ o. IfSome o (λ s. IsCounterexample size (cube.now ∷ []) d.now s.items)) }
         ensures none { IfOk result (λ o. IsNone o ↔ IsEntailed size (cube.now ∷ []) d.now) }
         ensures only_asked { HasOnlyAsked (λ b. kind_of b) (λ b. questions b) self.old self.new }
     {
-        let whole = alone(alloc, cube)?;
+        let whole = singleton(alloc, cube)?;
         let left = and_not(alloc, &whole, d)?;
         self.ask(alloc, &left, size)
     }

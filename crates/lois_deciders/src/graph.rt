@@ -6,8 +6,8 @@ ghost use Rattle.lois_base.specs.Theory.{IsSampleOf};
 ghost use Rattle.lois_base.specs.declared.deciding.Kind.{Kind};
 ghost use Rattle.lois_deciders.specs.Labels.{IsUnmet};
 
-use crate::labels::{labelled, parts_a_label};
-use crate::ranks::ranked;
+use crate::labels::{has_conflicting_disequality, label_levels};
+use crate::ranks::rank_labels;
 use lois_base::{Cube, Decider, Kind, NoMemory};
 use std::alloc::Global;
 
@@ -33,11 +33,11 @@ fn sample(alloc: Global, cube: &Cube, size: usize) -> Result<Option<Vec<u64>>, N
     ensures found { IfOk result (λ o. IfSome o (λ s. IsSampleOf size cube.now s.items)) }
     ensures none { IfOk result (λ o. IfNone o (IsUnmet size cube.now)) }
 {
-    let labels = labelled(alloc, cube, size)?;
-    if parts_a_label(cube, &labels) {
+    let labels = label_levels(alloc, cube, size)?;
+    if has_conflicting_disequality(cube, &labels) {
         return Ok(None);
     }
-    let Some(ranks) = ranked(alloc, cube, &labels)? else {
+    let Some(ranks) = rank_labels(alloc, cube, &labels)? else {
         return Ok(None);
     };
     let mut sample = Vec::with_capacity(alloc, size)?;

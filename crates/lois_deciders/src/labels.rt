@@ -87,7 +87,7 @@ fn join(
 }
 
 /// One of the levels for each level, the same for those that the cube's equations identify.
-pub fn labelled(alloc: Global, cube: &Cube, size: usize) -> Result<Vec<usize>, NoMemory>
+pub fn label_levels(alloc: Global, cube: &Cube, size: usize) -> Result<Vec<usize>, NoMemory>
     requires { CubeFits size cube.now }
     ensures { IfOk result (λ r. IsLabelling size cube.now (length cube.now) r.items) }
 {
@@ -102,7 +102,7 @@ pub fn labelled(alloc: Global, cube: &Cube, size: usize) -> Result<Vec<usize>, N
 }
 
 /// Whether some `!=` stands between levels with one label.
-pub fn parts_a_label(cube: &Cube, labels: &[usize]) -> bool
+pub fn has_conflicting_disequality(cube: &Cube, labels: &[usize]) -> bool
     requires levels { CubeFits (length labels.now) cube.now }
     requires labelling { IsLabelling (length labels.now) cube.now (length cube.now) labels.now }
     ensures unmet { IsTrue result → IsUnmet (length labels.now) cube.now }

@@ -11,7 +11,7 @@ mod questions;
 mod ranks;
 mod stages;
 
-pub use chosen::{Chosen, Met};
+pub use chosen::{Chosen, SampledConstraint};
 pub use graph::GraphDecider;
 pub use memo::MemoDecider;
 pub use plain::PlainDecider;

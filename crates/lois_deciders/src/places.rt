@@ -5,7 +5,7 @@ ghost use Rattle.std.specs.List.{All};
 ghost use Rattle.lois_base.specs.Atom.{Atom};
 ghost use Rattle.lois_base.specs.Fits.{ConstraintFits};
 ghost use Rattle.lois_base.specs.Truth.{holds, sampled};
-ghost use Rattle.lois_deciders.specs.Asked.{Meets};
+ghost use Rattle.lois_deciders.specs.Satisfaction.{IsConstraintSample};
 ghost use Rattle.lois_deciders.specs.Places.{raised_from};
 
 use lois_base::{Constraint, NoMemory};
@@ -42,7 +42,7 @@ pub fn with_one_more(
 ) -> Result<Option<Vec<u64>>, NoMemory>
     requires levels { ConstraintFits (length sample.now + 1) c.now }
     requires small { All (λ i. i < length sample.now) sample.now }
-    ensures found { IfOk result (λ o. IfSome o (λ s. Meets (length sample.now + 1) c.now s.items)) }
+    ensures found { IfOk result (λ o. IfSome o (λ s. IsConstraintSample (length sample.now + 1) c.now s.items)) }
     ensures none { IfOk result (λ o. IfNone o ((a : Atom) → IsFalse (holds (sampled sample.now ++ a ∷ []) c.now))) }
 {
     for place in 0..sample.len() + 1 {

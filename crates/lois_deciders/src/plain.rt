@@ -7,7 +7,7 @@ ghost use Rattle.lois_base.specs.declared.deciding.Kind.{Kind};
 ghost use Rattle.lois_deciders.specs.Labels.{IsUnmet};
 
 use crate::places::with_one_more;
-use crate::stages::eliminated;
+use crate::stages::eliminate_levels;
 use lois_base::{Cube, Decider, Kind, NoMemory};
 use std::alloc::Global;
 
@@ -31,7 +31,7 @@ fn sample(alloc: Global, cube: &Cube, size: usize) -> Result<Option<Vec<u64>>, N
     ensures found { IfOk result (λ o. IfSome o (λ s. IsSampleOf size cube.now s.items)) }
     ensures none { IfOk result (λ o. IfNone o (IsUnmet size cube.now)) }
 {
-    let stages = eliminated(alloc, cube, size)?;
+    let stages = eliminate_levels(alloc, cube, size)?;
     if !stages[size].at(&[]) {
         return Ok(None);
     }

@@ -74,7 +74,11 @@ fn release(steps: &mut Vec<usize>, unheld: &mut Vec<usize>, above: &[usize]) -> 
 }
 
 /// A rank for each label, or `None` where the `<` between labels go round.
-pub fn ranked(alloc: Global, cube: &Cube, labels: &[usize]) -> Result<Option<Vec<u64>>, NoMemory>
+pub fn rank_labels(
+    alloc: Global,
+    cube: &Cube,
+    labels: &[usize],
+) -> Result<Option<Vec<u64>>, NoMemory>
     requires levels { CubeFits (length labels.now) cube.now }
     requires labelling { IsLabelling (length labels.now) cube.now (length cube.now) labels.now }
     ensures found { IfOk result (λ o. IfSome o (λ r. IsFullRanking cube.now labels.now r.items)) }

@@ -25,7 +25,11 @@ fn without_level(alloc: Global, c: &Constraint, level: usize) -> Result<Constrai
 }
 
 /// The cube, and then the constraint before it without its last level, down to one without levels.
-pub fn eliminated(alloc: Global, cube: &Cube, size: usize) -> Result<Vec<Constraint>, NoMemory>
+pub fn eliminate_levels(
+    alloc: Global,
+    cube: &Cube,
+    size: usize,
+) -> Result<Vec<Constraint>, NoMemory>
     requires { CubeFits size cube.now }
     ensures { IfOk result (λ r. AreStages size (cube.now ∷ []) size r.items) }
 {

@@ -8,7 +8,7 @@ use Rattle.lois_descent.specs.Machine.{terminal, chosen}
 use Rattle.lois_descent.specs.declared.lexemes.Lexeme.{Lexeme}
 use Rattle.lois_descent.specs.declared.lexemes.Lexeme.TheVariants.{End, Name, Number, Word, Symbol}
 use Rattle.lois_descent.specs.declared.lexemes.Keyword.TheVariants as words
-use Rattle.lois_descent.specs.declared.lexemes.Sign.TheVariants as signs
+use Rattle.lois_descent.specs.declared.lexemes.Punctuator.TheVariants as punctuators
 use Rattle.lois_descent.specs.Steps.{One}
 use Rattle.lois_descent.specs.Lexemes.{relation_of}
 use Rattle.lois_descent.specs.declared.lexemes.Relation.{Relation}
@@ -21,16 +21,16 @@ plain_facts : (x : Terminal) (l : Lexeme) → is_plain x ≡ true → accepts x 
 plain_facts the_atoms (Word words.Atoms) p q = (refl, refl, refl)
 plain_facts structure (Word words.Equality) p q = (refl, refl, refl)
 plain_facts structure (Word words.Order) p q = (refl, refl, refl)
-plain_facts semicolon (Symbol signs.Semicolon) p q = (refl, refl, refl)
-plain_facts comma (Symbol signs.Comma) p q = (refl, refl, refl)
-plain_facts colon (Symbol signs.Colon) p q = (refl, refl, refl)
-plain_facts equal (Symbol signs.Equal) p q = (refl, refl, refl)
-plain_facts becomes (Symbol signs.Becomes) p q = (refl, refl, refl)
+plain_facts semicolon (Symbol punctuators.Semicolon) p q = (refl, refl, refl)
+plain_facts comma (Symbol punctuators.Comma) p q = (refl, refl, refl)
+plain_facts colon (Symbol punctuators.Colon) p q = (refl, refl, refl)
+plain_facts equal (Symbol punctuators.Equal) p q = (refl, refl, refl)
+plain_facts becomes (Symbol punctuators.Becomes) p q = (refl, refl, refl)
 plain_facts within (Word words.In) p q = (refl, refl, refl)
 plain_facts to (Word words.To) p q = (refl, refl, refl)
-plain_facts relation (Symbol signs.Equal) p q = (refl, refl, refl)
-plain_facts relation (Symbol signs.Differs) p q = (refl, refl, refl)
-plain_facts relation (Symbol signs.Below) p q = (refl, refl, refl)
+plain_facts relation (Symbol punctuators.Equal) p q = (refl, refl, refl)
+plain_facts relation (Symbol punctuators.Differs) p q = (refl, refl, refl)
+plain_facts relation (Symbol punctuators.Below) p q = (refl, refl, refl)
 plain_facts relation (Word words.In) p q = (refl, refl, refl)
 plain_facts relation (Word words.Subset) p q = (refl, refl, refl)
 plain_facts name Name p q = (refl, refl, refl)
@@ -38,9 +38,9 @@ plain_facts number Number p q = (refl, refl, refl)
 plain_facts _ _ p q = absurd (cc)
 
 closer_facts : (x : Terminal) (l : Lexeme) → is_closer x ≡ true → accepts x l ≡ true → (is_known l ≡ true) × (opens_by l ≡ false) × (closes_by l ≡ true)
-closer_facts close_round (Symbol signs.CloseRound) p q = (refl, refl, refl)
-closer_facts close_square (Symbol signs.CloseSquare) p q = (refl, refl, refl)
-closer_facts close_curly (Symbol signs.CloseCurly) p q = (refl, refl, refl)
+closer_facts close_round (Symbol punctuators.CloseRound) p q = (refl, refl, refl)
+closer_facts close_square (Symbol punctuators.CloseSquare) p q = (refl, refl, refl)
+closer_facts close_curly (Symbol punctuators.CloseCurly) p q = (refl, refl, refl)
 closer_facts _ _ p q = absurd (cc)
 
 pub accepts_no_end : (x : Terminal) (l : Lexeme) → accepts x l ≡ true → l ≡ End → ⊥
@@ -86,9 +86,9 @@ relation_step l (Some r) = accepts relation l ≡ true
 
 relation_accepts : (l : Lexeme) → relation_step l (relation_of l)
 unfolding relation_step
-relation_accepts (Symbol signs.Equal) = refl
-relation_accepts (Symbol signs.Differs) = refl
-relation_accepts (Symbol signs.Below) = refl
+relation_accepts (Symbol punctuators.Equal) = refl
+relation_accepts (Symbol punctuators.Differs) = refl
+relation_accepts (Symbol punctuators.Below) = refl
 relation_accepts (Word words.In) = refl
 relation_accepts (Word words.Subset) = refl
 relation_accepts _ = refl

@@ -10,7 +10,7 @@ use Rattle.lois_descent.specs.Lexemes.{lexeme_of}
 use Rattle.lois_descent.specs.declared.lexemes.Terminal.TheVariants.{Comma as comma, CloseRound as close_round, Number as number}
 use Rattle.lois_descent.specs.Machine.{Arguments, one, two, part_number, Item, terminal, expression, arguments, more_parts, more_items, after_brace, after_item, more_bindings, where_clause, condition, more_condition, unit, base, turns_number, statements, after_if, more_names, Bottom, State, operands, step}
 use Rattle.lois_descent.specs.declared.lexemes.Lexeme.TheVariants.{Symbol}
-use Rattle.lois_descent.specs.declared.lexemes.Sign.TheVariants as signs
+use Rattle.lois_descent.specs.declared.lexemes.Punctuator.TheVariants as punctuators
 use Rattle.lois_descent.proofs.Language.{Completes}
 use Rattle.lois_descent.specs.Machine.{push, breach, item_breach, over_if, is_comma, no_script, over, Verdict, accepted, refused, at_end, is_end_of, verdict, start}
 use Rattle.lois_descent.specs.Refusals.{Limit, nesting, parts, turns, open_behind, GoesOver}
@@ -65,7 +65,7 @@ call_stops a e es r m after seven h more i n s =
         let place = more_lengths.2 in
         (more_lengths.0, omega arith, omega arith, stop_along _ (verdict j k (push tail s) m) more_lengths.0 more_lengths.0 v (omega arith) more_lengths.3)
 
-round_stops : (e : ExprD) (es : ExprsD) (t : PlacedToken) (r m after rest : List PlacedToken) (p : ℕ) → lexeme_of t ≡ Symbol signs.OpenRound → width es ≡ 7 → SpellsExpr e r m → SpellsMoreExprs es m after → after ≡ comma_token p ∷ rest →
+round_stops : (e : ExprD) (es : ExprsD) (t : PlacedToken) (r m after rest : List PlacedToken) (p : ℕ) → lexeme_of t ≡ Symbol punctuators.OpenRound → width es ≡ 7 → SpellsExpr e r m → SpellsMoreExprs es m after → after ≡ comma_token p ∷ rest →
     (i n : ℕ) (s : State) → Ended i (verdict i n s (t ∷ r)) (t ∷ r) after
 round_stops e es t r m after rest p paren seven h more sep i n s = go (turn i n s t r)
   where

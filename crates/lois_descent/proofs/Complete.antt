@@ -17,7 +17,7 @@ use Rattle.lois_descent.specs.Machine.{Ending, token, turns_block, Arguments, on
 use Rattle.lois_descent.specs.declared.lexemes.Lexeme.{Lexeme}
 use Rattle.lois_descent.specs.declared.lexemes.Lexeme.TheVariants.{Word, Symbol}
 use Rattle.lois_descent.specs.declared.lexemes.Keyword.TheVariants as words
-use Rattle.lois_descent.specs.declared.lexemes.Sign.TheVariants as signs
+use Rattle.lois_descent.specs.declared.lexemes.Punctuator.TheVariants as punctuators
 use Rattle.lois_descent.specs.Steps.{One}
 use Rattle.lois_descent.proofs.Language.{AUnit, Operands, MoreParts, MoreItems, MoreBindings, AfterItem, AStatements, Turns, Ends, MoreCondition, AWhere, ACondition, AfterIf, MoreNames, Means, AllMean, BottomMeans, Completes, join}
 use Rattle.lois_descent.proofs.Language.{GoesOn}
@@ -133,7 +133,7 @@ module _ (limits : Type 0) where
       as_base (Word words.True) r end h = absurd h
       as_base (Word words.False) r end h = absurd h
       as_base (Word words.Empty) r end h = absurd h
-      as_base (Symbol signs.OpenSquare) r end h = absurd h
+      as_base (Symbol punctuators.OpenSquare) r end h = absurd h
       as_base _ r end h = h
 
   bare_base : (c : CondD) (before after : List PlacedToken) → is_base c ≡ true → (limits → CondIsNarrow c) → SpellsCond c before after → Begun limits base_start before after
@@ -323,7 +323,7 @@ module _ (limits : Type 0) where
   complete_statement (print p q x) before after plain n (m, e, (m1, tn, end)) = begin statement_start _ m before after e (m1, (q, x, tn), (after, end, refl))
 
   as_statements : (l : Lexeme) (r after : List PlacedToken) → GoesOn limits (behind (statements ∷ []) (statement_start l)) r after → GoesOn limits (statements_start l) r after
-  as_statements (Symbol signs.CloseCurly) r after h = absurd h
+  as_statements (Symbol punctuators.CloseCurly) r after h = absurd h
   as_statements (Word words.If) r after h = absurd h
   as_statements _ r after h = h
 
@@ -378,7 +378,7 @@ module _ (limits : Type 0) where
       begin after_item_start _ m before after e (m1, (p, x, tn), (m2, word, (m3, (y, n, s), (after, rest, refl))))
 
   as_more_bindings : (l : Lexeme) (r after : List PlacedToken) → GoesOn limits (where_start close_curly l) r after → GoesOn limits (more_bindings_start l) r after
-  as_more_bindings (Symbol signs.Comma) r after h = absurd h
+  as_more_bindings (Symbol punctuators.Comma) r after h = absurd h
   as_more_bindings _ r after h = h
 
   complete_more_bindings : (before after : List PlacedToken) → MoreBindings limits before after → Begun limits more_bindings_start before after
@@ -389,7 +389,7 @@ module _ (limits : Type 0) where
       begin more_bindings_start _ k before after e (k1, (p, x, tn), (k2, word, (k3, (y, λ i. (n i).0.0, s), (after, (bs, c, λ i. ((n i).0.1, (n i).1), (m, more, rest)), refl))))
 
   as_brace : (l : Lexeme) (r after : List PlacedToken) → GoesOn limits (behind (after_item ∷ []) (expression_start l)) r after → GoesOn limits (brace_start l) r after
-  as_brace (Symbol signs.CloseCurly) r after h = absurd h
+  as_brace (Symbol punctuators.CloseCurly) r after h = absurd h
   as_brace _ r after h = h
 
   complete_brace : (before after : List PlacedToken) → Means limits after_brace before after → Begun limits brace_start before after

@@ -5,23 +5,23 @@ use Rattle.std.specs.Prelude.{codes, Result, Ok, Err, if◌then◌else◌, ◌==
 use Rattle.lois_script.specs.Grammar.{TakesName, TakesNumber, TakesSymbol, TakesWord, TakesWordAt, structure_word, decimal}
 use Rattle.lois_script.specs.Tree.{ParamD}
 use Rattle.lois_descent.specs.Reading.{refusal_of}
-use Rattle.lois_descent.specs.declared.halt.Halt.{Halt}
-use Rattle.lois_descent.specs.declared.halt.Halt.TheVariants as halts
+use Rattle.lois_descent.specs.declared.parse_error.ParseError.{ParseError}
+use Rattle.lois_descent.specs.declared.parse_error.ParseError.TheVariants as parse_errors
 use Rattle.lois_descent.specs.declared.lexemes.Keyword.{Keyword}
 use Rattle.lois_descent.specs.declared.lexemes.Keyword.TheVariants as words
-use Rattle.lois_descent.specs.declared.lexemes.Lead.{Lead}
-use Rattle.lois_descent.specs.declared.lexemes.Lead.TheVariants as leads
+use Rattle.lois_descent.specs.declared.lexemes.OptionalStart.{OptionalStart}
+use Rattle.lois_descent.specs.declared.lexemes.OptionalStart.TheVariants as leads
 use Rattle.lois_descent.specs.declared.lexemes.Lexeme.{Lexeme}
 use Rattle.lois_descent.specs.declared.lexemes.Lexeme.TheVariants.{End, Name, Number, Word, Symbol}
 use Rattle.lois_descent.specs.declared.lexemes.Relation.{Relation}
-use Rattle.lois_descent.specs.declared.lexemes.Sign.{Sign}
-use Rattle.lois_descent.specs.declared.lexemes.Sign.TheVariants as signs
+use Rattle.lois_descent.specs.declared.lexemes.Punctuator.{Punctuator}
+use Rattle.lois_descent.specs.declared.lexemes.Punctuator.TheVariants as punctuators
 use Rattle.lois_descent.specs.declared.lexemes.Terminal.{Terminal}
 use Rattle.lois_descent.specs.declared.lexemes.Terminal.TheVariants as terminals
-use Rattle.lois_descent.specs.Lexemes.{accepts, lead, relation_of, word_of}
+use Rattle.lois_descent.specs.Lexemes.{accepts, optional_start, relation_of, word_of}
 use Rattle.lois_descent.specs.Machine.{Arguments, Item, terminal, arguments, operands, item_start, State, push, verdict, refused, no_script, over}
 use Rattle.lois_descent.specs.Refusals.{GoesOver, nesting, parts}
-use Rattle.lois_descent.specs.Steps.{first_place, first_bytes, lexeme_at, place_at, bytes_at, Moves, Meets, One, is_plain, is_closer}
+use Rattle.lois_descent.specs.Steps.{first_place, first_bytes, lexeme_at, place_at, bytes_at, Moves, RefusalMatches, One, is_plain, is_closer}
 use Rattle.lois_descent.specs.Descent as descent
 use Rattle.lois_descent.specs.Descent.{Tokens, Read, ◌>>=◌, stop, pass, enter, enter_call, call_by}
 use Rattle.lois_descent.proofs.TokenForms.{lead_is, no_round, name_here, number_here, word_at, word_moves}
@@ -40,16 +40,16 @@ pub record Came {A X : Type 0} (ts : Tokens) (at n : ℕ) (w : X → State) (m :
   pub read : P x.0 end
 
 -- It stopped where the machine stops, from each of the states w.
-pub record Halted {X : Type 0} (ts : Tokens) (at n : ℕ) (w : X → State) (e : Halt) : Type 0 where
-  pub enough : e ≡ halts.NoMemory → ⊥
-  pub stuck : (i : X) → Meets ts (refusal_of (length ts) e) (verdict at n (w i) (drop at ts))
+pub record Halted {X : Type 0} (ts : Tokens) (at n : ℕ) (w : X → State) (e : ParseError) : Type 0 where
+  pub enough : e ≡ parse_errors.NoMemory → ⊥
+  pub stuck : (i : X) → RefusalMatches ts (refusal_of (length ts) e) (verdict at n (w i) (drop at ts))
 
-abbrev pub Outcome : {A X : Type 0} → Tokens → ℕ → ℕ → (X → State) → ℕ → (A → X → State) → (A → ℕ → Type 0) → Result (A × Tokens) Halt → Type 0
+abbrev pub Outcome : {A X : Type 0} → Tokens → ℕ → ℕ → (X → State) → ℕ → (A → X → State) → (A → ℕ → Type 0) → Result (A × Tokens) ParseError → Type 0
 Outcome ts at n w m v P (Ok x) = Came ts at n w m v P x
 Outcome ts at n w m v P (Err e) = Halted ts at n w e
 
 -- What a reader gives from token number `at` on: the one or the other.
-pub record Comes {A X : Type 0} (ts : Tokens) (at n : ℕ) (w : X → State) (m : ℕ) (v : A → X → State) (P : A → ℕ → Type 0) (read : Result (A × Tokens) Halt) : Type 0 where
+pub record Comes {A X : Type 0} (ts : Tokens) (at n : ℕ) (w : X → State) (m : ℕ) (v : A → X → State) (P : A → ℕ → Type 0) (read : Result (A × Tokens) ParseError) : Type 0 where
   pub run : at ≤ length ts → Outcome ts at n w m v P read
 
 -- nothing more is read
@@ -57,26 +57,26 @@ pub done : {A X : Type 0} {ts : Tokens} {at n : ℕ} {v : A → X → State} {P 
 done {at = at} h = record { run = λ inside. record { end = at; rest = refl; forward = omega arith; inside = inside; moved = λ i. refl; read = h } }
 
 -- the machine goes on, and the reader from there
-pub on : {A X : Type 0} {ts : Tokens} {at n b m k : ℕ} {w u : X → State} {v : A → X → State} {P : A → ℕ → Type 0} {r : Result (A × Tokens) Halt} → at ≤ b → b ≤ length ts →
+pub on : {A X : Type 0} {ts : Tokens} {at n b m k : ℕ} {w u : X → State} {v : A → X → State} {P : A → ℕ → Type 0} {r : Result (A × Tokens) ParseError} → at ≤ b → b ≤ length ts →
     ((i : X) → verdict at n (w i) (drop at ts) ≡ verdict b m (u i) (drop b ts)) → Comes ts b m u k v P r → Comes ts at n w k v P r
 on {A} {X} {ts} {at} {n} {b} {m} {k} {w} {u} {v} {P} {r} forward within moves h = record { run = λ inside. go r (h.run within) }
   where
-    go : (r : Result (A × Tokens) Halt) → Outcome ts b m u k v P r → Outcome ts at n w k v P r
+    go : (r : Result (A × Tokens) ParseError) → Outcome ts b m u k v P r → Outcome ts at n w k v P r
     go (Ok x) g = record { end = g.end; rest = g.rest; forward = let there = g.forward in omega arith; inside = g.inside; moved = λ i. moves i ∙ g.moved i; read = g.read }
     go (Err e) g = record { enough = g.enough; stuck = λ i. along ts (refusal_of (length ts) e) (verdict at n (w i) (drop at ts)) (verdict b m (u i) (drop b ts)) (moves i) (g.stuck i) }
 
 -- the machine does here what it does in other states
-pub alike : {A X : Type 0} {ts : Tokens} {at n k : ℕ} {w u : X → State} {v : A → X → State} {P : A → ℕ → Type 0} {r : Result (A × Tokens) Halt} → ((i : X) → verdict at n (w i) (drop at ts) ≡ verdict at n (u i) (drop at ts)) →
+pub alike : {A X : Type 0} {ts : Tokens} {at n k : ℕ} {w u : X → State} {v : A → X → State} {P : A → ℕ → Type 0} {r : Result (A × Tokens) ParseError} → ((i : X) → verdict at n (w i) (drop at ts) ≡ verdict at n (u i) (drop at ts)) →
     Comes ts at n u k v P r → Comes ts at n w k v P r
 alike moves h = record { run = λ inside. (on (omega arith) inside moves h).run inside }
 
 -- one reader, and then another from where it came to; g says which of the first one's states are meant
-pub and_then : {A B X Y : Type 0} {ts : Tokens} {at n m k : ℕ} {w : X → State} {v : A → X → State} {z : B → Y → State} {P : A → ℕ → Type 0} {Q : B → ℕ → Type 0} {r : Result (A × Tokens) Halt} →
-    (f : A × Tokens → Result (B × Tokens) Halt) (g : Y → X) → Comes ts at n w m v P r → ((x : A) (b : ℕ) → at ≤ b → P x b → Comes ts b m (λ i. v x (g i)) k z Q (f (x, drop b ts))) →
+pub and_then : {A B X Y : Type 0} {ts : Tokens} {at n m k : ℕ} {w : X → State} {v : A → X → State} {z : B → Y → State} {P : A → ℕ → Type 0} {Q : B → ℕ → Type 0} {r : Result (A × Tokens) ParseError} →
+    (f : A × Tokens → Result (B × Tokens) ParseError) (g : Y → X) → Comes ts at n w m v P r → ((x : A) (b : ℕ) → at ≤ b → P x b → Comes ts b m (λ i. v x (g i)) k z Q (f (x, drop b ts))) →
     Comes ts at n (λ i. w (g i)) k z Q (r >>= f)
 and_then {A} {B} {X} {Y} {ts} {at} {n} {m} {k} {w} {v} {z} {P} {Q} {r} f g h next = record { run = λ inside. go r (h.run inside) }
   where
-    go : (r : Result (A × Tokens) Halt) → Outcome ts at n w m v P r → Outcome ts at n (λ i. w (g i)) k z Q (r >>= f)
+    go : (r : Result (A × Tokens) ParseError) → Outcome ts at n w m v P r → Outcome ts at n (λ i. w (g i)) k z Q (r >>= f)
     go (Ok (x, s)) o =
         let there : Outcome ts o.end m (λ i. v x (g i)) k z Q (f (x, drop o.end ts)) = (next x o.end o.forward o.read).run o.inside in
         let same : Outcome ts o.end m (λ i. v x (g i)) k z Q (f (x, s)) = subst (λ l. Outcome ts o.end m (λ i. v x (g i)) k z Q (f (x, l))) (sym o.rest) there in
@@ -102,20 +102,20 @@ pub stops : {A X : Type 0} {ts : Tokens} {at n m : ℕ} {w : X → State} {v : A
 stops {ts = ts} {at = at} h = record { run = λ inside. record { enough = λ e. cc; stuck = λ i. h i ∙ ap (refused no_script) (before ts at inside) } }
 
 pub stops_nested : {A X : Type 0} {ts : Tokens} {at n m : ℕ} {w : X → State} {v : A → X → State} {P : A → ℕ → Type 0} → ((i : X) → verdict at n (w i) (drop at ts) ≡ refused (over nesting) at) →
-    Comes ts at n w m v P (Err (halts.TooNested (length (drop at ts))))
+    Comes ts at n w m v P (Err (parse_errors.TooNested (length (drop at ts))))
 stops_nested {ts = ts} {at = at} h = record { run = λ inside. record { enough = λ e. cc; stuck = λ i. h i ∙ ap (refused (over nesting)) (before ts at inside) } }
 
 pub stops_wide : {A X : Type 0} {ts : Tokens} {at n m : ℕ} {w : X → State} {v : A → X → State} {P : A → ℕ → Type 0} → ((i : X) → verdict at n (w i) (drop at ts) ≡ refused (over parts) at) → GoesOver parts ts at →
-    Comes ts at n w m v P (Err (halts.WideTuple (length (drop at ts))))
+    Comes ts at n w m v P (Err (parse_errors.WideTuple (length (drop at ts))))
 stops_wide {ts = ts} {at = at} h wide = record { run = λ inside. record { enough = λ e. cc; stuck = λ i. (h i ∙ ap (refused (over parts)) (before ts at inside), subst (GoesOver parts ts) (before ts at inside) wide) } }
 
 -- a word with which the item x begins
-pub behind_word : {A X : Type 0} {ts : Tokens} {at n m : ℕ} {u : X → State} {v : A → X → State} {P : A → ℕ → Type 0} {r : Result (A × Tokens) Halt} (k : Keyword) (x : Item) (w : List Item) →
+pub behind_word : {A X : Type 0} {ts : Tokens} {at n m : ℕ} {u : X → State} {v : A → X → State} {P : A → ℕ → Type 0} {r : Result (A × Tokens) ParseError} (k : Keyword) (x : Item) (w : List Item) →
     lexeme_at ts at ≡ Word k → item_start x (Word k) ≡ Some w → Quiet x → Comes ts (at + 1) n (λ i. push w (u i)) m v P r → Comes ts at n (λ i. push (x ∷ []) (u i)) m v P r
 behind_word {ts = ts} {at = at} {n = n} {u = u} k x w e starts quiet h = on (omega arith) (taken ts at (Word k) e (λ g. cc)) (λ i. (word_moves ts at n k x w e starts quiet).run (u i)) h
 
 -- a token that is no bracket
-pub passing : {B X : Type 0} {ts : Tokens} {at n k : ℕ} {u : X → State} {v : B → X → State} {Q : B → ℕ → Type 0} (x : Terminal) (f : Tokens → Result (B × Tokens) Halt) → is_plain x ≡ true →
+pub passing : {B X : Type 0} {ts : Tokens} {at n k : ℕ} {u : X → State} {v : B → X → State} {Q : B → ℕ → Type 0} (x : Terminal) (f : Tokens → Result (B × Tokens) ParseError) → is_plain x ≡ true →
     (One x (drop at ts) (drop (at + 1) ts) → Comes ts (at + 1) n u k v Q (f (drop (at + 1) ts))) → Comes ts at n (λ i. push (terminal x ∷ []) (u i)) k v Q (pass x (drop at ts) >>= f)
 unfolding pass lexeme_at
 passing {B} {X} {ts} {at} {n} {k} {u} {v} {Q} x f plain next = go (accepts x (lexeme_at ts at)) refl
@@ -126,7 +126,7 @@ passing {B} {X} {ts} {at} {n} {k} {u} {v} {Q} x f plain next = go (accepts x (le
     go false e = stops (λ i. (pass_stuck ts at x e n).run (u i))
 
 -- a closing bracket
-pub closing : {B X : Type 0} {ts : Tokens} {at n k : ℕ} {u : X → State} {v : B → X → State} {Q : B → ℕ → Type 0} (x : Terminal) (f : Tokens → Result (B × Tokens) Halt) → is_closer x ≡ true →
+pub closing : {B X : Type 0} {ts : Tokens} {at n k : ℕ} {u : X → State} {v : B → X → State} {Q : B → ℕ → Type 0} (x : Terminal) (f : Tokens → Result (B × Tokens) ParseError) → is_closer x ≡ true →
     (One x (drop at ts) (drop (at + 1) ts) → Comes ts (at + 1) n u k v Q (f (drop (at + 1) ts))) → Comes ts at (n + 1) (λ i. push (terminal x ∷ []) (u i)) k v Q (pass x (drop at ts) >>= f)
 unfolding pass lexeme_at
 closing {B} {X} {ts} {at} {n} {k} {u} {v} {Q} x f closer next = go (accepts x (lexeme_at ts at)) refl
@@ -137,44 +137,44 @@ closing {B} {X} {ts} {at} {n} {k} {u} {v} {Q} x f closer next = go (accepts x (l
     go false e = stops (λ i. (pass_stuck ts at x e (n + 1)).run (u i))
 
 -- an opening bracket with which the item x begins
-pub entering : {B X : Type 0} {ts : Tokens} {at n k : ℕ} {u : X → State} {v : B → X → State} {Q : B → ℕ → Type 0} (room : ℕ) (s : Sign) (x : Item) (w : List Item) (f : Tokens → Result (B × Tokens) Halt) →
-    lexeme_at ts at ≡ Symbol s → opens_by (Symbol s) ≡ true → item_start x (Symbol s) ≡ Some w → Quiet x → n + room ≡ 64 →
-    (0 < room → Comes ts (at + 1) (n + 1) (λ i. push w (u i)) k v Q (f (drop (at + 1) ts))) → Comes ts at n (λ i. push (x ∷ []) (u i)) k v Q (enter room (drop at ts) >>= f)
+pub entering : {B X : Type 0} {ts : Tokens} {at n k : ℕ} {u : X → State} {v : B → X → State} {Q : B → ℕ → Type 0} (depth_left : ℕ) (s : Punctuator) (x : Item) (w : List Item) (f : Tokens → Result (B × Tokens) ParseError) →
+    lexeme_at ts at ≡ Symbol s → opens_by (Symbol s) ≡ true → item_start x (Symbol s) ≡ Some w → Quiet x → n + depth_left ≡ 64 →
+    (0 < depth_left → Comes ts (at + 1) (n + 1) (λ i. push w (u i)) k v Q (f (drop (at + 1) ts))) → Comes ts at n (λ i. push (x ∷ []) (u i)) k v Q (enter depth_left (drop at ts) >>= f)
 unfolding enter
-entering {B} {X} {ts} {at} {n} {k} {u} {v} {Q} room s x w f e opener starts quiet all next = go (room == 0) refl
+entering {B} {X} {ts} {at} {n} {k} {u} {v} {Q} depth_left s x w f e opener starts quiet all next = go (depth_left == 0) refl
   where
     some : (m : ℕ) → (m == 0) ≡ false → 0 < m
     some zero g = absurd (cc)
     some (suc m) g = omega arith
 
-    go : (b : Bool) → (room == 0) ≡ b → Comes ts at n (λ i. push (x ∷ []) (u i)) k v Q ((if b then Err (halts.TooNested (length (drop at ts))) else Ok (drop 1 (drop at ts))) >>= f)
+    go : (b : Bool) → (depth_left == 0) ≡ b → Comes ts at n (λ i. push (x ∷ []) (u i)) k v Q ((if b then Err (parse_errors.TooNested (length (drop at ts))) else Ok (drop 1 (drop at ts))) >>= f)
     go true g =
-        let none : room ≡ 0 = eqb-true room 0 g in
+        let none : depth_left ≡ 0 = eqb-true depth_left 0 g in
         stops_nested (λ i. (full_stuck ts at n x w (Symbol s) (token_at ts at (Symbol s) e (λ h. cc)) refl opener (omega arith) starts).run (u i))
     go false g =
-        let inner : 0 < room = some room g in
+        let inner : 0 < depth_left = some depth_left g in
         rw (drop-drop 1 at ts) (
         on (omega arith) (taken ts at (Symbol s) e (λ h. cc)) (λ i. (open_moves ts at n x w (Symbol s) (token_at ts at (Symbol s) e (λ h. cc)) refl opener (omega arith) starts quiet).run (u i)) (next inner))
 
 -- the `(` of a call
-pub entering_call : {B X : Type 0} {ts : Tokens} {at n k : ℕ} {u : X → State} {v : B → X → State} {Q : B → ℕ → Type 0} (room : ℕ) (a : Arguments) (f : Tokens → Result (B × Tokens) Halt) → n + room ≡ 64 →
-    (lexeme_at ts at ≡ Symbol signs.OpenRound → 0 < room → Comes ts (at + 1) (n + 1) (λ i. push (operands a) (u i)) k v Q (f (drop (at + 1) ts))) →
-    Comes ts at n (λ i. push (arguments a ∷ []) (u i)) k v Q (enter_call room (drop at ts) >>= f)
+pub entering_call : {B X : Type 0} {ts : Tokens} {at n k : ℕ} {u : X → State} {v : B → X → State} {Q : B → ℕ → Type 0} (depth_left : ℕ) (a : Arguments) (f : Tokens → Result (B × Tokens) ParseError) → n + depth_left ≡ 64 →
+    (lexeme_at ts at ≡ Symbol punctuators.OpenRound → 0 < depth_left → Comes ts (at + 1) (n + 1) (λ i. push (operands a) (u i)) k v Q (f (drop (at + 1) ts))) →
+    Comes ts at n (λ i. push (arguments a ∷ []) (u i)) k v Q (enter_call depth_left (drop at ts) >>= f)
 unfolding enter_call lexeme_at
-entering_call {B} {X} {ts} {at} {n} {k} {u} {v} {Q} room a f all next = go (lead (lexeme_at ts at)) refl
+entering_call {B} {X} {ts} {at} {n} {k} {u} {v} {Q} depth_left a f all next = go (optional_start (lexeme_at ts at)) refl
   where
-    none : (l : Lead) → lead (lexeme_at ts at) ≡ l → (l ≡ leads.OpenRound → ⊥) → Comes ts at n (λ i. push (arguments a ∷ []) (u i)) k v Q (stop (drop at ts))
+    none : (l : OptionalStart) → optional_start (lexeme_at ts at) ≡ l → (l ≡ leads.OpenRound → ⊥) → Comes ts at n (λ i. push (arguments a ∷ []) (u i)) k v Q (stop (drop at ts))
     none l e other = stops (λ i. (missed ts at n (arguments a) (no_round (lexeme_at ts at) (λ g. other (sym e ∙ g)) a)).run (u i))
 
-    go : (l : Lead) → lead (lexeme_at ts at) ≡ l → Comes ts at n (λ i. push (arguments a ∷ []) (u i)) k v Q (call_by l room (drop at ts) >>= f)
+    go : (l : OptionalStart) → optional_start (lexeme_at ts at) ≡ l → Comes ts at n (λ i. push (arguments a ∷ []) (u i)) k v Q (call_by l depth_left (drop at ts) >>= f)
     go leads.OpenRound e =
-        let here : lexeme_at ts at ≡ Symbol signs.OpenRound = lead_is (lexeme_at ts at) leads.OpenRound (sym e) in
-        entering room signs.OpenRound (arguments a) (operands a) f here refl refl (λ rest t. refl) all (next here)
+        let here : lexeme_at ts at ≡ Symbol punctuators.OpenRound = lead_is (lexeme_at ts at) leads.OpenRound (sym e) in
+        entering depth_left punctuators.OpenRound (arguments a) (operands a) f here refl refl (λ rest t. refl) all (next here)
     go leads.Parameter e = none leads.Parameter e (λ g. cc)
     go leads.For e = none leads.For e (λ g. cc)
     go leads.Where e = none leads.Where e (λ g. cc)
     go leads.Else e = none leads.Else e (λ g. cc)
-    go leads.NoLead e = none leads.NoLead e (λ g. cc)
+    go leads.NoOptionalStart e = none leads.NoOptionalStart e (λ g. cc)
 
 -- a name
 pub name_reads : (ts : Tokens) (at n : ℕ) → Comes ts at n (λ s. push (terminal terminals.Name ∷ []) s) n (λ x s. s) (λ (x : ParamD) end. (end ≡ at + 1) × TakesName x.place x.name (drop at ts) (drop end ts)) (descent.name (drop at ts))
@@ -254,30 +254,30 @@ many_reads {A} {X} {ts} {n} {w} test item R P none one reads (suc fuel) at enoug
         and_then _ (λ i. i) (reads at e) (λ x b further read. and_then _ (λ i. i) (more b read.0) (λ xs c later all. done (one x xs at b c read.1 all)))
 
 -- the same with another word for what was read
-pub told : {A X : Type 0} {ts : Tokens} {at n m : ℕ} {w : X → State} {v : A → X → State} {P Q : A → ℕ → Type 0} {r : Result (A × Tokens) Halt} → ((x : A) (end : ℕ) → at ≤ end → P x end → Q x end) →
+pub told : {A X : Type 0} {ts : Tokens} {at n m : ℕ} {w : X → State} {v : A → X → State} {P Q : A → ℕ → Type 0} {r : Result (A × Tokens) ParseError} → ((x : A) (end : ℕ) → at ≤ end → P x end → Q x end) →
     Comes ts at n w m v P r → Comes ts at n w m v Q r
 told {A} {X} {ts} {at} {n} {m} {w} {v} {P} {Q} {r} says h = record { run = λ inside. go r (h.run inside) }
   where
-    go : (r : Result (A × Tokens) Halt) → Outcome ts at n w m v P r → Outcome ts at n w m v Q r
+    go : (r : Result (A × Tokens) ParseError) → Outcome ts at n w m v P r → Outcome ts at n w m v Q r
     go (Ok x) g = record { end = g.end; rest = g.rest; forward = g.forward; inside = g.inside; moved = g.moved; read = says x.0 g.end g.forward g.read }
     go (Err e) g = g
 
 -- the same with other states behind it, from which the machine does the same; g says which of the states are meant
-pub led : {A X Y : Type 0} {ts : Tokens} {at n m : ℕ} {w : X → State} {v : A → X → State} {z : A → Y → State} {P : A → ℕ → Type 0} {r : Result (A × Tokens) Halt} → (g : Y → X) →
+pub led : {A X Y : Type 0} {ts : Tokens} {at n m : ℕ} {w : X → State} {v : A → X → State} {z : A → Y → State} {P : A → ℕ → Type 0} {r : Result (A × Tokens) ParseError} → (g : Y → X) →
     ((x : A) (end : ℕ) → P x end → (i : Y) → verdict end m (v x (g i)) (drop end ts) ≡ verdict end m (z x i) (drop end ts)) → Comes ts at n w m v P r → Comes ts at n (λ i. w (g i)) m z P r
 led {A} {X} {Y} {ts} {at} {n} {m} {w} {v} {z} {P} {r} g same h = record { run = λ inside. go r (h.run inside) }
   where
-    go : (r : Result (A × Tokens) Halt) → Outcome ts at n w m v P r → Outcome ts at n (λ i. w (g i)) m z P r
+    go : (r : Result (A × Tokens) ParseError) → Outcome ts at n w m v P r → Outcome ts at n (λ i. w (g i)) m z P r
     go (Ok x) o = record { end = o.end; rest = o.rest; forward = o.forward; inside = o.inside; moved = λ i. o.moved (g i) ∙ same x.0 o.end o.read i; read = o.read }
     go (Err e) o = record { enough = o.enough; stuck = λ i. o.stuck (g i) }
 
 -- a comma with which the item x begins
-pub comma_accepted : (l : Lexeme) → accepts terminals.Comma l ≡ true → l ≡ Symbol signs.Comma
-comma_accepted (Symbol signs.Comma) e = refl
+pub comma_accepted : (l : Lexeme) → accepts terminals.Comma l ≡ true → l ≡ Symbol punctuators.Comma
+comma_accepted (Symbol punctuators.Comma) e = refl
 comma_accepted _ e = absurd (cc)
 
-pub comma_moves : (ts : Tokens) (at n : ℕ) (x : Item) (v : List Item) → accepts terminals.Comma (lexeme_at ts at) ≡ true → item_start x (Symbol signs.Comma) ≡ Some v → Quiet x → Moves ts at n (x ∷ []) (at + 1) n v
-comma_moves ts at n x v e starts quiet = plain_moves ts at n x v (Symbol signs.Comma) (token_at ts at (Symbol signs.Comma) (comma_accepted (lexeme_at ts at) e) (λ g. cc)) refl refl refl starts quiet
+pub comma_moves : (ts : Tokens) (at n : ℕ) (x : Item) (v : List Item) → accepts terminals.Comma (lexeme_at ts at) ≡ true → item_start x (Symbol punctuators.Comma) ≡ Some v → Quiet x → Moves ts at n (x ∷ []) (at + 1) n v
+comma_moves ts at n x v e starts quiet = plain_moves ts at n x v (Symbol punctuators.Comma) (token_at ts at (Symbol punctuators.Comma) (comma_accepted (lexeme_at ts at) e) (λ g. cc)) refl refl refl starts quiet
 
 -- Items behind a first one, each behind one token, which is there as long as a test says so. The token takes the machine
 -- from the states w to u, and an item back to w.

@@ -6,24 +6,24 @@ use Rattle.lois_script.specs.Grammar.{Spelling, ◌▹◌, TakesSymbol, Enclosed
 use Rattle.lois_script.specs.Limits.{BindingIsNarrow, CondIsNarrow, CondsAreNarrow}
 use Rattle.lois_script.specs.Tree.{ExprD, BindingD, CondD, truth, falsity, all, any}
 use Rattle.lois_script.specs.View.{conds_of}
-use Rattle.lois_descent.specs.declared.halt.Halt.{Halt}
+use Rattle.lois_descent.specs.declared.parse_error.ParseError.{ParseError}
 use Rattle.lois_descent.specs.declared.lexemes.BaseForm.{BaseForm}
 use Rattle.lois_descent.specs.declared.lexemes.BaseForm.TheVariants as bases
-use Rattle.lois_descent.specs.declared.lexemes.Joint.{Joint}
-use Rattle.lois_descent.specs.declared.lexemes.Joint.TheVariants as joints
+use Rattle.lois_descent.specs.declared.lexemes.Connective.{Connective}
+use Rattle.lois_descent.specs.declared.lexemes.Connective.TheVariants as joints
 use Rattle.lois_descent.specs.declared.lexemes.Keyword.{Keyword}
 use Rattle.lois_descent.specs.declared.lexemes.Keyword.TheVariants as words
 use Rattle.lois_descent.specs.declared.lexemes.Lexeme.{Lexeme}
 use Rattle.lois_descent.specs.declared.lexemes.Lexeme.TheVariants.{Word, Symbol}
 use Rattle.lois_descent.specs.declared.lexemes.Relation.{Relation}
 use Rattle.lois_descent.specs.declared.lexemes.Relation.TheVariants as relations
-use Rattle.lois_descent.specs.declared.lexemes.Sign.TheVariants as signs
+use Rattle.lois_descent.specs.declared.lexemes.Punctuator.TheVariants as punctuators
 use Rattle.lois_descent.specs.declared.lexemes.Terminal.TheVariants as terminals
 use Rattle.lois_descent.specs.declared.lexemes.UnitForm.{UnitForm}
 use Rattle.lois_descent.specs.declared.lexemes.UnitForm.TheVariants as units
 use Rattle.lois_descent.specs.Descent as descent
 use Rattle.lois_descent.specs.Descent.{Tokens, Read, ◌>>=◌, expr_of, cond_of}
-use Rattle.lois_descent.specs.Lexemes.{relation_of, base_form, unit_form, joint}
+use Rattle.lois_descent.specs.Lexemes.{relation_of, base_form, unit_form, connective}
 use Rattle.lois_descent.specs.Machine.{Ending, token, one, Item, terminal, expression, arguments, condition, more_condition, unit, base, item_start, in_set, State, push}
 use Rattle.lois_descent.specs.Steps.{lexeme_at, place_at}
 use Rattle.lois_descent.proofs.Descends.{Comes, done, alike, and_then, led, told, taken, behind_word, passing, closing, entering, entering_call, relation_reads, separated_reads}
@@ -39,7 +39,7 @@ abbrev pub AForm : (CondD → Bool) → Tokens → ℕ → CondD → ℕ → Typ
 AForm has_form ts at c end = (at < end) × Enclosed (has_form c) (SpellsCond c) (drop at ts) (drop end ts) × CondIsNarrow c
 
 -- what gives such a condition, where the item x has to come
-abbrev pub GivesForm : (CondD → Bool) → Item → Tokens → ℕ → ℕ → Result (CondD × Tokens) Halt → Type 0
+abbrev pub GivesForm : (CondD → Bool) → Item → Tokens → ℕ → ℕ → Result (CondD × Tokens) ParseError → Type 0
 GivesForm has_form x ts n at read = Comes ts at n (λ s. push (x ∷ []) s) n (λ c s. s) (AForm has_form ts at) read
 
 abbrev pub ReadsForm : (CondD → Bool) → Item → Tokens → ℕ → Read CondD → Type 0
@@ -60,16 +60,16 @@ unit_is_conjunction _ h = refl
 -- the token of a relation
 abbrev RelationFits : Lexeme → Option Relation → Type 0
 RelationFits l None = Unit {0}
-RelationFits l (Some relations.Same) = l ≡ Symbol signs.Equal
-RelationFits l (Some relations.Differ) = l ≡ Symbol signs.Differs
-RelationFits l (Some relations.Below) = l ≡ Symbol signs.Below
+RelationFits l (Some relations.Same) = l ≡ Symbol punctuators.Equal
+RelationFits l (Some relations.Differ) = l ≡ Symbol punctuators.Differs
+RelationFits l (Some relations.Below) = l ≡ Symbol punctuators.Below
 RelationFits l (Some relations.Member) = l ≡ Word words.In
 RelationFits l (Some relations.Included) = l ≡ Word words.Subset
 
 relation_fits : (l : Lexeme) → RelationFits l (relation_of l)
-relation_fits (Symbol signs.Equal) = refl
-relation_fits (Symbol signs.Differs) = refl
-relation_fits (Symbol signs.Below) = refl
+relation_fits (Symbol punctuators.Equal) = refl
+relation_fits (Symbol punctuators.Differs) = refl
+relation_fits (Symbol punctuators.Below) = refl
 relation_fits (Word words.In) = refl
 relation_fits (Word words.Subset) = refl
 relation_fits _ = tt
@@ -82,9 +82,9 @@ compared_is ts at b end r x y e left right = go r (subst (RelationFits (lexeme_a
     further = let h = left.0 in let k = right.0 in omega arith
 
     go : (r : Relation) → RelationFits (lexeme_at ts b) (Some r) → AForm is_base ts at (descent.compared r (place_at ts b) x y) end
-    go relations.Same h = (further, (0, inl refl, (drop b ts, left.1, (drop (b + 1) ts, (place_at ts b, sign_at ts b signs.Equal h), right.1))), (left.2, right.2))
-    go relations.Differ h = (further, (0, inl refl, (drop b ts, left.1, (drop (b + 1) ts, (place_at ts b, sign_at ts b signs.Differs h), right.1))), (left.2, right.2))
-    go relations.Below h = (further, (0, inl refl, (drop b ts, left.1, (drop (b + 1) ts, sign_at ts b signs.Below h, right.1))), (left.2, right.2))
+    go relations.Same h = (further, (0, inl refl, (drop b ts, left.1, (drop (b + 1) ts, (place_at ts b, sign_at ts b punctuators.Equal h), right.1))), (left.2, right.2))
+    go relations.Differ h = (further, (0, inl refl, (drop b ts, left.1, (drop (b + 1) ts, (place_at ts b, sign_at ts b punctuators.Differs h), right.1))), (left.2, right.2))
+    go relations.Below h = (further, (0, inl refl, (drop b ts, left.1, (drop (b + 1) ts, sign_at ts b punctuators.Below h, right.1))), (left.2, right.2))
     go relations.Member h = (further, (0, inl refl, (drop b ts, left.1, (drop (b + 1) ts, (place_at ts b, word_at ts b words.In h), right.1))), (left.2, right.2))
     go relations.Included h = (further, (0, inl refl, (drop b ts, left.1, (drop (b + 1) ts, (place_at ts b, word_at ts b words.Subset h), right.1))), (left.2, right.2))
 
@@ -98,32 +98,32 @@ comparison_reads ts n h reads at =
     and_then _ (λ s. s) (reads c) (λ y end later right. done (compared_is ts at b end r x y found.1 left (subst (λ k. AnExpr ts k y end) found.0 right)))))
 
 -- n brackets are open, and e and c read what stands in one more
-module _ (ts : Tokens) (n room : ℕ) (within : n + room ≡ 64) (e : Read ExprD) (reads : 0 < room → ReadsExpr ts (n + 1) e) (c : Read CondD) (tests : 0 < room → ReadsCond ts (n + 1) c) where
+module _ (ts : Tokens) (n depth_left : ℕ) (within : n + depth_left ≡ 64) (e : Read ExprD) (reads : 0 < depth_left → ReadsExpr ts (n + 1) e) (c : Read CondD) (tests : 0 < depth_left → ReadsCond ts (n + 1) c) where
   -- `empty` of an expression
-  emptiness_reads : (at : ℕ) → lexeme_at ts at ≡ Word words.Empty → GivesForm is_base base ts n at (descent.emptiness room e (drop at ts))
+  emptiness_reads : (at : ℕ) → lexeme_at ts at ≡ Word words.Empty → GivesForm is_base base ts n at (descent.emptiness depth_left e (drop at ts))
   unfolding descent.emptiness place_at
   emptiness_reads at here =
       rw (drop-drop 1 at ts) (behind_word words.Empty base (arguments one ∷ []) here refl (λ rest t. refl) (
-      entering_call room one _ within (λ opened inner.
+      entering_call depth_left one _ within (λ opened inner.
       and_then _ (λ s. push (terminal terminals.CloseRound ∷ []) s) (reads inner (at + 1 + 1)) (λ x b forward operand.
       closing terminals.CloseRound _ refl (λ closed.
       done (
         omega arith,
-        (0, inl refl, (drop (at + 1) ts, (place_at ts at, word_at ts at words.Empty here), (drop (at + 1 + 1) ts, (place_at ts (at + 1), sign_at ts (at + 1) signs.OpenRound opened), (drop b ts, operand.1, closed)))),
+        (0, inl refl, (drop (at + 1) ts, (place_at ts at, word_at ts at words.Empty here), (drop (at + 1 + 1) ts, (place_at ts (at + 1), sign_at ts (at + 1) punctuators.OpenRound opened), (drop b ts, operand.1, closed)))),
         operand.2,
       ))))))
 
   -- a condition in `[` and `]`
-  brackets_read : (at : ℕ) → lexeme_at ts at ≡ Symbol signs.OpenSquare → GivesForm is_base base ts n at (descent.brackets room c (drop at ts))
+  brackets_read : (at : ℕ) → lexeme_at ts at ≡ Symbol punctuators.OpenSquare → GivesForm is_base base ts n at (descent.brackets depth_left c (drop at ts))
   unfolding descent.brackets place_at
   brackets_read at here =
-      entering room signs.OpenSquare base (condition (token terminals.CloseSquare) ∷ []) _ here refl refl (λ rest t. refl) within (λ inner.
+      entering depth_left punctuators.OpenSquare base (condition (token terminals.CloseSquare) ∷ []) _ here refl refl (λ rest t. refl) within (λ inner.
       and_then _ (λ s. (terminals.CloseSquare, s)) (test_reads ts (n + 1) c (tests inner) (at + 1)) (λ whole b forward test.
       closing terminals.CloseSquare _ refl (λ closed.
-      done (omega arith, (suc test.1.0, inr (omega arith), (drop (at + 1) ts, (place_at ts at, sign_at ts at signs.OpenSquare here), (drop b ts, test.1.2, closed))), test.2))))
+      done (omega arith, (suc test.1.0, inr (omega arith), (drop (at + 1) ts, (place_at ts at, sign_at ts at punctuators.OpenSquare here), (drop b ts, test.1.2, closed))), test.2))))
 
   -- h reads the expressions of a comparison
-  base_reads : (h : Read ExprD) → ReadsExpr ts n h → ReadsForm is_base base ts n (descent.base room h e c)
+  base_reads : (h : Read ExprD) → ReadsExpr ts n h → ReadsForm is_base base ts n (descent.base depth_left h e c)
   unfolding descent.base lexeme_at place_at
   base_reads h compares at = go (base_form (lexeme_at ts at)) refl
     where
@@ -131,7 +131,7 @@ module _ (ts : Tokens) (n room : ℕ) (within : n + room ≡ 64) (e : Read ExprD
           GivesForm is_base base ts n at (Ok (x, drop 1 (drop at ts)))
       word k x here starts spelled narrow = rw (drop-drop 1 at ts) (behind_word k base [] here starts (λ rest t. refl) (done (omega arith, spelled, narrow)))
 
-      go : (f : BaseForm) → f ≡ base_form (lexeme_at ts at) → GivesForm is_base base ts n at (descent.base_by f room h e c (drop at ts))
+      go : (f : BaseForm) → f ≡ base_form (lexeme_at ts at) → GivesForm is_base base ts n at (descent.base_by f depth_left h e c (drop at ts))
       go bases.True f = let here : lexeme_at ts at ≡ Word words.True = base_is (lexeme_at ts at) bases.True f in word words.True truth here refl (0, inl refl, (place_at ts at, word_at ts at words.True here)) tt
       go bases.False f = let here : lexeme_at ts at ≡ Word words.False = base_is (lexeme_at ts at) bases.False f in word words.False falsity here refl (0, inl refl, (place_at ts at, word_at ts at words.False here)) tt
       go bases.Empty f = emptiness_reads at (base_is (lexeme_at ts at) bases.Empty f)
@@ -191,18 +191,18 @@ are_many first [] h = absurd h
 are_many first (c ∷ cs) h = tt
 
 -- the word that a test finds
-at_and : (l : Lexeme) → descent.is_and (joint l) ≡ true → l ≡ Word words.And
+at_and : (l : Lexeme) → descent.is_and (connective l) ≡ true → l ≡ Word words.And
 at_and (Word words.And) h = refl
 at_and _ h = absurd (cc)
 
-at_or : (l : Lexeme) → descent.is_or (joint l) ≡ true → l ≡ Word words.Or
+at_or : (l : Lexeme) → descent.is_or (connective l) ≡ true → l ≡ Word words.Or
 at_or (Word words.Or) h = refl
 at_or _ h = absurd (cc)
 
-neither : (j : Joint) → descent.is_and j ≡ false → descent.is_or j ≡ false → j ≡ joints.NoJoint
+neither : (j : Connective) → descent.is_and j ≡ false → descent.is_or j ≡ false → j ≡ joints.NoConnective
 neither joints.And h g = absurd (cc)
 neither joints.Or h g = absurd (cc)
-neither joints.NoJoint h g = refl
+neither joints.NoConnective h g = refl
 
 -- a unit, or several with `and` between them, and no `and` behind them
 abbrev AConjunction : Tokens → ℕ → CondD → ℕ → Type 0
@@ -223,7 +223,7 @@ record MoreConjunctions (ts : Tokens) (cs : List CondD) (at end : ℕ) : Type 0 
   no_and : descent.begins_and (drop at ts) ≡ false → descent.begins_and (drop end ts) ≡ false
 
 -- what gives a part of a condition behind a unit, whatever ends the condition
-abbrev GivesMore : {A : Type 0} → Tokens → ℕ → ℕ → (A → ℕ → Type 0) → Result (A × Tokens) Halt → Type 0
+abbrev GivesMore : {A : Type 0} → Tokens → ℕ → ℕ → (A → ℕ → Type 0) → Result (A × Tokens) ParseError → Type 0
 GivesMore ts n at P read = Comes {X = Ending × State} ts at n (λ i. push (more_condition i.0 ∷ []) i.1) n (λ x i. push (more_condition i.0 ∷ []) i.1) P read
 
 -- u reads a unit; on the stack is a condition behind it, with whatever ends it
@@ -276,7 +276,7 @@ module _ (ts : Tokens) (n : ℕ) (u : Read CondD) (units_read : ReadsForm is_uni
       })
       conjunction_reads
       (λ rest end forward held. let ahead = begun.0 in
-      (omega arith, (0, inl refl, (are_many first rest (held.some follows), (drop at ts, begun.1, held.spelled))), (begun.2, held.narrow), neither (joint (lexeme_at ts end)) (held.no_and begun.3) held.ended))
+      (omega arith, (0, inl refl, (are_many first rest (held.some follows), (drop at ts, begun.1, held.spelled))), (begun.2, held.narrow), neither (connective (lexeme_at ts end)) (held.no_and begun.3) held.ended))
 
   -- the whole condition, with neither `and` nor `or` behind it
   condition_reads : ReadsCond ts n (descent.condition (descent.conjunction u))
@@ -290,29 +290,29 @@ module _ (ts : Tokens) (n : ℕ) (u : Read CondD) (units_read : ReadsForm is_uni
           (if more then descent.more_conjunctions (descent.conjunction u) first (drop b ts) >>= (λ cs. Ok (any (conds_of cs.0), cs.1)) else Ok (first, drop b ts))
       go first b begun true e = and_then _ (λ i. i) (more_conjunctions_read at b first begun e) (λ cs end later held. done held)
       go first b begun false e =
-          done (begun.0, enclosed (is_conjunction first) true (SpellsCond first) (drop at ts) (drop b ts) (λ h. refl) begun.1, begun.2, neither (joint (lexeme_at ts b)) begun.3 e)
+          done (begun.0, enclosed (is_conjunction first) true (SpellsCond first) (drop at ts) (drop b ts) (λ h. refl) begun.1, begun.2, neither (connective (lexeme_at ts b)) begun.3 e)
 
 -- ---- all expressions and conditions
 
 -- n brackets are open, and e and c read what stands in one more
-level_reads : (ts : Tokens) (n room : ℕ) → n + room ≡ 64 → (e : Read ExprD) → (0 < room → ReadsExpr ts (n + 1) e) → (c : Read CondD) → (0 < room → ReadsCond ts (n + 1) c) →
-    ReadsExpr ts n (descent.expression room e c) × ReadsCond ts n (descent.condition_at room (descent.expression room e c) e c)
-level_reads ts n room within e reads c tests =
-    let h = descent.expression room e c in
-    let b = descent.base room h e c in
-    let compares = expression_reads ts n room within e reads c tests in
-    (compares, condition_reads ts n (descent.unit h b) (unit_reads ts n h compares b (base_reads ts n room within e reads c tests h compares)))
+level_reads : (ts : Tokens) (n depth_left : ℕ) → n + depth_left ≡ 64 → (e : Read ExprD) → (0 < depth_left → ReadsExpr ts (n + 1) e) → (c : Read CondD) → (0 < depth_left → ReadsCond ts (n + 1) c) →
+    ReadsExpr ts n (descent.expression depth_left e c) × ReadsCond ts n (descent.condition_at depth_left (descent.expression depth_left e c) e c)
+level_reads ts n depth_left within e reads c tests =
+    let h = descent.expression depth_left e c in
+    let b = descent.base depth_left h e c in
+    let compares = expression_reads ts n depth_left within e reads c tests in
+    (compares, condition_reads ts n (descent.unit h b) (unit_reads ts n h compares b (base_reads ts n depth_left within e reads c tests h compares)))
 
 -- by how many brackets more may be open
-both_read : (ts : Tokens) (room n : ℕ) → n + room ≡ 64 → ReadsExpr ts n (expr_of room) × ReadsCond ts n (cond_of room)
+both_read : (ts : Tokens) (depth_left n : ℕ) → n + depth_left ≡ 64 → ReadsExpr ts n (expr_of depth_left) × ReadsCond ts n (cond_of depth_left)
 unfolding expr_of cond_of
 both_read ts zero n within = level_reads ts n zero within descent.closed (λ inner. absurd (omega arith)) descent.closed (λ inner. absurd (omega arith))
-both_read ts (suc room) n within =
-    let inside = both_read ts room (n + 1) (omega arith) in level_reads ts n (suc room) within (expr_of room) (λ inner. inside.0) (cond_of room) (λ inner. inside.1)
+both_read ts (suc depth_left) n within =
+    let inside = both_read ts depth_left (n + 1) (omega arith) in level_reads ts n (suc depth_left) within (expr_of depth_left) (λ inner. inside.0) (cond_of depth_left) (λ inner. inside.1)
 
 -- where n brackets are open and so many more may be
-pub expr_reads : (ts : Tokens) (room n : ℕ) → n + room ≡ 64 → ReadsExpr ts n (expr_of room)
-expr_reads ts room n within = (both_read ts room n within).0
+pub expr_reads : (ts : Tokens) (depth_left n : ℕ) → n + depth_left ≡ 64 → ReadsExpr ts n (expr_of depth_left)
+expr_reads ts depth_left n within = (both_read ts depth_left n within).0
 
-pub cond_reads : (ts : Tokens) (room n : ℕ) → n + room ≡ 64 → ReadsCond ts n (cond_of room)
-cond_reads ts room n within = (both_read ts room n within).1
+pub cond_reads : (ts : Tokens) (depth_left n : ℕ) → n + depth_left ≡ 64 → ReadsCond ts n (cond_of depth_left)
+cond_reads ts depth_left n within = (both_read ts depth_left n within).1

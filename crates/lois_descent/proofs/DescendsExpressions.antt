@@ -11,22 +11,22 @@ use Rattle.lois_script.specs.Limits.{opens, IsNarrow, AreNarrow, BindingIsNarrow
 use Rattle.lois_script.specs.Tree.{ExprD, var, tuple, listed, no_exprs, expr, BindingD, CondD, truth}
 use Rattle.lois_script.specs.Tree as trees
 use Rattle.lois_script.specs.View.{exprs_of, bindings_of}
-use Rattle.lois_descent.specs.declared.halt.Halt.{Halt}
-use Rattle.lois_descent.specs.declared.halt.Halt.TheVariants as halts
+use Rattle.lois_descent.specs.declared.parse_error.ParseError.{ParseError}
+use Rattle.lois_descent.specs.declared.parse_error.ParseError.TheVariants as parse_errors
 use Rattle.lois_descent.specs.declared.lexemes.ExprForm.{ExprForm}
 use Rattle.lois_descent.specs.declared.lexemes.ExprForm.TheVariants as exprs
-use Rattle.lois_descent.specs.declared.lexemes.Joint.TheVariants as joints
+use Rattle.lois_descent.specs.declared.lexemes.Connective.TheVariants as joints
 use Rattle.lois_descent.specs.declared.lexemes.Keyword.TheVariants as words
-use Rattle.lois_descent.specs.declared.lexemes.Lead.{Lead}
-use Rattle.lois_descent.specs.declared.lexemes.Lead.TheVariants as leads
+use Rattle.lois_descent.specs.declared.lexemes.OptionalStart.{OptionalStart}
+use Rattle.lois_descent.specs.declared.lexemes.OptionalStart.TheVariants as leads
 use Rattle.lois_descent.specs.declared.lexemes.Lexeme.{Lexeme}
 use Rattle.lois_descent.specs.declared.lexemes.Lexeme.TheVariants.{Name, Tag, Word, Symbol}
-use Rattle.lois_descent.specs.declared.lexemes.Sign.TheVariants as signs
+use Rattle.lois_descent.specs.declared.lexemes.Punctuator.TheVariants as punctuators
 use Rattle.lois_descent.specs.declared.lexemes.Terminal.{Terminal}
 use Rattle.lois_descent.specs.declared.lexemes.Terminal.TheVariants as terminals
 use Rattle.lois_descent.specs.Descent as descent
 use Rattle.lois_descent.specs.Descent.{Tokens, Read, ◌>>=◌, stop, pass}
-use Rattle.lois_descent.specs.Lexemes.{lexeme_of, accepts, expr_form, joint, lead, has_two_operands}
+use Rattle.lois_descent.specs.Lexemes.{lexeme_of, accepts, expr_form, connective, optional_start, has_two_operands}
 use Rattle.lois_descent.specs.Machine.{Ending, token, one, two, part_number, terminal, expression, arguments, more_parts, more_items, after_brace, after_item, more_bindings, where_clause, condition, more_condition, behind, chosen, arity, expression_start, brace_start, after_item_start, more_parts_start, more_items_start, more_bindings_start, where_start, in_set, is_comma, over_if, State, push, verdict, refused, over}
 use Rattle.lois_descent.specs.Refusals.{GoesOver}
 use Rattle.lois_descent.specs.Refusals as limits
@@ -49,14 +49,14 @@ ABinding ts at b end = (at < end) × SpellsBinding b (drop at ts) (drop end ts) 
 
 -- a condition, and neither `and` nor `or` behind it
 abbrev pub ACond : Tokens → ℕ → CondD → ℕ → Type 0
-ACond ts at c end = (at < end) × Enclosed true (SpellsCond c) (drop at ts) (drop end ts) × CondIsNarrow c × (joint (lexeme_at ts end) ≡ joints.NoJoint)
+ACond ts at c end = (at < end) × Enclosed true (SpellsCond c) (drop at ts) (drop end ts) × CondIsNarrow c × (connective (lexeme_at ts end) ≡ joints.NoConnective)
 
 -- `where` and a condition, or neither
 abbrev pub AGuard : Tokens → ℕ → CondD → ℕ → Type 0
 AGuard ts at c end = WhereClause c (SpellsCond c) (drop at ts) (drop end ts) × CondIsNarrow c
 
 -- what gives an expression where n brackets are open, whatever is under it on the stack
-abbrev pub GivesExpr : Tokens → ℕ → ℕ → Result (ExprD × Tokens) Halt → Type 0
+abbrev pub GivesExpr : Tokens → ℕ → ℕ → Result (ExprD × Tokens) ParseError → Type 0
 GivesExpr ts n at read = Comes ts at n (λ s. push (expression ∷ []) s) n (λ e s. s) (AnExpr ts at) read
 
 abbrev pub ReadsExpr : Tokens → ℕ → Read ExprD → Type 0
@@ -66,7 +66,7 @@ ReadsExpr ts n read = (at : ℕ) → GivesExpr ts n at (read (drop at ts))
 abbrev pub ReadsCond : Tokens → ℕ → Read CondD → Type 0
 ReadsCond ts n read = (at : ℕ) → Comes {X = Ending × State} ts at n (λ i. push (condition i.0 ∷ []) i.1) n (λ c i. push (more_condition i.0 ∷ []) i.1) (ACond ts at) (read (drop at ts))
 
-abbrev pub GivesGuard : Tokens → ℕ → ℕ → Result (CondD × Tokens) Halt → Type 0
+abbrev pub GivesGuard : Tokens → ℕ → ℕ → Result (CondD × Tokens) ParseError → Type 0
 GivesGuard ts n at read = Comes {X = Terminal × State} ts at n (λ i. push (where_clause i.0 ∷ []) i.1) n (λ c i. push (terminal i.0 ∷ []) i.1) (AGuard ts at) read
 
 -- ---- bindings and guards
@@ -82,20 +82,20 @@ binding_reads ts n e reads at =
 pub test_reads : (ts : Tokens) (n : ℕ) (c : Read CondD) → ReadsCond ts n c → (at : ℕ) →
     Comes {X = Terminal × State} ts at n (λ i. push (condition (token i.0) ∷ []) i.1) n (λ c i. push (terminal i.0 ∷ []) i.1) (ACond ts at) (c (drop at ts))
 test_reads ts n c tests at =
-    led (λ i. (token i.0, i.1)) (λ test end p i. (same_alone ts end n (more_condition (token i.0)) (terminal i.0) (λ rest t. refl) (λ rest t. refl) (joint_is (lexeme_at ts end) joints.NoJoint (sym p.3) (token i.0))).run i.1) (tests at)
+    led (λ i. (token i.0, i.1)) (λ test end p i. (same_alone ts end n (more_condition (token i.0)) (terminal i.0) (λ rest t. refl) (λ rest t. refl) (joint_is (lexeme_at ts end) joints.NoConnective (sym p.3) (token i.0))).run i.1) (tests at)
 
 -- `where` and a condition, or neither
 pub guard_reads : (ts : Tokens) (n : ℕ) (c : Read CondD) → ReadsCond ts n c → (at : ℕ) →
     GivesGuard ts n at (descent.guard c (drop at ts))
 unfolding descent.guard lexeme_at place_at
-guard_reads ts n c tests at = go (lead (lexeme_at ts at)) refl
+guard_reads ts n c tests at = go (optional_start (lexeme_at ts at)) refl
   where
-    none : (l : Lead) → lead (lexeme_at ts at) ≡ l → (l ≡ leads.Where → ⊥) →
+    none : (l : OptionalStart) → optional_start (lexeme_at ts at) ≡ l → (l ≡ leads.Where → ⊥) →
         GivesGuard ts n at (Ok (truth, drop at ts))
     none l e other =
         alike (λ i. (same_alone ts at n (where_clause i.0) (terminal i.0) (λ rest t. refl) (λ rest t. refl) (no_where (lexeme_at ts at) (λ g. other (sym e ∙ g)) i.0)).run i.1) (done (inl (refl, refl), tt))
 
-    go : (l : Lead) → lead (lexeme_at ts at) ≡ l →
+    go : (l : OptionalStart) → optional_start (lexeme_at ts at) ≡ l →
         GivesGuard ts n at (descent.guard_by l c (drop at ts))
     go leads.Where e =
         let here : lexeme_at ts at ≡ Word words.Where = lead_is (lexeme_at ts at) leads.Where (sym e) in
@@ -106,7 +106,7 @@ guard_reads ts n c tests at = go (lead (lexeme_at ts at)) refl
     go leads.Parameter e = none leads.Parameter e (λ g. cc)
     go leads.For e = none leads.For e (λ g. cc)
     go leads.Else e = none leads.Else e (λ g. cc)
-    go leads.NoLead e = none leads.NoLead e (λ g. cc)
+    go leads.NoOptionalStart e = none leads.NoOptionalStart e (λ g. cc)
 
 -- ---- calls
 
@@ -126,50 +126,50 @@ one_operand operations.Minimise h = (refl, λ x. tt)
 one_operand _ h = absurd (cc)
 
 -- n brackets are open, and e reads what stands in one more
-module _ (ts : Tokens) (n room : ℕ) (all : n + room ≡ 64) (e : Read ExprD) (reads : 0 < room → ReadsExpr ts (n + 1) e) where
+module _ (ts : Tokens) (n depth_left : ℕ) (all : n + depth_left ≡ 64) (e : Read ExprD) (reads : 0 < depth_left → ReadsExpr ts (n + 1) e) where
   -- a part of a tuple, by its number
-  part_reads : (at : ℕ) → lexeme_at ts at ≡ Word words.Part → GivesExpr ts n at (descent.part room e (drop at ts))
+  part_reads : (at : ℕ) → lexeme_at ts at ≡ Word words.Part → GivesExpr ts n at (descent.part depth_left e (drop at ts))
   unfolding descent.part place_at
   part_reads at here =
       rw (drop-drop 1 at ts) (behind_word words.Part expression (arguments part_number ∷ []) here refl (λ rest t. refl) (
-      entering_call room part_number _ all (λ opened inner.
+      entering_call depth_left part_number _ all (λ opened inner.
       and_then _ (λ s. push (terminal terminals.Comma ∷ terminal terminals.Number ∷ terminal terminals.CloseRound ∷ []) s) (reads inner (at + 1 + 1)) (λ x b forward whole.
       passing terminals.Comma _ refl (λ comma.
       and_then _ (λ s. push (terminal terminals.CloseRound ∷ []) s) (number_reads ts (b + 1) (n + 1)) (λ i c later index.
       closing terminals.CloseRound _ refl (λ closed.
-      done (omega arith, (drop (at + 1) ts, word_at ts at words.Part here, (drop (at + 1 + 1) ts, (place_at ts (at + 1), sign_at ts (at + 1) signs.OpenRound opened), (drop b ts, whole.1, (drop (b + 1) ts, comma, (drop c ts, index.1, closed))))), whole.2))))))))
+      done (omega arith, (drop (at + 1) ts, word_at ts at words.Part here, (drop (at + 1 + 1) ts, (place_at ts (at + 1), sign_at ts (at + 1) punctuators.OpenRound opened), (drop b ts, whole.1, (drop (b + 1) ts, comma, (drop c ts, index.1, closed))))), whole.2))))))))
 
   apply_one_reads : (at : ℕ) (op : Operation) → lexeme_at ts at ≡ Word (words.Apply op) → has_two_operands op ≡ false →
-      GivesExpr ts n at (descent.apply_one op room e (drop at ts))
+      GivesExpr ts n at (descent.apply_one op depth_left e (drop at ts))
   unfolding descent.apply_one place_at
   apply_one_reads at op here h =
       let operands = one_operand op h in
       rw (drop-drop 1 at ts) (behind_word (words.Apply op) expression (arguments one ∷ []) here (ap (λ a. Some (arguments a ∷ [])) operands.0) (λ rest t. refl) (
-      entering_call room one _ all (λ opened inner.
+      entering_call depth_left one _ all (λ opened inner.
       and_then _ (λ s. push (terminal terminals.CloseRound ∷ []) s) (reads inner (at + 1 + 1)) (λ x b forward operand.
       closing terminals.CloseRound _ refl (λ closed.
-      done (omega arith, (operands.1 x, (drop (at + 1) ts, word_at ts at (words.Apply op) here, (drop (at + 1 + 1) ts, (place_at ts (at + 1), sign_at ts (at + 1) signs.OpenRound opened), (drop b ts, (drop b ts, operand.1, refl), closed)))), (operand.2, tt)))))))
+      done (omega arith, (operands.1 x, (drop (at + 1) ts, word_at ts at (words.Apply op) here, (drop (at + 1 + 1) ts, (place_at ts (at + 1), sign_at ts (at + 1) punctuators.OpenRound opened), (drop b ts, (drop b ts, operand.1, refl), closed)))), (operand.2, tt)))))))
 
   apply_two_reads : (at : ℕ) (op : Operation) → lexeme_at ts at ≡ Word (words.Apply op) → has_two_operands op ≡ true →
-      GivesExpr ts n at (descent.apply_two op room e (drop at ts))
+      GivesExpr ts n at (descent.apply_two op depth_left e (drop at ts))
   unfolding descent.apply_two place_at
   apply_two_reads at op here h =
       let operands = two_operands op h in
       rw (drop-drop 1 at ts) (behind_word (words.Apply op) expression (arguments two ∷ []) here (ap (λ a. Some (arguments a ∷ [])) operands.0) (λ rest t. refl) (
-      entering_call room two _ all (λ opened inner.
+      entering_call depth_left two _ all (λ opened inner.
       and_then _ (λ s. push (terminal terminals.Comma ∷ expression ∷ terminal terminals.CloseRound ∷ []) s) (reads inner (at + 1 + 1)) (λ x b forward left.
       passing terminals.Comma _ refl (λ comma.
       and_then _ (λ s. push (terminal terminals.CloseRound ∷ []) s) (reads inner (b + 1)) (λ y c later right.
       closing terminals.CloseRound _ refl (λ closed.
-      done (omega arith, (operands.1 x y, (drop (at + 1) ts, word_at ts at (words.Apply op) here, (drop (at + 1 + 1) ts, (place_at ts (at + 1), sign_at ts (at + 1) signs.OpenRound opened), (drop c ts, (drop b ts, left.1, (drop (b + 1) ts, comma, (drop c ts, right.1, refl))), closed)))), (left.2, (right.2, tt))))))))))
+      done (omega arith, (operands.1 x y, (drop (at + 1) ts, word_at ts at (words.Apply op) here, (drop (at + 1 + 1) ts, (place_at ts (at + 1), sign_at ts (at + 1) punctuators.OpenRound opened), (drop c ts, (drop b ts, left.1, (drop (b + 1) ts, comma, (drop c ts, right.1, refl))), closed)))), (left.2, (right.2, tt))))))))))
 
   -- an operation with its operands
-  apply_reads : (at : ℕ) (op : Operation) → lexeme_at ts at ≡ Word (words.Apply op) → GivesExpr ts n at (descent.apply op room e (drop at ts))
+  apply_reads : (at : ℕ) (op : Operation) → lexeme_at ts at ≡ Word (words.Apply op) → GivesExpr ts n at (descent.apply op depth_left e (drop at ts))
   unfolding descent.apply
   apply_reads at op here = go (has_two_operands op) refl
     where
       go : (b : Bool) → has_two_operands op ≡ b →
-          GivesExpr ts n at (if b then descent.apply_two op room e (drop at ts) else descent.apply_one op room e (drop at ts))
+          GivesExpr ts n at (if b then descent.apply_two op depth_left e (drop at ts) else descent.apply_one op depth_left e (drop at ts))
       go true h = apply_two_reads at op here h
       go false h = apply_one_reads at op here h
 
@@ -177,18 +177,18 @@ module _ (ts : Tokens) (n room : ℕ) (all : n + room ≡ 64) (e : Read ExprD) (
 
 -- what the machine takes behind the parts of a tuple
 only_one : (l : Lexeme) → accepts terminals.Comma l ≡ false → more_parts_start 1 l ≡ None
-only_one (Symbol signs.Comma) h = absurd (cc)
-only_one (Symbol signs.CloseRound) h = refl
+only_one (Symbol punctuators.Comma) h = absurd (cc)
+only_one (Symbol punctuators.CloseRound) h = refl
 only_one _ h = refl
 
 no_part : (count : ℕ) (l : Lexeme) → accepts terminals.Comma l ≡ false → accepts terminals.CloseRound l ≡ false → more_parts_start count l ≡ None
-no_part count (Symbol signs.Comma) h g = absurd (cc)
-no_part count (Symbol signs.CloseRound) h g = absurd (cc)
+no_part count (Symbol punctuators.Comma) h g = absurd (cc)
+no_part count (Symbol punctuators.CloseRound) h g = absurd (cc)
 no_part count _ h g = refl
 
 -- the bracket that a test finds
-closes_round : (l : Lexeme) → accepts terminals.CloseRound l ≡ true → l ≡ Symbol signs.CloseRound
-closes_round (Symbol signs.CloseRound) h = refl
+closes_round : (l : Lexeme) → accepts terminals.CloseRound l ≡ true → l ≡ Symbol punctuators.CloseRound
+closes_round (Symbol punctuators.CloseRound) h = refl
 closes_round _ h = absurd (cc)
 
 -- two parts are enough for a tuple
@@ -206,12 +206,12 @@ record Parts (ts : Tokens) (start at : ℕ) (es : List ExprD) : Type 0 where
   narrow : AreNarrow (exprs_of es)
 
 -- what gives the parts behind those so far, and then the whole tuple, where n brackets are open before it
-abbrev GivesParts : Tokens → ℕ → ℕ → List ExprD → ℕ → Result (List ExprD × Tokens) Halt → Type 0
+abbrev GivesParts : Tokens → ℕ → ℕ → List ExprD → ℕ → Result (List ExprD × Tokens) ParseError → Type 0
 GivesParts ts n start front at read =
     Comes ts at (n + 1) (λ s. push (more_parts (length front) ∷ []) s) (n + 1) (λ rest s. push (more_parts (length (front ++ rest)) ∷ []) s)
     (λ rest end. Parts ts start end (front ++ rest) × (accepts terminals.Comma (lexeme_at ts end) ≡ false)) read
 
-abbrev GivesTuple : Tokens → ℕ → ℕ → List ExprD → ℕ → Result (ExprD × Tokens) Halt → Type 0
+abbrev GivesTuple : Tokens → ℕ → ℕ → List ExprD → ℕ → Result (ExprD × Tokens) ParseError → Type 0
 GivesTuple ts n start es at read = Comes ts at (n + 1) (λ s. push (more_parts (length es) ∷ []) s) n (λ e s. s) (AnExpr ts start) read
 
 -- the machine at a token behind so many parts
@@ -219,33 +219,33 @@ module _ (ts : Tokens) (at n count : ℕ) where
   -- a comma behind so many parts
   comma_parts : accepts terminals.Comma (lexeme_at ts at) ≡ true → count < 8 → Moves ts at n (more_parts count ∷ []) (at + 1) n (expression ∷ more_parts (suc count) ∷ [])
   comma_parts comma few =
-      let k = token_at ts at (Symbol signs.Comma) (comma_accepted (lexeme_at ts at) comma) (λ g. cc) in
-      plain_moves_at ts at n (more_parts count) (expression ∷ more_parts (suc count) ∷ []) (Symbol signs.Comma) k refl refl refl refl (
+      let k = token_at ts at (Symbol punctuators.Comma) (comma_accepted (lexeme_at ts at) comma) (λ g. cc) in
+      plain_moves_at ts at n (more_parts count) (expression ∷ more_parts (suc count) ∷ []) (Symbol punctuators.Comma) k refl refl refl refl (
       λ rest. ap (λ b. over_if (b && is_comma (lexeme_of k.it)) limits.parts) (ne_eqb count 8 (omega arith)))
 
   -- the comma behind the eighth part
   comma_over : accepts terminals.Comma (lexeme_at ts at) ≡ true → count ≡ 8 → (s : State) → verdict at n (push (more_parts count ∷ []) s) (drop at ts) ≡ refused (over limits.parts) at
   comma_over comma eight s =
-      let k = token_at ts at (Symbol signs.Comma) (comma_accepted (lexeme_at ts at) comma) (λ g. cc) in
-      let opens_not : opens k.it ≡ false = opens_is k.it (Symbol signs.Comma) k.lexeme refl in
+      let k = token_at ts at (Symbol punctuators.Comma) (comma_accepted (lexeme_at ts at) comma) (λ g. cc) in
+      let opens_not : opens k.it ≡ false = opens_is k.it (Symbol punctuators.Comma) k.lexeme refl in
       token_over ts at n (more_parts count) (expression ∷ more_parts (suc count) ∷ []) k.it limits.parts k.here (ap (more_parts_start count) k.lexeme) (
       λ rest. ap₂ (λ (a b : Bool). choose (a && nat_eq n 64) (Some limits.nesting) (over_if (b && is_comma (lexeme_of k.it)) limits.parts)) opens_not (eq-eqb count 8 eight) ∙ ap (λ l. over_if (is_comma l) limits.parts) k.lexeme) s
 
   -- the `)` behind two parts or more
   close_parts : accepts terminals.CloseRound (lexeme_at ts at) ≡ true → 2 ≤ count → Moves ts at (n + 1) (more_parts count ∷ []) (at + 1) n []
   close_parts shut many =
-      let k = token_at ts at (Symbol signs.CloseRound) (closes_round (lexeme_at ts at) shut) (λ g. cc) in
-      close_moves_at ts at n (more_parts count) [] (Symbol signs.CloseRound) k refl refl refl (ap chosen (le-leb 2 count many)) (
+      let k = token_at ts at (Symbol punctuators.CloseRound) (closes_round (lexeme_at ts at) shut) (λ g. cc) in
+      close_moves_at ts at n (more_parts count) [] (Symbol punctuators.CloseRound) k refl refl refl (ap chosen (le-leb 2 count many)) (
       λ rest. ap (λ l. over_if (nat_eq count 8 && is_comma l) limits.parts) k.lexeme ∙ ap (λ b. over_if b limits.parts) (and_false (nat_eq count 8) false refl))
 
 -- n brackets are open before the `(` at token number `start`, and e reads what stands in one more
-module _ (ts : Tokens) (n start : ℕ) (opened : lexeme_at ts start ≡ Symbol signs.OpenRound) (e : Read ExprD) (reads : ReadsExpr ts (n + 1) e) where
+module _ (ts : Tokens) (n start : ℕ) (opened : lexeme_at ts start ≡ Symbol punctuators.OpenRound) (e : Read ExprD) (reads : ReadsExpr ts (n + 1) e) where
   -- the token is the comma behind the eighth part
   ninth : (at : ℕ) (front : List ExprD) → Parts ts start at front → length front ≡ 8 → accepts terminals.Comma (lexeme_at ts at) ≡ true → GoesOver limits.parts ts at
   unfolding place_at
   ninth at front read eight comma =
       let after : at + 1 ≡ suc at = omega arith in
-      (start, exprs_of front, width_of front ∙ eight, (drop (start + 1) ts, (place_at ts start, sign_at ts start signs.OpenRound opened), read.spelled), subst (λ k. TakesSymbol (codes ",") (drop at ts) (drop k ts)) after (one_at ts at terminals.Comma comma))
+      (start, exprs_of front, width_of front ∙ eight, (drop (start + 1) ts, (place_at ts start, sign_at ts start punctuators.OpenRound opened), read.spelled), subst (λ k. TakesSymbol (codes ",") (drop at ts) (drop k ts)) after (one_at ts at terminals.Comma comma))
 
   -- the machine counts the parts that were read
   counted : (b : ℕ) (xs ys : List ExprD) → xs ≡ ys → (s : State) → verdict b (n + 1) (push (more_parts (length xs) ∷ []) s) (drop b ts) ≡ verdict b (n + 1) (push (more_parts (length ys) ∷ []) s) (drop b ts)
@@ -278,7 +278,7 @@ module _ (ts : Tokens) (n start : ℕ) (opened : lexeme_at ts start ≡ Symbol s
   more_parts_read zero front at full read = go (accepts terminals.Comma (lexeme_at ts at)) refl
     where
       go : (b : Bool) → accepts terminals.Comma (lexeme_at ts at) ≡ b →
-          GivesParts ts n start front at (if b then Err (halts.WideTuple (length (drop at ts))) else Ok ([], drop at ts))
+          GivesParts ts n start front at (if b then Err (parse_errors.WideTuple (length (drop at ts))) else Ok ([], drop at ts))
       go true comma = let eight : length front ≡ 8 = omega arith in stops_wide (comma_over ts at (n + 1) (length front) comma eight) (ninth at front read eight comma)
       go false none = parts_end at front read none
   more_parts_read (suc most) front at full read =
@@ -292,7 +292,7 @@ module _ (ts : Tokens) (n start : ℕ) (opened : lexeme_at ts start ≡ Symbol s
       go false none next = parts_end at front read none
       go true comma next =
           rw (drop-drop 1 at ts) (
-          on (omega arith) (taken ts at (Symbol signs.Comma) (comma_accepted (lexeme_at ts at) comma) (λ g. cc)) (λ s. (comma_parts ts at (n + 1) (length front) comma (omega arith)).run s) (
+          on (omega arith) (taken ts at (Symbol punctuators.Comma) (comma_accepted (lexeme_at ts at) comma) (λ g. cc)) (λ s. (comma_parts ts at (n + 1) (length front) comma (omega arith)).run s) (
           and_then _ (λ s. push (more_parts (suc (length front)) ∷ []) s) (reads (at + 1)) (λ x b forward more.
           alike (λ s. ap (λ count. verdict b (n + 1) (push (more_parts count ∷ []) s) (drop b ts)) (let longer = length-append front (x ∷ []) in omega arith)) (
           and_then _ (λ s. s) (next x b comma more) (λ rest c later all.
@@ -317,10 +317,10 @@ module _ (ts : Tokens) (n start : ℕ) (opened : lexeme_at ts start ≡ Symbol s
       shut true closed many =
           let ahead = read.forward in
           rw (drop-drop 1 at ts) (
-          on (omega arith) (taken ts at (Symbol signs.CloseRound) (closes_round (lexeme_at ts at) closed) (λ g. cc)) (λ s. (close_parts ts at n (length es) closed many).run s) (
+          on (omega arith) (taken ts at (Symbol punctuators.CloseRound) (closes_round (lexeme_at ts at) closed) (λ g. cc)) (λ s. (close_parts ts at n (length es) closed many).run s) (
           done (
             omega arith,
-            (wide es many, (drop (start + 1) ts, sign_at ts start signs.OpenRound opened, (drop at ts, read.spelled, one_at ts at terminals.CloseRound closed))),
+            (wide es many, (drop (start + 1) ts, sign_at ts start punctuators.OpenRound opened, (drop at ts, read.spelled, one_at ts at terminals.CloseRound closed))),
             (subst (λ k. k ≤ 8) (sym (width_of es)) read.few, read.narrow),
           )))
       shut false other many = stops (λ s. (missed ts at (n + 1) (more_parts (length es)) (no_part (length es) (lexeme_at ts at) none other)).run s)
@@ -337,11 +337,11 @@ module _ (ts : Tokens) (n start : ℕ) (opened : lexeme_at ts start ≡ Symbol s
       go false several = shut (accepts terminals.CloseRound (lexeme_at ts at)) refl (two_or_more (length es) read.some several)
 
 -- a tuple, where e reads its parts
-tuple_reads : (ts : Tokens) (n room : ℕ) → n + room ≡ 64 → (e : Read ExprD) → (0 < room → ReadsExpr ts (n + 1) e) → (at : ℕ) → lexeme_at ts at ≡ Symbol signs.OpenRound →
-    GivesExpr ts n at (descent.tuple room e (drop at ts))
+tuple_reads : (ts : Tokens) (n depth_left : ℕ) → n + depth_left ≡ 64 → (e : Read ExprD) → (0 < depth_left → ReadsExpr ts (n + 1) e) → (at : ℕ) → lexeme_at ts at ≡ Symbol punctuators.OpenRound →
+    GivesExpr ts n at (descent.tuple depth_left e (drop at ts))
 unfolding descent.tuple place_at
-tuple_reads ts n room all e reads at here =
-    entering room signs.OpenRound expression (expression ∷ more_parts 1 ∷ []) _ here refl refl (λ rest t. refl) all (λ inner.
+tuple_reads ts n depth_left all e reads at here =
+    entering depth_left punctuators.OpenRound expression (expression ∷ more_parts 1 ∷ []) _ here refl refl (λ rest t. refl) all (λ inner.
     and_then _ (λ s. push (more_parts 1 ∷ []) s) (reads inner (at + 1)) (λ first b forward read.
     and_then _ (λ s. s) (parts_read ts n at here e (reads inner) b first (record { forward = omega arith; some = omega arith; few = omega arith; spelled = (drop b ts, read.1, refl); narrow = (read.2, tt) })) (λ es c later parts.
     shut_parts ts n at here e (reads inner) c es parts.0 parts.1)))
@@ -349,26 +349,26 @@ tuple_reads ts n room all e reads at here =
 -- ---- sets
 
 -- what the machine takes in braces, by the token
-no_for : (l : Lexeme) → (lead l ≡ leads.For → ⊥) → after_item_start l ≡ more_items_start l
+no_for : (l : Lexeme) → (optional_start l ≡ leads.For → ⊥) → after_item_start l ≡ more_items_start l
 no_for (Word words.For) h = absurd (h refl)
 no_for _ h = refl
 
 no_more_items : (l : Lexeme) → accepts terminals.Comma l ≡ false → more_items_start l ≡ chosen (accepts terminals.CloseCurly l)
-no_more_items (Symbol signs.Comma) h = absurd (cc)
-no_more_items (Symbol signs.CloseCurly) h = refl
+no_more_items (Symbol punctuators.Comma) h = absurd (cc)
+no_more_items (Symbol punctuators.CloseCurly) h = refl
 no_more_items _ h = refl
 
 no_more_bindings : (l : Lexeme) → accepts terminals.Comma l ≡ false → more_bindings_start l ≡ where_start terminals.CloseCurly l
-no_more_bindings (Symbol signs.Comma) h = absurd (cc)
+no_more_bindings (Symbol punctuators.Comma) h = absurd (cc)
 no_more_bindings _ h = refl
 
 some_item : (l : Lexeme) → accepts terminals.CloseCurly l ≡ false → brace_start l ≡ behind (after_item ∷ []) (expression_start l)
-some_item (Symbol signs.CloseCurly) h = absurd (cc)
+some_item (Symbol punctuators.CloseCurly) h = absurd (cc)
 some_item _ h = refl
 
 -- the bracket that a test finds
-closes_curly : (l : Lexeme) → accepts terminals.CloseCurly l ≡ true → l ≡ Symbol signs.CloseCurly
-closes_curly (Symbol signs.CloseCurly) h = refl
+closes_curly : (l : Lexeme) → accepts terminals.CloseCurly l ≡ true → l ≡ Symbol punctuators.CloseCurly
+closes_curly (Symbol punctuators.CloseCurly) h = refl
 closes_curly _ h = absurd (cc)
 
 -- expressions, or bindings, each behind a comma
@@ -386,13 +386,13 @@ record Begun (ts : Tokens) (start at place : ℕ) (item : ExprD) : Type 0 where
   narrow : IsNarrow item
 
 -- what gives the whole set, where n brackets are open before it
-abbrev GivesSet : Tokens → ℕ → ℕ → ℕ → Result (ExprD × Tokens) Halt → Type 0
+abbrev GivesSet : Tokens → ℕ → ℕ → ℕ → Result (ExprD × Tokens) ParseError → Type 0
 GivesSet ts n start at read = Comes ts at (n + 1) (λ s. push (after_item ∷ []) s) n (λ e s. s) (AnExpr ts start) read
 
 -- n + 1 brackets are open
 module _ (ts : Tokens) (n : ℕ) (e : Read ExprD) (reads : ReadsExpr ts (n + 1) e) where
   -- items with commas between them, and the `}`
-  items_reads : (start at place : ℕ) (item : ExprD) → Begun ts start at place item → (lead (lexeme_at ts at) ≡ leads.For → ⊥) →
+  items_reads : (start at place : ℕ) (item : ExprD) → Begun ts start at place item → (optional_start (lexeme_at ts at) ≡ leads.For → ⊥) →
       GivesSet ts n start at (descent.items place e item (drop at ts))
   unfolding descent.items
   items_reads start at place item begun other =
@@ -439,41 +439,41 @@ module _ (ts : Tokens) (n : ℕ) (e : Read ExprD) (reads : ReadsExpr ts (n + 1) 
       )))))))
 
 -- n brackets are open, and e and c read what stands in one more
-module _ (ts : Tokens) (n room : ℕ) (all : n + room ≡ 64) (e : Read ExprD) (reads : 0 < room → ReadsExpr ts (n + 1) e) (c : Read CondD) (tests : 0 < room → ReadsCond ts (n + 1) c) where
+module _ (ts : Tokens) (n depth_left : ℕ) (all : n + depth_left ≡ 64) (e : Read ExprD) (reads : 0 < depth_left → ReadsExpr ts (n + 1) e) (c : Read CondD) (tests : 0 < depth_left → ReadsCond ts (n + 1) c) where
   -- what follows the first item
-  set_reads : 0 < room → (start at place : ℕ) (item : ExprD) → Begun ts start at place item →
-      GivesSet ts n start at (descent.set_by (lead (lexeme_at ts at)) place e c item (drop at ts))
-  set_reads inner start at place item begun = go (lead (lexeme_at ts at)) refl
+  set_reads : 0 < depth_left → (start at place : ℕ) (item : ExprD) → Begun ts start at place item →
+      GivesSet ts n start at (descent.set_by (optional_start (lexeme_at ts at)) place e c item (drop at ts))
+  set_reads inner start at place item begun = go (optional_start (lexeme_at ts at)) refl
     where
-      none : (l : Lead) → lead (lexeme_at ts at) ≡ l → (l ≡ leads.For → ⊥) → GivesSet ts n start at (descent.items place e item (drop at ts))
+      none : (l : OptionalStart) → optional_start (lexeme_at ts at) ≡ l → (l ≡ leads.For → ⊥) → GivesSet ts n start at (descent.items place e item (drop at ts))
       none l h other = items_reads ts n e (reads inner) start at place item begun (λ g. other (sym h ∙ g))
 
-      go : (l : Lead) → lead (lexeme_at ts at) ≡ l → GivesSet ts n start at (descent.set_by l place e c item (drop at ts))
+      go : (l : OptionalStart) → optional_start (lexeme_at ts at) ≡ l → GivesSet ts n start at (descent.set_by l place e c item (drop at ts))
       go leads.For h = each_reads ts n e (reads inner) c (tests inner) start at place item begun (lead_is (lexeme_at ts at) leads.For (sym h))
       go leads.OpenRound h = none leads.OpenRound h (λ g. cc)
       go leads.Parameter h = none leads.Parameter h (λ g. cc)
       go leads.Where h = none leads.Where h (λ g. cc)
       go leads.Else h = none leads.Else h (λ g. cc)
-      go leads.NoLead h = none leads.NoLead h (λ g. cc)
+      go leads.NoOptionalStart h = none leads.NoOptionalStart h (λ g. cc)
 
   -- a set in braces
-  braces_reads : (at : ℕ) → lexeme_at ts at ≡ Symbol signs.OpenCurly → GivesExpr ts n at (descent.braces room e c (drop at ts))
+  braces_reads : (at : ℕ) → lexeme_at ts at ≡ Symbol punctuators.OpenCurly → GivesExpr ts n at (descent.braces depth_left e c (drop at ts))
   unfolding descent.braces lexeme_at place_at
-  braces_reads at here = entering room signs.OpenCurly expression (after_brace ∷ []) _ here refl refl (λ rest t. refl) all (λ inner. go inner (accepts terminals.CloseCurly (lexeme_at ts (at + 1))) refl)
+  braces_reads at here = entering depth_left punctuators.OpenCurly expression (after_brace ∷ []) _ here refl refl (λ rest t. refl) all (λ inner. go inner (accepts terminals.CloseCurly (lexeme_at ts (at + 1))) refl)
     where
-      go : 0 < room → (b : Bool) → accepts terminals.CloseCurly (lexeme_at ts (at + 1)) ≡ b →
+      go : 0 < depth_left → (b : Bool) → accepts terminals.CloseCurly (lexeme_at ts (at + 1)) ≡ b →
           Comes ts (at + 1) (n + 1) (λ s. push (after_brace ∷ []) s) n (λ e s. s) (AnExpr ts at)
-          (if b then Ok (listed (place_at ts at) no_exprs, drop 1 (drop (at + 1) ts)) else e (drop (at + 1) ts) >>= λ first. descent.set_by (lead (first_lexeme first.1)) (place_at ts at) e c first.0 first.1)
+          (if b then Ok (listed (place_at ts at) no_exprs, drop 1 (drop (at + 1) ts)) else e (drop (at + 1) ts) >>= λ first. descent.set_by (optional_start (first_lexeme first.1)) (place_at ts at) e c first.0 first.1)
       go inner true h =
-          let shut : lexeme_at ts (at + 1) ≡ Symbol signs.CloseCurly = closes_curly (lexeme_at ts (at + 1)) h in
-          let there = token_at ts (at + 1) (Symbol signs.CloseCurly) shut (λ g. cc) in
+          let shut : lexeme_at ts (at + 1) ≡ Symbol punctuators.CloseCurly = closes_curly (lexeme_at ts (at + 1)) h in
+          let there = token_at ts (at + 1) (Symbol punctuators.CloseCurly) shut (λ g. cc) in
           rw (drop-drop 1 (at + 1) ts) (
-          on (omega arith) (taken ts (at + 1) (Symbol signs.CloseCurly) shut (λ g. cc)) (λ s. (close_moves ts (at + 1) n after_brace [] (Symbol signs.CloseCurly) there refl refl refl refl (λ rest t. refl)).run s) (
-          done (omega arith, (drop (at + 1) ts, sign_at ts at signs.OpenCurly here, (drop (at + 1) ts, refl, (place_at ts (at + 1), sign_at ts (at + 1) signs.CloseCurly shut))), tt)))
+          on (omega arith) (taken ts (at + 1) (Symbol punctuators.CloseCurly) shut (λ g. cc)) (λ s. (close_moves ts (at + 1) n after_brace [] (Symbol punctuators.CloseCurly) there refl refl refl refl (λ rest t. refl)).run s) (
+          done (omega arith, (drop (at + 1) ts, sign_at ts at punctuators.OpenCurly here, (drop (at + 1) ts, refl, (place_at ts (at + 1), sign_at ts (at + 1) punctuators.CloseCurly shut))), tt)))
       go inner false h =
           alike (λ s. (same_behind ts (at + 1) (n + 1) after_brace expression (after_item ∷ []) (λ rest t. refl) (λ rest t. refl) (some_item (lexeme_at ts (at + 1)) h)).run s) (
           and_then _ (λ s. push (after_item ∷ []) s) (reads inner (at + 1)) (λ first b forward read.
-          set_reads inner at b (place_at ts at) first (record { forward = omega arith; opened = sign_at ts at signs.OpenCurly here; spelled = read.1; narrow = read.2 })))
+          set_reads inner at b (place_at ts at) first (record { forward = omega arith; opened = sign_at ts at punctuators.OpenCurly here; spelled = read.1; narrow = read.2 })))
 
   -- a name, or a tag, as an expression
   name_alone : (at : ℕ) → lexeme_at ts at ≡ Name → GivesExpr ts n at (descent.name (drop at ts) >>= λ x. Ok (var x.0.place x.0.name, x.1))
@@ -489,18 +489,18 @@ module _ (ts : Tokens) (n room : ℕ) (all : n + room ≡ 64) (e : Read ExprD) (
       on (omega arith) (taken ts at Tag here (λ g. cc)) (λ s. (leaf_moves ts at n expression Tag here (λ g. cc) refl refl refl refl (λ rest t. refl)).run s) (done (omega arith, tag_here ts at here, tt))))
 
   -- every form of expression
-  pub expression_reads : ReadsExpr ts n (descent.expression room e c)
+  pub expression_reads : ReadsExpr ts n (descent.expression depth_left e c)
   unfolding descent.expression lexeme_at place_at
   expression_reads at = go (expr_form (lexeme_at ts at)) refl
     where
-      go : (f : ExprForm) → f ≡ expr_form (lexeme_at ts at) → GivesExpr ts n at (descent.expression_by f room e c (drop at ts))
+      go : (f : ExprForm) → f ≡ expr_form (lexeme_at ts at) → GivesExpr ts n at (descent.expression_by f depth_left e c (drop at ts))
       go exprs.Atoms h =
           let here : lexeme_at ts at ≡ Word words.Atoms = expr_is (lexeme_at ts at) exprs.Atoms h in
           rw (drop-drop 1 at ts) (behind_word words.Atoms expression [] here refl (λ rest t. refl) (done (omega arith, word_at ts at words.Atoms here, tt)))
       go exprs.Var h = name_alone at (expr_is (lexeme_at ts at) exprs.Var h)
       go exprs.Tag h = tag_alone at (expr_is (lexeme_at ts at) exprs.Tag h)
-      go exprs.Tuple h = tuple_reads ts n room all e reads at (expr_is (lexeme_at ts at) exprs.Tuple h)
+      go exprs.Tuple h = tuple_reads ts n depth_left all e reads at (expr_is (lexeme_at ts at) exprs.Tuple h)
       go exprs.Braces h = braces_reads at (expr_is (lexeme_at ts at) exprs.Braces h)
-      go exprs.Part h = part_reads ts n room all e reads at (expr_is (lexeme_at ts at) exprs.Part h)
-      go (exprs.Apply op) h = apply_reads ts n room all e reads at op (expr_is (lexeme_at ts at) (exprs.Apply op) h)
+      go exprs.Part h = part_reads ts n depth_left all e reads at (expr_is (lexeme_at ts at) exprs.Part h)
+      go (exprs.Apply op) h = apply_reads ts n depth_left all e reads at op (expr_is (lexeme_at ts at) (exprs.Apply op) h)
       go exprs.NoExpr h = stops (λ s. (missed ts at n expression (expr_is (lexeme_at ts at) exprs.NoExpr h)).run s)

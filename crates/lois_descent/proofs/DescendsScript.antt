@@ -5,25 +5,25 @@ use Rattle.lois_script.specs.Grammar.{PlacedToken, TakesName, SpellsScript, Spel
 use Rattle.lois_script.specs.Limits.{StmtsAreWithin}
 use Rattle.lois_script.specs.Tree.{ParamD, ScriptD}
 use Rattle.lois_script.specs.View.{stmts_of}
-use Rattle.lois_descent.specs.declared.halt.Halt.{Halt}
-use Rattle.lois_descent.specs.declared.halt.Halt.TheVariants as halts
+use Rattle.lois_descent.specs.declared.parse_error.ParseError.{ParseError}
+use Rattle.lois_descent.specs.declared.parse_error.ParseError.TheVariants as parse_errors
 use Rattle.lois_descent.specs.declared.lexemes.Keyword.TheVariants as words
-use Rattle.lois_descent.specs.declared.lexemes.Lead.{Lead}
-use Rattle.lois_descent.specs.declared.lexemes.Lead.TheVariants as leads
+use Rattle.lois_descent.specs.declared.lexemes.OptionalStart.{OptionalStart}
+use Rattle.lois_descent.specs.declared.lexemes.OptionalStart.TheVariants as leads
 use Rattle.lois_descent.specs.declared.lexemes.Lexeme.{Lexeme}
 use Rattle.lois_descent.specs.declared.lexemes.Lexeme.TheVariants.{Word, Symbol}
-use Rattle.lois_descent.specs.declared.lexemes.Sign.TheVariants as signs
+use Rattle.lois_descent.specs.declared.lexemes.Punctuator.TheVariants as punctuators
 use Rattle.lois_descent.specs.declared.lexemes.StmtForm.TheVariants as stmts
 use Rattle.lois_descent.specs.declared.lexemes.Terminal.TheVariants as terminals
 use Rattle.lois_descent.specs.Refusals.{Refusal}
 use Rattle.lois_descent.specs.Refusals.{NoScript, TooNested, WideTuple, TurnsTooMany, NoMemory}
 use Rattle.lois_descent.specs.Descent as descent
 use Rattle.lois_descent.specs.Descent.{Tokens, Read, ◌>>=◌}
-use Rattle.lois_descent.specs.Lexemes.{accepts, lead, stmt_form}
-use Rattle.lois_descent.specs.Laws.{Judged}
+use Rattle.lois_descent.specs.Lexemes.{accepts, optional_start, stmt_form}
+use Rattle.lois_descent.specs.Laws.{IsCorrectResult}
 use Rattle.lois_descent.specs.Machine.{terminal, more_names, more_names_start, chosen, State, push, body, outermost, at_bottom, refused, no_script, verdict, start}
 use Rattle.lois_descent.specs.Refusals.{nesting, parts, turns, Refused}
-use Rattle.lois_descent.specs.Steps.{Meets, lexeme_at, place_at, One}
+use Rattle.lois_descent.specs.Steps.{RefusalMatches, lexeme_at, place_at, One}
 use Rattle.lois_descent.specs.Reading.{refusal_of}
 use Rattle.lois_descent.proofs.Descends.{Outcome, Comes, done, on, alike, and_then, led, told, taken, passing, name_reads, structure_reads, comma_moves, listed_reads}
 use Rattle.lois_descent.proofs.DescendsStatements.{hosted, many_statements, block_of_reads, ManyRead}
@@ -39,8 +39,8 @@ abbrev NamesRead : Tokens → List ParamD → ℕ → ℕ → Type 0
 NamesRead ts xs at end = SpellsMoreNames xs (drop at ts) (drop end ts) × (accepts terminals.Comma (lexeme_at ts end) ≡ false)
 
 names_ended : (l : Lexeme) → accepts terminals.Comma l ≡ false → more_names_start l ≡ chosen (accepts terminals.Semicolon l)
-names_ended (Symbol signs.Comma) e = absurd (cc)
-names_ended (Symbol signs.Semicolon) e = refl
+names_ended (Symbol punctuators.Comma) e = absurd (cc)
+names_ended (Symbol punctuators.Semicolon) e = refl
 names_ended _ e = refl
 
 -- a name that was read, and those behind it
@@ -56,7 +56,7 @@ names_read ts at n x =
     (λ rest end forward all. (rest, refl, all))
 
 -- the `;` behind names
-names_end : {B X : Type 0} {ts : Tokens} {at n k : ℕ} {u : X → State} {v : B → X → State} {Q : B → ℕ → Type 0} (f : Tokens → Result (B × Tokens) Halt) → accepts terminals.Comma (lexeme_at ts at) ≡ false →
+names_end : {B X : Type 0} {ts : Tokens} {at n k : ℕ} {u : X → State} {v : B → X → State} {Q : B → ℕ → Type 0} (f : Tokens → Result (B × Tokens) ParseError) → accepts terminals.Comma (lexeme_at ts at) ≡ false →
     (One terminals.Semicolon (drop at ts) (drop (at + 1) ts) → Comes ts (at + 1) n u k v Q (f (drop (at + 1) ts))) →
     Comes ts at n (λ i. push (more_names ∷ []) (u i)) k v Q (descent.pass terminals.Semicolon (drop at ts) >>= f)
 names_end {ts = ts} {at = at} {n = n} {u = u} f e next =
@@ -66,14 +66,14 @@ names_end {ts = ts} {at = at} {n = n} {u = u} f e next =
 parameters_read : (ts : Tokens) (at n : ℕ) →
     Comes ts at n (λ (i : Unit {0}). at_bottom body []) n (λ xs i. hosted outside) (λ xs end. SpellsParameters xs (drop at ts) (drop end ts)) (descent.parameters (drop at ts))
 unfolding descent.parameters lexeme_at
-parameters_read ts at n = go (lead (lexeme_at ts at)) refl
+parameters_read ts at n = go (optional_start (lexeme_at ts at)) refl
   where
-    none : (l : Lead) → lead (lexeme_at ts at) ≡ l → (l ≡ leads.Parameter → ⊥) →
+    none : (l : OptionalStart) → optional_start (lexeme_at ts at) ≡ l → (l ≡ leads.Parameter → ⊥) →
         Comes ts at n (λ (i : Unit {0}). at_bottom body []) n (λ xs i. hosted outside) (λ xs end. SpellsParameters xs (drop at ts) (drop end ts)) (Ok ([], drop at ts))
     none l e other =
         alike (λ i. state_same ts at n (at_bottom body []) (hosted outside) (λ t. refl) (λ t. refl) refl (no_parameter (lexeme_at ts at) (λ g. other (sym e ∙ g)))) (done refl)
 
-    go : (l : Lead) → lead (lexeme_at ts at) ≡ l →
+    go : (l : OptionalStart) → optional_start (lexeme_at ts at) ≡ l →
         Comes ts at n (λ (i : Unit {0}). at_bottom body []) n (λ xs i. hosted outside) (λ xs end. SpellsParameters xs (drop at ts) (drop end ts)) (descent.parameters_by l (drop at ts))
     go leads.Parameter e =
         let here : lexeme_at ts at ≡ Word words.Parameter = lead_is (lexeme_at ts at) leads.Parameter (sym e) in
@@ -88,7 +88,7 @@ parameters_read ts at n = go (lead (lexeme_at ts at)) refl
     go leads.Else e = none leads.Else e (λ g. cc)
     go leads.For e = none leads.For e (λ g. cc)
     go leads.Where e = none leads.Where e (λ g. cc)
-    go leads.NoLead e = none leads.NoLead e (λ g. cc)
+    go leads.NoOptionalStart e = none leads.NoOptionalStart e (λ g. cc)
 
 -- ---- the whole script
 
@@ -119,11 +119,11 @@ whole s = do
   all ← descent.body names.1
   Ok (record { ordered = order.0; parameters = names.0; body = stmts_of all.0 }, all.1)
 
-abbrev forget : {A : Type 0} → Result (A × Tokens) Halt → Result A Halt
+abbrev forget : {A : Type 0} → Result (A × Tokens) ParseError → Result A ParseError
 forget (Ok x) = Ok x.0
 forget (Err e) = Err e
 
-forget_behind : {A B : Type 0} (r : Result A Halt) (f : A → Result B Halt) (g : A → Result (B × Tokens) Halt) → ((x : A) → f x ≡ forget (g x)) → r >>= f ≡ forget (r >>= g)
+forget_behind : {A B : Type 0} (r : Result A ParseError) (f : A → Result B ParseError) (g : A → Result (B × Tokens) ParseError) → ((x : A) → f x ≡ forget (g x)) → r >>= f ≡ forget (r >>= g)
 forget_behind (Ok x) f g same = same x
 forget_behind (Err e) f g same = refl
 
@@ -153,24 +153,24 @@ whole_reads ts =
 -- ---- what it means
 
 -- what the machine says of all the tokens refuses them
-pub refused_so : (ts : List PlacedToken) (e : Refusal) → (e ≡ NoMemory → ⊥) → Meets ts e (verdict 0 0 start ts) → Refused ts e
+pub refused_so : (ts : List PlacedToken) (e : Refusal) → (e ≡ NoMemory → ⊥) → RefusalMatches ts e (verdict 0 0 start ts) → Refused ts e
 refused_so ts (NoScript k) some v = no_script_refused ts k v
 refused_so ts (TooNested k) some v = limit_broken nesting ts k v (nesting_over ts k v)
 refused_so ts (WideTuple k) some v = limit_broken parts ts k v.0 v.1
 refused_so ts (TurnsTooMany k) some v = limit_broken turns ts k v.0 v.1
 refused_so ts NoMemory some v = absurd (some refl)
 
-judged : (ts : Tokens) (r : Result (ScriptD × Tokens) Halt) → Outcome ts 0 0 (λ (i : Unit {0}). start) 0 (λ s i. hosted outside) (ScriptRead ts) r → Judged ts (forget r)
+judged : (ts : Tokens) (r : Result (ScriptD × Tokens) ParseError) → Outcome ts 0 0 (λ (i : Unit {0}). start) 0 (λ s i. hosted outside) (ScriptRead ts) r → IsCorrectResult ts (forget r)
 unfolding verdict
 judged ts (Ok x) o = (o.read.0, accepted_nested ts (o.moved tt ∙ ap (verdict o.end 0 (hosted outside)) o.read.2), o.read.1)
 judged ts (Err e) o = (o.enough, refused_so ts (refusal_of (length ts) e) (known e o.enough) (o.stuck tt))
   where
-    known : (e : Halt) → (e ≡ halts.NoMemory → ⊥) → refusal_of (length ts) e ≡ NoMemory → ⊥
-    known (halts.NoScript left) some g = cc
-    known (halts.TooNested left) some g = cc
-    known (halts.WideTuple left) some g = cc
-    known (halts.TurnsTooMany left) some g = cc
-    known halts.NoMemory some g = some refl
+    known : (e : ParseError) → (e ≡ parse_errors.NoMemory → ⊥) → refusal_of (length ts) e ≡ NoMemory → ⊥
+    known (parse_errors.NoScript left) some g = cc
+    known (parse_errors.TooNested left) some g = cc
+    known (parse_errors.WideTuple left) some g = cc
+    known (parse_errors.TurnsTooMany left) some g = cc
+    known parse_errors.NoMemory some g = some refl
 
-pub script_reads : (ts : Tokens) → Judged ts (descent.script ts)
-script_reads ts = subst (Judged ts) (sym (script_is ts)) (judged ts (whole ts) ((whole_reads ts).run (omega arith)))
+pub script_reads : (ts : Tokens) → IsCorrectResult ts (descent.script ts)
+script_reads ts = subst (IsCorrectResult ts) (sym (script_is ts)) (judged ts (whole ts) ((whole_reads ts).run (omega arith)))

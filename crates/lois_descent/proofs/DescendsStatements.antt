@@ -9,21 +9,21 @@ use Rattle.lois_script.specs.Tree.{StmtD}
 use Rattle.lois_script.specs.View.{stmts_of}
 use Rattle.lois_script.specs.Grammar.{decimal}
 use Rattle.lois_descent.specs.Refusals as limits
-use Rattle.lois_descent.specs.declared.halt.Halt.TheVariants as halts
-use Rattle.lois_descent.specs.declared.halt.Halt.{Halt}
+use Rattle.lois_descent.specs.declared.parse_error.ParseError.TheVariants as parse_errors
+use Rattle.lois_descent.specs.declared.parse_error.ParseError.{ParseError}
 use Rattle.lois_descent.specs.declared.lexemes.Lexeme.{Lexeme}
 use Rattle.lois_descent.specs.declared.lexemes.Lexeme.TheVariants.{Name, Number, Word, Symbol}
 use Rattle.lois_descent.specs.declared.lexemes.Keyword.{Keyword}
 use Rattle.lois_descent.specs.declared.lexemes.Keyword.TheVariants as words
-use Rattle.lois_descent.specs.declared.lexemes.Sign.TheVariants as signs
+use Rattle.lois_descent.specs.declared.lexemes.Punctuator.TheVariants as punctuators
 use Rattle.lois_descent.specs.declared.lexemes.Terminal.TheVariants as terminals
-use Rattle.lois_descent.specs.declared.lexemes.Joint.TheVariants.{NoJoint}
-use Rattle.lois_descent.specs.declared.lexemes.Lead.{Lead}
-use Rattle.lois_descent.specs.declared.lexemes.Lead.TheVariants as leads
+use Rattle.lois_descent.specs.declared.lexemes.Connective.TheVariants.{NoConnective}
+use Rattle.lois_descent.specs.declared.lexemes.OptionalStart.{OptionalStart}
+use Rattle.lois_descent.specs.declared.lexemes.OptionalStart.TheVariants as leads
 use Rattle.lois_descent.specs.declared.lexemes.StmtForm.{StmtForm}
 use Rattle.lois_descent.specs.declared.lexemes.StmtForm.TheVariants as stmts
 use Rattle.lois_descent.proofs.AcceptedTokens.{one_at, pass_stuck, number_accepted}
-use Rattle.lois_descent.specs.Lexemes.{accepts, stmt_form, joint, lead}
+use Rattle.lois_descent.specs.Lexemes.{accepts, stmt_form, connective, optional_start}
 use Rattle.lois_descent.specs.Machine.{statements_start, at_bottom, turns_start, turns_number, ending, chosen, item_breach, over_if, Item, token, turns_block, terminal, expression, condition, more_condition, where_clause, statements, State, push, verdict, refused, over, no_script, statement_start}
 use Rattle.lois_descent.specs.Steps.{first_place, first_bytes, lexeme_at, place_at, bytes_at, One}
 use Rattle.lois_descent.specs.Descent as descent
@@ -60,7 +60,7 @@ abbrev pub hosted : Host → State
 hosted h = h.state
 
 -- the word that begins a statement
-begun : {B : Type 0} {ts : Tokens} {at n k : ℕ} {v : B → Host → State} {Q : B → ℕ → Type 0} {r : Result (B × Tokens) Halt} (x : Keyword) (w : List Item) → lexeme_at ts at ≡ Word x → statement_start (Word x) ≡ Some w →
+begun : {B : Type 0} {ts : Tokens} {at n k : ℕ} {v : B → Host → State} {Q : B → ℕ → Type 0} {r : Result (B × Tokens) ParseError} (x : Keyword) (w : List Item) → lexeme_at ts at ≡ Word x → statement_start (Word x) ≡ Some w →
     Comes ts (at + 1) n (λ h. push w (hosted h)) k v Q r → Comes ts at n hosted k v Q r
 begun {ts = ts} {at = at} {n = n} x w here starts next =
     let k = token_at ts at (Word x) here (λ e. cc) in
@@ -72,8 +72,8 @@ name_found ts at here =
     ap (λ l. if accepts terminals.Name l then Ok (record { place = first_place (drop at ts); name = first_bytes (drop at ts) }, drop 1 (drop at ts)) else descent.stop (drop at ts)) here ∙
     ap (λ l. Ok (record { place = first_place (drop at ts); name = first_bytes (drop at ts) }, l)) (drop-drop 1 at ts)
 
-curly_accepted : (l : Lexeme) → accepts terminals.OpenCurly l ≡ true → l ≡ Symbol signs.OpenCurly
-curly_accepted (Symbol signs.OpenCurly) e = refl
+curly_accepted : (l : Lexeme) → accepts terminals.OpenCurly l ≡ true → l ≡ Symbol punctuators.OpenCurly
+curly_accepted (Symbol punctuators.OpenCurly) e = refl
 curly_accepted _ e = absurd (cc)
 
 -- `turns` and a number that isn't too large
@@ -90,7 +90,7 @@ no_turns _ h = refl
 
 -- the machine stops at too large a number, and so does the reader
 stops_turning : {A X : Type 0} {ts : Tokens} {at n m : ℕ} {w : X → State} {v : A → X → State} {P : A → ℕ → Type 0} → ((i : X) → verdict at n (w i) (drop at ts) ≡ refused (over limits.turns) at) → limits.GoesOver limits.turns ts at →
-    Comes ts at n w m v P (Err (halts.TurnsTooMany (length (drop at ts))))
+    Comes ts at n w m v P (Err (parse_errors.TurnsTooMany (length (drop at ts))))
 stops_turning {ts = ts} {at = at} h large =
     record { run = λ inside. record { enough = λ e. cc; stuck = λ i. (h i ∙ ap (refused (over limits.turns)) (before ts at inside), subst (limits.GoesOver limits.turns ts) (before ts at inside) large) } }
 
@@ -98,8 +98,8 @@ stops_turning {ts = ts} {at = at} h large =
 abbrev TurnsNumber : Tokens → ℕ → ℕ → ℕ → Type 0
 TurnsNumber ts at k end = (k ≤ 1000000) × TakesNumber k (drop at ts) (drop end ts)
 
-abbrev number_or_stop : Bool → Tokens → ℕ → Result (ℕ × Tokens) Halt
-number_or_stop t s k = if t then Err (halts.TurnsTooMany (length s)) else Ok (k, drop 1 s)
+abbrev number_or_stop : Bool → Tokens → ℕ → Result (ℕ × Tokens) ParseError
+number_or_stop t s k = if t then Err (parse_errors.TurnsTooMany (length s)) else Ok (k, drop 1 s)
 
 module _ (ts : Tokens) (at n : ℕ) (here : lexeme_at ts at ≡ Number) where
   turns_breach : (t : Bool) → nat_lt 1000000 (decimal (bytes_at ts at)) ≡ t → (k : TokenAt ts at Number) (rest : List Item) → item_breach (turns_number ∷ rest) k.it ≡ over_if t limits.turns
@@ -122,24 +122,24 @@ module _ (ts : Tokens) (at n : ℕ) (here : lexeme_at ts at ≡ Number) where
       (j, decimal (bytes_at ts at), place, ltb-true 1000000 (decimal (bytes_at ts at)) size, (drop at ts, word, subst (λ x. TakesNumber (decimal (bytes_at ts at)) (drop at ts) (drop x ts)) next (number_here ts at here)))
 
 turns_number_read : (ts : Tokens) (at n j : ℕ) → at ≡ suc j → TakesWord (codes "turns") (drop j ts) (drop at ts) →
-    Comes ts at n (λ s. push (turns_number ∷ []) s) n (λ k s. s) (TurnsNumber ts at) (descent.number (drop at ts) >>= (λ k. if nat_lt 1000000 k.0 then Err (halts.TurnsTooMany (length (drop at ts))) else Ok k))
+    Comes ts at n (λ s. push (turns_number ∷ []) s) n (λ k s. s) (TurnsNumber ts at) (descent.number (drop at ts) >>= (λ k. if nat_lt 1000000 k.0 then Err (parse_errors.TurnsTooMany (length (drop at ts))) else Ok k))
 unfolding descent.number lexeme_at bytes_at
 turns_number_read ts at n j place word = go (accepts terminals.Number (lexeme_at ts at)) refl
   where
     go : (t : Bool) → accepts terminals.Number (lexeme_at ts at) ≡ t →
         Comes ts at n (λ s. push (turns_number ∷ []) s) n (λ k s. s) (TurnsNumber ts at)
-        ((if t then Ok (decimal (first_bytes (drop at ts)), drop 1 (drop at ts)) else descent.stop (drop at ts)) >>= (λ k. if nat_lt 1000000 k.0 then Err (halts.TurnsTooMany (length (drop at ts))) else Ok k))
+        ((if t then Ok (decimal (first_bytes (drop at ts)), drop 1 (drop at ts)) else descent.stop (drop at ts)) >>= (λ k. if nat_lt 1000000 k.0 then Err (parse_errors.TurnsTooMany (length (drop at ts))) else Ok k))
     go false e = stops (λ s. (missed ts at n turns_number (turns_as_number (lexeme_at ts at) ∙ ap chosen e)).run s)
     go true e = turns_counted ts at n (number_accepted (lexeme_at ts at) e) j place word (nat_lt 1000000 (decimal (bytes_at ts at))) refl
 
-turns_read : (ts : Tokens) (at n : ℕ) → joint (lexeme_at ts at) ≡ NoJoint →
+turns_read : (ts : Tokens) (at n : ℕ) → connective (lexeme_at ts at) ≡ NoConnective →
     Comes ts at n (λ s. push (more_condition turns_block ∷ []) s) n (λ k s. push (terminal terminals.OpenCurly ∷ statements ∷ []) s) (TurnsRead ts at) (turns (drop at ts))
 unfolding turns lexeme_at descent.limited
 turns_read ts at n none = go (lexeme_at ts at) refl
   where
     missing : (l : Lexeme) → lexeme_at ts at ≡ l → (l ≡ Word words.Turns → ⊥) →
         Comes ts at n (λ s. push (more_condition turns_block ∷ []) s) n (λ k s. push (terminal terminals.OpenCurly ∷ statements ∷ []) s) (TurnsRead ts at) (descent.stop (drop at ts))
-    missing l e other = stops (λ s. (missed ts at n (more_condition turns_block) (joint_is (lexeme_at ts at) NoJoint (sym none) turns_block ∙ no_turns (lexeme_at ts at) (λ g. other (sym e ∙ g)))).run s)
+    missing l e other = stops (λ s. (missed ts at n (more_condition turns_block) (joint_is (lexeme_at ts at) NoConnective (sym none) turns_block ∙ no_turns (lexeme_at ts at) (λ g. other (sym e ∙ g)))).run s)
 
     go : (l : Lexeme) → lexeme_at ts at ≡ l →
         Comes ts at n (λ s. push (more_condition turns_block ∷ []) s) n (λ k s. push (terminal terminals.OpenCurly ∷ statements ∷ []) s) (TurnsRead ts at) (descent.turns_by l (drop at ts))
@@ -152,8 +152,8 @@ turns_read ts at n none = go (lexeme_at ts at) refl
         (led (λ s. push (terminal terminals.OpenCurly ∷ statements ∷ []) s) (λ k end read s. refl) (turns_number_read ts (at + 1) n at next (place_at ts at, word_at ts at words.Turns e)))))
     go _ e = missing _ e (λ g. cc)
 
-module _ (ts : Tokens) (room n : ℕ) (all : n + room ≡ 64) (exprs : ReadsExpr ts n (expr_of room)) (conds : ReadsCond ts n (cond_of room)) where
-  let_reads : (at : ℕ) → lexeme_at ts at ≡ Word words.Let → Comes ts at n hosted n (λ a. hosted) (StmtRead ts at) (let_statement room (drop at ts))
+module _ (ts : Tokens) (depth_left n : ℕ) (all : n + depth_left ≡ 64) (exprs : ReadsExpr ts n (expr_of depth_left)) (conds : ReadsCond ts n (cond_of depth_left)) where
+  let_reads : (at : ℕ) → lexeme_at ts at ≡ Word words.Let → Comes ts at n hosted n (λ a. hosted) (StmtRead ts at) (let_statement depth_left (drop at ts))
   unfolding let_statement
   let_reads at here =
       rw (drop-drop 1 at ts) (begun words.Let (terminal terminals.Name ∷ terminal terminals.Equal ∷ expression ∷ terminal terminals.Semicolon ∷ []) here refl
@@ -163,7 +163,7 @@ module _ (ts : Tokens) (room n : ℕ) (all : n + room ≡ 64) (exprs : ReadsExpr
       passing terminals.Semicolon _ refl (λ end.
       done (omega arith, (drop (at + 1) ts, (place_at ts at, word_at ts at words.Let here), (drop b ts, named.1, (drop (b + 1) ts, equal, (drop c ts, read.1, end)))), read.2)))))))
 
-  assignment_reads : (at : ℕ) → lexeme_at ts at ≡ Name → Comes ts at n hosted n (λ a. hosted) (StmtRead ts at) (assignment room (drop at ts))
+  assignment_reads : (at : ℕ) → lexeme_at ts at ≡ Name → Comes ts at n hosted n (λ a. hosted) (StmtRead ts at) (assignment depth_left (drop at ts))
   unfolding assignment
   assignment_reads at here =
       let k = token_at ts at Name here (λ e. cc) in
@@ -175,7 +175,7 @@ module _ (ts : Tokens) (room n : ℕ) (all : n + room ≡ 64) (exprs : ReadsExpr
       passing terminals.Semicolon _ refl (λ end.
       done (omega arith, (drop (at + 1) ts, name_here ts at here, (drop (at + 1 + 1) ts, becomes, (drop c ts, read.1, end))), read.2))))))
 
-  addition_reads : (at : ℕ) → lexeme_at ts at ≡ Word words.Add → Comes ts at n hosted n (λ a. hosted) (StmtRead ts at) (addition room (drop at ts))
+  addition_reads : (at : ℕ) → lexeme_at ts at ≡ Word words.Add → Comes ts at n hosted n (λ a. hosted) (StmtRead ts at) (addition depth_left (drop at ts))
   unfolding addition
   addition_reads at here =
       rw (drop-drop 1 at ts) (begun words.Add (expression ∷ terminal terminals.To ∷ terminal terminals.Name ∷ terminal terminals.Semicolon ∷ []) here refl
@@ -185,11 +185,11 @@ module _ (ts : Tokens) (room n : ℕ) (all : n + room ≡ 64) (exprs : ReadsExpr
       passing terminals.Semicolon _ refl (λ end.
       done (omega arith, (drop (at + 1) ts, (place_at ts at, word_at ts at words.Add here), (drop b ts, read.1, (drop (b + 1) ts, to, (drop c ts, named.1, end)))), read.2)))))))
 
-  assertion_reads : (at : ℕ) → lexeme_at ts at ≡ Word words.Assert → Comes ts at n hosted n (λ a. hosted) (StmtRead ts at) (assertion room (drop at ts))
+  assertion_reads : (at : ℕ) → lexeme_at ts at ≡ Word words.Assert → Comes ts at n hosted n (λ a. hosted) (StmtRead ts at) (assertion depth_left (drop at ts))
   unfolding assertion place_at
   assertion_reads at here =
       rw (drop-drop 1 at ts) (begun words.Assert (condition (token terminals.Semicolon) ∷ []) here refl
-      (and_then _ (λ h. (terminals.Semicolon, hosted h)) (test_reads ts n (cond_of room) conds (at + 1)) (λ test b from read.
+      (and_then _ (λ h. (terminals.Semicolon, hosted h)) (test_reads ts n (cond_of depth_left) conds (at + 1)) (λ test b from read.
       passing terminals.Semicolon _ refl (λ end.
       done (omega arith, (drop (at + 1) ts, word_at ts at words.Assert here, (drop b ts, read.1, end)), read.2)))))
 
@@ -201,38 +201,38 @@ module _ (ts : Tokens) (room n : ℕ) (all : n + room ≡ 64) (exprs : ReadsExpr
       passing terminals.Semicolon _ refl (λ end.
       done (omega arith, (drop (at + 1) ts, word_at ts at words.Print here, (drop b ts, named.1, end)), tt)))))
 
-  module _ (b : Read (List StmtD)) (reads : 0 < room → ReadsStmts ts n b) where
-    block_reads : (at : ℕ) → Comes ts at n (λ s. push (terminal terminals.OpenCurly ∷ statements ∷ []) s) n (λ l s. s) (BlockRead ts at) (block room b (drop at ts))
+  module _ (b : Read (List StmtD)) (reads : 0 < depth_left → ReadsStmts ts n b) where
+    block_reads : (at : ℕ) → Comes ts at n (λ s. push (terminal terminals.OpenCurly ∷ statements ∷ []) s) n (λ l s. s) (BlockRead ts at) (block depth_left b (drop at ts))
     unfolding block lexeme_at
     block_reads at = go (accepts terminals.OpenCurly (lexeme_at ts at)) refl
       where
         go : (t : Bool) → accepts terminals.OpenCurly (lexeme_at ts at) ≡ t →
-            Comes ts at n (λ s. push (terminal terminals.OpenCurly ∷ statements ∷ []) s) n (λ l s. s) (BlockRead ts at) (if t then enter room (drop at ts) >>= b else descent.stop (drop at ts))
+            Comes ts at n (λ s. push (terminal terminals.OpenCurly ∷ statements ∷ []) s) n (λ l s. s) (BlockRead ts at) (if t then enter depth_left (drop at ts) >>= b else descent.stop (drop at ts))
         go false e = stops (λ s. (pass_stuck ts at terminals.OpenCurly e n).run (push (statements ∷ []) s))
         go true e =
-            entering room signs.OpenCurly (terminal terminals.OpenCurly) [] b (curly_accepted (lexeme_at ts at) e) refl refl (λ rest t. refl) all (λ inner.
+            entering depth_left punctuators.OpenCurly (terminal terminals.OpenCurly) [] b (curly_accepted (lexeme_at ts at) e) refl refl (λ rest t. refl) all (λ inner.
             told (λ l c later read. (omega arith, (drop (at + 1) ts, one_at ts at terminals.OpenCurly e, read.1), read.2)) (reads inner (at + 1)))
 
-    for_reads : (at : ℕ) → lexeme_at ts at ≡ Word words.For → Comes ts at n hosted n (λ a. hosted) (StmtRead ts at) (for_statement room b (drop at ts))
+    for_reads : (at : ℕ) → lexeme_at ts at ≡ Word words.For → Comes ts at n hosted n (λ a. hosted) (StmtRead ts at) (for_statement depth_left b (drop at ts))
     unfolding for_statement
     for_reads at here =
         rw (drop-drop 1 at ts) (begun words.For (terminal terminals.Name ∷ terminal terminals.In ∷ expression ∷ where_clause terminals.OpenCurly ∷ statements ∷ []) here refl
-        (and_then _ (λ h. push (where_clause terminals.OpenCurly ∷ statements ∷ []) (hosted h)) (binding_reads ts n (expr_of room) exprs (at + 1)) (λ variable c from bound.
-        and_then _ (λ h. (terminals.OpenCurly, push (statements ∷ []) (hosted h))) (guard_reads ts n (cond_of room) conds c) (λ filter d later guarded.
+        (and_then _ (λ h. push (where_clause terminals.OpenCurly ∷ statements ∷ []) (hosted h)) (binding_reads ts n (expr_of depth_left) exprs (at + 1)) (λ variable c from bound.
+        and_then _ (λ h. (terminals.OpenCurly, push (statements ∷ []) (hosted h))) (guard_reads ts n (cond_of depth_left) conds c) (λ filter d later guarded.
         and_then _ hosted (block_reads d) (λ l end last inner.
         done (omega arith, (drop (at + 1) ts, (place_at ts at, word_at ts at words.For here), (drop c ts, bound.1, (drop d ts, guarded.0, inner.1))), (bound.2, guarded.1, inner.2)))))))
 
-    else_reads : (at : ℕ) → Comes ts at n (λ h. h.choice) n (λ l. hosted) (ElseRead ts at) (else_block room b (drop at ts))
+    else_reads : (at : ℕ) → Comes ts at n (λ h. h.choice) n (λ l. hosted) (ElseRead ts at) (else_block depth_left b (drop at ts))
     unfolding else_block lexeme_at
-    else_reads at = go (lead (lexeme_at ts at)) refl
+    else_reads at = go (optional_start (lexeme_at ts at)) refl
       where
-        none : (l : Lead) → lead (lexeme_at ts at) ≡ l → (l ≡ leads.Else → ⊥) →
+        none : (l : OptionalStart) → optional_start (lexeme_at ts at) ≡ l → (l ≡ leads.Else → ⊥) →
             Comes ts at n (λ h. h.choice) n (λ l. hosted) (ElseRead ts at) (Ok ([], drop at ts))
         none l e other =
             alike (λ h. state_same ts at n h.choice h.state h.calm_choice h.calm h.ends (h.passes (lexeme_at ts at) (λ g. other (sym e ∙ g)))) (done (inl (refl, refl), tt))
 
-        go : (l : Lead) → lead (lexeme_at ts at) ≡ l →
-            Comes ts at n (λ h. h.choice) n (λ l. hosted) (ElseRead ts at) (descent.else_by l room b (drop at ts))
+        go : (l : OptionalStart) → optional_start (lexeme_at ts at) ≡ l →
+            Comes ts at n (λ h. h.choice) n (λ l. hosted) (ElseRead ts at) (descent.else_by l depth_left b (drop at ts))
         go leads.Else e =
             let here : lexeme_at ts at ≡ Word words.Else = lead_is (lexeme_at ts at) leads.Else (sym e) in
             let k = token_at ts at (Word words.Else) here (λ g. cc) in
@@ -243,20 +243,20 @@ module _ (ts : Tokens) (room n : ℕ) (all : n + room ≡ 64) (exprs : ReadsExpr
         go leads.Parameter e = none leads.Parameter e (λ g. cc)
         go leads.For e = none leads.For e (λ g. cc)
         go leads.Where e = none leads.Where e (λ g. cc)
-        go leads.NoLead e = none leads.NoLead e (λ g. cc)
+        go leads.NoOptionalStart e = none leads.NoOptionalStart e (λ g. cc)
 
-    if_reads : (at : ℕ) → lexeme_at ts at ≡ Word words.If → Comes ts at n hosted n (λ a. hosted) (StmtRead ts at) (if_statement room b (drop at ts))
+    if_reads : (at : ℕ) → lexeme_at ts at ≡ Word words.If → Comes ts at n hosted n (λ a. hosted) (StmtRead ts at) (if_statement depth_left b (drop at ts))
     unfolding if_statement
     if_reads at here =
         let k = token_at ts at (Word words.If) here (λ g. cc) in
         rw (drop-drop 1 at ts) (
         on (omega arith) (taken ts at (Word words.If) here (λ g. cc)) (λ h. state_passes ts at n h.state (push (condition (token terminals.OpenCurly) ∷ statements ∷ []) h.choice) (Word words.If) k refl refl refl h.if_starts (h.calm k.it)) (
-        and_then _ (λ h. (terminals.OpenCurly, push (statements ∷ []) (h.choice))) (test_reads ts n (cond_of room) conds (at + 1)) (λ test c from read.
+        and_then _ (λ h. (terminals.OpenCurly, push (statements ∷ []) (h.choice))) (test_reads ts n (cond_of depth_left) conds (at + 1)) (λ test c from read.
         and_then _ (λ h. h.choice) (block_reads c) (λ yes d later first.
         and_then _ (λ h. h) (else_reads d) (λ other end last second.
         done (omega arith, (drop (at + 1) ts, (place_at ts at, word_at ts at words.If here), (drop c ts, read.1, (drop d ts, first.1, second.0))), (read.2, first.2, second.1)))))))
 
-    while_reads : (at : ℕ) → lexeme_at ts at ≡ Word words.While → Comes ts at n hosted n (λ a. hosted) (StmtRead ts at) (while_statement room b (drop at ts))
+    while_reads : (at : ℕ) → lexeme_at ts at ≡ Word words.While → Comes ts at n hosted n (λ a. hosted) (StmtRead ts at) (while_statement depth_left b (drop at ts))
     unfolding while_statement place_at
     while_reads at here =
         rw (drop-drop 1 at ts) (begun words.While (condition turns_block ∷ []) here refl
@@ -266,11 +266,11 @@ module _ (ts : Tokens) (room n : ℕ) (all : n + room ≡ 64) (exprs : ReadsExpr
         done (omega arith, (drop (at + 1) ts, word_at ts at words.While here, (drop c ts, read.1, (turned.1.0, turned.1.1, (drop d ts, turned.1.2, inner.1)))), (turned.0, read.2, inner.2)))))))
 
     statement_reads : {Y : Type 0} (at : ℕ) (host : Y → Host) → ((y : Y) → stmt_form (lexeme_at ts at) ≡ stmts.NoStmt → verdict at n (hosted (host y)) (drop at ts) ≡ refused no_script at) →
-        Comes ts at n (λ y. hosted (host y)) n (λ a y. hosted (host y)) (StmtRead ts at) (statement room b (drop at ts))
+        Comes ts at n (λ y. hosted (host y)) n (λ a y. hosted (host y)) (StmtRead ts at) (statement depth_left b (drop at ts))
     unfolding statement lexeme_at
     statement_reads {Y} at host stray = go (stmt_form (lexeme_at ts at)) refl
       where
-        go : (f : StmtForm) → stmt_form (lexeme_at ts at) ≡ f → Comes ts at n (λ y. hosted (host y)) n (λ a y. hosted (host y)) (StmtRead ts at) (descent.statement_by f room b (drop at ts))
+        go : (f : StmtForm) → stmt_form (lexeme_at ts at) ≡ f → Comes ts at n (λ y. hosted (host y)) n (λ a y. hosted (host y)) (StmtRead ts at) (descent.statement_by f depth_left b (drop at ts))
         go stmts.Let e = led host (λ a end read y. refl) (let_reads at (stmt_is (lexeme_at ts at) stmts.Let (sym e)))
         go stmts.Assign e = led host (λ a end read y. refl) (assignment_reads at (stmt_is (lexeme_at ts at) stmts.Assign (sym e)))
         go stmts.Add e = led host (λ a end read y. refl) (addition_reads at (stmt_is (lexeme_at ts at) stmts.Add (sym e)))
@@ -288,22 +288,22 @@ abbrev pub ManyRead : Tokens → List StmtD → ℕ → ℕ → Type 0
 ManyRead ts l at end = SpellsStmts (stmts_of l) (drop at ts) (drop end ts) × StmtsAreWithin (stmts_of l)
 
 -- as many statements as a test says, where the machine stops at a token that begins none
-pub many_statements : {Y : Type 0} (ts : Tokens) (room n : ℕ) → n + room ≡ 64 → (b : Read (List StmtD)) → (0 < room → ReadsStmts ts n b) → (host : Y → Host) (test : Tokens → Bool) →
+pub many_statements : {Y : Type 0} (ts : Tokens) (depth_left n : ℕ) → n + depth_left ≡ 64 → (b : Read (List StmtD)) → (0 < depth_left → ReadsStmts ts n b) → (host : Y → Host) (test : Tokens → Bool) →
     ((at : ℕ) → test (drop at ts) ≡ true → (y : Y) → stmt_form (lexeme_at ts at) ≡ stmts.NoStmt → verdict at n (hosted (host y)) (drop at ts) ≡ refused no_script at) → (at : ℕ) →
-    Comes ts at n (λ y. hosted (host y)) n (λ l y. hosted (host y)) (λ l end. ManyRead ts l at end × (test (drop end ts) ≡ false)) (descent.many test (statement room b) (suc (length (drop at ts))) (drop at ts))
-many_statements ts room n all b reads host test stray at =
-    many_reads test (statement room b) (λ a at end. StmtRead ts at a end) (λ l at end. ManyRead ts l at end × (test (drop end ts) ≡ false))
+    Comes ts at n (λ y. hosted (host y)) n (λ l y. hosted (host y)) (λ l end. ManyRead ts l at end × (test (drop end ts) ≡ false)) (descent.many test (statement depth_left b) (suc (length (drop at ts))) (drop at ts))
+many_statements ts depth_left n all b reads host test stray at =
+    many_reads test (statement depth_left b) (λ a at end. StmtRead ts at a end) (λ l at end. ManyRead ts l at end × (test (drop end ts) ≡ false))
     (λ at e. ((refl, tt), e))
     (λ a l at c end read more. (((drop c ts, read.1, more.0.0), (read.2, more.0.1)), more.1))
-    (λ at e. told (λ a c later read. (read.0, read)) (statement_reads ts room n all (expr_reads ts room n all) (cond_reads ts room n all) b reads at host (stray at e)))
+    (λ at e. told (λ a c later read. (read.0, read)) (statement_reads ts depth_left n all (expr_reads ts depth_left n all) (cond_reads ts depth_left n all) b reads at host (stray at e)))
     (suc (length (drop at ts))) at (let l = length-drop at ts in omega arith)
 
 closer_ends : (l : Lexeme) → accepts terminals.CloseCurly l ≡ true → statements_start l ≡ chosen (accepts terminals.CloseCurly l)
-closer_ends (Symbol signs.CloseCurly) e = refl
+closer_ends (Symbol punctuators.CloseCurly) e = refl
 closer_ends _ e = absurd (cc)
 
 -- the `}` behind statements
-block_closes : {B X : Type 0} {ts : Tokens} {at n k : ℕ} {u : X → State} {v : B → X → State} {Q : B → ℕ → Type 0} (f : Tokens → Result (B × Tokens) Halt) → accepts terminals.CloseCurly (lexeme_at ts at) ≡ true →
+block_closes : {B X : Type 0} {ts : Tokens} {at n k : ℕ} {u : X → State} {v : B → X → State} {Q : B → ℕ → Type 0} (f : Tokens → Result (B × Tokens) ParseError) → accepts terminals.CloseCurly (lexeme_at ts at) ≡ true →
     (One terminals.CloseCurly (drop at ts) (drop (at + 1) ts) → Comes ts (at + 1) n u k v Q (f (drop (at + 1) ts))) →
     Comes ts at (n + 1) (λ i. push (statements ∷ []) (u i)) k v Q (descent.pass terminals.CloseCurly (drop at ts) >>= f)
 block_closes {ts = ts} {at = at} {n = n} {u = u} f e next =
@@ -311,10 +311,10 @@ block_closes {ts = ts} {at = at} {n = n} {u = u} f e next =
     (closing terminals.CloseCurly f refl next)
 
 -- statements and their `}`, where so many brackets and one more are open
-statements_read : (ts : Tokens) (room n : ℕ) → n + 1 + room ≡ 64 → (b : Read (List StmtD)) → (0 < room → ReadsStmts ts (n + 1) b) → ReadsStmts ts n (descent.statements (statement room b))
+statements_read : (ts : Tokens) (depth_left n : ℕ) → n + 1 + depth_left ≡ 64 → (b : Read (List StmtD)) → (0 < depth_left → ReadsStmts ts (n + 1) b) → ReadsStmts ts n (descent.statements (statement depth_left b))
 unfolding descent.statements lexeme_at
-statements_read ts room n all b reads at =
-    and_then _ (λ s. s) (many_statements ts room (n + 1) all b reads inside descent.goes_on stray at) (λ l c from read.
+statements_read ts depth_left n all b reads at =
+    and_then _ (λ s. s) (many_statements ts depth_left (n + 1) all b reads inside descent.goes_on stray at) (λ l c from read.
     block_closes _ (closes (accepts terminals.CloseCurly (lexeme_at ts c)) read.1) (λ closed.
     done (omega arith, (drop c ts, read.0.0, closed), read.0.1)))
   where
@@ -331,7 +331,7 @@ statements_read ts room n all b reads at =
         state_stuck ts at (n + 1) (hosted (inside s)) (ap (option_map (λ w. at_bottom s.bottom (w ++ s.stack))) (stray_inside (lexeme_at ts at) none (opens_not (accepts terminals.CloseCurly (lexeme_at ts at)) e))) (λ g. refl)
 
 -- the statements of a block, where so many brackets more may be open
-pub block_of_reads : (ts : Tokens) (room n : ℕ) → n + 1 + room ≡ 64 → ReadsStmts ts n (descent.block_of room)
+pub block_of_reads : (ts : Tokens) (depth_left n : ℕ) → n + 1 + depth_left ≡ 64 → ReadsStmts ts n (descent.block_of depth_left)
 unfolding descent.block_of
 block_of_reads ts zero n all at = statements_read ts zero n all descent.closed (λ none. absurd (omega arith)) at
-block_of_reads ts (suc room) n all at = statements_read ts (suc room) n all (descent.block_of room) (λ some. block_of_reads ts room (n + 1) (omega arith)) at
+block_of_reads ts (suc depth_left) n all at = statements_read ts (suc depth_left) n all (descent.block_of depth_left) (λ some. block_of_reads ts depth_left (n + 1) (omega arith)) at

@@ -15,7 +15,7 @@ use Rattle.lois_descent.specs.Machine.{Ending, token, turns_block, Arguments, on
 use Rattle.lois_descent.specs.declared.lexemes.Lexeme.{Lexeme}
 use Rattle.lois_descent.specs.declared.lexemes.Lexeme.TheVariants.{Name, Tag, Number, Word, Symbol}
 use Rattle.lois_descent.specs.declared.lexemes.Keyword.TheVariants as words
-use Rattle.lois_descent.specs.declared.lexemes.Sign.TheVariants as signs
+use Rattle.lois_descent.specs.declared.lexemes.Punctuator.TheVariants as punctuators
 use Rattle.lois_descent.specs.Steps.{AName, One}
 use Rattle.lois_descent.proofs.Language.{AnExpr, ABinding, ABase, AUnit, Operands, MoreParts, MoreItems, MoreBindings, AfterItem, AStatements, Turns, Ends, MoreCondition, AWhere, ACondition, AfterIf, MoreNames, Means, AllMean, BottomMeans, Completes, split, only}
 use Rattle.lois_descent.proofs.Tokens.{taken_word, taken_sign, taken_name, taken_number, taken_tag}
@@ -47,20 +47,20 @@ sound_terminal : (x : Terminal) (t : PlacedToken) (l : Lexeme) → lexeme_of t �
 sound_terminal the_atoms t (Word words.Atoms) e = at_once (One the_atoms) t (λ r. (t.place, taken_word t words.Atoms e r))
 sound_terminal structure t (Word words.Equality) e = at_once (One structure) t (λ r. (false, (t.place, taken_word t words.Equality e r)))
 sound_terminal structure t (Word words.Order) e = at_once (One structure) t (λ r. (true, (t.place, taken_word t words.Order e r)))
-sound_terminal semicolon t (Symbol signs.Semicolon) e = at_once (One semicolon) t (λ r. (t.place, taken_sign t signs.Semicolon e r))
-sound_terminal comma t (Symbol signs.Comma) e = at_once (One comma) t (λ r. (t.place, taken_sign t signs.Comma e r))
-sound_terminal close_round t (Symbol signs.CloseRound) e = at_once (One close_round) t (λ r. (t.place, taken_sign t signs.CloseRound e r))
-sound_terminal close_square t (Symbol signs.CloseSquare) e = at_once (One close_square) t (λ r. (t.place, taken_sign t signs.CloseSquare e r))
-sound_terminal open_curly t (Symbol signs.OpenCurly) e = at_once (One open_curly) t (λ r. (t.place, taken_sign t signs.OpenCurly e r))
-sound_terminal close_curly t (Symbol signs.CloseCurly) e = at_once (One close_curly) t (λ r. (t.place, taken_sign t signs.CloseCurly e r))
-sound_terminal colon t (Symbol signs.Colon) e = at_once (One colon) t (λ r. (t.place, taken_sign t signs.Colon e r))
-sound_terminal equal t (Symbol signs.Equal) e = at_once (One equal) t (λ r. (t.place, taken_sign t signs.Equal e r))
-sound_terminal becomes t (Symbol signs.Becomes) e = at_once (One becomes) t (λ r. (t.place, taken_sign t signs.Becomes e r))
+sound_terminal semicolon t (Symbol punctuators.Semicolon) e = at_once (One semicolon) t (λ r. (t.place, taken_sign t punctuators.Semicolon e r))
+sound_terminal comma t (Symbol punctuators.Comma) e = at_once (One comma) t (λ r. (t.place, taken_sign t punctuators.Comma e r))
+sound_terminal close_round t (Symbol punctuators.CloseRound) e = at_once (One close_round) t (λ r. (t.place, taken_sign t punctuators.CloseRound e r))
+sound_terminal close_square t (Symbol punctuators.CloseSquare) e = at_once (One close_square) t (λ r. (t.place, taken_sign t punctuators.CloseSquare e r))
+sound_terminal open_curly t (Symbol punctuators.OpenCurly) e = at_once (One open_curly) t (λ r. (t.place, taken_sign t punctuators.OpenCurly e r))
+sound_terminal close_curly t (Symbol punctuators.CloseCurly) e = at_once (One close_curly) t (λ r. (t.place, taken_sign t punctuators.CloseCurly e r))
+sound_terminal colon t (Symbol punctuators.Colon) e = at_once (One colon) t (λ r. (t.place, taken_sign t punctuators.Colon e r))
+sound_terminal equal t (Symbol punctuators.Equal) e = at_once (One equal) t (λ r. (t.place, taken_sign t punctuators.Equal e r))
+sound_terminal becomes t (Symbol punctuators.Becomes) e = at_once (One becomes) t (λ r. (t.place, taken_sign t punctuators.Becomes e r))
 sound_terminal within t (Word words.In) e = at_once (One within) t (λ r. (t.place, taken_word t words.In e r))
 sound_terminal to t (Word words.To) e = at_once (One to) t (λ r. (t.place, taken_word t words.To e r))
-sound_terminal relation t (Symbol signs.Equal) e = at_once (One relation) t (λ r. inl (t.place, taken_sign t signs.Equal e r))
-sound_terminal relation t (Symbol signs.Differs) e = at_once (One relation) t (λ r. inr (inl (t.place, taken_sign t signs.Differs e r)))
-sound_terminal relation t (Symbol signs.Below) e = at_once (One relation) t (λ r. inr (inr (inl (t.place, taken_sign t signs.Below e r))))
+sound_terminal relation t (Symbol punctuators.Equal) e = at_once (One relation) t (λ r. inl (t.place, taken_sign t punctuators.Equal e r))
+sound_terminal relation t (Symbol punctuators.Differs) e = at_once (One relation) t (λ r. inr (inl (t.place, taken_sign t punctuators.Differs e r)))
+sound_terminal relation t (Symbol punctuators.Below) e = at_once (One relation) t (λ r. inr (inr (inl (t.place, taken_sign t punctuators.Below e r))))
 sound_terminal relation t (Word words.In) e = at_once (One relation) t (λ r. inr (inr (inr (inl (t.place, taken_word t words.In e r)))))
 sound_terminal relation t (Word words.Subset) e = at_once (One relation) t (λ r. inr (inr (inr (inr (t.place, taken_word t words.Subset e r)))))
 sound_terminal name t Name e = at_once (One name) t (λ r. (t.place, t.bytes, taken_name t e r))
@@ -71,16 +71,16 @@ wide_of : (e : ExprD) (es : ExprsD) → 2 ≤ 1 + width es → IsWide (expr e es
 wide_of e no_exprs h = absurd (omega arith)
 wide_of e (expr f rest) h = tt
 
-tuple_of : (t : PlacedToken) (r m after : List PlacedToken) → lexeme_of t ≡ Symbol signs.OpenRound → AnExpr NoLimits r m → MoreParts NoLimits 1 m after → AnExpr NoLimits (t ∷ r) after
+tuple_of : (t : PlacedToken) (r m after : List PlacedToken) → lexeme_of t ≡ Symbol punctuators.OpenRound → AnExpr NoLimits r m → MoreParts NoLimits 1 m after → AnExpr NoLimits (t ∷ r) after
 tuple_of t r m after e (x, n, s) (es, wide, k, (m2, more, close)) =
-    (tuple t.place (expr x es), never, (wide_of x es wide, (r, taken_sign t signs.OpenRound e r, (m2, (m, s, more), close))))
+    (tuple t.place (expr x es), never, (wide_of x es wide, (r, taken_sign t punctuators.OpenRound e r, (m2, (m, s, more), close))))
 
-braces_of : (t : PlacedToken) (r after : List PlacedToken) → lexeme_of t ≡ Symbol signs.OpenCurly → Means NoLimits after_brace r after → AnExpr NoLimits (t ∷ r) after
-braces_of t r after e (inl close) = (listed t.place no_exprs, never, (r, taken_sign t signs.OpenCurly e r, (r, refl, close)))
+braces_of : (t : PlacedToken) (r after : List PlacedToken) → lexeme_of t ≡ Symbol punctuators.OpenCurly → Means NoLimits after_brace r after → AnExpr NoLimits (t ∷ r) after
+braces_of t r after e (inl close) = (listed t.place no_exprs, never, (r, taken_sign t punctuators.OpenCurly e r, (r, refl, close)))
 braces_of t r after e (inr (m, (x, n, s), inl (es, k, (m2, more, close)))) =
-    (listed t.place (expr x es), never, (r, taken_sign t signs.OpenCurly e r, (m2, (m, s, more), close)))
+    (listed t.place (expr x es), never, (r, taken_sign t punctuators.OpenCurly e r, (m2, (m, s, more), close)))
 braces_of t r after e (inr (m, (x, n, s), inr (m2, word, (m3, (b, k, sb), (bs, c, j, (m4, more, (m5, guard, close))))))) =
-    (each t.place x (bind b bs) c, never, (r, taken_sign t signs.OpenCurly e r, (m, s, (m2, word, (m4, (m3, sb, more), (m5, guard, close))))))
+    (each t.place x (bind b bs) c, never, (r, taken_sign t punctuators.OpenCurly e r, (m, s, (m2, word, (m4, (m3, sb, more), (m5, guard, close))))))
 
 part_of : (t : PlacedToken) (r after : List PlacedToken) → lexeme_of t ≡ Word words.Part → Means NoLimits (arguments part_number) r after → AnExpr NoLimits (t ∷ r) after
 part_of t r after e (m, bracket, (m1, (x, k, s), (m2, sep, (m3, (n, num), close)))) =
@@ -108,8 +108,8 @@ sound_expression : (t : PlacedToken) (l : Lexeme) → lexeme_of t ≡ l → Allo
 sound_expression t (Word words.Atoms) e = at_once (AnExpr NoLimits) t (λ r. (atoms t.place, never, taken_word t words.Atoms e r))
 sound_expression t Name e = at_once (AnExpr NoLimits) t (λ r. (var t.place t.bytes, never, taken_name t e r))
 sound_expression t Tag e = at_once (AnExpr NoLimits) t (λ r. let x = taken_tag t e r in (tag t.place x.0, never, x.1))
-sound_expression t (Symbol signs.OpenRound) e = λ r after h. tuple_of t r h.0 after e h.1 (only NoLimits (more_parts 1) h.0 after h.2)
-sound_expression t (Symbol signs.OpenCurly) e = λ r after h. braces_of t r after e (only NoLimits after_brace r after h)
+sound_expression t (Symbol punctuators.OpenRound) e = λ r after h. tuple_of t r h.0 after e h.1 (only NoLimits (more_parts 1) h.0 after h.2)
+sound_expression t (Symbol punctuators.OpenCurly) e = λ r after h. braces_of t r after e (only NoLimits after_brace r after h)
 sound_expression t (Word words.Part) e = λ r after h. part_of t r after e (only NoLimits (arguments part_number) r after h)
 sound_expression t (Word (words.Apply op)) e = sound_apply op t e
 sound_expression t _ e = tt
@@ -117,8 +117,8 @@ sound_expression t _ e = tt
 empty_of : (t : PlacedToken) (r after : List PlacedToken) → lexeme_of t ≡ Word words.Empty → Means NoLimits (arguments one) r after → ABase NoLimits (t ∷ r) after
 empty_of t r after e (m, bracket, (m1, (x, k, s), close)) = (empty x, never, (0, inl refl, (r, (t.place, taken_word t words.Empty e r), (m, bracket, (m1, s, close)))))
 
-brackets_of : (t : PlacedToken) (r after : List PlacedToken) → lexeme_of t ≡ Symbol signs.OpenSquare → ACondition NoLimits (token close_square) r after → ABase NoLimits (t ∷ r) after
-brackets_of t r after e (c, k, (m, (n, form, inside), close)) = (c, never, (suc n, inr (omega arith), (r, (t.place, taken_sign t signs.OpenSquare e r), (m, inside, close))))
+brackets_of : (t : PlacedToken) (r after : List PlacedToken) → lexeme_of t ≡ Symbol punctuators.OpenSquare → ACondition NoLimits (token close_square) r after → ABase NoLimits (t ∷ r) after
+brackets_of t r after e (c, k, (m, (n, form, inside), close)) = (c, never, (suc n, inr (omega arith), (r, (t.place, taken_sign t punctuators.OpenSquare e r), (m, inside, close))))
 
 compare : (before m m1 after : List PlacedToken) → AnExpr NoLimits before m → One relation m m1 → AnExpr NoLimits m1 after → ABase NoLimits before after
 compare before m m1 after (x, k, s) (inl sign) (y, j, u) = (same x y, never, (0, inl refl, (m, s, (m1, sign, u))))
@@ -136,7 +136,7 @@ sound_base : (t : PlacedToken) (l : Lexeme) → lexeme_of t ≡ l → Allows (AB
 sound_base t (Word words.True) e = at_once (ABase NoLimits) t (λ r. (truth, never, (0, inl refl, (t.place, taken_word t words.True e r))))
 sound_base t (Word words.False) e = at_once (ABase NoLimits) t (λ r. (falsity, never, (0, inl refl, (t.place, taken_word t words.False e r))))
 sound_base t (Word words.Empty) e = λ r after h. empty_of t r after e (only NoLimits (arguments one) r after h)
-sound_base t (Symbol signs.OpenSquare) e = λ r after h. brackets_of t r after e (only NoLimits (condition (token close_square)) r after h)
+sound_base t (Symbol punctuators.OpenSquare) e = λ r after h. brackets_of t r after e (only NoLimits (condition (token close_square)) r after h)
 sound_base t l e = comparison t (expression_start l) (sound_expression t l e)
 
 pub base_is_unit : (c : CondD) → is_base c ≡ true → is_unit c ≡ true
@@ -286,7 +286,7 @@ inner_if t r m1 m2 after e c yes_block (l, rest, k, (m5, otherwise, (m6, more, c
     let s = if_of t r m1 m2 e c yes_block l m5 otherwise in (stmt ((if) s.0 s.1 l) rest, never, (m6, (m5, s.2, more), close))
 
 sound_statements : (t : PlacedToken) (l : Lexeme) → lexeme_of t ≡ l → Allows (AStatements NoLimits) t (statements_start l)
-sound_statements t (Symbol signs.CloseCurly) e = at_once (AStatements NoLimits) t (λ r. (no_stmts, never, (t ∷ r, refl, (t.place, taken_sign t signs.CloseCurly e r))))
+sound_statements t (Symbol punctuators.CloseCurly) e = at_once (AStatements NoLimits) t (λ r. (no_stmts, never, (t ∷ r, refl, (t.place, taken_sign t punctuators.CloseCurly e r))))
 sound_statements t (Word words.If) e = λ r after h. inner_if t r h.0 h.2.0 after e h.1 h.2.1 (only NoLimits after_if h.2.0 after h.2.2)
 sound_statements t l e =
     allows_behind AStatement (AStatements NoLimits) (statements ∷ []) t (statement_start l)
@@ -305,60 +305,60 @@ sound_after_if : (t : PlacedToken) (l : Lexeme) → lexeme_of t ≡ l → Allows
 sound_after_if t (Word words.Else) e = λ r after h. inner_else t r h.0 h.2.0 after e h.1 h.2.1 (only NoLimits statements h.2.0 after h.2.2)
 sound_after_if t l e = allows_as (AStatements NoLimits) (AfterIf NoLimits) t (statements_start l) no_else (sound_statements t l e)
 
-one_more_part : (n : ℕ) (t : PlacedToken) (r m after : List PlacedToken) → lexeme_of t ≡ Symbol signs.Comma → AnExpr NoLimits r m → MoreParts NoLimits (suc n) m after → MoreParts NoLimits n (t ∷ r) after
+one_more_part : (n : ℕ) (t : PlacedToken) (r m after : List PlacedToken) → lexeme_of t ≡ Symbol punctuators.Comma → AnExpr NoLimits r m → MoreParts NoLimits (suc n) m after → MoreParts NoLimits n (t ∷ r) after
 one_more_part n t r m after e (x, k, s) (es, wide, j, (m2, more, close)) =
-    (expr x es, omega arith, never, (m2, (r, (t.place, taken_sign t signs.Comma e r), (m, s, more)), close))
+    (expr x es, omega arith, never, (m2, (r, (t.place, taken_sign t punctuators.Comma e r), (m, s, more)), close))
 
-last_part : (n : ℕ) (t : PlacedToken) (b : Bool) → nat_le 2 n ≡ b → lexeme_of t ≡ Symbol signs.CloseRound → Allows (MoreParts NoLimits n) t (chosen b)
-last_part n t true wide e = at_once (MoreParts NoLimits n) t (λ r. (no_exprs, omega (arith, leb-true 2 n wide), never, (t ∷ r, refl, (t.place, taken_sign t signs.CloseRound e r))))
+last_part : (n : ℕ) (t : PlacedToken) (b : Bool) → nat_le 2 n ≡ b → lexeme_of t ≡ Symbol punctuators.CloseRound → Allows (MoreParts NoLimits n) t (chosen b)
+last_part n t true wide e = at_once (MoreParts NoLimits n) t (λ r. (no_exprs, omega (arith, leb-true 2 n wide), never, (t ∷ r, refl, (t.place, taken_sign t punctuators.CloseRound e r))))
 last_part n t false wide e = tt
 
 sound_more_parts : (n : ℕ) (t : PlacedToken) (l : Lexeme) → lexeme_of t ≡ l → Allows (MoreParts NoLimits n) t (more_parts_start n l)
-sound_more_parts n t (Symbol signs.Comma) e = λ r after h. one_more_part n t r h.0 after e h.1 (only NoLimits (more_parts (suc n)) h.0 after h.2)
-sound_more_parts n t (Symbol signs.CloseRound) e = last_part n t (nat_le 2 n) refl e
+sound_more_parts n t (Symbol punctuators.Comma) e = λ r after h. one_more_part n t r h.0 after e h.1 (only NoLimits (more_parts (suc n)) h.0 after h.2)
+sound_more_parts n t (Symbol punctuators.CloseRound) e = last_part n t (nat_le 2 n) refl e
 sound_more_parts n t _ e = tt
 
-one_more_item : (t : PlacedToken) (r m after : List PlacedToken) → lexeme_of t ≡ Symbol signs.Comma → AnExpr NoLimits r m → MoreItems NoLimits m after → MoreItems NoLimits (t ∷ r) after
+one_more_item : (t : PlacedToken) (r m after : List PlacedToken) → lexeme_of t ≡ Symbol punctuators.Comma → AnExpr NoLimits r m → MoreItems NoLimits m after → MoreItems NoLimits (t ∷ r) after
 one_more_item t r m after e (x, k, s) (es, j, (m2, more, close)) =
-    (expr x es, never, (m2, (r, (t.place, taken_sign t signs.Comma e r), (m, s, more)), close))
+    (expr x es, never, (m2, (r, (t.place, taken_sign t punctuators.Comma e r), (m, s, more)), close))
 
-no_more_items : (t : PlacedToken) → lexeme_of t ≡ Symbol signs.CloseCurly → (r : List PlacedToken) → MoreItems NoLimits (t ∷ r) r
-no_more_items t e r = (no_exprs, never, (t ∷ r, refl, (t.place, taken_sign t signs.CloseCurly e r)))
+no_more_items : (t : PlacedToken) → lexeme_of t ≡ Symbol punctuators.CloseCurly → (r : List PlacedToken) → MoreItems NoLimits (t ∷ r) r
+no_more_items t e r = (no_exprs, never, (t ∷ r, refl, (t.place, taken_sign t punctuators.CloseCurly e r)))
 
 sound_more_items : (t : PlacedToken) (l : Lexeme) → lexeme_of t ≡ l → Allows (MoreItems NoLimits) t (more_items_start l)
-sound_more_items t (Symbol signs.Comma) e = λ r after h. one_more_item t r h.0 after e h.1 (only NoLimits more_items h.0 after h.2)
-sound_more_items t (Symbol signs.CloseCurly) e = at_once (MoreItems NoLimits) t (no_more_items t e)
+sound_more_items t (Symbol punctuators.Comma) e = λ r after h. one_more_item t r h.0 after e h.1 (only NoLimits more_items h.0 after h.2)
+sound_more_items t (Symbol punctuators.CloseCurly) e = at_once (MoreItems NoLimits) t (no_more_items t e)
 sound_more_items t _ e = tt
 
 binding_of : (r m1 m2 m3 : List PlacedToken) → AName r m1 → One within m1 m2 → AnExpr NoLimits m2 m3 → ABinding NoLimits r m3
 binding_of r m1 m2 m3 (p, x, tn) word (y, k, s) = (binding p x y, never, (m1, tn, (m2, word, s)))
 
 sound_after_item : (t : PlacedToken) (l : Lexeme) → lexeme_of t ≡ l → Allows (AfterItem NoLimits) t (after_item_start l)
-sound_after_item t (Symbol signs.Comma) e = λ r after h. inl (one_more_item t r h.0 after e h.1 (only NoLimits more_items h.0 after h.2))
+sound_after_item t (Symbol punctuators.Comma) e = λ r after h. inl (one_more_item t r h.0 after e h.1 (only NoLimits more_items h.0 after h.2))
 sound_after_item t (Word words.For) e = λ r after h.
     inr (r, (t.place, taken_word t words.For e r), (h.2.2.0, binding_of r h.0 h.2.0 h.2.2.0 h.1 h.2.1 h.2.2.1, only NoLimits more_bindings h.2.2.0 after h.2.2.2))
-sound_after_item t (Symbol signs.CloseCurly) e = at_once (AfterItem NoLimits) t (λ r. inl (no_more_items t e r))
+sound_after_item t (Symbol punctuators.CloseCurly) e = at_once (AfterItem NoLimits) t (λ r. inl (no_more_items t e r))
 sound_after_item t _ e = tt
 
-one_more_binding : (t : PlacedToken) (r m after : List PlacedToken) → lexeme_of t ≡ Symbol signs.Comma → ABinding NoLimits r m → MoreBindings NoLimits m after → MoreBindings NoLimits (t ∷ r) after
+one_more_binding : (t : PlacedToken) (r m after : List PlacedToken) → lexeme_of t ≡ Symbol punctuators.Comma → ABinding NoLimits r m → MoreBindings NoLimits m after → MoreBindings NoLimits (t ∷ r) after
 one_more_binding t r m after e (b, k, s) (bs, c, j, (m2, more, rest)) =
-    (bind b bs, c, never, (m2, (r, (t.place, taken_sign t signs.Comma e r), (m, s, more)), rest))
+    (bind b bs, c, never, (m2, (r, (t.place, taken_sign t punctuators.Comma e r), (m, s, more)), rest))
 
 no_more_bindings : (before after : List PlacedToken) → AWhere NoLimits close_curly before after → MoreBindings NoLimits before after
 no_more_bindings before after (c, k, (m, guard, close)) = (no_bindings, c, never, (before, refl, (m, guard, close)))
 
 sound_more_bindings : (t : PlacedToken) (l : Lexeme) → lexeme_of t ≡ l → Allows (MoreBindings NoLimits) t (more_bindings_start l)
-sound_more_bindings t (Symbol signs.Comma) e = λ r after h.
+sound_more_bindings t (Symbol punctuators.Comma) e = λ r after h.
     one_more_binding t r h.2.2.0 after e (binding_of r h.0 h.2.0 h.2.2.0 h.1 h.2.1 h.2.2.1) (only NoLimits more_bindings h.2.2.0 after h.2.2.2)
 sound_more_bindings t l e = allows_as (AWhere NoLimits close_curly) (MoreBindings NoLimits) t (where_start close_curly l) no_more_bindings (sound_where close_curly t l e)
 
-name_behind_comma : (t : PlacedToken) (r m after : List PlacedToken) → lexeme_of t ≡ Symbol signs.Comma → AName r m → MoreNames m after → MoreNames (t ∷ r) after
+name_behind_comma : (t : PlacedToken) (r m after : List PlacedToken) → lexeme_of t ≡ Symbol punctuators.Comma → AName r m → MoreNames m after → MoreNames (t ∷ r) after
 name_behind_comma t r m after e (p, x, tn) (xs, (m2, more, end)) =
-    (record { place = p; name = x } ∷ xs, (m2, (r, (t.place, taken_sign t signs.Comma e r), (m, tn, more)), end))
+    (record { place = p; name = x } ∷ xs, (m2, (r, (t.place, taken_sign t punctuators.Comma e r), (m, tn, more)), end))
 
 sound_more_names : (t : PlacedToken) (l : Lexeme) → lexeme_of t ≡ l → Allows MoreNames t (more_names_start l)
-sound_more_names t (Symbol signs.Comma) e = λ r after h. name_behind_comma t r h.0 after e h.1 (only NoLimits more_names h.0 after h.2)
-sound_more_names t (Symbol signs.Semicolon) e = at_once MoreNames t (λ r. ([], (t ∷ r, refl, (t.place, taken_sign t signs.Semicolon e r))))
+sound_more_names t (Symbol punctuators.Comma) e = λ r after h. name_behind_comma t r h.0 after e h.1 (only NoLimits more_names h.0 after h.2)
+sound_more_names t (Symbol punctuators.Semicolon) e = at_once MoreNames t (λ r. ([], (t ∷ r, refl, (t.place, taken_sign t punctuators.Semicolon e r))))
 sound_more_names t _ e = tt
 
 operands_mean : (a : Arguments) (r after : List PlacedToken) → AllMean NoLimits (operands a) r after → Operands NoLimits a r after
@@ -367,7 +367,7 @@ operands_mean two r after (m, x, (m1, sep, (m2, y, rest))) = (m, x, (m1, sep, (m
 operands_mean part_number r after (m, x, (m1, sep, (m2, y, rest))) = (m, x, (m1, sep, (m2, y, only NoLimits (terminal close_round) m2 after rest)))
 
 sound_arguments : (a : Arguments) (t : PlacedToken) (l : Lexeme) → lexeme_of t ≡ l → Allows (Means NoLimits (arguments a)) t (arguments_start a l)
-sound_arguments a t (Symbol signs.OpenRound) e = λ r after h. (r, (t.place, taken_sign t signs.OpenRound e r), operands_mean a r after h)
+sound_arguments a t (Symbol punctuators.OpenRound) e = λ r after h. (r, (t.place, taken_sign t punctuators.OpenRound e r), operands_mean a r after h)
 sound_arguments a t _ e = tt
 
 sound_turns : (t : PlacedToken) (l : Lexeme) → lexeme_of t ≡ l → Allows (Turns NoLimits) t (turns_start l)
@@ -375,7 +375,7 @@ sound_turns t Number e = at_once (Turns NoLimits) t (λ r. (decimal t.bytes, nev
 sound_turns t _ e = tt
 
 sound_brace : (t : PlacedToken) (l : Lexeme) → lexeme_of t ≡ l → Allows (Means NoLimits after_brace) t (brace_start l)
-sound_brace t (Symbol signs.CloseCurly) e = at_once (Means NoLimits after_brace) t (λ r. inl (t.place, taken_sign t signs.CloseCurly e r))
+sound_brace t (Symbol punctuators.CloseCurly) e = at_once (Means NoLimits after_brace) t (λ r. inl (t.place, taken_sign t punctuators.CloseCurly e r))
 sound_brace t l e =
     allows_behind (AnExpr NoLimits) (Means NoLimits after_brace) (after_item ∷ []) t (expression_start l)
     (λ before m after x h. inr (m, x, only NoLimits after_item m after h)) (sound_expression t l e)

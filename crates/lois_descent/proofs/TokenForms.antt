@@ -1,7 +1,7 @@
 -- What the form of a token says of the token, and of the machine.
 use Rattle.std.proofs.Common.{◌≡◌, ℕ, ◌+◌, true, false, Some, None, List, [], ◌∷◌, drop, refl, sym, ap, subst}
 use Rattle.lois_script.specs.Grammar.{PlacedToken, TakesWordAt, TakesSymbolAt, TakesName, TakesTag, TakesNumber, decimal}
-use Rattle.lois_descent.specs.Lexemes.{word_of, sign_of}
+use Rattle.lois_descent.specs.Lexemes.{word_of, punctuator_text}
 use Rattle.lois_descent.specs.declared.lexemes.Terminal.{Terminal}
 use Rattle.lois_descent.specs.declared.lexemes.Terminal.TheVariants.{Relation as relation}
 use Rattle.lois_descent.specs.Lexemes.{accepts}
@@ -9,11 +9,11 @@ use Rattle.lois_descent.specs.Machine.{Ending, Arguments, Item, terminal, expres
 use Rattle.lois_descent.specs.declared.lexemes.Lexeme.{Lexeme}
 use Rattle.lois_descent.specs.declared.lexemes.Lexeme.TheVariants.{End, Name, Tag, Number, Word, Symbol}
 use Rattle.lois_descent.specs.declared.lexemes.Keyword.TheVariants as words
-use Rattle.lois_descent.specs.declared.lexemes.Sign.TheVariants as signs
-use Rattle.lois_descent.specs.Lexemes.{unit_form, expr_form, base_form, stmt_form, joint, lead}
+use Rattle.lois_descent.specs.declared.lexemes.Punctuator.TheVariants as punctuators
+use Rattle.lois_descent.specs.Lexemes.{unit_form, expr_form, base_form, stmt_form, connective, optional_start}
 use Rattle.lois_descent.specs.Steps.{lexeme_at, first_place, place_at, first_bytes, bytes_at, Moves}
 use Rattle.lois_descent.specs.declared.lexemes.Keyword.{Keyword}
-use Rattle.lois_descent.specs.declared.lexemes.Sign.{Sign}
+use Rattle.lois_descent.specs.declared.lexemes.Punctuator.{Punctuator}
 use Rattle.lois_descent.specs.declared.lexemes.UnitForm.{UnitForm}
 use Rattle.lois_descent.specs.declared.lexemes.UnitForm.TheVariants as units
 use Rattle.lois_descent.specs.declared.lexemes.ExprForm.{ExprForm}
@@ -22,10 +22,10 @@ use Rattle.lois_descent.specs.declared.lexemes.BaseForm.{BaseForm}
 use Rattle.lois_descent.specs.declared.lexemes.BaseForm.TheVariants as bases
 use Rattle.lois_descent.specs.declared.lexemes.StmtForm.{StmtForm}
 use Rattle.lois_descent.specs.declared.lexemes.StmtForm.TheVariants as stmts
-use Rattle.lois_descent.specs.declared.lexemes.Joint.{Joint}
-use Rattle.lois_descent.specs.declared.lexemes.Joint.TheVariants as joints
-use Rattle.lois_descent.specs.declared.lexemes.Lead.{Lead}
-use Rattle.lois_descent.specs.declared.lexemes.Lead.TheVariants as leads
+use Rattle.lois_descent.specs.declared.lexemes.Connective.{Connective}
+use Rattle.lois_descent.specs.declared.lexemes.Connective.TheVariants as joints
+use Rattle.lois_descent.specs.declared.lexemes.OptionalStart.{OptionalStart}
+use Rattle.lois_descent.specs.declared.lexemes.OptionalStart.TheVariants as leads
 use Rattle.lois_descent.proofs.Tokens.{taken_word, taken_sign, taken_name, taken_number, taken_tag}
 use Rattle.lois_descent.proofs.TokenSteps.{opens_by, closes_by, is_known, Quiet, token_at, plain_moves}
 
@@ -33,8 +33,8 @@ abbrev pub ExprFits : Lexeme → ExprForm → Type 0
 ExprFits l exprs.Atoms = l ≡ Word words.Atoms
 ExprFits l exprs.Var = l ≡ Name
 ExprFits l exprs.Tag = l ≡ Tag
-ExprFits l exprs.Tuple = l ≡ Symbol signs.OpenRound
-ExprFits l exprs.Braces = l ≡ Symbol signs.OpenCurly
+ExprFits l exprs.Tuple = l ≡ Symbol punctuators.OpenRound
+ExprFits l exprs.Braces = l ≡ Symbol punctuators.OpenCurly
 ExprFits l exprs.Part = l ≡ Word words.Part
 ExprFits l (exprs.Apply op) = l ≡ Word (words.Apply op)
 ExprFits l exprs.NoExpr = expression_start l ≡ None
@@ -43,8 +43,8 @@ expr_fits : (l : Lexeme) → ExprFits l (expr_form l)
 expr_fits (Word words.Atoms) = refl
 expr_fits Name = refl
 expr_fits Tag = refl
-expr_fits (Symbol signs.OpenRound) = refl
-expr_fits (Symbol signs.OpenCurly) = refl
+expr_fits (Symbol punctuators.OpenRound) = refl
+expr_fits (Symbol punctuators.OpenCurly) = refl
 expr_fits (Word words.Part) = refl
 expr_fits (Word (words.Apply op)) = refl
 expr_fits _ = refl
@@ -56,14 +56,14 @@ abbrev pub BaseFits : Lexeme → BaseForm → Type 0
 BaseFits l bases.True = l ≡ Word words.True
 BaseFits l bases.False = l ≡ Word words.False
 BaseFits l bases.Empty = l ≡ Word words.Empty
-BaseFits l bases.Brackets = l ≡ Symbol signs.OpenSquare
+BaseFits l bases.Brackets = l ≡ Symbol punctuators.OpenSquare
 BaseFits l bases.Comparison = base_start l ≡ behind (terminal relation ∷ expression ∷ []) (expression_start l)
 
 base_fits : (l : Lexeme) → BaseFits l (base_form l)
 base_fits (Word words.True) = refl
 base_fits (Word words.False) = refl
 base_fits (Word words.Empty) = refl
-base_fits (Symbol signs.OpenSquare) = refl
+base_fits (Symbol punctuators.OpenSquare) = refl
 base_fits _ = refl
 
 pub base_is : (l : Lexeme) (f : BaseForm) → f ≡ base_form l → BaseFits l f
@@ -109,60 +109,60 @@ stmt_fits _ = refl
 pub stmt_is : (l : Lexeme) (f : StmtForm) → f ≡ stmt_form l → StmtFits l f
 stmt_is l f e = subst (StmtFits l) (sym e) (stmt_fits l)
 
-abbrev pub JointFits : Lexeme → Joint → Type 0
+abbrev pub JointFits : Lexeme → Connective → Type 0
 JointFits l joints.And = l ≡ Word words.And
 JointFits l joints.Or = l ≡ Word words.Or
-JointFits l joints.NoJoint = (e : Ending) → more_condition_start e l ≡ ending e l
+JointFits l joints.NoConnective = (e : Ending) → more_condition_start e l ≡ ending e l
 
-joint_fits : (l : Lexeme) → JointFits l (joint l)
+joint_fits : (l : Lexeme) → JointFits l (connective l)
 joint_fits (Word words.And) = refl
 joint_fits (Word words.Or) = refl
 joint_fits _ = λ e. refl
 
-pub joint_is : (l : Lexeme) (f : Joint) → f ≡ joint l → JointFits l f
+pub joint_is : (l : Lexeme) (f : Connective) → f ≡ connective l → JointFits l f
 joint_is l f e = subst (JointFits l) (sym e) (joint_fits l)
 
-abbrev pub LeadFits : Lexeme → Lead → Type 0
-LeadFits l leads.OpenRound = l ≡ Symbol signs.OpenRound
+abbrev pub LeadFits : Lexeme → OptionalStart → Type 0
+LeadFits l leads.OpenRound = l ≡ Symbol punctuators.OpenRound
 LeadFits l leads.Parameter = l ≡ Word words.Parameter
 LeadFits l leads.For = l ≡ Word words.For
 LeadFits l leads.Where = l ≡ Word words.Where
 LeadFits l leads.Else = l ≡ Word words.Else
-LeadFits l leads.NoLead = Unit {0}
+LeadFits l leads.NoOptionalStart = Unit {0}
 
-lead_fits : (l : Lexeme) → LeadFits l (lead l)
-lead_fits (Symbol signs.OpenRound) = refl
+lead_fits : (l : Lexeme) → LeadFits l (optional_start l)
+lead_fits (Symbol punctuators.OpenRound) = refl
 lead_fits (Word words.Parameter) = refl
 lead_fits (Word words.For) = refl
 lead_fits (Word words.Where) = refl
 lead_fits (Word words.Else) = refl
 lead_fits _ = tt
 
-pub lead_is : (l : Lexeme) (f : Lead) → f ≡ lead l → LeadFits l f
+pub lead_is : (l : Lexeme) (f : OptionalStart) → f ≡ optional_start l → LeadFits l f
 lead_is l f e = subst (LeadFits l) (sym e) (lead_fits l)
 
-pub no_round : (l : Lexeme) → (lead l ≡ leads.OpenRound → ⊥) → (a : Arguments) → arguments_start a l ≡ None
-no_round (Symbol signs.OpenRound) h a = absurd (h refl)
+pub no_round : (l : Lexeme) → (optional_start l ≡ leads.OpenRound → ⊥) → (a : Arguments) → arguments_start a l ≡ None
+no_round (Symbol punctuators.OpenRound) h a = absurd (h refl)
 no_round _ h a = refl
 
-pub no_where : (l : Lexeme) → (lead l ≡ leads.Where → ⊥) → (x : Terminal) → where_start x l ≡ chosen (accepts x l)
+pub no_where : (l : Lexeme) → (optional_start l ≡ leads.Where → ⊥) → (x : Terminal) → where_start x l ≡ chosen (accepts x l)
 no_where (Word words.Where) h x = absurd (h refl)
 no_where _ h x = refl
 
-pub no_else : (l : Lexeme) → (lead l ≡ leads.Else → ⊥) → after_if_start l ≡ statements_start l
+pub no_else : (l : Lexeme) → (optional_start l ≡ leads.Else → ⊥) → after_if_start l ≡ statements_start l
 no_else (Word words.Else) h = absurd (h refl)
 no_else _ h = refl
 
-pub no_parameter : (l : Lexeme) → (lead l ≡ leads.Parameter → ⊥) → bottom_start body l ≡ outermost_start l
+pub no_parameter : (l : Lexeme) → (optional_start l ≡ leads.Parameter → ⊥) → bottom_start body l ≡ outermost_start l
 no_parameter (Word words.Parameter) h = absurd (h refl)
 no_parameter _ h = refl
 
 module _ (ts : List PlacedToken) (at : ℕ) where
-  pub sign_at : (s : Sign) → lexeme_at ts at ≡ Symbol s → TakesSymbolAt (place_at ts at) (sign_of s) (drop at ts) (drop (at + 1) ts)
+  pub sign_at : (s : Punctuator) → lexeme_at ts at ≡ Symbol s → TakesSymbolAt (place_at ts at) (punctuator_text s) (drop at ts) (drop (at + 1) ts)
   unfolding place_at
   sign_at s e =
       let k = token_at ts at (Symbol s) e (λ f. cc) in
-      subst (λ b. TakesSymbolAt (first_place b) (sign_of s) b (drop (at + 1) ts)) (sym k.here) (taken_sign k.it s k.lexeme (drop (at + 1) ts))
+      subst (λ b. TakesSymbolAt (first_place b) (punctuator_text s) b (drop (at + 1) ts)) (sym k.here) (taken_sign k.it s k.lexeme (drop (at + 1) ts))
 
   pub word_at : (w : Keyword) → lexeme_at ts at ≡ Word w → TakesWordAt (place_at ts at) (word_of w) (drop at ts) (drop (at + 1) ts)
   unfolding place_at

@@ -8,11 +8,11 @@ use Rattle.lois_descent.specs.Lexemes.{lexeme_of}
 use Rattle.lois_descent.specs.Machine.{Item, State, behind, item_start, at_bottom, step}
 use Rattle.lois_descent.specs.declared.lexemes.Lexeme.{Lexeme}
 use Rattle.lois_descent.specs.declared.lexemes.Lexeme.TheVariants.{End, Name, Tag, Number, Word, Symbol, Other}
-use Rattle.lois_descent.specs.declared.lexemes.Sign.{Sign}
-use Rattle.lois_descent.specs.declared.lexemes.Sign.TheVariants as signs
+use Rattle.lois_descent.specs.declared.lexemes.Punctuator.{Punctuator}
+use Rattle.lois_descent.specs.declared.lexemes.Punctuator.TheVariants as punctuators
 use Rattle.lois_descent.specs.Machine.{push, breach, item_breach, settle, unless_over, no_script, over, Verdict, refused, at_end, is_end_of, verdict}
 use Rattle.lois_descent.specs.Refusals.{Limit, nesting}
-use Rattle.lois_descent.specs.Steps.{first_lexeme, lexeme_at, Moves, Meets, Stuck}
+use Rattle.lois_descent.specs.Steps.{first_lexeme, lexeme_at, Moves, RefusalMatches, Stuck}
 use Rattle.lois_descent.specs.Refusals.{Refusal}
 use Rattle.lois_descent.specs.Refusals.{NoScript, TooNested}
 use Rattle.lois_descent.proofs.Tokens.{taken_word, taken_sign, taken_name, taken_number, taken_tag}
@@ -43,15 +43,15 @@ token_at ts at l e some = go (drop at ts) refl e
 
 -- brackets
 abbrev pub opens_by : Lexeme → Bool
-opens_by (Symbol signs.OpenRound) = true
-opens_by (Symbol signs.OpenSquare) = true
-opens_by (Symbol signs.OpenCurly) = true
+opens_by (Symbol punctuators.OpenRound) = true
+opens_by (Symbol punctuators.OpenSquare) = true
+opens_by (Symbol punctuators.OpenCurly) = true
 opens_by _ = false
 
 abbrev pub closes_by : Lexeme → Bool
-closes_by (Symbol signs.CloseRound) = true
-closes_by (Symbol signs.CloseSquare) = true
-closes_by (Symbol signs.CloseCurly) = true
+closes_by (Symbol punctuators.CloseRound) = true
+closes_by (Symbol punctuators.CloseSquare) = true
+closes_by (Symbol punctuators.CloseCurly) = true
 closes_by _ = false
 
 abbrev pub is_known : Lexeme → Bool
@@ -67,35 +67,35 @@ abbrev first_closes : List PlacedToken → Bool
 first_closes [] = false
 first_closes (t ∷ ts) = closes t
 
-opens_sign : (t : PlacedToken) (s : Sign) → lexeme_of t ≡ Symbol s → opens t ≡ opens_by (Symbol s)
-opens_sign t signs.Semicolon e = ap first_opens (taken_sign t signs.Semicolon e [])
-opens_sign t signs.Comma e = ap first_opens (taken_sign t signs.Comma e [])
-opens_sign t signs.OpenRound e = ap first_opens (taken_sign t signs.OpenRound e [])
-opens_sign t signs.CloseRound e = ap first_opens (taken_sign t signs.CloseRound e [])
-opens_sign t signs.OpenSquare e = ap first_opens (taken_sign t signs.OpenSquare e [])
-opens_sign t signs.CloseSquare e = ap first_opens (taken_sign t signs.CloseSquare e [])
-opens_sign t signs.OpenCurly e = ap first_opens (taken_sign t signs.OpenCurly e [])
-opens_sign t signs.CloseCurly e = ap first_opens (taken_sign t signs.CloseCurly e [])
-opens_sign t signs.Becomes e = ap first_opens (taken_sign t signs.Becomes e [])
-opens_sign t signs.Colon e = ap first_opens (taken_sign t signs.Colon e [])
-opens_sign t signs.Equal e = ap first_opens (taken_sign t signs.Equal e [])
-opens_sign t signs.Differs e = ap first_opens (taken_sign t signs.Differs e [])
-opens_sign t signs.Below e = ap first_opens (taken_sign t signs.Below e [])
+opens_sign : (t : PlacedToken) (s : Punctuator) → lexeme_of t ≡ Symbol s → opens t ≡ opens_by (Symbol s)
+opens_sign t punctuators.Semicolon e = ap first_opens (taken_sign t punctuators.Semicolon e [])
+opens_sign t punctuators.Comma e = ap first_opens (taken_sign t punctuators.Comma e [])
+opens_sign t punctuators.OpenRound e = ap first_opens (taken_sign t punctuators.OpenRound e [])
+opens_sign t punctuators.CloseRound e = ap first_opens (taken_sign t punctuators.CloseRound e [])
+opens_sign t punctuators.OpenSquare e = ap first_opens (taken_sign t punctuators.OpenSquare e [])
+opens_sign t punctuators.CloseSquare e = ap first_opens (taken_sign t punctuators.CloseSquare e [])
+opens_sign t punctuators.OpenCurly e = ap first_opens (taken_sign t punctuators.OpenCurly e [])
+opens_sign t punctuators.CloseCurly e = ap first_opens (taken_sign t punctuators.CloseCurly e [])
+opens_sign t punctuators.Becomes e = ap first_opens (taken_sign t punctuators.Becomes e [])
+opens_sign t punctuators.Colon e = ap first_opens (taken_sign t punctuators.Colon e [])
+opens_sign t punctuators.Equal e = ap first_opens (taken_sign t punctuators.Equal e [])
+opens_sign t punctuators.Differs e = ap first_opens (taken_sign t punctuators.Differs e [])
+opens_sign t punctuators.Below e = ap first_opens (taken_sign t punctuators.Below e [])
 
-closes_sign : (t : PlacedToken) (s : Sign) → lexeme_of t ≡ Symbol s → closes t ≡ closes_by (Symbol s)
-closes_sign t signs.Semicolon e = ap first_closes (taken_sign t signs.Semicolon e [])
-closes_sign t signs.Comma e = ap first_closes (taken_sign t signs.Comma e [])
-closes_sign t signs.OpenRound e = ap first_closes (taken_sign t signs.OpenRound e [])
-closes_sign t signs.CloseRound e = ap first_closes (taken_sign t signs.CloseRound e [])
-closes_sign t signs.OpenSquare e = ap first_closes (taken_sign t signs.OpenSquare e [])
-closes_sign t signs.CloseSquare e = ap first_closes (taken_sign t signs.CloseSquare e [])
-closes_sign t signs.OpenCurly e = ap first_closes (taken_sign t signs.OpenCurly e [])
-closes_sign t signs.CloseCurly e = ap first_closes (taken_sign t signs.CloseCurly e [])
-closes_sign t signs.Becomes e = ap first_closes (taken_sign t signs.Becomes e [])
-closes_sign t signs.Colon e = ap first_closes (taken_sign t signs.Colon e [])
-closes_sign t signs.Equal e = ap first_closes (taken_sign t signs.Equal e [])
-closes_sign t signs.Differs e = ap first_closes (taken_sign t signs.Differs e [])
-closes_sign t signs.Below e = ap first_closes (taken_sign t signs.Below e [])
+closes_sign : (t : PlacedToken) (s : Punctuator) → lexeme_of t ≡ Symbol s → closes t ≡ closes_by (Symbol s)
+closes_sign t punctuators.Semicolon e = ap first_closes (taken_sign t punctuators.Semicolon e [])
+closes_sign t punctuators.Comma e = ap first_closes (taken_sign t punctuators.Comma e [])
+closes_sign t punctuators.OpenRound e = ap first_closes (taken_sign t punctuators.OpenRound e [])
+closes_sign t punctuators.CloseRound e = ap first_closes (taken_sign t punctuators.CloseRound e [])
+closes_sign t punctuators.OpenSquare e = ap first_closes (taken_sign t punctuators.OpenSquare e [])
+closes_sign t punctuators.CloseSquare e = ap first_closes (taken_sign t punctuators.CloseSquare e [])
+closes_sign t punctuators.OpenCurly e = ap first_closes (taken_sign t punctuators.OpenCurly e [])
+closes_sign t punctuators.CloseCurly e = ap first_closes (taken_sign t punctuators.CloseCurly e [])
+closes_sign t punctuators.Becomes e = ap first_closes (taken_sign t punctuators.Becomes e [])
+closes_sign t punctuators.Colon e = ap first_closes (taken_sign t punctuators.Colon e [])
+closes_sign t punctuators.Equal e = ap first_closes (taken_sign t punctuators.Equal e [])
+closes_sign t punctuators.Differs e = ap first_closes (taken_sign t punctuators.Differs e [])
+closes_sign t punctuators.Below e = ap first_closes (taken_sign t punctuators.Below e [])
 
 pub opens_is : (t : PlacedToken) (l : Lexeme) → lexeme_of t ≡ l → is_known l ≡ true → opens t ≡ opens_by l
 opens_is t End e known = absurd (cc)
@@ -206,7 +206,7 @@ close_moves ts at n x v l k known no_opener closer starts quiet = close_moves_at
 
 pub open_moves : (ts : List PlacedToken) (at n : ℕ) (x : Item) (v : List Item) (l : Lexeme) → TokenAt ts at l → is_known l ≡ true → opens_by l ≡ true → n < 64 →
     item_start x l ≡ Some v → Quiet x → Moves ts at n (x ∷ []) (at + 1) (n + 1) v
-open_moves ts at n x v l k known opener room starts quiet =
+open_moves ts at n x v l k known opener depth_left starts quiet =
     let not_full : n ≢ 64 = omega arith in
     let more : suc n ≡ n + 1 = omega arith in
     token_moves ts at n (n + 1) x v k.it k.here (ap (item_start x) k.lexeme ∙ starts)
@@ -242,5 +242,5 @@ same_behind ts at n x y v quiet_x quiet_y e =
     same_start ts at n x y v quiet_x quiet_y (λ s. ap (option_map (λ w. at_bottom s.bottom (w ++ s.stack))) e ∙ behind_stack v s (item_start y (lexeme_at ts at)))
 
 -- how the pieces of a form make the form
-pub along : (ts : List PlacedToken) (e : Refusal) (v w : Verdict) → v ≡ w → Meets ts e w → Meets ts e v
-along ts e v w p h = subst (Meets ts e) (sym p) h
+pub along : (ts : List PlacedToken) (e : Refusal) (v w : Verdict) → v ≡ w → RefusalMatches ts e w → RefusalMatches ts e v
+along ts e v w p h = subst (RefusalMatches ts e) (sym p) h

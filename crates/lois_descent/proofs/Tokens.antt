@@ -7,12 +7,12 @@ use Rattle.std.proofs.lemmas.Slice.Eq.{bytes_eq-Decides}
 use Rattle.lois_lexer.specs.declared.TokenKind.{TokenKind}
 use Rattle.lois_lexer.specs.declared.TokenKind.TheVariants as kinds
 use Rattle.lois_script.specs.Grammar.{PlacedToken, TakesWordAt, TakesSymbolAt, TakesName, TakesTag, TakesNumber, decimal}
-use Rattle.lois_descent.specs.Lexemes.{word_of, sign_of, as_word, as_symbol, as_tag, lexeme_from, lexeme_of}
-use Rattle.lois_descent.specs.declared.lexemes.TheConstants.{KEYWORDS, SIGNS}
+use Rattle.lois_descent.specs.Lexemes.{word_of, punctuator_text, as_word, as_symbol, as_tag, lexeme_from, lexeme_of}
+use Rattle.lois_descent.specs.declared.lexemes.TheConstants.{KEYWORDS, PUNCTUATORS}
 use Rattle.lois_descent.specs.declared.lexemes.Lexeme.{Lexeme}
 use Rattle.lois_descent.specs.declared.lexemes.Lexeme.TheVariants.{End, Name, Tag, Number, Word, Symbol, Other}
 use Rattle.lois_descent.specs.declared.lexemes.Keyword.{Keyword}
-use Rattle.lois_descent.specs.declared.lexemes.Sign.{Sign}
+use Rattle.lois_descent.specs.declared.lexemes.Punctuator.{Punctuator}
 
 abbrev pub kind_of : Lexeme → Option TokenKind
 kind_of Name = Some kinds.Name
@@ -31,7 +31,7 @@ word_or_other : (o : Option Keyword) → (kind_of (as_word o) ≡ Some kinds.Wor
 word_or_other None = inr refl
 word_or_other (Some k) = inl refl
 
-symbol_or_other : (o : Option Sign) → (kind_of (as_symbol o) ≡ Some kinds.Symbol) ⊎ (as_symbol o ≡ Other)
+symbol_or_other : (o : Option Punctuator) → (kind_of (as_symbol o) ≡ Some kinds.Symbol) ⊎ (as_symbol o ≡ Other)
 symbol_or_other None = inr refl
 symbol_or_other (Some s) = inl refl
 
@@ -41,7 +41,7 @@ kind_or_other kinds.Tag [] = inr refl
 kind_or_other kinds.Tag (b ∷ bs) = tag_or_other b (nat_eq b 39)
 kind_or_other kinds.Number bytes = inl refl
 kind_or_other kinds.Word bytes = word_or_other (find (λ k. bytes_eq (word_of k) bytes) KEYWORDS)
-kind_or_other kinds.Symbol bytes = symbol_or_other (find (λ s. bytes_eq (sign_of s) bytes) SIGNS)
+kind_or_other kinds.Symbol bytes = symbol_or_other (find (λ s. bytes_eq (punctuator_text s) bytes) PUNCTUATORS)
 
 pub kind_is : (kind : TokenKind) (bytes : List ℕ) (l : Lexeme) (k : TokenKind) → lexeme_from kind bytes ≡ l → kind_of l ≡ Some k → kind ≡ k
 kind_is kind bytes l k e h =
@@ -60,15 +60,15 @@ found_word [] bytes k h = absurd (cc)
 found_word (x ∷ ks) bytes k h =
     found_word_by x (find (λ x. bytes_eq (word_of x) bytes) ks) bytes k (bytes_eq (word_of x) bytes) refl (found_word ks bytes k) h
 
-found_sign_by : (x : Sign) (rest : Option Sign) (bytes : List ℕ) (s : Sign) (b : Bool) → bytes_eq (sign_of x) bytes ≡ b →
-    (as_symbol rest ≡ Symbol s → bytes ≡ sign_of s) → as_symbol (cond b (Some x) rest) ≡ Symbol s → bytes ≡ sign_of s
-found_sign_by x rest bytes s true e later h = let same : x ≡ s = cc in sym ((bytes_eq-Decides (sign_of x) bytes).0 e) ∙ ap sign_of same
+found_sign_by : (x : Punctuator) (rest : Option Punctuator) (bytes : List ℕ) (s : Punctuator) (b : Bool) → bytes_eq (punctuator_text x) bytes ≡ b →
+    (as_symbol rest ≡ Symbol s → bytes ≡ punctuator_text s) → as_symbol (cond b (Some x) rest) ≡ Symbol s → bytes ≡ punctuator_text s
+found_sign_by x rest bytes s true e later h = let same : x ≡ s = cc in sym ((bytes_eq-Decides (punctuator_text x) bytes).0 e) ∙ ap punctuator_text same
 found_sign_by x rest bytes s false e later h = later h
 
-found_sign : (ss : List Sign) (bytes : List ℕ) (s : Sign) → as_symbol (find (λ x. bytes_eq (sign_of x) bytes) ss) ≡ Symbol s → bytes ≡ sign_of s
+found_sign : (ss : List Punctuator) (bytes : List ℕ) (s : Punctuator) → as_symbol (find (λ x. bytes_eq (punctuator_text x) bytes) ss) ≡ Symbol s → bytes ≡ punctuator_text s
 found_sign [] bytes s h = absurd (cc)
 found_sign (x ∷ ss) bytes s h =
-    found_sign_by x (find (λ x. bytes_eq (sign_of x) bytes) ss) bytes s (bytes_eq (sign_of x) bytes) refl (found_sign ss bytes s) h
+    found_sign_by x (find (λ x. bytes_eq (punctuator_text x) bytes) ss) bytes s (bytes_eq (punctuator_text x) bytes) refl (found_sign ss bytes s) h
 
 found_tag_by : (b : ℕ) (bs : List ℕ) (test : Bool) → nat_eq b 39 ≡ test → cond test Tag Other ≡ Tag → b ≡ 39
 found_tag_by b bs true e h = eqb-true b 39 e
@@ -87,10 +87,10 @@ taken_word t k e r =
     let kind = kind_is t.kind t.bytes (Word k) kinds.Word e refl in
     is_token t kinds.Word (word_of k) kind (found_word KEYWORDS t.bytes k (sym (ap (λ x. lexeme_from x t.bytes) kind) ∙ e)) r
 
-pub taken_sign : (t : PlacedToken) (s : Sign) → lexeme_of t ≡ Symbol s → (r : List PlacedToken) → TakesSymbolAt t.place (sign_of s) (t ∷ r) r
+pub taken_sign : (t : PlacedToken) (s : Punctuator) → lexeme_of t ≡ Symbol s → (r : List PlacedToken) → TakesSymbolAt t.place (punctuator_text s) (t ∷ r) r
 taken_sign t s e r =
     let kind = kind_is t.kind t.bytes (Symbol s) kinds.Symbol e refl in
-    is_token t kinds.Symbol (sign_of s) kind (found_sign SIGNS t.bytes s (sym (ap (λ x. lexeme_from x t.bytes) kind) ∙ e)) r
+    is_token t kinds.Symbol (punctuator_text s) kind (found_sign PUNCTUATORS t.bytes s (sym (ap (λ x. lexeme_from x t.bytes) kind) ∙ e)) r
 
 pub taken_name : (t : PlacedToken) → lexeme_of t ≡ Name → (r : List PlacedToken) → TakesName t.place t.bytes (t ∷ r) r
 taken_name t e r = is_token t kinds.Name t.bytes (kind_is t.kind t.bytes Name kinds.Name e refl) refl r

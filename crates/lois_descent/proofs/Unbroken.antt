@@ -14,7 +14,7 @@ use Rattle.lois_descent.specs.Machine.{token, turns_block, Arguments, one, two, 
 use Rattle.lois_descent.specs.declared.lexemes.Lexeme.{Lexeme}
 use Rattle.lois_descent.specs.declared.lexemes.Lexeme.TheVariants.{Number, Word, Symbol}
 use Rattle.lois_descent.specs.declared.lexemes.Keyword.TheVariants as words
-use Rattle.lois_descent.specs.declared.lexemes.Sign.TheVariants as signs
+use Rattle.lois_descent.specs.declared.lexemes.Punctuator.TheVariants as punctuators
 use Rattle.lois_descent.proofs.Language.{AllMean, join}
 use Rattle.lois_descent.specs.Machine.{push, breach, item_breach, over_if, Cause, no_script, over, Verdict, accepted, refused, verdict}
 use Rattle.lois_descent.specs.Refusals.{Limit, nesting, turns, open_behind}
@@ -181,11 +181,11 @@ abbrev pub RoundForm : Option State → Type 0
 RoundForm None = Unit {0}
 RoundForm (Some next) = ((s : State) × (next ≡ push (expression ∷ more_parts 1 ∷ []) s)) ⊎ ((a : Arguments) × (s : State) × (next ≡ push (operands a) s))
 
-no_terminal_round : (x : Terminal) (b : Bottom) (rest : List Item) → RoundForm (option_map (λ w. at_bottom b (w ++ rest)) (chosen (accepts x (Symbol signs.OpenRound))))
+no_terminal_round : (x : Terminal) (b : Bottom) (rest : List Item) → RoundForm (option_map (λ w. at_bottom b (w ++ rest)) (chosen (accepts x (Symbol punctuators.OpenRound))))
 no_terminal_round the_atoms b rest = tt
 no_terminal_round _ b rest = tt
 
-pub round_next : (stack : List Item) (b : Bottom) → RoundForm (step_from stack b (Symbol signs.OpenRound))
+pub round_next : (stack : List Item) (b : Bottom) → RoundForm (step_from stack b (Symbol punctuators.OpenRound))
 round_next [] body = tt
 round_next [] outermost = tt
 round_next [] after_outer_if = tt

@@ -8,8 +8,8 @@ use Rattle.lois_script.specs.Limits.{Spells, IsNestedWithin, StmtsAreWithin}
 use Rattle.lois_descent.specs.Descent as descent
 use Rattle.lois_descent.specs.Reading.{refusal_of}
 use Rattle.lois_descent.specs.Refusals.{Refusal, Refused, tokens_in}
-use Rattle.lois_descent.specs.declared.halt.Halt.{Halt}
-use Rattle.lois_descent.specs.declared.halt.Halt.TheVariants as halts
+use Rattle.lois_descent.specs.declared.parse_error.ParseError.{ParseError}
+use Rattle.lois_descent.specs.declared.parse_error.ParseError.TheVariants as parse_errors
 
 -- a list of tokens is that of at most one script
 abbrev pub OneScript : Type 0
@@ -28,10 +28,10 @@ abbrev pub NeverBoth : Type 0
 NeverBoth = (text : List ℕ) (tokens : List Token) (s : ScriptD) (refusal : Refusal) → HasTokens text tokens → Spells text s → Refused (tokens_in text tokens) refusal → ⊥
 
 -- What the descent gives for all the tokens: a script that they spell, within the limits; or how they are refused.
-abbrev pub Judged : List PlacedToken → Result ScriptD Halt → Type 0
-Judged tokens (Ok s) = SpellsScript s tokens × IsNestedWithin 0 tokens × StmtsAreWithin s.body
-Judged tokens (Err e) = (e ≡ halts.NoMemory → ⊥) × Refused tokens (refusal_of (length tokens) e)
+abbrev pub IsCorrectResult : List PlacedToken → Result ScriptD ParseError → Type 0
+IsCorrectResult tokens (Ok s) = SpellsScript s tokens × IsNestedWithin 0 tokens × StmtsAreWithin s.body
+IsCorrectResult tokens (Err e) = (e ≡ parse_errors.NoMemory → ⊥) × Refused tokens (refusal_of (length tokens) e)
 
 -- the descent judges all tokens rightly
-abbrev pub Judges : Type 0
-Judges = (tokens : List PlacedToken) → Judged tokens (descent.script tokens)
+abbrev pub DescentIsCorrect : Type 0
+DescentIsCorrect = (tokens : List PlacedToken) → IsCorrectResult tokens (descent.script tokens)

@@ -12,7 +12,7 @@ use Rattle.lois_descent.specs.Refusals.{Limit, nesting, parts, turns}
 use Rattle.lois_descent.specs.declared.lexemes.Lexeme.{Lexeme}
 use Rattle.lois_descent.specs.declared.lexemes.Lexeme.TheVariants.{Name, Tag, Number, Word, Symbol}
 use Rattle.lois_descent.specs.declared.lexemes.Keyword.TheVariants as words
-use Rattle.lois_descent.specs.declared.lexemes.Sign.TheVariants as signs
+use Rattle.lois_descent.specs.declared.lexemes.Punctuator.TheVariants as punctuators
 
 -- what stands behind a condition: one token, or `turns` with its number and block
 pub data Ending : Type 0 where
@@ -98,8 +98,8 @@ abbrev pub expression_start : Lexeme → Option (List Item)
 expression_start (Word words.Atoms) = Some []
 expression_start Name = Some []
 expression_start Tag = Some []
-expression_start (Symbol signs.OpenRound) = Some (expression ∷ more_parts 1 ∷ [])
-expression_start (Symbol signs.OpenCurly) = Some (after_brace ∷ [])
+expression_start (Symbol punctuators.OpenRound) = Some (expression ∷ more_parts 1 ∷ [])
+expression_start (Symbol punctuators.OpenCurly) = Some (after_brace ∷ [])
 expression_start (Word words.Part) = Some (arguments part_number ∷ [])
 expression_start (Word (words.Apply op)) = Some (arguments (arity op) ∷ [])
 expression_start _ = None
@@ -111,7 +111,7 @@ abbrev pub base_start : Lexeme → Option (List Item)
 base_start (Word words.True) = Some []
 base_start (Word words.False) = Some []
 base_start (Word words.Empty) = Some (arguments one ∷ [])
-base_start (Symbol signs.OpenSquare) = Some (condition (token close_square) ∷ [])
+base_start (Symbol punctuators.OpenSquare) = Some (condition (token close_square) ∷ [])
 base_start l = behind (terminal relation ∷ expression ∷ []) (expression_start l)
 
 abbrev pub unit_start : Lexeme → Option (List Item)
@@ -140,7 +140,7 @@ statement_start (Word words.Print) = Some (terminal name ∷ terminal semicolon 
 statement_start _ = None
 
 abbrev pub statements_start : Lexeme → Option (List Item)
-statements_start (Symbol signs.CloseCurly) = Some []
+statements_start (Symbol punctuators.CloseCurly) = Some []
 statements_start (Word words.If) = Some (condition (token open_curly) ∷ statements ∷ after_if ∷ [])
 statements_start l = behind (statements ∷ []) (statement_start l)
 
@@ -149,27 +149,27 @@ after_if_start (Word words.Else) = Some (terminal open_curly ∷ statements ∷ 
 after_if_start l = statements_start l
 
 abbrev pub more_parts_start : ℕ → Lexeme → Option (List Item)
-more_parts_start n (Symbol signs.Comma) = Some (expression ∷ more_parts (suc n) ∷ [])
-more_parts_start n (Symbol signs.CloseRound) = chosen (nat_le 2 n)
+more_parts_start n (Symbol punctuators.Comma) = Some (expression ∷ more_parts (suc n) ∷ [])
+more_parts_start n (Symbol punctuators.CloseRound) = chosen (nat_le 2 n)
 more_parts_start n _ = None
 
 abbrev pub more_items_start : Lexeme → Option (List Item)
-more_items_start (Symbol signs.Comma) = Some (expression ∷ more_items ∷ [])
-more_items_start (Symbol signs.CloseCurly) = Some []
+more_items_start (Symbol punctuators.Comma) = Some (expression ∷ more_items ∷ [])
+more_items_start (Symbol punctuators.CloseCurly) = Some []
 more_items_start _ = None
 
 abbrev pub brace_start : Lexeme → Option (List Item)
-brace_start (Symbol signs.CloseCurly) = Some []
+brace_start (Symbol punctuators.CloseCurly) = Some []
 brace_start l = behind (after_item ∷ []) (expression_start l)
 
 abbrev pub after_item_start : Lexeme → Option (List Item)
-after_item_start (Symbol signs.Comma) = Some (expression ∷ more_items ∷ [])
+after_item_start (Symbol punctuators.Comma) = Some (expression ∷ more_items ∷ [])
 after_item_start (Word words.For) = Some (terminal name ∷ terminal within ∷ expression ∷ more_bindings ∷ [])
-after_item_start (Symbol signs.CloseCurly) = Some []
+after_item_start (Symbol punctuators.CloseCurly) = Some []
 after_item_start _ = None
 
 abbrev pub more_bindings_start : Lexeme → Option (List Item)
-more_bindings_start (Symbol signs.Comma) = Some (terminal name ∷ terminal within ∷ expression ∷ more_bindings ∷ [])
+more_bindings_start (Symbol punctuators.Comma) = Some (terminal name ∷ terminal within ∷ expression ∷ more_bindings ∷ [])
 more_bindings_start l = where_start close_curly l
 
 abbrev pub more_condition_start : Ending → Lexeme → Option (List Item)
@@ -178,12 +178,12 @@ more_condition_start e (Word words.Or) = Some (unit ∷ more_condition e ∷ [])
 more_condition_start e l = ending e l
 
 abbrev pub more_names_start : Lexeme → Option (List Item)
-more_names_start (Symbol signs.Comma) = Some (terminal name ∷ more_names ∷ [])
-more_names_start (Symbol signs.Semicolon) = Some []
+more_names_start (Symbol punctuators.Comma) = Some (terminal name ∷ more_names ∷ [])
+more_names_start (Symbol punctuators.Semicolon) = Some []
 more_names_start _ = None
 
 abbrev pub arguments_start : Arguments → Lexeme → Option (List Item)
-arguments_start a (Symbol signs.OpenRound) = Some (operands a)
+arguments_start a (Symbol punctuators.OpenRound) = Some (operands a)
 arguments_start a _ = None
 
 abbrev pub turns_start : Lexeme → Option (List Item)
@@ -235,7 +235,7 @@ is_end_of [] = true
 is_end_of _ = false
 
 abbrev pub is_comma : Lexeme → Bool
-is_comma (Symbol signs.Comma) = true
+is_comma (Symbol punctuators.Comma) = true
 is_comma _ = false
 
 abbrev pub over_if : Bool → Limit → Option Limit

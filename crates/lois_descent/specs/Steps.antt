@@ -67,16 +67,16 @@ pub record Moves (ts : List PlacedToken) (at n : ℕ) (w : List Item) (end m : �
   pub run : (s : State) → verdict at n (push w s) (drop at ts) ≡ verdict end m (push v s) (drop end ts)
 
 -- The error tells the verdict, and the tuple or the turns that are at fault.
-abbrev pub Meets : List PlacedToken → Refusal → Verdict → Type 0
-Meets ts (NoScript k) v = v ≡ refused no_script k
-Meets ts (TooNested k) v = v ≡ refused (over nesting) k
-Meets ts (WideTuple k) v = (v ≡ refused (over parts) k) × GoesOver parts ts k
-Meets ts (TurnsTooMany k) v = (v ≡ refused (over turns) k) × GoesOver turns ts k
-Meets ts NoMemory v = Unit {0}
+abbrev pub RefusalMatches : List PlacedToken → Refusal → Verdict → Type 0
+RefusalMatches ts (NoScript k) v = v ≡ refused no_script k
+RefusalMatches ts (TooNested k) v = v ≡ refused (over nesting) k
+RefusalMatches ts (WideTuple k) v = (v ≡ refused (over parts) k) × GoesOver parts ts k
+RefusalMatches ts (TurnsTooMany k) v = (v ≡ refused (over turns) k) × GoesOver turns ts k
+RefusalMatches ts NoMemory v = Unit {0}
 
 -- From there the machine stops as the error says.
 pub record Stuck (ts : List PlacedToken) (at n : ℕ) (w : List Item) (error : Refusal) : Type 0 where
-  pub run : (s : State) → Meets ts error (verdict at n (push w s) (drop at ts))
+  pub run : (s : State) → RefusalMatches ts error (verdict at n (push w s) (drop at ts))
 
 abbrev pub is_closer : Terminal → Bool
 is_closer close_round = true

@@ -1,6 +1,6 @@
 //! Laws of the grammar and of the descent: each function does nothing, and its contract states a law that is proved.
 
-ghost use Rattle.lois_descent.specs.Laws.{OneScript, OneScriptOfText, OneRefusal, NeverBoth, Judges};
+ghost use Rattle.lois_descent.specs.Laws.{OneScript, OneScriptOfText, OneRefusal, NeverBoth, DescentIsCorrect};
 
 /// Tokens, and a text, spell at most one script.
 pub fn one_script()
@@ -15,6 +15,6 @@ pub fn one_refusal()
 {}
 
 /// The descent over all tokens gives a script that they spell, within the limits, or how they are refused.
-pub fn descent_judges()
-    ensures judged { Judges }
+pub fn descent_is_correct()
+    ensures judged { DescentIsCorrect }
 {}

@@ -3,7 +3,7 @@
 ghost use Rattle.std.specs.Prelude.{◌≡◌};
 ghost use Rattle.std.specs.List.{find};
 ghost use Rattle.std.specs.Str.{bytes_eq};
-ghost use Rattle.lois_descent.specs.Lexemes.{word_of, sign_of, as_tag, lexeme_from, accepts, relation_of, unit_form, expr_form, base_form, stmt_form, joint, lead, has_two_operands};
+ghost use Rattle.lois_descent.specs.Lexemes.{word_of, punctuator_text, as_tag, lexeme_from, accepts, relation_of, unit_form, expr_form, base_form, stmt_form, connective, optional_start, has_two_operands};
 
 use lois_lexer::TokenKind;
 use lois_script::Operation;
@@ -17,7 +17,7 @@ pub enum Lexeme {
     Tag,
     Number,
     Word(Keyword),
-    Symbol(Sign),
+    Symbol(Punctuator),
     /// A word that no form of a script has.
     Other,
 }
@@ -56,7 +56,7 @@ pub enum Keyword {
 
 /// A symbol.
 #[derive(Clone, Copy)]
-pub enum Sign {
+pub enum Punctuator {
     Semicolon,
     Comma,
     OpenRound,
@@ -109,20 +109,20 @@ pub const KEYWORDS: [Keyword; 34] = [
     Keyword::Apply(Operation::Minimise),
 ];
 
-pub const SIGNS: [Sign; 13] = [
-    Sign::Semicolon,
-    Sign::Comma,
-    Sign::OpenRound,
-    Sign::CloseRound,
-    Sign::OpenSquare,
-    Sign::CloseSquare,
-    Sign::OpenCurly,
-    Sign::CloseCurly,
-    Sign::Becomes,
-    Sign::Colon,
-    Sign::Equal,
-    Sign::Differs,
-    Sign::Below,
+pub const PUNCTUATORS: [Punctuator; 13] = [
+    Punctuator::Semicolon,
+    Punctuator::Comma,
+    Punctuator::OpenRound,
+    Punctuator::CloseRound,
+    Punctuator::OpenSquare,
+    Punctuator::CloseSquare,
+    Punctuator::OpenCurly,
+    Punctuator::CloseCurly,
+    Punctuator::Becomes,
+    Punctuator::Colon,
+    Punctuator::Equal,
+    Punctuator::Differs,
+    Punctuator::Below,
 ];
 
 impl Keyword {
@@ -172,33 +172,36 @@ impl Keyword {
     }
 }
 
-impl Sign {
+impl Punctuator {
     /// How the symbol is spelled.
     pub fn spelling(self) -> &'static [u8]
-        ensures { result.now ≡ sign_of self }
+        ensures { result.now ≡ punctuator_text self }
     {
         match self {
-            Sign::Semicolon => b";",
-            Sign::Comma => b",",
-            Sign::OpenRound => b"(",
-            Sign::CloseRound => b")",
-            Sign::OpenSquare => b"[",
-            Sign::CloseSquare => b"]",
-            Sign::OpenCurly => b"{",
-            Sign::CloseCurly => b"}",
-            Sign::Becomes => b":=",
-            Sign::Colon => b":",
-            Sign::Equal => b"=",
-            Sign::Differs => b"!=",
-            Sign::Below => b"<",
+            Punctuator::Semicolon => b";",
+            Punctuator::Comma => b",",
+            Punctuator::OpenRound => b"(",
+            Punctuator::CloseRound => b")",
+            Punctuator::OpenSquare => b"[",
+            Punctuator::CloseSquare => b"]",
+            Punctuator::OpenCurly => b"{",
+            Punctuator::CloseCurly => b"}",
+            Punctuator::Becomes => b":=",
+            Punctuator::Colon => b":",
+            Punctuator::Equal => b"=",
+            Punctuator::Differs => b"!=",
+            Punctuator::Below => b"<",
         }
     }
 
     /// The symbol with this spelling.
-    pub fn from_bytes(bytes: &[u8]) -> Option<Sign>
-        ensures { result ≡ find (λ s. bytes_eq (sign_of s) bytes.now) SIGNS }
+    pub fn from_bytes(bytes: &[u8]) -> Option<Punctuator>
+        ensures { result ≡ find (λ s. bytes_eq (punctuator_text s) bytes.now) PUNCTUATORS }
     {
-        SIGNS.iter().copied().find(|sign| sign.spelling() == bytes)
+        PUNCTUATORS
+            .iter()
+            .copied()
+            .find(|sign| sign.spelling() == bytes)
     }
 }
 
@@ -212,7 +215,7 @@ pub fn lexeme_of(kind: TokenKind, bytes: &[u8]) -> Lexeme
         TokenKind::Tag => Lexeme::Tag,
         TokenKind::Number => Lexeme::Number,
         TokenKind::Word => Keyword::from_bytes(bytes).map_or(Lexeme::Other, Lexeme::Word),
-        TokenKind::Symbol => Sign::from_bytes(bytes).map_or(Lexeme::Other, Lexeme::Symbol),
+        TokenKind::Symbol => Punctuator::from_bytes(bytes).map_or(Lexeme::Other, Lexeme::Symbol),
     }
 }
 
@@ -270,15 +273,15 @@ impl Terminal {
                 lexeme,
                 Lexeme::Word(Keyword::Equality | Keyword::Order)
             ),
-            Terminal::Semicolon => matches!(lexeme, Lexeme::Symbol(Sign::Semicolon)),
-            Terminal::Comma => matches!(lexeme, Lexeme::Symbol(Sign::Comma)),
-            Terminal::CloseRound => matches!(lexeme, Lexeme::Symbol(Sign::CloseRound)),
-            Terminal::CloseSquare => matches!(lexeme, Lexeme::Symbol(Sign::CloseSquare)),
-            Terminal::OpenCurly => matches!(lexeme, Lexeme::Symbol(Sign::OpenCurly)),
-            Terminal::CloseCurly => matches!(lexeme, Lexeme::Symbol(Sign::CloseCurly)),
-            Terminal::Colon => matches!(lexeme, Lexeme::Symbol(Sign::Colon)),
-            Terminal::Equal => matches!(lexeme, Lexeme::Symbol(Sign::Equal)),
-            Terminal::Becomes => matches!(lexeme, Lexeme::Symbol(Sign::Becomes)),
+            Terminal::Semicolon => matches!(lexeme, Lexeme::Symbol(Punctuator::Semicolon)),
+            Terminal::Comma => matches!(lexeme, Lexeme::Symbol(Punctuator::Comma)),
+            Terminal::CloseRound => matches!(lexeme, Lexeme::Symbol(Punctuator::CloseRound)),
+            Terminal::CloseSquare => matches!(lexeme, Lexeme::Symbol(Punctuator::CloseSquare)),
+            Terminal::OpenCurly => matches!(lexeme, Lexeme::Symbol(Punctuator::OpenCurly)),
+            Terminal::CloseCurly => matches!(lexeme, Lexeme::Symbol(Punctuator::CloseCurly)),
+            Terminal::Colon => matches!(lexeme, Lexeme::Symbol(Punctuator::Colon)),
+            Terminal::Equal => matches!(lexeme, Lexeme::Symbol(Punctuator::Equal)),
+            Terminal::Becomes => matches!(lexeme, Lexeme::Symbol(Punctuator::Becomes)),
             Terminal::In => matches!(lexeme, Lexeme::Word(Keyword::In)),
             Terminal::To => matches!(lexeme, Lexeme::Word(Keyword::To)),
             Terminal::Relation => relation_of(lexeme).is_some(),
@@ -303,9 +306,9 @@ pub fn relation_of(lexeme: Lexeme) -> Option<Relation>
     ensures { result ≡ relation_of lexeme }
 {
     match lexeme {
-        Lexeme::Symbol(Sign::Equal) => Some(Relation::Same),
-        Lexeme::Symbol(Sign::Differs) => Some(Relation::Differ),
-        Lexeme::Symbol(Sign::Below) => Some(Relation::Below),
+        Lexeme::Symbol(Punctuator::Equal) => Some(Relation::Same),
+        Lexeme::Symbol(Punctuator::Differs) => Some(Relation::Differ),
+        Lexeme::Symbol(Punctuator::Below) => Some(Relation::Below),
         Lexeme::Word(Keyword::In) => Some(Relation::Member),
         Lexeme::Word(Keyword::Subset) => Some(Relation::Included),
         _ => None,
@@ -351,10 +354,10 @@ pub enum StmtForm {
 
 /// What joins a further unit to a condition.
 #[derive(Clone, Copy)]
-pub enum Joint {
+pub enum Connective {
     And,
     Or,
-    NoJoint,
+    NoConnective,
 }
 
 impl Lexeme {
@@ -365,8 +368,8 @@ impl Lexeme {
             Lexeme::Word(Keyword::Atoms) => ExprForm::Atoms,
             Lexeme::Name => ExprForm::Var,
             Lexeme::Tag => ExprForm::Tag,
-            Lexeme::Symbol(Sign::OpenRound) => ExprForm::Tuple,
-            Lexeme::Symbol(Sign::OpenCurly) => ExprForm::Braces,
+            Lexeme::Symbol(Punctuator::OpenRound) => ExprForm::Tuple,
+            Lexeme::Symbol(Punctuator::OpenCurly) => ExprForm::Braces,
             Lexeme::Word(Keyword::Part) => ExprForm::Part,
             Lexeme::Word(Keyword::Apply(operation)) => ExprForm::Apply(operation),
             _ => ExprForm::NoExpr,
@@ -380,7 +383,7 @@ impl Lexeme {
             Lexeme::Word(Keyword::True) => BaseForm::True,
             Lexeme::Word(Keyword::False) => BaseForm::False,
             Lexeme::Word(Keyword::Empty) => BaseForm::Empty,
-            Lexeme::Symbol(Sign::OpenSquare) => BaseForm::Brackets,
+            Lexeme::Symbol(Punctuator::OpenSquare) => BaseForm::Brackets,
             _ => BaseForm::Comparison,
         }
     }
@@ -401,39 +404,39 @@ impl Lexeme {
         }
     }
 
-    pub fn joint(self) -> Joint
-        ensures { result ≡ joint self }
+    pub fn connective(self) -> Connective
+        ensures { result ≡ connective self }
     {
         match self {
-            Lexeme::Word(Keyword::And) => Joint::And,
-            Lexeme::Word(Keyword::Or) => Joint::Or,
-            _ => Joint::NoJoint,
+            Lexeme::Word(Keyword::And) => Connective::And,
+            Lexeme::Word(Keyword::Or) => Connective::Or,
+            _ => Connective::NoConnective,
         }
     }
 }
 
 /// A word or a symbol that begins what may be left out.
 #[derive(Clone, Copy)]
-pub enum Lead {
+pub enum OptionalStart {
     OpenRound,
     Parameter,
     For,
     Where,
     Else,
-    NoLead,
+    NoOptionalStart,
 }
 
 impl Lexeme {
-    pub fn lead(self) -> Lead
-        ensures { result ≡ lead self }
+    pub fn optional_start(self) -> OptionalStart
+        ensures { result ≡ optional_start self }
     {
         match self {
-            Lexeme::Symbol(Sign::OpenRound) => Lead::OpenRound,
-            Lexeme::Word(Keyword::Parameter) => Lead::Parameter,
-            Lexeme::Word(Keyword::For) => Lead::For,
-            Lexeme::Word(Keyword::Where) => Lead::Where,
-            Lexeme::Word(Keyword::Else) => Lead::Else,
-            _ => Lead::NoLead,
+            Lexeme::Symbol(Punctuator::OpenRound) => OptionalStart::OpenRound,
+            Lexeme::Word(Keyword::Parameter) => OptionalStart::Parameter,
+            Lexeme::Word(Keyword::For) => OptionalStart::For,
+            Lexeme::Word(Keyword::Where) => OptionalStart::Where,
+            Lexeme::Word(Keyword::Else) => OptionalStart::Else,
+            _ => OptionalStart::NoOptionalStart,
         }
     }
 }

@@ -7,20 +7,20 @@ use Rattle.std.proofs.lemmas.List.Elements.{All-head, All-tail, All-more, All-ma
 use Rattle.lois_base.specs.Atom.{whole}
 use Rattle.lois_base.specs.Data.{TermD}
 use Rattle.lois_base.specs.Truth.{sampled}
-use Rattle.lois_base.specs.Validity.{AdmitsTerm, HasUsualWidths}
+use Rattle.lois_base.specs.Validity.{AdmitsTerm, HasBoundedWidths}
 use Rattle.lois_base.specs.declared.guards.Lit.{Lit}
 use Rattle.lois_answers.specs.LastNamed.{last_line, last_named, named}
 use Rattle.lois_answers.specs.ResultsData.{LineD, CaseD}
 use Rattle.lois_answers.specs.Sound.{IsSoundTerm, IsSoundLine, IsSoundCase}
 use Rattle.lois_automata.specs.Machines.{IsAutomatonAt, IsDeterministicAt}
 use Rattle.lois_automata.specs.Throughout.{HoldsThroughout, IsBreak}
-use Rattle.lois_equal.specs.Differing.{NeverTold, IsDifference, IfDiffers, IsSame, AreUsual}
+use Rattle.lois_equal.specs.Differing.{HaveSameLanguage, IsDifference, IfDiffers, IsSameAnswer, AreBounded}
 use Rattle.lois_equal.specs.declared.differing.Equality.{Equality}
 use Rattle.lois_equal.specs.declared.differing.Equality.TheVariants.{Same, Differs}
-use Rattle.lois_equal.specs.Comparing.{HasTerm, HasLine, IsFit, IsSomewhereUnfit, AreFit, AreAlike, AreApart, IsReason, number_of, IsFirst, IsReasonOrNone, HasNumber, IsFirstReason, IsFirstDifference, IsComparison, AreAlikeOrApart, side_name}
+use Rattle.lois_equal.specs.Comparing.{HasTerm, HasLine, IsComparable, IsSomewhereNotDeterministic, AreComparable, LinesHaveSameLanguage, LinesDiffer, IsReason, number_of, IsFirst, IsReasonOrNone, HasNumber, IsFirstReason, IsFirstDifference, IsComparison, LinesAgreeOrDiffer, side_name}
 use Rattle.lois_equal.specs.declared.comparing.Comparison.{Comparison}
 use Rattle.lois_equal.specs.declared.comparing.Comparison.TheVariants.{Alike, Differ, Refused}
-use Rattle.lois_equal.specs.declared.comparing.Unfit.{Unfit}
+use Rattle.lois_equal.specs.declared.comparing.ComparisonFault.{ComparisonFault}
 use Rattle.lois_equal.specs.declared.differing.Difference.{Difference}
 
 -- ---- the last line of a name
@@ -51,14 +51,14 @@ one_term name c t s h k =
     cc
 
 -- ---- verdicts
-pub unfit_automaton : (n : ℕ) (u : List (List Lit)) (t : TermD) (s : List ℕ) → IsBreak n u (IsAutomatonAt t) s → IsSomewhereUnfit n u t
+pub unfit_automaton : (n : ℕ) (u : List (List Lit)) (t : TermD) (s : List ℕ) → IsBreak n u (IsAutomatonAt t) s → IsSomewhereNotDeterministic n u t
 unfit_automaton n u t s h = (sampled s, length-map s whole ∙ h.count, h.admitted, λ only. h.broken (only.0, only.1))
 
-pub unfit_deterministic : (n : ℕ) (u : List (List Lit)) (t : TermD) (s : List ℕ) → IsBreak n u (IsDeterministicAt t) s → IsSomewhereUnfit n u t
+pub unfit_deterministic : (n : ℕ) (u : List (List Lit)) (t : TermD) (s : List ℕ) → IsBreak n u (IsDeterministicAt t) s → IsSomewhereNotDeterministic n u t
 unfit_deterministic n u t s h = (sampled s, length-map s whole ∙ h.count, h.admitted, h.broken)
 
 -- ---- the lines of one case
-pub lines_equal : (n : ℕ) (a b : List ℕ) (c : CaseD) (t s : TermD) (r : Equality) → HasTerm a c t → HasTerm b c s → IfDiffers (IsDifference n c.«when» t s) r → (IsSame r → NeverTold n c.«when» t s) → AreAlikeOrApart n a b c r
+pub lines_equal : (n : ℕ) (a b : List ℕ) (c : CaseD) (t s : TermD) (r : Equality) → HasTerm a c t → HasTerm b c s → IfDiffers (IsDifference n c.«when» t s) r → (IsSameAnswer r → HaveSameLanguage n c.«when» t s) → LinesAgreeOrDiffer n a b c r
 lines_equal n a b c t s Same first second is never = (t, s, first, second, never tt)
 lines_equal n a b c t s (Differs d) first second is never = record { first = t; second = s; first_line = first; second_line = second; difference = is; accepts = refl }
 
@@ -89,48 +89,48 @@ module _ {X : Type 0} (P : CaseD → Type 0) (f : X → CaseD) where
       map_both (y ∷ ys) zs = ap (λ z. f y ∷ z) (map_both ys zs)
 
 -- ---- answers of a case, where they are known
-pub number_at : (i : ℕ) (found : Option Unfit) (r : Unfit) → found ≡ Some r → HasNumber (i + 1) found → number_of r ≡ i + 1
+pub number_at : (i : ℕ) (found : Option ComparisonFault) (r : ComparisonFault) → found ≡ Some r → HasNumber (i + 1) found → number_of r ≡ i + 1
 number_at i found r e h = subst (HasNumber (i + 1)) e h
 
-pub reason_at : (n : ℕ) (a b : List ℕ) (c : CaseD) (found : Option Unfit) (r : Unfit) → found ≡ Some r → IsReasonOrNone n a b c found → IsReason n a b r c
+pub reason_at : (n : ℕ) (a b : List ℕ) (c : CaseD) (found : Option ComparisonFault) (r : ComparisonFault) → found ≡ Some r → IsReasonOrNone n a b c found → IsReason n a b r c
 reason_at n a b c found r e h = subst (IsReasonOrNone n a b c) e h
 
-pub fit_at : (n : ℕ) (a b : List ℕ) (c : CaseD) (found : Option Unfit) → found ≡ None → IsReasonOrNone n a b c found → AreFit n a b c
+pub fit_at : (n : ℕ) (a b : List ℕ) (c : CaseD) (found : Option ComparisonFault) → found ≡ None → IsReasonOrNone n a b c found → AreComparable n a b c
 fit_at n a b c found e h = subst (IsReasonOrNone n a b c) e h
 
-pub apart_at : (n : ℕ) (a b : List ℕ) (c : CaseD) (found : Equality) (d : Difference) → found ≡ Differs d → AreAlikeOrApart n a b c found → AreApart n a b d (side_name d.left a b) c
-apart_at n a b c found d e h = subst (AreAlikeOrApart n a b c) e h
+pub apart_at : (n : ℕ) (a b : List ℕ) (c : CaseD) (found : Equality) (d : Difference) → found ≡ Differs d → LinesAgreeOrDiffer n a b c found → LinesDiffer n a b d (side_name d.left a b) c
+apart_at n a b c found d e h = subst (LinesAgreeOrDiffer n a b c) e h
 
-pub alike_at : (n : ℕ) (a b : List ℕ) (c : CaseD) (found : Equality) → found ≡ Same → AreAlikeOrApart n a b c found → AreAlike n a b c
-alike_at n a b c found e h = subst (AreAlikeOrApart n a b c) e h
+pub alike_at : (n : ℕ) (a b : List ℕ) (c : CaseD) (found : Equality) → found ≡ Same → LinesAgreeOrDiffer n a b c found → LinesHaveSameLanguage n a b c
+alike_at n a b c found e h = subst (LinesAgreeOrDiffer n a b c) e h
 
 -- the lines that are compared are fit
-pub fit_term : (n : ℕ) (name : List ℕ) (c : CaseD) (t : TermD) → IsFit n name c → HasTerm name c t → HoldsThroughout n c.«when» (IsDeterministicAt t)
+pub fit_term : (n : ℕ) (name : List ℕ) (c : CaseD) (t : TermD) → IsComparable n name c → HasTerm name c t → HoldsThroughout n c.«when» (IsDeterministicAt t)
 fit_term n name c t (s, has, only) h = subst (λ z. HoldsThroughout n c.«when» (IsDeterministicAt z)) (one_term name c s t has h) only
 
-pub lines_ok : {E : Type 0} (n : ℕ) (a b : List ℕ) (c : CaseD) (t s : TermD) (r : Result Equality E) → HasTerm a c t → HasTerm b c s → IfOk r (λ e. IsSame e ↔ NeverTold n c.«when» t s) → IfOk r (IfDiffers (IsDifference n c.«when» t s)) → IfOk r (AreAlikeOrApart n a b c)
+pub lines_ok : {E : Type 0} (n : ℕ) (a b : List ℕ) (c : CaseD) (t s : TermD) (r : Result Equality E) → HasTerm a c t → HasTerm b c s → IfOk r (λ e. IsSameAnswer e ↔ HaveSameLanguage n c.«when» t s) → IfOk r (IfDiffers (IsDifference n c.«when» t s)) → IfOk r (LinesAgreeOrDiffer n a b c)
 lines_ok n a b c t s (Ok e) first second same is = lines_equal n a b c t s e first second is same.0
 lines_ok n a b c t s (Err e) first second same is = is
 
 -- ---- the terms of a difference
-pub usual_ok : {E : Type 0} (o : Bool) (n : ℕ) (t s : TermD) (r : Result Equality E) → IsSoundTerm o n t → IsSoundTerm o n s → IfOk r (IfDiffers (λ d. (p : Bool) → AdmitsTerm p t → AdmitsTerm p s → All (AdmitsTerm p) d.word)) → IfOk r (IfDiffers (λ d. HasUsualWidths t → HasUsualWidths s → All HasUsualWidths d.word)) → IfOk r (IfDiffers (λ d. AreUsual o d.word))
+pub usual_ok : {E : Type 0} (o : Bool) (n : ℕ) (t s : TermD) (r : Result Equality E) → IsSoundTerm o n t → IsSoundTerm o n s → IfOk r (IfDiffers (λ d. (p : Bool) → AdmitsTerm p t → AdmitsTerm p s → All (AdmitsTerm p) d.word)) → IfOk r (IfDiffers (λ d. HasBoundedWidths t → HasBoundedWidths s → All HasBoundedWidths d.word)) → IfOk r (IfDiffers (λ d. AreBounded o d.word))
 usual_ok o n t s (Ok Same) first second operators widths = tt
 usual_ok o n t s (Ok (Differs d)) first second operators widths = record { operators = operators o first.operators second.operators; widths = widths first.widths second.widths }
 usual_ok o n t s (Err e) first second operators widths = operators
 
-pub usual_at : (o : Bool) (found : Equality) (d : Difference) → found ≡ Differs d → IfDiffers (λ z. AreUsual o z.word) found → AreUsual o d.word
-usual_at o found d e h = subst (IfDiffers (λ z. AreUsual o z.word)) e h
+pub usual_at : (o : Bool) (found : Equality) (d : Difference) → found ≡ Differs d → IfDiffers (λ z. AreBounded o z.word) found → AreBounded o d.word
+usual_at o found d e h = subst (IfDiffers (λ z. AreBounded o z.word)) e h
 
 -- ---- all cases
-pub comparison_of : (n : ℕ) (a b : List ℕ) (cs : List CaseD) → All (AreFit n a b) cs → (r : Comparison) → IsFirstDifference n a b cs r → IsComparison n a b cs r
+pub comparison_of : (n : ℕ) (a b : List ℕ) (cs : List CaseD) → All (AreComparable n a b) cs → (r : Comparison) → IsFirstDifference n a b cs r → IsComparison n a b cs r
 comparison_of n a b cs fit Alike h = (fit, h)
 comparison_of n a b cs fit (Differ k d name) h = (fit, h)
 comparison_of n a b cs fit (Refused r) h = absurd h
 
-pub refused_at : (n m : ℕ) (a b : List ℕ) (cs : List CaseD) (found : Option Unfit) (r : Unfit) → n ≡ m → found ≡ Some r → IsFirstReason n a b cs found → IsFirstReason m a b cs (Some r)
+pub refused_at : (n m : ℕ) (a b : List ℕ) (cs : List CaseD) (found : Option ComparisonFault) (r : ComparisonFault) → n ≡ m → found ≡ Some r → IsFirstReason n a b cs found → IsFirstReason m a b cs (Some r)
 refused_at n m a b cs found r e f h = subst (λ k. IsFirstReason k a b cs (Some r)) e (subst (IsFirstReason n a b cs) f h)
 
-pub all_fit : (n : ℕ) (a b : List ℕ) (cs : List CaseD) (found : Option Unfit) → found ≡ None → IsFirstReason n a b cs found → All (AreFit n a b) cs
+pub all_fit : (n : ℕ) (a b : List ℕ) (cs : List CaseD) (found : Option ComparisonFault) → found ≡ None → IsFirstReason n a b cs found → All (AreComparable n a b) cs
 all_fit n a b cs found e h = subst (IsFirstReason n a b cs) e h
 
 pub sound_cases : (o p : Bool) (n m : ℕ) (cs : List CaseD) → p ≡ o → m ≡ n → All (IsSoundCase o n) cs → All (IsSoundCase p m) cs

@@ -9,26 +9,26 @@ use Rattle.lois_base.specs.Values.{PointValue}
 use Rattle.lois_base.specs.declared.guards.Lit.{Lit}
 use Rattle.lois_automata.specs.Machines.{IsEmptyAt}
 use Rattle.lois_automata.specs.Throughout.{HoldsThroughout}
-use Rattle.lois_words.specs.Words.{AcceptsAt, IsShortestWord, first_sampled, values_at}
-use Rattle.lois_words.specs.declared.words.Word.{Word}
+use Rattle.lois_shortest_word.specs.Words.{AcceptsAt, IsShortestWord, first_sampled, values_at}
+use Rattle.lois_shortest_word.specs.declared.words.Word.{Word}
 use Rattle.lois_equal.specs.declared.differing.Difference.{Difference}
 use Rattle.lois_equal.specs.declared.differing.Equality.{Equality}
 use Rattle.lois_equal.specs.declared.differing.Equality.TheVariants.{Differs}
-use Rattle.lois_equal.specs.Differing.{IsSame, IfDiffers, NeverTold, IsAcceptedAlone, IsDifference, NeverAlone, IsShortestAlone, IsShorterOf}
-use Rattle.lois_equal.specs.Telling.{AcceptsAlone, TellsApart, HasLetterAt}
+use Rattle.lois_equal.specs.Differing.{IsSameAnswer, IfDiffers, HaveSameLanguage, IsAcceptedByOne, IsDifference, IsLanguageIncluded, IsShortestDifference, IsShorterOf}
+use Rattle.lois_equal.specs.Telling.{AcceptsOnlyFirst, TellsApart, HasLetterAt}
 use Rattle.lois_equal.proofs.Alone.{accepts_of, all_letters}
 
 first_length : (n : ℕ) (s : List ℕ) → n ≤ length s → length (first_sampled n s) ≡ n
 first_length n s h = length-map (take n s) whole ∙ (length-take n s ∙ omega arith)
 
 -- ---- of an automaton r that accepts what t alone accepts
-module _ (n : ℕ) (u : List (List Lit)) (t s r : TermD) (words : HoldsThroughout n u (λ c. (word : List PointValue) → AcceptsAt r c word ↔ AcceptsAlone t s c word)) where
-  pub never_alone : HoldsThroughout n u (IsEmptyAt r) → NeverAlone n u t s
+module _ (n : ℕ) (u : List (List Lit)) (t s r : TermD) (words : HoldsThroughout n u (λ c. (word : List PointValue) → AcceptsAt r c word ↔ AcceptsOnlyFirst t s c word)) where
+  pub never_alone : HoldsThroughout n u (IsEmptyAt r) → IsLanguageIncluded n u t s
   never_alone empty c l h word alone =
       let none = empty c l h in
       none.2 word (accepts_of r c none.0 none.1 word ((words c l h word).1 alone))
 
-  shortest_is_alone : (w : Word) → IsShortestWord n u r w → IsShortestAlone n u t s w
+  shortest_is_alone : (w : Word) → IsShortestWord n u r w → IsShortestDifference n u t s w
   shortest_is_alone w is = record {
     count = is.count;
     admitted = is.admitted;
@@ -38,16 +38,16 @@ module _ (n : ℕ) (u : List (List Lit)) (t s r : TermD) (words : HoldsThroughou
     used = is.used;
   }
 
-  pub some_alone : (o : Option Word) → IfSome o (IsShortestWord n u r) → IfSome o (IsShortestAlone n u t s)
+  pub some_alone : (o : Option Word) → IfSome o (IsShortestWord n u r) → IfSome o (IsShortestDifference n u t s)
   some_alone None is = tt
   some_alone (Some w) is = shortest_is_alone w is
 
 module _ (n : ℕ) (u : List (List Lit)) (t s : TermD) where
   -- no word that t alone accepts is shorter than k letters
   abbrev HaveAtLeast : TermD → TermD → ℕ → Type 0
-  HaveAtLeast t s k = HoldsThroughout n u (λ c. (word : List PointValue) → AcceptsAlone t s c word → k ≤ length word)
+  HaveAtLeast t s k = HoldsThroughout n u (λ c. (word : List PointValue) → AcceptsOnlyFirst t s c word → k ≤ length word)
 
-  left_difference : (w : Word) → IsShortestAlone n u t s w → HaveAtLeast s t (length w.letters) → IsDifference n u t s (record { sample = w.sample; word = w.letters; left = true })
+  left_difference : (w : Word) → IsShortestDifference n u t s w → HaveAtLeast s t (length w.letters) → IsDifference n u t s (record { sample = w.sample; word = w.letters; left = true })
   left_difference w is bound = record {
     count = is.count;
     admitted = is.admitted;
@@ -58,7 +58,7 @@ module _ (n : ℕ) (u : List (List Lit)) (t s : TermD) where
     used = is.used;
   }
 
-  right_difference : (w : Word) → IsShortestAlone n u s t w → HaveAtLeast t s (length w.letters) → IsDifference n u t s (record { sample = w.sample; word = w.letters; left = false })
+  right_difference : (w : Word) → IsShortestDifference n u s t w → HaveAtLeast t s (length w.letters) → IsDifference n u t s (record { sample = w.sample; word = w.letters; left = false })
   right_difference w is bound = record {
     count = is.count;
     admitted = is.admitted;
@@ -69,13 +69,13 @@ module _ (n : ℕ) (u : List (List Lit)) (t s : TermD) where
     used = is.used;
   }
 
-  told_of : (left : Bool) (c : List Atom) (word : List PointValue) → IsAcceptedAlone left t s c word → TellsApart t s c word
+  told_of : (left : Bool) (c : List Atom) (word : List PointValue) → IsAcceptedByOne left t s c word → TellsApart t s c word
   told_of true c word h = inl h
   told_of false c word h = inr h
 
   -- what is promised of an answer
   abbrev pub IsFound : Equality → Type 0
-  IsFound r = (IsSame r ↔ NeverTold n u t s) × IfDiffers (IsDifference n u t s) r
+  IsFound r = (IsSameAnswer r ↔ HaveSameLanguage n u t s) × IfDiffers (IsDifference n u t s) r
 
   differs_found : (d : Difference) → IsDifference n u t s d → IsFound (Differs d)
   differs_found d is = (
@@ -83,13 +83,13 @@ module _ (n : ℕ) (u : List (List Lit)) (t s : TermD) where
     is,
   )
 
-  never_bound : (a b : TermD) (k : ℕ) → NeverAlone n u a b → HaveAtLeast a b k
+  never_bound : (a b : TermD) (k : ℕ) → IsLanguageIncluded n u a b → HaveAtLeast a b k
   never_bound a b k never c l h word alone = absurd (never c l h word alone)
 
-  longer_bound : (a b : TermD) (w : Word) (k : ℕ) → k ≤ length w.letters → IsShortestAlone n u a b w → HaveAtLeast a b k
+  longer_bound : (a b : TermD) (w : Word) (k : ℕ) → k ≤ length w.letters → IsShortestDifference n u a b w → HaveAtLeast a b k
   longer_bound a b w k le is c l h word alone = omega (arith, le, is.shortest c l h word alone)
 
-  pub shorter_found : (first second : Option Word) (r : Equality) → (IsNone first → NeverAlone n u t s) → IfSome first (IsShortestAlone n u t s) → (IsNone second → NeverAlone n u s t) → IfSome second (IsShortestAlone n u s t) → IsShorterOf first second r → IsFound r
+  pub shorter_found : (first second : Option Word) (r : Equality) → (IsNone first → IsLanguageIncluded n u t s) → IfSome first (IsShortestDifference n u t s) → (IsNone second → IsLanguageIncluded n u s t) → IfSome second (IsShortestDifference n u s t) → IsShorterOf first second r → IsFound r
   shorter_found None None r none some none' some' is =
       subst (λ z. IsFound z) (sym is) (
         (λ h. λ c l h word told. elim told [ inl p ↦ none refl c l h word p | inr p ↦ none' refl c l h word p ], λ h. tt),

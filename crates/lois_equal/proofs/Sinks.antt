@@ -9,19 +9,19 @@ use Rattle.lois_algebra.specs.Gathered.{IsMadeBy, IsPut}
 use Rattle.lois_algebra.specs.Sets.{IsUnion}
 use Rattle.lois_algebra.proofs.Among.{among_in}
 use Rattle.lois_terms.specs.Guarded.{IsSet}
-use Rattle.lois_meaning.specs.Automata.{Machine, JoinsStates, IsAutomatonOf, HasStep, Reads, Accepts, IsDeterministic, IsComplete}
+use Rattle.lois_meaning.specs.Automata.{Automaton, JoinsStates, IsAutomatonOf, HasStep, Reads, Accepts, IsDeterministic, IsComplete}
 use Rattle.lois_meaning.specs.Kinds.{HasParts}
 use Rattle.lois_meaning.proofs.Operations.{triple_both, step_move}
-use Rattle.lois_automata.specs.Columns.{five_of, five_terms, machine_at}
+use Rattle.lois_automata.specs.Projections.{five_of, five_terms, automaton_at}
 use Rattle.lois_automata.specs.Machines.{IsDeterministicAt}
 use Rattle.lois_automata.proofs.FiveMachine.{five_equal, five_machine}
 use Rattle.lois_automata.proofs.Paths.{source_in}
-use Rattle.lois_words.specs.Words.{AcceptsAt}
-use Rattle.lois_equal.specs.Completed.{IsCompletionAt, HasOneMore, AreTotal, IsCompletedOf, IsWayOut}
+use Rattle.lois_shortest_word.specs.Words.{AcceptsAt}
+use Rattle.lois_equal.specs.Completed.{IsCompletionAt, HasOneMore, AreTotal, IsCompletedOf, IsSinkStep}
 use Rattle.lois_equal.specs.Telling.{HasLetterAt}
 use Rattle.lois_equal.proofs.Itself.{not_in_itself}
 
-module _ (v : PointValue) (a m : Machine) (more sink : PointValue) (is : IsAutomatonOf v a) (one : IsDeterministic a) (made : IsCompletedOf m a more sink) where
+module _ (v : PointValue) (a m : Automaton) (more sink : PointValue) (is : IsAutomatonOf v a) (one : IsDeterministic a) (made : IsCompletedOf m a more sink) where
   -- a step to the sink, where a has none
   abbrev IsNew : PointValue → PointValue → PointValue → Type 0
   IsNew p l q = IsSame q sink × ((r : PointValue) → HasStep a p l r → ⊥)
@@ -32,7 +32,7 @@ module _ (v : PointValue) (a m : Machine) (more sink : PointValue) (is : IsAutom
     | inr j ↦ inr (new j)
   ]
     where
-      new : IsWayOut m.states m.letters a.steps sink x → IsNew p l q
+      new : IsSinkStep m.states m.letters a.steps sink x → IsNew p l q
       new (p', l', j, j', never, triple') =
           let parts = triple_both x p l q p' l' sink triple triple' in
           (parts.2, λ r step. never r (step_move a p l r p' l' r parts.0 parts.1 (same_refl r) step))
@@ -49,7 +49,7 @@ module _ (v : PointValue) (a m : Machine) (more sink : PointValue) (is : IsAutom
       old : JoinsStates x a → JoinsStates x m
       old (p, l, q, triple, j, j', k) = (p, l, q, triple, (made.states.1 p).1 (inl j), (made.letters.1 l).1 (inl j'), (made.states.1 q).1 (inl k))
 
-      new : IsWayOut m.states m.letters a.steps sink x → JoinsStates x m
+      new : IsSinkStep m.states m.letters a.steps sink x → JoinsStates x m
       new (p, l, j, j', never, triple) = (p, l, sink, triple, j, j', (made.states.1 sink).1 (inr (same_refl sink)))
 
   completed_automaton : (r : PointValue) → HasParts r (m.states ∷ m.letters ∷ m.steps ∷ m.initial ∷ m.final ∷ []) → IsAutomatonOf r m
@@ -115,19 +115,19 @@ module _ (v : PointValue) (a m : Machine) (more sink : PointValue) (is : IsAutom
       back (p, i, (q, j, reads)) = (p, (made.initial.1 p).1 i, (q, (made.final.1 q).1 j, reads_new word p q reads))
 
 -- the automaton that a term of five sets is, if it is one
-module _ (s l t i f : CompsD) (c : List Atom) (is : IsAutomatonOf (point (five_of s l t i f) c) (machine_at s l t i f c)) where
-  accepts_five : (word : List PointValue) → AcceptsAt (five_of s l t i f) c word ↔ Accepts (machine_at s l t i f c) word
-  accepts_five word = (λ h. subst (λ z. Accepts z word) (five_equal s l t i f c h.0 h.1) h.2, λ h. (machine_at s l t i f c, is, h))
+module _ (s l t i f : CompsD) (c : List Atom) (is : IsAutomatonOf (point (five_of s l t i f) c) (automaton_at s l t i f c)) where
+  accepts_five : (word : List PointValue) → AcceptsAt (five_of s l t i f) c word ↔ Accepts (automaton_at s l t i f c) word
+  accepts_five word = (λ h. subst (λ z. Accepts z word) (five_equal s l t i f c h.0 h.1) h.2, λ h. (automaton_at s l t i f c, is, h))
 
   letter_five : (x : PointValue) → HasLetterAt (five_of s l t i f) c x ↔ IsIn x (point (coll l) c)
-  letter_five x = (λ h. subst (λ z. IsIn x z.letters) (five_equal s l t i f c h.0 h.1) h.2, λ h. (machine_at s l t i f c, is, h))
+  letter_five x = (λ h. subst (λ z. IsIn x z.letters) (five_equal s l t i f c h.0 h.1) h.2, λ h. (automaton_at s l t i f c, is, h))
 
 module _ (s l t i f : CompsD) (rs rl rt : CompsD) (more sink : TermD) (c : List Atom) where
-  pub completion_five : IsDeterministicAt (five_of s l t i f) c → IsCompletedOf (machine_at rs rl rt i f c) (machine_at s l t i f c) (point more c) (point sink c) → IsCompletionAt (five_of s l t i f) more (five_of rs rl rt i f) c
+  pub completion_five : IsDeterministicAt (five_of s l t i f) c → IsCompletedOf (automaton_at rs rl rt i f c) (automaton_at s l t i f c) (point more c) (point sink c) → IsCompletionAt (five_of s l t i f) more (five_of rs rl rt i f) c
   completion_five (m, own, only) made =
       let v = point (five_of s l t i f) c in
-      let a = machine_at s l t i f c in
-      let b = machine_at rs rl rt i f c in
+      let a = automaton_at s l t i f c in
+      let b = automaton_at rs rl rt i f c in
       let is = five_machine s l t i f c (m, own) in
       let one = subst IsDeterministic (five_equal s l t i f c m own) only in
       let is' = completed_automaton v a b (point more c) (point sink c) is one made (point (five_of rs rl rt i f) c) refl in
@@ -185,7 +185,7 @@ module _ (n : ℕ) (t r : TermD) (s l st i f : CompsD) (is : t ≡ five_of s l s
       let rt : CompsD = set.0 in
       let here : r ≡ five_of rs rl rt i f = rw (made, set.1, ei, ef) in
       let apart : IsIn (point sink c) (point (coll s) c) → ⊥ = subst (λ z. IsIn (point z c) (point (coll s) c) → ⊥) (sym es) (not_in_itself s c) in
-      let own : IsCompletedOf (machine_at rs rl rt i f c) (machine_at s l st i f c) (point (coll more) c) (point sink c) = record {
+      let own : IsCompletedOf (automaton_at rs rl rt i f c) (automaton_at s l st i f c) (point (coll more) c) (point sink c) = record {
         states = (tt, one_more c);
         letters = (tt, all c);
         steps_set = tt;

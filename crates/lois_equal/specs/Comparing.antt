@@ -9,14 +9,14 @@ use Rattle.lois_answers.specs.LastNamed.{last_named}
 use Rattle.lois_answers.specs.ResultsData.{CaseD}
 use Rattle.lois_automata.specs.Machines.{IsDeterministicAt}
 use Rattle.lois_automata.specs.Throughout.{HoldsThroughout}
-use Rattle.lois_equal.specs.Differing.{NeverTold, IsDifference}
+use Rattle.lois_equal.specs.Differing.{HaveSameLanguage, IsDifference}
 use Rattle.lois_equal.specs.declared.differing.Difference.{Difference}
 use Rattle.lois_equal.specs.declared.differing.Equality.{Equality}
 use Rattle.lois_equal.specs.declared.differing.Equality.TheVariants.{Same, Differs}
 use Rattle.lois_equal.specs.declared.comparing.Comparison.{Comparison}
 use Rattle.lois_equal.specs.declared.comparing.Comparison.TheVariants.{Alike, Differ, Refused}
-use Rattle.lois_equal.specs.declared.comparing.Unfit.{Unfit}
-use Rattle.lois_equal.specs.declared.comparing.Unfit.TheVariants.{NoLine, NotDeterministic}
+use Rattle.lois_equal.specs.declared.comparing.ComparisonFault.{ComparisonFault}
+use Rattle.lois_equal.specs.declared.comparing.ComparisonFault.TheVariants.{NoLine, NotDeterministic}
 
 -- the last line of that name holds the term
 abbrev pub HasTerm : List ℕ → CaseD → TermD → Type 0
@@ -29,30 +29,30 @@ abbrev pub HasNoLine : List ℕ → CaseD → Type 0
 HasNoLine name c = last_named name c.lines ≡ None
 
 -- the line holds a deterministic automaton at each choice of n atoms that the case admits
-abbrev pub IsFit : ℕ → List ℕ → CaseD → Type 0
-IsFit n name c = (t : TermD) × HasTerm name c t × HoldsThroughout n c.«when» (IsDeterministicAt t)
+abbrev pub IsComparable : ℕ → List ℕ → CaseD → Type 0
+IsComparable n name c = (t : TermD) × HasTerm name c t × HoldsThroughout n c.«when» (IsDeterministicAt t)
 
 -- at some choice of n atoms that u admits the value is no deterministic automaton
-abbrev pub IsSomewhereUnfit : ℕ → List (List Lit) → TermD → Type 0
-IsSomewhereUnfit n u t = (d : List Atom) × (length d ≡ n) × IsTrue (holds d u) × (IsDeterministicAt t d → ⊥)
+abbrev pub IsSomewhereNotDeterministic : ℕ → List (List Lit) → TermD → Type 0
+IsSomewhereNotDeterministic n u t = (d : List Atom) × (length d ≡ n) × IsTrue (holds d u) × (IsDeterministicAt t d → ⊥)
 
 -- so of the line's
-abbrev pub IsUnfit : ℕ → List ℕ → CaseD → Type 0
-IsUnfit n name c = (t : TermD) × HasTerm name c t × IsSomewhereUnfit n c.«when» t
+abbrev pub IsNotDeterministic : ℕ → List ℕ → CaseD → Type 0
+IsNotDeterministic n name c = (t : TermD) × HasTerm name c t × IsSomewhereNotDeterministic n c.«when» t
 
-abbrev pub AreFit : ℕ → List ℕ → List ℕ → CaseD → Type 0
-AreFit n a b c = IsFit n a c × IsFit n b c
+abbrev pub AreComparable : ℕ → List ℕ → List ℕ → CaseD → Type 0
+AreComparable n a b c = IsComparable n a c × IsComparable n b c
 
 -- no list of values tells the two lines apart, at any choice of n atoms that the case admits
-abbrev pub AreAlike : ℕ → List ℕ → List ℕ → CaseD → Type 0
-AreAlike n a b c = (t s : TermD) × HasTerm a c t × HasTerm b c s × NeverTold n c.«when» t s
+abbrev pub LinesHaveSameLanguage : ℕ → List ℕ → List ℕ → CaseD → Type 0
+LinesHaveSameLanguage n a b c = (t s : TermD) × HasTerm a c t × HasTerm b c s × HaveSameLanguage n c.«when» t s
 
 -- d tells the two lines apart, and the line of this name accepts
 abbrev pub side_name : Bool → List ℕ → List ℕ → List ℕ
 side_name true a b = a
 side_name false a b = b
 
-pub record AreApart (n : ℕ) (a b : List ℕ) (d : Difference) (name : List ℕ) (c : CaseD) : Type 0 where
+pub record LinesDiffer (n : ℕ) (a b : List ℕ) (d : Difference) (name : List ℕ) (c : CaseD) : Type 0 where
   pub first : TermD
   pub second : TermD
   pub first_line : HasTerm a c first
@@ -62,11 +62,11 @@ pub record AreApart (n : ℕ) (a b : List ℕ) (d : Difference) (name : List ℕ
 
 -- why a case can't be compared: the first name's line is looked for first, then the second's; then the first one is looked at, then
 -- the second
-abbrev pub IsReason : ℕ → List ℕ → List ℕ → Unfit → CaseD → Type 0
+abbrev pub IsReason : ℕ → List ℕ → List ℕ → ComparisonFault → CaseD → Type 0
 IsReason n a b (NoLine name k) c = ((name ≡ a) × HasNoLine a c) ⊎ ((name ≡ b) × HasLine a c × HasNoLine b c)
-IsReason n a b (NotDeterministic name k) c = ((name ≡ a) × IsUnfit n a c × HasLine b c) ⊎ ((name ≡ b) × IsFit n a c × IsUnfit n b c)
+IsReason n a b (NotDeterministic name k) c = ((name ≡ a) × IsNotDeterministic n a c × HasLine b c) ⊎ ((name ≡ b) × IsComparable n a c × IsNotDeterministic n b c)
 
-abbrev pub number_of : Unfit → ℕ
+abbrev pub number_of : ComparisonFault → ℕ
 number_of (NoLine name k) = k
 number_of (NotDeterministic name k) = k
 
@@ -82,9 +82,9 @@ pub record IsFirst (P Q : CaseD → Type 0) (k : ℕ) (cases : List CaseD) : Typ
 
 -- a refusal names the first case that can't be compared; otherwise all can, and a difference is in the first case that has one
 abbrev pub IsComparison : ℕ → List ℕ → List ℕ → List CaseD → Comparison → Type 0
-IsComparison n a b cases Alike = All (AreFit n a b) cases × All (AreAlike n a b) cases
-IsComparison n a b cases (Differ k d name) = All (AreFit n a b) cases × IsFirst (AreAlike n a b) (AreApart n a b d name) k cases
-IsComparison n a b cases (Refused r) = IsFirst (AreFit n a b) (IsReason n a b r) (number_of r) cases
+IsComparison n a b cases Alike = All (AreComparable n a b) cases × All (LinesHaveSameLanguage n a b) cases
+IsComparison n a b cases (Differ k d name) = All (AreComparable n a b) cases × IsFirst (LinesHaveSameLanguage n a b) (LinesDiffer n a b d name) k cases
+IsComparison n a b cases (Refused r) = IsFirst (AreComparable n a b) (IsReason n a b r) (number_of r) cases
 
 abbrev pub IfDiffer : (Difference → Type 0) → Comparison → Type 0
 IfDiffer P Alike = Unit {0}
@@ -93,31 +93,31 @@ IfDiffer P (Refused r) = Unit {0}
 
 -- ---- what private contracts say
 -- no reason that a case can't be compared; the reason
-abbrev pub IsReasonOrNone : ℕ → List ℕ → List ℕ → CaseD → Option Unfit → Type 0
-IsReasonOrNone n a b c None = AreFit n a b c
+abbrev pub IsReasonOrNone : ℕ → List ℕ → List ℕ → CaseD → Option ComparisonFault → Type 0
+IsReasonOrNone n a b c None = AreComparable n a b c
 IsReasonOrNone n a b c (Some r) = IsReason n a b r c
 
-abbrev pub HasNumber : ℕ → Option Unfit → Type 0
+abbrev pub HasNumber : ℕ → Option ComparisonFault → Type 0
 HasNumber k None = Unit {0}
 HasNumber k (Some r) = number_of r ≡ k
 
 -- so of all cases: of the first that can't be compared
-abbrev pub IsFirstReason : ℕ → List ℕ → List ℕ → List CaseD → Option Unfit → Type 0
-IsFirstReason n a b cases None = All (AreFit n a b) cases
-IsFirstReason n a b cases (Some r) = IsFirst (AreFit n a b) (IsReason n a b r) (number_of r) cases
+abbrev pub IsFirstReason : ℕ → List ℕ → List ℕ → List CaseD → Option ComparisonFault → Type 0
+IsFirstReason n a b cases None = All (AreComparable n a b) cases
+IsFirstReason n a b cases (Some r) = IsFirst (AreComparable n a b) (IsReason n a b r) (number_of r) cases
 
 -- the answer says whether the value is a deterministic automaton at each choice that u admits
 abbrev pub IsAnswerOf : ℕ → List (List Lit) → TermD → Bool → Type 0
 IsAnswerOf n u t true = HoldsThroughout n u (IsDeterministicAt t)
-IsAnswerOf n u t false = IsSomewhereUnfit n u t
+IsAnswerOf n u t false = IsSomewhereNotDeterministic n u t
 
 -- of cases that can all be compared: the first in which the lines differ
 abbrev pub IsFirstDifference : ℕ → List ℕ → List ℕ → List CaseD → Comparison → Type 0
-IsFirstDifference n a b cases Alike = All (AreAlike n a b) cases
-IsFirstDifference n a b cases (Differ k d name) = IsFirst (AreAlike n a b) (AreApart n a b d name) k cases
+IsFirstDifference n a b cases Alike = All (LinesHaveSameLanguage n a b) cases
+IsFirstDifference n a b cases (Differ k d name) = IsFirst (LinesHaveSameLanguage n a b) (LinesDiffer n a b d name) k cases
 IsFirstDifference n a b cases (Refused r) = ⊥
 
 -- nothing tells the two lines apart, or the difference does
-abbrev pub AreAlikeOrApart : ℕ → List ℕ → List ℕ → CaseD → Equality → Type 0
-AreAlikeOrApart n a b c Same = AreAlike n a b c
-AreAlikeOrApart n a b c (Differs d) = AreApart n a b d (side_name d.left a b) c
+abbrev pub LinesAgreeOrDiffer : ℕ → List ℕ → List ℕ → CaseD → Equality → Type 0
+LinesAgreeOrDiffer n a b c Same = LinesHaveSameLanguage n a b c
+LinesAgreeOrDiffer n a b c (Differs d) = LinesDiffer n a b d (side_name d.left a b) c

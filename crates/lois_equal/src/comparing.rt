@@ -8,8 +8,8 @@ ghost use Rattle.lois_base.specs.Validity.{AdmitsConstraint, AdmitsTerm};
 ghost use Rattle.lois_answers.specs.CaseView.{case_of};
 ghost use Rattle.lois_answers.specs.Sound.{IsSound, IsSoundCase};
 ghost use Rattle.lois_deciders.specs.OnlyAsked.{HasOnlyAsked};
-ghost use Rattle.lois_equal.specs.Comparing.{AreFit, IsReasonOrNone, HasNumber, IsFirstReason, IsFirstDifference, IsAnswerOf, IsComparison, AreAlikeOrApart, IfDiffer, side_name};
-ghost use Rattle.lois_equal.specs.Differing.{IfDiffers, AreUsual};
+ghost use Rattle.lois_equal.specs.Comparing.{AreComparable, IsReasonOrNone, HasNumber, IsFirstReason, IsFirstDifference, IsAnswerOf, IsComparison, LinesAgreeOrDiffer, IfDiffer, side_name};
+ghost use Rattle.lois_equal.specs.Differing.{IfDiffers, AreBounded};
 
 use crate::differing::{Difference, Equality, equal};
 use lois_answers::{Case, Cases, Results};
@@ -20,7 +20,7 @@ use std::alloc::Global;
 
 /// Why a case can't be compared, with a name and the case's number, from 1.
 #[derive(Drop)]
-pub enum Unfit {
+pub enum ComparisonFault {
     // there is no line of that name
     NoLine(Name, usize),
     // at some choice that the case admits the line holds no deterministic automaton
@@ -33,7 +33,7 @@ pub enum Comparison {
     Alike,
     // the number of the first case in which they differ, from 1, and the name of the line that accepts
     Differ(usize, Difference, Name),
-    Refused(Unfit),
+    Refused(ComparisonFault),
 }
 
 /// Whether the lines of the two names accept the same words in each case, at each choice that the case admits. All cases are
@@ -49,7 +49,7 @@ pub fn compare<T: Structure>(
     requires sound { IsSound results.now }
     requires atoms { T.ordered ≡ results.now.order }
     ensures comparison { IfOk result (IsComparison (length results.now.parameters) first.now second.now results.now.cases) }
-    ensures usual { IfOk result (IfDiffer (λ d. AreUsual T.ordered d.word)) }
+    ensures usual { IfOk result (IfDiffer (λ d. AreBounded T.ordered d.word)) }
 
     // whatever is answered
     ensures only_asked { HasOnlyAsked (λ b. (⟦<dyn Decider as Decider>⟧ b.vtable).kind_of b.value) (λ b. (⟦<dyn Decider as Decider>⟧ b.vtable).questions b.value) chosen.old chosen.new }
@@ -70,7 +70,7 @@ fn first_unfit<T: Structure>(
     first: &Name,
     second: &Name,
     chosen: &mut Chosen,
-) -> Result<Option<Unfit>, NoMemory>
+) -> Result<Option<ComparisonFault>, NoMemory>
     requires { All (IsSoundCase T.ordered size) cases.now }
     ensures first { IfOk result (IsFirstReason size first.now second.now cases.now) }
     ensures only_asked { HasOnlyAsked (λ b. (⟦<dyn Decider as Decider>⟧ b.vtable).kind_of b.value) (λ b. (⟦<dyn Decider as Decider>⟧ b.vtable).questions b.value) chosen.old chosen.new }
@@ -93,7 +93,7 @@ fn unfit_in<T: Structure>(
     first: &Name,
     second: &Name,
     chosen: &mut Chosen,
-) -> Result<Option<Unfit>, NoMemory>
+) -> Result<Option<ComparisonFault>, NoMemory>
     requires { IsSoundCase T.ordered size (case_of case.now) }
     ensures reason { IfOk result (IsReasonOrNone size first.now second.now (case_of case.now)) }
     ensures number { IfOk result (HasNumber number) }
@@ -101,19 +101,19 @@ fn unfit_in<T: Structure>(
 {
     let Some(one) = case.lines.last_named(first) else {
         let name = first.copy(alloc)?;
-        return Ok(Some(Unfit::NoLine(name, number)));
+        return Ok(Some(ComparisonFault::NoLine(name, number)));
     };
     let Some(other) = case.lines.last_named(second) else {
         let name = second.copy(alloc)?;
-        return Ok(Some(Unfit::NoLine(name, number)));
+        return Ok(Some(ComparisonFault::NoLine(name, number)));
     };
     if !is_deterministic::<T>(alloc, &one.term, &case.when, size, chosen)? {
         let name = first.copy(alloc)?;
-        return Ok(Some(Unfit::NotDeterministic(name, number)));
+        return Ok(Some(ComparisonFault::NotDeterministic(name, number)));
     }
     if !is_deterministic::<T>(alloc, &other.term, &case.when, size, chosen)? {
         let name = second.copy(alloc)?;
-        return Ok(Some(Unfit::NotDeterministic(name, number)));
+        return Ok(Some(ComparisonFault::NotDeterministic(name, number)));
     }
     Ok(None)
 }
@@ -152,9 +152,9 @@ fn first_difference<T: Structure>(
     chosen: &mut Chosen,
 ) -> Result<Comparison, NoMemory>
     requires sound { All (IsSoundCase T.ordered size) cases.now }
-    requires fit { All (AreFit size first.now second.now) cases.now }
+    requires fit { All (AreComparable size first.now second.now) cases.now }
     ensures first { IfOk result (IsFirstDifference size first.now second.now cases.now) }
-    ensures usual { IfOk result (IfDiffer (λ d. AreUsual T.ordered d.word)) }
+    ensures usual { IfOk result (IfDiffer (λ d. AreBounded T.ordered d.word)) }
     ensures only_asked { HasOnlyAsked (λ b. (⟦<dyn Decider as Decider>⟧ b.vtable).kind_of b.value) (λ b. (⟦<dyn Decider as Decider>⟧ b.vtable).questions b.value) chosen.old chosen.new }
 {
     for (index, case) in cases.as_slice().iter().enumerate() {
@@ -176,9 +176,9 @@ fn compare_lines<T: Structure>(
     chosen: &mut Chosen,
 ) -> Result<Equality, NoMemory>
     requires sound { IsSoundCase T.ordered size (case_of case.now) }
-    requires fit { AreFit size first.now second.now (case_of case.now) }
-    ensures equality { IfOk result (AreAlikeOrApart size first.now second.now (case_of case.now)) }
-    ensures usual { IfOk result (IfDiffers (λ d. AreUsual T.ordered d.word)) }
+    requires fit { AreComparable size first.now second.now (case_of case.now) }
+    ensures equality { IfOk result (LinesAgreeOrDiffer size first.now second.now (case_of case.now)) }
+    ensures usual { IfOk result (IfDiffers (λ d. AreBounded T.ordered d.word)) }
     ensures only_asked { HasOnlyAsked (λ b. (⟦<dyn Decider as Decider>⟧ b.vtable).kind_of b.value) (λ b. (⟦<dyn Decider as Decider>⟧ b.vtable).questions b.value) chosen.old chosen.new }
 {
     let Some(one) = case.lines.last_named(first) else {

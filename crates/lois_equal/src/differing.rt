@@ -4,16 +4,16 @@ ghost use Rattle.std.specs.Prelude.{◌≡◌, Bool, IfOk, ◌↔◌};
 ghost use Rattle.std.specs.List.{All};
 ghost use Rattle.lois_base.specs.Fits.{ConstraintFits, Fits};
 ghost use Rattle.lois_base.specs.Tree.{tree};
-ghost use Rattle.lois_base.specs.Validity.{AdmitsConstraint, AdmitsTerm, HasUsualWidths};
+ghost use Rattle.lois_base.specs.Validity.{AdmitsConstraint, AdmitsTerm, HasBoundedWidths};
 ghost use Rattle.lois_deciders.specs.OnlyAsked.{HasOnlyAsked};
 ghost use Rattle.lois_automata.specs.Machines.{IsDeterministicAt};
 ghost use Rattle.lois_automata.specs.Throughout.{HoldsThroughout};
-ghost use Rattle.lois_equal.specs.Differing.{IsSame, IfDiffers, NeverTold, IsDifference, IsShorterOf, sided};
+ghost use Rattle.lois_equal.specs.Differing.{IsSameAnswer, IfDiffers, HaveSameLanguage, IsDifference, IsShorterOf, sided};
 
-use crate::excluding::shortest_alone;
+use crate::excluding::shortest_difference;
 use lois_base::{Constraint, Decider, NoMemory, Numbers, Structure, Term, Terms};
 use lois_deciders::Chosen;
-use lois_words::Word;
+use lois_shortest_word::Word;
 use std::alloc::Global;
 
 /// A word that one of two automata accepts and the other doesn't: letters as terms, and numbers for all levels that they use.
@@ -51,16 +51,16 @@ pub fn equal<T: Structure>(
     requires under_operators { AdmitsConstraint T.ordered under.now }
     requires deterministic { HoldsThroughout size under.now (IsDeterministicAt (tree a.now)) }
     requires other_deterministic { HoldsThroughout size under.now (IsDeterministicAt (tree b.now)) }
-    ensures same { IfOk result (λ r. IsSame r ↔ NeverTold size under.now (tree a.now) (tree b.now)) }
+    ensures same { IfOk result (λ r. IsSameAnswer r ↔ HaveSameLanguage size under.now (tree a.now) (tree b.now)) }
     ensures differs { IfOk result (IfDiffers (IsDifference size under.now (tree a.now) (tree b.now))) }
     ensures operators { IfOk result (IfDiffers (λ d. (o : Bool) → AdmitsTerm o (tree a.now) → AdmitsTerm o (tree b.now) → All (AdmitsTerm o) d.word)) }
-    ensures widths { IfOk result (IfDiffers (λ d. HasUsualWidths (tree a.now) → HasUsualWidths (tree b.now) → All HasUsualWidths d.word)) }
+    ensures widths { IfOk result (IfDiffers (λ d. HasBoundedWidths (tree a.now) → HasBoundedWidths (tree b.now) → All HasBoundedWidths d.word)) }
 
     // whatever is answered
     ensures only_asked { HasOnlyAsked (λ b. (⟦<dyn Decider as Decider>⟧ b.vtable).kind_of b.value) (λ b. (⟦<dyn Decider as Decider>⟧ b.vtable).questions b.value) chosen.old chosen.new }
 {
-    let first = shortest_alone::<T>(alloc, a, b, under, size, chosen)?;
-    let second = shortest_alone::<T>(alloc, b, a, under, size, chosen)?;
+    let first = shortest_difference::<T>(alloc, a, b, under, size, chosen)?;
+    let second = shortest_difference::<T>(alloc, b, a, under, size, chosen)?;
     Ok(shorter(first, second))
 }
 
@@ -70,18 +70,18 @@ fn shorter(first: Option<Word>, second: Option<Word>) -> Equality
 {
     match (first, second) {
         (None, None) => Equality::Same,
-        (Some(word), None) => found(word, true),
-        (None, Some(word)) => found(word, false),
+        (Some(word), None) => difference_of(word, true),
+        (None, Some(word)) => difference_of(word, false),
         (Some(one), Some(other)) => {
             if other.letters.len() < one.letters.len() {
-                return found(other, false);
+                return difference_of(other, false);
             }
-            found(one, true)
+            difference_of(one, true)
         }
     }
 }
 
-fn found(word: Word, left: bool) -> Equality
+fn difference_of(word: Word, left: bool) -> Equality
     ensures { result ≡ sided word left }
 {
     Equality::Differs(Difference {

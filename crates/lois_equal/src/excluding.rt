@@ -4,26 +4,26 @@ ghost use Rattle.std.specs.Prelude.{Bool, List, IfOk, IfSome, IsNone, ◌↔◌}
 ghost use Rattle.std.specs.List.{All};
 ghost use Rattle.lois_base.specs.Fits.{ConstraintFits, Fits};
 ghost use Rattle.lois_base.specs.Tree.{tree};
-ghost use Rattle.lois_base.specs.Validity.{AdmitsConstraint, AdmitsTerm, HasUsualWidths};
+ghost use Rattle.lois_base.specs.Validity.{AdmitsConstraint, AdmitsTerm, HasBoundedWidths};
 ghost use Rattle.lois_base.specs.Values.{PointValue};
 ghost use Rattle.lois_deciders.specs.OnlyAsked.{HasOnlyAsked};
 ghost use Rattle.lois_automata.specs.Machines.{IsAutomatonAt, IsDeterministicAt};
 ghost use Rattle.lois_automata.specs.Throughout.{HoldsThroughout};
-ghost use Rattle.lois_words.specs.Words.{AcceptsAt};
-ghost use Rattle.lois_equal.specs.Telling.{AcceptsAlone};
-ghost use Rattle.lois_equal.specs.Differing.{NeverAlone, IsShortestAlone};
+ghost use Rattle.lois_shortest_word.specs.Words.{AcceptsAt};
+ghost use Rattle.lois_equal.specs.Telling.{AcceptsOnlyFirst};
+ghost use Rattle.lois_equal.specs.Differing.{IsLanguageIncluded, IsShortestDifference};
 
-use crate::completing::completed;
+use crate::completing::complete_automaton;
 use lois_automata::{complement, five, product};
 use lois_base::{Constraint, Decider, NoMemory, Structure, Term};
 use lois_deciders::Chosen;
-use lois_words::{Word, shortest_word};
+use lois_shortest_word::{Word, shortest_word};
 use std::alloc::Global;
 
 /// A word that `a` accepts and `b` doesn't, at some choice that `under` admits, such that there is no shorter one at any choice
 /// that `under` admits, or `None` where there is none at any. Errors: `NoMemory`, also where a level would pass the greatest
 /// usize.
-pub fn shortest_alone<T: Structure>(
+pub fn shortest_difference<T: Structure>(
     alloc: Global,
     a: &Term,
     b: &Term,
@@ -39,10 +39,10 @@ pub fn shortest_alone<T: Structure>(
     requires under_operators { AdmitsConstraint T.ordered under.now }
     requires automaton { HoldsThroughout size under.now (IsAutomatonAt (tree a.now)) }
     requires deterministic { HoldsThroughout size under.now (IsDeterministicAt (tree b.now)) }
-    ensures none { IfOk result (λ o. IsNone o → NeverAlone size under.now (tree a.now) (tree b.now)) }
-    ensures found { IfOk result (λ o. IfSome o (IsShortestAlone size under.now (tree a.now) (tree b.now))) }
+    ensures none { IfOk result (λ o. IsNone o → IsLanguageIncluded size under.now (tree a.now) (tree b.now)) }
+    ensures found { IfOk result (λ o. IfSome o (IsShortestDifference size under.now (tree a.now) (tree b.now))) }
     ensures operators { IfOk result (λ o. IfSome o (λ w. (o : Bool) → AdmitsTerm o (tree a.now) → AdmitsTerm o (tree b.now) → All (AdmitsTerm o) w.letters)) }
-    ensures widths { IfOk result (λ o. IfSome o (λ w. HasUsualWidths (tree a.now) → HasUsualWidths (tree b.now) → All HasUsualWidths w.letters)) }
+    ensures widths { IfOk result (λ o. IfSome o (λ w. HasBoundedWidths (tree a.now) → HasBoundedWidths (tree b.now) → All HasBoundedWidths w.letters)) }
     ensures only_asked { HasOnlyAsked (λ b. (⟦<dyn Decider as Decider>⟧ b.vtable).kind_of b.value) (λ b. (⟦<dyn Decider as Decider>⟧ b.vtable).questions b.value) chosen.old chosen.new }
 {
     let others = excluding::<T>(alloc, a, b, under, size, chosen)?;
@@ -65,16 +65,16 @@ fn excluding<T: Structure>(
     requires automaton { HoldsThroughout size under.now (IsAutomatonAt (tree a.now)) }
     requires deterministic { HoldsThroughout size under.now (IsDeterministicAt (tree b.now)) }
     ensures automaton { IfOk result (λ r. HoldsThroughout size under.now (IsAutomatonAt (tree r))) }
-    ensures words { IfOk result (λ r. HoldsThroughout size under.now (λ c. (word : List PointValue) → AcceptsAt (tree r) c word ↔ AcceptsAlone (tree a.now) (tree b.now) c word)) }
+    ensures words { IfOk result (λ r. HoldsThroughout size under.now (λ c. (word : List PointValue) → AcceptsAt (tree r) c word ↔ AcceptsOnlyFirst (tree a.now) (tree b.now) c word)) }
     ensures levels { IfOk result (λ r. Fits size (tree r)) }
     ensures operators { IfOk result (λ r. (o : Bool) → AdmitsTerm o (tree a.now) → AdmitsTerm o (tree b.now) → AdmitsTerm o (tree r)) }
-    ensures widths { IfOk result (λ r. HasUsualWidths (tree a.now) → HasUsualWidths (tree b.now) → HasUsualWidths (tree r)) }
+    ensures widths { IfOk result (λ r. HasBoundedWidths (tree a.now) → HasBoundedWidths (tree b.now) → HasBoundedWidths (tree r)) }
     ensures only_asked { HasOnlyAsked (λ b. (⟦<dyn Decider as Decider>⟧ b.vtable).kind_of b.value) (λ b. (⟦<dyn Decider as Decider>⟧ b.vtable).questions b.value) chosen.old chosen.new }
 {
     let Some(sets) = five(a) else {
         return a.copy(alloc);
     };
-    let whole = completed::<T>(alloc, b, sets.letters, size)?;
+    let whole = complete_automaton::<T>(alloc, b, sets.letters, size)?;
     let others = complement::<T>(alloc, &whole, under, size, chosen)?;
     product::<T>(alloc, a, &others, under, size, chosen)
 }

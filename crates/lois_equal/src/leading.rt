@@ -5,13 +5,13 @@ ghost use Rattle.lois_base.specs.Atom.{Atom};
 ghost use Rattle.lois_base.specs.Data.{coll, comps_of};
 ghost use Rattle.lois_base.specs.Fits.{Fits, CompFits, ItemsFit};
 ghost use Rattle.lois_base.specs.Tree.{tree, comp_of};
-ghost use Rattle.lois_base.specs.Validity.{AdmitsTerm, AdmitsComp, AdmitsItems, HasUsualWidths, ItemsHaveUsualWidths};
+ghost use Rattle.lois_base.specs.Validity.{AdmitsTerm, AdmitsComp, AdmitsItems, HasBoundedWidths, ItemsHaveBoundedWidths};
 ghost use Rattle.lois_base.specs.Values.{point};
 ghost use Rattle.lois_terms.specs.Guarded.{IsSet};
-ghost use Rattle.lois_equal.specs.Completed.{AreTotal, AddsLedOut, AreLedOut};
+ghost use Rattle.lois_equal.specs.Completed.{AreTotal, AddsSinkSteps, LeadToSink};
 
-use lois_algebra::{put, union};
-use lois_automata::{Shape, among_more, column, membership, pair_parts, pairs, triple};
+use lois_algebra::{push_comp, union};
+use lois_automata::{Projection, among_more, membership, pair_parts, pairs, project_steps, triple};
 use lois_base::{Comp, Comps, NoMemory, Structure, Term};
 use lois_constraint::{meet, negate};
 use std::alloc::Global;
@@ -36,12 +36,12 @@ pub fn total_steps<T: Structure>(
     ensures set { IfOk result (λ r. IsSet (tree r)) }
     ensures levels { IfOk result (λ r. Fits size (tree r)) }
     ensures operators { IfOk result (λ r. (o : Bool) → AdmitsItems o (comps_of states.now) → AdmitsItems o (comps_of letters.now) → AdmitsItems o (comps_of steps.now) → AdmitsTerm o (tree sink.now) → AdmitsTerm o (tree r)) }
-    ensures widths { IfOk result (λ r. ItemsHaveUsualWidths (comps_of states.now) → ItemsHaveUsualWidths (comps_of letters.now) → ItemsHaveUsualWidths (comps_of steps.now) → HasUsualWidths (tree sink.now) → HasUsualWidths (tree r)) }
+    ensures widths { IfOk result (λ r. ItemsHaveBoundedWidths (comps_of states.now) → ItemsHaveBoundedWidths (comps_of letters.now) → ItemsHaveBoundedWidths (comps_of steps.now) → HasBoundedWidths (tree sink.now) → HasBoundedWidths (tree r)) }
 {
     let Term::Coll(wanted) = pairs(alloc, states, letters, size)? else {
         unreachable!()
     };
-    let there = column(alloc, steps, Shape::Outgoing)?;
+    let there = project_steps(alloc, steps, Projection::Outgoing)?;
     let others = led_out::<T>(alloc, &wanted, &there, sink, size)?;
     let all = Term::Coll(steps.copy(alloc)?);
     let more = Term::Coll(others);
@@ -62,10 +62,10 @@ fn led_out<T: Structure>(
     requires there_set { IsSet (tree there.now) }
     requires there_operators { AdmitsTerm T.ordered (tree there.now) }
     requires sink { Fits size (tree sink.now) }
-    ensures led { IfOk result (λ r. (c : List Atom) → length c ≡ size → AreLedOut (point (coll (comps_of pairs.now)) c) (point (tree there.now) c) (point (tree sink.now) c) (point (coll (comps_of r)) c)) }
+    ensures led { IfOk result (λ r. (c : List Atom) → length c ≡ size → LeadToSink (point (coll (comps_of pairs.now)) c) (point (tree there.now) c) (point (tree sink.now) c) (point (coll (comps_of r)) c)) }
     ensures levels { IfOk result (λ r. ItemsFit size (comps_of r)) }
     ensures operators { IfOk result (λ r. (o : Bool) → AdmitsItems o (comps_of pairs.now) → AdmitsTerm o (tree there.now) → AdmitsTerm o (tree sink.now) → AdmitsItems o (comps_of r)) }
-    ensures widths { IfOk result (λ r. ItemsHaveUsualWidths (comps_of pairs.now) → HasUsualWidths (tree sink.now) → ItemsHaveUsualWidths (comps_of r)) }
+    ensures widths { IfOk result (λ r. ItemsHaveBoundedWidths (comps_of pairs.now) → HasBoundedWidths (tree sink.now) → ItemsHaveBoundedWidths (comps_of r)) }
 {
     let mut made = Comps::new(alloc);
     for comp in pairs.as_slice() {
@@ -89,7 +89,7 @@ fn add_led_out<T: Structure>(
     requires there_set { IsSet (tree there.now) }
     requires there_operators { AdmitsTerm T.ordered (tree there.now) }
     requires sink { Fits size (tree sink.now) }
-    ensures { OnOk result (AddsLedOut size (comp_of comp.now) (tree there.now) (tree sink.now) (comps_of made.old) (comps_of made.new)) }
+    ensures { OnOk result (AddsSinkSteps size (comp_of comp.now) (tree there.now) (tree sink.now) (comps_of made.old) (comps_of made.new)) }
 {
     let Some((state, letter)) = pair_parts(&comp.item) else {
         return Ok(());
@@ -99,7 +99,7 @@ fn add_led_out<T: Structure>(
     let guard = meet(alloc, &comp.guard, &missing)?;
     let target = among_more(alloc, sink, size, comp.binders)?;
     let item = triple(alloc, state, letter, &target)?;
-    put(
+    push_comp(
         made,
         Comp {
             binders: comp.binders,

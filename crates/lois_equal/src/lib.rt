@@ -8,6 +8,6 @@ mod excluding;
 mod leading;
 mod texts;
 
-pub use comparing::{Comparison, Unfit, compare};
+pub use comparing::{Comparison, ComparisonFault, compare};
 pub use differing::{Difference, Equality, equal};
 pub use texts::print_difference;

@@ -7,14 +7,14 @@ use Rattle.lois_base.specs.Data.{TermD, tup, terms_of}
 use Rattle.lois_base.specs.Truth.{sampled}
 use Rattle.lois_base.specs.Values.{PointValue, point}
 use Rattle.lois_base.specs.declared.guards.Lit.{Lit}
-use Rattle.lois_meaning.specs.Automata.{Machine, IsAutomatonOf, IsComplete}
-use Rattle.lois_meaning.specs.Expressions.{IsFitFor, IsResultOf}
-use Rattle.lois_meaning.specs.Faults.{IsNoAutomaton, IsUnfitFor}
+use Rattle.lois_meaning.specs.Automata.{Automaton, IsAutomatonOf, IsComplete}
+use Rattle.lois_meaning.specs.Expressions.{IsValidOperand, IsResultOf}
+use Rattle.lois_meaning.specs.Faults.{IsNoAutomaton, IsInvalidOperand}
 use Rattle.lois_meaning.specs.Kinds.{HasPartsAt}
 use Rattle.lois_meaning.specs.declared.faults.Fault.{Fault}
 use Rattle.lois_answers.specs.declared.faults.FaultKind.{FaultKind}
 use Rattle.lois_answers.specs.declared.faults.FaultKind.TheVariants.{NotAutomaton, NotDeterministic, NotComplete}
-use Rattle.lois_automata.specs.Machines.{IsAutomatonAt, IsDeterministicAt, IsCompleteAt, IsWholeAt}
+use Rattle.lois_automata.specs.Machines.{IsAutomatonAt, IsDeterministicAt, IsCompleteAt, IsCompleteDeterministicAt}
 use Rattle.lois_automata.specs.Throughout.{HoldsThroughout, IsVerdictOn}
 use Rattle.lois_automata.specs.declared.verdicts.Verdict.{Verdict}
 use Rattle.lois_automata.specs.declared.verdicts.Verdict.TheVariants.{Holds, Fails}
@@ -27,7 +27,7 @@ use Rattle.lois_context.specs.Choices.{IsAdmitted}
 use Rattle.lois_context.specs.declared.contexts.Context.{Context}
 use Rattle.lois_eval.specs.Automata.{IsOfOneAutomaton, IsOfAutomata, IsMadeOf, IsValueFault, IsFailed}
 use Rattle.lois_eval.specs.Operands.{IsAppliedThroughout, IsUnfitFault}
-use Rattle.lois_eval.specs.Standing.{arity}
+use Rattle.lois_eval.specs.WellFormed.{arity}
 use Rattle.lois_eval.proofs.FaultsAt.{fault_at}
 
 parts_one : (t : TermD) (c : List Atom) (us ws : List PointValue) → HasPartsAt t c us → HasPartsAt t c ws → us ≡ ws
@@ -35,7 +35,7 @@ parts_one (tup ts) c us ws e f = e ∙ sym f
 parts_one _ c us ws e f = absurd e
 
 -- an automaton has one list of five sets
-pub one_machine : (v : PointValue) (a b : Machine) → IsAutomatonOf v a → IsAutomatonOf v b → a ≡ b
+pub one_machine : (v : PointValue) (a b : Automaton) → IsAutomatonOf v a → IsAutomatonOf v b → a ≡ b
 one_machine v a b is own =
     let five : a.states ∷ a.letters ∷ a.steps ∷ a.initial ∷ a.final ∷ [] ≡ b.states ∷ b.letters ∷ b.steps ∷ b.initial ∷ b.final ∷ [] = parts_one v.term_of v.choice (a.states ∷ a.letters ∷ a.steps ∷ a.initial ∷ a.final ∷ []) (b.states ∷ b.letters ∷ b.steps ∷ b.initial ∷ b.final ∷ []) is.five own.five in
     let e1 : a.states ≡ b.states = cc in
@@ -60,13 +60,13 @@ pub on_holds : {A E : Type 0} (r : Result A E) (v : Verdict) (P : Verdict → Ty
 on_holds r v P h p = on_weaker r (v ≡ Holds) (P Holds) (λ e. subst P e p) h
 
 module _ (n : ℕ) (u : List (List Lit)) (t : TermD) where
-  pub is_whole : HoldsThroughout n u (IsDeterministicAt t) → HoldsThroughout n u (IsCompleteAt t) → HoldsThroughout n u (IsWholeAt t)
+  pub is_whole : HoldsThroughout n u (IsDeterministicAt t) → HoldsThroughout n u (IsCompleteAt t) → HoldsThroughout n u (IsCompleteDeterministicAt t)
   is_whole single total c k h =
       let (a, is, one) = single c k h in
       let (b, own, all) = total c k h in
       (a, is, one, subst IsComplete (one_machine (point t c) b a own is) all)
 
-  pub whole_automaton : HoldsThroughout n u (IsWholeAt t) → HoldsThroughout n u (IsAutomatonAt t)
+  pub whole_automaton : HoldsThroughout n u (IsCompleteDeterministicAt t) → HoldsThroughout n u (IsAutomatonAt t)
   whole_automaton is c k h = let w = is c k h in (w.0, w.1)
 
 module _ (k : Context) (t : TermD) where
@@ -83,13 +83,13 @@ module _ (k : Context) (t : TermD) where
   pub no_automaton : (at : Pos) (v : Verdict) → IsVerdictOn k.size k.«when» (IsAutomatonAt t) v → (f : Fault) → IsFailed v at NotAutomaton f → IsValueFault k IsNoAutomaton t at.offset f
   no_automaton at = failed_value (IsAutomatonAt t) IsNoAutomaton at NotAutomaton (λ c a none. (refl, none))
 
-  pub not_deterministic : HoldsThroughout k.size k.«when» (IsAutomatonAt t) → (at : Pos) (v : Verdict) → IsVerdictOn k.size k.«when» (IsDeterministicAt t) v → (f : Fault) → IsFailed v at NotDeterministic f → IsValueFault k (IsUnfitFor Minimise) t at.offset f
-  not_deterministic automaton at = failed_value (IsDeterministicAt t) (IsUnfitFor Minimise) at NotDeterministic (λ c a none.
+  pub not_deterministic : HoldsThroughout k.size k.«when» (IsAutomatonAt t) → (at : Pos) (v : Verdict) → IsVerdictOn k.size k.«when» (IsDeterministicAt t) v → (f : Fault) → IsFailed v at NotDeterministic f → IsValueFault k (IsInvalidOperand Minimise) t at.offset f
+  not_deterministic automaton at = failed_value (IsDeterministicAt t) (IsInvalidOperand Minimise) at NotDeterministic (λ c a none.
       let (m, is) = automaton c a.0 a.1 in
       inr (inl (refl, m, is, λ one. none (m, is, one))))
 
-  pub not_complete : HoldsThroughout k.size k.«when» (IsDeterministicAt t) → (at : Pos) (v : Verdict) → IsVerdictOn k.size k.«when» (IsCompleteAt t) v → (f : Fault) → IsFailed v at NotComplete f → IsValueFault k (IsUnfitFor Minimise) t at.offset f
-  not_complete single at = failed_value (IsCompleteAt t) (IsUnfitFor Minimise) at NotComplete (λ c a none.
+  pub not_complete : HoldsThroughout k.size k.«when» (IsDeterministicAt t) → (at : Pos) (v : Verdict) → IsVerdictOn k.size k.«when» (IsCompleteAt t) v → (f : Fault) → IsFailed v at NotComplete f → IsValueFault k (IsInvalidOperand Minimise) t at.offset f
+  not_complete single at = failed_value (IsCompleteAt t) (IsInvalidOperand Minimise) at NotComplete (λ c a none.
       let (m, is, one) = single c a.0 a.1 in
       inr (inr (refl, m, is, one, λ all. none (m, is, all))))
 
@@ -98,10 +98,10 @@ module _ (k : Context) (t : TermD) where
 
   -- ---- what the operations make
 
-  pub one_applied : (op : Operation) (r : TermD) → HoldsThroughout k.size k.«when» (λ c. IsFitFor (point t c) op) → HoldsThroughout k.size k.«when» (λ c. IsResultOf (point r c) op (point t c ∷ [])) → IsAppliedThroughout k op (t ∷ []) r
+  pub one_applied : (op : Operation) (r : TermD) → HoldsThroughout k.size k.«when» (λ c. IsValidOperand (point t c) op) → HoldsThroughout k.size k.«when» (λ c. IsResultOf (point r c) op (point t c ∷ [])) → IsAppliedThroughout k op (t ∷ []) r
   one_applied op r fit made c a = ((fit c a.0 a.1, tt), made c a.0 a.1)
 
-  pub two_applied : (op : Operation) (s r : TermD) → HoldsThroughout k.size k.«when» (λ c. IsFitFor (point t c) op) → HoldsThroughout k.size k.«when» (λ c. IsFitFor (point s c) op) → HoldsThroughout k.size k.«when» (λ c. IsResultOf (point r c) op (point t c ∷ point s c ∷ [])) → IsAppliedThroughout k op (t ∷ s ∷ []) r
+  pub two_applied : (op : Operation) (s r : TermD) → HoldsThroughout k.size k.«when» (λ c. IsValidOperand (point t c) op) → HoldsThroughout k.size k.«when» (λ c. IsValidOperand (point s c) op) → HoldsThroughout k.size k.«when» (λ c. IsResultOf (point r c) op (point t c ∷ point s c ∷ [])) → IsAppliedThroughout k op (t ∷ s ∷ []) r
   two_applied op s r fit other made c a = ((fit c a.0 a.1, (other c a.0 a.1, tt)), made c a.0 a.1)
 
 -- ---- the operands
@@ -130,17 +130,17 @@ of_one_automaton Minus h other = absurd h
 of_one_automaton Flatten h other = absurd h
 
 module _ (k : Context) (op : Operation) (es : List ExprD) (ts : List TermD) (x : Fault) where
-  pub one_unfit : (e : ExprD) (t : TermD) (at : ℕ) → es ≡ e ∷ [] → ts ≡ t ∷ [] → at ≡ pos e → IsValueFault k (IsUnfitFor op) t at x → IsUnfitFault k op (exprs_of es) (terms_of ts) x
+  pub one_unfit : (e : ExprD) (t : TermD) (at : ℕ) → es ≡ e ∷ [] → ts ≡ t ∷ [] → at ≡ pos e → IsValueFault k (IsInvalidOperand op) t at x → IsUnfitFault k op (exprs_of es) (terms_of ts) x
   one_unfit e t at operands values place h = subst (λ z. IsUnfitFault k op (exprs_of es) (terms_of z) x) (sym values) (subst (λ z. IsUnfitFault k op (exprs_of z) (terms_of (t ∷ [])) x) (sym operands) (record {
     admitted = h.fault.admitted;
     unfit = inl (h.fault.place ∙ place, h.unfit);
     elements = h.fault.elements;
   }))
 
-  pub two_unfit : (e f : ExprD) (s t : TermD) (at other : ℕ) → es ≡ e ∷ f ∷ [] → ts ≡ s ∷ t ∷ [] → at ≡ pos e → other ≡ pos f → IsValueFault k (IsUnfitFor op) s at x ⊎ IsValueFault k (IsUnfitFor op) t other x → IsUnfitFault k op (exprs_of es) (terms_of ts) x
+  pub two_unfit : (e f : ExprD) (s t : TermD) (at other : ℕ) → es ≡ e ∷ f ∷ [] → ts ≡ s ∷ t ∷ [] → at ≡ pos e → other ≡ pos f → IsValueFault k (IsInvalidOperand op) s at x ⊎ IsValueFault k (IsInvalidOperand op) t other x → IsUnfitFault k op (exprs_of es) (terms_of ts) x
   two_unfit e f s t at other operands values place second h = subst (λ z. IsUnfitFault k op (exprs_of es) (terms_of z) x) (sym values) (subst (λ z. IsUnfitFault k op (exprs_of z) (terms_of (s ∷ t ∷ [])) x) (sym operands) (of h))
     where
-      of : IsValueFault k (IsUnfitFor op) s at x ⊎ IsValueFault k (IsUnfitFor op) t other x → IsUnfitFault k op (exprs_of (e ∷ f ∷ [])) (terms_of (s ∷ t ∷ [])) x
+      of : IsValueFault k (IsInvalidOperand op) s at x ⊎ IsValueFault k (IsInvalidOperand op) t other x → IsUnfitFault k op (exprs_of (e ∷ f ∷ [])) (terms_of (s ∷ t ∷ [])) x
       of (inl h) = record {
         admitted = h.fault.admitted;
         unfit = inl (h.fault.place ∙ place, h.unfit);

@@ -30,7 +30,7 @@ use Rattle.lois_eval.specs.Checks.{IsSetFault, IsTruncatedFrom}
 use Rattle.lois_eval.specs.Evaluated.{IsTermOf, IsConstraintOf, IsWithin}
 use Rattle.lois_eval.specs.Folded.{IsGathered, IsFoundInside, IsFaultInside}
 use Rattle.lois_eval.specs.Forms.{each_from, quantifier}
-use Rattle.lois_eval.specs.Standing.{IsPlaced, IsUnnamed, Stands, CondStands, names_of}
+use Rattle.lois_eval.specs.WellFormed.{IsWellFormedIn, IsUnnamed, IsWellFormed, CondIsWellFormed, names_of}
 use Rattle.lois_eval.specs.Throughout.{IsFaultOf}
 use Rattle.lois_eval.proofs.Conditions.{no_set_fails}
 use Rattle.lois_eval.proofs.Innermost.{here_none, here_one, here_within}
@@ -56,16 +56,16 @@ module _ (k : Context) (item : Expr) (bs : List Binding) (i : ℕ) (b : Binding)
       ap (λ z. weight (tree item) + weight_of_bindings (bind z rest) + weight_of_cond (cond_tree c)) (binding_is b) in
       omega (arith, e)
 
-  unfolded : (o : Bool) → IsPlaced (Stands (each_from item bs i c)) o k → IsPlaced (Stands (each 0 (tree item) (bind (binding b.pos.offset b.name (tree b.from)) rest) (cond_tree c))) o k
-  unfolded o h = subst (λ z. IsPlaced (Stands z) o k) first_is h
+  unfolded : (o : Bool) → IsWellFormedIn (IsWellFormed (each_from item bs i c)) o k → IsWellFormedIn (IsWellFormed (each 0 (tree item) (bind (binding b.pos.offset b.name (tree b.from)) rest) (cond_tree c))) o k
+  unfolded o h = subst (λ z. IsWellFormedIn (IsWellFormed z) o k) first_is h
 
-  pub first_placed : (o : Bool) → IsPlaced (Stands (each_from item bs i c)) o k → IsPlaced (Stands (tree b.from)) o k
+  pub first_placed : (o : Bool) → IsWellFormedIn (IsWellFormed (each_from item bs i c)) o k → IsWellFormedIn (IsWellFormed (tree b.from)) o k
   first_placed o h = record { names = (unfolded o h).names.0.0; operators = h.operators }
 
-  pub first_new : (o : Bool) → IsPlaced (Stands (each_from item bs i c)) o k → IsNew b.name k.store
+  pub first_new : (o : Bool) → IsWellFormedIn (IsWellFormed (each_from item bs i c)) o k → IsNew b.name k.store
   first_new o h = unnamed_new b.name k.store (unfolded o h).names.0.1
 
-  module _ (t : TermD) (elements : IsTermOf k (Gives (tree b.from)) (Stands (tree b.from)) t) where
+  module _ (t : TermD) (elements : IsTermOf k (Gives (tree b.from)) (IsWellFormed (tree b.from)) t) where
     pub first_no_set : (f : Fault) → IsSetFault k t (pos (tree b.from)) f → IsFaultOf k (Breaks (each_from item bs i c)) f
     first_no_set f h =
         subst (λ z. IsFaultOf k (Breaks z) f) (sym first_is)
@@ -73,16 +73,16 @@ module _ (k : Context) (item : Expr) (bs : List Binding) (i : ℕ) (b : Binding)
         (no_set_fails k (tree b.from) t f elements.value h))
 
     module _ (ds : List Context) (set : IsSetTerm t) (entered : AreEntered k b.name t ds) where
-      pub first_inside : (o : Bool) → IsPlaced (Stands (each_from item bs i c)) o k → All (IsPlaced (Stands (each_from item bs (i + 1) c)) o) ds
+      pub first_inside : (o : Bool) → IsWellFormedIn (IsWellFormed (each_from item bs i c)) o k → All (IsWellFormedIn (IsWellFormed (each_from item bs (i + 1) c)) o) ds
       first_inside o h =
           let n = (unfolded o h).names in
-          placed_inside k b.name t ds set entered o (Stands (each_from item bs (i + 1) c)) (entered.operators o h.operators (elements.operators o (first_placed o h))) (n.0.2, n.1, n.2)
+          placed_inside k b.name t ds set entered o (IsWellFormed (each_from item bs (i + 1) c)) (entered.operators o h.operators (elements.operators o (first_placed o h))) (n.0.2, n.1, n.2)
 
-      pub first_loop : (ks : CompsD) → IsGathered k.size (Makes (each_from item bs (i + 1) c)) (Stands (each_from item bs (i + 1) c)) ds ks → IsTermOf k (Makes (each_from item bs i c)) (Stands (each_from item bs i c)) (coll ks)
+      pub first_loop : (ks : CompsD) → IsGathered k.size (Makes (each_from item bs (i + 1) c)) (IsWellFormed (each_from item bs (i + 1) c)) ds ks → IsTermOf k (Makes (each_from item bs i c)) (IsWellFormed (each_from item bs i c)) (coll ks)
       first_loop ks gathered =
-          subst (λ z. IsTermOf k (Makes z) (Stands z) (coll ks)) (sym first_is) (each_loop k b.name t ds set entered b.pos.offset (tree b.from) elements 0 (tree item) (bindings_of (map binding_tree (drop (i + 1) bs))) (cond_tree c) ks gathered)
+          subst (λ z. IsTermOf k (Makes z) (IsWellFormed z) (coll ks)) (sym first_is) (each_loop k b.name t ds set entered b.pos.offset (tree b.from) elements 0 (tree item) (bindings_of (map binding_tree (drop (i + 1) bs))) (cond_tree c) ks gathered)
 
-      pub first_within : (ks : CompsD) → IsGathered k.size (Makes (each_from item bs (i + 1) c)) (Stands (each_from item bs (i + 1) c)) ds ks → IsWithin k (coll ks)
+      pub first_within : (ks : CompsD) → IsGathered k.size (Makes (each_from item bs (i + 1) c)) (IsWellFormed (each_from item bs (i + 1) c)) ds ks → IsWithin k (coll ks)
       first_within ks gathered = each_loop_within k b.name t ds set entered b.pos.offset (tree b.from) elements (tree item) (bindings_of (map binding_tree (drop (i + 1) bs))) (cond_tree c) ks gathered
 
       pub first_fails : (f g : Fault) → IsFaultInside ds (Breaks (each_from item bs (i + 1) c)) g → IsTruncatedFrom k.size f g → IsFaultOf k (Breaks (each_from item bs i c)) f
@@ -95,29 +95,29 @@ module _ (k : Context) (item : Expr) (bs : List Binding) (c : Cond) where
   last_is : each_from item bs (length bs) c ≡ each 0 (tree item) no_bindings (cond_tree c)
   last_is = ap (λ z. each 0 (tree item) (bindings_of (map binding_tree z)) (cond_tree c)) (drop_all (length bs) bs (omega arith))
 
-  pub last_placed : (o : Bool) → IsPlaced (Stands (each_from item bs (length bs) c)) o k → IsPlaced (CondStands (cond_tree c)) o k
-  last_placed o h = record { names = (subst (λ z. IsPlaced (Stands z) o k) last_is h).names.2; operators = h.operators }
+  pub last_placed : (o : Bool) → IsWellFormedIn (IsWellFormed (each_from item bs (length bs) c)) o k → IsWellFormedIn (CondIsWellFormed (cond_tree c)) o k
+  last_placed o h = record { names = (subst (λ z. IsWellFormedIn (IsWellFormed z) o k) last_is h).names.2; operators = h.operators }
 
-  module _ (g : List (List Lit)) (held : IsConstraintOf k (HasTruth (cond_tree c)) (CondStands (cond_tree c)) g) where
-    pub last_none : ((d : List Atom) → IsAdmitted d k → IsTrue (holds d g) → ⊥) → (t : TermD) → t ≡ coll no_comps → IsTermOf k (Makes (each_from item bs (length bs) c)) (Stands (each_from item bs (length bs) c)) t
+  module _ (g : List (List Lit)) (held : IsConstraintOf k (HasTruth (cond_tree c)) (CondIsWellFormed (cond_tree c)) g) where
+    pub last_none : ((d : List Atom) → IsAdmitted d k → IsTrue (holds d g) → ⊥) → (t : TermD) → t ≡ coll no_comps → IsTermOf k (Makes (each_from item bs (length bs) c)) (IsWellFormed (each_from item bs (length bs) c)) t
     last_none none t is =
-        subst (IsTermOf k (Makes (each_from item bs (length bs) c)) (Stands (each_from item bs (length bs) c))) (sym is)
-        (subst (λ z. IsTermOf k (Makes z) (Stands z) (coll no_comps)) (sym last_is) (here_none k (tree item) (cond_tree c) g held none))
+        subst (IsTermOf k (Makes (each_from item bs (length bs) c)) (IsWellFormed (each_from item bs (length bs) c))) (sym is)
+        (subst (λ z. IsTermOf k (Makes z) (IsWellFormed z) (coll no_comps)) (sym last_is) (here_none k (tree item) (cond_tree c) g held none))
 
     module _ (d : Context) (side : IsSide k (λ c. holds c g) d) (kept : (o : Bool) → AdmitsContext o k → AdmitsConstraint o g → AdmitsContext o d) where
-      pub last_item_placed : (o : Bool) → IsPlaced (Stands (each_from item bs (length bs) c)) o k → IsPlaced (Stands (tree item)) o d
+      pub last_item_placed : (o : Bool) → IsWellFormedIn (IsWellFormed (each_from item bs (length bs) c)) o k → IsWellFormedIn (IsWellFormed (tree item)) o d
       last_item_placed o h =
-          let p = subst (λ z. IsPlaced (Stands z) o k) last_is h in record {
-            names = subst (λ z. Stands (tree item) o (names_of z)) (sym side.store) p.names.1;
+          let p = subst (λ z. IsWellFormedIn (IsWellFormed z) o k) last_is h in record {
+            names = subst (λ z. IsWellFormed (tree item) o (names_of z)) (sym side.store) p.names.1;
             operators = kept o h.operators (held.operators o (last_placed o h));
           }
 
-      pub last_one : (t : TermD) (ks : CompsD) → IsTermOf d (Gives (tree item)) (Stands (tree item)) t → k.size < 2 ^ 64 → ks ≡ comps_of (comp 0 d.«when» t ∷ []) → IsTermOf k (Makes (each_from item bs (length bs) c)) (Stands (each_from item bs (length bs) c)) (coll ks)
+      pub last_one : (t : TermD) (ks : CompsD) → IsTermOf d (Gives (tree item)) (IsWellFormed (tree item)) t → k.size < 2 ^ 64 → ks ≡ comps_of (comp 0 d.«when» t ∷ []) → IsTermOf k (Makes (each_from item bs (length bs) c)) (IsWellFormed (each_from item bs (length bs) c)) (coll ks)
       last_one t ks value room is =
-          subst (λ z. IsTermOf k (Makes (each_from item bs (length bs) c)) (Stands (each_from item bs (length bs) c)) (coll z)) (sym is)
-          (subst (λ z. IsTermOf k (Makes z) (Stands z) (coll (comps_of (comp 0 d.«when» t ∷ [])))) (sym last_is) (here_one k (tree item) (cond_tree c) g held d t side value room kept))
+          subst (λ z. IsTermOf k (Makes (each_from item bs (length bs) c)) (IsWellFormed (each_from item bs (length bs) c)) (coll z)) (sym is)
+          (subst (λ z. IsTermOf k (Makes z) (IsWellFormed z) (coll (comps_of (comp 0 d.«when» t ∷ [])))) (sym last_is) (here_one k (tree item) (cond_tree c) g held d t side value room kept))
 
-      pub last_within : (t : TermD) (ks : CompsD) → IsTermOf d (Gives (tree item)) (Stands (tree item)) t → ks ≡ comps_of (comp 0 d.«when» t ∷ []) → IsWithin k (coll ks)
+      pub last_within : (t : TermD) (ks : CompsD) → IsTermOf d (Gives (tree item)) (IsWellFormed (tree item)) t → ks ≡ comps_of (comp 0 d.«when» t ∷ []) → IsWithin k (coll ks)
       last_within t ks value is = subst (λ z. IsWithin k (coll z)) (sym is) (here_within k (tree item) (cond_tree c) g held d t side value)
 
       pub last_item_fails : (f : Fault) → IsFaultOf d (Fails (tree item)) f → IsFaultOf k (Breaks (each_from item bs (length bs) c)) f
@@ -139,26 +139,26 @@ module _ (k : Context) (some : Bool) (b : Binding) (c : Cond) where
   quantifier_is : quantifier some (binding_tree b) (cond_tree c) ≡ quantifier some (binding b.pos.offset b.name (tree b.from)) (cond_tree c)
   quantifier_is = ap (λ z. quantifier some z (cond_tree c)) (binding_is b)
 
-  parts : (o : Bool) (xs : List (List ℕ)) → CondStands (quantifier some (binding b.pos.offset b.name (tree b.from)) (cond_tree c)) o xs → Stands (tree b.from) o xs × IsUnnamed b.name xs × CondStands (cond_tree c) o (xs ++ b.name ∷ [])
+  parts : (o : Bool) (xs : List (List ℕ)) → CondIsWellFormed (quantifier some (binding b.pos.offset b.name (tree b.from)) (cond_tree c)) o xs → IsWellFormed (tree b.from) o xs × IsUnnamed b.name xs × CondIsWellFormed (cond_tree c) o (xs ++ b.name ∷ [])
   parts o xs h = of some h
     where
-      of : (some : Bool) → CondStands (quantifier some (binding b.pos.offset b.name (tree b.from)) (cond_tree c)) o xs → Stands (tree b.from) o xs × IsUnnamed b.name xs × CondStands (cond_tree c) o (xs ++ b.name ∷ [])
+      of : (some : Bool) → CondIsWellFormed (quantifier some (binding b.pos.offset b.name (tree b.from)) (cond_tree c)) o xs → IsWellFormed (tree b.from) o xs × IsUnnamed b.name xs × CondIsWellFormed (cond_tree c) o (xs ++ b.name ∷ [])
       of true h = (h.0, h.1, h.2)
       of false h = (h.0, h.1, h.2)
 
-  at_parts : (o : Bool) → IsPlaced (CondStands (quantifier some (binding_tree b) (cond_tree c))) o k → Stands (tree b.from) o (names_of k.store) × IsUnnamed b.name (names_of k.store) × CondStands (cond_tree c) o (names_of k.store ++ b.name ∷ [])
-  at_parts o h = parts o (names_of k.store) (subst (λ z. IsPlaced (CondStands z) o k) quantifier_is h).names
+  at_parts : (o : Bool) → IsWellFormedIn (CondIsWellFormed (quantifier some (binding_tree b) (cond_tree c))) o k → IsWellFormed (tree b.from) o (names_of k.store) × IsUnnamed b.name (names_of k.store) × CondIsWellFormed (cond_tree c) o (names_of k.store ++ b.name ∷ [])
+  at_parts o h = parts o (names_of k.store) (subst (λ z. IsWellFormedIn (CondIsWellFormed z) o k) quantifier_is h).names
 
-  pub bound_placed : (o : Bool) → IsPlaced (CondStands (quantifier some (binding_tree b) (cond_tree c))) o k → IsPlaced (Stands (tree b.from)) o k
+  pub bound_placed : (o : Bool) → IsWellFormedIn (CondIsWellFormed (quantifier some (binding_tree b) (cond_tree c))) o k → IsWellFormedIn (IsWellFormed (tree b.from)) o k
   bound_placed o h = record { names = (at_parts o h).0; operators = h.operators }
 
-  pub bound_new : (o : Bool) → IsPlaced (CondStands (quantifier some (binding_tree b) (cond_tree c))) o k → IsNew b.name k.store
+  pub bound_new : (o : Bool) → IsWellFormedIn (CondIsWellFormed (quantifier some (binding_tree b) (cond_tree c))) o k → IsNew b.name k.store
   bound_new o h = unnamed_new b.name k.store (at_parts o h).1
 
   of_binding : (f : Fault) → IsFaultOf k (CondFails (quantifier some (binding b.pos.offset b.name (tree b.from)) (cond_tree c))) f → IsFaultOf k (CondFails (quantifier some (binding_tree b) (cond_tree c))) f
   of_binding f h = subst (λ z. IsFaultOf k (CondFails z) f) (sym quantifier_is) h
 
-  module _ (t : TermD) (elements : IsTermOf k (Gives (tree b.from)) (Stands (tree b.from)) t) where
+  module _ (t : TermD) (elements : IsTermOf k (Gives (tree b.from)) (IsWellFormed (tree b.from)) t) where
     pub bound_no_set : (f : Fault) → IsSetFault k t (pos (tree b.from)) f → IsFaultOf k (CondFails (quantifier some (binding_tree b) (cond_tree c))) f
     bound_no_set f h = of_binding f (fault_weaker k (OperandFails IsNoSet (tree b.from)) (CondFails (quantifier some (binding b.pos.offset b.name (tree b.from)) (cond_tree c))) f (λ s at kind x. of some s at kind x) (no_set_fails k (tree b.from) t f elements.value h))
       where
@@ -167,14 +167,14 @@ module _ (k : Context) (some : Bool) (b : Binding) (c : Cond) where
         of false s at kind x = inr (inl x)
 
     module _ (ds : List Context) (set : IsSetTerm t) (entered : AreEntered k b.name t ds) where
-      pub bound_inside : (o : Bool) → IsPlaced (CondStands (quantifier some (binding_tree b) (cond_tree c))) o k → All (IsPlaced (CondStands (cond_tree c)) o) ds
+      pub bound_inside : (o : Bool) → IsWellFormedIn (CondIsWellFormed (quantifier some (binding_tree b) (cond_tree c))) o k → All (IsWellFormedIn (CondIsWellFormed (cond_tree c)) o) ds
       bound_inside o h =
-          placed_inside k b.name t ds set entered o (CondStands (cond_tree c)) (entered.operators o h.operators (elements.operators o (bound_placed o h))) (at_parts o h).2
+          placed_inside k b.name t ds set entered o (CondIsWellFormed (cond_tree c)) (entered.operators o h.operators (elements.operators o (bound_placed o h))) (at_parts o h).2
 
-      pub bound_loop : (g r : List (List Lit)) → IsFoundInside k.size (HasTruth (cond_tree c)) some (CondStands (cond_tree c)) ds g → ((d : List Atom) → holds d r ≡ (if some then holds d g else opposite (holds d g))) → ConstraintFits k.size r → ((o : Bool) → AdmitsConstraint o g → AdmitsConstraint o r) →
-          IsConstraintOf k (HasTruth (quantifier some (binding_tree b) (cond_tree c))) (CondStands (quantifier some (binding_tree b) (cond_tree c))) r
+      pub bound_loop : (g r : List (List Lit)) → IsFoundInside k.size (HasTruth (cond_tree c)) some (CondIsWellFormed (cond_tree c)) ds g → ((d : List Atom) → holds d r ≡ (if some then holds d g else opposite (holds d g))) → ConstraintFits k.size r → ((o : Bool) → AdmitsConstraint o g → AdmitsConstraint o r) →
+          IsConstraintOf k (HasTruth (quantifier some (binding_tree b) (cond_tree c))) (CondIsWellFormed (quantifier some (binding_tree b) (cond_tree c))) r
       bound_loop g r found is fits admits =
-          subst (λ z. IsConstraintOf k (HasTruth z) (CondStands z) r) (sym quantifier_is) (quantifier_loop k b.name t ds set entered b.pos.offset (tree b.from) elements some (cond_tree c) g r found is fits admits)
+          subst (λ z. IsConstraintOf k (HasTruth z) (CondIsWellFormed z) r) (sym quantifier_is) (quantifier_loop k b.name t ds set entered b.pos.offset (tree b.from) elements some (cond_tree c) g r found is fits admits)
 
       pub bound_fails : (f g : Fault) → IsFaultInside ds (CondFails (cond_tree c)) g → IsTruncatedFrom k.size f g → IsFaultOf k (CondFails (quantifier some (binding_tree b) (cond_tree c))) f
       bound_fails f g inside cut = of_binding f (quantifier_loop_fails k b.name t ds set entered b.pos.offset (tree b.from) elements some (cond_tree c) f g inside cut)

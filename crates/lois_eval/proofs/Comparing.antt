@@ -15,7 +15,7 @@ use Rattle.lois_eval.specs.Checks.{IsSetFault, IsAtomFault}
 use Rattle.lois_eval.specs.Compared.{IsBelowFault}
 use Rattle.lois_eval.specs.Evaluated.{AreTermsOf}
 use Rattle.lois_eval.specs.Forms.{two, sides_of, IsComparison}
-use Rattle.lois_eval.specs.Standing.{Stands, AllStand, CondStands, count_of, names_of}
+use Rattle.lois_eval.specs.WellFormed.{IsWellFormed, AreWellFormed, CondIsWellFormed, count_of, names_of}
 use Rattle.lois_eval.specs.Throughout.{IsFaultOf}
 use Rattle.lois_eval.proofs.Conditions.{sides, no_set_fails}
 use Rattle.lois_eval.proofs.FaultsAt.{fault_weaker}
@@ -37,8 +37,8 @@ two_sides (exists b c) h = absurd h
 two_sides (every b c) h = absurd h
 
 -- the values of the sides of a condition that is this one
-pub sides_as : (k : Context) (c d : CondD) (ts : List TermD) → c ≡ d → AreTermsOf k (sides_of c) (CondStands c) ts → AreTermsOf k (sides_of d) (CondStands d) ts
-sides_as k c d ts is h = subst (λ z. AreTermsOf k (sides_of z) (CondStands z) ts) is h
+pub sides_as : (k : Context) (c d : CondD) (ts : List TermD) → c ≡ d → AreTermsOf k (sides_of c) (CondIsWellFormed c) ts → AreTermsOf k (sides_of d) (CondIsWellFormed d) ts
+sides_as k c d ts is h = subst (λ z. AreTermsOf k (sides_of z) (CondIsWellFormed z) ts) is h
 
 -- an operand that is no atom
 no_atom_fails : (k : Context) (e : ExprD) (t : TermD) (f : Fault) → ((c : List Atom) → IsAdmitted c k → Gives e (store_at c k.store) (point t c)) → IsAtomFault k t (pos e) f → IsFaultOf k (OperandFails IsNoAtom e) f
@@ -68,10 +68,10 @@ module _ (k : Context) (e f : ExprD) (s t : TermD) (stands : Bool → List (List
       fault_weaker k (OperandFails IsNoSet f) (CondFails (included e f)) x (λ s at kind h. inr (inr (inr h))) (no_set_fails k f t x (λ c a. (sides k e f s t stands both c a).1) h)
 
 -- the values of two expressions that are the sides of a condition
-pub sides_from : (k : Context) (c d : CondD) (e f : ExprD) (ts : List TermD) → c ≡ d → sides_of d ≡ two e f → ((o : Bool) (xs : List (List ℕ)) → CondStands d o xs → Stands e o xs × Stands f o xs) → AreTermsOf k (two e f) (AllStand (two e f)) ts → AreTermsOf k (sides_of c) (CondStands c) ts
+pub sides_from : (k : Context) (c d : CondD) (e f : ExprD) (ts : List TermD) → c ≡ d → sides_of d ≡ two e f → ((o : Bool) (xs : List (List ℕ)) → CondIsWellFormed d o xs → IsWellFormed e o xs × IsWellFormed f o xs) → AreTermsOf k (two e f) (AreWellFormed (two e f)) ts → AreTermsOf k (sides_of c) (CondIsWellFormed c) ts
 sides_from k c d e f ts is both stands h =
-    subst (λ z. AreTermsOf k (sides_of z) (CondStands z) ts) (sym is)
-    (subst (λ z. AreTermsOf k z (CondStands d) ts) (sym both) (record {
+    subst (λ z. AreTermsOf k (sides_of z) (CondIsWellFormed z) ts) (sym is)
+    (subst (λ z. AreTermsOf k z (CondIsWellFormed d) ts) (sym both) (record {
       count = h.count;
       values = h.values;
       levels = h.levels;

@@ -25,7 +25,7 @@ use Rattle.lois_eval.specs.Checks.{IsSetFault}
 use Rattle.lois_eval.specs.Compared.{AreAtomsBelow}
 use Rattle.lois_eval.specs.Evaluated.{AreTermsOf, IsConstraintOf}
 use Rattle.lois_eval.specs.Forms.{joint, two}
-use Rattle.lois_eval.specs.Standing.{IsPlaced, CondStands}
+use Rattle.lois_eval.specs.WellFormed.{IsWellFormedIn, CondIsWellFormed}
 use Rattle.lois_eval.specs.Throughout.{IsFaultOf}
 use Rattle.lois_eval.proofs.TermKinds.{set_at, no_set_at}
 use Rattle.lois_eval.proofs.Parts.{have_truths_more, list_all-more, list_any-more}
@@ -54,24 +54,24 @@ module _ (k : Context) (e f : ExprD) (s t : TermD) where
   pub sides : (stands : Bool → List (List ℕ) → Type 0) → AreTermsOf k (two e f) stands (s ∷ t ∷ []) → (c : List Atom) → IsAdmitted c k → Gives e (store_at c k.store) (point s c) × Gives f (store_at c k.store) (point t c)
   sides stands both c a = two_given e f (store_at c k.store) (point s c) (point t c) (both.values c a)
 
-  pub same_decided : (g : List (List Lit)) → AreTermsOf k (two e f) (CondStands (same e f)) (s ∷ t ∷ []) → ((c : List Atom) → length c ≡ k.size → IsTrue (holds c g) ↔ IsSame (point s c) (point t c)) → ConstraintFits k.size g → ((o : Bool) → AdmitsTerm o s → AdmitsTerm o t → AdmitsConstraint o g) → IsConstraintOf k (HasTruth (same e f)) (CondStands (same e f)) g
+  pub same_decided : (g : List (List Lit)) → AreTermsOf k (two e f) (CondIsWellFormed (same e f)) (s ∷ t ∷ []) → ((c : List Atom) → length c ≡ k.size → IsTrue (holds c g) ↔ IsSame (point s c) (point t c)) → ConstraintFits k.size g → ((o : Bool) → AdmitsTerm o s → AdmitsTerm o t → AdmitsConstraint o g) → IsConstraintOf k (HasTruth (same e f)) (CondIsWellFormed (same e f)) g
   same_decided g both truth fits admits = record {
-    truth = λ c a. let h = sides (CondStands (same e f)) both c a in (point s c, point t c, h.0, h.1, truth_as (holds c g) (IsSame (point s c) (point t c)) (truth c a.0));
+    truth = λ c a. let h = sides (CondIsWellFormed (same e f)) both c a in (point s c, point t c, h.0, h.1, truth_as (holds c g) (IsSame (point s c) (point t c)) (truth c a.0));
     levels = fits;
     operators = λ o h. let p = both.operators o h in admits o p.0 p.1.0;
   }
 
-  pub differ_decided : (g : List (List Lit)) → AreTermsOf k (two e f) (CondStands (differ e f)) (s ∷ t ∷ []) → ((c : List Atom) → length c ≡ k.size → IsFalse (holds c g) ↔ IsSame (point s c) (point t c)) → ConstraintFits k.size g → ((o : Bool) → AdmitsTerm o s → AdmitsTerm o t → AdmitsConstraint o g) → IsConstraintOf k (HasTruth (differ e f)) (CondStands (differ e f)) g
+  pub differ_decided : (g : List (List Lit)) → AreTermsOf k (two e f) (CondIsWellFormed (differ e f)) (s ∷ t ∷ []) → ((c : List Atom) → length c ≡ k.size → IsFalse (holds c g) ↔ IsSame (point s c) (point t c)) → ConstraintFits k.size g → ((o : Bool) → AdmitsTerm o s → AdmitsTerm o t → AdmitsConstraint o g) → IsConstraintOf k (HasTruth (differ e f)) (CondIsWellFormed (differ e f)) g
   differ_decided g both truth fits admits = record {
-    truth = λ c a. let h = sides (CondStands (differ e f)) both c a in
+    truth = λ c a. let h = sides (CondIsWellFormed (differ e f)) both c a in
         (point s c, point t c, h.0, h.1, untruth_as (holds c g) (IsSame (point s c) (point t c)) (truth c a.0));
     levels = fits;
     operators = λ o h. let p = both.operators o h in admits o p.0 p.1.0;
   }
 
-  pub below_decided : (p : ℕ) (g : List (List Lit)) → AreTermsOf k (two e f) (CondStands (below p e f)) (s ∷ t ∷ []) → AreAtomsBelow s t g → ConstraintFits k.size g → AdmitsConstraint true g → IsConstraintOf k (HasTruth (below p e f)) (CondStands (below p e f)) g
+  pub below_decided : (p : ℕ) (g : List (List Lit)) → AreTermsOf k (two e f) (CondIsWellFormed (below p e f)) (s ∷ t ∷ []) → AreAtomsBelow s t g → ConstraintFits k.size g → AdmitsConstraint true g → IsConstraintOf k (HasTruth (below p e f)) (CondIsWellFormed (below p e f)) g
   below_decided p g both atoms fits admits = record {
-    truth = λ c a. let h = sides (CondStands (below p e f)) both c a in (
+    truth = λ c a. let h = sides (CondIsWellFormed (below p e f)) both c a in (
       point s c,
       point t c,
       atom_at c atoms.left,
@@ -86,16 +86,16 @@ module _ (k : Context) (e f : ExprD) (s t : TermD) where
     operators = λ o h. subst (λ z. AdmitsConstraint z g) (sym h.names.0) admits;
   }
 
-  pub member_decided : (g : List (List Lit)) → AreTermsOf k (two e f) (CondStands (member e f)) (s ∷ t ∷ []) → IsSetTerm t → ((c : List Atom) → length c ≡ k.size → IsTrue (holds c g) ↔ IsIn (point s c) (point t c)) → ConstraintFits k.size g → ((o : Bool) → AdmitsTerm o s → AdmitsTerm o t → AdmitsConstraint o g) → IsConstraintOf k (HasTruth (member e f)) (CondStands (member e f)) g
+  pub member_decided : (g : List (List Lit)) → AreTermsOf k (two e f) (CondIsWellFormed (member e f)) (s ∷ t ∷ []) → IsSetTerm t → ((c : List Atom) → length c ≡ k.size → IsTrue (holds c g) ↔ IsIn (point s c) (point t c)) → ConstraintFits k.size g → ((o : Bool) → AdmitsTerm o s → AdmitsTerm o t → AdmitsConstraint o g) → IsConstraintOf k (HasTruth (member e f)) (CondIsWellFormed (member e f)) g
   member_decided g both set truth fits admits = record {
-    truth = λ c a. let h = sides (CondStands (member e f)) both c a in (point s c, point t c, h.0, h.1, set_at t c set, truth_as (holds c g) (IsIn (point s c) (point t c)) (truth c a.0));
+    truth = λ c a. let h = sides (CondIsWellFormed (member e f)) both c a in (point s c, point t c, h.0, h.1, set_at t c set, truth_as (holds c g) (IsIn (point s c) (point t c)) (truth c a.0));
     levels = fits;
     operators = λ o h. let p = both.operators o h in admits o p.0 p.1.0;
   }
 
-  pub included_decided : (g : List (List Lit)) → AreTermsOf k (two e f) (CondStands (included e f)) (s ∷ t ∷ []) → IsSetTerm s → IsSetTerm t → ((c : List Atom) → length c ≡ k.size → IsTrue (holds c g) ↔ IsIncluded (point s c) (point t c)) → ConstraintFits k.size g → ((o : Bool) → AdmitsTerm o s → AdmitsTerm o t → AdmitsConstraint o g) → IsConstraintOf k (HasTruth (included e f)) (CondStands (included e f)) g
+  pub included_decided : (g : List (List Lit)) → AreTermsOf k (two e f) (CondIsWellFormed (included e f)) (s ∷ t ∷ []) → IsSetTerm s → IsSetTerm t → ((c : List Atom) → length c ≡ k.size → IsTrue (holds c g) ↔ IsIncluded (point s c) (point t c)) → ConstraintFits k.size g → ((o : Bool) → AdmitsTerm o s → AdmitsTerm o t → AdmitsConstraint o g) → IsConstraintOf k (HasTruth (included e f)) (CondIsWellFormed (included e f)) g
   included_decided g both one set truth fits admits = record {
-    truth = λ c a. let h = sides (CondStands (included e f)) both c a in (point s c, point t c, h.0, h.1, set_at s c one, set_at t c set, truth_as (holds c g) (IsIncluded (point s c) (point t c)) (truth c a.0));
+    truth = λ c a. let h = sides (CondIsWellFormed (included e f)) both c a in (point s c, point t c, h.0, h.1, set_at s c one, set_at t c set, truth_as (holds c g) (IsIncluded (point s c) (point t c)) (truth c a.0));
     levels = fits;
     operators = λ o h. let p = both.operators o h in admits o p.0 p.1.0;
   }
@@ -108,7 +108,7 @@ no_set_fails k e t f given h = record {
   elements = h.fault.elements;
 }
 
-pub not_decided : (k : Context) (c : CondD) (g r : List (List Lit)) → IsConstraintOf k (HasTruth c) (CondStands c) g → ((d : List Atom) → holds d r ≡ opposite (holds d g)) → ConstraintFits k.size r → ((o : Bool) → AdmitsConstraint o g → AdmitsConstraint o r) → IsConstraintOf k (HasTruth (not c)) (CondStands (not c)) r
+pub not_decided : (k : Context) (c : CondD) (g r : List (List Lit)) → IsConstraintOf k (HasTruth c) (CondIsWellFormed c) g → ((d : List Atom) → holds d r ≡ opposite (holds d g)) → ConstraintFits k.size r → ((o : Bool) → AdmitsConstraint o g → AdmitsConstraint o r) → IsConstraintOf k (HasTruth (not c)) (CondIsWellFormed (not c)) r
 not_decided k c g r held denied fits admits = record {
   truth = λ d a. subst (HasTruth c (store_at d k.store)) (sym (ap opposite (denied d) ∙ twice (holds d g))) (held.truth d a);
   levels = fits;
@@ -129,9 +129,9 @@ module _ (k : Context) (stands : Bool → List (List ℕ) → Type 0) where
       start true s = ([], refl, refl)
       start false s = ([], refl, refl)
 
-  pub joint_more : (every : Bool) (cs : List CondD) (c : CondD) (g h r : List (List Lit)) → IsConstraintOf k (HasTruth (joint every (conds_of cs))) stands g → IsConstraintOf k (HasTruth c) (CondStands c) h →
+  pub joint_more : (every : Bool) (cs : List CondD) (c : CondD) (g h r : List (List Lit)) → IsConstraintOf k (HasTruth (joint every (conds_of cs))) stands g → IsConstraintOf k (HasTruth c) (CondIsWellFormed c) h →
       ((d : List Atom) → holds d r ≡ (if every then holds d g && holds d h else holds d g || holds d h)) → ((n : ℕ) → ConstraintFits n g → ConstraintFits n h → ConstraintFits n r) → ((o : Bool) → AdmitsConstraint o g → AdmitsConstraint o h → AdmitsConstraint o r) →
-      ((o : Bool) → IsPlaced stands o k → IsPlaced (CondStands c) o k) → IsConstraintOf k (HasTruth (joint every (conds_of (cs ++ c ∷ [])))) stands r
+      ((o : Bool) → IsWellFormedIn stands o k → IsWellFormedIn (CondIsWellFormed c) o k) → IsConstraintOf k (HasTruth (joint every (conds_of (cs ++ c ∷ [])))) stands r
   joint_more every cs c g h r so_far own truth fits admits placed = record {
     truth = λ d a. step every d (truth d) (so_far.truth d a) (own.truth d a);
     levels = fits k.size so_far.levels own.levels;

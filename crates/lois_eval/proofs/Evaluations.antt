@@ -15,14 +15,14 @@ use Rattle.lois_context.specs.declared.contexts.Context.{Context}
 use Rattle.lois_base.specs.declared.guards.Lit.{Lit}
 use Rattle.lois_eval.specs.Evaluated.{IsTermOf, AreTermsOf}
 use Rattle.lois_eval.specs.Forms.{joint}
-use Rattle.lois_eval.specs.Standing.{IsPlaced, Stands, CondStands, names_of}
+use Rattle.lois_eval.specs.WellFormed.{IsWellFormedIn, IsWellFormed, CondIsWellFormed, names_of}
 use Rattle.lois_eval.specs.Throughout.{IsValueThroughout, IsTruthThroughout, FailsNowhere, IsFaultOf}
 use Rattle.lois_meaning.specs.Store.{NamedValues}
 use Rattle.lois_answers.specs.declared.faults.FaultKind.{FaultKind}
 use Rattle.lois_eval.proofs.FaultsAt.{fault_weaker}
 use Rattle.lois_eval.proofs.Parts.{IsExprOf, IsCondOf, give_all_more, parts_at-append, parts_fit-more, parts_admit-more, parts_widths-more, count_of-more}
 
-pub placed_as : (k : Context) (o : Bool) (S R : Bool → List (List ℕ) → Type 0) → ((o : Bool) (xs : List (List ℕ)) → S o xs → R o xs) → IsPlaced S o k → IsPlaced R o k
+pub placed_as : (k : Context) (o : Bool) (S R : Bool → List (List ℕ) → Type 0) → ((o : Bool) (xs : List (List ℕ)) → S o xs → R o xs) → IsWellFormedIn S o k → IsWellFormedIn R o k
 placed_as k o S R to h = record { names = to o (names_of k.store) h.names; operators = h.operators }
 
 module _ (k : Context) (S : Bool → List (List ℕ) → Type 0) where
@@ -35,7 +35,7 @@ module _ (k : Context) (S : Bool → List (List ℕ) → Type 0) where
     widths = λ h. tt;
   }
 
-  pub terms_more : (es : List ExprD) (e : ExprD) (ts after : List TermD) (t : TermD) → AreTermsOf k (exprs_of es) S ts → IsTermOf k (Gives e) (Stands e) t → ((o : Bool) → IsPlaced S o k → IsPlaced (Stands e) o k) → after ≡ ts ++ t ∷ [] → AreTermsOf k (exprs_of (es ++ e ∷ [])) S after
+  pub terms_more : (es : List ExprD) (e : ExprD) (ts after : List TermD) (t : TermD) → AreTermsOf k (exprs_of es) S ts → IsTermOf k (Gives e) (IsWellFormed e) t → ((o : Bool) → IsWellFormedIn S o k → IsWellFormedIn (IsWellFormed e) o k) → after ≡ ts ++ t ∷ [] → AreTermsOf k (exprs_of (es ++ e ∷ [])) S after
   terms_more es e ts after t so_far own placed is = subst (AreTermsOf k (exprs_of (es ++ e ∷ [])) S) (sym is) (record {
     count = omega (arith, count_of-more (es ++ e ∷ []), count_of-more es, so_far.count, length-append es (e ∷ []), length-append ts (t ∷ []));
     values = λ c a. subst (GiveAll (exprs_of (es ++ e ∷ [])) (store_at c k.store)) (sym (parts_at-append ts t c)) (give_all_more es e (store_at c k.store) (parts_at (terms_of ts) c) (point t c) (so_far.values c a) (own.value c a));
@@ -61,6 +61,6 @@ fails_nowhere k e t h = λ c a at kind bad. gives_fails e (store_at c k.store) (
 pub cond_fails_nowhere : (k : Context) (c : CondD) (g : List (List Lit)) → IsTruthThroughout k c g → FailsNowhere k (CondFails c)
 cond_fails_nowhere k c g h = λ d a at kind bad. truth_fails c (store_at d k.store) (holds d g) at kind (h d a) bad
 
-pub joint_placed : (k : Context) (every : Bool) (cs : CondsD) (c : CondD) (o : Bool) → IsCondOf cs c → IsPlaced (CondStands (joint every cs)) o k → IsPlaced (CondStands c) o k
+pub joint_placed : (k : Context) (every : Bool) (cs : CondsD) (c : CondD) (o : Bool) → IsCondOf cs c → IsWellFormedIn (CondIsWellFormed (joint every cs)) o k → IsWellFormedIn (CondIsWellFormed c) o k
 joint_placed k true cs c o is h = record { names = is.stands o (names_of k.store) h.names; operators = h.operators }
 joint_placed k false cs c o is h = record { names = is.stands o (names_of k.store) h.names; operators = h.operators }

@@ -6,7 +6,7 @@ use Rattle.std.specs.Bool.{IsTrue}
 use Rattle.lois_base.specs.Atom.{whole}
 use Rattle.lois_base.specs.Truth.{holds, sampled}
 use Rattle.lois_base.specs.declared.guards.Lit.{Lit}
-use Rattle.lois_deciders.specs.Met.{AreMet}
+use Rattle.lois_deciders.specs.Conjunction.{IsSampledConjunction}
 use Rattle.lois_meaning.specs.declared.faults.Fault.{Fault}
 use Rattle.lois_answers.specs.declared.faults.FaultKind.{FaultKind}
 use Rattle.lois_meaning.specs.declared.faults.Stop.{Stop}
@@ -39,7 +39,7 @@ pub met_admitted : (k : Context) (g : List (List Lit)) (s : List ℕ) → MeetsB
 met_admitted k g s m = ((length-map s whole ∙ m.0.count, m.1), m.2)
 
 -- what was met holds of both
-pub meets_both : (n : ℕ) (g h r : List (List Lit)) (s : List ℕ) → AreMet n g h r s → MeetsBoth n g h s
+pub meets_both : (n : ℕ) (g h r : List (List Lit)) (s : List ℕ) → IsSampledConjunction n g h r s → MeetsBoth n g h s
 meets_both n g h r s m =
     let both = and_parts (holds (sampled s) g) (holds (sampled s) h) (sym (m.truth (sampled s)) ∙ m.sample.1) in
     (m.sample.0, both.0, both.1)

@@ -11,7 +11,7 @@ use Rattle.lois_base.specs.Tree.{comp_of}
 use Rattle.lois_base.specs.Truth.{holds, sampled}
 use Rattle.lois_base.specs.declared.values.Comp.{Comp}
 use Rattle.lois_base.proofs.Viewed.{item_at}
-use Rattle.lois_base.specs.Validity.{AdmitsComp, AdmitsItems, CompHasUsualWidths, ItemsHaveUsualWidths}
+use Rattle.lois_base.specs.Validity.{AdmitsComp, AdmitsItems, CompHasBoundedWidths, ItemsHaveBoundedWidths}
 use Rattle.lois_base.specs.Values.{PointValue, point, MemberAt, IsMember}
 use Rattle.lois_algebra.specs.Sets.{ItemsAreSets}
 use Rattle.lois_algebra.proofs.GatheredMembers.{set_items}
@@ -41,7 +41,7 @@ admits-split : (o : Bool) (ks : List CompD) (k : CompD) → AdmitsItems o (comps
 admits-split o [] k h = (tt, h.0)
 admits-split o (l ∷ ks) k h = let r = admits-split o ks k h.1 in ((h.0, r.0), r.1)
 
-widths-split : (ks : List CompD) (k : CompD) → ItemsHaveUsualWidths (comps_of (ks ++ k ∷ [])) → ItemsHaveUsualWidths (comps_of ks) × CompHasUsualWidths k
+widths-split : (ks : List CompD) (k : CompD) → ItemsHaveBoundedWidths (comps_of (ks ++ k ∷ [])) → ItemsHaveBoundedWidths (comps_of ks) × CompHasBoundedWidths k
 widths-split [] k h = (tt, h.0)
 widths-split (l ∷ ks) k h = let r = widths-split ks k h.1 in ((h.0, r.0), r.1)
 

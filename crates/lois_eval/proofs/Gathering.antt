@@ -16,13 +16,13 @@ use Rattle.lois_algebra.proofs.Among.{items_fit-append, admits_items-append, wid
 use Rattle.lois_meaning.specs.Store.{NamedValues}
 use Rattle.lois_base.proofs.Connectives.{either_true}
 use Rattle.lois_context.proofs.Sides.{and_true}
-use Rattle.lois_context.specs.Choices.{IsAdmitted, ContextHasUsualWidths}
+use Rattle.lois_context.specs.Choices.{IsAdmitted, ContextHasBoundedWidths}
 use Rattle.lois_context.specs.Slots.{store_at}
 use Rattle.lois_context.specs.declared.contexts.Context.{Context}
 use Rattle.lois_eval.specs.Evaluated.{IsTermOf, IsConstraintOf, IsWithin}
 use Rattle.lois_elim.specs.Bound.{HoldsForSomeMore}
 use Rattle.lois_eval.specs.Folded.{outward, IsSomewhereInside, IsGathered, IsFoundInside}
-use Rattle.lois_eval.specs.Standing.{IsPlaced}
+use Rattle.lois_eval.specs.WellFormed.{IsWellFormedIn}
 use Rattle.lois_eval.proofs.Outward.{in_outward, in_append, fits_outward, admits_outward, widths_outward}
 
 -- what is true of all contexts is true of those before the last one, and of it
@@ -40,8 +40,8 @@ module _ (n : ℕ) (P : NamedValues → PointValue → Type 0) (stands : Bool �
     ];
     members = λ c l w. (to c l w, from c l w);
     levels = items_fit-append n ks (map (outward (d.size - n)) ls) so_far.levels (fits_outward n (d.size - n) ls (subst (λ z. ItemsFit z (comps_of ls)) (sym whole) own.levels));
-    operators = λ o h. admits_items-append o ks (map (outward (d.size - n)) ls) (so_far.operators o (before_last (IsPlaced stands o) ds d h).0) (admits_outward o (d.size - n) ls (own.operators o (before_last (IsPlaced stands o) ds d h).1));
-    widths = λ h. widths-append ks (map (outward (d.size - n)) ls) (so_far.widths (before_last ContextHasUsualWidths ds d h).0) (widths_outward (d.size - n) ls (own.widths (before_last ContextHasUsualWidths ds d h).1));
+    operators = λ o h. admits_items-append o ks (map (outward (d.size - n)) ls) (so_far.operators o (before_last (IsWellFormedIn stands o) ds d h).0) (admits_outward o (d.size - n) ls (own.operators o (before_last (IsWellFormedIn stands o) ds d h).1));
+    widths = λ h. widths-append ks (map (outward (d.size - n)) ls) (so_far.widths (before_last ContextHasBoundedWidths ds d h).0) (widths_outward (d.size - n) ls (own.widths (before_last ContextHasBoundedWidths ds d h).1));
   })
     where
       whole : n + (d.size - n) ≡ d.size
@@ -87,7 +87,7 @@ module _ (n : ℕ) (P : NamedValues → Bool → Type 0) (wanted : Bool) (stands
       HoldsForSomeMore n (d.size - n) there some →
       ((c : List Atom) → holds c after ≡ (holds c g || holds c some)) →
       ConstraintFits n after →
-      ((o : Bool) → AdmitsConstraint o g → IsPlaced stands o d → AdmitsConstraint o after) →
+      ((o : Bool) → AdmitsConstraint o g → IsWellFormedIn stands o d → AdmitsConstraint o after) →
       IsFoundInside n P wanted stands (ds ++ d ∷ []) after
   found_more ds g d h there some after so_far longer own is for_more joined fits admits = record {
     decided = λ b at c a. elim (Contains-push_cases ds d b at) [
@@ -96,7 +96,7 @@ module _ (n : ℕ) (P : NamedValues → Bool → Type 0) (wanted : Bool) (stands
     ];
     found = λ c l. (to c l, from c l);
     levels = fits;
-    operators = λ o y. admits o (so_far.operators o (before_last (IsPlaced stands o) ds d y).0) (before_last (IsPlaced stands o) ds d y).1;
+    operators = λ o y. admits o (so_far.operators o (before_last (IsWellFormedIn stands o) ds d y).0) (before_last (IsWellFormedIn stands o) ds d y).1;
   }
     where
       here : (c e : List Atom) → length c ≡ n → length e ≡ d.size - n → IsTrue (holds (c ++ e) there) → IsAdmitted (c ++ e) d × P (store_at (c ++ e) d.store) wanted

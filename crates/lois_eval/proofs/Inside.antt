@@ -8,7 +8,7 @@ use Rattle.lois_base.specs.Truth.{sampled}
 use Rattle.lois_base.specs.Values.{PointValue, point, IsMember}
 use Rattle.lois_meaning.specs.Store.{NamedValues, stored, AreSameNamed}
 use Rattle.lois_context.specs.Choices.{IsAdmitted}
-use Rattle.lois_context.specs.Entered.{AreEntered, IsInside, GoesOn}
+use Rattle.lois_context.specs.Entered.{AreEntered, IsLoopContext, GoesOn}
 use Rattle.lois_context.specs.Slots.{store_at}
 use Rattle.lois_context.specs.declared.contexts.Context.{Context}
 use Rattle.lois_eval.specs.Folded.{IsSomewhereInside, IsFaultInside}
@@ -27,7 +27,7 @@ module _ (before : Context) (x : List ℕ) (t : TermD) (ds : List Context) (ente
   pub from_inside : (R : NamedValues → Type 0) → ((s t : NamedValues) → AreSameNamed s t → R s → R t) → (c : List Atom) → IsAdmitted c before → IsSomewhereInside ds c R → (m : PointValue) × IsMember m (point t c) × R (stored x m (store_at c before.store))
   from_inside R move c a (d, there, e, adm, r) =
       let on : GoesOn before x d = All-contains (GoesOn before x) ds d entered.outside there in
-      let (u, held) = (All-contains (IsInside before x) ds d entered.inside there).held (c ++ e) in
+      let (u, held) = (All-contains (IsLoopContext before x) ds d entered.inside there).held (c ++ e) in
       (u, (entered.members c a u).1 (d, there, e, adm, held), move (store_at (c ++ e) d.store) (stored x u (store_at c before.store)) (on.store c e a.0 adm u held) r)
 
   pub admitted_outside : (c : List Atom) → length c ≡ before.size → (R : NamedValues → Type 0) → IsSomewhereInside ds c R → IsAdmitted c before
@@ -42,7 +42,7 @@ module _ (before : Context) (x : List ℕ) (t : TermD) (ds : List Context) (ente
   fails_outside fails move f (d, there, fault) =
       let c = sampled (take before.size f.sample.items) in
       let e = sampled (drop before.size f.sample.items) in
-      let longer : before.size ≤ d.size = (All-contains (IsInside before x) ds d entered.inside there).longer in
+      let longer : before.size ≤ d.size = (All-contains (IsLoopContext before x) ds d entered.inside there).longer in
       let whole_is : c ++ e ≡ sampled f.sample.items = sampled_parts before.size f.sample.items in
       let adm : IsAdmitted (c ++ e) d = subst (λ z. IsAdmitted z d) (sym whole_is) fault.admitted in
       let l : length c ≡ before.size = sampled_start before.size f.sample.items (omega (arith, longer, fault.admitted.0, length-map f.sample.items whole)) in

@@ -18,8 +18,8 @@ pub mod Applied
 pub mod Plain
 pub mod Flattened
 pub mod Comparing
-pub mod Unfit
+pub mod InvalidOperands
 pub mod Bindings
-pub mod Handed
+pub mod LoopExit
 pub mod Automata
 pub mod Emptiness

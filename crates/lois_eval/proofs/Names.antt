@@ -13,7 +13,7 @@ use Rattle.lois_base.specs.Values.{point}
 use Rattle.lois_meaning.specs.Store.{looked_up}
 use Rattle.lois_context.specs.Slots.{SlotD, IsNew, slot_name, store_at}
 use Rattle.lois_eval.specs.Made.{term_held, IsHeldBy}
-use Rattle.lois_eval.specs.Standing.{IsNamed, names_of}
+use Rattle.lois_eval.specs.WellFormed.{IsNamed, names_of}
 
 -- a name in scope isn't new
 pub not_new : (x : List ℕ) (ss : List SlotD) → IsNamed x (names_of ss) → IsNew x ss → ⊥

@@ -5,13 +5,13 @@ use Rattle.lois_base.specs.Atom.{Atom}
 use Rattle.lois_base.specs.Data.{TermD, var as t_var, tag as t_tag, tup, coll, TermsD, no_terms, term, terms_of, comps_of}
 use Rattle.lois_base.specs.Fits.{LitFits, CubeFits, Fits, PartsFit, ItemsFit}
 use Rattle.lois_base.specs.Truth.{atom_at, sampled}
-use Rattle.lois_base.specs.Validity.{AdmitsLit, AdmitsCube, AdmitsTerm, AdmitsParts, AdmitsItems, PartsHaveUsualWidths, HasUsualWidths, ItemsHaveUsualWidths, count_of_parts}
+use Rattle.lois_base.specs.Validity.{AdmitsLit, AdmitsCube, AdmitsTerm, AdmitsParts, AdmitsItems, PartsHaveBoundedWidths, HasBoundedWidths, ItemsHaveBoundedWidths, count_of_parts}
 use Rattle.lois_base.specs.Values.{PointValue, point, IsIn, IsSame, MemberAt}
 use Rattle.lois_base.proofs.Members.{same_refl}
 use Rattle.lois_base.proofs.Order.{equal_refl}
 use Rattle.lois_algebra.specs.Sets.{HasAllAtoms, IsAtom}
 use Rattle.lois_meaning.specs.Expressions.{Makes, Gives, GiveAll, IsPartOf}
-use Rattle.lois_meaning.specs.Faults.{Breaks, Fails, IsUnfitFor, SomeOperandFails, HasNoPart}
+use Rattle.lois_meaning.specs.Faults.{Breaks, Fails, IsInvalidOperand, SomeOperandFails, HasNoPart}
 use Rattle.lois_meaning.specs.declared.faults.Fault.{Fault}
 use Rattle.lois_answers.specs.declared.faults.FaultKind.{FaultKind}
 use Rattle.lois_script.specs.declared.syntax.Operation.{Operation}
@@ -29,7 +29,7 @@ use Rattle.lois_eval.specs.Checks.{IsDepthFault}
 use Rattle.lois_eval.specs.Operands.{IsAppliedThroughout, IsUnfitAmong, IsUnfitFault}
 use Rattle.lois_eval.specs.Throughout.{IsFaultOf}
 use Rattle.lois_eval.specs.Made.{bare, IsHeldBy, missing_part, IsPartFault}
-use Rattle.lois_eval.specs.Standing.{IsPlaced, Stands}
+use Rattle.lois_eval.specs.WellFormed.{IsWellFormedIn, IsWellFormed}
 use Rattle.lois_eval.proofs.Names.{held_value, held_has}
 use Rattle.lois_eval.proofs.TermKinds.{set_at, atom_term}
 use Rattle.std.proofs.lemmas.List.Elements.{All-nil, All-cons, All-weaker}
@@ -38,7 +38,7 @@ atom_value : (w : PointValue) → IsAtom w ↔ ((a : Atom) × IsAtomValue w a)
 atom_value w = (λ (i, e). (atom_at w.choice i, subst (λ t. IsAtomAt t w.choice (atom_at w.choice i)) (sym e) (equal_refl (atom_at w.choice i))), λ (a, h). atom_term w.term_of w.choice a h)
 
 module _ (k : Context) where
-  pub atoms_made : (p : ℕ) (t : TermD) → HasAllAtoms k.size t → IsSetTerm t → Fits k.size t → ((o : Bool) → AdmitsTerm o t) → HasUsualWidths t → IsTermOf k (Makes (atoms p)) (Stands (atoms p)) t
+  pub atoms_made : (p : ℕ) (t : TermD) → HasAllAtoms k.size t → IsSetTerm t → Fits k.size t → ((o : Bool) → AdmitsTerm o t) → HasBoundedWidths t → IsTermOf k (Makes (atoms p)) (IsWellFormed (atoms p)) t
   atoms_made p t members set fits admits widths = record {
     value = λ c a. (set_at t c set, λ w. (λ h. (atom_value w).0 ((members c a.0 w).0 h), λ h. (members c a.0 w).1 ((atom_value w).1 h)));
     levels = fits;
@@ -46,19 +46,19 @@ module _ (k : Context) where
     widths = λ h. widths;
   }
 
-  pub held_made : (p : ℕ) (x : List ℕ) (t : TermD) → IsHeldBy x k.store t → IsTermOf k (Makes (var p x)) (Stands (var p x)) t
+  pub held_made : (p : ℕ) (x : List ℕ) (t : TermD) → IsHeldBy x k.store t → IsTermOf k (Makes (var p x)) (IsWellFormed (var p x)) t
   held_made p x t held = record {
     value = λ c a. (point t c, held_value x k.store t c held, same_refl (point t c));
     levels = held_has (Fits k.size) x k.store t (All-weaker (λ s. Fits k.size s.term × (s.from ≤ comps_in s.term)) (λ s. Fits k.size s.term) (λ s h. h.0) k.store k.slots) held;
     operators = λ o h. held_has (AdmitsTerm o) x k.store t h.operators.store held;
-    widths = λ h. held_has HasUsualWidths x k.store t h.store held;
+    widths = λ h. held_has HasBoundedWidths x k.store t h.store held;
   }
 
   parts_count : (ts : List TermD) → count_of_parts (terms_of ts) ≡ length ts
   parts_count [] = refl
   parts_count (t ∷ ts) = ap suc (parts_count ts)
 
-  pub tuple_made : (p : ℕ) (es : ExprsD) (o : Bool) (ts : List TermD) → IsPlaced (Stands (tuple p es)) o k → AreTermsOf k es (Stands (tuple p es)) ts → IsTermOf k (Makes (tuple p es)) (Stands (tuple p es)) (tup (terms_of ts))
+  pub tuple_made : (p : ℕ) (es : ExprsD) (o : Bool) (ts : List TermD) → IsWellFormedIn (IsWellFormed (tuple p es)) o k → AreTermsOf k es (IsWellFormed (tuple p es)) ts → IsTermOf k (Makes (tuple p es)) (IsWellFormed (tuple p es)) (tup (terms_of ts))
   tuple_made p es o ts placed all = record {
     value = λ c a. (parts_at (terms_of ts) c, parts_at (terms_of ts) c, all.values c a, refl, are_same_refl (parts_at (terms_of ts) c));
     levels = all.levels;
@@ -93,12 +93,12 @@ module _ (k : Context) where
   bare_admits o [] h = tt
   bare_admits o (t ∷ ts) h = ((All-cons (AdmitsCube o) [] [] (All-nil (AdmitsLit o)) (All-nil (AdmitsCube o)), h.0), bare_admits o ts h.1)
 
-  bare_widths : (ts : List TermD) → PartsHaveUsualWidths (terms_of ts) → ItemsHaveUsualWidths (comps_of (map bare ts))
+  bare_widths : (ts : List TermD) → PartsHaveBoundedWidths (terms_of ts) → ItemsHaveBoundedWidths (comps_of (map bare ts))
   bare_widths [] h = tt
   bare_widths (t ∷ ts) h = (h.0, bare_widths ts h.1)
 
-  pub listed_made : (p : ℕ) (es : ExprsD) (ts : List TermD) (t : TermD) → k.size < 2 ^ 64 → AreTermsOf k es (Stands (listed p es)) ts → t ≡ coll (comps_of (map bare ts)) → IsTermOf k (Makes (listed p es)) (Stands (listed p es)) t
-  listed_made p es ts t room all is = subst (IsTermOf k (Makes (listed p es)) (Stands (listed p es))) (sym is) (record {
+  pub listed_made : (p : ℕ) (es : ExprsD) (ts : List TermD) (t : TermD) → k.size < 2 ^ 64 → AreTermsOf k es (IsWellFormed (listed p es)) ts → t ≡ coll (comps_of (map bare ts)) → IsTermOf k (Makes (listed p es)) (IsWellFormed (listed p es)) t
+  listed_made p es ts t room all is = subst (IsTermOf k (Makes (listed p es)) (IsWellFormed (listed p es))) (sym is) (record {
     value = λ c a. (parts_at (terms_of ts) c, all.values c a, (tt, λ w. bare_member ts c w));
     levels = bare_fits k.size ts all.levels room;
     operators = λ o h. bare_admits o ts (all.operators o h);
@@ -116,23 +116,23 @@ module _ (k : Context) where
   is_part (term s ts) zero t c e = let is : s ≡ t = cc in subst (λ z. IsSame (point t c) (point z c)) (sym is) (same_refl (point t c))
   is_part (term s ts) (suc i) t c e = is_part ts i t c e
 
-  pub part_made : (p : ℕ) (e : ExprD) (n : ℕ) (u t : TermD) → IsTermOf k (Gives e) (Stands e) u → part_of u n ≡ Some t → IsTermOf k (Makes (part p e n)) (Stands (part p e n)) t
+  pub part_made : (p : ℕ) (e : ExprD) (n : ℕ) (u t : TermD) → IsTermOf k (Gives e) (IsWellFormed e) u → part_of u n ≡ Some t → IsTermOf k (Makes (part p e n)) (IsWellFormed (part p e n)) t
   part_made p e n (tup ts) t whole is = of_tuple n is
     where
-      of_tuple : (n : ℕ) → part_of (tup ts) n ≡ Some t → IsTermOf k (Makes (part p e n)) (Stands (part p e n)) t
+      of_tuple : (n : ℕ) → part_of (tup ts) n ≡ Some t → IsTermOf k (Makes (part p e n)) (IsWellFormed (part p e n)) t
       of_tuple zero is = absurd (cc)
       of_tuple (suc i) is = record {
         value = λ c a. (point (tup ts) c, parts_at ts c, whole.value c a, refl, is_part ts i t c is);
         levels = part_kept (Fits k.size) (PartsFit k.size) (λ t ts h. h) ts i t whole.levels is;
         operators = λ o h. part_kept (AdmitsTerm o) (AdmitsParts o) (λ t ts h. h) ts i t (whole.operators o (record { names = h.names; operators = h.operators })) is;
-        widths = λ h. part_kept HasUsualWidths PartsHaveUsualWidths (λ t ts h. h) ts i t (whole.widths h).2 is;
+        widths = λ h. part_kept HasBoundedWidths PartsHaveBoundedWidths (λ t ts h. h) ts i t (whole.widths h).2 is;
       }
   part_made p e n (t_var i) t whole is = absurd (cc)
   part_made p e n (t_tag x) t whole is = absurd (cc)
   part_made p e n (coll ks) t whole is = absurd (cc)
 
   -- ---- the depth
-  pub too_deep_fails : (e : ExprD) (t : TermD) (f : Fault) → IsTermOf k (Makes e) (Stands e) t → IsDepthFault k t (pos e) f → IsFaultOf k (Fails e) f
+  pub too_deep_fails : (e : ExprD) (t : TermD) (f : Fault) → IsTermOf k (Makes e) (IsWellFormed e) t → IsDepthFault k t (pos e) f → IsFaultOf k (Fails e) f
   too_deep_fails e t f made h = record {
     admitted = h.fault.admitted;
     failure = inr (h.fault.place, h.kind, point t (sampled f.sample.items), made.value (sampled f.sample.items) h.fault.admitted, h.deep);
@@ -140,8 +140,8 @@ module _ (k : Context) where
   }
 
   -- ---- operations
-  pub apply_made : (p : ℕ) (op : Operation) (es : ExprsD) (ts : List TermD) (t : TermD) → AreTermsOf k es (Stands (apply p op es)) ts → IsAppliedThroughout k op ts t → Fits k.size t →
-      ((o : Bool) → AdmitsContext o k → AdmitsParts o (terms_of ts) → AdmitsTerm o t) → (PartsHaveUsualWidths (terms_of ts) → HasUsualWidths t) → IsTermOf k (Makes (apply p op es)) (Stands (apply p op es)) t
+  pub apply_made : (p : ℕ) (op : Operation) (es : ExprsD) (ts : List TermD) (t : TermD) → AreTermsOf k es (IsWellFormed (apply p op es)) ts → IsAppliedThroughout k op ts t → Fits k.size t →
+      ((o : Bool) → AdmitsContext o k → AdmitsParts o (terms_of ts) → AdmitsTerm o t) → (PartsHaveBoundedWidths (terms_of ts) → HasBoundedWidths t) → IsTermOf k (Makes (apply p op es)) (IsWellFormed (apply p op es)) t
   apply_made p op es ts t all applied fits admits widths = record {
     value = λ c a. (parts_at (terms_of ts) c, all.values c a, (applied c a).0, (applied c a).1);
     levels = fits;
@@ -149,7 +149,7 @@ module _ (k : Context) where
     widths = λ h. widths (all.widths h);
   }
 
-  unfit_fails : (op : Operation) (es : ExprsD) (ts : TermsD) (s : NamedValues) (c : List Atom) (at : ℕ) (kind : FaultKind) → GiveAll es s (parts_at ts c) → IsUnfitAmong op es ts c at kind → SomeOperandFails (IsUnfitFor op) es s at kind
+  unfit_fails : (op : Operation) (es : ExprsD) (ts : TermsD) (s : NamedValues) (c : List Atom) (at : ℕ) (kind : FaultKind) → GiveAll es s (parts_at ts c) → IsUnfitAmong op es ts c at kind → SomeOperandFails (IsInvalidOperand op) es s at kind
   unfit_fails op no_exprs ts s c at kind g h = h
   unfit_fails op (expr e es) no_terms s c at kind g h = absurd h
   unfit_fails op (expr e es) (term t ts) s c at kind (v, more, is, own, rest) h =
@@ -160,7 +160,7 @@ module _ (k : Context) where
         | inr u ↦ inr (unfit_fails op es ts s c at kind (subst (GiveAll es s) (sym others) rest) u)
       ]
 
-  pub apply_fails : (p : ℕ) (op : Operation) (es : ExprsD) (ts : List TermD) (f : Fault) → AreTermsOf k es (Stands (apply p op es)) ts → IsUnfitFault k op es (terms_of ts) f → IsFaultOf k (Breaks (apply p op es)) f
+  pub apply_fails : (p : ℕ) (op : Operation) (es : ExprsD) (ts : List TermD) (f : Fault) → AreTermsOf k es (IsWellFormed (apply p op es)) ts → IsUnfitFault k op es (terms_of ts) f → IsFaultOf k (Breaks (apply p op es)) f
   apply_fails p op es ts f all h = record {
     admitted = h.admitted;
     failure = inr (unfit_fails op es (terms_of ts) (store_at (sampled f.sample.items) k.store) (sampled f.sample.items) f.pos.offset f.kind (all.values (sampled f.sample.items) h.admitted) h.unfit);
@@ -168,8 +168,8 @@ module _ (k : Context) where
   }
 
 -- the same of an expression that is this one
-pub made_as : (k : Context) (e f : ExprD) (t : TermD) → e ≡ f → IsTermOf k (Makes f) (Stands f) t → IsTermOf k (Makes e) (Stands e) t
-made_as k e f t is h = subst (λ z. IsTermOf k (Makes z) (Stands z) t) (sym is) h
+pub made_as : (k : Context) (e f : ExprD) (t : TermD) → e ≡ f → IsTermOf k (Makes f) (IsWellFormed f) t → IsTermOf k (Makes e) (IsWellFormed e) t
+made_as k e f t is h = subst (λ z. IsTermOf k (Makes z) (IsWellFormed z) t) (sym is) h
 
 pub breaks_as : (k : Context) (e f : ExprD) (x : Fault) → e ≡ f → IsFaultOf k (Breaks f) x → IsFaultOf k (Breaks e) x
 breaks_as k e f x is h = subst (λ z. IsFaultOf k (Breaks z) x) (sym is) h
@@ -187,7 +187,7 @@ no_part_at (tup ts) (suc i) c kind e h = inr (e, parts_at ts c, refl, inr (beyon
     beyond (term t ts) zero h = absurd (cc)
     beyond (term t ts) (suc i) h = omega (arith, beyond ts i h)
 
-pub part_fails : (k : Context) (p : ℕ) (e : ExprD) (n : ℕ) (u : TermD) (f : Fault) → IsTermOf k (Gives e) (Stands e) u → IsPartFault k u n (pos e) f → IsFaultOf k (Breaks (part p e n)) f
+pub part_fails : (k : Context) (p : ℕ) (e : ExprD) (n : ℕ) (u : TermD) (f : Fault) → IsTermOf k (Gives e) (IsWellFormed e) u → IsPartFault k u n (pos e) f → IsFaultOf k (Breaks (part p e n)) f
 part_fails k p e n u f whole h = record {
   admitted = h.fault.admitted;
   failure = inr (h.fault.place, point u (sampled f.sample.items), whole.value (sampled f.sample.items) h.fault.admitted, no_part_at u n (sampled f.sample.items) f.kind h.kind h.no_part);

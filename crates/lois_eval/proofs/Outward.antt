@@ -6,7 +6,7 @@ use Rattle.lois_base.specs.Atom.{Atom}
 use Rattle.lois_base.specs.Data.{TermD, coll, CompD, comp, comps_of}
 use Rattle.lois_base.specs.Fits.{ConstraintFits, Fits, ItemsFit}
 use Rattle.lois_base.specs.Truth.{holds}
-use Rattle.lois_base.specs.Validity.{AdmitsItems, ItemsHaveUsualWidths}
+use Rattle.lois_base.specs.Validity.{AdmitsItems, ItemsHaveBoundedWidths}
 use Rattle.lois_base.specs.Values.{PointValue, point, MakesAt, MemberAt, IsIn}
 use Rattle.lois_eval.specs.Folded.{outward}
 
@@ -91,6 +91,6 @@ pub admits_outward : (o : Bool) (m : ℕ) (ks : List CompD) → AdmitsItems o (c
 admits_outward o m [] h = tt
 admits_outward o m (comp b g t ∷ ks) h = (h.0, admits_outward o m ks h.1)
 
-pub widths_outward : (m : ℕ) (ks : List CompD) → ItemsHaveUsualWidths (comps_of ks) → ItemsHaveUsualWidths (comps_of (map (outward m) ks))
+pub widths_outward : (m : ℕ) (ks : List CompD) → ItemsHaveBoundedWidths (comps_of ks) → ItemsHaveBoundedWidths (comps_of (map (outward m) ks))
 widths_outward m [] h = tt
 widths_outward m (comp b g t ∷ ks) h = (h.0, widths_outward m ks h.1)

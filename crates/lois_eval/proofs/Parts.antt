@@ -5,7 +5,7 @@ use Rattle.std.specs.List.{list_all, list_any}
 use Rattle.lois_base.specs.Atom.{Atom}
 use Rattle.lois_base.specs.Data.{TermD, terms_of}
 use Rattle.lois_base.specs.Fits.{Fits, PartsFit}
-use Rattle.lois_base.specs.Validity.{AdmitsTerm, AdmitsParts, HasUsualWidths, PartsHaveUsualWidths}
+use Rattle.lois_base.specs.Validity.{AdmitsTerm, AdmitsParts, HasBoundedWidths, PartsHaveBoundedWidths}
 use Rattle.lois_base.specs.Values.{PointValue, point}
 use Rattle.lois_meaning.specs.Expressions.{Gives, GiveAll, HasTruth, HaveTruths}
 use Rattle.lois_meaning.specs.Faults.{Fails, SomeFails, CondFails, SomeCondFails}
@@ -16,7 +16,7 @@ use Rattle.lois_script.specs.View.{tree, cond_tree, exprs_of, conds_of}
 use Rattle.lois_answers.specs.declared.faults.FaultKind.{FaultKind}
 use Rattle.lois_script.specs.declared.syntax.Cond.{Cond}
 use Rattle.lois_script.specs.declared.syntax.Expr.{Expr}
-use Rattle.lois_eval.specs.Standing.{Stands, AllStand, CondStands, AllCondsStand, count_of}
+use Rattle.lois_eval.specs.WellFormed.{IsWellFormed, AreWellFormed, CondIsWellFormed, CondsAreWellFormed, count_of}
 use Rattle.lois_eval.proofs.Weights.{weight, weight_of_exprs, weight_of_cond, weight_of_conds}
 
 -- ---- expressions
@@ -24,7 +24,7 @@ use Rattle.lois_eval.proofs.Weights.{weight, weight_of_exprs, weight_of_cond, we
 -- an item of a list of expressions
 pub record IsExprOf (es : ExprsD) (e : ExprD) : Type 0 where
   pub weight : weight e ≤ weight_of_exprs es
-  pub stands : (o : Bool) (xs : List (List ℕ)) → AllStand es o xs → Stands e o xs
+  pub stands : (o : Bool) (xs : List (List ℕ)) → AreWellFormed es o xs → IsWellFormed e o xs
   pub fails : (s : NamedValues) (at : ℕ) (k : FaultKind) → Fails e s at k → SomeFails es s at k
 
 expr_at : (es : List Expr) (i : ℕ) (d : Expr) → i < length es → IsExprOf (exprs_of (map tree es)) (tree (get_or es i d))
@@ -63,7 +63,7 @@ pub parts_admit-more : (o : Bool) (ts : List TermD) (t : TermD) → AdmitsParts 
 parts_admit-more o [] t h f = (f, tt)
 parts_admit-more o (s ∷ ts) t h f = (h.0, parts_admit-more o ts t h.1 f)
 
-pub parts_widths-more : (ts : List TermD) (t : TermD) → PartsHaveUsualWidths (terms_of ts) → HasUsualWidths t → PartsHaveUsualWidths (terms_of (ts ++ t ∷ []))
+pub parts_widths-more : (ts : List TermD) (t : TermD) → PartsHaveBoundedWidths (terms_of ts) → HasBoundedWidths t → PartsHaveBoundedWidths (terms_of (ts ++ t ∷ []))
 parts_widths-more [] t h f = (f, tt)
 parts_widths-more (s ∷ ts) t h f = (h.0, parts_widths-more ts t h.1 f)
 
@@ -75,7 +75,7 @@ count_of-more (e ∷ es) = ap suc (count_of-more es)
 
 pub record IsCondOf (cs : CondsD) (c : CondD) : Type 0 where
   pub weight : weight_of_cond c ≤ weight_of_conds cs
-  pub stands : (o : Bool) (xs : List (List ℕ)) → AllCondsStand cs o xs → CondStands c o xs
+  pub stands : (o : Bool) (xs : List (List ℕ)) → CondsAreWellFormed cs o xs → CondIsWellFormed c o xs
   pub fails : (s : NamedValues) (at : ℕ) (k : FaultKind) → CondFails c s at k → SomeCondFails cs s at k
 
 cond_at : (cs : List Cond) (i : ℕ) (d : Cond) → i < length cs → IsCondOf (conds_of (map cond_tree cs)) (cond_tree (get_or cs i d))

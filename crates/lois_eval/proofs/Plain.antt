@@ -11,18 +11,18 @@ use Rattle.lois_script.specs.Tree.{CondD, truth, falsity}
 use Rattle.lois_meaning.specs.declared.faults.Fault.{Fault}
 use Rattle.lois_context.specs.declared.contexts.Context.{Context}
 use Rattle.lois_eval.specs.Evaluated.{IsConstraintOf}
-use Rattle.lois_eval.specs.Standing.{CondStands}
+use Rattle.lois_eval.specs.WellFormed.{CondIsWellFormed}
 use Rattle.lois_eval.specs.Throughout.{IsFaultOf}
 
 -- the conditions that are true or false everywhere
-pub truth_decided : (k : Context) (g : List (List Lit)) → ((c : List Atom) → holds c g ≡ true) → ((n : ℕ) → ConstraintFits n g) → ((o : Bool) → AdmitsConstraint o g) → IsConstraintOf k (HasTruth truth) (CondStands truth) g
+pub truth_decided : (k : Context) (g : List (List Lit)) → ((c : List Atom) → holds c g ≡ true) → ((n : ℕ) → ConstraintFits n g) → ((o : Bool) → AdmitsConstraint o g) → IsConstraintOf k (HasTruth truth) (CondIsWellFormed truth) g
 truth_decided k g is fits admits = record { truth = λ c a. is c; levels = fits k.size; operators = λ o h. admits o }
 
-pub falsity_decided : (k : Context) (g : List (List Lit)) → ((c : List Atom) → holds c g ≡ false) → ((n : ℕ) → ConstraintFits n g) → ((o : Bool) → AdmitsConstraint o g) → IsConstraintOf k (HasTruth falsity) (CondStands falsity) g
+pub falsity_decided : (k : Context) (g : List (List Lit)) → ((c : List Atom) → holds c g ≡ false) → ((n : ℕ) → ConstraintFits n g) → ((o : Bool) → AdmitsConstraint o g) → IsConstraintOf k (HasTruth falsity) (CondIsWellFormed falsity) g
 falsity_decided k g is fits admits = record { truth = λ c a. is c; levels = fits k.size; operators = λ o h. admits o }
 
-pub decided_as : (k : Context) (c d : CondD) (g : List (List Lit)) → c ≡ d → IsConstraintOf k (HasTruth d) (CondStands d) g → IsConstraintOf k (HasTruth c) (CondStands c) g
-decided_as k c d g is h = subst (λ z. IsConstraintOf k (HasTruth z) (CondStands z) g) (sym is) h
+pub decided_as : (k : Context) (c d : CondD) (g : List (List Lit)) → c ≡ d → IsConstraintOf k (HasTruth d) (CondIsWellFormed d) g → IsConstraintOf k (HasTruth c) (CondIsWellFormed c) g
+decided_as k c d g is h = subst (λ z. IsConstraintOf k (HasTruth z) (CondIsWellFormed z) g) (sym is) h
 
 pub cond_fails_as : (k : Context) (c d : CondD) (f : Fault) → c ≡ d → IsFaultOf k (CondFails d) f → IsFaultOf k (CondFails c) f
 cond_fails_as k c d f is h = subst (λ z. IsFaultOf k (CondFails z) f) (sym is) h

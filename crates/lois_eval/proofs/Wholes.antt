@@ -19,7 +19,7 @@ use Rattle.lois_script.specs.Tree.{ExprD, each, BindingsD, bind, binding, CondD,
 use Rattle.lois_meaning.specs.declared.faults.Fault.{Fault}
 use Rattle.lois_meaning.proofs.Failures.{breaks_move, cond_fails_move}
 use Rattle.lois_context.specs.Choices.{IsAdmitted, AdmitsContext}
-use Rattle.lois_context.specs.Entered.{AreEntered, IsInside}
+use Rattle.lois_context.specs.Entered.{AreEntered, IsLoopContext}
 use Rattle.lois_context.specs.Slots.{SlotD, IsNew, slot_name, store_at}
 use Rattle.lois_context.specs.declared.contexts.Context.{Context}
 use Rattle.lois_terms.specs.Guarded.{IsSet as IsSetTerm}
@@ -27,7 +27,7 @@ use Rattle.lois_eval.specs.Checks.{IsTruncatedFrom}
 use Rattle.lois_eval.specs.Evaluated.{IsTermOf, IsConstraintOf, IsWithin}
 use Rattle.lois_eval.specs.Folded.{IsGathered, IsFoundInside, IsFaultInside}
 use Rattle.lois_eval.specs.Forms.{quantifier}
-use Rattle.lois_eval.specs.Standing.{IsPlaced, IsUnnamed, Stands, CondStands, names_of}
+use Rattle.lois_eval.specs.WellFormed.{IsWellFormedIn, IsUnnamed, IsWellFormed, CondIsWellFormed, names_of}
 use Rattle.lois_eval.specs.Throughout.{Failure, IsFaultOf}
 use Rattle.lois_eval.proofs.Binders.{each_binder_breaks, exists_binder_fails, every_binder_fails}
 use Rattle.lois_eval.proofs.Inside.{fails_outside}
@@ -55,32 +55,32 @@ of_cut k fails f g cut a h none = record {
 
 module _ (k : Context) (x : List ℕ) (t : TermD) (ds : List Context) (is_set : IsSetTerm t) (entered : AreEntered k x t ds) where
   pub all_longer : All (λ d. k.size ≤ d.size) ds
-  all_longer = All-weaker (IsInside k x) (λ d. k.size ≤ d.size) (λ d inside. inside.longer) ds entered.inside
+  all_longer = All-weaker (IsLoopContext k x) (λ d. k.size ≤ d.size) (λ d inside. inside.longer) ds entered.inside
 
   -- inside the name is in scope too
-  pub placed_inside : (o : Bool) (S : Bool → List (List ℕ) → Type 0) → All (AdmitsContext o) ds → S o (names_of k.store ++ x ∷ []) → All (IsPlaced S o) ds
+  pub placed_inside : (o : Bool) (S : Bool → List (List ℕ) → Type 0) → All (AdmitsContext o) ds → S o (names_of k.store ++ x ∷ []) → All (IsWellFormedIn S o) ds
   placed_inside o S admits stands =
-      All-weaker (Contains ds) (IsPlaced S o) (λ d there. record {
-        names = subst (S o) (sym (All-contains (IsInside k x) ds d entered.inside there).names) stands;
+      All-weaker (Contains ds) (IsWellFormedIn S o) (λ d there. record {
+        names = subst (S o) (sym (All-contains (IsLoopContext k x) ds d entered.inside there).names) stands;
         operators = All-contains (AdmitsContext o) ds d admits there;
       }) ds (All-contains_itself ds)
 
   set_value : (c : List Atom) → IsSet (point t c)
   set_value c = set_at t c is_set
 
-  module _ (q : ℕ) (e : ExprD) (elements : IsTermOf k (Gives e) (Stands e) t) where
-    pub each_loop : (p : ℕ) (item : ExprD) (rest : BindingsD) (cond : CondD) (ks : CompsD) → IsGathered k.size (Makes (each 0 item rest cond)) (Stands (each 0 item rest cond)) ds ks →
-        IsTermOf k (Makes (each p item (bind (binding q x e) rest) cond)) (Stands (each p item (bind (binding q x e) rest) cond)) (coll ks)
+  module _ (q : ℕ) (e : ExprD) (elements : IsTermOf k (Gives e) (IsWellFormed e) t) where
+    pub each_loop : (p : ℕ) (item : ExprD) (rest : BindingsD) (cond : CondD) (ks : CompsD) → IsGathered k.size (Makes (each 0 item rest cond)) (IsWellFormed (each 0 item rest cond)) ds ks →
+        IsTermOf k (Makes (each p item (bind (binding q x e) rest) cond)) (IsWellFormed (each p item (bind (binding q x e) rest) cond)) (coll ks)
     each_loop p item rest cond ks gathered = record {
-      value = loop_makes k x t ds entered q e elements.value set_value p item rest cond (Stands (each 0 item rest cond)) ks gathered;
+      value = loop_makes k x t ds entered q e elements.value set_value p item rest cond (IsWellFormed (each 0 item rest cond)) ks gathered;
       levels = gathered.levels;
-      operators = λ o h. gathered.operators o (placed_inside o (Stands (each 0 item rest cond)) (entered.operators o h.operators (elements.operators o (record { names = h.names.0.0; operators = h.operators }))) (h.names.0.2, h.names.1, h.names.2));
+      operators = λ o h. gathered.operators o (placed_inside o (IsWellFormed (each 0 item rest cond)) (entered.operators o h.operators (elements.operators o (record { names = h.names.0.0; operators = h.operators }))) (h.names.0.2, h.names.1, h.names.2));
       widths = λ h. gathered.widths (entered.widths h (elements.widths h));
     }
 
-    pub each_loop_within : (item : ExprD) (rest : BindingsD) (cond : CondD) (ks : CompsD) → IsGathered k.size (Makes (each 0 item rest cond)) (Stands (each 0 item rest cond)) ds ks → IsWithin k (coll ks)
+    pub each_loop_within : (item : ExprD) (rest : BindingsD) (cond : CondD) (ks : CompsD) → IsGathered k.size (Makes (each 0 item rest cond)) (IsWellFormed (each 0 item rest cond)) ds ks → IsWithin k (coll ks)
     each_loop_within item rest cond ks gathered =
-        loop_within k x t ds entered (Makes (each 0 item rest cond)) (Stands (each 0 item rest cond)) ks gathered
+        loop_within k x t ds entered (Makes (each 0 item rest cond)) (IsWellFormed (each 0 item rest cond)) ks gathered
 
     pub each_loop_fails : (p : ℕ) (item : ExprD) (rest : BindingsD) (cond : CondD) (f g : Fault) → IsFaultInside ds (Breaks (each 0 item rest cond)) g → IsTruncatedFrom k.size f g → IsFaultOf k (Breaks (each p item (bind (binding q x e) rest) cond)) f
     each_loop_fails p item rest cond f g inside cut =
@@ -97,15 +97,15 @@ module _ (k : Context) (x : List ℕ) (t : TermD) (ds : List Context) (is_set : 
         whole true c gives m is h = exists_binder_fails q x e (store_at c k.store) (point t c) gives (set_value c) cond m is g.pos.offset g.kind h
         whole false c gives m is h = every_binder_fails q x e (store_at c k.store) (point t c) gives (set_value c) cond m is g.pos.offset g.kind h
 
-    pub quantifier_loop : (some : Bool) (cond : CondD) (g r : List (List Lit)) → IsFoundInside k.size (HasTruth cond) some (CondStands cond) ds g → ((c : List Atom) → holds c r ≡ (if some then holds c g else opposite (holds c g))) → ConstraintFits k.size r → ((o : Bool) → AdmitsConstraint o g → AdmitsConstraint o r) →
-        IsConstraintOf k (HasTruth (quantifier some (binding q x e) cond)) (CondStands (quantifier some (binding q x e) cond)) r
+    pub quantifier_loop : (some : Bool) (cond : CondD) (g r : List (List Lit)) → IsFoundInside k.size (HasTruth cond) some (CondIsWellFormed cond) ds g → ((c : List Atom) → holds c r ≡ (if some then holds c g else opposite (holds c g))) → ConstraintFits k.size r → ((o : Bool) → AdmitsConstraint o g → AdmitsConstraint o r) →
+        IsConstraintOf k (HasTruth (quantifier some (binding q x e) cond)) (CondIsWellFormed (quantifier some (binding q x e) cond)) r
     quantifier_loop true cond g r found is fits admits = record {
-      truth = λ c a. subst (HasTruth (exists (binding q x e) cond) (store_at c k.store)) (sym (is c)) (loop_exists k x t ds entered q e elements.value set_value cond (CondStands cond) g found c a);
+      truth = λ c a. subst (HasTruth (exists (binding q x e) cond) (store_at c k.store)) (sym (is c)) (loop_exists k x t ds entered q e elements.value set_value cond (CondIsWellFormed cond) g found c a);
       levels = fits;
-      operators = λ o h. admits o (found.operators o (placed_inside o (CondStands cond) (entered.operators o h.operators (elements.operators o (record { names = h.names.0; operators = h.operators }))) h.names.2));
+      operators = λ o h. admits o (found.operators o (placed_inside o (CondIsWellFormed cond) (entered.operators o h.operators (elements.operators o (record { names = h.names.0; operators = h.operators }))) h.names.2));
     }
     quantifier_loop false cond g r found is fits admits = record {
-      truth = λ c a. subst (HasTruth (every (binding q x e) cond) (store_at c k.store)) (sym (is c)) (loop_every k x t ds entered q e elements.value set_value cond (CondStands cond) g found c a);
+      truth = λ c a. subst (HasTruth (every (binding q x e) cond) (store_at c k.store)) (sym (is c)) (loop_every k x t ds entered q e elements.value set_value cond (CondIsWellFormed cond) g found c a);
       levels = fits;
-      operators = λ o h. admits o (found.operators o (placed_inside o (CondStands cond) (entered.operators o h.operators (elements.operators o (record { names = h.names.0; operators = h.operators }))) h.names.2));
+      operators = λ o h. admits o (found.operators o (placed_inside o (CondIsWellFormed cond) (entered.operators o h.operators (elements.operators o (record { names = h.names.0; operators = h.operators }))) h.names.2));
     }

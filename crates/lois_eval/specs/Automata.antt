@@ -4,10 +4,10 @@ use Rattle.lois_base.specs.Atom.{Atom}
 use Rattle.lois_base.specs.Data.{TermD, terms_of}
 use Rattle.lois_base.specs.Fits.{Fits, PartsFit, ConstraintFits}
 use Rattle.lois_base.specs.Truth.{holds, sampled}
-use Rattle.lois_base.specs.Validity.{AdmitsConstraint, AdmitsTerm, AdmitsParts, HasUsualWidths, PartsHaveUsualWidths}
+use Rattle.lois_base.specs.Validity.{AdmitsConstraint, AdmitsTerm, AdmitsParts, HasBoundedWidths, PartsHaveBoundedWidths}
 use Rattle.lois_base.specs.Values.{PointValue, point}
 use Rattle.lois_base.specs.declared.guards.Lit.{Lit}
-use Rattle.lois_meaning.specs.Automata.{Machine, IsAutomatonOf, Accepts}
+use Rattle.lois_meaning.specs.Automata.{Automaton, IsAutomatonOf, Accepts}
 use Rattle.lois_meaning.specs.Expressions.{IsTruthOf}
 use Rattle.lois_script.specs.Tree.{ExprD}
 use Rattle.lois_script.specs.declared.syntax.Operation.{Operation}
@@ -21,7 +21,7 @@ use Rattle.lois_automata.specs.declared.verdicts.Verdict.TheVariants.{Holds, Fai
 use Rattle.lois_script.specs.declared.syntax.Pos.{Pos}
 use Rattle.lois_eval.specs.Checks.{IsFaultAt, IsFaultWith}
 use Rattle.lois_eval.specs.Operands.{IsAppliedThroughout}
-use Rattle.lois_eval.specs.Standing.{arity}
+use Rattle.lois_eval.specs.WellFormed.{arity}
 
 -- the operations on one automaton, and those on any
 abbrev pub IsOfOneAutomaton : Operation → Type 0
@@ -49,11 +49,11 @@ pub record IsMadeOf (k : Context) (op : Operation) (ts : List TermD) (t : TermD)
   pub applied : IsAppliedThroughout k op ts t
   pub levels : Fits k.size t
   pub operators : (o : Bool) → AdmitsContext o k → AdmitsParts o (terms_of ts) → AdmitsTerm o t
-  pub widths : PartsHaveUsualWidths (terms_of ts) → HasUsualWidths t
+  pub widths : PartsHaveBoundedWidths (terms_of ts) → HasBoundedWidths t
 
 -- At each choice that the context admits the value is an automaton, and the constraint holds exactly where it accepts no word.
 pub record IsEmptiness (k : Context) (t : TermD) (g : List (List Lit)) : Type 0 where
-  pub truth : (c : List Atom) → IsAdmitted c k → (a : Machine) × IsAutomatonOf (point t c) a × IsTruthOf (not (holds c g)) ((word : List PointValue) × Accepts a word)
+  pub truth : (c : List Atom) → IsAdmitted c k → (a : Automaton) × IsAutomatonOf (point t c) a × IsTruthOf (not (holds c g)) ((word : List PointValue) × Accepts a word)
   pub levels : ConstraintFits k.size g
   pub operators : (o : Bool) → AdmitsContext o k → AdmitsTerm o t → AdmitsConstraint o g
 

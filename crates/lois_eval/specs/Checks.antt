@@ -3,7 +3,7 @@ use Rattle.std.specs.Prelude.{◌≡◌, ℕ, List, [], take, IsTrue}
 use Rattle.lois_base.specs.Data.{TermD, var}
 use Rattle.lois_base.specs.Truth.{holds, sampled}
 use Rattle.lois_base.specs.declared.guards.Lit.{Lit}
-use Rattle.lois_deciders.specs.Asked.{IsSmall}
+use Rattle.lois_deciders.specs.Satisfaction.{IsSmall}
 use Rattle.lois_base.specs.Values.{point, IsDeeper}
 use Rattle.lois_terms.specs.Guarded.{IsSet}
 use Rattle.lois_meaning.specs.Store.{depth_limit}

@@ -6,15 +6,15 @@ use Rattle.lois_base.specs.Atom.{Atom}
 use Rattle.lois_base.specs.Data.{coll, CompD, comp, CompsD}
 use Rattle.lois_base.specs.Fits.{ConstraintFits, ItemsFit}
 use Rattle.lois_base.specs.Truth.{holds}
-use Rattle.lois_base.specs.Validity.{AdmitsConstraint, AdmitsItems, ItemsHaveUsualWidths}
+use Rattle.lois_base.specs.Validity.{AdmitsConstraint, AdmitsItems, ItemsHaveBoundedWidths}
 use Rattle.lois_base.specs.Values.{PointValue, point, IsIn}
 use Rattle.lois_base.specs.declared.guards.Lit.{Lit}
 use Rattle.lois_elim.specs.Bound.{HoldsForSomeMore}
 use Rattle.lois_meaning.specs.Store.{NamedValues}
-use Rattle.lois_context.specs.Choices.{IsAdmitted, AdmitsContext, ContextHasUsualWidths}
+use Rattle.lois_context.specs.Choices.{IsAdmitted, AdmitsContext, ContextHasBoundedWidths}
 use Rattle.lois_context.specs.Slots.{store_at}
 use Rattle.lois_context.specs.declared.contexts.Context.{Context}
-use Rattle.lois_eval.specs.Standing.{IsPlaced}
+use Rattle.lois_eval.specs.WellFormed.{IsWellFormedIn}
 use Rattle.lois_eval.specs.Throughout.{Failure, IsFaultOf}
 use Rattle.lois_meaning.specs.declared.faults.Fault.{Fault}
 
@@ -36,15 +36,15 @@ pub record IsGathered (n : ℕ) (P : NamedValues → PointValue → Type 0) (sta
   pub made : IsEverywhereInside ds (λ s. (v : PointValue) × P s v)
   pub members : (c : List Atom) → length c ≡ n → (w : PointValue) → IsIn w (point (coll ks) c) ↔ IsSomewhereInside ds c (λ s. (v : PointValue) × P s v × IsIn w v)
   pub levels : ItemsFit n ks
-  pub operators : (o : Bool) → All (IsPlaced stands o) ds → AdmitsItems o ks
-  pub widths : All ContextHasUsualWidths ds → ItemsHaveUsualWidths ks
+  pub operators : (o : Bool) → All (IsWellFormedIn stands o) ds → AdmitsItems o ks
+  pub widths : All ContextHasBoundedWidths ds → ItemsHaveBoundedWidths ks
 
 -- The constraint outside, over n levels, that somewhere inside the truth of which P holds is the one that is looked for.
 pub record IsFoundInside (n : ℕ) (P : NamedValues → Bool → Type 0) (wanted : Bool) (stands : Bool → List (List ℕ) → Type 0) (ds : List Context) (g : List (List Lit)) : Type 0 where
   pub decided : IsEverywhereInside ds (λ s. (b : Bool) × P s b)
   pub found : (c : List Atom) → length c ≡ n → IsTrue (holds c g) ↔ IsSomewhereInside ds c (λ s. P s wanted)
   pub levels : ConstraintFits n g
-  pub operators : (o : Bool) → All (IsPlaced stands o) ds → AdmitsConstraint o g
+  pub operators : (o : Bool) → All (IsWellFormedIn stands o) ds → AdmitsConstraint o g
 
 -- a fault in one of the contexts inside
 abbrev pub IsFaultInside : List Context → Failure → Fault → Type 0

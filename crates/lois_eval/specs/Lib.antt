@@ -1,4 +1,4 @@
-pub mod Standing
+pub mod WellFormed
 pub mod Throughout
 pub mod Checks
 pub mod Made
@@ -7,5 +7,5 @@ pub mod Compared
 pub mod Evaluated
 pub mod Folded
 pub mod Forms
-pub mod Asking
+pub mod Oracle
 pub mod Automata

@@ -3,10 +3,10 @@ use Rattle.std.specs.Prelude.{◌≡◌, ℕ, ◌⊎◌, ◌↔◌, Bool, List, 
 use Rattle.lois_base.specs.Atom.{Atom}
 use Rattle.lois_base.specs.Data.{TermD, TermsD, term, terms_of, CompD}
 use Rattle.lois_base.specs.Fits.{Fits}
-use Rattle.lois_base.specs.Validity.{AdmitsTerm, HasUsualWidths}
+use Rattle.lois_base.specs.Validity.{AdmitsTerm, HasBoundedWidths}
 use Rattle.lois_base.specs.Values.{PointValue, point, IsMember}
-use Rattle.lois_meaning.specs.Expressions.{AreFitFor, IsResultOf}
-use Rattle.lois_meaning.specs.Faults.{IsUnfitFor}
+use Rattle.lois_meaning.specs.Expressions.{AreValidOperands, IsResultOf}
+use Rattle.lois_meaning.specs.Faults.{IsInvalidOperand}
 use Rattle.lois_meaning.specs.Kinds.{parts_at, IsSet}
 use Rattle.lois_script.specs.Tree.{ExprsD, expr, pos}
 use Rattle.lois_algebra.specs.Sets.{IsSetOfSets}
@@ -32,12 +32,12 @@ IsOfTwoSets _ = ⊥
 -- at each choice that the context admits the operands fit the operation, and t is what it makes of them
 abbrev pub IsAppliedThroughout : Context → Operation → List TermD → TermD → Type 0
 IsAppliedThroughout k op ts t =
-    (c : List Atom) → IsAdmitted c k → AreFitFor (parts_at (terms_of ts) c) op × IsResultOf (point t c) op (parts_at (terms_of ts) c)
+    (c : List Atom) → IsAdmitted c k → AreValidOperands (parts_at (terms_of ts) c) op × IsResultOf (point t c) op (parts_at (terms_of ts) c)
 
 -- one of the terms has a value that is unfit for the operation, and the place of its expression is this one
 abbrev pub IsUnfitAmong : Operation → ExprsD → TermsD → List Atom → ℕ → FaultKind → Type 0
 IsUnfitAmong op (expr e es) (term t ts) c at kind =
-    ((at ≡ pos e) × IsUnfitFor op (point t c) kind) ⊎ IsUnfitAmong op es ts c at kind
+    ((at ≡ pos e) × IsInvalidOperand op (point t c) kind) ⊎ IsUnfitAmong op es ts c at kind
 IsUnfitAmong op _ _ c at kind = ⊥
 
 -- the fault of an operand at some choice that the context admits
@@ -52,7 +52,7 @@ pub record HasSetsOf (k : Context) (t r : TermD) : Type 0 where
   pub members : (c : List Atom) → IsAdmitted c k → (u : PointValue) → IsMember u (point t c) ↔ IsMember u (point r c)
   pub levels : Fits k.size r
   pub operators : (o : Bool) → AdmitsTerm o t → AdmitsTerm o r
-  pub widths : HasUsualWidths t → HasUsualWidths r
+  pub widths : HasBoundedWidths t → HasBoundedWidths r
 
 -- The comprehension is put behind the others if its item is a set, and else left out, since it has no members.
 abbrev pub IsKept : Context → CompD → List CompD → List CompD → Type 0

@@ -13,8 +13,8 @@ ghost use Rattle.lois_context.specs.Choices.{IsAdmitted};
 ghost use Rattle.lois_eval.specs.Checks.{IsSetFault, IsDepthFault};
 ghost use Rattle.lois_eval.specs.Throughout.{IfFault};
 
-use crate::asking::Asks;
 use crate::faults::{fault, fault_under};
+use crate::oracle::Oracle;
 use lois_algebra::depth_formula;
 use lois_answers::FaultKind;
 use lois_base::limits::GREATEST_DEPTH;
@@ -38,7 +38,7 @@ pub(crate) fn check_set(alloc: Global, pos: Pos, term: &Term, context: &Context)
 }
 
 /// The term again. Errors: a fault at the place where its value is too deep at some choice that the context admits.
-pub(crate) fn shallow<T: Structure, D: Asks<T>>(
+pub(crate) fn shallow<T: Structure, D: Oracle<T>>(
     alloc: Global,
     pos: Pos,
     term: Term,
@@ -57,7 +57,7 @@ pub(crate) fn shallow<T: Structure, D: Asks<T>>(
     Ok(term)
 }
 
-fn check_depth<T: Structure, D: Asks<T>>(
+fn check_depth<T: Structure, D: Oracle<T>>(
     alloc: Global,
     pos: Pos,
     term: &Term,

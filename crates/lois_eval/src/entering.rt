@@ -12,9 +12,9 @@ ghost use Rattle.lois_terms.specs.Guarded.{IsSet};
 ghost use Rattle.lois_eval.specs.Checks.{IsSetFault, IsTruncated};
 ghost use Rattle.lois_eval.specs.Throughout.{IfFault};
 
-use crate::asking::Asks;
 use crate::checks::check_set;
 use crate::faults::outside;
+use crate::oracle::Oracle;
 use lois_base::{Comps, Constraint, Name, Structure, Term};
 use lois_constraint::negate;
 use lois_context::Context;
@@ -23,7 +23,7 @@ use lois_script::Pos;
 use std::alloc::Global;
 
 /// The contexts for the members of a set. Errors: a fault at the place where the term is no set.
-pub(crate) fn entered<T: Structure, D: Asks<T>>(
+pub(crate) fn entered<T: Structure, D: Oracle<T>>(
     alloc: Global,
     name: &Name,
     pos: Pos,
@@ -44,7 +44,7 @@ pub(crate) fn entered<T: Structure, D: Asks<T>>(
 }
 
 /// What came of the contexts inside, outside, where there are `size` levels.
-pub(crate) fn handed_comps(given: Result<Comps, Stop>, size: usize) -> Result<Comps, Stop>
+pub(crate) fn leave_loop_with_comps(given: Result<Comps, Stop>, size: usize) -> Result<Comps, Stop>
     ensures ok { IfOk result (λ r. IsOkAnd given (λ g. r ≡ g)) }
     ensures fault { IfErr result (λ s. IfFault s (λ f. IsErrAnd given (λ t. IsTruncated size f t))) }
 {
@@ -55,7 +55,7 @@ pub(crate) fn handed_comps(given: Result<Comps, Stop>, size: usize) -> Result<Co
 }
 
 /// The same of a constraint, or of its negation.
-pub(crate) fn handed_constraint(
+pub(crate) fn leave_loop_with_constraint(
     alloc: Global,
     given: Result<Constraint, Stop>,
     some: bool,

@@ -7,15 +7,15 @@ ghost use Rattle.lois_base.specs.Data.{comps_of, coll, terms_of};
 ghost use Rattle.lois_base.specs.Fits.{ConstraintFits, Fits};
 ghost use Rattle.lois_base.specs.Tree.{tree as term_tree};
 ghost use Rattle.lois_base.specs.Truth.{holds};
-ghost use Rattle.lois_base.specs.Validity.{AdmitsConstraint, AdmitsTerm, HasUsualWidths};
-ghost use Rattle.lois_deciders.specs.Met.{ExcludeEachOther};
+ghost use Rattle.lois_base.specs.Validity.{AdmitsConstraint, AdmitsTerm, HasBoundedWidths};
+ghost use Rattle.lois_deciders.specs.Conjunction.{AreInconsistent};
 ghost use Rattle.lois_deciders.specs.OnlyAsked.{HasOnlyAsked};
 ghost use Rattle.lois_meaning.specs.Expressions.{Gives, Makes, HasTruth};
 ghost use Rattle.lois_meaning.specs.Faults.{Fails, Breaks, SomeFails, CondFails, IsNoAutomaton};
 ghost use Rattle.lois_script.specs.Tree.{each};
 ghost use Rattle.lois_script.specs.View.{tree, cond_tree, binding_tree, exprs_of, exprs_list, bindings_of, conds_of, conds_list};
 ghost use Rattle.lois_terms.specs.Guarded.{IsSet};
-ghost use Rattle.lois_context.specs.Choices.{IsAdmitted, IsAdmittedBy, AdmitsContext, ContextHasUsualWidths};
+ghost use Rattle.lois_context.specs.Choices.{IsAdmitted, IsAdmittedBy, AdmitsContext, ContextHasBoundedWidths};
 ghost use Rattle.lois_context.specs.Entered.{AreEntered};
 ghost use Rattle.lois_context.specs.Sides.{IsSide};
 ghost use Rattle.lois_context.specs.Slots.{IsNew};
@@ -25,17 +25,17 @@ ghost use Rattle.lois_eval.specs.Evaluated.{IsTermOf, AreTermsOf, IsConstraintOf
 ghost use Rattle.lois_eval.specs.Folded.{IsGathered, IsFoundInside, IsFaultInside};
 ghost use Rattle.lois_eval.specs.Forms.{each_from, joint, quantifier, two};
 ghost use Rattle.lois_eval.specs.Operands.{IsUnfitFault};
-ghost use Rattle.lois_eval.specs.Standing.{IsPlaced, Stands, AllStand, CondStands};
+ghost use Rattle.lois_eval.specs.WellFormed.{IsWellFormedIn, IsWellFormed, AreWellFormed, CondIsWellFormed};
 ghost use Rattle.lois_eval.specs.Throughout.{IsValueThroughout, IsTruthThroughout, FailsNowhere, IsFaultOf, IfFault};
 
-use crate::asking::{Asking, Asks, sample};
 use crate::checks::shallow;
-use crate::entering::{entered, handed_comps, handed_constraint};
+use crate::entering::{entered, leave_loop_with_comps, leave_loop_with_constraint};
 use crate::folding::{found_too, put_outward};
 use crate::forms::{compared, composed, simple, wordless};
 use crate::joining::{joined, unit};
 use crate::machines::{applied_to_automata, where_empty};
-use crate::making::{alone, part};
+use crate::making::{part, singleton_set};
+use crate::oracle::{Oracle, Queries, sample};
 use lois_base::{Comps, Constraint, Decider, Name, Structure, Term, Terms};
 use lois_constraint::negate;
 use lois_context::{Context, enter_loop, side};
@@ -52,24 +52,24 @@ pub fn eval<T: Structure>(
     context: &Context,
     chosen: &mut Chosen,
 ) -> Result<Term, Stop>
-    requires { IsPlaced (Stands (tree e.now)) T.ordered context.now }
+    requires { IsWellFormedIn (IsWellFormed (tree e.now)) T.ordered context.now }
     ensures value { IfOk result (λ t. IsValueThroughout context.now (tree e.now) (term_tree t)) }
     ensures nowhere { IfOk result (λ t. FailsNowhere context.now (Fails (tree e.now))) }
     ensures levels { IfOk result (λ t. Fits context.now.size (term_tree t)) }
-    ensures operators { IfOk result (λ t. (ordered : Bool) → IsPlaced (Stands (tree e.now)) ordered context.now → AdmitsTerm ordered (term_tree t)) }
-    ensures widths { IfOk result (λ t. ContextHasUsualWidths context.now → HasUsualWidths (term_tree t)) }
+    ensures operators { IfOk result (λ t. (ordered : Bool) → IsWellFormedIn (IsWellFormed (tree e.now)) ordered context.now → AdmitsTerm ordered (term_tree t)) }
+    ensures widths { IfOk result (λ t. ContextHasBoundedWidths context.now → HasBoundedWidths (term_tree t)) }
     ensures fault { IfErr result (λ s. IfFault s (IsFaultOf context.now (Fails (tree e.now)))) }
 
     // whatever is answered
     ensures only_asked { HasOnlyAsked (λ b. (⟦<dyn Decider as Decider>⟧ b.vtable).kind_of b.value) (λ b. (⟦<dyn Decider as Decider>⟧ b.vtable).questions b.value) chosen.old chosen.new }
 {
-    let mut asking = Asking {
+    let mut asking = Queries {
         decider: chosen,
         sample: |asked: &mut Chosen, alloc: Global, a: &Constraint, b: &Constraint, size: usize|
             requires first { ConstraintFits size a.now }
             requires second { ConstraintFits size b.now }
             ensures some { IfOk result (λ o. IfSome o (λ s. MeetsBoth size a.now b.now s.items)) }
-            ensures none { IfOk result (λ o. IsNone o ↔ ExcludeEachOther size a.now b.now) }
+            ensures none { IfOk result (λ o. IsNone o ↔ AreInconsistent size a.now b.now) }
             ensures only_asked { HasOnlyAsked (λ b. kind_of (b.vtable, b.value)) (λ b. questions (b.vtable, b.value)) asked.old asked.new }
         { sample(asked, alloc, a, b, size) },
         enter: |asked: &mut Chosen, alloc: Global, context: &Context, elements: &Term, name: &Name|
@@ -112,23 +112,23 @@ pub fn decide<T: Structure>(
     context: &Context,
     chosen: &mut Chosen,
 ) -> Result<Constraint, Stop>
-    requires { IsPlaced (CondStands (cond_tree c.now)) T.ordered context.now }
+    requires { IsWellFormedIn (CondIsWellFormed (cond_tree c.now)) T.ordered context.now }
     ensures truth { IfOk result (λ r. IsTruthThroughout context.now (cond_tree c.now) r) }
     ensures nowhere { IfOk result (λ r. FailsNowhere context.now (CondFails (cond_tree c.now))) }
     ensures levels { IfOk result (λ r. ConstraintFits context.now.size r) }
-    ensures operators { IfOk result (λ r. (ordered : Bool) → IsPlaced (CondStands (cond_tree c.now)) ordered context.now → AdmitsConstraint ordered r) }
+    ensures operators { IfOk result (λ r. (ordered : Bool) → IsWellFormedIn (CondIsWellFormed (cond_tree c.now)) ordered context.now → AdmitsConstraint ordered r) }
     ensures fault { IfErr result (λ s. IfFault s (IsFaultOf context.now (CondFails (cond_tree c.now)))) }
 
     // whatever is answered
     ensures only_asked { HasOnlyAsked (λ b. (⟦<dyn Decider as Decider>⟧ b.vtable).kind_of b.value) (λ b. (⟦<dyn Decider as Decider>⟧ b.vtable).questions b.value) chosen.old chosen.new }
 {
-    let mut asking = Asking {
+    let mut asking = Queries {
         decider: chosen,
         sample: |asked: &mut Chosen, alloc: Global, a: &Constraint, b: &Constraint, size: usize|
             requires first { ConstraintFits size a.now }
             requires second { ConstraintFits size b.now }
             ensures some { IfOk result (λ o. IfSome o (λ s. MeetsBoth size a.now b.now s.items)) }
-            ensures none { IfOk result (λ o. IsNone o ↔ ExcludeEachOther size a.now b.now) }
+            ensures none { IfOk result (λ o. IsNone o ↔ AreInconsistent size a.now b.now) }
             ensures only_asked { HasOnlyAsked (λ b. kind_of (b.vtable, b.value)) (λ b. questions (b.vtable, b.value)) asked.old asked.new }
         { sample(asked, alloc, a, b, size) },
         enter: |asked: &mut Chosen, alloc: Global, context: &Context, elements: &Term, name: &Name|
@@ -165,15 +165,15 @@ pub fn decide<T: Structure>(
 
 // What the expression makes, where that isn't too deep.
 #[cycle(evaluation)]
-fn evaluated<T: Structure, D: Asks<T>>(
+fn evaluated<T: Structure, D: Oracle<T>>(
     alloc: Global,
     e: &Expr,
     context: &Context,
     decider: &mut D,
 ) -> Result<Term, Stop>
     requires sound { D.sound }
-    requires placed { IsPlaced (Stands (tree e.now)) T.ordered context.now }
-    ensures term { IfOk result (λ t. IsTermOf context.now (Gives (tree e.now)) (Stands (tree e.now)) (term_tree t)) }
+    requires placed { IsWellFormedIn (IsWellFormed (tree e.now)) T.ordered context.now }
+    ensures term { IfOk result (λ t. IsTermOf context.now (Gives (tree e.now)) (IsWellFormed (tree e.now)) (term_tree t)) }
     ensures fault { IfErr result (λ s. IfFault s (IsFaultOf context.now (Fails (tree e.now)))) }
     ensures asked { D.reaches decider.old decider.new }
 {
@@ -189,15 +189,15 @@ fn evaluated<T: Structure, D: Asks<T>>(
 
 // What the expression makes, however deep that is.
 #[cycle(evaluation)]
-fn made<T: Structure, D: Asks<T>>(
+fn made<T: Structure, D: Oracle<T>>(
     alloc: Global,
     e: &Expr,
     context: &Context,
     decider: &mut D,
 ) -> Result<Term, Stop>
     requires sound { D.sound }
-    requires placed { IsPlaced (Stands (tree e.now)) T.ordered context.now }
-    ensures term { IfOk result (λ t. IsTermOf context.now (Makes (tree e.now)) (Stands (tree e.now)) (term_tree t)) }
+    requires placed { IsWellFormedIn (IsWellFormed (tree e.now)) T.ordered context.now }
+    ensures term { IfOk result (λ t. IsTermOf context.now (Makes (tree e.now)) (IsWellFormed (tree e.now)) (term_tree t)) }
     ensures fault { IfErr result (λ s. IfFault s (IsFaultOf context.now (Breaks (tree e.now)))) }
     ensures asked { D.reaches decider.old decider.new }
 {
@@ -240,15 +240,15 @@ fn made<T: Structure, D: Asks<T>>(
 }
 
 #[cycle(evaluation)]
-fn all_evaluated<T: Structure, D: Asks<T>>(
+fn all_evaluated<T: Structure, D: Oracle<T>>(
     alloc: Global,
     es: &Exprs,
     context: &Context,
     decider: &mut D,
 ) -> Result<Terms, Stop>
     requires sound { D.sound }
-    requires placed { IsPlaced (AllStand (exprs_of (exprs_list es.now))) T.ordered context.now }
-    ensures terms { IfOk result (λ ts. AreTermsOf context.now (exprs_of (exprs_list es.now)) (AllStand (exprs_of (exprs_list es.now))) ts) }
+    requires placed { IsWellFormedIn (AreWellFormed (exprs_of (exprs_list es.now))) T.ordered context.now }
+    ensures terms { IfOk result (λ ts. AreTermsOf context.now (exprs_of (exprs_list es.now)) (AreWellFormed (exprs_of (exprs_list es.now))) ts) }
     ensures fault { IfErr result (λ s. IfFault s (IsFaultOf context.now (SomeFails (exprs_of (exprs_list es.now))))) }
     ensures asked { D.reaches decider.old decider.new }
 {
@@ -260,7 +260,7 @@ fn all_evaluated<T: Structure, D: Asks<T>>(
 }
 
 #[cycle(evaluation)]
-fn both_evaluated<T: Structure, D: Asks<T>>(
+fn both_evaluated<T: Structure, D: Oracle<T>>(
     alloc: Global,
     e: &Expr,
     f: &Expr,
@@ -268,8 +268,8 @@ fn both_evaluated<T: Structure, D: Asks<T>>(
     decider: &mut D,
 ) -> Result<Terms, Stop>
     requires sound { D.sound }
-    requires placed { IsPlaced (AllStand (two (tree e.now) (tree f.now))) T.ordered context.now }
-    ensures terms { IfOk result (AreTermsOf context.now (two (tree e.now) (tree f.now)) (AllStand (two (tree e.now) (tree f.now)))) }
+    requires placed { IsWellFormedIn (AreWellFormed (two (tree e.now) (tree f.now))) T.ordered context.now }
+    ensures terms { IfOk result (AreTermsOf context.now (two (tree e.now) (tree f.now)) (AreWellFormed (two (tree e.now) (tree f.now)))) }
     ensures fault { IfErr result (λ s. IfFault s (IsFaultOf context.now (SomeFails (two (tree e.now) (tree f.now))))) }
     ensures asked { D.reaches decider.old decider.new }
 {
@@ -281,7 +281,7 @@ fn both_evaluated<T: Structure, D: Asks<T>>(
 
 // The set of an item for the bindings from an index on.
 #[cycle(evaluation)]
-fn gathered<T: Structure, D: Asks<T>>(
+fn gathered<T: Structure, D: Oracle<T>>(
     alloc: Global,
     item: &Expr,
     bindings: &[Binding],
@@ -292,8 +292,8 @@ fn gathered<T: Structure, D: Asks<T>>(
 ) -> Result<Comps, Stop>
     requires sound { D.sound }
     requires index { from ≤ length bindings.now }
-    requires placed { IsPlaced (Stands (each_from item.now bindings.now from condition.now)) T.ordered context.now }
-    ensures term { IfOk result (λ r. IsTermOf context.now (Makes (each_from item.now bindings.now from condition.now)) (Stands (each_from item.now bindings.now from condition.now)) (coll (comps_of r))) }
+    requires placed { IsWellFormedIn (IsWellFormed (each_from item.now bindings.now from condition.now)) T.ordered context.now }
+    ensures term { IfOk result (λ r. IsTermOf context.now (Makes (each_from item.now bindings.now from condition.now)) (IsWellFormed (each_from item.now bindings.now from condition.now)) (coll (comps_of r))) }
     ensures within { IfOk result (λ r. IsWithin context.now (coll (comps_of r))) }
     ensures fault { IfErr result (λ s. IfFault s (IsFaultOf context.now (Breaks (each_from item.now bindings.now from condition.now)))) }
     ensures asked { D.reaches decider.old decider.new }
@@ -311,7 +311,7 @@ fn gathered<T: Structure, D: Asks<T>>(
         context,
         decider,
     )?;
-    handed_comps(
+    leave_loop_with_comps(
         gathered_inside::<T, D>(
             alloc,
             item,
@@ -328,7 +328,7 @@ fn gathered<T: Structure, D: Asks<T>>(
 
 // The set of the item alone, where the condition holds: no binding is left.
 #[cycle(evaluation)]
-fn gathered_here<T: Structure, D: Asks<T>>(
+fn gathered_here<T: Structure, D: Oracle<T>>(
     alloc: Global,
     item: &Expr,
     bindings: &[Binding],
@@ -337,8 +337,8 @@ fn gathered_here<T: Structure, D: Asks<T>>(
     decider: &mut D,
 ) -> Result<Comps, Stop>
     requires sound { D.sound }
-    requires placed { IsPlaced (Stands (each_from item.now bindings.now (length bindings.now) condition.now)) T.ordered context.now }
-    ensures term { IfOk result (λ r. IsTermOf context.now (Makes (each_from item.now bindings.now (length bindings.now) condition.now)) (Stands (each_from item.now bindings.now (length bindings.now) condition.now)) (coll (comps_of r))) }
+    requires placed { IsWellFormedIn (IsWellFormed (each_from item.now bindings.now (length bindings.now) condition.now)) T.ordered context.now }
+    ensures term { IfOk result (λ r. IsTermOf context.now (Makes (each_from item.now bindings.now (length bindings.now) condition.now)) (IsWellFormed (each_from item.now bindings.now (length bindings.now) condition.now)) (coll (comps_of r))) }
     ensures within { IfOk result (λ r. IsWithin context.now (coll (comps_of r))) }
     ensures fault { IfErr result (λ s. IfFault s (IsFaultOf context.now (Breaks (each_from item.now bindings.now (length bindings.now) condition.now)))) }
     ensures asked { D.reaches decider.old decider.new }
@@ -350,7 +350,7 @@ fn gathered_here<T: Structure, D: Asks<T>>(
     let Some(here) = decider.keep(alloc, context, &wanted)? else {
         return Ok(Comps::new(alloc));
     };
-    alone(
+    singleton_set(
         alloc,
         &here.when,
         evaluated::<T, D>(alloc, item, &here, decider)?,
@@ -359,7 +359,7 @@ fn gathered_here<T: Structure, D: Asks<T>>(
 
 // The sets of all contexts inside, with the levels from `size` on as binders.
 #[cycle(evaluation)]
-fn gathered_inside<T: Structure, D: Asks<T>>(
+fn gathered_inside<T: Structure, D: Oracle<T>>(
     alloc: Global,
     item: &Expr,
     bindings: &[Binding],
@@ -372,8 +372,8 @@ fn gathered_inside<T: Structure, D: Asks<T>>(
     requires sound { D.sound }
     requires index { from ≤ length bindings.now }
     requires sizes { All (λ d. size ≤ d.size) inner.now }
-    requires placed { All (IsPlaced (Stands (each_from item.now bindings.now from condition.now)) T.ordered) inner.now }
-    ensures comps { IfOk result (λ r. IsGathered size (Makes (each_from item.now bindings.now from condition.now)) (Stands (each_from item.now bindings.now from condition.now)) inner.now (comps_of r)) }
+    requires placed { All (IsWellFormedIn (IsWellFormed (each_from item.now bindings.now from condition.now)) T.ordered) inner.now }
+    ensures comps { IfOk result (λ r. IsGathered size (Makes (each_from item.now bindings.now from condition.now)) (IsWellFormed (each_from item.now bindings.now from condition.now)) inner.now (comps_of r)) }
     ensures fault { IfErr result (λ s. IfFault s (IsFaultInside inner.now (Breaks (each_from item.now bindings.now from condition.now)))) }
     ensures asked { D.reaches decider.old decider.new }
 {
@@ -386,15 +386,15 @@ fn gathered_inside<T: Structure, D: Asks<T>>(
 }
 
 #[cycle(evaluation)]
-fn decided<T: Structure, D: Asks<T>>(
+fn decided<T: Structure, D: Oracle<T>>(
     alloc: Global,
     c: &Cond,
     context: &Context,
     decider: &mut D,
 ) -> Result<Constraint, Stop>
     requires sound { D.sound }
-    requires placed { IsPlaced (CondStands (cond_tree c.now)) T.ordered context.now }
-    ensures constraint { IfOk result (IsConstraintOf context.now (HasTruth (cond_tree c.now)) (CondStands (cond_tree c.now))) }
+    requires placed { IsWellFormedIn (CondIsWellFormed (cond_tree c.now)) T.ordered context.now }
+    ensures constraint { IfOk result (IsConstraintOf context.now (HasTruth (cond_tree c.now)) (CondIsWellFormed (cond_tree c.now))) }
     ensures fault { IfErr result (λ s. IfFault s (IsFaultOf context.now (CondFails (cond_tree c.now)))) }
     ensures asked { D.reaches decider.old decider.new }
 {
@@ -448,7 +448,7 @@ fn decided<T: Structure, D: Asks<T>>(
 
 // All of the conditions, or one of them.
 #[cycle(evaluation)]
-fn all_decided<T: Structure, D: Asks<T>>(
+fn all_decided<T: Structure, D: Oracle<T>>(
     alloc: Global,
     parts: &Conds,
     every: bool,
@@ -456,8 +456,8 @@ fn all_decided<T: Structure, D: Asks<T>>(
     decider: &mut D,
 ) -> Result<Constraint, Stop>
     requires sound { D.sound }
-    requires placed { IsPlaced (CondStands (joint every (conds_of (conds_list parts.now)))) T.ordered context.now }
-    ensures constraint { IfOk result (IsConstraintOf context.now (HasTruth (joint every (conds_of (conds_list parts.now)))) (CondStands (joint every (conds_of (conds_list parts.now))))) }
+    requires placed { IsWellFormedIn (CondIsWellFormed (joint every (conds_of (conds_list parts.now)))) T.ordered context.now }
+    ensures constraint { IfOk result (IsConstraintOf context.now (HasTruth (joint every (conds_of (conds_list parts.now)))) (CondIsWellFormed (joint every (conds_of (conds_list parts.now))))) }
     ensures fault { IfErr result (λ s. IfFault s (IsFaultOf context.now (CondFails (joint every (conds_of (conds_list parts.now)))))) }
     ensures asked { D.reaches decider.old decider.new }
 {
@@ -471,7 +471,7 @@ fn all_decided<T: Structure, D: Asks<T>>(
 
 // For some member of a set, or for every one.
 #[cycle(evaluation)]
-fn quantified<T: Structure, D: Asks<T>>(
+fn quantified<T: Structure, D: Oracle<T>>(
     alloc: Global,
     binding: &Binding,
     body: &Cond,
@@ -480,8 +480,8 @@ fn quantified<T: Structure, D: Asks<T>>(
     decider: &mut D,
 ) -> Result<Constraint, Stop>
     requires sound { D.sound }
-    requires placed { IsPlaced (CondStands (quantifier some (binding_tree binding.now) (cond_tree body.now))) T.ordered context.now }
-    ensures constraint { IfOk result (IsConstraintOf context.now (HasTruth (quantifier some (binding_tree binding.now) (cond_tree body.now))) (CondStands (quantifier some (binding_tree binding.now) (cond_tree body.now)))) }
+    requires placed { IsWellFormedIn (CondIsWellFormed (quantifier some (binding_tree binding.now) (cond_tree body.now))) T.ordered context.now }
+    ensures constraint { IfOk result (IsConstraintOf context.now (HasTruth (quantifier some (binding_tree binding.now) (cond_tree body.now))) (CondIsWellFormed (quantifier some (binding_tree binding.now) (cond_tree body.now)))) }
     ensures fault { IfErr result (λ s. IfFault s (IsFaultOf context.now (CondFails (quantifier some (binding_tree binding.now) (cond_tree body.now))))) }
     ensures asked { D.reaches decider.old decider.new }
 {
@@ -494,7 +494,7 @@ fn quantified<T: Structure, D: Asks<T>>(
         context,
         decider,
     )?;
-    handed_constraint(
+    leave_loop_with_constraint(
         alloc,
         found_inside::<T, D>(alloc, body, some, &inner, context.size, decider),
         some,
@@ -504,7 +504,7 @@ fn quantified<T: Structure, D: Asks<T>>(
 
 // Where the condition has the wanted truth somewhere inside.
 #[cycle(evaluation)]
-fn found_inside<T: Structure, D: Asks<T>>(
+fn found_inside<T: Structure, D: Oracle<T>>(
     alloc: Global,
     body: &Cond,
     wanted: bool,
@@ -514,8 +514,8 @@ fn found_inside<T: Structure, D: Asks<T>>(
 ) -> Result<Constraint, Stop>
     requires sound { D.sound }
     requires sizes { All (λ d. size ≤ d.size) inner.now }
-    requires placed { All (IsPlaced (CondStands (cond_tree body.now)) T.ordered) inner.now }
-    ensures constraint { IfOk result (IsFoundInside size (HasTruth (cond_tree body.now)) wanted (CondStands (cond_tree body.now)) inner.now) }
+    requires placed { All (IsWellFormedIn (CondIsWellFormed (cond_tree body.now)) T.ordered) inner.now }
+    ensures constraint { IfOk result (IsFoundInside size (HasTruth (cond_tree body.now)) wanted (CondIsWellFormed (cond_tree body.now)) inner.now) }
     ensures fault { IfErr result (λ s. IfFault s (IsFaultInside inner.now (CondFails (cond_tree body.now)))) }
     ensures asked { D.reaches decider.old decider.new }
 {

@@ -9,8 +9,8 @@ ghost use Rattle.lois_context.specs.Entered.{HasNoMembers};
 ghost use Rattle.lois_eval.specs.Operands.{HasSetsOf, IsKept, IsMemberFault};
 ghost use Rattle.lois_eval.specs.Throughout.{IfFault};
 
-use crate::asking::Asks;
 use crate::faults::fault;
+use crate::oracle::Oracle;
 use lois_answers::FaultKind;
 use lois_base::{Comp, Comps, Structure, Term};
 use lois_context::Context;
@@ -20,7 +20,7 @@ use std::alloc::Global;
 
 /// The comprehensions whose items are sets. Errors: a fault at the place where another has members at some choice that the
 /// context admits.
-pub(crate) fn sets_in<T: Structure, D: Asks<T>>(
+pub(crate) fn sets_in<T: Structure, D: Oracle<T>>(
     alloc: Global,
     pos: Pos,
     set: &Term,
@@ -40,7 +40,7 @@ pub(crate) fn sets_in<T: Structure, D: Asks<T>>(
     }
 }
 
-fn kept<T: Structure, D: Asks<T>>(
+fn kept<T: Structure, D: Oracle<T>>(
     alloc: Global,
     pos: Pos,
     comps: &Comps,
@@ -61,7 +61,7 @@ fn kept<T: Structure, D: Asks<T>>(
 }
 
 // Puts the comprehension to the others where its item is a set.
-fn put_set<T: Structure, D: Asks<T>>(
+fn put_set<T: Structure, D: Oracle<T>>(
     alloc: Global,
     pos: Pos,
     comp: &Comp,
@@ -89,7 +89,7 @@ fn is_set(term: &Term) -> bool
 }
 
 // Errors: a fault at the place where the comprehension, whose item is no set, has members at some choice that the context admits.
-fn check_empty<T: Structure, D: Asks<T>>(
+fn check_empty<T: Structure, D: Oracle<T>>(
     alloc: Global,
     pos: Pos,
     comp: &Comp,

@@ -3,7 +3,7 @@
 ghost use Rattle.std.specs.Prelude.{[], ◌∷◌, Bool, IfOk, IfErr};
 ghost use Rattle.lois_base.specs.Fits.{Fits};
 ghost use Rattle.lois_base.specs.Tree.{tree as term_tree};
-ghost use Rattle.lois_base.specs.Validity.{AdmitsTerm, HasUsualWidths};
+ghost use Rattle.lois_base.specs.Validity.{AdmitsTerm, HasBoundedWidths};
 ghost use Rattle.lois_algebra.specs.Sets.{HasAllAtoms};
 ghost use Rattle.lois_terms.specs.Guarded.{IsSet};
 ghost use Rattle.lois_meaning.specs.Expressions.{Makes, HasTruth};
@@ -13,14 +13,14 @@ ghost use Rattle.lois_context.specs.Choices.{AdmitsContext};
 ghost use Rattle.lois_eval.specs.Automata.{IsEmptiness, IsValueFault};
 ghost use Rattle.lois_eval.specs.Evaluated.{IsTermOf, AreTermsOf, IsConstraintOf};
 ghost use Rattle.lois_eval.specs.Forms.{parts_of, sides_of, IsSimple, IsComposed, IsComparison};
-ghost use Rattle.lois_eval.specs.Standing.{IsPlaced, Stands, CondStands};
+ghost use Rattle.lois_eval.specs.WellFormed.{IsWellFormedIn, IsWellFormed, CondIsWellFormed};
 ghost use Rattle.lois_eval.specs.Throughout.{IsFaultOf, IfFault};
 
-use crate::asking::Asks;
 use crate::checks::check_set;
-use crate::making::{held, set_of};
+use crate::making::{look_up, set_of};
 use crate::operands::two_terms;
 use crate::operations::applied;
+use crate::oracle::Oracle;
 use crate::relations::{below, equal, included, unequal, within};
 use lois_algebra::all_atoms;
 use lois_base::{Constraint, NoMemory, Structure, Term, Terms};
@@ -35,7 +35,7 @@ fn atoms(alloc: Global, size: usize) -> Result<Term, NoMemory>
     ensures set { IfOk result (λ r. IsSet (term_tree r)) }
     ensures levels { IfOk result (λ r. Fits size (term_tree r)) }
     ensures operators { IfOk result (λ r. (ordered : Bool) → AdmitsTerm ordered (term_tree r)) }
-    ensures widths { IfOk result (λ r. HasUsualWidths (term_tree r)) }
+    ensures widths { IfOk result (λ r. HasBoundedWidths (term_tree r)) }
 {
     if size == usize::MAX {
         return Err(NoMemory);
@@ -46,20 +46,20 @@ fn atoms(alloc: Global, size: usize) -> Result<Term, NoMemory>
 /// What an expression without parts makes.
 pub(crate) fn simple<T: Structure>(alloc: Global, e: &Expr, context: &Context) -> Result<Term, Stop>
     requires form { IsSimple (tree e.now) }
-    requires placed { IsPlaced (Stands (tree e.now)) T.ordered context.now }
-    ensures term { IfOk result (λ t. IsTermOf context.now (Makes (tree e.now)) (Stands (tree e.now)) (term_tree t)) }
+    requires placed { IsWellFormedIn (IsWellFormed (tree e.now)) T.ordered context.now }
+    ensures term { IfOk result (λ t. IsTermOf context.now (Makes (tree e.now)) (IsWellFormed (tree e.now)) (term_tree t)) }
     ensures fault { IfErr result (λ s. IfFault s (IsFaultOf context.now (Breaks (tree e.now)))) }
 {
     match e {
         Expr::Atoms(_) => Ok(atoms(alloc, context.size)?),
-        Expr::Var(_, name) => Ok(held(alloc, name, context)?),
+        Expr::Var(_, name) => Ok(look_up(alloc, name, context)?),
         Expr::Tag(_, name) => Ok(Term::Tag(name.copy(alloc)?)),
         _ => unreachable!(),
     }
 }
 
 /// What a tuple, a list or an operation makes of operands with these values.
-pub(crate) fn composed<T: Structure, D: Asks<T>>(
+pub(crate) fn composed<T: Structure, D: Oracle<T>>(
     alloc: Global,
     e: &Expr,
     values: Terms,
@@ -68,9 +68,9 @@ pub(crate) fn composed<T: Structure, D: Asks<T>>(
 ) -> Result<Term, Stop>
     requires sound { D.sound }
     requires form { IsComposed (tree e.now) }
-    requires placed { IsPlaced (Stands (tree e.now)) T.ordered context.now }
-    requires values { AreTermsOf context.now (parts_of (tree e.now)) (Stands (tree e.now)) values }
-    ensures term { IfOk result (λ t. IsTermOf context.now (Makes (tree e.now)) (Stands (tree e.now)) (term_tree t)) }
+    requires placed { IsWellFormedIn (IsWellFormed (tree e.now)) T.ordered context.now }
+    requires values { AreTermsOf context.now (parts_of (tree e.now)) (IsWellFormed (tree e.now)) values }
+    ensures term { IfOk result (λ t. IsTermOf context.now (Makes (tree e.now)) (IsWellFormed (tree e.now)) (term_tree t)) }
     ensures fault { IfErr result (λ s. IfFault s (IsFaultOf context.now (Breaks (tree e.now)))) }
     ensures asked { D.reaches decider.old decider.new }
 {
@@ -96,9 +96,9 @@ pub(crate) fn compared<T: Structure>(
     context: &Context,
 ) -> Result<Constraint, Stop>
     requires form { IsComparison (cond_tree c.now) }
-    requires placed { IsPlaced (CondStands (cond_tree c.now)) T.ordered context.now }
-    requires values { AreTermsOf context.now (sides_of (cond_tree c.now)) (CondStands (cond_tree c.now)) values.now }
-    ensures constraint { IfOk result (IsConstraintOf context.now (HasTruth (cond_tree c.now)) (CondStands (cond_tree c.now))) }
+    requires placed { IsWellFormedIn (CondIsWellFormed (cond_tree c.now)) T.ordered context.now }
+    requires values { AreTermsOf context.now (sides_of (cond_tree c.now)) (CondIsWellFormed (cond_tree c.now)) values.now }
+    ensures constraint { IfOk result (IsConstraintOf context.now (HasTruth (cond_tree c.now)) (CondIsWellFormed (cond_tree c.now))) }
     ensures fault { IfErr result (λ s. IfFault s (IsFaultOf context.now (CondFails (cond_tree c.now)))) }
 {
     let (s, t) = two_terms(values);
@@ -114,12 +114,12 @@ fn compared_with<T: Structure>(
     context: &Context,
 ) -> Result<Constraint, Stop>
     requires form { IsComparison (cond_tree c.now) }
-    requires values { AreTermsOf context.now (sides_of (cond_tree c.now)) (CondStands (cond_tree c.now)) (term_tree s.now ∷ term_tree t.now ∷ []) }
+    requires values { AreTermsOf context.now (sides_of (cond_tree c.now)) (CondIsWellFormed (cond_tree c.now)) (term_tree s.now ∷ term_tree t.now ∷ []) }
     requires left { Fits context.now.size (term_tree s.now) }
     requires left_operators { AdmitsTerm T.ordered (term_tree s.now) }
     requires right { Fits context.now.size (term_tree t.now) }
     requires right_operators { AdmitsTerm T.ordered (term_tree t.now) }
-    ensures constraint { IfOk result (IsConstraintOf context.now (HasTruth (cond_tree c.now)) (CondStands (cond_tree c.now))) }
+    ensures constraint { IfOk result (IsConstraintOf context.now (HasTruth (cond_tree c.now)) (CondIsWellFormed (cond_tree c.now))) }
     ensures fault { IfErr result (λ s. IfFault s (IsFaultOf context.now (CondFails (cond_tree c.now)))) }
 {
     match c {
@@ -140,7 +140,7 @@ fn compared_with<T: Structure>(
 }
 
 /// Where an automaton with this value accepts no word. Errors: a fault at the place where the value is no automaton.
-pub(crate) fn wordless<T: Structure, D: Asks<T>>(
+pub(crate) fn wordless<T: Structure, D: Oracle<T>>(
     alloc: Global,
     pos: Pos,
     automaton: Term,

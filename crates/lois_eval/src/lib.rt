@@ -1,7 +1,6 @@
 //! What expressions give and which truth conditions have, at all choices that a context admits at once.
 #![tactic(auto)]
 
-mod asking;
 mod checks;
 mod entering;
 mod evaluating;
@@ -15,6 +14,7 @@ mod machines;
 mod making;
 mod operands;
 mod operations;
+mod oracle;
 mod relations;
 
 pub use evaluating::{decide, eval};

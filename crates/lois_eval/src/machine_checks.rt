@@ -5,10 +5,10 @@ ghost use Rattle.lois_base.specs.Fits.{Fits};
 ghost use Rattle.lois_base.specs.Tree.{tree};
 ghost use Rattle.lois_base.specs.Validity.{AdmitsTerm};
 ghost use Rattle.lois_deciders.specs.OnlyAsked.{HasOnlyAsked};
-ghost use Rattle.lois_automata.specs.Machines.{IsAutomatonAt, IsWholeAt};
+ghost use Rattle.lois_automata.specs.Machines.{IsAutomatonAt, IsCompleteDeterministicAt};
 ghost use Rattle.lois_automata.specs.Throughout.{HoldsThroughout};
 ghost use Rattle.lois_automata.specs.declared.verdicts.Verdict.TheVariants.{Holds};
-ghost use Rattle.lois_meaning.specs.Faults.{IsNoAutomaton, IsUnfitFor};
+ghost use Rattle.lois_meaning.specs.Faults.{IsNoAutomaton, IsInvalidOperand};
 ghost use Rattle.lois_script.specs.declared.syntax.Operation.TheVariants.{Minimise};
 ghost use Rattle.lois_eval.specs.Automata.{IsFailed, IsValueFault};
 ghost use Rattle.lois_eval.specs.Throughout.{IfFault};
@@ -51,8 +51,8 @@ pub(crate) fn check_whole<T: Structure>(
 ) -> Result<(), Stop>
     requires levels { Fits context.now.size (tree value.now) }
     requires operators { AdmitsTerm T.ordered (tree value.now) }
-    ensures whole { OnOk result (HoldsThroughout context.now.size context.now.«when» (IsWholeAt (tree value.now))) }
-    ensures fault { IfErr result (λ s. IfFault s (IsValueFault context.now (IsUnfitFor Minimise) (tree value.now) pos.offset)) }
+    ensures whole { OnOk result (HoldsThroughout context.now.size context.now.«when» (IsCompleteDeterministicAt (tree value.now))) }
+    ensures fault { IfErr result (λ s. IfFault s (IsValueFault context.now (IsInvalidOperand Minimise) (tree value.now) pos.offset)) }
     ensures only_asked { HasOnlyAsked (λ b. (⟦<dyn Decider as Decider>⟧ b.vtable).kind_of b.value) (λ b. (⟦<dyn Decider as Decider>⟧ b.vtable).questions b.value) chosen.old chosen.new }
 {
     check_machine::<T>(alloc, pos, value, context, chosen)?;

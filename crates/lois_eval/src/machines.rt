@@ -6,7 +6,7 @@ ghost use Rattle.lois_base.specs.Fits.{Fits};
 ghost use Rattle.lois_base.specs.Tree.{tree};
 ghost use Rattle.lois_base.specs.Validity.{AdmitsTerm};
 ghost use Rattle.lois_deciders.specs.OnlyAsked.{HasOnlyAsked};
-ghost use Rattle.lois_meaning.specs.Faults.{IsNoAutomaton, IsUnfitFor};
+ghost use Rattle.lois_meaning.specs.Faults.{IsNoAutomaton, IsInvalidOperand};
 ghost use Rattle.lois_script.specs.View.{exprs_of, exprs_list};
 ghost use Rattle.lois_script.specs.declared.syntax.Operation.TheVariants.{Reach, Product, Complement, Minimise};
 ghost use Rattle.lois_context.specs.Choices.{AdmitsContext};
@@ -65,7 +65,7 @@ fn of_one<T: Structure>(
     requires operators { AdmitsTerm T.ordered (tree automaton.now) }
     requires context_operators { AdmitsContext T.ordered context.now }
     ensures made { IfOk result (λ r. IsMadeOf context.now operation (tree automaton.now ∷ []) (tree r)) }
-    ensures fault { IfErr result (λ s. IfFault s (IsValueFault context.now (IsUnfitFor operation) (tree automaton.now) pos.offset)) }
+    ensures fault { IfErr result (λ s. IfFault s (IsValueFault context.now (IsInvalidOperand operation) (tree automaton.now) pos.offset)) }
     ensures only_asked { HasOnlyAsked (λ b. (⟦<dyn Decider as Decider>⟧ b.vtable).kind_of b.value) (λ b. (⟦<dyn Decider as Decider>⟧ b.vtable).questions b.value) chosen.old chosen.new }
 {
     match operation {
@@ -86,7 +86,7 @@ fn reach_of<T: Structure>(
     requires levels { Fits context.now.size (tree automaton.now) }
     requires operators { AdmitsTerm T.ordered (tree automaton.now) }
     ensures made { IfOk result (λ r. IsMadeOf context.now Reach (tree automaton.now ∷ []) (tree r)) }
-    ensures fault { IfErr result (λ s. IfFault s (IsValueFault context.now (IsUnfitFor Reach) (tree automaton.now) pos.offset)) }
+    ensures fault { IfErr result (λ s. IfFault s (IsValueFault context.now (IsInvalidOperand Reach) (tree automaton.now) pos.offset)) }
     ensures only_asked { HasOnlyAsked (λ b. (⟦<dyn Decider as Decider>⟧ b.vtable).kind_of b.value) (λ b. (⟦<dyn Decider as Decider>⟧ b.vtable).questions b.value) chosen.old chosen.new }
 {
     check_machine::<T>(alloc, pos, automaton, context, chosen)?;
@@ -107,7 +107,7 @@ fn product_of<T: Structure>(
     requires other_levels { Fits context.now.size (tree b.now) }
     requires other_operators { AdmitsTerm T.ordered (tree b.now) }
     ensures made { IfOk result (λ r. IsMadeOf context.now Product (tree a.now ∷ tree b.now ∷ []) (tree r)) }
-    ensures fault { IfErr result (λ s. IfFault s (λ f. IsValueFault context.now (IsUnfitFor Product) (tree a.now) a_pos.offset f ⊎ IsValueFault context.now (IsUnfitFor Product) (tree b.now) b_pos.offset f)) }
+    ensures fault { IfErr result (λ s. IfFault s (λ f. IsValueFault context.now (IsInvalidOperand Product) (tree a.now) a_pos.offset f ⊎ IsValueFault context.now (IsInvalidOperand Product) (tree b.now) b_pos.offset f)) }
     ensures only_asked { HasOnlyAsked (λ b. (⟦<dyn Decider as Decider>⟧ b.vtable).kind_of b.value) (λ b. (⟦<dyn Decider as Decider>⟧ b.vtable).questions b.value) chosen.old chosen.new }
 {
     check_machine::<T>(alloc, a_pos, a, context, chosen)?;
@@ -125,7 +125,7 @@ fn complement_of<T: Structure>(
     requires levels { Fits context.now.size (tree automaton.now) }
     requires operators { AdmitsTerm T.ordered (tree automaton.now) }
     ensures made { IfOk result (λ r. IsMadeOf context.now Complement (tree automaton.now ∷ []) (tree r)) }
-    ensures fault { IfErr result (λ s. IfFault s (IsValueFault context.now (IsUnfitFor Complement) (tree automaton.now) pos.offset)) }
+    ensures fault { IfErr result (λ s. IfFault s (IsValueFault context.now (IsInvalidOperand Complement) (tree automaton.now) pos.offset)) }
     ensures only_asked { HasOnlyAsked (λ b. (⟦<dyn Decider as Decider>⟧ b.vtable).kind_of b.value) (λ b. (⟦<dyn Decider as Decider>⟧ b.vtable).questions b.value) chosen.old chosen.new }
 {
     check_whole::<T>(alloc, pos, automaton, context, chosen)?;
@@ -143,7 +143,7 @@ fn minimal_of<T: Structure>(
     requires operators { AdmitsTerm T.ordered (tree automaton.now) }
     requires context_operators { AdmitsContext T.ordered context.now }
     ensures made { IfOk result (λ r. IsMadeOf context.now Minimise (tree automaton.now ∷ []) (tree r)) }
-    ensures fault { IfErr result (λ s. IfFault s (IsValueFault context.now (IsUnfitFor Minimise) (tree automaton.now) pos.offset)) }
+    ensures fault { IfErr result (λ s. IfFault s (IsValueFault context.now (IsInvalidOperand Minimise) (tree automaton.now) pos.offset)) }
     ensures only_asked { HasOnlyAsked (λ b. (⟦<dyn Decider as Decider>⟧ b.vtable).kind_of b.value) (λ b. (⟦<dyn Decider as Decider>⟧ b.vtable).questions b.value) chosen.old chosen.new }
 {
     check_whole::<T>(alloc, pos, automaton, context, chosen)?;

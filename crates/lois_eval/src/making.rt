@@ -8,7 +8,7 @@ ghost use Rattle.lois_base.specs.Data.{comp};
 ghost use Rattle.lois_algebra.specs.Parts.{part_of};
 ghost use Rattle.lois_context.specs.Slots.{SlotD};
 ghost use Rattle.lois_eval.specs.Made.{bare, IsHeldBy, IsPartFault};
-ghost use Rattle.lois_eval.specs.Standing.{IsNamed, names_of};
+ghost use Rattle.lois_eval.specs.WellFormed.{IsNamed, names_of};
 ghost use Rattle.lois_eval.specs.Throughout.{IfFault};
 
 use crate::faults::fault_under;
@@ -21,7 +21,7 @@ use lois_script::Pos;
 use std::alloc::Global;
 
 /// What a name holds.
-pub(crate) fn held(alloc: Global, name: &Name, context: &Context) -> Result<Term, NoMemory>
+pub(crate) fn look_up(alloc: Global, name: &Name, context: &Context) -> Result<Term, NoMemory>
     requires { IsNamed name.now (names_of context.now.store) }
     ensures { IfOk result (λ t. IsHeldBy name.now context.now.store (tree t)) }
 {
@@ -53,7 +53,7 @@ fn bare(alloc: Global, value: &Term) -> Result<Comp, NoMemory>
 }
 
 /// The set of one value, where the guard holds.
-pub(crate) fn alone(alloc: Global, guard: &Constraint, item: Term) -> Result<Comps, Stop>
+pub(crate) fn singleton_set(alloc: Global, guard: &Constraint, item: Term) -> Result<Comps, Stop>
     ensures ok { IfOk result (λ r. r ≡ comp 0 guard.now (tree item) ∷ []) }
     ensures fault { IfErr result (λ s. IfFault s (λ f. ⊥)) }
 {

@@ -4,20 +4,20 @@ ghost use Rattle.std.specs.Prelude.{◌≡◌, ◌⊎◌, [], ◌∷◌, Bool, l
 ghost use Rattle.lois_base.specs.Data.{terms_of};
 ghost use Rattle.lois_base.specs.Fits.{Fits, PartsFit};
 ghost use Rattle.lois_base.specs.Tree.{tree};
-ghost use Rattle.lois_base.specs.Validity.{AdmitsTerm, AdmitsParts, HasUsualWidths, PartsHaveUsualWidths};
+ghost use Rattle.lois_base.specs.Validity.{AdmitsTerm, AdmitsParts, HasBoundedWidths, PartsHaveBoundedWidths};
 ghost use Rattle.lois_script.specs.View.{exprs_of, exprs_list};
 ghost use Rattle.lois_script.specs.declared.syntax.Operation.TheVariants.{Flatten};
 ghost use Rattle.lois_terms.specs.Guarded.{IsSet};
 ghost use Rattle.lois_context.specs.Choices.{AdmitsContext};
 ghost use Rattle.lois_eval.specs.Checks.{IsSetFault};
 ghost use Rattle.lois_eval.specs.Operands.{IsOfTwoSets, IsAppliedThroughout, IsUnfitFault, IsMemberFault};
-ghost use Rattle.lois_eval.specs.Standing.{arity};
+ghost use Rattle.lois_eval.specs.WellFormed.{arity};
 ghost use Rattle.lois_eval.specs.Throughout.{IfFault};
 
-use crate::asking::Asks;
 use crate::checks::check_set;
 use crate::flattening::sets_in;
 use crate::operands::{one_expr, one_term, two_exprs, two_terms};
+use crate::oracle::Oracle;
 use lois_algebra::{collect_over, inter, minus, union};
 use lois_base::{NoMemory, Structure, Term, Terms};
 use lois_context::Context;
@@ -26,7 +26,7 @@ use lois_script::{Exprs, Operation, Pos};
 use std::alloc::Global;
 
 /// What the operation makes of operands with these values. Errors: a fault at an operand that is unfit for it.
-pub(crate) fn applied<T: Structure, D: Asks<T>>(
+pub(crate) fn applied<T: Structure, D: Oracle<T>>(
     alloc: Global,
     operation: Operation,
     operands: &Exprs,
@@ -43,7 +43,7 @@ pub(crate) fn applied<T: Structure, D: Asks<T>>(
     ensures applied { IfOk result (λ r. IsAppliedThroughout context.now operation values.now (tree r)) }
     ensures levels { IfOk result (λ r. Fits context.now.size (tree r)) }
     ensures operators { IfOk result (λ r. (o : Bool) → AdmitsContext o context.now → AdmitsParts o (terms_of values.now) → AdmitsTerm o (tree r)) }
-    ensures widths { IfOk result (λ r. PartsHaveUsualWidths (terms_of values.now) → HasUsualWidths (tree r)) }
+    ensures widths { IfOk result (λ r. PartsHaveBoundedWidths (terms_of values.now) → HasBoundedWidths (tree r)) }
     ensures fault { IfErr result (λ s. IfFault s (IsUnfitFault context.now operation (exprs_of (exprs_list operands.now)) (terms_of values.now))) }
     ensures asked { D.reaches decider.old decider.new }
 {
@@ -76,7 +76,7 @@ fn combined<T: Structure>(
     ensures applied { IfOk result (λ r. IsAppliedThroughout context.now operation values.now (tree r)) }
     ensures levels { IfOk result (λ r. Fits context.now.size (tree r)) }
     ensures operators { IfOk result (λ r. (o : Bool) → AdmitsParts o (terms_of values.now) → AdmitsTerm o (tree r)) }
-    ensures widths { IfOk result (λ r. PartsHaveUsualWidths (terms_of values.now) → HasUsualWidths (tree r)) }
+    ensures widths { IfOk result (λ r. PartsHaveBoundedWidths (terms_of values.now) → HasBoundedWidths (tree r)) }
     ensures fault { IfErr result (λ s. IfFault s (IsUnfitFault context.now operation (exprs_of (exprs_list operands.now)) (terms_of values.now))) }
 {
     let (e, f) = two_exprs(operands);
@@ -104,7 +104,7 @@ fn combination<T: Structure>(
     ensures applied { IfOk result (λ r. IsAppliedThroughout context.now operation (tree s.now ∷ tree t.now ∷ []) (tree r)) }
     ensures levels { IfOk result (λ r. Fits context.now.size (tree r)) }
     ensures operators { IfOk result (λ r. (o : Bool) → AdmitsTerm o (tree s.now) → AdmitsTerm o (tree t.now) → AdmitsTerm o (tree r)) }
-    ensures widths { IfOk result (λ r. HasUsualWidths (tree s.now) → HasUsualWidths (tree t.now) → HasUsualWidths (tree r)) }
+    ensures widths { IfOk result (λ r. HasBoundedWidths (tree s.now) → HasBoundedWidths (tree t.now) → HasBoundedWidths (tree r)) }
 {
     match operation {
         Operation::Union => union(alloc, s, t),
@@ -115,7 +115,7 @@ fn combination<T: Structure>(
 }
 
 // The members of the members of a set. Errors: a fault at the place where the term is no set, or a member isn't one.
-fn flattened<T: Structure, D: Asks<T>>(
+fn flattened<T: Structure, D: Oracle<T>>(
     alloc: Global,
     pos: Pos,
     set: &Term,
@@ -127,7 +127,7 @@ fn flattened<T: Structure, D: Asks<T>>(
     ensures applied { IfOk result (λ r. IsAppliedThroughout context.now Flatten (tree set.now ∷ []) (tree r)) }
     ensures levels { IfOk result (λ r. Fits context.now.size (tree r)) }
     ensures operators { IfOk result (λ r. (o : Bool) → AdmitsTerm o (tree set.now) → AdmitsTerm o (tree r)) }
-    ensures widths { IfOk result (λ r. HasUsualWidths (tree set.now) → HasUsualWidths (tree r)) }
+    ensures widths { IfOk result (λ r. HasBoundedWidths (tree set.now) → HasBoundedWidths (tree r)) }
     ensures fault { IfErr result (λ s. IfFault s (λ f. IsSetFault context.now (tree set.now) pos.offset f ⊎ IsMemberFault context.now (tree set.now) pos.offset f)) }
     ensures asked { D.reaches decider.old decider.new }
 {

@@ -10,16 +10,16 @@ use Rattle.lois_base.specs.Truth.{sampled}
 use Rattle.lois_base.specs.Values.{point}
 use Rattle.lois_base.proofs.Members.{included_trans}
 use Rattle.lois_base.proofs.Validity.{all_that_are}
-use Rattle.lois_context.specs.Choices.{IsAdmitted, AdmitsContext, ContextHasUsualWidths}
+use Rattle.lois_context.specs.Choices.{IsAdmitted, AdmitsContext, ContextHasBoundedWidths}
 use Rattle.lois_context.specs.Slots.{SlotD, slot_name, store_at, lines_at}
 use Rattle.lois_context.specs.declared.contexts.Context.{Context}
 use Rattle.lois_context.specs.Counted.{admits}
 use Rattle.lois_simplify.proofs.Members.{contains_none}
 use Rattle.lois_eval.proofs.FaultsAt.{own_sample}
 use Rattle.lois_interp.specs.Failed.{AreElements, FailsWithin}
-use Rattle.lois_context.specs.Merged.{AreApart, IsLike, IsLikeOneOf, AreMerged}
+use Rattle.lois_context.specs.Merged.{AreDisjoint, HasSameContents, HasSameContentsAsOne, AreMerged}
 use Rattle.lois_answers.specs.ResultsData.{LineD}
-use Rattle.lois_eval.specs.Standing.{names_of, IsPlaced}
+use Rattle.lois_eval.specs.WellFormed.{names_of, IsWellFormedIn}
 use Rattle.lois_interp.specs.Reached.{IsReachedAt, ComesFrom, RunsFrom}
 use Rattle.lois_interp.specs.Run.{Run}
 use Rattle.lois_interp.specs.Slots.{IsKeptTerm, IsKeptSlot, AreKept}
@@ -42,7 +42,7 @@ module _ (run : Run) where
     choices = λ c. refl;
     reached = λ d h. absurd (contains_none d h);
     operators = λ o h. All-nil (AdmitsContext o);
-    widths = λ h. All-nil ContextHasUsualWidths;
+    widths = λ h. All-nil ContextHasBoundedWidths;
   }
 
   pub from_more : (ds es : List Context) (ks fs : List Context) → RunsFrom run ds es → RunsFrom run ks fs → RunsFrom run (ds ++ ks) (es ++ fs)
@@ -52,13 +52,13 @@ module _ (run : Run) where
       | inl p ↦ comes_more run ds ks d (h.reached d p)
       | inr p ↦ comes_later run ds ks d (k.reached d p)
     ];
-    operators = λ o q. All-append (AdmitsContext o) es fs (h.operators o (all_left (IsPlaced run.stands o) ds ks q)) (k.operators o (all_right (IsPlaced run.stands o) ds ks q));
-    widths = λ q. All-append ContextHasUsualWidths es fs (h.widths (all_left ContextHasUsualWidths ds ks q)) (k.widths (all_right ContextHasUsualWidths ds ks q));
+    operators = λ o q. All-append (AdmitsContext o) es fs (h.operators o (all_left (IsWellFormedIn run.stands o) ds ks q)) (k.operators o (all_right (IsWellFormedIn run.stands o) ds ks q));
+    widths = λ q. All-append ContextHasBoundedWidths es fs (h.widths (all_left ContextHasBoundedWidths ds ks q)) (k.widths (all_right ContextHasBoundedWidths ds ks q));
   }
 
   -- ---- contexts that are put together
   -- what has the contents of a context that has come from somewhere has come from there
-  pub comes_like : (ks : List Context) (m : Context) (c : List Atom) (d : Context) → IsLike d m → (k : Context) × Contains ks k × IsReachedAt run k d c → (k : Context) × Contains ks k × IsReachedAt run k m c
+  pub comes_like : (ks : List Context) (m : Context) (c : List Atom) (d : Context) → HasSameContents d m → (k : Context) × Contains ks k × IsReachedAt run k d c → (k : Context) × Contains ks k × IsReachedAt run k m c
   comes_like ks m c d like (k, there, at) =
       let size : m.size ≡ d.size = ap (λ z. z.0) like in
       let store : m.store ≡ d.store = ap (λ z. z.1) like in
@@ -80,10 +80,10 @@ module _ (run : Run) where
 
   pub comes_merged : (ks ds ms : List Context) → ((d : Context) → Contains ds d → ComesFrom run ks d) → AreMerged ds ms → (m : Context) → Contains ms m → ComesFrom run ks m
   comes_merged ks ds ms h merged m there c adm =
-      let like = All-contains (λ d. (c : List Atom) → IsAdmitted c d → IsLikeOneOf ds c d) ms m merged.like there c adm in
+      let like = All-contains (λ d. (c : List Atom) → IsAdmitted c d → HasSameContentsAsOne ds c d) ms m merged.like there c adm in
       comes_like ks m c like.0 like.3 (h like.0 like.1 c like.2)
 
-  pub from_merged : (ks ds ms : List Context) → AreApart ds → RunsFrom run ks ds → AreMerged ds ms → RunsFrom run ks ms
+  pub from_merged : (ks ds ms : List Context) → AreDisjoint ds → RunsFrom run ks ds → AreMerged ds ms → RunsFrom run ks ms
   from_merged ks ds ms apart h merged = record {
     choices = λ c. merged.choices apart c ∙ h.choices c;
     reached = comes_merged ks ds ms h.reached merged;
@@ -92,10 +92,10 @@ module _ (run : Run) where
   }
 
   -- what comes from contexts that are apart is apart
-  pub from_apart : (ks ds : List Context) → RunsFrom run ks ds → AreApart ks → AreApart ds
+  pub from_apart : (ks ds : List Context) → RunsFrom run ks ds → AreDisjoint ks → AreDisjoint ds
   from_apart ks ds h apart c = omega (arith, h.choices c, apart c)
 
-pub one_apart : (k : Context) → AreApart (k ∷ [])
+pub one_apart : (k : Context) → AreDisjoint (k ∷ [])
 one_apart k c = count_by-le-length (admits c) (k ∷ [])
 
 -- ---- one run and then another
@@ -150,13 +150,13 @@ module _ (one two both : Run)
 
   module _ (first_stands : (o : Bool) (names : List (List ℕ)) → both.stands o names → one.stands o names)
       (then_stands : (o : Bool) (names : List (List ℕ)) → both.stands o names → two.stands o (one.behind names)) where
-    both_placed : (o : Bool) (ks ds : List Context) → RunsFrom one ks ds → All (IsPlaced both.stands o) ks → All (IsPlaced two.stands o) ds
+    both_placed : (o : Bool) (ks ds : List Context) → RunsFrom one ks ds → All (IsWellFormedIn both.stands o) ks → All (IsWellFormedIn two.stands o) ds
     both_placed o ks ds h placed =
-        let firsts = All-weaker (IsPlaced both.stands o) (IsPlaced one.stands o) (λ k p. record { names = first_stands o (names_of k.store) p.names; operators = p.operators }) ks placed in
+        let firsts = All-weaker (IsWellFormedIn both.stands o) (IsWellFormedIn one.stands o) (λ k p. record { names = first_stands o (names_of k.store) p.names; operators = p.operators }) ks placed in
         let admit = h.operators o firsts in
-        all_that_are (IsPlaced two.stands o) ds (λ d there.
+        all_that_are (IsWellFormedIn two.stands o) ds (λ d there.
         let r = h.reached d there (sampled d.sample) (own_sample d) in
-        let own = All-contains (IsPlaced both.stands o) ks r.0 placed r.1 in
+        let own = All-contains (IsWellFormedIn both.stands o) ks r.0 placed r.1 in
         record { names = subst (two.stands o) (sym r.2.named) (then_stands o (names_of r.0.store) own.names); operators = All-contains (AdmitsContext o) ds d admit there })
 
     pub from_both : (ks ds es : List Context) → RunsFrom one ks ds → RunsFrom two ds es → RunsFrom both ks es
@@ -169,7 +169,7 @@ module _ (one two both : Run)
 
 -- elements of one context are those of another, of which it has the operators and widths
 pub elements_from : (one two : Bool → List (List ℕ) → Type 0) (k d : Context) (n : ℕ) (elements : List LineD) →
-    ((o : Bool) → IsPlaced two o k → IsPlaced one o d) → (ContextHasUsualWidths k → ContextHasUsualWidths d) → AreElements one d n elements → AreElements two k n elements
+    ((o : Bool) → IsWellFormedIn two o k → IsWellFormedIn one o d) → (ContextHasBoundedWidths k → ContextHasBoundedWidths d) → AreElements one d n elements → AreElements two k n elements
 elements_from one two k d n elements placed widths h = record {
   levels = h.levels;
   brackets = h.brackets;
@@ -180,7 +180,7 @@ elements_from one two k d n elements placed widths h = record {
 -- the second fails where the first has come to
 module _ (one two both : Run) (k d : Context) (f : Fault)
     (leads : (s t l : NamedValues) (at : ℕ) (kind : FaultKind) (path : NamedValues) → one.ends s t l → two.fails t at kind path → both.fails s at kind path)
-    (placed : (o : Bool) → IsPlaced both.stands o k → IsPlaced two.stands o d) (widths : ContextHasUsualWidths k → ContextHasUsualWidths d) where
+    (placed : (o : Bool) → IsWellFormedIn both.stands o k → IsWellFormedIn two.stands o d) (widths : ContextHasBoundedWidths k → ContextHasBoundedWidths d) where
   pub fails_later : ComesFrom one (k ∷ []) d → FailsWithin two d f → FailsWithin both k f
   fails_later from bad =
       let a = sampled (take d.size f.sample.items) in

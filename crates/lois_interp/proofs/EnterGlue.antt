@@ -5,7 +5,7 @@ use Rattle.std.proofs.lemmas.List.Elements.{All-contains, All-contains_itself, C
 use Rattle.lois_base.specs.Atom.{Atom}
 use Rattle.lois_base.specs.Data.{TermD, coll, CompD, comp, CompsD, no_comps, more, depth}
 use Rattle.lois_base.specs.Truth.{sampled}
-use Rattle.lois_base.specs.Validity.{AdmitsTerm, HasUsualWidths}
+use Rattle.lois_base.specs.Validity.{AdmitsTerm, HasBoundedWidths}
 use Rattle.lois_base.specs.Values.{point}
 use Rattle.lois_base.proofs.Validity.{all_that_are}
 use Rattle.lois_answers.specs.declared.faults.FaultKind.TheVariants.{NotASet}
@@ -16,8 +16,8 @@ use Rattle.lois_meaning.specs.Kinds.{IsSetTerm}
 use Rattle.lois_meaning.specs.Store.{looked_up}
 use Rattle.lois_meaning.specs.declared.faults.Fault.{Fault}
 use Rattle.lois_terms.specs.Guarded.{IsSet}
-use Rattle.lois_context.specs.Choices.{IsAdmitted, AdmitsContext, ContextHasUsualWidths}
-use Rattle.lois_context.specs.Entered.{carried, bound, binders_of, item_of, items_listed, comps_listed, IsEntry, AreEntries, AreEntered, GoesOn, IsInside}
+use Rattle.lois_context.specs.Choices.{IsAdmitted, AdmitsContext, ContextHasBoundedWidths}
+use Rattle.lois_context.specs.Entered.{carried, bound, binders_of, item_of, items_listed, comps_listed, IsEntry, AreEntries, AreEntered, GoesOn, IsLoopContext}
 use Rattle.lois_context.specs.Joined.{IsEnd}
 use Rattle.lois_context.specs.Slots.{IsNew, store_at}
 use Rattle.lois_context.specs.declared.contexts.Context.{Context}
@@ -26,7 +26,7 @@ use Rattle.lois_context.proofs.Entered.{all_entries}
 use Rattle.lois_context.proofs.Joined.{entries_are_ends}
 use Rattle.lois_context.proofs.Later.{first_or_later}
 use Rattle.lois_simplify.proofs.Members.{contains_none}
-use Rattle.lois_eval.specs.Standing.{IsPlaced, Stands}
+use Rattle.lois_eval.specs.WellFormed.{IsWellFormedIn, IsWellFormed}
 use Rattle.lois_eval.specs.Throughout.{IsValueThroughout, IsFaultOf}
 use Rattle.lois_eval.specs.Checks.{IsFaultWith}
 use Rattle.lois_eval.proofs.FaultsAt.{own_sample}
@@ -52,7 +52,7 @@ less_deep t q set l there = absurd (contains_none q there)
 
 pub entered_all : (e : ExprD) (x : List ℕ) (k : Context) (t : TermD) (inside : List Context) → IsNew x k.store →
     ((a : List Atom) → IsAdmitted a k → Gives e (store_at a k.store) (point t a)) → IsSet t → depth t ≤ 64 →
-    ((o : Bool) → IsPlaced (Stands e) o k → AdmitsTerm o t) → (ContextHasUsualWidths k → HasUsualWidths t) → AreEntered k x t inside → IsEntered e x k inside
+    ((o : Bool) → IsWellFormedIn (IsWellFormed e) o k → AdmitsTerm o t) → (ContextHasBoundedWidths k → HasBoundedWidths t) → AreEntered k x t inside → IsEntered e x k inside
 entered_all e x k t inside new gives set brackets operators widths entered = record {
   elements = t;
   gives = gives;
@@ -67,7 +67,7 @@ entered_all e x k t inside new gives set brackets operators widths entered = rec
       record {
         goes_on = All-contains (GoesOn k x) inside d entered.outside there;
         end = All-contains (IsEnd k) inside d (entries_are_ends k x (comps_listed t) inside new entered.entries) there;
-        named = (All-contains (IsInside k x) inside d entered.inside there).names;
+        named = (All-contains (IsLoopContext k x) inside d entered.inside there).names;
         element = record {
           item = item_of q;
           held = record {
@@ -77,7 +77,7 @@ entered_all e x k t inside new gives set brackets operators widths entered = rec
           brackets = less_deep t q set brackets entry.1;
         };
         operators = λ o p. All-contains (AdmitsContext o) inside d (entered.operators o p.operators (operators o p)) there;
-        widths = λ w. All-contains ContextHasUsualWidths inside d (entered.widths w (widths w)) there;
+        widths = λ w. All-contains ContextHasBoundedWidths inside d (entered.widths w (widths w)) there;
       });
 }
 

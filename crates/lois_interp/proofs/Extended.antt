@@ -6,14 +6,14 @@ use Rattle.std.proofs.lemmas.List.Elements.{All-cons, All-nil}
 use Rattle.lois_base.specs.Atom.{Atom}
 use Rattle.lois_base.specs.Data.{TermD, coll, CompsD}
 use Rattle.lois_base.specs.Fits.{LitFits, CubeFits, CompFits, Fits, ItemsFit}
-use Rattle.lois_base.specs.Validity.{AdmitsLit, AdmitsCube, AdmitsTerm, AdmitsItems, HasUsualWidths, ItemsHaveUsualWidths}
+use Rattle.lois_base.specs.Validity.{AdmitsLit, AdmitsCube, AdmitsTerm, AdmitsItems, HasBoundedWidths, ItemsHaveBoundedWidths}
 use Rattle.lois_base.specs.Truth.{holds, sampled}
 use Rattle.lois_base.specs.Values.{point}
 use Rattle.lois_algebra.proofs.Among.{items_fit-append, admits_items-append, widths-append}
 use Rattle.lois_meaning.specs.Runs.{IsSetWith}
 use Rattle.lois_meaning.specs.declared.faults.Fault.{Fault}
 use Rattle.lois_terms.specs.Guarded.{IsSet}
-use Rattle.lois_context.specs.Choices.{IsAdmitted, AdmitsContext, ContextHasUsualWidths}
+use Rattle.lois_context.specs.Choices.{IsAdmitted, AdmitsContext, ContextHasBoundedWidths}
 use Rattle.lois_context.specs.Entered.{items_listed}
 use Rattle.lois_context.specs.Kept.{IsSlot}
 use Rattle.lois_context.specs.Slots.{SlotD, comps_in, count_of_items}
@@ -44,8 +44,8 @@ module _ (k : Context) (x : List ℕ) (i : ℕ) (slot : SlotD) (found : (i < len
     pub set_admits : (o : Bool) → AdmitsContext o k → AdmitsTerm o item → AdmitsTerm o set
     set_admits o old h = with_admits slot.term item set more.0.0 more.0.1 more.1 o (subst (λ (s : SlotD). AdmitsTerm o s.term) (sym there) (old.store i slot found.0)) h
 
-    pub set_widths : ContextHasUsualWidths k → HasUsualWidths item → HasUsualWidths set
-    set_widths old h = with_widths slot.term item set more.0.0 more.0.1 more.1 (subst (λ (s : SlotD). HasUsualWidths s.term) (sym there) (old.store i slot found.0)) h
+    pub set_widths : ContextHasBoundedWidths k → HasBoundedWidths item → HasBoundedWidths set
+    set_widths old h = with_widths slot.term item set more.0.0 more.0.1 more.1 (subst (λ (s : SlotD). HasBoundedWidths s.term) (sym there) (old.store i slot found.0)) h
 
     pub set_joined : (a : List Atom) → IsSetWith (point set a) (point slot.term a) (point item a)
     set_joined a = set_with slot.term item set more.0.0 more.0.1 more.1 a

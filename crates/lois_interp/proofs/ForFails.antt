@@ -7,18 +7,18 @@ use Rattle.std.proofs.lemmas.List.Elements.{All-contains, All-nil}
 use Rattle.lois_base.specs.Atom.{Atom, whole}
 use Rattle.lois_base.specs.Data.{TermD, depth}
 use Rattle.lois_base.specs.Fits.{Fits}
-use Rattle.lois_base.specs.Validity.{AdmitsTerm, HasUsualWidths}
+use Rattle.lois_base.specs.Validity.{AdmitsTerm, HasBoundedWidths}
 use Rattle.lois_base.specs.Truth.{sampled}
 use Rattle.lois_base.specs.Values.{PointValue, point, IsMember}
-use Rattle.lois_context.specs.Choices.{IsAdmitted, ContextHasUsualWidths}
+use Rattle.lois_context.specs.Choices.{IsAdmitted, ContextHasBoundedWidths}
 use Rattle.lois_context.specs.Entered.{IsHeldInside, GoesOn}
 use Rattle.lois_context.specs.Slots.{store_at, lines_at}
 use Rattle.lois_context.specs.declared.contexts.Context.{Context}
-use Rattle.lois_eval.specs.Standing.{IsPlaced}
+use Rattle.lois_eval.specs.WellFormed.{IsWellFormedIn}
 use Rattle.lois_eval.specs.Throughout.{Failure, IsFaultOf}
 use Rattle.lois_answers.specs.ResultsData.{LineD}
 use Rattle.lois_interp.specs.Failed.{AreElements, FailsWithin}
-use Rattle.lois_interp.specs.Standing.{StmtMayStand, TurnMayStand}
+use Rattle.lois_interp.specs.WellScoped.{StmtIsWellScoped, TurnIsWellScoped}
 use Rattle.lois_interp.proofs.Compose.{elements_from}
 use Rattle.lois_interp.specs.Run.{Run, stmt_run}
 use Rattle.lois_interp.specs.Looped.{FailsInside}
@@ -59,7 +59,7 @@ no_elements stands k n = record {
   levels = All-nil (λ (l : LineD). Fits n l.term);
   brackets = All-nil (λ (l : LineD). depth l.term ≤ 64);
   operators = λ o p. All-nil (λ (l : LineD). AdmitsTerm o l.term);
-  widths = λ w. All-nil (λ (l : LineD). HasUsualWidths l.term);
+  widths = λ w. All-nil (λ (l : LineD). HasBoundedWidths l.term);
 }
 
 -- a failure outside of every loop
@@ -79,7 +79,7 @@ module _ (e : ExprD) (x : List ℕ) (c : CondD) (body : StmtsD) (p : ℕ) (befor
     (members : (a : List Atom) → IsAdmitted a before → (u : PointValue) → IsMember u (point t a) ↔ IsHeldInside inside x a u)
     (goes_on : All (GoesOn before x) inside) where
   pub loop_fails : (d : Context) (f : Fault) → Contains inside d → before.size ≤ d.size →
-      ((o : Bool) → IsPlaced (StmtMayStand (for (binding p x e) c body)) o before → IsPlaced (TurnMayStand c body) o d) → (ContextHasUsualWidths before → ContextHasUsualWidths d) →
+      ((o : Bool) → IsWellFormedIn (StmtIsWellScoped (for (binding p x e) c body)) o before → IsWellFormedIn (TurnIsWellScoped c body) o d) → (ContextHasBoundedWidths before → ContextHasBoundedWidths d) →
       FailsInside x c body d f → FailsWithin (stmt_run (for (binding p x e) c body)) before f
   loop_fails d f there le placed widths h =
       let a = sampled (take before.size f.sample.items) in
@@ -116,5 +116,5 @@ module _ (e : ExprD) (x : List ℕ) (c : CondD) (body : StmtsD) (p : ℕ) (befor
           )))
         ];
         named = h.path;
-        elements = elements_from (TurnMayStand c body) (StmtMayStand (for (binding p x e) c body)) before d (length f.sample.items) f.elements placed widths h.elements;
+        elements = elements_from (TurnIsWellScoped c body) (StmtIsWellScoped (for (binding p x e) c body)) before d (length f.sample.items) f.elements placed widths h.elements;
       }

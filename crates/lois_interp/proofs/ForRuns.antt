@@ -9,7 +9,7 @@ use Rattle.lois_base.specs.Truth.{holds}
 use Rattle.lois_base.specs.Values.{PointValue, point, IsIn, IsIncluded}
 use Rattle.lois_base.proofs.Members.{member_in}
 use Rattle.lois_base.proofs.Validity.{all_that_are}
-use Rattle.lois_context.specs.Choices.{IsAdmitted, AdmitsContext, ContextHasUsualWidths}
+use Rattle.lois_context.specs.Choices.{IsAdmitted, AdmitsContext, ContextHasBoundedWidths}
 use Rattle.lois_context.specs.Entered.{items_listed}
 use Rattle.lois_context.specs.Joined.{AreJoined, IsEnd, HasJoined}
 use Rattle.lois_context.specs.Kept.{IsSlot, AreSlots}
@@ -25,8 +25,8 @@ use Rattle.lois_interp.specs.Run.{stmt_run}
 use Rattle.lois_interp.specs.Slots.{IsKeptTerm, AreKept}
 use Rattle.lois_context.proofs.Counts.{times_like, admits_like}
 use Rattle.lois_context.proofs.Joined.{of_listed}
-use Rattle.lois_eval.specs.Standing.{IsPlaced}
-use Rattle.lois_interp.specs.Standing.{StmtMayStand}
+use Rattle.lois_eval.specs.WellFormed.{IsWellFormedIn}
+use Rattle.lois_interp.specs.WellScoped.{StmtIsWellScoped}
 use Rattle.lois_base.specs.declared.guards.Lit.{Lit}
 use Rattle.lois_base.proofs.Members.{same_in}
 use Rattle.lois_meaning.specs.Store.{AreSameNamed}
@@ -136,7 +136,7 @@ module _ (e : ExprD) (x : List ℕ) (c : CondD) (body : StmtsD) (p : ℕ) (befor
     all_included (b ∷ bs) [] h k = absurd h
 
     module _ (tidied : AreTidied before.size before.«when» (counts_in before.store) js r.store) where
-      pub loop_runs : r.size ≡ before.size → r.«when» ≡ before.«when» → r.lines ≡ before.lines → ((o : Bool) → IsPlaced (StmtMayStand (for (binding p x e) c body)) o before → AdmitsContext o r) → (ContextHasUsualWidths before → ContextHasUsualWidths r) →
+      pub loop_runs : r.size ≡ before.size → r.«when» ≡ before.«when» → r.lines ≡ before.lines → ((o : Bool) → IsWellFormedIn (StmtIsWellScoped (for (binding p x e) c body)) o before → AdmitsContext o r) → (ContextHasBoundedWidths before → ContextHasBoundedWidths r) →
           RunsAs (stmt_run (for (binding p x e) c body)) before (r ∷ [])
       loop_runs size is lines operators widths = record {
         choices = λ a. times_like a before r (admits_like a before r size is);
@@ -146,8 +146,8 @@ module _ (e : ExprD) (x : List ℕ) (c : CondD) (body : StmtsD) (p : ℕ) (befor
           subst (λ z. IsReachedAt (stmt_run (for (binding p x e) c body)) before z a) (only_one r d h)
               (reached_at (stmt_run (for (binding p x e) c body)) before r a reached (tidied_names before.size before.«when» (counts_in before.store) js r.store tidied ∙ longer_names before.store js longer) (subst (λ z. IsAdmitted a z) (sym (only_one r d h)) adm)),
         );
-        operators = λ o h. all_one (AdmitsContext o) r (operators o (of_one (IsPlaced (StmtMayStand (for (binding p x e) c body)) o) before h));
-        widths = λ h. all_one ContextHasUsualWidths r (widths (of_one ContextHasUsualWidths before h));
+        operators = λ o h. all_one (AdmitsContext o) r (operators o (of_one (IsWellFormedIn (StmtIsWellScoped (for (binding p x e) c body)) o) before h));
+        widths = λ h. all_one ContextHasBoundedWidths r (widths (of_one ContextHasBoundedWidths before h));
       }
         where
           outside : (a : List Atom) → IsAdmitted a r → IsAdmitted a before

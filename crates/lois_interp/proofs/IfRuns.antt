@@ -5,17 +5,17 @@ use Rattle.std.proofs.lemmas.List.Elements.{Contains-append_cases, Contains-push
 use Rattle.lois_script.specs.Tree.{CondD, StmtsD, if}
 use Rattle.lois_meaning.specs.Faults.{CondFails}
 use Rattle.lois_meaning.specs.declared.faults.Fault.{Fault}
-use Rattle.lois_context.specs.Choices.{AdmitsContext, ContextHasUsualWidths}
+use Rattle.lois_context.specs.Choices.{AdmitsContext, ContextHasBoundedWidths}
 use Rattle.lois_context.specs.declared.contexts.Context.{Context}
 use Rattle.lois_context.specs.declared.contexts.Split.{Split}
 use Rattle.lois_context.proofs.Counts.{times_append}
-use Rattle.lois_eval.specs.Standing.{names_of, IsPlaced, CondStands}
+use Rattle.lois_eval.specs.WellFormed.{names_of, IsWellFormedIn, CondIsWellFormed}
 use Rattle.lois_eval.specs.Throughout.{IsFaultOf}
 use Rattle.lois_interp.specs.Decided.{listed, IsTrueSide, IsDecided}
 use Rattle.lois_interp.specs.Failed.{FailsWithin, FailsFrom}
 use Rattle.lois_interp.specs.Reached.{RunsFrom, RunsAs}
 use Rattle.lois_interp.specs.Run.{stmt_run, block_run}
-use Rattle.lois_interp.specs.Standing.{CondMayStand, StmtMayStand, BlockMayStand}
+use Rattle.lois_interp.specs.WellScoped.{CondIsWellScoped, StmtIsWellScoped, BlockIsWellScoped}
 use Rattle.lois_interp.proofs.ForFails.{bare_within}
 use Rattle.lois_interp.proofs.Lists.{all_one, of_one}
 use Rattle.lois_interp.proofs.Parted.{cond_placed, listed_side, side_placed, from_side, side_fails}
@@ -30,30 +30,30 @@ some_side P Q None to h = tt
 some_side P Q (Some y) to h = to y h
 
 module _ (c : CondD) (first second : StmtsD) where
-  if_cond : (o : Bool) (names : List (List ℕ)) → StmtMayStand ((if) c first second) o names → CondMayStand c o names
+  if_cond : (o : Bool) (names : List (List ℕ)) → StmtIsWellScoped ((if) c first second) o names → CondIsWellScoped c o names
   if_cond o names h = record { scope = h.scope; named = h.named; order = h.order; unbroken = λ rule at bad. h.unbroken rule at (inl bad); form = h.form.0 }
 
-  if_first : (o : Bool) (names : List (List ℕ)) → StmtMayStand ((if) c first second) o names → BlockMayStand first o names
+  if_first : (o : Bool) (names : List (List ℕ)) → StmtIsWellScoped ((if) c first second) o names → BlockIsWellScoped first o names
   if_first o names h = record { scope = h.scope; named = h.named; order = h.order; unbroken = λ rule at bad. h.unbroken rule at (inr (inl bad)); form = h.form.1 }
 
-  if_second : (o : Bool) (names : List (List ℕ)) → StmtMayStand ((if) c first second) o names → BlockMayStand second o names
+  if_second : (o : Bool) (names : List (List ℕ)) → StmtIsWellScoped ((if) c first second) o names → BlockIsWellScoped second o names
   if_second o names h = record { scope = h.scope; named = h.named; order = h.order; unbroken = λ rule at bad. h.unbroken rule at (inr (inr bad)); form = h.form.2 }
 
   module _ (k : Context) where
-    pub if_placed : (o : Bool) → IsPlaced (StmtMayStand ((if) c first second)) o k → IsPlaced (CondStands c) o k
-    if_placed o h = cond_placed c (StmtMayStand ((if) c first second)) o k (if_cond o (names_of k.store)) h
+    pub if_placed : (o : Bool) → IsWellFormedIn (StmtIsWellScoped ((if) c first second)) o k → IsWellFormedIn (CondIsWellFormed c) o k
+    if_placed o h = cond_placed c (StmtIsWellScoped ((if) c first second)) o k (if_cond o (names_of k.store)) h
 
-    yes_placed : (o : Bool) (y : Context) → IsPlaced (StmtMayStand ((if) c first second)) o k → IsTrueSide c true k y → IsPlaced (BlockMayStand first) o y
-    yes_placed o y h side = side_placed c true k (StmtMayStand ((if) c first second)) (BlockMayStand first) o y side (if_cond o) (if_first o) h
+    yes_placed : (o : Bool) (y : Context) → IsWellFormedIn (StmtIsWellScoped ((if) c first second)) o k → IsTrueSide c true k y → IsWellFormedIn (BlockIsWellScoped first) o y
+    yes_placed o y h side = side_placed c true k (StmtIsWellScoped ((if) c first second)) (BlockIsWellScoped first) o y side (if_cond o) (if_first o) h
 
-    no_placed : (o : Bool) (y : Context) → IsPlaced (StmtMayStand ((if) c first second)) o k → IsTrueSide c false k y → IsPlaced (BlockMayStand second) o y
-    no_placed o y h side = side_placed c false k (StmtMayStand ((if) c first second)) (BlockMayStand second) o y side (if_cond o) (if_second o) h
+    no_placed : (o : Bool) (y : Context) → IsWellFormedIn (StmtIsWellScoped ((if) c first second)) o k → IsTrueSide c false k y → IsWellFormedIn (BlockIsWellScoped second) o y
+    no_placed o y h side = side_placed c false k (StmtIsWellScoped ((if) c first second)) (BlockIsWellScoped second) o y side (if_cond o) (if_second o) h
 
-    pub if_may_yes : (o : Bool) (side : Option Context) → IsPlaced (StmtMayStand ((if) c first second)) o k → IfSome side (IsTrueSide c true k) → IfSome side (IsPlaced (BlockMayStand first) o)
-    if_may_yes o side h s = some_side (IsTrueSide c true k) (IsPlaced (BlockMayStand first) o) side (λ y. yes_placed o y h) s
+    pub if_may_yes : (o : Bool) (side : Option Context) → IsWellFormedIn (StmtIsWellScoped ((if) c first second)) o k → IfSome side (IsTrueSide c true k) → IfSome side (IsWellFormedIn (BlockIsWellScoped first) o)
+    if_may_yes o side h s = some_side (IsTrueSide c true k) (IsWellFormedIn (BlockIsWellScoped first) o) side (λ y. yes_placed o y h) s
 
-    pub if_may_no : (o : Bool) (side : Option Context) → IsPlaced (StmtMayStand ((if) c first second)) o k → IfSome side (IsTrueSide c false k) → IfSome side (IsPlaced (BlockMayStand second) o)
-    if_may_no o side h s = some_side (IsTrueSide c false k) (IsPlaced (BlockMayStand second) o) side (λ y. no_placed o y h) s
+    pub if_may_no : (o : Bool) (side : Option Context) → IsWellFormedIn (StmtIsWellScoped ((if) c first second)) o k → IfSome side (IsTrueSide c false k) → IfSome side (IsWellFormedIn (BlockIsWellScoped second) o)
+    if_may_no o side h s = some_side (IsTrueSide c false k) (IsWellFormedIn (BlockIsWellScoped second) o) side (λ y. no_placed o y h) s
 
     pub if_runs : (s : Split) (es fs : List Context) → IsDecided c k s → RunsFrom (block_run first) (listed s.yes) es → RunsFrom (block_run second) (listed s.no) fs → RunsAs (stmt_run ((if) c first second)) k (es ++ fs)
     if_runs s es fs decided h q = record {
@@ -69,15 +69,15 @@ module _ (c : CondD) (first second : StmtsD) where
         ],
       );
       operators = λ o placed.
-          let own = of_one (IsPlaced (StmtMayStand ((if) c first second)) o) k placed in
+          let own = of_one (IsWellFormedIn (StmtIsWellScoped ((if) c first second)) o) k placed in
           All-append (AdmitsContext o) es fs
-          (h.operators o (all_sides (IsPlaced (BlockMayStand first) o) s.yes (if_may_yes o s.yes own decided.yes)))
-          (q.operators o (all_sides (IsPlaced (BlockMayStand second) o) s.no (if_may_no o s.no own decided.no)));
+          (h.operators o (all_sides (IsWellFormedIn (BlockIsWellScoped first) o) s.yes (if_may_yes o s.yes own decided.yes)))
+          (q.operators o (all_sides (IsWellFormedIn (BlockIsWellScoped second) o) s.no (if_may_no o s.no own decided.no)));
       widths = λ w.
-          let own = of_one ContextHasUsualWidths k w in
-          All-append ContextHasUsualWidths es fs
-          (h.widths (all_sides ContextHasUsualWidths s.yes (some_side (IsTrueSide c true k) ContextHasUsualWidths s.yes (λ y side. side.widths own) decided.yes)))
-          (q.widths (all_sides ContextHasUsualWidths s.no (some_side (IsTrueSide c false k) ContextHasUsualWidths s.no (λ y side. side.widths own) decided.no)));
+          let own = of_one ContextHasBoundedWidths k w in
+          All-append ContextHasBoundedWidths es fs
+          (h.widths (all_sides ContextHasBoundedWidths s.yes (some_side (IsTrueSide c true k) ContextHasBoundedWidths s.yes (λ y side. side.widths own) decided.yes)))
+          (q.widths (all_sides ContextHasBoundedWidths s.no (some_side (IsTrueSide c false k) ContextHasBoundedWidths s.no (λ y side. side.widths own) decided.no)));
     }
 
     pub if_cond_fails : (f : Fault) → IsFaultOf k (CondFails c) f → FailsWithin (stmt_run ((if) c first second)) k f

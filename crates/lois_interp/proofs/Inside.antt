@@ -8,7 +8,7 @@ use Rattle.lois_base.specs.Data.{TermD, depth}
 use Rattle.lois_base.specs.Fits.{Fits}
 use Rattle.lois_base.specs.Shift.{shift, shift_level}
 use Rattle.lois_base.specs.Truth.{sampled}
-use Rattle.lois_base.specs.Validity.{AdmitsTerm, HasUsualWidths}
+use Rattle.lois_base.specs.Validity.{AdmitsTerm, HasBoundedWidths}
 use Rattle.lois_base.specs.Values.{point, IsSame}
 use Rattle.lois_base.proofs.Members.{same_sym}
 use Rattle.lois_base.proofs.RenamedForm.{depth_renamed, admits_renamed, widths_renamed}
@@ -21,14 +21,14 @@ use Rattle.lois_meaning.specs.Runs.{BlockEnds, ListEnds}
 use Rattle.lois_meaning.specs.Store.{NamedValues, named, looked_up, AreSameNamed}
 use Rattle.lois_meaning.specs.declared.faults.Fault.{Fault}
 use Rattle.lois_meaning.proofs.Determined.{truth_same}
-use Rattle.lois_context.specs.Choices.{IsAdmitted, AdmitsContext, ContextHasUsualWidths}
+use Rattle.lois_context.specs.Choices.{IsAdmitted, AdmitsContext, ContextHasBoundedWidths}
 use Rattle.lois_context.specs.Slots.{SlotD, store_at, lines_at}
 use Rattle.lois_context.specs.declared.contexts.Context.{Context}
 use Rattle.lois_context.specs.declared.contexts.Split.{Split}
 use Rattle.lois_context.proofs.Carried.{raised_same}
 use Rattle.lois_context.proofs.Counts.{times_of, times_some}
 use Rattle.lois_simplify.proofs.Members.{contains_none}
-use Rattle.lois_eval.specs.Standing.{IsPlaced}
+use Rattle.lois_eval.specs.WellFormed.{IsWellFormedIn}
 use Rattle.lois_eval.specs.Throughout.{IsFaultOf}
 use Rattle.lois_interp.specs.Assigned.{ListAssigns}
 use Rattle.lois_interp.specs.Decided.{listed, IsTrueSide, IsDecided}
@@ -38,7 +38,7 @@ use Rattle.lois_interp.specs.Looped.{IsPassed, LoopRuns, FailsInside, Holds}
 use Rattle.lois_interp.specs.Reached.{IsReached, RunsAs}
 use Rattle.lois_interp.specs.Run.{block_run, turn_run}
 use Rattle.lois_interp.specs.Slots.{AreKept}
-use Rattle.lois_interp.specs.Standing.{BlockMayStand, TurnMayStand}
+use Rattle.lois_interp.specs.WellScoped.{BlockIsWellScoped, TurnIsWellScoped}
 use Rattle.lois_interp.proofs.ForFails.{bare_within}
 use Rattle.lois_interp.proofs.Kept.{as_reached}
 use Rattle.lois_interp.proofs.Lists.{only_one, all_one, of_one, all_left, all_right}
@@ -52,7 +52,7 @@ module _ (c : CondD) (body : StmtsD) where
     ended = λ d h. absurd (contains_none d h);
     started = λ f h. absurd (contains_none f h);
     operators = λ o h. All-nil (AdmitsContext o);
-    widths = λ h. All-nil ContextHasUsualWidths;
+    widths = λ h. All-nil ContextHasBoundedWidths;
   }
 
   pub runs_more : (ds es : List Context) (d : Context) (fs : List Context) → LoopRuns c body ds es → LoopRuns c body (d ∷ []) fs → LoopRuns c body (ds ++ d ∷ []) (es ++ fs)
@@ -66,8 +66,8 @@ module _ (c : CondD) (body : StmtsD) where
       | inl p ↦ let r = h.started f p in (r.0, Contains-append_left ds (d ∷ []) r.0 r.1, r.2)
       | inr p ↦ let r = k.started f p in (r.0, Contains-append_right ds (d ∷ []) r.0 r.1, r.2)
     ];
-    operators = λ o q. All-append (AdmitsContext o) es fs (h.operators o (all_left (IsPlaced (TurnMayStand c body) o) ds (d ∷ []) q)) (k.operators o (all_right (IsPlaced (TurnMayStand c body) o) ds (d ∷ []) q));
-    widths = λ q. All-append ContextHasUsualWidths es fs (h.widths (all_left ContextHasUsualWidths ds (d ∷ []) q)) (k.widths (all_right ContextHasUsualWidths ds (d ∷ []) q));
+    operators = λ o q. All-append (AdmitsContext o) es fs (h.operators o (all_left (IsWellFormedIn (TurnIsWellScoped c body) o) ds (d ∷ []) q)) (k.operators o (all_right (IsWellFormedIn (TurnIsWellScoped c body) o) ds (d ∷ []) q));
+    widths = λ q. All-append ContextHasBoundedWidths es fs (h.widths (all_left ContextHasBoundedWidths ds (d ∷ []) q)) (k.widths (all_right ContextHasBoundedWidths ds (d ∷ []) q));
   }
 
   -- ---- the side on which the condition holds
@@ -107,8 +107,8 @@ module _ (c : CondD) (body : StmtsD) where
             let found = times_some x fs (omega (arith, runs.choices x)) in
             (found.0, found.1, found.2, subst (λ z. IsPassed c body z found.0) e (from_side found.0 found.1));
         started = λ f there. (d, Contains-push [] d, from_side f there);
-        operators = λ o q. runs.operators o (all_one (IsPlaced (BlockMayStand body) o) y (side_placed c true d (TurnMayStand c body) (BlockMayStand body) o y side (turn_cond c body o) (turn_block c body o) (of_one (IsPlaced (TurnMayStand c body) o) d q)));
-        widths = λ q. runs.widths (all_one ContextHasUsualWidths y (side.widths (of_one ContextHasUsualWidths d q)));
+        operators = λ o q. runs.operators o (all_one (IsWellFormedIn (BlockIsWellScoped body) o) y (side_placed c true d (TurnIsWellScoped c body) (BlockIsWellScoped body) o y side (turn_cond c body o) (turn_block c body o) (of_one (IsWellFormedIn (TurnIsWellScoped c body) o) d q)));
+        widths = λ q. runs.widths (all_one ContextHasBoundedWidths y (side.widths (of_one ContextHasBoundedWidths d q)));
       }
     where
       other_side : (d : Context) (o : Option Context) (q : Context) (x : List Atom) → IfSome o (IsTrueSide c false d) → Contains (listed o) q → IsAdmitted x q → HasTruth c (store_at x d.store) false
@@ -141,7 +141,7 @@ module _ (c : CondD) (body : StmtsD) where
         ]);
     started = λ f there. absurd (contains_none f there);
     operators = λ o q. All-nil (AdmitsContext o);
-    widths = λ q. All-nil ContextHasUsualWidths;
+    widths = λ q. All-nil ContextHasBoundedWidths;
   }
     where
       no_side : (d : Context) (o : Option Context) (q : Context) (x : List Atom) → IfSome o (IsTrueSide c false d) → Contains (listed o) q → IsAdmitted x q → HasTruth c (store_at x d.store) false
@@ -155,7 +155,7 @@ module _ (c : CondD) (body : StmtsD) where
   pub side_within : (d y : Context) (f : Fault) → IsTrueSide c true d y → FailsWithin (block_run body) y f → FailsWithin (turn_run c body) d f
   side_within d y f side h =
       side_fails c true d (block_run body) (turn_run c body) y f side (λ s at kind path truth bad. inr (truth, bad))
-      (λ o p. side_placed c true d (TurnMayStand c body) (BlockMayStand body) o y side (turn_cond c body o) (turn_block c body o) p) h
+      (λ o p. side_placed c true d (TurnIsWellScoped c body) (BlockIsWellScoped body) o y side (turn_cond c body o) (turn_block c body o) p) h
 
   -- the member is named before the rest of the path
   pub member_named : (x : List ℕ) (item : TermD) (d : Context) (f g : Fault) → Holds x d.store item → depth item ≤ 64 → FailsWithin (turn_run c body) d f → NamesElement x item d.size f g → FailsInside x c body d g
@@ -170,13 +170,13 @@ module _ (c : CondD) (body : StmtsD) where
       let line : LineD = record { name = x; term = item_now } in
       let same : IsSame (point item a) (point item_now (sampled s)) =
       same_sym (point item_now (sampled s)) (point item a) (subst (λ z. IsSame (point item_now z) (point item a)) (sym parts) (raised_same n (length s - n) item a further h.admitted.0 count)) in
-      let elements : AreElements (TurnMayStand c body) d (length s) (line ∷ f.elements) = record {
+      let elements : AreElements (TurnIsWellScoped c body) d (length s) (line ∷ f.elements) = record {
         levels = All-cons (λ (l : LineD). Fits (length s) l.term) line f.elements so.levels h.elements.levels;
         brackets = All-cons (λ (l : LineD). depth l.term ≤ 64) line f.elements (subst (λ z. z ≤ 64) (sym (depth_renamed (shift_level n (length s - n)) item)) brackets) h.elements.brackets;
         operators = λ o p. All-cons (λ (l : LineD). AdmitsTerm o l.term) line f.elements
             (admits_renamed (shift_level n (length s - n)) o item (held_has (AdmitsTerm o) p.operators.store)) (h.elements.operators o p);
-        widths = λ w. All-cons (λ (l : LineD). HasUsualWidths l.term) line f.elements
-            (widths_renamed (shift_level n (length s - n)) item (held_has HasUsualWidths w.store)) (h.elements.widths w);
+        widths = λ w. All-cons (λ (l : LineD). HasBoundedWidths l.term) line f.elements
+            (widths_renamed (shift_level n (length s - n)) item (held_has HasBoundedWidths w.store)) (h.elements.widths w);
       } in
       record {
         admitted = subst (λ z. IsAdmitted (sampled (take n z)) d) (sym so.sample) h.admitted;
@@ -188,8 +188,8 @@ module _ (c : CondD) (body : StmtsD) where
             (subst (λ z. (turn_run c body).fails (store_at a d.store) f.pos.offset z h.path) (sym so.kind) h.failed));
         path = subst (λ z. AreSameNamed (named x (point item a) ∷ h.path) (lines_at (sampled z) g.elements)) (sym so.sample)
             (subst (λ z. AreSameNamed (named x (point item a) ∷ h.path) (lines_at (sampled s) z)) (sym so.elements) (refl, same, h.named));
-        elements = subst (λ z. AreElements (TurnMayStand c body) d (length z) g.elements) (sym so.sample)
-            (subst (AreElements (TurnMayStand c body) d (length s)) (sym so.elements) elements);
+        elements = subst (λ z. AreElements (TurnIsWellScoped c body) d (length z) g.elements) (sym so.sample)
+            (subst (AreElements (TurnIsWellScoped c body) d (length s)) (sym so.elements) elements);
       }
     where
       held_has : (P : TermD → Type 0) → All (λ (q : SlotD). P q.term) d.store → P item

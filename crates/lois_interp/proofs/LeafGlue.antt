@@ -7,7 +7,7 @@ use Rattle.lois_base.specs.Data.{TermD, var, tag, tup, coll}
 use Rattle.lois_base.specs.Truth.{holds, sampled}
 use Rattle.lois_base.specs.Values.{PointValue, point, IsDeeper}
 use Rattle.lois_base.specs.declared.guards.Lit.{Lit}
-use Rattle.lois_deciders.specs.Asked.{Parts}
+use Rattle.lois_deciders.specs.Satisfaction.{IsCounterexample}
 use Rattle.lois_answers.specs.declared.faults.FaultKind.TheVariants.{NotASet, Assertion, DepthLimit}
 use Rattle.lois_script.specs.Scope.{unknown, again}
 use Rattle.lois_script.specs.Tree.{ExprD, CondD, «let», assign, add, assert, print}
@@ -23,16 +23,16 @@ use Rattle.lois_terms.specs.Guarded.{IsSet}
 use Rattle.lois_context.specs.Choices.{IsAdmitted}
 use Rattle.lois_context.specs.Slots.{SlotD, IsNew, store_at}
 use Rattle.lois_context.specs.declared.contexts.Context.{Context}
-use Rattle.lois_eval.specs.Standing.{names_of, IsNamed, IsPlaced, Stands, CondStands}
+use Rattle.lois_eval.specs.WellFormed.{names_of, IsNamed, IsWellFormedIn, IsWellFormed, CondIsWellFormed}
 use Rattle.lois_eval.specs.Throughout.{IsFaultOf}
 use Rattle.lois_eval.specs.Checks.{IsFaultWith, IsDepthFault}
 use Rattle.lois_interp.specs.Failed.{FailsWithin}
 use Rattle.lois_interp.specs.Looped.{Holds}
 use Rattle.lois_interp.specs.Run.{stmt_run}
-use Rattle.lois_interp.specs.Standing.{StmtMayStand}
+use Rattle.lois_interp.specs.WellScoped.{StmtIsWellScoped}
 use Rattle.lois_interp.proofs.ForFails.{bare_within}
 use Rattle.lois_interp.proofs.ForGlue.{new_in_store}
-use Rattle.lois_interp.proofs.Stands.{named_in, expr_may, cond_may}
+use Rattle.lois_interp.proofs.WellFormed.{named_in, expr_may, cond_may}
 
 -- ---- names
 -- a name in scope holds a term
@@ -60,28 +60,28 @@ held_named x (s ∷ ss) h = go (bytes_eq s.name x) refl h (held_named x ss)
 
 -- ---- where the parts stand
 module _ (p : ℕ) (x : List ℕ) (e : ExprD) (o : Bool) (k : Context) where
-  pub let_set : IsPlaced (StmtMayStand («let» p x e)) o k → IsPlaced (Stands e) o k
+  pub let_set : IsWellFormedIn (StmtIsWellScoped («let» p x e)) o k → IsWellFormedIn (IsWellFormed e) o k
   let_set h = let may = h.names in record { names = expr_may e o (names_of k.store) (record { scope = may.scope; named = may.named; order = may.order; unbroken = λ rule at bad. may.unbroken rule at (inr bad); form = may.form }); operators = h.operators }
 
-  pub let_new : IsPlaced (StmtMayStand («let» p x e)) o k → IsNew x k.store
+  pub let_new : IsWellFormedIn (StmtIsWellScoped («let» p x e)) o k → IsNew x k.store
   let_new h = let may = h.names in new_in_store x may.scope.names k.store may.named (λ r is. may.unbroken again p (inl (refl, refl, r, is)))
 
-  pub assign_set : IsPlaced (StmtMayStand (assign p x e)) o k → IsPlaced (Stands e) o k
+  pub assign_set : IsWellFormedIn (StmtIsWellScoped (assign p x e)) o k → IsWellFormedIn (IsWellFormed e) o k
   assign_set h = let may = h.names in record { names = expr_may e o (names_of k.store) (record { scope = may.scope; named = may.named; order = may.order; unbroken = λ rule at bad. may.unbroken rule at (inr bad); form = may.form }); operators = h.operators }
 
-  pub assign_named : IsPlaced (StmtMayStand (assign p x e)) o k → IsNamed x (names_of k.store)
+  pub assign_named : IsWellFormedIn (StmtIsWellScoped (assign p x e)) o k → IsNamed x (names_of k.store)
   assign_named h = let may = h.names in subst (IsNamed x) may.named (named_in x may.scope.names (λ none. may.unbroken unknown p (inl (inl (refl, refl, none)))))
 
-  pub add_set : IsPlaced (StmtMayStand (add e p x)) o k → IsPlaced (Stands e) o k
+  pub add_set : IsWellFormedIn (StmtIsWellScoped (add e p x)) o k → IsWellFormedIn (IsWellFormed e) o k
   add_set h = let may = h.names in record { names = expr_may e o (names_of k.store) (record { scope = may.scope; named = may.named; order = may.order; unbroken = λ rule at bad. may.unbroken rule at (inl bad); form = may.form }); operators = h.operators }
 
-  pub add_named : IsPlaced (StmtMayStand (add e p x)) o k → IsNamed x (names_of k.store)
+  pub add_named : IsWellFormedIn (StmtIsWellScoped (add e p x)) o k → IsNamed x (names_of k.store)
   add_named h = let may = h.names in subst (IsNamed x) may.named (named_in x may.scope.names (λ none. may.unbroken unknown p (inr (inl (refl, refl, none)))))
 
-pub assert_cond : (p : ℕ) (c : CondD) (o : Bool) (k : Context) → IsPlaced (StmtMayStand (assert p c)) o k → IsPlaced (CondStands c) o k
+pub assert_cond : (p : ℕ) (c : CondD) (o : Bool) (k : Context) → IsWellFormedIn (StmtIsWellScoped (assert p c)) o k → IsWellFormedIn (CondIsWellFormed c) o k
 assert_cond p c o k h = let may = h.names in record { names = cond_may c o (names_of k.store) (record { scope = may.scope; named = may.named; order = may.order; unbroken = may.unbroken; form = may.form }); operators = h.operators }
 
-pub print_named : (p q : ℕ) (x : List ℕ) (o : Bool) (k : Context) → IsPlaced (StmtMayStand (print p q x)) o k → IsNamed x (names_of k.store)
+pub print_named : (p q : ℕ) (x : List ℕ) (o : Bool) (k : Context) → IsWellFormedIn (StmtIsWellScoped (print p q x)) o k → IsNamed x (names_of k.store)
 print_named p q x o k h = let may = h.names in subst (IsNamed x) may.named (named_in x may.scope.names (λ none. may.unbroken unknown q (inr (refl, refl, none))))
 
 -- ---- faults
@@ -122,7 +122,7 @@ pub assert_fails : (p : ℕ) (c : CondD) (k : Context) (f : Fault) → IsFaultOf
 assert_fails p c k f h = bare_within (CondFails c) (stmt_run (assert p c)) k f (λ s at kind bad. inl (bad, refl)) h
 
 -- the sample is a choice at which the condition is false
-pub assertion_fails : (at : Pos) (c : CondD) (k : Context) (g : List (List Lit)) (sample : List ℕ) (f : Fault) → ((a : List Atom) → IsAdmitted a k → HasTruth c (store_at a k.store) (holds a g)) → Parts k.size k.«when» g sample → IsFaultWith at Assertion sample f → FailsWithin (stmt_run (assert at.offset c)) k f
+pub assertion_fails : (at : Pos) (c : CondD) (k : Context) (g : List (List Lit)) (sample : List ℕ) (f : Fault) → ((a : List Atom) → IsAdmitted a k → HasTruth c (store_at a k.store) (holds a g)) → IsCounterexample k.size k.«when» g sample → IsFaultWith at Assertion sample f → FailsWithin (stmt_run (assert at.offset c)) k f
 assertion_fails at c k g sample f truth parts h =
     let adm : IsAdmitted (sampled sample) k = (length-map sample whole ∙ parts.0.count, parts.1) in
     let own = truth (sampled sample) adm in

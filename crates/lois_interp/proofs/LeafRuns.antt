@@ -8,7 +8,7 @@ use Rattle.std.proofs.lemmas.Slice.Eq.{bytes_eq-Decides}
 use Rattle.lois_base.specs.Atom.{Atom}
 use Rattle.lois_base.specs.Data.{TermD, coll, CompsD, comps_of}
 use Rattle.lois_base.specs.Truth.{holds}
-use Rattle.lois_base.specs.Validity.{AdmitsConstraint, AdmitsTerm, HasUsualWidths}
+use Rattle.lois_base.specs.Validity.{AdmitsConstraint, AdmitsTerm, HasBoundedWidths}
 use Rattle.lois_base.specs.Values.{point, IsIn, IsIncluded}
 use Rattle.lois_base.proofs.Members.{same_refl}
 use Rattle.lois_answers.specs.ResultsData.{LineD}
@@ -17,7 +17,7 @@ use Rattle.lois_meaning.specs.Expressions.{Gives, HasTruth}
 use Rattle.lois_meaning.specs.Runs.{IsSetWith}
 use Rattle.lois_meaning.specs.Store.{named, stored, AreSameNamed, IsShallow}
 use Rattle.lois_meaning.proofs.Stores.{named_refl}
-use Rattle.lois_context.specs.Choices.{IsAdmitted, AdmitsContext, ContextHasUsualWidths}
+use Rattle.lois_context.specs.Choices.{IsAdmitted, AdmitsContext, ContextHasBoundedWidths}
 use Rattle.lois_context.specs.Entered.{items_listed, carried, bound}
 use Rattle.lois_context.specs.Kept.{IsSlot, HasDistinctNames}
 use Rattle.lois_context.specs.Slots.{SlotD, IsNew, slot_name, slot_at, store_at, lines_at, comps_in, count_of_items}
@@ -27,7 +27,7 @@ use Rattle.lois_context.proofs.Counts.{times_like, admits_like}
 use Rattle.lois_context.proofs.Entered.{listed_of}
 use Rattle.lois_context.proofs.Joined.{of_listed}
 use Rattle.lois_eval.specs.Made.{bare, IsHeldBy}
-use Rattle.lois_eval.specs.Standing.{IsPlaced}
+use Rattle.lois_eval.specs.WellFormed.{IsWellFormedIn}
 use Rattle.lois_eval.proofs.Names.{held_at, held_value}
 use Rattle.lois_interp.specs.Assigned.{StmtAssigns}
 use Rattle.lois_interp.specs.Leaves.{IsWithStore}
@@ -44,12 +44,12 @@ use Rattle.lois_interp.proofs.Sequence.{kept_refl}
 -- one context, where the first one admits
 module _ (run : Run) (k d : Context) (size : d.size ≡ k.size) (is : d.«when» ≡ k.«when») where
   pub one_runs : ((a : List Atom) → IsAdmitted a k → EndsAt run.ends k d a) → AreKept run.assigns (λ a. IsAdmitted a k) k.store d.store → map slot_name d.store ≡ run.behind (map slot_name k.store) →
-      ((o : Bool) → IsPlaced run.stands o k → AdmitsContext o d) → (ContextHasUsualWidths k → ContextHasUsualWidths d) → RunsAs run k (d ∷ [])
+      ((o : Bool) → IsWellFormedIn run.stands o k → AdmitsContext o d) → (ContextHasBoundedWidths k → ContextHasBoundedWidths d) → RunsAs run k (d ∷ [])
   one_runs ends kept names operators widths = record {
     choices = λ a. times_like a k d (admits_like a k d size is);
     reached = λ q there a adm. (k, Contains-push [] k, subst (λ z. IsReachedAt run k z a) (only_one d q there) (at a (subst (λ z. IsAdmitted a z) (sym (only_one d q there)) adm)));
-    operators = λ o h. all_one (AdmitsContext o) d (operators o (of_one (IsPlaced run.stands o) k h));
-    widths = λ h. all_one ContextHasUsualWidths d (widths (of_one ContextHasUsualWidths k h));
+    operators = λ o h. all_one (AdmitsContext o) d (operators o (of_one (IsWellFormedIn run.stands o) k h));
+    widths = λ h. all_one ContextHasBoundedWidths d (widths (of_one ContextHasBoundedWidths k h));
   }
     where
       at : (a : List Atom) → IsAdmitted a d → IsReachedAt run k d a
@@ -65,7 +65,7 @@ module _ (run : Run) (k d : Context) (size : d.size ≡ k.size) (is : d.«when»
 
   -- where the store alone is other than before
   pub with_store : d.lines ≡ k.lines → ((a : List Atom) → IsAdmitted a k → run.ends (store_at a k.store) (store_at a d.store) []) → AreKept run.assigns (λ a. IsAdmitted a k) k.store d.store → map slot_name d.store ≡ run.behind (map slot_name k.store) →
-      ((o : Bool) → IsPlaced run.stands o k → All (λ (s : SlotD). AdmitsTerm o s.term) d.store) → (ContextHasUsualWidths k → All (λ (s : SlotD). HasUsualWidths s.term) d.store) → RunsAs run k (d ∷ [])
+      ((o : Bool) → IsWellFormedIn run.stands o k → All (λ (s : SlotD). AdmitsTerm o s.term) d.store) → (ContextHasBoundedWidths k → All (λ (s : SlotD). HasBoundedWidths s.term) d.store) → RunsAs run k (d ∷ [])
   with_store lines ends kept names operators widths =
       one_runs (λ a adm. record { printed = []; run = ends a adm; lines = ap (lines_at a) lines ∙ sym (append-nil (lines_at a k.lines)) }) kept names
       (λ o h. record {
@@ -73,7 +73,7 @@ module _ (run : Run) (k d : Context) (size : d.size ≡ k.size) (is : d.«when»
         store = operators o h;
         lines = subst (λ z. All (λ (l : LineD). AdmitsTerm o l.term) z) (sym lines) h.operators.lines;
       })
-      (λ w. record { store = widths w; lines = subst (λ z. All (λ (l : LineD). HasUsualWidths l.term) z) (sym lines) w.lines })
+      (λ w. record { store = widths w; lines = subst (λ z. All (λ (l : LineD). HasBoundedWidths l.term) z) (sym lines) w.lines })
 
 -- ---- a new name comes last
 kept_more_slots : (A : List ℕ → Type 0) (P : List Atom → Type 0) (ss more : List SlotD) → AreKept A P ss (ss ++ more)
@@ -94,7 +94,7 @@ distinct_last s ss h new = subst (IsDistinct bytes_eq) (names ss) (distinct_more
     names (q ∷ qs) = ap (λ z. q.name ∷ z) (names qs)
 
 pub let_runs : (p : ℕ) (e : ExprD) (s : SlotD) (k d : Context) → IsWithStore (k.store ++ s ∷ []) k d → IsNew s.name k.store → ((a : List Atom) → IsAdmitted a k → Gives e (store_at a k.store) (point s.term a)) →
-    ((o : Bool) → IsPlaced ((stmt_run («let» p s.name e)).stands) o k → AdmitsTerm o s.term) → (ContextHasUsualWidths k → HasUsualWidths s.term) → RunsAs (stmt_run («let» p s.name e)) k (d ∷ [])
+    ((o : Bool) → IsWellFormedIn ((stmt_run («let» p s.name e)).stands) o k → AdmitsTerm o s.term) → (ContextHasBoundedWidths k → HasBoundedWidths s.term) → RunsAs (stmt_run («let» p s.name e)) k (d ∷ [])
 let_runs p e s k d is new gives operators widths =
     with_store (stmt_run («let» p s.name e)) k d is.size is.«when» is.lines
     (λ a adm. (
@@ -106,7 +106,7 @@ let_runs p e s k d is new gives operators widths =
     (subst (λ z. AreKept (StmtAssigns («let» p s.name e)) (λ a. IsAdmitted a k) k.store z) (sym is.stored) (kept_more_slots (StmtAssigns («let» p s.name e)) (λ a. IsAdmitted a k) k.store (s ∷ [])))
     (ap (map slot_name) is.stored ∙ map-append slot_name k.store (s ∷ []))
     (λ o h. subst (λ z. All (λ (q : SlotD). AdmitsTerm o q.term) z) (sym is.stored) (All-append (λ (q : SlotD). AdmitsTerm o q.term) k.store (s ∷ []) h.operators.store (all_one (λ (q : SlotD). AdmitsTerm o q.term) s (operators o h))))
-    (λ w. subst (λ z. All (λ (q : SlotD). HasUsualWidths q.term) z) (sym is.stored) (All-append (λ (q : SlotD). HasUsualWidths q.term) k.store (s ∷ []) w.store (all_one (λ (q : SlotD). HasUsualWidths q.term) s (widths w))))
+    (λ w. subst (λ z. All (λ (q : SlotD). HasBoundedWidths q.term) z) (sym is.stored) (All-append (λ (q : SlotD). HasBoundedWidths q.term) k.store (s ∷ []) w.store (all_one (λ (q : SlotD). HasBoundedWidths q.term) s (widths w))))
 
 -- ---- a slot in the place of one with the same name
 stored_at : (s : SlotD) (a : List Atom) (ss : List SlotD) (i : ℕ) → HasDistinctNames ss → i < length ss → ((q : SlotD) → (get_or ss i q).name ≡ s.name) → store_at a (set ss i s) ≡ stored s.name (point s.term a) (store_at a ss)
@@ -149,14 +149,14 @@ module _ (s : SlotD) (i : ℕ) (k d : Context) (is : IsWithStore (set k.store i 
   stored_there a = ap (store_at a) is.stored ∙ stored_at s a k.store i k.names lt at
 
   pub assign_runs : (p : ℕ) (e : ExprD) → ((a : List Atom) → IsAdmitted a k → Gives e (store_at a k.store) (point s.term a)) →
-      ((o : Bool) → IsPlaced ((stmt_run (assign p s.name e)).stands) o k → AdmitsTerm o s.term) → (ContextHasUsualWidths k → HasUsualWidths s.term) → RunsAs (stmt_run (assign p s.name e)) k (d ∷ [])
+      ((o : Bool) → IsWellFormedIn ((stmt_run (assign p s.name e)).stands) o k → AdmitsTerm o s.term) → (ContextHasBoundedWidths k → HasBoundedWidths s.term) → RunsAs (stmt_run (assign p s.name e)) k (d ∷ [])
   assign_runs p e gives operators widths =
       with_store (stmt_run (assign p s.name e)) k d is.size is.«when» is.lines
       (λ a adm. (point s.term a, gives a adm, subst (λ z. AreSameNamed z (stored s.name (point s.term a) (store_at a k.store))) (sym (stored_there a)) (named_refl (stored s.name (point s.term a) (store_at a k.store))), refl))
       (subst (λ z. AreKept (StmtAssigns (assign p s.name e)) (λ a. IsAdmitted a k) k.store z) (sym is.stored) (set_kept (StmtAssigns (assign p s.name e)) (λ a. IsAdmitted a k) s k.store i lt at (λ free. absurd (free refl))))
       (ap (map slot_name) is.stored ∙ set_names s k.store i at)
       (λ o h. subst (λ z. All (λ (q : SlotD). AdmitsTerm o q.term) z) (sym is.stored) (set_has (λ (q : SlotD). AdmitsTerm o q.term) s k.store i (operators o h) h.operators.store))
-      (λ w. subst (λ z. All (λ (q : SlotD). HasUsualWidths q.term) z) (sym is.stored) (set_has (λ (q : SlotD). HasUsualWidths q.term) s k.store i (widths w) w.store))
+      (λ w. subst (λ z. All (λ (q : SlotD). HasBoundedWidths q.term) z) (sym is.stored) (set_has (λ (q : SlotD). HasBoundedWidths q.term) s k.store i (widths w) w.store))
 
 -- ---- what changes nothing
 pub assert_runs : (p : ℕ) (c : CondD) (k : Context) → ((a : List Atom) → IsAdmitted a k → HasTruth c (store_at a k.store) true) → RunsAs (stmt_run (assert p c)) k (k ∷ [])
@@ -182,9 +182,9 @@ print_runs p q l k d size is store lines held =
           (All-append (λ (r : LineD). AdmitsTerm o r.term) k.lines (l ∷ []) h.operators.lines (all_one (λ (r : LineD). AdmitsTerm o r.term) l (held_has (AdmitsTerm o) h.operators.store)));
     })
     (λ w. record {
-      store = subst (λ z. All (λ (s : SlotD). HasUsualWidths s.term) z) (sym store) w.store;
-      lines = subst (λ z. All (λ (r : LineD). HasUsualWidths r.term) z) (sym lines)
-          (All-append (λ (r : LineD). HasUsualWidths r.term) k.lines (l ∷ []) w.lines (all_one (λ (r : LineD). HasUsualWidths r.term) l (held_has HasUsualWidths w.store)));
+      store = subst (λ z. All (λ (s : SlotD). HasBoundedWidths s.term) z) (sym store) w.store;
+      lines = subst (λ z. All (λ (r : LineD). HasBoundedWidths r.term) z) (sym lines)
+          (All-append (λ (r : LineD). HasBoundedWidths r.term) k.lines (l ∷ []) w.lines (all_one (λ (r : LineD). HasBoundedWidths r.term) l (held_has HasBoundedWidths w.store)));
     })
   where
     held_has : (P : TermD → Type 0) → All (λ (q : SlotD). P q.term) k.store → P l.term
@@ -207,7 +207,7 @@ module _ (q s : SlotD) (item : TermD) (i : ℕ) (k d : Context) (is : IsWithStor
   })
 
   pub add_runs : (p : ℕ) (e : ExprD) → ((a : List Atom) → IsAdmitted a k → Gives e (store_at a k.store) (point item a)) → ((a : List Atom) → IsAdmitted a k → IsShallow (point s.term a)) →
-      ((o : Bool) → IsPlaced ((stmt_run (add e p s.name)).stands) o k → AdmitsTerm o s.term) → (ContextHasUsualWidths k → HasUsualWidths s.term) → RunsAs (stmt_run (add e p s.name)) k (d ∷ [])
+      ((o : Bool) → IsWellFormedIn ((stmt_run (add e p s.name)).stands) o k → AdmitsTerm o s.term) → (ContextHasBoundedWidths k → HasBoundedWidths s.term) → RunsAs (stmt_run (add e p s.name)) k (d ∷ [])
   add_runs p e gives shallow operators widths =
       with_store (stmt_run (add e p s.name)) k d is.size is.«when» is.lines
       (λ a adm. (
@@ -224,4 +224,4 @@ module _ (q s : SlotD) (item : TermD) (i : ℕ) (k d : Context) (is : IsWithStor
       (subst (λ z. AreKept (StmtAssigns (add e p s.name)) (λ a. IsAdmitted a k) k.store z) (sym is.stored) (set_kept (StmtAssigns (add e p s.name)) (λ a. IsAdmitted a k) s k.store i lt at (λ free. kept_slot)))
       (ap (map slot_name) is.stored ∙ set_names s k.store i at)
       (λ o h. subst (λ z. All (λ (r : SlotD). AdmitsTerm o r.term) z) (sym is.stored) (set_has (λ (r : SlotD). AdmitsTerm o r.term) s k.store i (operators o h) h.operators.store))
-      (λ w. subst (λ z. All (λ (r : SlotD). HasUsualWidths r.term) z) (sym is.stored) (set_has (λ (r : SlotD). HasUsualWidths r.term) s k.store i (widths w) w.store))
+      (λ w. subst (λ z. All (λ (r : SlotD). HasBoundedWidths r.term) z) (sym is.stored) (set_has (λ (r : SlotD). HasBoundedWidths r.term) s k.store i (widths w) w.store))

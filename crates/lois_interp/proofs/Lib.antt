@@ -6,7 +6,7 @@ pub mod EndsAreEnds
 pub mod Kept
 pub mod Compose
 pub mod Sequence
-pub mod Stands
+pub mod WellFormed
 pub mod Parted
 pub mod ForEnds
 pub mod ForRuns

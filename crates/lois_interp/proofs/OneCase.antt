@@ -8,7 +8,7 @@ use Rattle.lois_base.specs.Atom.{Atom}
 use Rattle.lois_answers.specs.ResultsData.{LineD, CaseD}
 use Rattle.lois_context.specs.Choices.{IsAdmitted}
 use Rattle.lois_context.specs.Counted.{admits, times}
-use Rattle.lois_context.specs.Merged.{held_by, AreDifferent}
+use Rattle.lois_context.specs.Merged.{contents_of, HaveDistinctContents}
 use Rattle.lois_context.specs.Slots.{SlotD}
 use Rattle.lois_context.specs.declared.contexts.Context.{Context}
 use Rattle.lois_context.proofs.Counts.{admits_yes, admits_is, admits_like, times_cons}
@@ -127,25 +127,25 @@ module _ (c : List Atom) (n : ℕ) (count : length c ≡ n) where
           }
 
 -- ---- contexts that are different
-at_held : (ms : List Context) (i : ℕ) (m : Context) (d : ℕ × List SlotD × List LineD) → i < length ms → get_or ms i m ≡ m → get_or (map held_by ms) i d ≡ held_by m
-at_held ms i m d l is = get_or-map held_by ms i m d l ∙ ap held_by is
+at_held : (ms : List Context) (i : ℕ) (m : Context) (d : ℕ × List SlotD × List LineD) → i < length ms → get_or ms i m ≡ m → get_or (map contents_of ms) i d ≡ contents_of m
+at_held ms i m d l is = get_or-map contents_of ms i m d l ∙ ap contents_of is
 
 -- of different contexts none holds what another holds
-pub same_held : (ms : List Context) → AreDifferent ms → (x y : Context) → Contains ms x → Contains ms y → held_by x ≡ held_by y → x ≡ y
+pub same_held : (ms : List Context) → HaveDistinctContents ms → (x y : Context) → Contains ms x → Contains ms y → contents_of x ≡ contents_of y → x ≡ y
 same_held ms apart x y (i, li, isx) (j, lj, isy) e = go (cases_lt i j) (cases_lt j i)
   where
-    long : length (map held_by ms) ≡ length ms
-    long = length-map ms held_by
+    long : length (map contents_of ms) ≡ length ms
+    long = length-map ms contents_of
 
     go : (i < j) ⊎ (j ≤ i) → (j < i) ⊎ (i ≤ j) → x ≡ y
-    go (inl l) w = absurd (apart i j (held_by x) l (omega (arith, long, lj)) (at_held ms i x (held_by x) li isx ∙ (e ∙ sym (at_held ms j y (held_by x) lj isy))))
-    go (inr w) (inl l) = absurd (apart j i (held_by x) l (omega (arith, long, li)) (at_held ms j y (held_by x) lj isy ∙ (sym e ∙ sym (at_held ms i x (held_by x) li isx))))
+    go (inl l) w = absurd (apart i j (contents_of x) l (omega (arith, long, lj)) (at_held ms i x (contents_of x) li isx ∙ (e ∙ sym (at_held ms j y (contents_of x) lj isy))))
+    go (inr w) (inl l) = absurd (apart j i (contents_of x) l (omega (arith, long, li)) (at_held ms j y (contents_of x) lj isy ∙ (sym e ∙ sym (at_held ms i x (contents_of x) li isx))))
     go (inr v) (inr w) =
         let same : i ≡ j = omega (arith, v, w) in
         sym isx ∙ (ap (λ k. get_or ms k x) same ∙ (get_or_default ms j x y lj ∙ isy))
 
 -- one case's lines are another's only where their contexts hold the same
-lines_apart : (x y : Context) (e f : CaseD) → x.size ≡ y.size → x.store ≡ y.store → IsCaseOf x e → IsCaseOf y f → lines_of e ≡ lines_of f → held_by x ≡ held_by y
+lines_apart : (x y : Context) (e f : CaseD) → x.size ≡ y.size → x.store ≡ y.store → IsCaseOf x e → IsCaseOf y f → lines_of e ≡ lines_of f → contents_of x ≡ contents_of y
 lines_apart x y e f size store a b same =
     ap (λ (z : ℕ). (z, x.store, x.lines)) size ∙ (ap (λ (z : List SlotD). (y.size, z, x.lines)) store ∙ ap (λ (z : List LineD). (y.size, y.store, z)) (sym a.lines ∙ (same ∙ b.lines)))
 
@@ -161,7 +161,7 @@ zip_long [] (x ∷ cs) h = absurd h
 zip_long (m ∷ ms) [] h = absurd h
 zip_long (m ∷ ms) (x ∷ cs) h = ap suc (zip_long ms cs h.1)
 
-pub cases_apart : (n : ℕ) (ms : List Context) (cs : List CaseD) → AllZip IsCaseOf ms cs → All (λ m. m.size ≡ n) ms → All (λ m. m.store ≡ []) ms → AreDifferent ms → AllPairs (λ x y. x ≡ y → ⊥) (map lines_of cs)
+pub cases_apart : (n : ℕ) (ms : List Context) (cs : List CaseD) → AllZip IsCaseOf ms cs → All (λ m. m.size ≡ n) ms → All (λ m. m.store ≡ []) ms → HaveDistinctContents ms → AllPairs (λ x y. x ≡ y → ⊥) (map lines_of cs)
 cases_apart n [] [] zips sizes stores apart = λ i j d l m. absurd (omega (arith, m))
 cases_apart n [] (x ∷ cs) zips sizes stores apart = absurd zips
 cases_apart n (m ∷ ms) [] zips sizes stores apart = absurd zips
@@ -170,7 +170,7 @@ cases_apart n (m ∷ ms) (x ∷ cs) zips sizes stores apart = λ i j d l lj same
     let every = x ∷ cs in
     let long : length (map lines_of every) ≡ length every = length-map every lines_of in
     let wide : length all ≡ length every = zip_long all every zips in
-    let counted : length (map held_by all) ≡ length all = length-map all held_by in
+    let counted : length (map contents_of all) ≡ length all = length-map all contents_of in
     let in_j : j < length every = omega (arith, long, lj) in
     let in_i : i < length every = omega (arith, l, in_j) in
     let of_j : j < length all = omega (arith, wide, in_j) in
@@ -178,5 +178,5 @@ cases_apart n (m ∷ ms) (x ∷ cs) zips sizes stores apart = λ i j d l lj same
     let p = get_or all i m in
     let q = get_or all j m in
     let alike : lines_of (get_or every i x) ≡ lines_of (get_or every j x) = sym (get_or-map lines_of every i x d in_i) ∙ (same ∙ get_or-map lines_of every j x d in_j) in
-    let held : held_by p ≡ held_by q = lines_apart p q (get_or every i x) (get_or every j x) (sizes i m of_i ∙ sym (sizes j m of_j)) (stores i m of_i ∙ sym (stores j m of_j)) (zip_at all every i m x zips of_i) (zip_at all every j m x zips of_j) alike in
-    apart i j (held_by m) l (omega (arith, counted, of_j)) (get_or-map held_by all i m (held_by m) of_i ∙ (held ∙ sym (get_or-map held_by all j m (held_by m) of_j)))
+    let held : contents_of p ≡ contents_of q = lines_apart p q (get_or every i x) (get_or every j x) (sizes i m of_i ∙ sym (sizes j m of_j)) (stores i m of_i ∙ sym (stores j m of_j)) (zip_at all every i m x zips of_i) (zip_at all every j m x zips of_j) alike in
+    apart i j (contents_of m) l (omega (arith, counted, of_j)) (get_or-map contents_of all i m (contents_of m) of_i ∙ (held ∙ sym (get_or-map contents_of all j m (contents_of m) of_j)))

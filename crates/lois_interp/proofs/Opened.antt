@@ -7,7 +7,7 @@ use Rattle.lois_base.specs.Atom.{Atom}
 use Rattle.lois_base.specs.Data.{var}
 use Rattle.lois_base.specs.Fits.{LitFits, CubeFits, ConstraintFits}
 use Rattle.lois_base.specs.Truth.{holds}
-use Rattle.lois_base.specs.Validity.{AdmitsLit, AdmitsCube, AdmitsTerm, HasUsualWidths}
+use Rattle.lois_base.specs.Validity.{AdmitsLit, AdmitsCube, AdmitsTerm, HasBoundedWidths}
 use Rattle.lois_script.specs.Limits.{Spells}
 use Rattle.lois_script.specs.Scope.{RuleD, again, fixed, ScopeD, declare, ParametersBreak, opening_scope, with_parameters, IsWellScoped}
 use Rattle.lois_base.proofs.Viewed.{one_more}
@@ -15,16 +15,16 @@ use Rattle.lois_script.specs.Tree.{ParamD, ScriptD}
 use Rattle.lois_script.specs.View.{param_tree}
 use Rattle.lois_script.specs.declared.script.Param.{Param}
 use Rattle.lois_meaning.specs.Store.{opening_from, opening}
-use Rattle.lois_context.specs.Choices.{IsAdmitted, AdmitsContext, ContextHasUsualWidths}
+use Rattle.lois_context.specs.Choices.{IsAdmitted, AdmitsContext, ContextHasBoundedWidths}
 use Rattle.lois_context.specs.Kept.{IsSlot, AreSlots}
 use Rattle.lois_context.specs.Slots.{SlotD, slot_name, store_at}
 use Rattle.lois_context.specs.declared.contexts.Context.{Context}
-use Rattle.lois_eval.specs.Standing.{IsUnnamed, IsPlaced}
+use Rattle.lois_eval.specs.WellFormed.{IsUnnamed, IsWellFormedIn}
 use Rattle.lois_interp.specs.Interpreted.{parameter_name}
 use Rattle.lois_interp.specs.Opened.{always, opening_slots, IsOpening}
-use Rattle.lois_interp.specs.Standing.{declared_name, BlockMayStand}
+use Rattle.lois_interp.specs.WellScoped.{declared_name, BlockIsWellScoped}
 use Rattle.lois_interp.proofs.Spelled.{spelled_formed}
-use Rattle.lois_interp.proofs.Stands.{unnamed_in}
+use Rattle.lois_interp.proofs.WellFormed.{unnamed_in}
 
 -- ---- slots
 pub slots_more : (ps : List ParamD) (p : ParamD) (i : ℕ) → opening_slots (ps ++ p ∷ []) i ≡ opening_slots ps i ++ record { name = p.name; term = var (i + length ps); from = 0 } ∷ []
@@ -60,9 +60,9 @@ slots_admit : (ordered : Bool) (ps : List ParamD) (i : ℕ) → All (λ s. Admit
 slots_admit ordered [] i = All-nil (λ s. AdmitsTerm ordered s.term)
 slots_admit ordered (p ∷ ps) i = All-cons (λ s. AdmitsTerm ordered s.term) _ (opening_slots ps (i + 1)) tt (slots_admit ordered ps (i + 1))
 
-slots_wide : (ps : List ParamD) (i : ℕ) → All (λ s. HasUsualWidths s.term) (opening_slots ps i)
-slots_wide [] i = All-nil (λ s. HasUsualWidths s.term)
-slots_wide (p ∷ ps) i = All-cons (λ s. HasUsualWidths s.term) _ (opening_slots ps (i + 1)) tt (slots_wide ps (i + 1))
+slots_wide : (ps : List ParamD) (i : ℕ) → All (λ s. HasBoundedWidths s.term) (opening_slots ps i)
+slots_wide [] i = All-nil (λ s. HasBoundedWidths s.term)
+slots_wide (p ∷ ps) i = All-cons (λ s. HasBoundedWidths s.term) _ (opening_slots ps (i + 1)) tt (slots_wide ps (i + 1))
 
 slots_at : (c : List Atom) (ps : List ParamD) (i : ℕ) → store_at c (opening_slots ps i) ≡ opening_from ps c i
 slots_at c [] i = refl
@@ -130,13 +130,13 @@ module _ (ps : List ParamD) (k : Context) (o : IsOpening ps k) where
     lines = subst (All (λ l. AdmitsTerm ordered l.term)) (sym o.lines) (All-nil (λ l. AdmitsTerm ordered l.term));
   }
 
-  pub opening_widths : ContextHasUsualWidths k
+  pub opening_widths : ContextHasBoundedWidths k
   opening_widths = record {
-    store = subst (All (λ s. HasUsualWidths s.term)) (sym o.store) (slots_wide ps 0);
-    lines = subst (All (λ l. HasUsualWidths l.term)) (sym o.lines) (All-nil (λ l. HasUsualWidths l.term));
+    store = subst (All (λ s. HasBoundedWidths s.term)) (sym o.store) (slots_wide ps 0);
+    lines = subst (All (λ l. HasBoundedWidths l.term)) (sym o.lines) (All-nil (λ l. HasBoundedWidths l.term));
   }
 
-pub body_placed : (s : ScriptD) (text : List ℕ) (k : Context) → Spells text s → IsWellScoped s → IsOpening s.parameters k → (ordered : Bool) → s.ordered ≡ ordered → IsPlaced (BlockMayStand s.body) ordered k
+pub body_placed : (s : ScriptD) (text : List ℕ) (k : Context) → Spells text s → IsWellScoped s → IsOpening s.parameters k → (ordered : Bool) → s.ordered ≡ ordered → IsWellFormedIn (BlockIsWellScoped s.body) ordered k
 body_placed s text k spelled scoped o ordered is = record {
   names = record {
     scope = with_parameters s.parameters (opening_scope s.ordered);

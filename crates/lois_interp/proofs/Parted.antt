@@ -12,26 +12,26 @@ use Rattle.lois_context.specs.Choices.{IsAdmitted}
 use Rattle.lois_context.specs.Slots.{slot_name, store_at, lines_at}
 use Rattle.lois_context.specs.declared.contexts.Context.{Context}
 use Rattle.lois_simplify.proofs.Members.{contains_none}
-use Rattle.lois_eval.specs.Standing.{names_of, IsPlaced, CondStands}
+use Rattle.lois_eval.specs.WellFormed.{names_of, IsWellFormedIn, CondIsWellFormed}
 use Rattle.lois_interp.specs.Decided.{listed, IsTrueSide}
 use Rattle.lois_interp.specs.Failed.{FailsWithin}
 use Rattle.lois_interp.specs.Reached.{IsReachedAt}
 use Rattle.lois_interp.specs.Run.{Run}
 use Rattle.lois_interp.specs.Slots.{AreKept}
-use Rattle.lois_interp.specs.Standing.{BlockMayStand, CondMayStand, TurnMayStand}
+use Rattle.lois_interp.specs.WellScoped.{BlockIsWellScoped, CondIsWellScoped, TurnIsWellScoped}
 use Rattle.lois_interp.proofs.Compose.{kept_trans, elements_from}
 use Rattle.lois_interp.proofs.Lists.{only_one}
 use Rattle.lois_interp.proofs.Sequence.{kept_refl}
-use Rattle.lois_interp.proofs.Stands.{cond_may}
+use Rattle.lois_interp.proofs.WellFormed.{cond_may}
 
 -- ---- a condition and a block in one scope
-pub turn_cond : (c : CondD) (body : StmtsD) (o : Bool) (names : List (List ℕ)) → TurnMayStand c body o names → CondMayStand c o names
+pub turn_cond : (c : CondD) (body : StmtsD) (o : Bool) (names : List (List ℕ)) → TurnIsWellScoped c body o names → CondIsWellScoped c o names
 turn_cond c body o names h = record { scope = h.scope; named = h.named; order = h.order; unbroken = λ rule at bad. h.unbroken rule at (inl bad); form = h.form.0 }
 
-pub turn_block : (c : CondD) (body : StmtsD) (o : Bool) (names : List (List ℕ)) → TurnMayStand c body o names → BlockMayStand body o names
+pub turn_block : (c : CondD) (body : StmtsD) (o : Bool) (names : List (List ℕ)) → TurnIsWellScoped c body o names → BlockIsWellScoped body o names
 turn_block c body o names h = record { scope = h.scope; named = h.named; order = h.order; unbroken = λ rule at bad. h.unbroken rule at (inr bad); form = h.form.1 }
 
-pub cond_placed : (c : CondD) (stands : Bool → List (List ℕ) → Type 0) (o : Bool) (k : Context) → (stands o (names_of k.store) → CondMayStand c o (names_of k.store)) → IsPlaced stands o k → IsPlaced (CondStands c) o k
+pub cond_placed : (c : CondD) (stands : Bool → List (List ℕ) → Type 0) (o : Bool) (k : Context) → (stands o (names_of k.store) → CondIsWellScoped c o (names_of k.store)) → IsWellFormedIn stands o k → IsWellFormedIn (CondIsWellFormed c) o k
 cond_placed c stands o k to h = record { names = cond_may c o (names_of k.store) (to h.names); operators = h.operators }
 
 module _ (c : CondD) (b : Bool) (k : Context) where
@@ -41,7 +41,7 @@ module _ (c : CondD) (b : Bool) (k : Context) where
 
   -- what stands at the context, with the condition, stands at the side
   pub side_placed : (outer inner : Bool → List (List ℕ) → Type 0) (o : Bool) (y : Context) → IsTrueSide c b k y →
-      ((names : List (List ℕ)) → outer o names → CondMayStand c o names) → ((names : List (List ℕ)) → outer o names → inner o names) → IsPlaced outer o k → IsPlaced inner o y
+      ((names : List (List ℕ)) → outer o names → CondIsWellScoped c o names) → ((names : List (List ℕ)) → outer o names → inner o names) → IsWellFormedIn outer o k → IsWellFormedIn inner o y
   side_placed outer inner o y side conds to h = record {
     names = subst (λ z. inner o (names_of z)) (sym side.like.store) (to (names_of k.store) h.names);
     operators = side.operators o (cond_placed c outer o k (conds (names_of k.store)) h);
@@ -69,7 +69,7 @@ module _ (c : CondD) (b : Bool) (k : Context) where
   -- a failure on a side is one from the context
   pub side_fails : (one both : Run) (y : Context) (f : Fault) → IsTrueSide c b k y →
       ((s : NamedValues) (at : ℕ) (kind : FaultKind) (path : NamedValues) → HasTruth c s b → one.fails s at kind path → both.fails s at kind path) →
-      ((o : Bool) → IsPlaced both.stands o k → IsPlaced one.stands o y) → FailsWithin one y f → FailsWithin both k f
+      ((o : Bool) → IsWellFormedIn both.stands o k → IsWellFormedIn one.stands o y) → FailsWithin one y f → FailsWithin both k f
   side_fails one both y f side leads placed h =
       let a = sampled (take y.size f.sample.items) in
       let e : y.size ≡ k.size = side.like.size in

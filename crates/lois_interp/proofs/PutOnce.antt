@@ -6,7 +6,7 @@ use Rattle.std.proofs.lemmas.List.Elements.{All-cons, All-nil, Contains-append_l
 use Rattle.lois_base.specs.Atom.{Atom}
 use Rattle.lois_base.specs.Data.{TermD, coll, CompD, CompsD, comps_of}
 use Rattle.lois_base.specs.Fits.{LitFits, CubeFits, CompFits, Fits, ItemsFit}
-use Rattle.lois_base.specs.Validity.{AdmitsLit, AdmitsCube, AdmitsTerm, AdmitsItems, HasUsualWidths, ItemsHaveUsualWidths}
+use Rattle.lois_base.specs.Validity.{AdmitsLit, AdmitsCube, AdmitsTerm, AdmitsItems, HasBoundedWidths, ItemsHaveBoundedWidths}
 use Rattle.lois_base.specs.Values.{PointValue, point, IsIn, IsSame, IsIncluded}
 use Rattle.lois_base.specs.declared.guards.Lit.{Lit}
 use Rattle.lois_base.proofs.Members.{same_sym, same_in, same_included, included_trans}
@@ -64,8 +64,8 @@ module _ (t item r : TermD) (ks : CompsD) (set : t ≡ coll ks) (more : IsWithIt
   pub with_admits : (o : Bool) → AdmitsTerm o t → AdmitsTerm o item → AdmitsTerm o r
   with_admits o before new = (kept [] 0).operators o (admits_items-append o (items_listed ks) (bare item ∷ []) (subst (AdmitsTerm o) was before) ((All-cons (AdmitsCube o) [] [] (All-nil (AdmitsLit o)) (All-nil (AdmitsCube o)), new), tt))
 
-  pub with_widths : HasUsualWidths t → HasUsualWidths item → HasUsualWidths r
-  with_widths before new = (kept [] 0).widths (widths-append (items_listed ks) (bare item ∷ []) (subst HasUsualWidths was before) (new, tt))
+  pub with_widths : HasBoundedWidths t → HasBoundedWidths item → HasBoundedWidths r
+  with_widths before new = (kept [] 0).widths (widths-append (items_listed ks) (bare item ∷ []) (subst HasBoundedWidths was before) (new, tt))
 
   pub with_count : comps_in t ≤ comps_in r
   with_count =

@@ -8,7 +8,7 @@ use Rattle.lois_base.specs.Data.{depth}
 use Rattle.lois_base.specs.Fits.{Fits, ConstraintFits}
 use Rattle.lois_base.specs.Normal.{IsNormal}
 use Rattle.lois_base.specs.Truth.{holds, sampled}
-use Rattle.lois_base.specs.Validity.{AdmitsConstraint, AdmitsTerm, HasUsualWidths}
+use Rattle.lois_base.specs.Validity.{AdmitsConstraint, AdmitsTerm, HasBoundedWidths}
 use Rattle.lois_base.specs.Values.{point}
 use Rattle.lois_base.specs.declared.guards.Lit.{Lit}
 use Rattle.lois_base.proofs.Members.{same_sym}
@@ -23,20 +23,20 @@ use Rattle.lois_meaning.specs.Runs.{ListEnds, ListFails}
 use Rattle.lois_meaning.specs.Store.{NamedValues, AreSameNamed, IsShallow, opening_from, opening}
 use Rattle.lois_meaning.specs.declared.faults.Fault.{Fault}
 use Rattle.lois_simplify.specs.Lean.{HasNormalGuards}
-use Rattle.lois_context.specs.Choices.{IsAdmitted, AdmitsContext, ContextHasUsualWidths}
+use Rattle.lois_context.specs.Choices.{IsAdmitted, AdmitsContext, ContextHasBoundedWidths}
 use Rattle.lois_context.specs.Counted.{times}
-use Rattle.lois_context.specs.Merged.{AreApart, IsLike, IsLikeOneOf, AreMerged}
+use Rattle.lois_context.specs.Merged.{AreDisjoint, HasSameContents, HasSameContentsAsOne, AreMerged}
 use Rattle.lois_context.specs.Kept.{LinesFit}
 use Rattle.lois_context.specs.Slots.{SlotD, lines_at}
 use Rattle.lois_context.specs.declared.contexts.Context.{Context}
-use Rattle.lois_eval.specs.Standing.{IsPlaced}
+use Rattle.lois_eval.specs.WellFormed.{IsWellFormedIn}
 use Rattle.lois_interp.specs.Failed.{FailsWithin}
 use Rattle.lois_interp.specs.Interpreted.{parameter_name, lines_of, IsChoiceOf, PrintsAt, IsRightAt, HoldsSomewhere, IsNormalLine, IsNormalCase, AreResultsOf, IsFailureOf}
 use Rattle.lois_interp.specs.Opened.{IsOpening}
 use Rattle.lois_interp.specs.Printed.{IsPrintedLine, IsPrinted, IsCaseOf}
 use Rattle.lois_interp.specs.Reached.{IsReachedAt, RunsAs}
 use Rattle.lois_interp.specs.Run.{block_run}
-use Rattle.lois_interp.specs.Standing.{BlockMayStand}
+use Rattle.lois_interp.specs.WellScoped.{BlockIsWellScoped}
 use Rattle.lois_interp.proofs.Compose.{one_apart}
 use Rattle.lois_interp.proofs.OneCase.{zip_from, times_printed, one_admits, Picked, pick, same_held, cases_apart}
 use Rattle.lois_interp.proofs.FreeNames.{AreFree, script_free, are_parameters}
@@ -132,7 +132,7 @@ module _ (text : List ℕ) (s : ScriptD) (spelled : Spells text s) (scoped : IsW
       pub guards_there : (l : LineD) → Contains d.lines l → HasNormalGuards l.term
       guards_there l inside = (zip_from (IsPrintedLine e.size e.«when») e.lines d.lines p.lines l inside).2.guards
 
-      module _ (admits : AdmitsContext s.ordered e) (wide : ContextHasUsualWidths e) where
+      module _ (admits : AdmitsContext s.ordered e) (wide : ContextHasBoundedWidths e) where
         pub line_sound : (l : LineD) → Contains d.lines l → IsSoundLine s.ordered n l
         line_sound l inside =
             let from = zip_from (IsPrintedLine e.size e.«when») e.lines d.lines p.lines l inside in
@@ -141,7 +141,7 @@ module _ (text : List ℕ) (s : ScriptD) (spelled : Spells text s) (scoped : IsW
               term = record {
                 levels = subst (λ k. Fits k l.term) (end_size e there) from.2.levels;
                 tags = from.2.tags;
-                widths = from.2.widths (All-contains (λ l. HasUsualWidths l.term) e.lines from.0 wide.lines from.1);
+                widths = from.2.widths (All-contains (λ l. HasBoundedWidths l.term) e.lines from.0 wide.lines from.1);
                 operators = from.2.operators s.ordered (All-contains (λ l. AdmitsTerm s.ordered l.term) e.lines from.0 admits.lines from.1);
                 brackets = brackets_there l inside (normal_there l inside);
               };
@@ -159,11 +159,11 @@ module _ (text : List ℕ) (s : ScriptD) (spelled : Spells text s) (scoped : IsW
       printed_from : (d : Context) → Contains printed d → (e : Context) × Contains ends e × IsPrinted e d
       printed_from d there = zip_from IsPrinted ends printed prints d there
 
-      merged_from : (m : Context) → Contains merged m → (c : List Atom) → IsAdmitted c m → (d : Context) × Contains printed d × IsAdmitted c d × IsLike d m
-      merged_from m there c adm = All-contains (λ m. (c : List Atom) → IsAdmitted c m → IsLikeOneOf printed c m) merged m merges.like there c adm
+      merged_from : (m : Context) → Contains merged m → (c : List Atom) → IsAdmitted c m → (d : Context) × Contains printed d × IsAdmitted c d × HasSameContents d m
+      merged_from m there c adm = All-contains (λ m. (c : List Atom) → IsAdmitted c m → HasSameContentsAsOne printed c m) merged m merges.like there c adm
 
       -- the printed context that the sample of a merged one is from
-      home : (m : Context) → Contains merged m → (d : Context) × Contains printed d × IsAdmitted (sampled m.sample) d × IsLike d m
+      home : (m : Context) → Contains merged m → (d : Context) × Contains printed d × IsAdmitted (sampled m.sample) d × HasSameContents d m
       home m there = merged_from m there (sampled m.sample) (own_sample m)
 
       merged_size : (m : Context) → Contains merged m → m.size ≡ n
@@ -178,7 +178,7 @@ module _ (text : List ℕ) (s : ScriptD) (spelled : Spells text s) (scoped : IsW
           let e = printed_from d.0 d.1 in
           ap (λ (z : ℕ × List SlotD × List LineD). z.1) d.3 ∙ e.2.store
 
-      like_lines : (d m : Context) → IsLike d m → m.lines ≡ d.lines
+      like_lines : (d m : Context) → HasSameContents d m → m.lines ≡ d.lines
       like_lines d m like = ap (λ (z : ℕ × List SlotD × List LineD). z.2) like
 
       prints_merged : (m : Context) → Contains merged m → (c : List Atom) → IsAdmitted c m → PrintsAt s c m.lines
@@ -192,29 +192,29 @@ module _ (text : List ℕ) (s : ScriptD) (spelled : Spells text s) (scoped : IsW
           let ended : times c ends ≡ 1 = runs.choices c ∙ one_admits c o (opening_admits s.parameters o opened c count) in
           merges.choices apart c ∙ (times_printed c ends printed prints ∙ ended)
         where
-          apart : AreApart printed
+          apart : AreDisjoint printed
           apart b =
               let all : times b printed ≡ times b (o ∷ []) = times_printed b ends printed prints ∙ runs.choices b in
               omega (arith, all, one_apart o b)
 
       ends_admit : All (AdmitsContext s.ordered) ends
-      ends_admit = runs.operators s.ordered (all_one (IsPlaced (BlockMayStand s.body) s.ordered) o (body_placed s text o spelled scoped opened s.ordered refl))
+      ends_admit = runs.operators s.ordered (all_one (IsWellFormedIn (BlockIsWellScoped s.body) s.ordered) o (body_placed s text o spelled scoped opened s.ordered refl))
 
-      ends_wide : All ContextHasUsualWidths ends
-      ends_wide = runs.widths (all_one ContextHasUsualWidths o (opening_widths s.parameters o opened))
+      ends_wide : All ContextHasBoundedWidths ends
+      ends_wide = runs.widths (all_one ContextHasBoundedWidths o (opening_widths s.parameters o opened))
 
       sound_printed : (d : Context) → Contains printed d → (l : LineD) → Contains d.lines l → IsSoundLine s.ordered n l
       sound_printed d there =
           let e = printed_from d there in
-          line_sound e.0 d e.1 e.2 (All-contains (AdmitsContext s.ordered) ends e.0 ends_admit e.1) (All-contains ContextHasUsualWidths ends e.0 ends_wide e.1)
+          line_sound e.0 d e.1 e.2 (All-contains (AdmitsContext s.ordered) ends e.0 ends_admit e.1) (All-contains ContextHasBoundedWidths ends e.0 ends_wide e.1)
 
       all_printed_admit : All (AdmitsContext s.ordered) printed
       all_printed_admit = all_that_are (AdmitsContext s.ordered) printed (λ d there.
           let e = printed_from d there in
-          printed_admits e.0 d e.1 e.2 (All-contains (AdmitsContext s.ordered) ends e.0 ends_admit e.1) (All-contains ContextHasUsualWidths ends e.0 ends_wide e.1))
+          printed_admits e.0 d e.1 e.2 (All-contains (AdmitsContext s.ordered) ends e.0 ends_admit e.1) (All-contains ContextHasBoundedWidths ends e.0 ends_wide e.1))
 
       -- where a printed context admits a choice, the merged one that holds the same does too
-      weaker_merged : (d m : Context) → Contains printed d → Contains merged m → IsLike d m → (u : List (List Lit)) → ConstraintFits n u → ((c : List Atom) → holds c u ≡ holds c m.«when») → IsWeaker n d.«when» u
+      weaker_merged : (d m : Context) → Contains printed d → Contains merged m → HasSameContents d m → (u : List (List Lit)) → ConstraintFits n u → ((c : List Atom) → holds c u ≡ holds c m.«when») → IsWeaker n d.«when» u
       weaker_merged d m there among like u fits truth =
           let e = printed_from d there in
           let size : d.size ≡ n = e.2.size ∙ end_size e.0 e.1 in
@@ -222,7 +222,7 @@ module _ (text : List ℕ) (s : ScriptD) (spelled : Spells text s) (scoped : IsW
             fits = subst (λ k. ConstraintFits k d.«when») size d.levels;
             weaker_fits = fits;
             implied = λ c count met.
-                let kept = All-contains (λ k. (c : List Atom) → IsAdmitted c k → IsLikeOneOf merged c k) printed d merges.kept there c (count ∙ sym size, met) in
+                let kept = All-contains (λ k. (c : List Atom) → IsAdmitted c k → HasSameContentsAsOne merged c k) printed d merges.kept there c (count ∙ sym size, met) in
                 let same : kept.0 ≡ m = same_held merged merges.different kept.0 m kept.1 among (sym kept.3 ∙ sym like) in
                 truth c ∙ subst (λ k. IsTrue (holds c k.«when»)) same kept.2.1;
           }

@@ -6,7 +6,7 @@ use Rattle.std.proofs.lemmas.List.Elements.{Contains-append_left, Contains-appen
 use Rattle.lois_base.specs.Atom.{Atom}
 use Rattle.lois_base.specs.Data.{TermD, var, tag, tup, coll}
 use Rattle.lois_base.specs.Truth.{holds}
-use Rattle.lois_base.specs.Validity.{AdmitsConstraint, AdmitsTerm, HasUsualWidths}
+use Rattle.lois_base.specs.Validity.{AdmitsConstraint, AdmitsTerm, HasBoundedWidths}
 use Rattle.lois_base.specs.Values.{point}
 use Rattle.lois_base.proofs.Members.{included_refl}
 use Rattle.lois_base.proofs.Validity.{all_that_are}
@@ -21,7 +21,7 @@ use Rattle.lois_meaning.specs.declared.faults.Fault.{Fault}
 use Rattle.lois_meaning.proofs.Ends.{stmt_from}
 use Rattle.lois_meaning.proofs.Runs.{stmt_fails_move}
 use Rattle.lois_meaning.proofs.Stores.{named_refl}
-use Rattle.lois_context.specs.Choices.{IsAdmitted, AdmitsContext, ContextHasUsualWidths}
+use Rattle.lois_context.specs.Choices.{IsAdmitted, AdmitsContext, ContextHasBoundedWidths}
 use Rattle.lois_context.specs.Counted.{times}
 use Rattle.lois_context.specs.Slots.{SlotD, slot_name, slot_at, store_at, lines_at}
 use Rattle.lois_context.specs.declared.contexts.Context.{Context}
@@ -29,15 +29,15 @@ use Rattle.lois_context.proofs.Counts.{times_cons, admits_like}
 use Rattle.lois_context.specs.Counted.{admits}
 use Rattle.lois_context.proofs.Later.{first_or_later}
 use Rattle.lois_simplify.proofs.Members.{contains_none}
-use Rattle.lois_eval.specs.Standing.{names_of, IsPlaced}
+use Rattle.lois_eval.specs.WellFormed.{names_of, IsWellFormedIn}
 use Rattle.lois_interp.specs.Assigned.{StmtAssigns, ListAssigns}
 use Rattle.lois_interp.specs.Failed.{FailsWithin, FailsFrom}
-use Rattle.lois_interp.specs.Formed.{StmtIsFormed, StmtsAreFormed}
+use Rattle.lois_interp.specs.WithinLimits.{StmtIsWithinLimits, StmtsAreWithinLimits}
 use Rattle.lois_interp.specs.Merged.{IsCut, AreCut}
 use Rattle.lois_interp.specs.Reached.{IsReachedAt, RunsFrom, RunsAs}
 use Rattle.lois_interp.specs.Run.{Run, names_behind, names_behind_all, stmt_run, list_run, block_run}
 use Rattle.lois_interp.specs.Slots.{IsKeptTerm, AreKept}
-use Rattle.lois_interp.specs.Standing.{declared_name, StmtMayStand, BlockMayStand}
+use Rattle.lois_interp.specs.WellScoped.{declared_name, StmtIsWellScoped, BlockIsWellScoped}
 use Rattle.lois_interp.proofs.Compose.{from_both, fails_later}
 use Rattle.lois_interp.proofs.Kept.{as_named}
 use Rattle.lois_interp.proofs.Lists.{only_one, all_one, of_one}
@@ -106,7 +106,7 @@ unfolding scope_behind_all
 breaks_at [] a rest s rule at h = inl h
 breaks_at (b ∷ done) a rest s rule at h = inr (breaks_at done a rest (scope_behind b s) rule at h)
 
-form_at : (done : List StmtD) (a : StmtD) (rest : List StmtD) → StmtsAreFormed (stmts_of (done ++ a ∷ rest)) → StmtIsFormed a
+form_at : (done : List StmtD) (a : StmtD) (rest : List StmtD) → StmtsAreWithinLimits (stmts_of (done ++ a ∷ rest)) → StmtIsWithinLimits a
 form_at [] a rest h = h.0
 form_at (b ∷ done) a rest h = form_at done a rest h.1
 
@@ -115,11 +115,11 @@ breaks_first [] rest s rule at h = absurd h
 breaks_first (b ∷ done) rest s rule at (inl h) = inl h
 breaks_first (b ∷ done) rest s rule at (inr h) = inr (breaks_first done rest (scope_behind b s) rule at h)
 
-form_first : (done rest : List StmtD) → StmtsAreFormed (stmts_of (done ++ rest)) → StmtsAreFormed (stmts_of done)
+form_first : (done rest : List StmtD) → StmtsAreWithinLimits (stmts_of (done ++ rest)) → StmtsAreWithinLimits (stmts_of done)
 form_first [] rest h = tt
 form_first (b ∷ done) rest h = (h.0, form_first done rest h.1)
 
-first_stands : (done rest : List StmtD) (o : Bool) (names : List (List ℕ)) → BlockMayStand (stmts_of (done ++ rest)) o names → BlockMayStand (stmts_of done) o names
+first_stands : (done rest : List StmtD) (o : Bool) (names : List (List ℕ)) → BlockIsWellScoped (stmts_of (done ++ rest)) o names → BlockIsWellScoped (stmts_of done) o names
 first_stands done rest o names h = record {
   scope = h.scope;
   named = h.named;
@@ -129,7 +129,7 @@ first_stands done rest o names h = record {
 }
 
 -- a statement stands behind those before it
-pub stands_at : (done : List StmtD) (a : StmtD) (rest : List StmtD) (o : Bool) (names : List (List ℕ)) → BlockMayStand (stmts_of (done ++ a ∷ rest)) o names → StmtMayStand a o (names_behind_all done names)
+pub stands_at : (done : List StmtD) (a : StmtD) (rest : List StmtD) (o : Bool) (names : List (List ℕ)) → BlockIsWellScoped (stmts_of (done ++ a ∷ rest)) o names → StmtIsWellScoped a o (names_behind_all done names)
 stands_at done a rest o names h = record {
   scope = scope_behind_all done h.scope;
   named = names_all done h.scope ∙ ap (names_behind_all done) h.named;
@@ -145,19 +145,19 @@ list_more done a ks ds es h k =
 
 module _ (done : List StmtD) (a : StmtD) (rest : List StmtD) (k : Context) (ds : List Context) (runs : RunsAs (list_run done) k ds) where
   -- where the block is placed, what its first statements come to is placed for the next one
-  pub may_at : (o : Bool) → IsPlaced (BlockMayStand (stmts_of (done ++ a ∷ rest))) o k → All (IsPlaced (StmtMayStand a) o) ds
+  pub may_at : (o : Bool) → IsWellFormedIn (BlockIsWellScoped (stmts_of (done ++ a ∷ rest))) o k → All (IsWellFormedIn (StmtIsWellScoped a) o) ds
   may_at o placed =
-      let admit = runs.operators o (all_one (IsPlaced (BlockMayStand (stmts_of done)) o) k (record { names = first_stands done (a ∷ rest) o (names_of k.store) placed.names; operators = placed.operators })) in
-      all_that_are (IsPlaced (StmtMayStand a) o) ds (λ d there. record {
-        names = subst (StmtMayStand a o) (sym (as_named (list_run done) k ds runs d there)) (stands_at done a rest o (names_of k.store) placed.names);
+      let admit = runs.operators o (all_one (IsWellFormedIn (BlockIsWellScoped (stmts_of done)) o) k (record { names = first_stands done (a ∷ rest) o (names_of k.store) placed.names; operators = placed.operators })) in
+      all_that_are (IsWellFormedIn (StmtIsWellScoped a) o) ds (λ d there. record {
+        names = subst (StmtIsWellScoped a o) (sym (as_named (list_run done) k ds runs d there)) (stands_at done a rest o (names_of k.store) placed.names);
         operators = All-contains (AdmitsContext o) ds d admit there;
       })
 
   pub list_fails_at : (f : Fault) → FailsFrom (stmt_run a) ds f → FailsWithin (block_run (stmts_of (done ++ a ∷ rest))) k f
   list_fails_at f (d, there, bad) =
       fails_later (list_run done) (stmt_run a) (block_run (stmts_of (done ++ a ∷ rest))) k d f (fails_snoc done a rest)
-      (λ o placed. All-contains (IsPlaced (StmtMayStand a) o) ds d (may_at o placed) there)
-      (λ w. All-contains ContextHasUsualWidths ds d (runs.widths (all_one ContextHasUsualWidths k w)) there)
+      (λ o placed. All-contains (IsWellFormedIn (StmtIsWellScoped a) o) ds d (may_at o placed) there)
+      (λ w. All-contains ContextHasBoundedWidths ds d (runs.widths (all_one ContextHasBoundedWidths k w)) there)
       (runs.reached d there) bad
 
 -- ---- before the first statement
@@ -189,7 +189,7 @@ stays run k ends behind = record {
     Contains-push [] k,
     subst (λ z. IsReachedAt run k z c) (only_one k q there) (stays_at run k ends behind c (subst (λ z. IsAdmitted c z) (sym (only_one k q there)) adm)),
   );
-  operators = λ o h. all_one (AdmitsContext o) k (of_one (IsPlaced run.stands o) k h).operators;
+  operators = λ o h. all_one (AdmitsContext o) k (of_one (IsWellFormedIn run.stands o) k h).operators;
   widths = λ h. h;
 }
 
@@ -241,10 +241,10 @@ cut_admits o n k d cut own = record {
   lines = subst (λ z. All (λ (s : LineD). AdmitsTerm o s.term) z) (sym cut.lines) own.lines;
 }
 
-cut_widths : (n : ℕ) (k d : Context) → IsCut n k d → ContextHasUsualWidths k → ContextHasUsualWidths d
+cut_widths : (n : ℕ) (k d : Context) → IsCut n k d → ContextHasBoundedWidths k → ContextHasBoundedWidths d
 cut_widths n k d cut own = record {
-  store = subst (λ z. All (λ (s : SlotD). HasUsualWidths s.term) z) (sym cut.store) (all_front (λ (s : SlotD). HasUsualWidths s.term) n k.store own.store);
-  lines = subst (λ z. All (λ (s : LineD). HasUsualWidths s.term) z) (sym cut.lines) own.lines;
+  store = subst (λ z. All (λ (s : SlotD). HasBoundedWidths s.term) z) (sym cut.store) (all_front (λ (s : SlotD). HasBoundedWidths s.term) n k.store own.store);
+  lines = subst (λ z. All (λ (s : LineD). HasBoundedWidths s.term) z) (sym cut.lines) own.lines;
 }
 
 pub block_cut : (l : List StmtD) (k : Context) (n : ℕ) (ds cs : List Context) → n ≡ length k.store → RunsAs (list_run l) k ds → AreCut n ds cs → RunsAs (block_run (stmts_of l)) k cs
@@ -275,5 +275,5 @@ block_cut l k n ds cs e h cut = record {
         },
       );
   operators = λ o placed. cut_all_have (AdmitsContext o) (cut_admits o) n ds cs cut (h.operators o placed);
-  widths = λ w. cut_all_have ContextHasUsualWidths cut_widths n ds cs cut (h.widths w);
+  widths = λ w. cut_all_have ContextHasBoundedWidths cut_widths n ds cs cut (h.widths w);
 }

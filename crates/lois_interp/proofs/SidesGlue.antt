@@ -4,7 +4,7 @@ use Rattle.std.specs.Bool.{IsFalse}
 use Rattle.std.specs.List.{All}
 use Rattle.lois_base.specs.Atom.{Atom}
 use Rattle.lois_base.specs.Truth.{holds}
-use Rattle.lois_base.specs.Validity.{HasUsualWidths}
+use Rattle.lois_base.specs.Validity.{HasBoundedWidths}
 use Rattle.lois_base.specs.declared.guards.Lit.{Lit}
 use Rattle.lois_context.specs.Choices.{IsAdmitted, IsAdmittedBy, AdmitsContext}
 use Rattle.lois_context.specs.Sides.{IsSide}
@@ -12,7 +12,7 @@ use Rattle.lois_context.specs.Slots.{SlotD, store_at}
 use Rattle.lois_context.specs.declared.contexts.Context.{Context}
 use Rattle.lois_context.specs.declared.contexts.Split.{Split}
 use Rattle.lois_context.specs.Counted.{admits, times}
-use Rattle.lois_eval.specs.Standing.{IsPlaced, CondStands}
+use Rattle.lois_eval.specs.WellFormed.{IsWellFormedIn, CondIsWellFormed}
 use Rattle.lois_interp.specs.Decided.{listed, IsTrueSide, IsDecided}
 use Rattle.lois_context.proofs.Counts.{admits_yes, admits_is, times_append}
 use Rattle.lois_meaning.specs.Expressions.{HasTruth}
@@ -42,7 +42,7 @@ module _ (c : CondD) (k : Context) (g : List (List Lit)) where
   truth_at : (b : Bool) (x : List Atom) → HasTruth c (store_at x k.store) (holds x g) → holds x g ≡ b → HasTruth c (store_at x k.store) b
   truth_at b x h e = subst (λ z. HasTruth c (store_at x k.store) z) e h
 
-  side_true : (b : Bool) (test : List Atom → Bool) (o : Option Context) → IfSome o (IsSide k test) → ((x : List Atom) → IsAdmittedBy x o → IsAdmitted x k × HasTruth c (store_at x k.store) b) → ((o' : Bool) → IsPlaced (CondStands c) o' k → IfSome o (AdmitsContext o')) → IfSome o (IsTrueSide c b k)
+  side_true : (b : Bool) (test : List Atom → Bool) (o : Option Context) → IfSome o (IsSide k test) → ((x : List Atom) → IsAdmittedBy x o → IsAdmitted x k × HasTruth c (store_at x k.store) b) → ((o' : Bool) → IsWellFormedIn (CondIsWellFormed c) o' k → IfSome o (AdmitsContext o')) → IfSome o (IsTrueSide c b k)
   side_true b test None side choices operators = tt
   side_true b test (Some y) side choices operators = record {
     like = record { size = side.size; store = side.store; lines = side.lines };
@@ -50,8 +50,8 @@ module _ (c : CondD) (k : Context) (g : List (List Lit)) where
     truth = λ x adm. (choices x adm).1;
     operators = operators;
     widths = λ widths. record {
-      store = subst (λ z. All (λ (s : SlotD). HasUsualWidths s.term) z) (sym side.store) widths.store;
-      lines = subst (λ z. All (λ (l : LineD). HasUsualWidths l.term) z) (sym side.lines) widths.lines;
+      store = subst (λ z. All (λ (s : SlotD). HasBoundedWidths s.term) z) (sym side.store) widths.store;
+      lines = subst (λ z. All (λ (l : LineD). HasBoundedWidths l.term) z) (sym side.lines) widths.lines;
     };
   }
 
@@ -59,7 +59,7 @@ module _ (c : CondD) (k : Context) (g : List (List Lit)) where
       IfSome s.yes (IsSide k (λ x. holds x g)) → IfSome s.no (IsSide k (λ x. not (holds x g))) →
       ((x : List Atom) → IsAdmittedBy x s.yes ↔ (IsAdmitted x k × IsTrue (holds x g))) →
       ((x : List Atom) → IsAdmittedBy x s.no ↔ (IsAdmitted x k × IsFalse (holds x g))) →
-      ((o : Bool) → IsPlaced (CondStands c) o k → IfSome s.yes (AdmitsContext o)) → ((o : Bool) → IsPlaced (CondStands c) o k → IfSome s.no (AdmitsContext o)) → IsDecided c k s
+      ((o : Bool) → IsWellFormedIn (CondIsWellFormed c) o k → IfSome s.yes (AdmitsContext o)) → ((o : Bool) → IsWellFormedIn (CondIsWellFormed c) o k → IfSome s.no (AdmitsContext o)) → IsDecided c k s
   decided_sides s truth on_true on_false yes_choices no_choices yes_operators no_operators = record {
     decided = λ x adm. (holds x g, truth x adm);
     yes = side_true true (λ x. holds x g) s.yes on_true (λ x h. let p = (yes_choices x).0 h in (p.0, truth_at true x (truth x p.0) p.1)) yes_operators;

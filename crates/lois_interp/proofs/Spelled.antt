@@ -7,8 +7,8 @@ use Rattle.lois_script.specs.Tree.{ExprD, atoms, var, tag, tuple, listed, each, 
 use Rattle.lois_script.specs.declared.syntax.Operation.{Operation}
 use Rattle.lois_script.specs.declared.syntax.Operation.TheVariants.{Union, Inter, Minus, Flatten, Reach, Product, Complement, Minimise}
 use Rattle.lois_script.proofs.Printable.{EnclosedPrints, ExprPrints, ExprsPrint, BindingPrints, BindingsPrint, CondPrints, UnitsPrint, ConjunctionsPrint, StmtPrints, StmtsPrint, ScriptPrints, are_tokens, script_prints}
-use Rattle.lois_eval.specs.Standing.{count_of, arity}
-use Rattle.lois_interp.specs.Formed.{IsFormed, AreFormed, BindingIsFormed, BindingsAreFormed, CondIsFormed, CondsAreFormed, StmtIsFormed, StmtsAreFormed}
+use Rattle.lois_eval.specs.WellFormed.{count_of, arity}
+use Rattle.lois_interp.specs.WithinLimits.{IsWithinLimits, AreWithinLimits, BindingIsWithinLimits, BindingsAreWithinLimits, CondIsWithinLimits, CondsAreWithinLimits, StmtIsWithinLimits, StmtsAreWithinLimits}
 
 width_is : (es : ExprsD) → width es ≡ count_of es
 width_is no_exprs = refl
@@ -43,7 +43,7 @@ enclosed_formed true n P Q to h = to n h
 enclosed_formed false n P Q to h = to (suc n) h.1
 
 mutual
-  expr_formed : (e : ExprD) (n : ℕ) → ExprPrints e n → IsNarrow e → IsFormed e
+  expr_formed : (e : ExprD) (n : ℕ) → ExprPrints e n → IsNarrow e → IsWithinLimits e
   expr_formed (atoms p) n h narrow = tt
   expr_formed (var p x) n h narrow = tt
   expr_formed (tag p x) n h narrow = tt
@@ -53,18 +53,18 @@ mutual
   expr_formed (part p e i) n h narrow = expr_formed e (suc n) h.1 narrow
   expr_formed (apply p op es) n h narrow = (arity_is op es h.0, exprs_formed es (suc n) h.3 narrow)
 
-  exprs_formed : (es : ExprsD) (n : ℕ) → ExprsPrint es n → AreNarrow es → AreFormed es
+  exprs_formed : (es : ExprsD) (n : ℕ) → ExprsPrint es n → AreNarrow es → AreWithinLimits es
   exprs_formed no_exprs n h narrow = tt
   exprs_formed (expr e es) n h narrow = (expr_formed e n h.0 narrow.0, exprs_formed es n h.1 narrow.1)
 
-  binding_formed : (b : BindingD) (n : ℕ) → BindingPrints b n → BindingIsNarrow b → BindingIsFormed b
+  binding_formed : (b : BindingD) (n : ℕ) → BindingPrints b n → BindingIsNarrow b → BindingIsWithinLimits b
   binding_formed (binding p x e) n h narrow = expr_formed e n h.1 narrow
 
-  bindings_formed : (bs : BindingsD) (n : ℕ) → BindingsPrint bs n → BindingsAreNarrow bs → BindingsAreFormed bs
+  bindings_formed : (bs : BindingsD) (n : ℕ) → BindingsPrint bs n → BindingsAreNarrow bs → BindingsAreWithinLimits bs
   bindings_formed no_bindings n h narrow = tt
   bindings_formed (bind b bs) n h narrow = (binding_formed b n h.0 narrow.0, bindings_formed bs n h.1 narrow.1)
 
-  cond_formed : (c : CondD) (n : ℕ) → CondPrints c n → CondIsNarrow c → CondIsFormed c
+  cond_formed : (c : CondD) (n : ℕ) → CondPrints c n → CondIsNarrow c → CondIsWithinLimits c
   cond_formed truth n h narrow = tt
   cond_formed falsity n h narrow = tt
   cond_formed (same e f) n h narrow = (expr_formed e n h.0 narrow.0, expr_formed f n h.1 narrow.1)
@@ -73,22 +73,22 @@ mutual
   cond_formed (member e f) n h narrow = (expr_formed e n h.0 narrow.0, expr_formed f n h.1 narrow.1)
   cond_formed (included e f) n h narrow = (expr_formed e n h.0 narrow.0, expr_formed f n h.1 narrow.1)
   cond_formed (empty e) n h narrow = expr_formed e (suc n) h.1 narrow
-  cond_formed (not c) n h narrow = enclosed_formed (is_base c) n (CondPrints c) (CondIsFormed c) (λ k q. cond_formed c k q narrow) h
+  cond_formed (not c) n h narrow = enclosed_formed (is_base c) n (CondPrints c) (CondIsWithinLimits c) (λ k q. cond_formed c k q narrow) h
   cond_formed (all cs) n h narrow = units_formed cs n h.1 narrow
   cond_formed (any cs) n h narrow = conjunctions_formed cs n h.1 narrow
-  cond_formed (exists b c) n h narrow = (binding_formed b n h.0 narrow.0, enclosed_formed (is_base c) n (CondPrints c) (CondIsFormed c) (λ k q. cond_formed c k q narrow.1) h.1)
-  cond_formed (every b c) n h narrow = (binding_formed b n h.0 narrow.0, enclosed_formed (is_base c) n (CondPrints c) (CondIsFormed c) (λ k q. cond_formed c k q narrow.1) h.1)
+  cond_formed (exists b c) n h narrow = (binding_formed b n h.0 narrow.0, enclosed_formed (is_base c) n (CondPrints c) (CondIsWithinLimits c) (λ k q. cond_formed c k q narrow.1) h.1)
+  cond_formed (every b c) n h narrow = (binding_formed b n h.0 narrow.0, enclosed_formed (is_base c) n (CondPrints c) (CondIsWithinLimits c) (λ k q. cond_formed c k q narrow.1) h.1)
 
-  units_formed : (cs : CondsD) (n : ℕ) → UnitsPrint cs n → CondsAreNarrow cs → CondsAreFormed cs
+  units_formed : (cs : CondsD) (n : ℕ) → UnitsPrint cs n → CondsAreNarrow cs → CondsAreWithinLimits cs
   units_formed no_conds n h narrow = tt
-  units_formed (cond c cs) n h narrow = (enclosed_formed (is_unit c) n (CondPrints c) (CondIsFormed c) (λ k q. cond_formed c k q narrow.0) h.0, units_formed cs n h.1 narrow.1)
+  units_formed (cond c cs) n h narrow = (enclosed_formed (is_unit c) n (CondPrints c) (CondIsWithinLimits c) (λ k q. cond_formed c k q narrow.0) h.0, units_formed cs n h.1 narrow.1)
 
-  conjunctions_formed : (cs : CondsD) (n : ℕ) → ConjunctionsPrint cs n → CondsAreNarrow cs → CondsAreFormed cs
+  conjunctions_formed : (cs : CondsD) (n : ℕ) → ConjunctionsPrint cs n → CondsAreNarrow cs → CondsAreWithinLimits cs
   conjunctions_formed no_conds n h narrow = tt
-  conjunctions_formed (cond c cs) n h narrow = (enclosed_formed (is_conjunction c) n (CondPrints c) (CondIsFormed c) (λ k q. cond_formed c k q narrow.0) h.0, conjunctions_formed cs n h.1 narrow.1)
+  conjunctions_formed (cond c cs) n h narrow = (enclosed_formed (is_conjunction c) n (CondPrints c) (CondIsWithinLimits c) (λ k q. cond_formed c k q narrow.0) h.0, conjunctions_formed cs n h.1 narrow.1)
 
 mutual
-  stmt_formed : (a : StmtD) (n : ℕ) → StmtPrints a n → StmtIsWithin a → StmtIsFormed a
+  stmt_formed : (a : StmtD) (n : ℕ) → StmtPrints a n → StmtIsWithin a → StmtIsWithinLimits a
   stmt_formed («let» p x e) n h within = expr_formed e n h.1 within
   stmt_formed (assign p x e) n h within = expr_formed e n h.1 within
   stmt_formed (add e p x) n h within = expr_formed e n h.0 within
@@ -98,7 +98,7 @@ mutual
   stmt_formed (assert p c) n h within = cond_formed c n h within
   stmt_formed (print p q x) n h within = tt
 
-  stmts_formed : (l : StmtsD) (n : ℕ) → StmtsPrint l n → StmtsAreWithin l → StmtsAreFormed l
+  stmts_formed : (l : StmtsD) (n : ℕ) → StmtsPrint l n → StmtsAreWithin l → StmtsAreWithinLimits l
   stmts_formed no_stmts n h within = tt
   stmts_formed (stmt a rest) n h within = (stmt_formed a n h.0 within.0, stmts_formed rest n h.1 within.1)
 
@@ -108,5 +108,5 @@ spelled_prints text s h =
     let tokens = are_tokens text h.tokens (tokens_of_cut text (length text) h.tokens h.cut) in
     script_prints s (map (placed text) h.tokens) h.script (record { nested = h.nesting; tokens = tokens })
 
-pub spelled_formed : (text : List ℕ) (s : ScriptD) → Spells text s → StmtsAreFormed s.body
+pub spelled_formed : (text : List ℕ) (s : ScriptD) → Spells text s → StmtsAreWithinLimits s.body
 spelled_formed text s h = stmts_formed s.body 0 (spelled_prints text s h).body h.forms

@@ -8,12 +8,12 @@ use Rattle.lois_base.specs.Atom.{Atom}
 use Rattle.lois_base.specs.Data.{TermD, var, tag, tup, coll, CompD, CompsD, comps_of}
 use Rattle.lois_base.specs.Fits.{Fits, ItemsFit}
 use Rattle.lois_base.specs.Truth.{holds}
-use Rattle.lois_base.specs.Validity.{AdmitsTerm, AdmitsItems, HasUsualWidths, ItemsHaveUsualWidths}
+use Rattle.lois_base.specs.Validity.{AdmitsTerm, AdmitsItems, HasBoundedWidths, ItemsHaveBoundedWidths}
 use Rattle.lois_base.specs.Values.{point, IsSame}
 use Rattle.lois_base.specs.declared.guards.Lit.{Lit}
 use Rattle.lois_base.proofs.Members.{same_refl, same_trans, same_as_set}
 use Rattle.lois_algebra.proofs.Among.{items_fit-append, admits_items-append, widths-append}
-use Rattle.lois_deciders.specs.Asked.{CanBeMet}
+use Rattle.lois_deciders.specs.Satisfaction.{ConstraintIsSatisfiable}
 use Rattle.lois_simplify.proofs.Kept.{alike_kept}
 use Rattle.lois_simplify.proofs.Members.{items_fit_each, each_fits_items, items_admit_each, each_admits_items, items_wide_each, each_wide_items}
 use Rattle.lois_terms.specs.Guarded.{IsSet}
@@ -48,7 +48,7 @@ tidied_same n g first t fits = record {
     kept (coll ks) = (ks, refl, refl)
 
 -- a simplified set is one
-pub still_set : (n : ℕ) (g : List (List Lit)) (ks : CompsD) (r : TermD) → CanBeMet n g → ((c : List Atom) → length c ≡ n → IsTrue (holds c g) → IsSame (point (coll ks) c) (point r c)) → IsSet r
+pub still_set : (n : ℕ) (g : List (List Lit)) (ks : CompsD) (r : TermD) → ConstraintIsSatisfiable n g → ((c : List Atom) → length c ≡ n → IsTrue (holds c g) → IsSame (point (coll ks) c) (point r c)) → IsSet r
 still_set n g ks r (c, l, o) same = same_as_set (point (coll ks) c) (point r c) ks refl (same c l o)
 
 pub items_fit_first : (n : ℕ) (xs ys : List CompD) → ItemsFit n (comps_of (xs ++ ys)) → ItemsFit n (comps_of xs)
@@ -67,18 +67,18 @@ pub items_admit_last : (o : Bool) (xs ys : List CompD) → AdmitsItems o (comps_
 items_admit_last o [] ys h = h
 items_admit_last o (x ∷ xs) ys h = items_admit_last o xs ys h.1
 
-items_widths_first : (xs ys : List CompD) → ItemsHaveUsualWidths (comps_of (xs ++ ys)) → ItemsHaveUsualWidths (comps_of xs)
+items_widths_first : (xs ys : List CompD) → ItemsHaveBoundedWidths (comps_of (xs ++ ys)) → ItemsHaveBoundedWidths (comps_of xs)
 items_widths_first [] ys h = tt
 items_widths_first (x ∷ xs) ys h = (h.0, items_widths_first xs ys h.1)
 
-items_widths_last : (xs ys : List CompD) → ItemsHaveUsualWidths (comps_of (xs ++ ys)) → ItemsHaveUsualWidths (comps_of ys)
+items_widths_last : (xs ys : List CompD) → ItemsHaveBoundedWidths (comps_of (xs ++ ys)) → ItemsHaveBoundedWidths (comps_of ys)
 items_widths_last [] ys h = h
 items_widths_last (x ∷ xs) ys h = items_widths_last xs ys h.1
 
 -- the first ones and what stands for the last ones
 module _ (n : ℕ) (g : List (List Lit)) (xs ys zs : List CompD) where
   tidied_both : ItemsFit n (comps_of xs) → Fits n (coll (comps_of zs)) → ((c : List Atom) → length c ≡ n → IsTrue (holds c g) → IsSame (point (coll (comps_of (xs ++ ys))) c) (point (coll (comps_of (xs ++ zs))) c)) →
-      ((o : Bool) → AdmitsItems o (comps_of ys) → AdmitsItems o (comps_of zs)) → (ItemsHaveUsualWidths (comps_of ys) → ItemsHaveUsualWidths (comps_of zs)) →
+      ((o : Bool) → AdmitsItems o (comps_of ys) → AdmitsItems o (comps_of zs)) → (ItemsHaveBoundedWidths (comps_of ys) → ItemsHaveBoundedWidths (comps_of zs)) →
       IsTidied n g (length xs) (coll (comps_of (xs ++ ys))) (coll (comps_of (xs ++ zs)))
   tidied_both fits levels same operators widths = record {
     kept = (
@@ -102,7 +102,7 @@ behind_same first added more c only whole = (alike_kept ([] ∷ []) (length c) (
 
 pub set_tidied : (n : ℕ) (g : List (List Lit)) (first : ℕ) (ks : List CompD) (lean r : TermD) → first ≤ length ks → ItemsFit n (comps_of ks) → IsSet lean → ArePutBehind (take first ks) (comps_listed lean) r →
     Fits n lean → ((c : List Atom) → length c ≡ n → IsTrue (holds c g) → IsSame (point (coll (comps_of (drop first ks))) c) (point lean c)) →
-    ((o : Bool) → AdmitsTerm o (coll (comps_of (drop first ks))) → AdmitsTerm o lean) → (HasUsualWidths (coll (comps_of (drop first ks))) → HasUsualWidths lean) → IsTidied n g first (coll (comps_of ks)) r
+    ((o : Bool) → AdmitsTerm o (coll (comps_of (drop first ks))) → AdmitsTerm o lean) → (HasBoundedWidths (coll (comps_of (drop first ks))) → HasBoundedWidths lean) → IsTidied n g first (coll (comps_of ks)) r
 set_tidied n g first ks lean r le fits (ls, set) (all, (more, together, only, rest), is) levels same operators widths =
     let whole : take first ks ++ drop first ks ≡ ks = take-append-drop first ks in
     let lean_is : lean ≡ coll (comps_of (comps_listed lean)) = set ∙ (ap coll (sym (of_listed ls)) ∙ ap (λ z. coll (comps_of (comps_listed z))) (sym set)) in
@@ -113,7 +113,7 @@ set_tidied n g first ks lean r le fits (ls, set) (all, (more, together, only, re
     (append_same (take first ks) (drop first ks) (comps_listed lean) c (subst (λ z. IsSame (point (coll (comps_of (drop first ks))) c) (point z c)) lean_is (same c l o)))
     (behind_same (take first ks) (comps_listed lean) more c only rest))
     (λ o h. each_admits_items o more (λ k i. items_admit_each o (comps_listed lean) k (subst (AdmitsTerm o) lean_is (operators o h)) (only k i)))
-    (λ h. each_wide_items more (λ k i. items_wide_each (comps_listed lean) k (subst HasUsualWidths lean_is (widths h)) (only k i))) in
+    (λ h. each_wide_items more (λ k i. items_wide_each (comps_listed lean) k (subst HasBoundedWidths lean_is (widths h)) (only k i))) in
     let whole_set = subst (λ z. IsTidied n g (length (take first ks)) (coll (comps_of z)) (coll (comps_of (take first ks ++ more)))) whole both in
     let counted = subst (λ z. IsTidied n g z (coll (comps_of ks)) (coll (comps_of (take first ks ++ more)))) (length-take-le first ks le) whole_set in
     subst (IsTidied n g first (coll (comps_of ks))) (sym (is ∙ ap (λ z. coll (comps_of z)) together)) counted

@@ -3,7 +3,7 @@ use Rattle.std.proofs.Common.{◌≡◌, ℕ, ◌⊎◌, inl, inr, Bool, true, f
 use Rattle.std.proofs.lemmas.Slice.Eq.{bytes_eq-Decides}
 use Rattle.std.specs.List.{Contains}
 use Rattle.lois_context.proofs.Later.{first_or_later}
-use Rattle.lois_interp.specs.Standing.{declared_name}
+use Rattle.lois_interp.specs.WellScoped.{declared_name}
 use Rattle.lois_interp.specs.Assigned.{StmtAssigns, ListAssigns}
 use Rattle.lois_script.specs.Scope.{RoleD, inner, outer, fixed, RuleD, outer_assign, DeclaredD, ScopeD, role_of, farther, entered, with_binder, scope_behind, StmtBreaks, StmtsBreak}
 use Rattle.lois_script.specs.Tree.{BindingD, binding, StmtD, «let», assign, add, for, if, while, assert, print, StmtsD, no_stmts, stmt}

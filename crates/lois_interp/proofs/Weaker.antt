@@ -5,7 +5,7 @@ use Rattle.std.proofs.lemmas.List.{take-append-drop, length-take-le}
 use Rattle.lois_base.specs.Atom.{Atom}
 use Rattle.lois_base.specs.Data.{TermD, var, tag, tup, coll, TermsD, no_terms, term, CompD, comp, CompsD, no_comps, more}
 use Rattle.lois_base.specs.Fits.{LitFits, ConstraintFits, Fits, PartsFit, CompFits, ItemsFit}
-use Rattle.lois_base.specs.Normal.{both, joined, Meets, IsLean, IsNormal, PartsAreNormal, IsNormalComp, EachIsNormal}
+use Rattle.lois_base.specs.Normal.{both, joined, Satisfies, IsIrredundant, IsNormal, PartsAreNormal, IsNormalComp, EachIsNormal}
 use Rattle.lois_base.specs.Truth.{holds}
 use Rattle.lois_base.specs.declared.guards.Lit.{Lit}
 use Rattle.lois_base.proofs.Both.{holds_both, all_both}
@@ -38,7 +38,7 @@ module _ (n : ℕ) (u v : List (List Lit)) (w : IsWeaker n u v) where
     implied = both_implied m g;
   }
 
-  lean_weaker : (m : ℕ) (g : List (List Lit)) (t : TermD) (others : CompsD) → IsLean m g t others u n → IsLean m g t others v n
+  lean_weaker : (m : ℕ) (g : List (List Lit)) (t : TermD) (others : CompsD) → IsIrredundant m g t others u n → IsIrredundant m g t others v n
   lean_weaker m g t others l = record {
     met = (l.met.0, met m g l.met.0 l.met.1);
     used = l.used;
@@ -46,7 +46,7 @@ module _ (n : ℕ) (u v : List (List Lit)) (w : IsWeaker n u v) where
     own = let o = l.own in (o.0, o.1, record { count = o.2.count; met = w.implied o.0 o.2.count o.2.met }, o.3, o.4);
   }
     where
-      met : (m : ℕ) (g : List (List Lit)) (c : List Atom) → Meets (n + m) (both u g) c → Meets (n + m) (both v g) c
+      met : (m : ℕ) (g : List (List Lit)) (c : List Atom) → Satisfies (n + m) (both u g) c → Satisfies (n + m) (both v g) c
       met m g c h = record { count = h.count; met = both_implied m g c h.count h.met }
 
 mutual

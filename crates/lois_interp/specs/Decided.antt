@@ -3,12 +3,12 @@ use Rattle.std.specs.Prelude.{Bool, true, false, List, [], ◌∷◌, ◌++◌, 
 use Rattle.lois_base.specs.Atom.{Atom}
 use Rattle.lois_script.specs.Tree.{CondD}
 use Rattle.lois_meaning.specs.Expressions.{HasTruth}
-use Rattle.lois_context.specs.Choices.{IsAdmitted, AdmitsContext, ContextHasUsualWidths}
+use Rattle.lois_context.specs.Choices.{IsAdmitted, AdmitsContext, ContextHasBoundedWidths}
 use Rattle.lois_context.specs.Counted.{AdmitAlike}
 use Rattle.lois_context.specs.Slots.{store_at}
 use Rattle.lois_context.specs.declared.contexts.Context.{Context}
 use Rattle.lois_context.specs.declared.contexts.Split.{Split}
-use Rattle.lois_eval.specs.Standing.{IsPlaced, CondStands}
+use Rattle.lois_eval.specs.WellFormed.{IsWellFormedIn, CondIsWellFormed}
 use Rattle.lois_interp.specs.Merged.{HoldsTheSame}
 
 -- a context that may be missing, as a list
@@ -21,8 +21,8 @@ pub record IsTrueSide (c : CondD) (b : Bool) (before d : Context) : Type 0 where
   pub like : HoldsTheSame before d
   pub within : (x : List Atom) → IsAdmitted x d → IsAdmitted x before
   pub truth : (x : List Atom) → IsAdmitted x d → HasTruth c (store_at x before.store) b
-  pub operators : (ordered : Bool) → IsPlaced (CondStands c) ordered before → AdmitsContext ordered d
-  pub widths : ContextHasUsualWidths before → ContextHasUsualWidths d
+  pub operators : (ordered : Bool) → IsWellFormedIn (CondIsWellFormed c) ordered before → AdmitsContext ordered d
+  pub widths : ContextHasBoundedWidths before → ContextHasBoundedWidths d
 
 -- The condition is decided at each choice, which is admitted by exactly the side that its truth there names.
 pub record IsDecided (c : CondD) (before : Context) (s : Split) : Type 0 where

@@ -7,12 +7,12 @@ use Rattle.lois_base.specs.Values.{PointValue, point, IsMember}
 use Rattle.lois_script.specs.Tree.{ExprD}
 use Rattle.lois_meaning.specs.Expressions.{Gives}
 use Rattle.lois_meaning.specs.Kinds.{IsSetTerm}
-use Rattle.lois_context.specs.Choices.{IsAdmitted, AdmitsContext, ContextHasUsualWidths}
+use Rattle.lois_context.specs.Choices.{IsAdmitted, AdmitsContext, ContextHasBoundedWidths}
 use Rattle.lois_context.specs.Entered.{IsHeldInside, GoesOn}
 use Rattle.lois_context.specs.Joined.{IsEnd}
 use Rattle.lois_context.specs.Slots.{slot_name, store_at}
 use Rattle.lois_context.specs.declared.contexts.Context.{Context}
-use Rattle.lois_eval.specs.Standing.{IsPlaced, Stands}
+use Rattle.lois_eval.specs.WellFormed.{IsWellFormedIn, IsWellFormed}
 use Rattle.lois_interp.specs.Looped.{HoldsElement}
 
 -- Each of them goes on from the context before, and its last slot is the loop's name.
@@ -21,8 +21,8 @@ pub record StandsInside (e : ExprD) (x : List ℕ) (before d : Context) : Type 0
   pub end : IsEnd before d
   pub named : map slot_name d.store ≡ map slot_name before.store ++ x ∷ []
   pub element : HoldsElement x d.store
-  pub operators : (ordered : Bool) → IsPlaced (Stands e) ordered before → AdmitsContext ordered d
-  pub widths : ContextHasUsualWidths before → ContextHasUsualWidths d
+  pub operators : (ordered : Bool) → IsWellFormedIn (IsWellFormed e) ordered before → AdmitsContext ordered d
+  pub widths : ContextHasBoundedWidths before → ContextHasBoundedWidths d
 
 -- The expression gives the set t, and the contexts stand for exactly its members, which x names.
 pub record IsEntered (e : ExprD) (x : List ℕ) (before : Context) (inside : List Context) : Type 0 where

@@ -3,15 +3,15 @@ use Rattle.std.specs.Prelude.{ℕ, ◌≤◌, Bool, List, take, length}
 use Rattle.std.specs.List.{All, Contains}
 use Rattle.lois_base.specs.Data.{depth}
 use Rattle.lois_base.specs.Truth.{sampled}
-use Rattle.lois_base.specs.Validity.{AdmitsTerm, HasUsualWidths}
+use Rattle.lois_base.specs.Validity.{AdmitsTerm, HasBoundedWidths}
 use Rattle.lois_answers.specs.ResultsData.{LineD}
 use Rattle.lois_meaning.specs.Store.{NamedValues, AreSameNamed}
 use Rattle.lois_meaning.specs.declared.faults.Fault.{Fault}
-use Rattle.lois_context.specs.Choices.{IsAdmitted, ContextHasUsualWidths}
+use Rattle.lois_context.specs.Choices.{IsAdmitted, ContextHasBoundedWidths}
 use Rattle.lois_context.specs.Kept.{LinesFit}
 use Rattle.lois_context.specs.Slots.{store_at, lines_at}
 use Rattle.lois_context.specs.declared.contexts.Context.{Context}
-use Rattle.lois_eval.specs.Standing.{IsPlaced}
+use Rattle.lois_eval.specs.WellFormed.{IsWellFormedIn}
 use Rattle.lois_interp.specs.Run.{Run}
 
 -- The elements fit n levels, are written within 64 brackets, and have no operator or width that the context and what is run
@@ -19,8 +19,8 @@ use Rattle.lois_interp.specs.Run.{Run}
 pub record AreElements (stands : Bool → List (List ℕ) → Type 0) (k : Context) (n : ℕ) (elements : List LineD) : Type 0 where
   pub levels : LinesFit n elements
   pub brackets : All (λ l. depth l.term ≤ 64) elements
-  pub operators : (ordered : Bool) → IsPlaced stands ordered k → All (λ l. AdmitsTerm ordered l.term) elements
-  pub widths : ContextHasUsualWidths k → All (λ l. HasUsualWidths l.term) elements
+  pub operators : (ordered : Bool) → IsWellFormedIn stands ordered k → All (λ l. AdmitsTerm ordered l.term) elements
+  pub widths : ContextHasBoundedWidths k → All (λ l. HasBoundedWidths l.term) elements
 
 -- The sample begins with a choice that the context admits. Under it the run fails at this place and in this way, along a path
 -- that the elements name at the whole sample.

@@ -1,5 +1,5 @@
-pub mod Formed
-pub mod Standing
+pub mod WithinLimits
+pub mod WellScoped
 pub mod Assigned
 pub mod Run
 pub mod Slots
@@ -14,7 +14,7 @@ pub mod Tidied
 pub mod Turned
 pub mod Members
 pub mod Leaves
-pub mod Asking
+pub mod Oracle
 pub mod Interpreted
 pub mod Opened
 pub mod Printed

@@ -10,15 +10,15 @@ use Rattle.lois_meaning.specs.Expressions.{HasTruth}
 use Rattle.lois_meaning.specs.Runs.{BlockEnds, ListEnds}
 use Rattle.lois_meaning.specs.Store.{NamedValues, named, looked_up, AreSameNamed}
 use Rattle.lois_meaning.specs.declared.faults.Fault.{Fault}
-use Rattle.lois_context.specs.Choices.{IsAdmitted, AdmitsContext, ContextHasUsualWidths}
+use Rattle.lois_context.specs.Choices.{IsAdmitted, AdmitsContext, ContextHasBoundedWidths}
 use Rattle.lois_context.specs.Slots.{SlotD, store_at, lines_at}
 use Rattle.lois_context.specs.declared.contexts.Context.{Context}
-use Rattle.lois_eval.specs.Standing.{IsPlaced}
+use Rattle.lois_eval.specs.WellFormed.{IsWellFormedIn}
 use Rattle.lois_interp.specs.Assigned.{ListAssigns}
 use Rattle.lois_interp.specs.Failed.{AreElements}
 use Rattle.lois_interp.specs.Reached.{IsReached}
 use Rattle.lois_interp.specs.Run.{turn_run}
-use Rattle.lois_interp.specs.Standing.{TurnMayStand}
+use Rattle.lois_interp.specs.WellScoped.{TurnIsWellScoped}
 
 -- Where the condition holds at a choice of the context d, and what the body comes to from there.
 pub record IsPassed (c : CondD) (body : StmtsD) (d f : Context) : Type 0 where
@@ -34,8 +34,8 @@ pub record LoopRuns (c : CondD) (body : StmtsD) (inside ends : List Context) : T
   pub decided : (d : Context) → Contains inside d → (x : List Atom) → IsAdmitted x d → (b : Bool) × HasTruth c (store_at x d.store) b
   pub ended : (d : Context) → Contains inside d → (x : List Atom) → IsAdmitted x d → HasTruth c (store_at x d.store) true → HasEndAt c body ends d x
   pub started : (f : Context) → Contains ends f → (d : Context) × Contains inside d × IsPassed c body d f
-  pub operators : (ordered : Bool) → All (IsPlaced (TurnMayStand c body) ordered) inside → All (AdmitsContext ordered) ends
-  pub widths : All ContextHasUsualWidths inside → All ContextHasUsualWidths ends
+  pub operators : (ordered : Bool) → All (IsWellFormedIn (TurnIsWellScoped c body) ordered) inside → All (AdmitsContext ordered) ends
+  pub widths : All ContextHasBoundedWidths inside → All ContextHasBoundedWidths ends
 
 -- The fault of the condition or of the body, from the context d that stands for members which x names: the sample begins with
 -- a choice that d admits, and the elements name the member there and then the path of the body's failure.
@@ -46,7 +46,7 @@ pub record FailsInside (x : List ℕ) (c : CondD) (body : StmtsD) (d : Context) 
   pub held : looked_up x (store_at (sampled (take d.size f.sample.items)) d.store) ≡ Some member
   pub failed : (turn_run c body).fails (store_at (sampled (take d.size f.sample.items)) d.store) f.pos.offset f.kind rest
   pub path : AreSameNamed (named x member ∷ rest) (lines_at (sampled f.sample.items) f.elements)
-  pub elements : AreElements (TurnMayStand c body) d (length f.sample.items) f.elements
+  pub elements : AreElements (TurnIsWellScoped c body) d (length f.sample.items) f.elements
 
 -- at each choice the name holds the term
 pub record Holds (x : List ℕ) (store : List SlotD) (t : TermD) : Type 0 where

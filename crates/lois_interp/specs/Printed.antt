@@ -5,7 +5,7 @@ use Rattle.lois_base.specs.Atom.{Atom}
 use Rattle.lois_base.specs.Fits.{Fits, ConstraintFits}
 use Rattle.lois_base.specs.Normal.{IsNormal}
 use Rattle.lois_base.specs.Truth.{holds}
-use Rattle.lois_base.specs.Validity.{AdmitsConstraint, AdmitsTerm, HasUsualWidths}
+use Rattle.lois_base.specs.Validity.{AdmitsConstraint, AdmitsTerm, HasBoundedWidths}
 use Rattle.lois_base.specs.declared.guards.Lit.{Lit}
 use Rattle.lois_constraint.specs.Normalised.{IsNormalised}
 use Rattle.lois_answers.specs.ResultsData.{LineD, CaseD}
@@ -23,7 +23,7 @@ pub record IsPrintedLine (n : ℕ) (u : List (List Lit)) (l r : LineD) : Type 0 
   pub levels : Fits n r.term
   pub tags : HasTags r.term
   pub operators : (ordered : Bool) → AdmitsTerm ordered l.term → AdmitsTerm ordered r.term
-  pub widths : HasUsualWidths l.term → HasUsualWidths r.term
+  pub widths : HasBoundedWidths l.term → HasBoundedWidths r.term
 
 -- the context without its store, and with its lines as they are printed
 pub record IsPrinted (k r : Context) : Type 0 where

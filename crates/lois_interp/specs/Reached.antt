@@ -5,11 +5,11 @@ use Rattle.lois_base.specs.Atom.{Atom}
 use Rattle.lois_answers.specs.ResultsData.{LineD}
 use Rattle.lois_meaning.specs.Runs.{Ending}
 use Rattle.lois_meaning.specs.Store.{NamedValues}
-use Rattle.lois_context.specs.Choices.{IsAdmitted, AdmitsContext, ContextHasUsualWidths}
+use Rattle.lois_context.specs.Choices.{IsAdmitted, AdmitsContext, ContextHasBoundedWidths}
 use Rattle.lois_context.specs.Counted.{AdmitAlike}
 use Rattle.lois_context.specs.Slots.{SlotD, slot_name, store_at, lines_at}
 use Rattle.lois_context.specs.declared.contexts.Context.{Context}
-use Rattle.lois_eval.specs.Standing.{IsPlaced}
+use Rattle.lois_eval.specs.WellFormed.{IsWellFormedIn}
 use Rattle.lois_interp.specs.Run.{Run}
 use Rattle.lois_interp.specs.Slots.{AreKept}
 
@@ -44,8 +44,8 @@ ComesFrom run before d = (c : List Atom) → IsAdmitted c d → (k : Context) ×
 pub record RunsFrom (run : Run) (before after : List Context) : Type 0 where
   pub choices : AdmitAlike before after
   pub reached : (d : Context) → Contains after d → ComesFrom run before d
-  pub operators : (ordered : Bool) → All (IsPlaced run.stands ordered) before → All (AdmitsContext ordered) after
-  pub widths : All ContextHasUsualWidths before → All ContextHasUsualWidths after
+  pub operators : (ordered : Bool) → All (IsWellFormedIn run.stands ordered) before → All (AdmitsContext ordered) after
+  pub widths : All ContextHasBoundedWidths before → All ContextHasBoundedWidths after
 
 -- The same from one context: exactly one of the others admits each choice that it admits, and none admits any other.
 abbrev pub RunsAs : Run → Context → List Context → Type 0

@@ -9,7 +9,7 @@ use Rattle.lois_meaning.specs.Faults.{CondFails}
 use Rattle.lois_meaning.specs.Runs.{Ending, BlockEnds, TurnsEnd, StmtEnds, ListEnds, StmtFails, ListFails}
 use Rattle.lois_meaning.specs.Store.{NamedValues, AreSameNamed}
 use Rattle.lois_interp.specs.Assigned.{StmtAssigns, ListAssigns}
-use Rattle.lois_interp.specs.Standing.{CondMayStand, StmtMayStand, BlockMayStand, TurnMayStand}
+use Rattle.lois_interp.specs.WellScoped.{CondIsWellScoped, StmtIsWellScoped, BlockIsWellScoped, TurnIsWellScoped}
 
 -- How a run fails from a store: place, kind and path.
 abbrev pub Failing : Type 1
@@ -33,7 +33,7 @@ names_behind_all [] names = names
 names_behind_all (a ∷ rest) names = names_behind_all rest (names_behind a names)
 
 abbrev pub stmt_run : StmtD → Run
-stmt_run a = record { ends = StmtEnds a; fails = StmtFails a; assigns = StmtAssigns a; stands = StmtMayStand a; behind = names_behind a }
+stmt_run a = record { ends = StmtEnds a; fails = StmtFails a; assigns = StmtAssigns a; stands = StmtIsWellScoped a; behind = names_behind a }
 
 -- statements one after another, whose names stay
 abbrev pub list_run : List StmtD → Run
@@ -41,7 +41,7 @@ list_run l = record {
   ends = ListEnds (stmts_of l);
   fails = ListFails (stmts_of l);
   assigns = ListAssigns (stmts_of l);
-  stands = BlockMayStand (stmts_of l);
+  stands = BlockIsWellScoped (stmts_of l);
   behind = names_behind_all l;
 }
 
@@ -51,7 +51,7 @@ block_run body = record {
   ends = BlockEnds (ListEnds body);
   fails = ListFails body;
   assigns = ListAssigns body;
-  stands = BlockMayStand body;
+  stands = BlockIsWellScoped body;
   behind = λ names. names;
 }
 
@@ -61,7 +61,7 @@ turn_run c body = record {
   ends = λ s t lines. HasTruth c s true × BlockEnds (ListEnds body) s t lines;
   fails = λ s at kind path. (CondFails c s at kind × (path ≡ [])) ⊎ (HasTruth c s true × ListFails body s at kind path);
   assigns = ListAssigns body;
-  stands = TurnMayStand c body;
+  stands = TurnIsWellScoped c body;
   behind = λ names. names;
 }
 
@@ -71,7 +71,7 @@ turns_run c body k = record {
   ends = TurnsEnd (HasTruth c) (BlockEnds (ListEnds body)) k;
   fails = λ s at kind path. ⊥;
   assigns = ListAssigns body;
-  stands = TurnMayStand c body;
+  stands = TurnIsWellScoped c body;
   behind = λ names. names;
 }
 
@@ -81,6 +81,6 @@ leave_run p c = record {
   ends = λ s t lines. HasTruth c s false × AreSameNamed t s × (lines ≡ []);
   fails = λ s at kind path. (CondFails c s at kind × (path ≡ [])) ⊎ (HasTruth c s true × (at ≡ p) × (kind ≡ TurnLimit) × (path ≡ []));
   assigns = λ x. ⊥;
-  stands = CondMayStand c;
+  stands = CondIsWellScoped c;
   behind = λ names. names;
 }

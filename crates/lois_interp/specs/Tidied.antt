@@ -5,11 +5,11 @@ use Rattle.lois_base.specs.Atom.{Atom}
 use Rattle.lois_base.specs.Data.{TermD, CompD}
 use Rattle.lois_base.specs.Fits.{Fits}
 use Rattle.lois_base.specs.Truth.{holds}
-use Rattle.lois_base.specs.Validity.{AdmitsTerm, HasUsualWidths}
+use Rattle.lois_base.specs.Validity.{AdmitsTerm, HasBoundedWidths}
 use Rattle.lois_base.specs.Values.{PointValue, point, IsSame}
 use Rattle.lois_base.specs.declared.guards.Lit.{Lit}
 use Rattle.lois_meaning.specs.Store.{looked_up}
-use Rattle.lois_context.specs.Choices.{IsAdmitted, AdmitsContext, ContextHasUsualWidths}
+use Rattle.lois_context.specs.Choices.{IsAdmitted, AdmitsContext, ContextHasBoundedWidths}
 use Rattle.lois_context.specs.Joined.{AreJoined, HasJoined}
 use Rattle.lois_context.specs.Slots.{SlotD, comps_in, store_at}
 use Rattle.lois_context.specs.declared.contexts.Context.{Context}
@@ -27,7 +27,7 @@ pub record IsTidied (n : ℕ) (g : List (List Lit)) (first : ℕ) (s t : TermD) 
   pub levels : Fits n t
   pub count : first ≤ comps_in s → first ≤ comps_in t
   pub operators : (ordered : Bool) → AdmitsTerm ordered s → AdmitsTerm ordered t
-  pub widths : HasUsualWidths s → HasUsualWidths t
+  pub widths : HasBoundedWidths s → HasBoundedWidths t
 
 pub record IsTidiedSlot (n : ℕ) (g : List (List Lit)) (first : ℕ) (s e : SlotD) : Type 0 where
   pub name : e.name ≡ s.name
@@ -58,4 +58,4 @@ pub record IsBehindLoop (before : Context) (ends : List Context) (r : Context) :
   pub members : (c : List Atom) → IsAdmitted c before → (x : List ℕ) (v : PointValue) → looked_up x (store_at c before.store) ≡ Some v → HasJoined ends x c v store
   pub tidied : AreTidied before.size before.«when» (counts_in before.store) store r.store
   pub operators : (ordered : Bool) → AdmitsContext ordered before → All (AdmitsContext ordered) ends → AdmitsContext ordered r
-  pub widths : ContextHasUsualWidths before → All ContextHasUsualWidths ends → ContextHasUsualWidths r
+  pub widths : ContextHasBoundedWidths before → All ContextHasBoundedWidths ends → ContextHasBoundedWidths r

@@ -4,13 +4,13 @@ ghost use Rattle.std.specs.Prelude.{◌≡◌, ℕ, ◌≤◌, Bool, length, IfO
 ghost use Rattle.lois_base.specs.Data.{TermD, depth};
 ghost use Rattle.lois_base.specs.Fits.{Fits};
 ghost use Rattle.lois_base.specs.Tree.{tree as term_tree};
-ghost use Rattle.lois_base.specs.Validity.{AdmitsTerm, HasUsualWidths};
+ghost use Rattle.lois_base.specs.Validity.{AdmitsTerm, HasBoundedWidths};
 ghost use Rattle.lois_deciders.specs.OnlyAsked.{HasOnlyAsked};
 ghost use Rattle.lois_script.specs.View.{tree};
 ghost use Rattle.lois_terms.specs.Guarded.{IsSet};
-ghost use Rattle.lois_context.specs.Choices.{ContextHasUsualWidths};
+ghost use Rattle.lois_context.specs.Choices.{ContextHasBoundedWidths};
 ghost use Rattle.lois_context.specs.Slots.{IsNew};
-ghost use Rattle.lois_eval.specs.Standing.{IsPlaced, Stands};
+ghost use Rattle.lois_eval.specs.WellFormed.{IsWellFormedIn, IsWellFormed};
 ghost use Rattle.lois_eval.specs.Throughout.{IsValueThroughout, IsFaultOf, IfFault};
 ghost use Rattle.lois_interp.specs.Elements.{SetFails, NamesElement, StopNamesElement};
 ghost use Rattle.lois_interp.specs.Entered.{IsEntered};
@@ -36,7 +36,7 @@ pub(crate) fn enter_members<T: Structure>(
     context: &Context,
     chosen: &mut Chosen,
 ) -> Result<Vec<Context>, Stop>
-    requires placed { IsPlaced (Stands (tree e.now)) T.ordered context.now }
+    requires placed { IsWellFormedIn (IsWellFormed (tree e.now)) T.ordered context.now }
     requires new_name { IsNew name.now context.now.store }
     ensures entered { IfOk result (λ r. IsEntered (tree e.now) name.now context.now r.items) }
     ensures fault { IfErr result (λ s. IfFault s (IsFaultOf context.now (SetFails (tree e.now)))) }
@@ -55,13 +55,13 @@ fn elements_of<T: Structure>(
     context: &Context,
     chosen: &mut Chosen,
 ) -> Result<Term, Stop>
-    requires { IsPlaced (Stands (tree e.now)) T.ordered context.now }
+    requires { IsWellFormedIn (IsWellFormed (tree e.now)) T.ordered context.now }
     ensures value { IfOk result (λ t. IsValueThroughout context.now (tree e.now) (term_tree t)) }
     ensures set { IfOk result (λ t. IsSet (term_tree t)) }
     ensures brackets { IfOk result (λ t. depth (term_tree t) ≤ 64) }
     ensures levels { IfOk result (λ t. Fits context.now.size (term_tree t)) }
-    ensures operators { IfOk result (λ t. (ordered : Bool) → IsPlaced (Stands (tree e.now)) ordered context.now → AdmitsTerm ordered (term_tree t)) }
-    ensures widths { IfOk result (λ t. ContextHasUsualWidths context.now → HasUsualWidths (term_tree t)) }
+    ensures operators { IfOk result (λ t. (ordered : Bool) → IsWellFormedIn (IsWellFormed (tree e.now)) ordered context.now → AdmitsTerm ordered (term_tree t)) }
+    ensures widths { IfOk result (λ t. ContextHasBoundedWidths context.now → HasBoundedWidths (term_tree t)) }
     ensures fault { IfErr result (λ s. IfFault s (IsFaultOf context.now (SetFails (tree e.now)))) }
 
     // whatever is answered

@@ -6,7 +6,7 @@ ghost use Rattle.lois_base.specs.Data.{coll, CompD, comps_of};
 ghost use Rattle.lois_base.specs.Fits.{ConstraintFits, Fits, ItemsFit};
 ghost use Rattle.lois_base.specs.Tree.{tree, comp_of};
 ghost use Rattle.lois_base.specs.Validity.{AdmitsConstraint, AdmitsTerm, AdmitsItems};
-ghost use Rattle.lois_deciders.specs.Asked.{CanBeMet};
+ghost use Rattle.lois_deciders.specs.Satisfaction.{ConstraintIsSatisfiable};
 ghost use Rattle.lois_deciders.specs.OnlyAsked.{HasOnlyAsked};
 ghost use Rattle.lois_terms.specs.Guarded.{IsSet};
 ghost use Rattle.lois_context.specs.Choices.{AdmitsContext};
@@ -90,7 +90,7 @@ fn tidied_store<T: Structure>(
 ) -> Result<Store, NoMemory>
     requires counted { AreCounted counts.now store }
     requires slots { AreSlots size store }
-    requires met { CanBeMet size when.now }
+    requires met { ConstraintIsSatisfiable size when.now }
     requires when_levels { ConstraintFits size when.now }
     requires operators { All (λ s. AdmitsTerm T.ordered s.term) store }
     requires when_operators { AdmitsConstraint T.ordered when.now }
@@ -126,7 +126,7 @@ fn tidied_slot<T: Structure>(
 ) -> Result<Slot, NoMemory>
     requires count { first ≤ comps_in (tree slot.term) }
     requires levels { Fits size (tree slot.term) }
-    requires met { CanBeMet size when.now }
+    requires met { ConstraintIsSatisfiable size when.now }
     requires when_levels { ConstraintFits size when.now }
     requires operators { AdmitsTerm T.ordered (tree slot.term) }
     requires when_operators { AdmitsConstraint T.ordered when.now }
@@ -162,7 +162,7 @@ fn tidied_term<T: Structure>(
 ) -> Result<Term, NoMemory>
     requires count { first ≤ comps_in (tree term) }
     requires levels { Fits size (tree term) }
-    requires met { CanBeMet size when.now }
+    requires met { ConstraintIsSatisfiable size when.now }
     requires when_levels { ConstraintFits size when.now }
     requires operators { AdmitsTerm T.ordered (tree term) }
     requires when_operators { AdmitsConstraint T.ordered when.now }
@@ -187,7 +187,7 @@ fn tidied_set<T: Structure>(
 ) -> Result<Term, NoMemory>
     requires count { first ≤ length comps }
     requires levels { ItemsFit size (comps_of comps) }
-    requires met { CanBeMet size when.now }
+    requires met { ConstraintIsSatisfiable size when.now }
     requires when_levels { ConstraintFits size when.now }
     requires operators { AdmitsItems T.ordered (comps_of comps) }
     requires when_operators { AdmitsConstraint T.ordered when.now }

@@ -9,13 +9,13 @@ ghost use Rattle.lois_script.specs.Tree.{«let», assign, add, assert, print};
 ghost use Rattle.lois_script.specs.View.{tree, cond_tree, stmt_tree};
 ghost use Rattle.lois_context.specs.Slots.{IsNew, comps_in};
 ghost use Rattle.lois_context.specs.SlotView.{slot_of};
-ghost use Rattle.lois_eval.specs.Standing.{IsPlaced};
+ghost use Rattle.lois_eval.specs.WellFormed.{IsWellFormedIn};
 ghost use Rattle.lois_eval.specs.Throughout.{IfFault};
 ghost use Rattle.lois_interp.specs.Failed.{FailsWithin};
 ghost use Rattle.lois_interp.specs.Leaves.{IsWithStore, IsWithLine, IsLeaf, IsTaken};
 ghost use Rattle.lois_interp.specs.Reached.{RunsAs};
 ghost use Rattle.lois_interp.specs.Run.{stmt_run};
-ghost use Rattle.lois_interp.specs.Standing.{StmtMayStand};
+ghost use Rattle.lois_interp.specs.WellScoped.{StmtIsWellScoped};
 
 use crate::blocks::one;
 use crate::checks::{check_depth, fault, fault_under};
@@ -39,7 +39,7 @@ pub(crate) fn run_simple<T: Structure>(
     chosen: &mut Chosen,
 ) -> Result<Vec<Context>, Stop>
     requires leaf { IsLeaf (stmt_tree stmt.now) }
-    requires placed { IsPlaced (StmtMayStand (stmt_tree stmt.now)) T.ordered context }
+    requires placed { IsWellFormedIn (StmtIsWellScoped (stmt_tree stmt.now)) T.ordered context }
     ensures runs { IfOk result (λ r. RunsAs (stmt_run (stmt_tree stmt.now)) context r.items) }
     ensures fault { IfErr result (λ s. IfFault s (FailsWithin (stmt_run (stmt_tree stmt.now)) context)) }
 
@@ -64,7 +64,7 @@ fn run_let<T: Structure>(
     context: Context,
     chosen: &mut Chosen,
 ) -> Result<Vec<Context>, Stop>
-    requires { IsPlaced (StmtMayStand («let» pos.offset name.now (tree e.now))) T.ordered context }
+    requires { IsWellFormedIn (StmtIsWellScoped («let» pos.offset name.now (tree e.now))) T.ordered context }
     ensures runs { IfOk result (λ r. RunsAs (stmt_run («let» pos.offset name.now (tree e.now))) context r.items) }
     ensures fault { IfErr result (λ s. IfFault s (FailsWithin (stmt_run («let» pos.offset name.now (tree e.now))) context)) }
     ensures only_asked { HasOnlyAsked (λ b. (⟦<dyn Decider as Decider>⟧ b.vtable).kind_of b.value) (λ b. (⟦<dyn Decider as Decider>⟧ b.vtable).questions b.value) chosen.old chosen.new }
@@ -82,7 +82,7 @@ fn run_assign<T: Structure>(
     context: Context,
     chosen: &mut Chosen,
 ) -> Result<Vec<Context>, Stop>
-    requires { IsPlaced (StmtMayStand (assign pos.offset name.now (tree e.now))) T.ordered context }
+    requires { IsWellFormedIn (StmtIsWellScoped (assign pos.offset name.now (tree e.now))) T.ordered context }
     ensures runs { IfOk result (λ r. RunsAs (stmt_run (assign pos.offset name.now (tree e.now))) context r.items) }
     ensures fault { IfErr result (λ s. IfFault s (FailsWithin (stmt_run (assign pos.offset name.now (tree e.now))) context)) }
     ensures only_asked { HasOnlyAsked (λ b. (⟦<dyn Decider as Decider>⟧ b.vtable).kind_of b.value) (λ b. (⟦<dyn Decider as Decider>⟧ b.vtable).questions b.value) chosen.old chosen.new }
@@ -103,7 +103,7 @@ fn run_add<T: Structure>(
     context: Context,
     chosen: &mut Chosen,
 ) -> Result<Vec<Context>, Stop>
-    requires { IsPlaced (StmtMayStand (add (tree e.now) pos.offset name.now)) T.ordered context }
+    requires { IsWellFormedIn (StmtIsWellScoped (add (tree e.now) pos.offset name.now)) T.ordered context }
     ensures runs { IfOk result (λ r. RunsAs (stmt_run (add (tree e.now) pos.offset name.now)) context r.items) }
     ensures fault { IfErr result (λ s. IfFault s (FailsWithin (stmt_run (add (tree e.now) pos.offset name.now)) context)) }
     ensures only_asked { HasOnlyAsked (λ b. (⟦<dyn Decider as Decider>⟧ b.vtable).kind_of b.value) (λ b. (⟦<dyn Decider as Decider>⟧ b.vtable).questions b.value) chosen.old chosen.new }
@@ -135,7 +135,7 @@ fn run_assert<T: Structure>(
     context: Context,
     chosen: &mut Chosen,
 ) -> Result<Vec<Context>, Stop>
-    requires { IsPlaced (StmtMayStand (assert pos.offset (cond_tree condition.now))) T.ordered context }
+    requires { IsWellFormedIn (StmtIsWellScoped (assert pos.offset (cond_tree condition.now))) T.ordered context }
     ensures runs { IfOk result (λ r. RunsAs (stmt_run (assert pos.offset (cond_tree condition.now))) context r.items) }
     ensures fault { IfErr result (λ s. IfFault s (FailsWithin (stmt_run (assert pos.offset (cond_tree condition.now))) context)) }
     ensures only_asked { HasOnlyAsked (λ b. (⟦<dyn Decider as Decider>⟧ b.vtable).kind_of b.value) (λ b. (⟦<dyn Decider as Decider>⟧ b.vtable).questions b.value) chosen.old chosen.new }
@@ -154,7 +154,7 @@ fn run_print(
     name: &Name,
     context: Context,
 ) -> Result<Vec<Context>, Stop>
-    requires { (ordered : Bool) × IsPlaced (StmtMayStand (print pos.offset place.offset name.now)) ordered context }
+    requires { (ordered : Bool) × IsWellFormedIn (StmtIsWellScoped (print pos.offset place.offset name.now)) ordered context }
     ensures runs { IfOk result (λ r. RunsAs (stmt_run (print pos.offset place.offset name.now)) context r.items) }
     ensures fault { IfErr result (λ s. IfFault s (FailsWithin (stmt_run (print pos.offset place.offset name.now)) context)) }
 {

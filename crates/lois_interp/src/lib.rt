@@ -1,7 +1,6 @@
 //! Statements at all choices of a context.
 #![tactic(auto)]
 
-mod asking;
 mod blocks;
 mod cases;
 mod checks;
@@ -10,6 +9,7 @@ mod interpreting;
 mod joining;
 mod leaves;
 mod members;
+mod oracle;
 mod printing;
 mod running;
 mod sides;

@@ -8,10 +8,10 @@ ghost use Rattle.lois_meaning.specs.Faults.{CondFails};
 ghost use Rattle.lois_script.specs.View.{tree, binding_tree, cond_tree, stmt_tree, stmts_of, stmts_list};
 ghost use Rattle.lois_context.specs.Choices.{AdmitsContext};
 ghost use Rattle.lois_context.specs.Joined.{IsEnd};
-ghost use Rattle.lois_context.specs.Merged.{AreApart};
+ghost use Rattle.lois_context.specs.Merged.{AreDisjoint};
 ghost use Rattle.lois_context.specs.Slots.{IsNew};
 ghost use Rattle.lois_context.specs.declared.contexts.Context.{Context};
-ghost use Rattle.lois_eval.specs.Standing.{IsPlaced, Stands, CondStands};
+ghost use Rattle.lois_eval.specs.WellFormed.{IsWellFormedIn, IsWellFormed, CondIsWellFormed};
 ghost use Rattle.lois_eval.specs.Throughout.{IsFaultOf, IfFault};
 ghost use Rattle.lois_interp.specs.Decided.{IsDecided, listed};
 ghost use Rattle.lois_interp.specs.Elements.{SetFails};
@@ -21,15 +21,15 @@ ghost use Rattle.lois_interp.specs.Leaves.{IsLeaf};
 ghost use Rattle.lois_interp.specs.Looped.{LoopRuns, FailsInside, HoldsElement};
 ghost use Rattle.lois_interp.specs.Reached.{RunsFrom, RunsAs, HaveDifferentContents};
 ghost use Rattle.lois_interp.specs.Run.{stmt_run, block_run, turn_run};
-ghost use Rattle.lois_interp.specs.Standing.{StmtMayStand, BlockMayStand, TurnMayStand};
+ghost use Rattle.lois_interp.specs.WellScoped.{StmtIsWellScoped, BlockIsWellScoped, TurnIsWellScoped};
 ghost use Rattle.lois_interp.specs.Tidied.{IsBehindLoop};
 ghost use Rattle.lois_interp.specs.Turned.{IsTurn};
 
-use crate::asking::{Asking, Steps};
 use crate::blocks::{append, cut_all, one, put};
 use crate::elements::{enter_members, item_of, named_inside};
 use crate::joining::behind_loop;
 use crate::leaves::run_simple;
+use crate::oracle::{Oracle, Queries};
 use crate::sides::sides_of;
 use crate::turns::{Turn, leave_all};
 use lois_base::{Decider, Name, Structure};
@@ -49,7 +49,7 @@ pub fn run_block<T: Structure>(
     context: Context,
     chosen: &mut Chosen,
 ) -> Result<Vec<Context>, Stop>
-    requires { IsPlaced (BlockMayStand (stmts_of (stmts_list body.now))) T.ordered context }
+    requires { IsWellFormedIn (BlockIsWellScoped (stmts_of (stmts_list body.now))) T.ordered context }
     ensures runs { IfOk result (λ r. RunsAs (block_run (stmts_of (stmts_list body.now))) context r.items) }
     ensures different { IfOk result (λ r. HaveDifferentContents r.items) }
     ensures fault { IfErr result (λ s. IfFault s (FailsWithin (block_run (stmts_of (stmts_list body.now))) context)) }
@@ -57,24 +57,24 @@ pub fn run_block<T: Structure>(
     // whatever is answered
     ensures only_asked { HasOnlyAsked (λ b. (⟦<dyn Decider as Decider>⟧ b.vtable).kind_of b.value) (λ b. (⟦<dyn Decider as Decider>⟧ b.vtable).questions b.value) chosen.old chosen.new }
 {
-    let mut asking = Asking {
+    let mut asking = Queries {
         decider: chosen,
         enter: |asked: &mut Chosen, alloc: Global, e: &Expr, name: &Name, context: &Context|
-            requires placed { IsPlaced (Stands (tree e.now)) T.ordered context.now }
+            requires placed { IsWellFormedIn (IsWellFormed (tree e.now)) T.ordered context.now }
             requires new_name { IsNew name.now context.now.store }
             ensures entered { IfOk result (λ r. IsEntered (tree e.now) name.now context.now r.items) }
             ensures fault { IfErr result (λ s. IfFault s (IsFaultOf context.now (SetFails (tree e.now)))) }
             ensures only_asked { HasOnlyAsked (λ b. kind_of (b.vtable, b.value)) (λ b. questions (b.vtable, b.value)) asked.old asked.new }
         { enter_members::<T>(alloc, e, name, context, asked) },
         sides: |asked: &mut Chosen, alloc: Global, condition: &Cond, context: Context|
-            requires placed { IsPlaced (CondStands (cond_tree condition.now)) T.ordered context }
+            requires placed { IsWellFormedIn (CondIsWellFormed (cond_tree condition.now)) T.ordered context }
             ensures decided { IfOk result (IsDecided (cond_tree condition.now) context) }
             ensures fault { IfErr result (λ s. IfFault s (IsFaultOf context (CondFails (cond_tree condition.now)))) }
             ensures only_asked { HasOnlyAsked (λ b. kind_of (b.vtable, b.value)) (λ b. questions (b.vtable, b.value)) asked.old asked.new }
         { sides_of::<T>(alloc, condition, context, asked) },
         simple: |asked: &mut Chosen, alloc: Global, stmt: &Stmt, context: Context|
             requires leaf { IsLeaf (stmt_tree stmt.now) }
-            requires placed { IsPlaced (StmtMayStand (stmt_tree stmt.now)) T.ordered context }
+            requires placed { IsWellFormedIn (StmtIsWellScoped (stmt_tree stmt.now)) T.ordered context }
             ensures runs { IfOk result (λ r. RunsAs (stmt_run (stmt_tree stmt.now)) context r.items) }
             ensures fault { IfErr result (λ s. IfFault s (FailsWithin (stmt_run (stmt_tree stmt.now)) context)) }
             ensures only_asked { HasOnlyAsked (λ b. kind_of (b.vtable, b.value)) (λ b. questions (b.vtable, b.value)) asked.old asked.new }
@@ -91,14 +91,14 @@ pub fn run_block<T: Structure>(
 }
 
 #[cycle(running)]
-fn run_stmts<T: Structure, S: Steps<T>>(
+fn run_stmts<T: Structure, S: Oracle<T>>(
     alloc: Global,
     body: &Stmts,
     context: Context,
     steps: &mut S,
 ) -> Result<Vec<Context>, Stop>
     requires sound { S.sound }
-    requires placed { IsPlaced (BlockMayStand (stmts_of (stmts_list body.now))) T.ordered context }
+    requires placed { IsWellFormedIn (BlockIsWellScoped (stmts_of (stmts_list body.now))) T.ordered context }
     ensures runs { IfOk result (λ r. RunsAs (block_run (stmts_of (stmts_list body.now))) context r.items) }
     ensures different { IfOk result (λ r. HaveDifferentContents r.items) }
     ensures fault { IfErr result (λ s. IfFault s (FailsWithin (block_run (stmts_of (stmts_list body.now))) context)) }
@@ -118,15 +118,15 @@ fn run_stmts<T: Structure, S: Steps<T>>(
 
 // Runs a statement from each of the contexts.
 #[cycle(running)]
-fn run_each<T: Structure, S: Steps<T>>(
+fn run_each<T: Structure, S: Oracle<T>>(
     alloc: Global,
     stmt: &Stmt,
     contexts: Vec<Context>,
     steps: &mut S,
 ) -> Result<Vec<Context>, Stop>
     requires sound { S.sound }
-    requires placed { All (IsPlaced (StmtMayStand (stmt_tree stmt.now)) T.ordered) contexts.items }
-    requires apart { AreApart contexts.items }
+    requires placed { All (IsWellFormedIn (StmtIsWellScoped (stmt_tree stmt.now)) T.ordered) contexts.items }
+    requires apart { AreDisjoint contexts.items }
     ensures runs { IfOk result (λ r. RunsFrom (stmt_run (stmt_tree stmt.now)) contexts.items r.items) }
     ensures fault { IfErr result (λ s. IfFault s (FailsFrom (stmt_run (stmt_tree stmt.now)) contexts.items)) }
     ensures asked { S.reaches steps.old steps.new }
@@ -142,14 +142,14 @@ fn run_each<T: Structure, S: Steps<T>>(
 }
 
 #[cycle(running)]
-fn run_stmt<T: Structure, S: Steps<T>>(
+fn run_stmt<T: Structure, S: Oracle<T>>(
     alloc: Global,
     stmt: &Stmt,
     context: Context,
     steps: &mut S,
 ) -> Result<Vec<Context>, Stop>
     requires sound { S.sound }
-    requires placed { IsPlaced (StmtMayStand (stmt_tree stmt.now)) T.ordered context }
+    requires placed { IsWellFormedIn (StmtIsWellScoped (stmt_tree stmt.now)) T.ordered context }
     ensures runs { IfOk result (λ r. RunsAs (stmt_run (stmt_tree stmt.now)) context r.items) }
     ensures fault { IfErr result (λ s. IfFault s (FailsWithin (stmt_run (stmt_tree stmt.now)) context)) }
     ensures asked { S.reaches steps.old steps.new }
@@ -169,7 +169,7 @@ fn run_stmt<T: Structure, S: Steps<T>>(
 }
 
 #[cycle(running)]
-fn run_for<T: Structure, S: Steps<T>>(
+fn run_for<T: Structure, S: Oracle<T>>(
     alloc: Global,
     binding: &Binding,
     guard: &Cond,
@@ -178,7 +178,7 @@ fn run_for<T: Structure, S: Steps<T>>(
     steps: &mut S,
 ) -> Result<Vec<Context>, Stop>
     requires sound { S.sound }
-    requires placed { IsPlaced (StmtMayStand (for (binding_tree binding.now) (cond_tree guard.now) (stmts_of (stmts_list body.now)))) T.ordered context }
+    requires placed { IsWellFormedIn (StmtIsWellScoped (for (binding_tree binding.now) (cond_tree guard.now) (stmts_of (stmts_list body.now)))) T.ordered context }
     ensures runs { IfOk result (λ r. RunsAs (stmt_run (for (binding_tree binding.now) (cond_tree guard.now) (stmts_of (stmts_list body.now)))) context r.items) }
     ensures fault { IfErr result (λ s. IfFault s (FailsWithin (stmt_run (for (binding_tree binding.now) (cond_tree guard.now) (stmts_of (stmts_list body.now)))) context)) }
     ensures asked { S.reaches steps.old steps.new }
@@ -197,7 +197,7 @@ fn run_for<T: Structure, S: Steps<T>>(
 
 // Runs the body from each context that stands for members.
 #[cycle(running)]
-fn run_inside<T: Structure, S: Steps<T>>(
+fn run_inside<T: Structure, S: Oracle<T>>(
     alloc: Global,
     name: &Name,
     guard: &Cond,
@@ -206,7 +206,7 @@ fn run_inside<T: Structure, S: Steps<T>>(
     steps: &mut S,
 ) -> Result<Vec<Context>, Stop>
     requires sound { S.sound }
-    requires placed { All (IsPlaced (TurnMayStand (cond_tree guard.now) (stmts_of (stmts_list body.now))) T.ordered) inside.items }
+    requires placed { All (IsWellFormedIn (TurnIsWellScoped (cond_tree guard.now) (stmts_of (stmts_list body.now))) T.ordered) inside.items }
     requires elements { All (λ d. HoldsElement name.now d.store) inside.items }
     ensures runs { IfOk result (λ r. LoopRuns (cond_tree guard.now) (stmts_of (stmts_list body.now)) inside.items r.items) }
     ensures fault { IfErr result (λ s. IfFault s (λ f. (d : Context) × Contains inside.items d × FailsInside name.now (cond_tree guard.now) (stmts_of (stmts_list body.now)) d f)) }
@@ -224,7 +224,7 @@ fn run_inside<T: Structure, S: Steps<T>>(
 
 // Runs the body from one such context. A fault names the member.
 #[cycle(running)]
-fn run_member<T: Structure, S: Steps<T>>(
+fn run_member<T: Structure, S: Oracle<T>>(
     alloc: Global,
     name: &Name,
     guard: &Cond,
@@ -233,7 +233,7 @@ fn run_member<T: Structure, S: Steps<T>>(
     steps: &mut S,
 ) -> Result<Vec<Context>, Stop>
     requires sound { S.sound }
-    requires placed { IsPlaced (TurnMayStand (cond_tree guard.now) (stmts_of (stmts_list body.now))) T.ordered context }
+    requires placed { IsWellFormedIn (TurnIsWellScoped (cond_tree guard.now) (stmts_of (stmts_list body.now))) T.ordered context }
     requires element { HoldsElement name.now context.store }
     ensures runs { IfOk result (λ r. LoopRuns (cond_tree guard.now) (stmts_of (stmts_list body.now)) (context ∷ []) r.items) }
     ensures fault { IfErr result (λ s. IfFault s (FailsInside name.now (cond_tree guard.now) (stmts_of (stmts_list body.now)) context)) }
@@ -249,7 +249,7 @@ fn run_member<T: Structure, S: Steps<T>>(
 
 // Runs the body where the condition holds.
 #[cycle(running)]
-fn run_passing<T: Structure, S: Steps<T>>(
+fn run_passing<T: Structure, S: Oracle<T>>(
     alloc: Global,
     guard: &Cond,
     body: &Stmts,
@@ -257,7 +257,7 @@ fn run_passing<T: Structure, S: Steps<T>>(
     steps: &mut S,
 ) -> Result<Vec<Context>, Stop>
     requires sound { S.sound }
-    requires placed { IsPlaced (TurnMayStand (cond_tree guard.now) (stmts_of (stmts_list body.now))) T.ordered context }
+    requires placed { IsWellFormedIn (TurnIsWellScoped (cond_tree guard.now) (stmts_of (stmts_list body.now))) T.ordered context }
     ensures runs { IfOk result (λ r. LoopRuns (cond_tree guard.now) (stmts_of (stmts_list body.now)) (context ∷ []) r.items) }
     ensures fault { IfErr result (λ s. IfFault s (FailsWithin (turn_run (cond_tree guard.now) (stmts_of (stmts_list body.now))) context)) }
     ensures asked { S.reaches steps.old steps.new }
@@ -274,7 +274,7 @@ fn run_passing<T: Structure, S: Steps<T>>(
 }
 
 #[cycle(running)]
-fn run_if<T: Structure, S: Steps<T>>(
+fn run_if<T: Structure, S: Oracle<T>>(
     alloc: Global,
     condition: &Cond,
     yes: &Stmts,
@@ -283,7 +283,7 @@ fn run_if<T: Structure, S: Steps<T>>(
     steps: &mut S,
 ) -> Result<Vec<Context>, Stop>
     requires sound { S.sound }
-    requires placed { IsPlaced (StmtMayStand ((if) (cond_tree condition.now) (stmts_of (stmts_list yes.now)) (stmts_of (stmts_list no.now)))) T.ordered context }
+    requires placed { IsWellFormedIn (StmtIsWellScoped ((if) (cond_tree condition.now) (stmts_of (stmts_list yes.now)) (stmts_of (stmts_list no.now)))) T.ordered context }
     ensures runs { IfOk result (λ r. RunsAs (stmt_run ((if) (cond_tree condition.now) (stmts_of (stmts_list yes.now)) (stmts_of (stmts_list no.now)))) context r.items) }
     ensures fault { IfErr result (λ s. IfFault s (FailsWithin (stmt_run ((if) (cond_tree condition.now) (stmts_of (stmts_list yes.now)) (stmts_of (stmts_list no.now)))) context)) }
     ensures asked { S.reaches steps.old steps.new }
@@ -309,14 +309,14 @@ fn run_if<T: Structure, S: Steps<T>>(
 
 // Runs a block from a context that may be missing.
 #[cycle(running)]
-fn run_side<T: Structure, S: Steps<T>>(
+fn run_side<T: Structure, S: Oracle<T>>(
     alloc: Global,
     body: &Stmts,
     side: Option<Context>,
     steps: &mut S,
 ) -> Result<Vec<Context>, Stop>
     requires sound { S.sound }
-    requires placed { IfSome side (IsPlaced (BlockMayStand (stmts_of (stmts_list body.now))) T.ordered) }
+    requires placed { IfSome side (IsWellFormedIn (BlockIsWellScoped (stmts_of (stmts_list body.now))) T.ordered) }
     ensures runs { IfOk result (λ r. RunsFrom (block_run (stmts_of (stmts_list body.now))) (listed side) r.items) }
     ensures fault { IfErr result (λ s. IfFault s (FailsFrom (block_run (stmts_of (stmts_list body.now))) (listed side))) }
     ensures asked { S.reaches steps.old steps.new }
@@ -329,7 +329,7 @@ fn run_side<T: Structure, S: Steps<T>>(
 
 // The contexts that have left the loop wait while the others do the next turn.
 #[cycle(running)]
-fn run_while<T: Structure, S: Steps<T>>(
+fn run_while<T: Structure, S: Oracle<T>>(
     alloc: Global,
     pos: Pos,
     condition: &Cond,
@@ -339,7 +339,7 @@ fn run_while<T: Structure, S: Steps<T>>(
     steps: &mut S,
 ) -> Result<Vec<Context>, Stop>
     requires sound { S.sound }
-    requires placed { IsPlaced (StmtMayStand (while pos.offset (cond_tree condition.now) turns (stmts_of (stmts_list body.now)))) T.ordered context }
+    requires placed { IsWellFormedIn (StmtIsWellScoped (while pos.offset (cond_tree condition.now) turns (stmts_of (stmts_list body.now)))) T.ordered context }
     ensures runs { IfOk result (λ r. RunsAs (stmt_run (while pos.offset (cond_tree condition.now) turns (stmts_of (stmts_list body.now)))) context r.items) }
     ensures fault { IfErr result (λ s. IfFault s (FailsWithin (stmt_run (while pos.offset (cond_tree condition.now) turns (stmts_of (stmts_list body.now)))) context)) }
     ensures asked { S.reaches steps.old steps.new }
@@ -370,7 +370,7 @@ fn run_while<T: Structure, S: Steps<T>>(
 
 // One turn from each of the contexts.
 #[cycle(running)]
-fn run_turn<T: Structure, S: Steps<T>>(
+fn run_turn<T: Structure, S: Oracle<T>>(
     alloc: Global,
     condition: &Cond,
     body: &Stmts,
@@ -378,8 +378,8 @@ fn run_turn<T: Structure, S: Steps<T>>(
     steps: &mut S,
 ) -> Result<Turn, Stop>
     requires sound { S.sound }
-    requires placed { All (IsPlaced (TurnMayStand (cond_tree condition.now) (stmts_of (stmts_list body.now))) T.ordered) contexts.items }
-    requires apart { AreApart contexts.items }
+    requires placed { All (IsWellFormedIn (TurnIsWellScoped (cond_tree condition.now) (stmts_of (stmts_list body.now))) T.ordered) contexts.items }
+    requires apart { AreDisjoint contexts.items }
     ensures turn { IfOk result (IsTurn (cond_tree condition.now) (stmts_of (stmts_list body.now)) contexts.items) }
     ensures fault { IfErr result (λ s. IfFault s (FailsFrom (turn_run (cond_tree condition.now) (stmts_of (stmts_list body.now))) contexts.items)) }
     ensures asked { S.reaches steps.old steps.new }

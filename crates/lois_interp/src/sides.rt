@@ -4,7 +4,7 @@ ghost use Rattle.std.specs.Prelude.{IfOk, IfErr};
 ghost use Rattle.lois_deciders.specs.OnlyAsked.{HasOnlyAsked};
 ghost use Rattle.lois_meaning.specs.Faults.{CondFails};
 ghost use Rattle.lois_script.specs.View.{cond_tree};
-ghost use Rattle.lois_eval.specs.Standing.{IsPlaced, CondStands};
+ghost use Rattle.lois_eval.specs.WellFormed.{IsWellFormedIn, CondIsWellFormed};
 ghost use Rattle.lois_eval.specs.Throughout.{IsFaultOf, IfFault};
 ghost use Rattle.lois_interp.specs.Decided.{IsDecided};
 
@@ -23,7 +23,7 @@ pub(crate) fn sides_of<T: Structure>(
     context: Context,
     chosen: &mut Chosen,
 ) -> Result<Split, Stop>
-    requires { IsPlaced (CondStands (cond_tree condition.now)) T.ordered context }
+    requires { IsWellFormedIn (CondIsWellFormed (cond_tree condition.now)) T.ordered context }
     ensures decided { IfOk result (IsDecided (cond_tree condition.now) context) }
     ensures fault { IfErr result (λ s. IfFault s (IsFaultOf context (CondFails (cond_tree condition.now)))) }
 

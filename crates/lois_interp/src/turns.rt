@@ -3,16 +3,16 @@
 ghost use Rattle.std.specs.Prelude.{IfOk, IfErr};
 ghost use Rattle.std.specs.List.{All};
 ghost use Rattle.lois_script.specs.View.{cond_tree};
-ghost use Rattle.lois_eval.specs.Standing.{IsPlaced};
+ghost use Rattle.lois_eval.specs.WellFormed.{IsWellFormedIn};
 ghost use Rattle.lois_eval.specs.Throughout.{IfFault};
 ghost use Rattle.lois_interp.specs.Failed.{FailsWithin, FailsFrom};
 ghost use Rattle.lois_interp.specs.Reached.{RunsFrom, RunsAs};
 ghost use Rattle.lois_interp.specs.Run.{leave_run};
-ghost use Rattle.lois_interp.specs.Standing.{CondMayStand};
+ghost use Rattle.lois_interp.specs.WellScoped.{CondIsWellScoped};
 
-use crate::asking::Steps;
 use crate::blocks::{append, put};
 use crate::checks::fault_under;
+use crate::oracle::Oracle;
 use lois_answers::FaultKind;
 use lois_base::Structure;
 use lois_context::{Context, Split};
@@ -28,7 +28,7 @@ pub(crate) struct Turn {
 }
 
 /// Leaves the loop from each of the contexts, after as many turns as it may do.
-pub(crate) fn leave_all<T: Structure, S: Steps<T>>(
+pub(crate) fn leave_all<T: Structure, S: Oracle<T>>(
     alloc: Global,
     pos: Pos,
     condition: &Cond,
@@ -36,7 +36,7 @@ pub(crate) fn leave_all<T: Structure, S: Steps<T>>(
     steps: &mut S,
 ) -> Result<Vec<Context>, Stop>
     requires sound { S.sound }
-    requires placed { All (IsPlaced (CondMayStand (cond_tree condition.now)) T.ordered) contexts.items }
+    requires placed { All (IsWellFormedIn (CondIsWellScoped (cond_tree condition.now)) T.ordered) contexts.items }
     ensures runs { IfOk result (λ r. RunsFrom (leave_run pos.offset (cond_tree condition.now)) contexts.items r.items) }
     ensures fault { IfErr result (λ s. IfFault s (FailsFrom (leave_run pos.offset (cond_tree condition.now)) contexts.items)) }
     ensures asked { S.reaches steps.old steps.new }
@@ -50,7 +50,7 @@ pub(crate) fn leave_all<T: Structure, S: Steps<T>>(
 }
 
 // Leaves the loop from one context. Errors: a fault where the condition is true still.
-fn leave<T: Structure, S: Steps<T>>(
+fn leave<T: Structure, S: Oracle<T>>(
     alloc: Global,
     pos: Pos,
     condition: &Cond,
@@ -58,7 +58,7 @@ fn leave<T: Structure, S: Steps<T>>(
     steps: &mut S,
 ) -> Result<Vec<Context>, Stop>
     requires sound { S.sound }
-    requires placed { IsPlaced (CondMayStand (cond_tree condition.now)) T.ordered context }
+    requires placed { IsWellFormedIn (CondIsWellScoped (cond_tree condition.now)) T.ordered context }
     ensures runs { IfOk result (λ r. RunsAs (leave_run pos.offset (cond_tree condition.now)) context r.items) }
     ensures fault { IfErr result (λ s. IfFault s (FailsWithin (leave_run pos.offset (cond_tree condition.now)) context)) }
     ensures asked { S.reaches steps.old steps.new }

@@ -5,12 +5,12 @@ ghost use Rattle.lois_base.specs.Data.{depth};
 ghost use Rattle.lois_base.specs.Fits.{Fits};
 ghost use Rattle.lois_base.specs.Normal.{IsNormal};
 ghost use Rattle.lois_base.specs.Tree.{tree as term_tree};
-ghost use Rattle.lois_base.specs.Validity.{AdmitsTerm, HasUsualWidths};
+ghost use Rattle.lois_base.specs.Validity.{AdmitsTerm, HasBoundedWidths};
 ghost use Rattle.lois_deciders.specs.OnlyAsked.{HasOnlyAsked};
 ghost use Rattle.lois_meaning.specs.Faults.{Fails};
 ghost use Rattle.lois_script.specs.View.{tree};
-ghost use Rattle.lois_context.specs.Choices.{ContextHasUsualWidths};
-ghost use Rattle.lois_eval.specs.Standing.{IsPlaced, Stands};
+ghost use Rattle.lois_context.specs.Choices.{ContextHasBoundedWidths};
+ghost use Rattle.lois_eval.specs.WellFormed.{IsWellFormedIn, IsWellFormed};
 ghost use Rattle.lois_eval.specs.Throughout.{IsValueThroughout, IsFaultOf, IfFault};
 
 use lois_base::{Decider, Structure, Term};
@@ -29,13 +29,13 @@ pub(crate) fn normal_value<T: Structure>(
     context: &Context,
     chosen: &mut Chosen,
 ) -> Result<Term, Stop>
-    requires { IsPlaced (Stands (tree e.now)) T.ordered context.now }
+    requires { IsWellFormedIn (IsWellFormed (tree e.now)) T.ordered context.now }
     ensures value { IfOk result (λ t. IsValueThroughout context.now (tree e.now) (term_tree t)) }
     ensures normal { IfOk result (λ t. IsNormal (term_tree t) context.now.when context.now.size) }
     ensures brackets { IfOk result (λ t. depth (term_tree t) ≤ 64) }
     ensures levels { IfOk result (λ t. Fits context.now.size (term_tree t)) }
-    ensures operators { IfOk result (λ t. (ordered : Bool) → IsPlaced (Stands (tree e.now)) ordered context.now → AdmitsTerm ordered (term_tree t)) }
-    ensures widths { IfOk result (λ t. ContextHasUsualWidths context.now → HasUsualWidths (term_tree t)) }
+    ensures operators { IfOk result (λ t. (ordered : Bool) → IsWellFormedIn (IsWellFormed (tree e.now)) ordered context.now → AdmitsTerm ordered (term_tree t)) }
+    ensures widths { IfOk result (λ t. ContextHasBoundedWidths context.now → HasBoundedWidths (term_tree t)) }
     ensures fault { IfErr result (λ s. IfFault s (IsFaultOf context.now (Fails (tree e.now)))) }
 
     // whatever is answered

@@ -5,19 +5,19 @@ use Rattle.lois_lexer.specs.declared.TokenKind.{TokenKind}
 use Rattle.lois_lexer.specs.declared.Token.{Token}
 use Rattle.lois_lexer.specs.declared.LexError.{LexError}
 use Rattle.lois_lexer.specs.Forms.{is_within_limits}
-use Rattle.lois_lexer.specs.Tokens.{Longest, IsGap, IsCut}
-use Rattle.lois_lexer.specs.Tokens.IsGap.{one_blank, one_comment}
+use Rattle.lois_lexer.specs.Tokens.{Longest, IsTrivia, IsCut}
+use Rattle.lois_lexer.specs.Tokens.IsTrivia.{one_blank, one_comment}
 use Rattle.lois_lexer.specs.Tokens.IsCut.{past_gap, past_token}
-use Rattle.lois_lexer.specs.Refusals.{IsWrongAt, Refuses}
+use Rattle.lois_lexer.specs.Refusals.{IsWrongAt, IsLexicalRefusal}
 use Rattle.lois_lexer.proofs.Forms.{form_nonempty}
 use Rattle.lois_lexer.proofs.Slices.{rest_is}
 
 -- a gap and a token have at least one byte, and lie within
-pub gap_positive : (bytes : List ℕ) (n : ℕ) → IsGap bytes n → 0 < n
+pub gap_positive : (bytes : List ℕ) (n : ℕ) → IsTrivia bytes n → 0 < n
 gap_positive bytes n (one_blank nonempty blank) = omega arith
 gap_positive bytes n (one_comment m comment) = comment.mark.0
 
-pub gap_within : (bytes : List ℕ) (n : ℕ) → IsGap bytes n → n ≤ length bytes
+pub gap_within : (bytes : List ℕ) (n : ℕ) → IsTrivia bytes n → n ≤ length bytes
 gap_within bytes n (one_blank nonempty blank) = nonempty
 gap_within bytes n (one_comment m comment) = comment.within
 
@@ -28,9 +28,9 @@ abbrev pub rest_of : List ℕ → ℕ → List ℕ
 rest_of text at = take (length text - at) (drop at text)
 
 module _ (text : List ℕ) (at : ℕ) (tokens : List Token) (inside : at ≤ length text) (cut : IsCut text at tokens) where
-  pub cut_gap : (n : ℕ) → IsGap (rest_of text at) n → (at + n ≤ length text) × IsCut text (at + n) tokens
+  pub cut_gap : (n : ℕ) → IsTrivia (rest_of text at) n → (at + n ≤ length text) × IsCut text (at + n) tokens
   cut_gap n gap =
-      let here : IsGap (drop at text) n = subst (λ bytes. IsGap bytes n) (rest_is at text) gap in
+      let here : IsTrivia (drop at text) n = subst (λ bytes. IsTrivia bytes n) (rest_is at text) gap in
       (omega (arith, gap_within (drop at text) n here, length-drop at text), past_gap at n tokens cut here)
 
   pub cut_token : (kind : TokenKind) (n : ℕ) → Longest (rest_of text at) kind n → IsTrue (is_within_limits kind (take n (rest_of text at))) →
@@ -39,5 +39,5 @@ module _ (text : List ℕ) (at : ℕ) (tokens : List Token) (inside : at ≤ len
       let here : Longest (drop at text) kind n = subst (λ bytes. Longest bytes kind n) (rest_is at text) token in
       (omega (arith, here.within, length-drop at text), past_token at n kind tokens cut here (subst (λ bytes. IsTrue (is_within_limits kind (take n bytes))) (rest_is at text) limits))
 
-  pub cut_refused : (error : LexError) → IsWrongAt at (rest_of text at) error → Refuses text error
+  pub cut_refused : (error : LexError) → IsWrongAt at (rest_of text at) error → IsLexicalRefusal text error
   cut_refused error wrong = (at, tokens, cut, subst (λ bytes. IsWrongAt at bytes error) (rest_is at text) wrong)

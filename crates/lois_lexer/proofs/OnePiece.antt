@@ -13,8 +13,8 @@ use Rattle.lois_lexer.specs.declared.LexError.TheVariants.{BadByte}
 use Rattle.lois_lexer.specs.Bytes.{is_blank, is_comment_byte}
 use Rattle.lois_lexer.specs.Words.{symbols}
 use Rattle.lois_lexer.specs.Forms.{HasForm, is_within_limits}
-use Rattle.lois_lexer.specs.Tokens.{Longest, IsComment, IsGap}
-use Rattle.lois_lexer.specs.Tokens.IsGap.{one_blank, one_comment}
+use Rattle.lois_lexer.specs.Tokens.{Longest, IsComment, IsTrivia}
+use Rattle.lois_lexer.specs.Tokens.IsTrivia.{one_blank, one_comment}
 use Rattle.lois_lexer.specs.Refusals.{BreaksComment, IsOverLimit, IsWrongAt}
 use Rattle.lois_lexer.specs.Refusals.IsWrongAt.{bad_byte, bad_comment, long_name, bad_number}
 use Rattle.lois_lexer.proofs.Forms.{passed_by_symbol, letter_first, one_kind}
@@ -53,7 +53,7 @@ blank_begins b h = grind (arith, nat_tests)
 blank_no_mark : (b : ℕ) → is_blank b ≡ true → b ≡ 35 → ⊥
 blank_no_mark b h e = false≢true (ap is_blank (sym e) ∙ h)
 
-gap_begins : (bytes : List ℕ) (n : ℕ) → IsGap bytes n → begins_gap (get_or bytes 0 0) ≡ true
+gap_begins : (bytes : List ℕ) (n : ℕ) → IsTrivia bytes n → begins_gap (get_or bytes 0 0) ≡ true
 gap_begins bytes n (one_blank nonempty blank) = blank_begins (get_or bytes 0 0) blank
 gap_begins bytes n (one_comment m comment) = ap begins_gap comment.mark.1
 
@@ -71,13 +71,13 @@ broken_is : (bytes : List ℕ) (n : ℕ) → BreaksComment bytes n → prefix_le
 broken_is bytes n c = run_is bytes n (omega (arith, c.within)) c.inside (λ below. c.bad)
 
 -- no two things stand at one place
-pub gap_once : (bytes : List ℕ) (n m : ℕ) → IsGap bytes n → IsGap bytes m → n ≡ m
+pub gap_once : (bytes : List ℕ) (n m : ℕ) → IsTrivia bytes n → IsTrivia bytes m → n ≡ m
 gap_once bytes n m (one_blank a blank) (one_blank b other) = refl
 gap_once bytes n m (one_blank a blank) (one_comment k comment) = absurd (blank_no_mark (get_or bytes 0 0) blank comment.mark.1)
 gap_once bytes n m (one_comment k comment) (one_blank a blank) = absurd (blank_no_mark (get_or bytes 0 0) blank comment.mark.1)
 gap_once bytes n m (one_comment j this) (one_comment k that) = sym (comment_is bytes n this) ∙ comment_is bytes m that
 
-pub gap_no_token : (bytes : List ℕ) (n m : ℕ) (kind : TokenKind) → IsGap bytes n → HasForm kind (take m bytes) → ⊥
+pub gap_no_token : (bytes : List ℕ) (n m : ℕ) (kind : TokenKind) → IsTrivia bytes n → HasForm kind (take m bytes) → ⊥
 gap_no_token bytes n m kind gap form = both_ways (begins_gap (get_or bytes 0 0)) (front_no_gap kind m bytes form) (gap_begins bytes n gap)
 
 pub token_once : (bytes : List ℕ) (n m : ℕ) (this that : TokenKind) → Longest bytes this n → Longest bytes that m → (this ≡ that) × (n ≡ m)
@@ -87,7 +87,7 @@ token_once bytes n m this that a b =
     (λ apart. ⊎_elim (λ below. absurd (a.longest that m below b.within b.form)) (λ above. absurd (b.longest this n above a.within a.form)) apart)
     (cases_order n m)
 
-over_no_gap : (bytes : List ℕ) (n : ℕ) (kind : TokenKind) → IsOverLimit bytes kind → IsGap bytes n → ⊥
+over_no_gap : (bytes : List ℕ) (n : ℕ) (kind : TokenKind) → IsOverLimit bytes kind → IsTrivia bytes n → ⊥
 over_no_gap bytes n kind over gap = gap_no_token bytes n over.0 kind gap over.1.form
 
 over_no_token : (bytes : List ℕ) (n : ℕ) (this that : TokenKind) → IsOverLimit bytes this → Longest bytes that n → IsTrue (is_within_limits that (take n bytes)) → ⊥
@@ -102,7 +102,7 @@ over_once bytes this that a b = (token_once bytes a.0 b.0 this that a.1 b.1).0
 broken_no_token : (bytes : List ℕ) (n m : ℕ) (kind : TokenKind) → BreaksComment bytes n → HasForm kind (take m bytes) → ⊥
 broken_no_token bytes n m kind broken form = both_ways (begins_gap (get_or bytes 0 0)) (front_no_gap kind m bytes form) (ap begins_gap broken.mark)
 
-pub wrong_no_gap : (at : ℕ) (bytes : List ℕ) (error : LexError) (n : ℕ) → IsWrongAt at bytes error → IsGap bytes n → ⊥
+pub wrong_no_gap : (at : ℕ) (bytes : List ℕ) (error : LexError) (n : ℕ) → IsWrongAt at bytes error → IsTrivia bytes n → ⊥
 wrong_no_gap at bytes error n (bad_byte nothing) (one_blank a blank) = both_ways (is_blank (get_or bytes 0 0)) nothing.no_blank blank
 wrong_no_gap at bytes error n (bad_byte nothing) (one_comment k comment) = nothing.no_comment comment.mark.1
 wrong_no_gap at bytes error n (bad_comment m broken) (one_blank a blank) = blank_no_mark (get_or bytes 0 0) blank broken.mark

@@ -9,9 +9,9 @@ use Rattle.lois_lexer.specs.declared.TokenKind.TheVariants.{Number}
 use Rattle.lois_lexer.specs.declared.Token.{Token}
 use Rattle.lois_lexer.specs.declared.LexError.{LexError}
 use Rattle.lois_lexer.specs.Forms.{HasForm, is_within_limits}
-use Rattle.lois_lexer.specs.Tokens.{Longest, IsGap, IsCut, HasTokens, IsTokenOf, AreInOrder}
+use Rattle.lois_lexer.specs.Tokens.{Longest, IsTrivia, IsCut, HasTokens, IsTokenOf, AreInOrder}
 use Rattle.lois_lexer.specs.Tokens.IsCut.{at_start, past_gap, past_token}
-use Rattle.lois_lexer.specs.Refusals.{IsWrongAt, Refuses, IsInside}
+use Rattle.lois_lexer.specs.Refusals.{IsWrongAt, IsLexicalRefusal, IsPlaceInText}
 use Rattle.lois_lexer.specs.Refusals.IsWrongAt.{bad_byte, bad_comment, long_name, bad_number}
 use Rattle.lois_lexer.specs.Laws.{OneList, OneRefusal, NeverBoth}
 use Rattle.lois_lexer.proofs.Cutting.{gap_positive, gap_within, token_positive}
@@ -44,12 +44,12 @@ token_at kind at n = record { kind = kind; from = at; to = at + n }
 data Ends (text : List ℕ) : ℕ → Outcome → Type 0 where
   finish : (at : ℕ) → at ≡ length text → Ends text at (Ok [])
   refuse : (at : ℕ) (error : LexError) → IsWrongAt at (drop at text) error → Ends text at (Err error)
-  gap : (at n : ℕ) (rest : Outcome) → IsGap (drop at text) n → Ends text (at + n) rest → Ends text at rest
+  gap : (at n : ℕ) (rest : Outcome) → IsTrivia (drop at text) n → Ends text (at + n) rest → Ends text at rest
   token : (at n : ℕ) (kind : TokenKind) (rest : Outcome) → Longest (drop at text) kind n → IsTrue (is_within_limits kind (take n (drop at text))) → Ends text (at + n) rest → Ends text at (first (token_at kind at n) rest)
 
 module _ (text : List ℕ) where
   -- nothing stands at the end
-  no_gap_at_end : (at n : ℕ) → at ≡ length text → IsGap (drop at text) n → ⊥
+  no_gap_at_end : (at n : ℕ) → at ≡ length text → IsTrivia (drop at text) n → ⊥
   no_gap_at_end at n e g = omega (arith, gap_positive (drop at text) n g, gap_within (drop at text) n g, length-drop at text)
 
   no_token_at_end : (at n : ℕ) (kind : TokenKind) → at ≡ length text → Longest (drop at text) kind n → ⊥
@@ -91,7 +91,7 @@ module _ (text : List ℕ) where
   tokens_end : (ts : List Token) → HasTokens text ts → Ends text 0 (Ok ts)
   tokens_end ts cut = subst (λ l. Ends text 0 (Ok l)) (append-nil ts) (from_start (length text) ts (Ok []) cut (finish (length text) refl))
 
-  refusal_ends : (error : LexError) → Refuses text error → Ends text 0 (Err error)
+  refusal_ends : (error : LexError) → IsLexicalRefusal text error → Ends text 0 (Err error)
   refusal_ends error r = from_start r.0 r.1 (Err error) r.2 (refuse r.0 error r.3)
 
 pub one_list : OneList
@@ -146,10 +146,10 @@ cut_in_order text at ts (past_token from n kind tokens cut t limits) = λ k d be
     (cases_lt (k + 1) (length tokens))
 
 -- the place of a refusal is a byte of the text
-pub refused_inside : (text : List ℕ) (error : LexError) → Refuses text error → IsInside text error
+pub refused_inside : (text : List ℕ) (error : LexError) → IsLexicalRefusal text error → IsPlaceInText text error
 refused_inside text error r = inside r.0 error r.3
   where
-    inside : (at : ℕ) (error : LexError) → IsWrongAt at (drop at text) error → IsInside text error
+    inside : (at : ℕ) (error : LexError) → IsWrongAt at (drop at text) error → IsPlaceInText text error
     inside at error (bad_byte nothing) = omega (arith, nothing.nonempty, length-drop at text)
     inside at error (bad_comment n broken) = omega (arith, broken.within, length-drop at text)
     inside at error (long_name kind apart over) = omega (arith, over.1.within, token_positive (drop at text) kind over.0 over.1, length-drop at text)

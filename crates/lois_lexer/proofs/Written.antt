@@ -14,8 +14,8 @@ use Rattle.lois_lexer.specs.declared.Token.{Token}
 use Rattle.lois_lexer.specs.Bytes.{is_blank, is_word_byte}
 use Rattle.lois_lexer.specs.Words.{symbols}
 use Rattle.lois_lexer.specs.Forms.{is_word_form, HasForm, is_within_limits}
-use Rattle.lois_lexer.specs.Tokens.{Longest, IsGap, IsCut, spelled, bytes_of}
-use Rattle.lois_lexer.specs.Tokens.IsGap.{one_blank}
+use Rattle.lois_lexer.specs.Tokens.{Longest, IsTrivia, IsCut, spelled, bytes_of}
+use Rattle.lois_lexer.specs.Tokens.IsTrivia.{one_blank}
 use Rattle.lois_lexer.specs.Tokens.IsCut.{at_start, past_gap, past_token}
 use Rattle.lois_lexer.specs.Laws.{Written, IsWritten, text_of, WrittenIsRead}
 use Rattle.lois_lexer.proofs.Forms.{passed_by_symbol, word_bytes}
@@ -90,7 +90,7 @@ module _ (text front bytes rest : List ℕ) (kind : TokenKind) (b : ℕ) (is_tex
       let token : Longest (drop (length front) text) kind (length bytes) = subst (λ xs. Longest xs kind (length bytes)) (sym from_front) (longest_before kind bytes rest b form blank) in
       let front_is : take (length bytes) (drop (length front) text) ≡ bytes = ap (take (length bytes)) from_front ∙ front_of bytes (b ∷ rest) in
       let past = past_token (length front) (length bytes) kind tokens cut token (subst (λ xs. IsTrue (is_within_limits kind xs)) (sym front_is) limits) in
-      past_gap (length front + length bytes) 1 (tokens ++ this ∷ []) past (subst (λ xs. IsGap xs 1) (sym from_blank) (one_blank (omega arith) blank))
+      past_gap (length front + length bytes) 1 (tokens ++ this ∷ []) past (subst (λ xs. IsTrivia xs 1) (sym from_blank) (one_blank (omega arith) blank))
 
   this_bytes : bytes_of text this ≡ bytes
   this_bytes =

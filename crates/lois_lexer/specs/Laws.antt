@@ -6,7 +6,7 @@ use Rattle.lois_lexer.specs.declared.LexError.{LexError}
 use Rattle.lois_lexer.specs.Bytes.{is_blank}
 use Rattle.lois_lexer.specs.Forms.{HasForm, is_within_limits}
 use Rattle.lois_lexer.specs.Tokens.{HasTokens, Spelled, spelled}
-use Rattle.lois_lexer.specs.Refusals.{Refuses}
+use Rattle.lois_lexer.specs.Refusals.{IsLexicalRefusal}
 
 -- a text has at most one list of tokens
 abbrev pub OneList : Type 0
@@ -14,11 +14,11 @@ OneList = (text : List ℕ) (these those : List Token) → HasTokens text these 
 
 -- a text is refused at one place and for one reason at most
 abbrev pub OneRefusal : Type 0
-OneRefusal = (text : List ℕ) (this that : LexError) → Refuses text this → Refuses text that → this ≡ that
+OneRefusal = (text : List ℕ) (this that : LexError) → IsLexicalRefusal text this → IsLexicalRefusal text that → this ≡ that
 
 -- a text that is refused has no tokens
 abbrev pub NeverBoth : Type 0
-NeverBoth = (text : List ℕ) (tokens : List Token) (error : LexError) → HasTokens text tokens → Refuses text error → ⊥
+NeverBoth = (text : List ℕ) (tokens : List Token) (error : LexError) → HasTokens text tokens → IsLexicalRefusal text error → ⊥
 
 -- a token and the blank that is written behind it
 pub record Written : Type 0 where

@@ -37,12 +37,12 @@ pub data IsWrongAt (at : ℕ) (bytes : List ℕ) : LexError → Type 0 where
   bad_number : IsOverLimit bytes Number → IsWrongAt at bytes (BadNumber at)
 
 -- The text is refused so.
-abbrev pub Refuses : List ℕ → LexError → Type 0
-Refuses text error = (at : ℕ) × (tokens : List Token) × IsCut text at tokens × IsWrongAt at (drop at text) error
+abbrev pub IsLexicalRefusal : List ℕ → LexError → Type 0
+IsLexicalRefusal text error = (at : ℕ) × (tokens : List Token) × IsCut text at tokens × IsWrongAt at (drop at text) error
 
 -- the place of a refusal is a byte of the text
-abbrev pub IsInside : List ℕ → LexError → Type 0
-IsInside text (BadByte at) = at < length text
-IsInside text (LongName at) = at < length text
-IsInside text (BadNumber at) = at < length text
-IsInside text NoMemory = Unit {0}
+abbrev pub IsPlaceInText : List ℕ → LexError → Type 0
+IsPlaceInText text (BadByte at) = at < length text
+IsPlaceInText text (LongName at) = at < length text
+IsPlaceInText text (BadNumber at) = at < length text
+IsPlaceInText text NoMemory = Unit {0}

@@ -20,15 +20,15 @@ pub record IsComment (bytes : List ℕ) (n : ℕ) : Type 0 where
   pub end : (n ≡ length bytes) ⊎ (slice_index bytes n ≡ 10)
 
 -- What stands between tokens: a blank, or a comment.
-pub data IsGap (bytes : List ℕ) : ℕ → Type 0 where
-  one_blank : 0 < length bytes → IsTrue (is_blank (slice_index bytes 0)) → IsGap bytes 1
-  one_comment : (n : ℕ) → IsComment bytes n → IsGap bytes n
+pub data IsTrivia (bytes : List ℕ) : ℕ → Type 0 where
+  one_blank : 0 < length bytes → IsTrue (is_blank (slice_index bytes 0)) → IsTrivia bytes 1
+  one_comment : (n : ℕ) → IsComment bytes n → IsTrivia bytes n
 
 -- Up to a place the text is cut into blanks, comments and the tokens, each token the longest at its place
 -- and within the limits.
 pub data IsCut (text : List ℕ) : ℕ → List Token → Type 0 where
   at_start : IsCut text 0 []
-  past_gap : (from n : ℕ) (tokens : List Token) → IsCut text from tokens → IsGap (drop from text) n → IsCut text (from + n) tokens
+  past_gap : (from n : ℕ) (tokens : List Token) → IsCut text from tokens → IsTrivia (drop from text) n → IsCut text (from + n) tokens
   past_token : (from n : ℕ) (kind : TokenKind) (tokens : List Token) → IsCut text from tokens → Longest (drop from text) kind n →
       IsTrue (is_within_limits kind (take n (drop from text))) →
       IsCut text (from + n) (tokens ++ record { kind = kind; from = from; to = from + n } ∷ [])

@@ -9,8 +9,8 @@ ghost use Rattle.lois_lexer.specs.declared.LexError.{LexError};
 ghost use Rattle.lois_lexer.specs.Bytes.{is_word_byte, is_blank, is_comment_byte};
 ghost use Rattle.lois_lexer.specs.Words.{symbols};
 ghost use Rattle.lois_lexer.specs.Forms.{HasForm, is_within_limits};
-ghost use Rattle.lois_lexer.specs.Tokens.{Longest, IsGap, HasTokens, IsTokenOf, AreInOrder};
-ghost use Rattle.lois_lexer.specs.Refusals.{IsWrongAt, Refuses, IsInside};
+ghost use Rattle.lois_lexer.specs.Tokens.{Longest, IsTrivia, HasTokens, IsTokenOf, AreInOrder};
+ghost use Rattle.lois_lexer.specs.Refusals.{IsWrongAt, IsLexicalRefusal, IsPlaceInText};
 ghost use Rattle.lois_lexer.specs.Laws.{OneList, OneRefusal, NeverBoth, WrittenIsRead};
 
 use crate::words::is_reserved;
@@ -160,7 +160,7 @@ fn is_within_limits(kind: TokenKind, bytes: &[u8]) -> bool
 fn gap_at(at: usize, bytes: &[u8]) -> Result<Option<usize>, LexError>
     requires nonempty { 0 < length bytes.now }
     requires in_text { at + length bytes.now < 2 ^ 64 }
-    ensures gap { IfOk result (λ found. IfSome found (IsGap bytes.now)) }
+    ensures gap { IfOk result (λ found. IfSome found (IsTrivia bytes.now)) }
     ensures no_blank { IfOk result (λ found. IfNone found (IsFalse (is_blank (slice_index bytes.now 0)))) }
     ensures no_comment { IfOk result (λ found. IfNone found (slice_index bytes.now 0 ≢ 35)) }
     ensures wrong { IfErr result (IsWrongAt at bytes.now) }
@@ -203,7 +203,7 @@ fn token_at(at: usize, bytes: &[u8]) -> Result<(TokenKind, usize), LexError>
 /// Cuts the text from its start to its end.
 fn cut(alloc: Global, text: &[u8]) -> Result<Vec<Token>, LexError>
     ensures tokens { IfOk result (λ tokens. HasTokens text.now tokens.items) }
-    ensures refused { IfErr result (λ error. error ≢ LexError.NoMemory → Refuses text.now error) }
+    ensures refused { IfErr result (λ error. error ≢ LexError.NoMemory → IsLexicalRefusal text.now error) }
 {
     let mut tokens = Vec::new(alloc);
     let mut from = 0;
@@ -232,19 +232,19 @@ fn cut(alloc: Global, text: &[u8]) -> Result<Vec<Token>, LexError>
 pub fn lex(alloc: Global, text: &[u8]) -> Result<Vec<Token>, LexError>
     // Ok gives the tokens of the text, and comes exactly where it has some, unless memory ran out.
     ensures tokens { IfOk result (λ tokens. HasTokens text.now tokens.items) }
-    ensures those { (others : List Token) → HasTokens text.now others → IfOk result (λ tokens. tokens.items ≡ others) }
+    ensures exact { (others : List Token) → HasTokens text.now others → IfOk result (λ tokens. tokens.items ≡ others) }
     ensures accepts { (others : List Token) → HasTokens text.now others → IfErr result (λ error. error ≡ LexError.NoMemory) }
 
     // Each refusal comes exactly where the text is refused so, unless memory ran out.
-    ensures refused { IfErr result (λ error. error ≢ LexError.NoMemory → Refuses text.now error) }
-    ensures refuses { (error : LexError) → Refuses text.now error → IsErrOf result error ⊎ IsErrOf result LexError.NoMemory }
+    ensures refused { IfErr result (λ error. error ≢ LexError.NoMemory → IsLexicalRefusal text.now error) }
+    ensures refuses { (error : LexError) → IsLexicalRefusal text.now error → IsErrOf result error ⊎ IsErrOf result LexError.NoMemory }
 
     // Each token lies in the text, has the form of its kind, and ends before the next begins.
     ensures forms { IfOk result (λ tokens. All (IsTokenOf text.now) tokens.items) }
     ensures in_order { IfOk result (λ tokens. AreInOrder tokens.items) }
 
     // A refusal's place is a byte of the text.
-    ensures inside { IfErr result (IsInside text.now) }
+    ensures inside { IfErr result (IsPlaceInText text.now) }
 {
     cut(alloc, text)
 }

@@ -3,7 +3,7 @@ use Rattle.std.proofs.Common.{ℕ, true}
 use mathlib.Core.Logic.{inl, inr}
 use Rattle.lois_base.specs.Values.{PointValue}
 use Rattle.lois_meaning.specs.Expressions.{Reaches}
-use Rattle.lois_meaning.specs.Faults.{IsNoSet, IsNoAtom, HasNoPart, IsNoAutomaton, IsUnfitFor, OperandFails, SomeOperandFails, MakesTooDeep, Failing, Breaks, SomeFails, SomeSetFails, CondFails, SomeCondFails, Fails}
+use Rattle.lois_meaning.specs.Faults.{IsNoSet, IsNoAtom, HasNoPart, IsNoAutomaton, IsInvalidOperand, OperandFails, SomeOperandFails, MakesTooDeep, Failing, Breaks, SomeFails, SomeSetFails, CondFails, SomeCondFails, Fails}
 use Rattle.lois_meaning.specs.Store.{NamedValues, stored, AreSameNamed}
 use Rattle.lois_script.specs.Tree.{ExprD, atoms, var, tag, tuple, listed, each, part, apply, ExprsD, no_exprs, expr, binding, BindingsD, no_bindings, bind, CondD, truth, falsity, same, differ, below, member, included, empty, not, all, any, exists, every, CondsD, no_conds, cond}
 use Rattle.lois_answers.specs.declared.faults.FaultKind.{FaultKind}
@@ -42,7 +42,7 @@ mutual
   breaks_move (part p e n) s t at k h (inl b) = inl (failed_move e s t at k h (breaks_move e s t at k h) b)
   breaks_move (part p e n) s t at k h (inr b) = inr (operand_move (HasNoPart n) e s t at k h b)
   breaks_move (apply p op es) s t at k h (inl b) = inl (some_fails_move es s t at k h b)
-  breaks_move (apply p op es) s t at k h (inr b) = inr (some_operand_move (IsUnfitFor op) es s t at k h b)
+  breaks_move (apply p op es) s t at k h (inr b) = inr (some_operand_move (IsInvalidOperand op) es s t at k h b)
 
   pub some_fails_move : (es : ExprsD) (s t : NamedValues) (at : ℕ) (k : FaultKind) → AreSameNamed s t → SomeFails es s at k → SomeFails es t at k
   some_fails_move no_exprs s t at k h b = b

@@ -4,9 +4,9 @@ use mathlib.Core.Logic.{inl, inr}
 use Rattle.lois_base.specs.Atom.{Atom}
 use Rattle.lois_base.specs.Values.{PointValue, IsMember, IsSame}
 use Rattle.lois_base.proofs.Members.{same_included, deeper_same}
-use Rattle.lois_meaning.specs.Automata.{Machine, IsAutomatonOf}
-use Rattle.lois_meaning.specs.Expressions.{IsPartOf, AreFitFor, Given, Makes, GiveAll, HaveSets, HasTruth, HaveTruths, Gives}
-use Rattle.lois_meaning.specs.Faults.{IsNoSet, IsNoAtom, HasNoPart, IsNoAutomaton, IsUnfitFor, OperandFails, SomeOperandFails, MakesTooDeep, Failing, Breaks, SomeFails, SomeSetFails, CondFails, SomeCondFails, Fails}
+use Rattle.lois_meaning.specs.Automata.{Automaton, IsAutomatonOf}
+use Rattle.lois_meaning.specs.Expressions.{IsPartOf, AreValidOperands, Given, Makes, GiveAll, HaveSets, HasTruth, HaveTruths, Gives}
+use Rattle.lois_meaning.specs.Faults.{IsNoSet, IsNoAtom, HasNoPart, IsNoAutomaton, IsInvalidOperand, OperandFails, SomeOperandFails, MakesTooDeep, Failing, Breaks, SomeFails, SomeSetFails, CondFails, SomeCondFails, Fails}
 use Rattle.lois_meaning.specs.Kinds.{IsAtomValue, IsSet, HasParts, AreSame}
 use Rattle.lois_meaning.specs.Store.{NamedValues, stored, depth_limit}
 use Rattle.lois_script.specs.Tree.{ExprD, atoms, var, tag, tuple, listed, each, part, apply, ExprsD, no_exprs, expr, binding, BindingsD, no_bindings, bind, CondD, truth, falsity, same, differ, below, member, included, empty, not, all, any, exists, every, CondsD, no_conds, cond}
@@ -27,7 +27,7 @@ operand_set e s v at k g set (p, w, h, q) = q.1 (is_set_same v w (given_same e s
 operand_atom : (e : ExprD) (s : NamedValues) (v : PointValue) (a : Atom) (at : ℕ) (k : FaultKind) → Gives e s v → IsAtomValue v a → OperandFails IsNoAtom e s at k → ⊥
 operand_atom e s v a at k g is (p, w, h, q) = q.1 a (is_atom_same v w a (given_same e s v w g h) is)
 
-operand_automaton : (e : ExprD) (s : NamedValues) (v : PointValue) (a : Machine) (at : ℕ) (k : FaultKind) → Gives e s v → IsAutomatonOf v a → OperandFails IsNoAutomaton e s at k → ⊥
+operand_automaton : (e : ExprD) (s : NamedValues) (v : PointValue) (a : Automaton) (at : ℕ) (k : FaultKind) → Gives e s v → IsAutomatonOf v a → OperandFails IsNoAutomaton e s at k → ⊥
 operand_automaton e s v a at k g is (p, w, h, q) = q.1 (automaton_move v w a (given_same e s v w g h) is)
 
 part_within : (us ws : List PointValue) (n : ℕ) (v : PointValue) → AreSame us ws → IsPartOf v us n → (n ≡ 0) ⊎ (length ws < n) → ⊥
@@ -44,12 +44,12 @@ operand_part e s u v us n at k g parts is (p, w, h, inl q) =
 operand_part e s u v us n at k g parts is (p, w, h, inr q) =
     part_within us q.1 n v (parts_both u w us q.1 (given_same e s u w g h) parts q.2) is q.3
 
-operands_suit : (op : Operation) (es : ExprsD) (s : NamedValues) (us : List PointValue) (at : ℕ) (k : FaultKind) → GiveAll es s us → AreFitFor us op → SomeOperandFails (IsUnfitFor op) es s at k → ⊥
+operands_suit : (op : Operation) (es : ExprsD) (s : NamedValues) (us : List PointValue) (at : ℕ) (k : FaultKind) → GiveAll es s us → AreValidOperands us op → SomeOperandFails (IsInvalidOperand op) es s at k → ⊥
 operands_suit op no_exprs s us at k g suit bad = elim bad [ ]
 operands_suit op (expr e rest) s us at k (v, more, p, g, gs) suit (inl (q, w, h, bad)) =
-    suits_fit op v w k (given_same e s v w g h) (subst (λ x. AreFitFor x op) p suit).0 bad
+    suits_fit op v w k (given_same e s v w g h) (subst (λ x. AreValidOperands x op) p suit).0 bad
 operands_suit op (expr e rest) s us at k (v, more, p, g, gs) suit (inr bad) =
-    operands_suit op rest s more at k gs (subst (λ x. AreFitFor x op) p suit).1 bad
+    operands_suit op rest s more at k gs (subst (λ x. AreValidOperands x op) p suit).1 bad
 
 given_fails : (e : ExprD) (s : NamedValues) (v : PointValue) (at : ℕ) (k : FaultKind) → Gives e s v → (Breaks e s at k → ⊥) → Failing (Breaks e) e s at k → ⊥
 given_fails e s v at k g never (inl b) = never b

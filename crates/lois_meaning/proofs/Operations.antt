@@ -6,7 +6,7 @@ use Rattle.lois_base.specs.Shift.{shift, shift_parts}
 use Rattle.lois_base.specs.Values.{PointValue, point, IsSame, IsIn, SameAt}
 use Rattle.lois_base.proofs.Members.{same_refl, same_sym, same_trans, in_same, same_in}
 use Rattle.lois_base.proofs.Raised.{same_raised}
-use Rattle.lois_meaning.specs.Automata.{Machine, IsPair, IsTriple, JoinsStates, IsAutomatonOf, HasStep, Reads, AcceptsFrom, Accepts, IsReachable, IsDeterministic, IsComplete, HaveSameWords, IsClassOf, IsMinimalOf, IsProductOf}
+use Rattle.lois_meaning.specs.Automata.{Automaton, IsPair, IsTriple, JoinsStates, IsAutomatonOf, HasStep, Reads, AcceptsFrom, Accepts, IsReachable, IsDeterministic, IsComplete, HaveSameWords, IsClassOf, IsMinimalOf, IsProductOf}
 use Rattle.lois_meaning.specs.Kinds.{parts_at, HasParts, AreSame}
 use Rattle.lois_meaning.specs.Operations.{TuplesExist, AcceptsByReach, ProductsAcceptBoth, AreLetters, ComplementsAcceptOthers, ClassesExist, MinimalIsMinimal}
 use Rattle.lois_meaning.proofs.Alike.{set_of_same, set_of_shift, set_of_to, parts_same, parts_both, tuples_same, parts_parts, are_same_sym, are_same_trans}
@@ -79,20 +79,20 @@ triple_both x p q r p' q' r' (a, b, c, h, i, j, k) (a', b', c', h', i', j', k') 
     let both : AreSame (a ∷ b ∷ c ∷ []) (a' ∷ b' ∷ c' ∷ []) = parts_both x x (a ∷ b ∷ c ∷ []) (a' ∷ b' ∷ c' ∷ []) (same_refl x) h h' in
     (via p a a' p' i both.0 i', via q b b' q' j both.1.0 j', via r c c' r' k both.1.1.0 k')
 
-pub step_move : (a : Machine) (p l q p' l' q' : PointValue) → IsSame p p' → IsSame l l' → IsSame q q' → HasStep a p l q → HasStep a p' l' q'
+pub step_move : (a : Automaton) (p l q p' l' q' : PointValue) → IsSame p p' → IsSame l l' → IsSame q q' → HasStep a p l q → HasStep a p' l' q'
 step_move a p l q p' l' q' s t u (x, i, (d, e, f, h, j, k, m)) =
     (x, i, (d, e, f, h, same_trans p' p d (same_sym p p' s) j, same_trans l' l e (same_sym l l' t) k, same_trans q' q f (same_sym q q' u) m))
 
-pub reads_move : (a : Machine) (word : List PointValue) (p p' q : PointValue) → IsSame p p' → Reads a word p q → Reads a word p' q
+pub reads_move : (a : Automaton) (word : List PointValue) (p p' q : PointValue) → IsSame p p' → Reads a word p q → Reads a word p' q
 reads_move a [] p p' q s h = same_trans p' p q (same_sym p p' s) h
 reads_move a (l ∷ word) p p' q s (r, step, rest) = (r, step_move a p l r p' l r s (same_refl l) (same_refl r) step, rest)
 
-reads_to : (a : Machine) (word : List PointValue) (p q q' : PointValue) → IsSame q q' → Reads a word p q → Reads a word p q'
+reads_to : (a : Automaton) (word : List PointValue) (p q q' : PointValue) → IsSame q q' → Reads a word p q → Reads a word p q'
 reads_to a [] p q q' s h = same_trans p q q' h s
 reads_to a (l ∷ word) p q q' s (r, step, rest) = (r, step, reads_to a word r q q' s rest)
 
 -- a path goes on
-pub reads_on : (a : Machine) (word more : List PointValue) (p q r : PointValue) → Reads a word p q → Reads a more q r → Reads a (word ++ more) p r
+pub reads_on : (a : Automaton) (word more : List PointValue) (p q r : PointValue) → Reads a word p q → Reads a more q r → Reads a (word ++ more) p r
 reads_on a [] more p q r h k = reads_move a more q p r (same_sym p q h) k
 reads_on a (l ∷ word) more p q r (s, step, rest) k = (s, step, reads_on a word more s q r rest k)
 
@@ -114,7 +114,7 @@ pair_to y z p q h (a, b, k, i, j) =
     go (c ∷ d ∷ e ∷ ws) k s = absurd s.1.1
 
 -- the step of the product from a pair
-product_step : (m a b : Machine) (s l s' p q : PointValue) → IsProductOf m a b → IsPair s p q → HasStep m s l s' →
+product_step : (m a b : Automaton) (s l s' p q : PointValue) → IsProductOf m a b → IsPair s p q → HasStep m s l s' →
     (p' q' : PointValue) × HasStep a p l p' × HasStep b q l q' × IsPair s' p' q'
 product_step m a b s l s' p q product pair (x, i, triple) =
     let found = (product.steps.1 x).0 i in
@@ -132,14 +132,14 @@ product_step m a b s l s' p q product pair (x, i, triple) =
           pair_to s2 s' p2 q2 (same_sym s' s2 both.2) to,
         )
 
-product_reads : (m a b : Machine) (word : List PointValue) (s t p q p' q' : PointValue) → IsProductOf m a b → IsPair s p q → IsPair t p' q' → Reads m word s t → Reads a word p p' × Reads b word q q'
+product_reads : (m a b : Automaton) (word : List PointValue) (s t p q p' q' : PointValue) → IsProductOf m a b → IsPair s p q → IsPair t p' q' → Reads m word s t → Reads a word p p' × Reads b word q q'
 product_reads m a b [] s t p q p' q' product from to h = pair_both s t p q p' q' h from to
 product_reads m a b (l ∷ word) s t p q p' q' product from to (r, step, rest) =
     let next : (p1 q1 : PointValue) × HasStep a p l p1 × HasStep b q l q1 × IsPair r p1 q1 = product_step m a b s l r p q product from step in
     let later : Reads a word next.0 p' × Reads b word next.1 q' = product_reads m a b word r t next.0 next.1 p' q' product next.4 to rest in
     ((next.0, next.2, later.0), (next.1, next.3, later.1))
 
-reads_product : (m a b : Machine) (word : List PointValue) (s t p q p' q' : PointValue) → IsProductOf m a b → IsPair s p q → IsPair t p' q' → Reads a word p p' → Reads b word q q' → Reads m word s t
+reads_product : (m a b : Automaton) (word : List PointValue) (s t p q p' q' : PointValue) → IsProductOf m a b → IsPair s p q → IsPair t p' q' → Reads a word p p' → Reads b word q q' → Reads m word s t
 reads_product m a b [] s t p q p' q' product from to h k = pair_same s t p q p' q' h k from to
 reads_product m a b (l ∷ word) s t p q p' q' product from to (p1, one, rest) (q1, two, more) =
     let next : (x : PointValue) × IsPair x p1 q1 = pair_exists p1 q1 in
@@ -166,18 +166,18 @@ products_accept_both m a b word product = (there, back)
         (s.0, (product.initial.1 s.0).1 (p, q, i, j, s.1), (t.0, (product.final.1 t.0).1 (p', q', i', j', t.1), reads_product m a b word s.0 t.0 p q p' q' product s.1 t.1 h k))
 
 -- paths are those of the steps alone
-steps_reads : (a b : Machine) (word : List PointValue) (p q : PointValue) → IsSame a.steps b.steps → Reads a word p q → Reads b word p q
+steps_reads : (a b : Automaton) (word : List PointValue) (p q : PointValue) → IsSame a.steps b.steps → Reads a word p q → Reads b word p q
 steps_reads a b [] p q s h = h
 steps_reads a b (l ∷ word) p q s (r, (x, i, t), rest) = (r, (x, same_in x a.steps b.steps s i, t), steps_reads a b word r q s rest)
 
 -- a deterministic automaton has one path for a word
-one_path : (a : Machine) (word : List PointValue) (p q q' : PointValue) → IsDeterministic a → Reads a word p q → Reads a word p q' → IsSame q q'
+one_path : (a : Automaton) (word : List PointValue) (p q q' : PointValue) → IsDeterministic a → Reads a word p q → Reads a word p q' → IsSame q q'
 one_path a [] p q q' one h k = same_trans q p q' (same_sym p q h) k
 one_path a (l ∷ word) p q q' one (r, step, rest) (r', step', rest') =
     one_path a word r q q' one rest (reads_move a word r' r q' (one.1 p l r' r step' step) rest')
 
 -- a complete automaton has one for each word over the letters
-some_path : (v : PointValue) (a : Machine) (word : List PointValue) (p : PointValue) → IsAutomatonOf v a → IsComplete a → IsIn p a.states → AreLetters a word → (q : PointValue) × IsIn q a.states × Reads a word p q
+some_path : (v : PointValue) (a : Automaton) (word : List PointValue) (p : PointValue) → IsAutomatonOf v a → IsComplete a → IsIn p a.states → AreLetters a word → (q : PointValue) × IsIn q a.states × Reads a word p q
 some_path v a [] p is whole i letters = (p, i, same_refl p)
 some_path v a (l ∷ word) p is whole i letters =
     let step : (q : PointValue) × HasStep a p l q = whole p l i letters.0 in
@@ -190,7 +190,7 @@ some_path v a (l ∷ word) p is whole i letters =
         let both : IsSame p j.0 × IsSame l j.1 × IsSame q j.2 = triple_both x p l q j.0 j.1 j.2 t j.3 in
         in_same j.2 q a.states (same_sym q j.2 both.2) j.6
 
-letters_of : (v : PointValue) (a : Machine) (word : List PointValue) (p q : PointValue) → IsAutomatonOf v a → Reads a word p q → AreLetters a word
+letters_of : (v : PointValue) (a : Automaton) (word : List PointValue) (p q : PointValue) → IsAutomatonOf v a → Reads a word p q → AreLetters a word
 letters_of v a [] p q is h = tt
 letters_of v a (l ∷ word) p q is (r, (x, i, t), rest) =
     let j : JoinsStates x a = is.steps_join x i in
@@ -222,39 +222,39 @@ complements_accept_others v m a word is one whole comp = (there, back)
           ),
         )
 
-pub words_sym : (a : Machine) (p q : PointValue) → HaveSameWords a p q → HaveSameWords a q p
+pub words_sym : (a : Automaton) (p q : PointValue) → HaveSameWords a p q → HaveSameWords a q p
 words_sym a p q h word = ((h word).1, (h word).0)
 
-words_refl : (a : Machine) (p : PointValue) → HaveSameWords a p p
+words_refl : (a : Automaton) (p : PointValue) → HaveSameWords a p p
 words_refl a p word = ((λ h. h), (λ h. h))
 
-words_trans : (a : Machine) (p q r : PointValue) → HaveSameWords a p q → HaveSameWords a q r → HaveSameWords a p r
+words_trans : (a : Automaton) (p q r : PointValue) → HaveSameWords a p q → HaveSameWords a q r → HaveSameWords a p r
 words_trans a p q r h k word = ((λ x. (k word).0 ((h word).0 x)), (λ x. (h word).1 ((k word).1 x)))
 
-same_words : (a : Machine) (p q : PointValue) → IsSame p q → HaveSameWords a p q
+same_words : (a : Automaton) (p q : PointValue) → IsSame p q → HaveSameWords a p q
 same_words a p q s word =
     ((λ h. (h.0, h.1, reads_move a word p q h.0 s h.2)), (λ h. (h.0, h.1, reads_move a word q p h.0 (same_sym p q s) h.2)))
 
 -- a class of two states: they accept the same words
-class_words : (a : Machine) (c q q' : PointValue) → IsReachable a q' → IsClassOf a c q → IsClassOf a c q' → HaveSameWords a q' q
+class_words : (a : Automaton) (c q q' : PointValue) → IsReachable a q' → IsClassOf a c q → IsClassOf a c q' → HaveSameWords a q' q
 class_words a c q q' reach one two = ((one.1 q').0 ((two.1 q').1 (reach, words_refl a q'))).1
 
 -- the class of one is the class of each that accepts the same words
-class_of : (a : Machine) (c q q' : PointValue) → HaveSameWords a q q' → IsClassOf a c q → IsClassOf a c q'
+class_of : (a : Automaton) (c q q' : PointValue) → HaveSameWords a q q' → IsClassOf a c q → IsClassOf a c q'
 class_of a c q q' h one =
     set_of_shift _ _ c (λ p r. (r.0, words_trans a p q q' r.1 h)) (λ p r. (r.0, words_trans a p q' q r.1 (words_sym a q q' h))) one
 
-class_to : (a : Machine) (c d q : PointValue) → IsSame c d → IsClassOf a c q → IsClassOf a d q
+class_to : (a : Automaton) (c d q : PointValue) → IsSame c d → IsClassOf a c q → IsClassOf a d q
 class_to a c d q s h = set_of_to _ c d s h
 
-pub reach_step : (a : Machine) (q l r : PointValue) → IsReachable a q → HasStep a q l r → IsReachable a r
+pub reach_step : (a : Automaton) (q l r : PointValue) → IsReachable a q → HasStep a q l r → IsReachable a r
 reach_step a q l r (p, word, i, reads) step = (p, word ++ (l ∷ []), i, reads_on a word (l ∷ []) p q r reads (r, step, same_refl r))
 
-reach_same : (a : Machine) (q q' : PointValue) → IsSame q q' → IsReachable a q → IsReachable a q'
+reach_same : (a : Automaton) (q q' : PointValue) → IsSame q q' → IsReachable a q → IsReachable a q'
 reach_same a q q' s (p, word, i, reads) = (p, word, i, reads_to a word p q q' s reads)
 
 -- from a class the words of its states are accepted
-class_accepts : (m a : Machine) (word : List PointValue) (c q : PointValue) → IsMinimalOf m a → IsReachable a q → IsClassOf a c q → AcceptsFrom m c word → AcceptsFrom a q word
+class_accepts : (m a : Automaton) (word : List PointValue) (c q : PointValue) → IsMinimalOf m a → IsReachable a q → IsClassOf a c q → AcceptsFrom m c word → AcceptsFrom a q word
 class_accepts m a [] c q minimal reach class (f, i, s) =
     let found = (minimal.final.1 f).0 i in
     let same : HaveSameWords a found.0 q = class_words a c q found.0 found.1 class (class_to a f c found.0 (same_sym c f s) found.3) in
@@ -269,7 +269,7 @@ class_accepts m a (l ∷ word) c q minimal reach class (f, i, (d, (x, j, triple)
     (same (l ∷ word)).0 (later.0, later.1, (r1, step_move a q1 l1 r1 q1 l r1 (same_refl q1) (same_sym l l1 both.1) (same_refl r1) found.6, later.2))
 
 -- a path of the original is one of the classes
-class_reads : (m a : Machine) (word : List PointValue) (c d p q : PointValue) → IsMinimalOf m a → ClassesExist a → IsReachable a p → IsClassOf a c p → IsClassOf a d q → Reads a word p q → Reads m word c d
+class_reads : (m a : Automaton) (word : List PointValue) (c d p q : PointValue) → IsMinimalOf m a → ClassesExist a → IsReachable a p → IsClassOf a c p → IsClassOf a d q → Reads a word p q → Reads m word c d
 class_reads m a [] c d p q minimal exist reach from to h =
     set_of_same _ c d (class_of a c p q (same_words a p q h) from) to
 class_reads m a (l ∷ word) c d p q minimal exist reach from to (r, step, rest) =
@@ -281,13 +281,13 @@ class_reads m a (l ∷ word) c d p q minimal exist reach from to (r, step, rest)
       class_reads m a word class.0 d r q minimal exist next class.1 to rest,
     )
 
-accepts_class : (m a : Machine) (word : List PointValue) (c q : PointValue) → IsMinimalOf m a → ClassesExist a → IsReachable a q → IsClassOf a c q → AcceptsFrom a q word → AcceptsFrom m c word
+accepts_class : (m a : Automaton) (word : List PointValue) (c q : PointValue) → IsMinimalOf m a → ClassesExist a → IsReachable a q → IsClassOf a c q → AcceptsFrom a q word → AcceptsFrom m c word
 accepts_class m a word c q minimal exist reach class (f, i, reads) =
     let last : IsReachable a f = (reach.0, reach.1 ++ word, reach.2, reads_on a reach.1 word reach.0 q f reach.3 reads) in
     let d : (x : PointValue) × IsClassOf a x f = exist f last in
     (d.0, (minimal.final.1 d.0).1 (f, last, i, d.1), class_reads m a word c d.0 q f minimal exist reach class d.1 reads)
 
-started : (a : Machine) (q : PointValue) → IsIn q a.initial → IsReachable a q
+started : (a : Automaton) (q : PointValue) → IsIn q a.initial → IsReachable a q
 started a q i = (q, [], i, same_refl q)
 
 pub minimal_is_minimal : MinimalIsMinimal

@@ -5,7 +5,7 @@ use Rattle.std.specs.List.{IsDistinct}
 use Rattle.lois_base.specs.Atom.{Atom, equal}
 use Rattle.lois_base.specs.Data.{TermD, tag, tup, coll, no_terms, term, comp, no_comps, more}
 use Rattle.lois_base.specs.Values.{PointValue, point, IsMember, IsSame, IsIn}
-use Rattle.lois_meaning.specs.Automata.{Machine, IsAutomatonOf, Accepts}
+use Rattle.lois_meaning.specs.Automata.{Automaton, IsAutomatonOf, Accepts}
 use Rattle.lois_meaning.specs.Expressions.{Gives, HasTruth}
 use Rattle.lois_meaning.specs.Faults.{Fails}
 use Rattle.lois_meaning.specs.Kinds.{IsAtomValue, IsSet}
@@ -184,7 +184,7 @@ pub record PathsNameElements : Type 0 where
       IsAtomValue v c × IsAtomValue w d × IsFalse (equal c d)
 
 -- the automaton of the words of one atom: the states 'p and 'q, and a step ('p, a, 'q) for each atom a
-abbrev pub one_atom_machine : Machine
+abbrev pub one_atom_machine : Automaton
 one_atom_machine = record {
   states = point (coll (more (comp 0 ([] ∷ []) (tag name_p)) (more (comp 0 ([] ∷ []) (tag name_q)) no_comps))) [];
   letters = all_atoms;
@@ -195,7 +195,7 @@ one_atom_machine = record {
 
 abbrev pub one_atom_words : PointValue
 one_atom_words =
-    let m : Machine = one_atom_machine in
+    let m : Automaton = one_atom_machine in
     point (tup (term m.states.term_of (term m.letters.term_of (term m.steps.term_of (term m.initial.term_of (term m.final.term_of no_terms)))))) []
 
 -- It accepts each word of one atom, and neither the empty word nor a longer one.

@@ -10,7 +10,7 @@ use Rattle.std.specs.Prelude.{◌≡◌, ℕ, zero, suc, Bool, true, false, not 
 use Rattle.std.specs.List.{list_all, list_any}
 use Rattle.lois_base.specs.Atom.{Atom, below as is_below}
 use Rattle.lois_base.specs.Values.{PointValue, IsMember, IsSame, IsIn, IsIncluded}
-use Rattle.lois_meaning.specs.Automata.{Machine, IsAutomatonOf, IsAutomaton, Accepts, IsReachable, IsDeterministic, IsComplete, IsMinimalOf, IsProductOf, IsComplementOf}
+use Rattle.lois_meaning.specs.Automata.{Automaton, IsAutomatonOf, IsAutomaton, Accepts, IsReachable, IsDeterministic, IsComplete, IsMinimalOf, IsProductOf, IsComplementOf}
 use Rattle.lois_meaning.specs.Kinds.{IsAtomValue, IsTagValue, IsSet, IsSetOf, HasParts, AreSame, IsOneOf}
 use Rattle.lois_meaning.specs.Store.{NamedValues, looked_up, stored, IsShallow}
 use Rattle.lois_script.specs.Tree.{ExprD, atoms, var, tag, tuple, listed, each, part, apply, ExprsD, no_exprs, expr, binding, BindingsD, no_bindings, bind, CondD, truth, falsity, same, differ, below, member, included, empty, not, all, any, exists, every, CondsD, no_conds, cond}
@@ -24,23 +24,23 @@ IsPartOf v (u ∷ us) (suc (suc n)) = IsPartOf v us (suc n)
 IsPartOf v _ _ = ⊥
 
 -- a complete deterministic automaton
-abbrev pub IsWhole : PointValue → Type 0
-IsWhole v = (a : Machine) × IsAutomatonOf v a × IsDeterministic a × IsComplete a
+abbrev pub IsCompleteDeterministic : PointValue → Type 0
+IsCompleteDeterministic v = (a : Automaton) × IsAutomatonOf v a × IsDeterministic a × IsComplete a
 
 -- the value may be an operand of the operation
-abbrev pub IsFitFor : PointValue → Operation → Type 0
-IsFitFor v Union = IsSet v
-IsFitFor v Inter = IsSet v
-IsFitFor v Minus = IsSet v
-IsFitFor v Flatten = IsSet v × ((u : PointValue) → IsMember u v → IsSet u)
-IsFitFor v Reach = IsAutomaton v
-IsFitFor v Product = IsAutomaton v
-IsFitFor v Complement = IsWhole v
-IsFitFor v Minimise = IsWhole v
+abbrev pub IsValidOperand : PointValue → Operation → Type 0
+IsValidOperand v Union = IsSet v
+IsValidOperand v Inter = IsSet v
+IsValidOperand v Minus = IsSet v
+IsValidOperand v Flatten = IsSet v × ((u : PointValue) → IsMember u v → IsSet u)
+IsValidOperand v Reach = IsAutomaton v
+IsValidOperand v Product = IsAutomaton v
+IsValidOperand v Complement = IsCompleteDeterministic v
+IsValidOperand v Minimise = IsCompleteDeterministic v
 
-abbrev pub AreFitFor : List PointValue → Operation → Type 0
-AreFitFor [] op = Unit {0}
-AreFitFor (v ∷ vs) op = IsFitFor v op × AreFitFor vs op
+abbrev pub AreValidOperands : List PointValue → Operation → Type 0
+AreValidOperands [] op = Unit {0}
+AreValidOperands (v ∷ vs) op = IsValidOperand v op × AreValidOperands vs op
 
 -- v is what the operation makes of these operands
 abbrev pub IsResultOf : PointValue → Operation → List PointValue → Type 0
@@ -48,11 +48,11 @@ IsResultOf v Union (a ∷ b ∷ []) = IsSetOf v (λ w. IsIn w a ⊎ IsIn w b)
 IsResultOf v Inter (a ∷ b ∷ []) = IsSetOf v (λ w. IsIn w a × IsIn w b)
 IsResultOf v Minus (a ∷ b ∷ []) = IsSetOf v (λ w. IsIn w a × (IsIn w b → ⊥))
 IsResultOf v Flatten (a ∷ []) = IsSetOf v (λ w. (u : PointValue) × IsMember u a × IsIn w u)
-IsResultOf v Reach (a ∷ []) = (m : Machine) × IsAutomatonOf a m × IsSetOf v (IsReachable m)
+IsResultOf v Reach (a ∷ []) = (m : Automaton) × IsAutomatonOf a m × IsSetOf v (IsReachable m)
 IsResultOf v Product (a ∷ b ∷ []) =
-    (m n r : Machine) × IsAutomatonOf a m × IsAutomatonOf b n × IsAutomatonOf v r × IsProductOf r m n
-IsResultOf v Complement (a ∷ []) = (m r : Machine) × IsAutomatonOf a m × IsAutomatonOf v r × IsComplementOf r m
-IsResultOf v Minimise (a ∷ []) = (m r : Machine) × IsAutomatonOf a m × IsAutomatonOf v r × IsMinimalOf r m
+    (m n r : Automaton) × IsAutomatonOf a m × IsAutomatonOf b n × IsAutomatonOf v r × IsProductOf r m n
+IsResultOf v Complement (a ∷ []) = (m r : Automaton) × IsAutomatonOf a m × IsAutomatonOf v r × IsComplementOf r m
+IsResultOf v Minimise (a ∷ []) = (m r : Automaton) × IsAutomatonOf a m × IsAutomatonOf v r × IsMinimalOf r m
 IsResultOf v _ _ = ⊥
 
 -- b is the truth of the fact P
@@ -78,7 +78,7 @@ abbrev mutual
       ((t : NamedValues) → Reaches bs s t → HasTruth c t true → (u : PointValue) × Given (Makes item) t u) ×
       IsSetOf v (λ w. (t : NamedValues) × (u : PointValue) × Reaches bs s t × HasTruth c t true × Given (Makes item) t u × IsSame w u)
   Makes (part p e n) s v = (u : PointValue) × (us : List PointValue) × Given (Makes e) s u × HasParts u us × IsPartOf v us n
-  Makes (apply p op es) s v = (us : List PointValue) × GiveAll es s us × AreFitFor us op × IsResultOf v op us
+  Makes (apply p op es) s v = (us : List PointValue) × GiveAll es s us × AreValidOperands us op × IsResultOf v op us
 
   -- the expressions give these values one by one
   pub GiveAll : ExprsD → NamedValues → List PointValue → Type 0
@@ -112,7 +112,7 @@ abbrev mutual
   HasTruth (included e f) s b =
       (v w : PointValue) × Given (Makes e) s v × Given (Makes f) s w × IsSet v × IsSet w × IsTruthOf b (IsIncluded v w)
   HasTruth (empty e) s b =
-      (v : PointValue) × (a : Machine) × Given (Makes e) s v × IsAutomatonOf v a × IsTruthOf (opposite b) ((word : List PointValue) × Accepts a word)
+      (v : PointValue) × (a : Automaton) × Given (Makes e) s v × IsAutomatonOf v a × IsTruthOf (opposite b) ((word : List PointValue) × Accepts a word)
   HasTruth (not c) s b = HasTruth c s (opposite b)
   HasTruth (all cs) s b = (bs : List Bool) × HaveTruths cs s bs × (b ≡ list_all (λ k. k) bs)
   HasTruth (any cs) s b = (bs : List Bool) × HaveTruths cs s bs × (b ≡ list_any (λ k. k) bs)

@@ -5,7 +5,7 @@
 use Rattle.std.specs.Prelude.{◌≡◌, ℕ, ◌<◌, true, List, length, ◌⊎◌}
 use Rattle.lois_base.specs.Atom.{Atom}
 use Rattle.lois_base.specs.Values.{PointValue, IsMember, IsDeeper}
-use Rattle.lois_meaning.specs.Automata.{Machine, IsAutomatonOf, IsAutomaton, IsDeterministic, IsComplete}
+use Rattle.lois_meaning.specs.Automata.{Automaton, IsAutomatonOf, IsAutomaton, IsDeterministic, IsComplete}
 use Rattle.lois_meaning.specs.Expressions.{Makes, Gives, Reaches, HasTruth}
 use Rattle.lois_meaning.specs.Kinds.{IsAtomValue, IsSet, HasParts}
 use Rattle.lois_meaning.specs.Store.{NamedValues, stored, depth_limit}
@@ -31,21 +31,21 @@ abbrev pub IsNoAutomaton : PointValue → FaultKind → Type 0
 IsNoAutomaton v k = (k ≡ NotAutomaton) × (IsAutomaton v → ⊥)
 
 -- an automaton that isn't deterministic, or a deterministic one that isn't complete
-abbrev pub IsNotWhole : PointValue → FaultKind → Type 0
-IsNotWhole v k =
-    ((k ≡ NotDeterministic) × (a : Machine) × IsAutomatonOf v a × (IsDeterministic a → ⊥)) ⊎
-    ((k ≡ NotComplete) × (a : Machine) × IsAutomatonOf v a × IsDeterministic a × (IsComplete a → ⊥))
+abbrev pub IsNotCompleteDeterministic : PointValue → FaultKind → Type 0
+IsNotCompleteDeterministic v k =
+    ((k ≡ NotDeterministic) × (a : Automaton) × IsAutomatonOf v a × (IsDeterministic a → ⊥)) ⊎
+    ((k ≡ NotComplete) × (a : Automaton) × IsAutomatonOf v a × IsDeterministic a × (IsComplete a → ⊥))
 
 -- how the value fails as an operand of the operation
-abbrev pub IsUnfitFor : Operation → PointValue → FaultKind → Type 0
-IsUnfitFor Union v k = IsNoSet v k
-IsUnfitFor Inter v k = IsNoSet v k
-IsUnfitFor Minus v k = IsNoSet v k
-IsUnfitFor Flatten v k = IsNoSet v k ⊎ ((k ≡ NotASet) × (u : PointValue) × IsMember u v × (IsSet u → ⊥))
-IsUnfitFor Reach v k = IsNoAutomaton v k
-IsUnfitFor Product v k = IsNoAutomaton v k
-IsUnfitFor Complement v k = IsNoAutomaton v k ⊎ IsNotWhole v k
-IsUnfitFor Minimise v k = IsNoAutomaton v k ⊎ IsNotWhole v k
+abbrev pub IsInvalidOperand : Operation → PointValue → FaultKind → Type 0
+IsInvalidOperand Union v k = IsNoSet v k
+IsInvalidOperand Inter v k = IsNoSet v k
+IsInvalidOperand Minus v k = IsNoSet v k
+IsInvalidOperand Flatten v k = IsNoSet v k ⊎ ((k ≡ NotASet) × (u : PointValue) × IsMember u v × (IsSet u → ⊥))
+IsInvalidOperand Reach v k = IsNoAutomaton v k
+IsInvalidOperand Product v k = IsNoAutomaton v k
+IsInvalidOperand Complement v k = IsNoAutomaton v k ⊎ IsNotCompleteDeterministic v k
+IsInvalidOperand Minimise v k = IsNoAutomaton v k ⊎ IsNotCompleteDeterministic v k
 
 -- the operand e gives a value that fails in this way; the place is the operand's
 abbrev pub OperandFails : (PointValue → FaultKind → Type 0) → ExprD → NamedValues → ℕ → FaultKind → Type 0
@@ -76,7 +76,7 @@ abbrev mutual
       ((t : NamedValues) × Reaches bs s t × CondFails c t at k) ⊎
       ((t : NamedValues) × Reaches bs s t × HasTruth c t true × Failing (Breaks item) item t at k)
   Breaks (part p e n) s at k = Failing (Breaks e) e s at k ⊎ OperandFails (HasNoPart n) e s at k
-  Breaks (apply p op es) s at k = SomeFails es s at k ⊎ SomeOperandFails (IsUnfitFor op) es s at k
+  Breaks (apply p op es) s at k = SomeFails es s at k ⊎ SomeOperandFails (IsInvalidOperand op) es s at k
 
   -- one of the expressions fails
   pub SomeFails : ExprsD → NamedValues → ℕ → FaultKind → Type 0

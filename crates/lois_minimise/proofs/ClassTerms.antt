@@ -3,7 +3,7 @@ use Rattle.std.proofs.Common.{◌≡◌, ℕ, ◌+◌, Bool, ◌↔◌, List, []
 use Rattle.lois_base.specs.Atom.{Atom}
 use Rattle.lois_base.specs.Data.{TermD, coll, CompD, comp, CompsD, no_comps, more, comps_of}
 use Rattle.lois_base.specs.Fits.{Fits, CompFits, ItemsFit}
-use Rattle.lois_base.specs.Validity.{AdmitsTerm, AdmitsComp, AdmitsItems, HasUsualWidths, CompHasUsualWidths, ItemsHaveUsualWidths}
+use Rattle.lois_base.specs.Validity.{AdmitsTerm, AdmitsComp, AdmitsItems, HasBoundedWidths, CompHasBoundedWidths, ItemsHaveBoundedWidths}
 use Rattle.lois_base.specs.Values.{PointValue, point, IsIn, IsSame}
 use Rattle.lois_base.specs.declared.guards.Lit.{Lit}
 use Rattle.lois_base.proofs.Members.{same_refl, same_sym, same_in}
@@ -11,14 +11,14 @@ use Rattle.lois_algebra.specs.Gathered.{IsAmong, IsMadeBy, IsPut}
 use Rattle.lois_algebra.specs.Sets.{IsDifference}
 use Rattle.lois_algebra.proofs.Among.{among_in}
 use Rattle.lois_terms.specs.Guarded.{IsSet}
-use Rattle.lois_terms.specs.Raised.{IsRaised}
+use Rattle.lois_terms.specs.Shifted.{IsShifted}
 use Rattle.lois_meaning.specs.Kinds as kinds
 use Rattle.lois_meaning.proofs.Alike.{set_of_same, set_of_shift}
 use Rattle.lois_meaning.proofs.Operations.{pair_same, pair_to}
 use Rattle.lois_automata.specs.Adding.{IsMadeOfOne}
 use Rattle.lois_automata.specs.Built.{AreTargets}
-use Rattle.lois_automata.specs.Columns.{pair_of}
-use Rattle.lois_automata.specs.Spread.{LeadsTo}
+use Rattle.lois_automata.specs.Projections.{pair_of}
+use Rattle.lois_automata.specs.Reachability.{LeadsTo}
 use Rattle.lois_automata.proofs.Adding.{AddsSoFar, adds_begin, adds_more, adds_end, added_put, added_members, one_split, one_none, one_among}
 use Rattle.lois_automata.proofs.Members.{raised_same}
 use Rattle.lois_automata.proofs.Tuples.{pair_parts, leads_same}
@@ -59,7 +59,7 @@ is_set : (t : TermD) → IsSet t → (d : List Atom) → kinds.IsSet (point t d)
 is_set t (ks, e) d = subst (λ z. kinds.IsSet (point z d)) (sym e) tt
 
 -- the nodes without what pairs lead to from the item
-module _ (n m : ℕ) (nodes apart item all told own others r : TermD) (is_all : IsRaised n m nodes all) (is_told : IsRaised n m apart told) (is_own : IsSingle item own) (led : AreTargets (n + m) told own others) (without : IsDifference (n + m) all others r) where
+module _ (n m : ℕ) (nodes apart item all told own others r : TermD) (is_all : IsShifted n m nodes all) (is_told : IsShifted n m apart told) (is_own : IsSingle item own) (led : AreTargets (n + m) told own others) (without : IsDifference (n + m) all others r) where
   pub class_term : IsClassTerm n m nodes apart item r
   class_term c e l k q = (there, back)
     where
@@ -109,7 +109,7 @@ module _ (n m : ℕ) (g : List (List Lit)) (nodes apart item class : TermD) (set
           let same : IsSame (point class d) x = set_of_same (λ q. IsIn q (point nodes c) × (LeadsTo (point apart c) p q → ⊥)) (point class d) x own others in
           (e, ext, pair_same (point (pair_of item class) d) w (point item d) (point class d) p x s same (pair_is item class d) pair)
 
-  pub adds_class : (before after : CompsD) → IsPut (comp m g (pair_of item class)) before after → Fits (n + m) class → ((o : Bool) → AdmitsTerm o item → AdmitsTerm o nodes → AdmitsTerm o apart → AdmitsTerm o class) → (HasUsualWidths nodes → HasUsualWidths class) → AddsClass n (comp m g item) nodes apart before after
+  pub adds_class : (before after : CompsD) → IsPut (comp m g (pair_of item class)) before after → Fits (n + m) class → ((o : Bool) → AdmitsTerm o item → AdmitsTerm o nodes → AdmitsTerm o apart → AdmitsTerm o class) → (HasBoundedWidths nodes → HasBoundedWidths class) → AddsClass n (comp m g item) nodes apart before after
   adds_class before after put fits admits widths = record {
     adds = added_put n (comp m g (pair_of item class)) _ _ _ _ before after put classed_is
         (λ f. (f.0, f.1, (f.2, (fits, tt)))) (λ o a. (a.0.0, (a.0.1, (admits o a.0.1 a.1.0 a.1.1, tt)))) (λ u. (omega arith, omega arith, (u.0, (widths u.1, tt))));
@@ -139,13 +139,13 @@ are_classed n nodes made apart same each c l = record {
 module _ (n : ℕ) (nodes : CompsD) (apart : TermD) where
   abbrev pub ClassesSoFar : CompsD → CompsD → Type 0
   ClassesSoFar rest made =
-      AddsSoFar n (λ c. IsMadeOfOne (IsClassedAt (coll nodes) apart c) (IsAmong rest c)) (λ c. IsMadeOfOne (IsClassedAt (coll nodes) apart c) (IsAmong nodes c)) (ItemsFit n nodes) (λ o. AdmitsItems o nodes × AdmitsTerm o apart) (ItemsHaveUsualWidths nodes) no_comps made ×
+      AddsSoFar n (λ c. IsMadeOfOne (IsClassedAt (coll nodes) apart c) (IsAmong rest c)) (λ c. IsMadeOfOne (IsClassedAt (coll nodes) apart c) (IsAmong nodes c)) (ItemsFit n nodes) (λ o. AdmitsItems o nodes × AdmitsTerm o apart) (ItemsHaveBoundedWidths nodes) no_comps made ×
       CoversSoFar n nodes rest (λ c p. (y : PointValue) × IsAmong made c y × IsClassedAt (coll nodes) apart c p y)
 
   pub classes_begin : (rest made : CompsD) → rest ≡ nodes → made ≡ no_comps → ClassesSoFar rest made
   classes_begin rest made e empty = subst (λ z. ClassesSoFar z made) (sym e) (subst (λ z. ClassesSoFar nodes z) (sym empty) (adds_begin n _ _ _ _ no_comps, covers_begin n nodes nodes _ refl))
 
-  pub classes_more : (rest next made longer : CompsD) (k : CompD) → rest ≡ more k next → (ItemsFit n nodes → CompFits n k) → ((o : Bool) → AdmitsItems o nodes → AdmitsComp o k) → (ItemsHaveUsualWidths nodes → CompHasUsualWidths k) → AddsClass n k (coll nodes) apart made longer → ClassesSoFar rest made → ClassesSoFar next longer
+  pub classes_more : (rest next made longer : CompsD) (k : CompD) → rest ≡ more k next → (ItemsFit n nodes → CompFits n k) → ((o : Bool) → AdmitsItems o nodes → AdmitsComp o k) → (ItemsHaveBoundedWidths nodes → CompHasBoundedWidths k) → AddsClass n k (coll nodes) apart made longer → ClassesSoFar rest made → ClassesSoFar next longer
   classes_more rest next made longer k e fits admits widths add before = (
     adds_more n _ _ _ _ no_comps _ _ _ _ _ _ made longer (one_split (IsClassedAt (coll nodes) apart) rest next k e) fits (λ o a. (admits o a.0, a)) (λ u. (widths u, u)) before.0 add.adds,
     covers_more n nodes rest next k (λ c p. (y : PointValue) × IsAmong made c y × IsClassedAt (coll nodes) apart c p y) (λ c p. (y : PointValue) × IsAmong longer c y × IsClassedAt (coll nodes) apart c p y) e

@@ -2,23 +2,23 @@
 use Rattle.std.proofs.Common.{[], ◌∷◌}
 use Rattle.lois_base.specs.Values.{PointValue, IsSame, IsIn}
 use Rattle.lois_base.proofs.Members.{same_refl, same_sym, same_in, in_same}
-use Rattle.lois_meaning.specs.Automata.{Machine, IsPair, IsAutomatonOf, IsReachable, HaveSameWords, IsClassOf, IsMinimalOf}
+use Rattle.lois_meaning.specs.Automata.{Automaton, IsPair, IsAutomatonOf, IsReachable, HaveSameWords, IsClassOf, IsMinimalOf}
 use Rattle.lois_meaning.specs.Operations.{ClassesExist}
 use Rattle.lois_meaning.specs.Kinds.{HasParts, IsSet, IsSetOf}
 use Rattle.lois_meaning.proofs.Alike.{set_of_same, set_of_move}
 use Rattle.lois_meaning.proofs.Operations.{pair_both, reach_step, words_sym}
-use Rattle.lois_automata.specs.Spread.{LeadsTo}
+use Rattle.lois_automata.specs.Reachability.{LeadsTo}
 use Rattle.lois_automata.proofs.Paths.{letter_in}
 use Rattle.lois_automata.proofs.Tuples.{pair_parts, leads_same}
-use Rattle.lois_minimise.specs.Classes.{TellsApart, AreOthers, AreClassed, IsQuotient}
+use Rattle.lois_minimise.specs.Classes.{IsDistinguishability, AreOthers, AreClassed, IsQuotient}
 
 -- Reachable states with classes: each member is a pair of a reachable state and its class, and each reachable state stands in one.
-pub record AreWithClasses (pairs : PointValue) (a : Machine) : Type 0 where
+pub record AreWithClasses (pairs : PointValue) (a : Automaton) : Type 0 where
   pub classed : (y q x : PointValue) → IsIn y pairs → IsPair y q x → IsReachable a q × IsClassOf a x q
   pub each : (q : PointValue) → IsReachable a q → (y x : PointValue) × IsIn y pairs × IsPair y q x
 
 -- what tells states apart gives each reachable state its class
-module _ (a : Machine) (nodes apart pairs : PointValue) (reached : IsSetOf nodes (IsReachable a)) (tells : TellsApart a apart) (are : AreClassed nodes apart pairs) where
+module _ (a : Automaton) (nodes apart pairs : PointValue) (reached : IsSetOf nodes (IsReachable a)) (tells : IsDistinguishability a apart) (are : AreClassed nodes apart pairs) where
   is_class : (p q x x' : PointValue) → IsSame p q → IsSame x x' → IsReachable a q → AreOthers nodes apart p x → IsClassOf a x' q
   is_class p q x x' s t reach others = set_of_move (λ r. IsIn r nodes × (LeadsTo apart p r → ⊥)) (λ r. IsReachable a r × HaveSameWords a r q) x x' t
       (λ r h. let own : IsReachable a r = (reached.1 r).0 h.0 in
@@ -38,7 +38,7 @@ module _ (a : Machine) (nodes apart pairs : PointValue) (reached : IsSetOf nodes
         (f.0, f.2.0, f.1, f.2.1);
   }
 
-module _ (v : PointValue) (m a : Machine) (pairs : PointValue) (is : IsAutomatonOf v a) (with_classes : AreWithClasses pairs a) (made : IsQuotient m a pairs) where
+module _ (v : PointValue) (m a : Automaton) (pairs : PointValue) (is : IsAutomatonOf v a) (with_classes : AreWithClasses pairs a) (made : IsQuotient m a pairs) where
   paired_class : (q x : PointValue) → LeadsTo pairs q x → IsReachable a q × IsClassOf a x q
   paired_class q x (y, i, pair) = with_classes.classed y q x i pair
 

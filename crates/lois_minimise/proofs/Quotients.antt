@@ -6,7 +6,7 @@ use Rattle.lois_base.specs.Values.{point, IsSame}
 use Rattle.lois_base.proofs.Members.{same_refl}
 use Rattle.lois_terms.specs.Guarded.{IsSet}
 use Rattle.lois_automata.specs.Built.{AreTargets}
-use Rattle.lois_automata.specs.Columns.{five_terms}
+use Rattle.lois_automata.specs.Projections.{five_terms}
 use Rattle.lois_minimise.specs.Classes.{AreSeconds, AreClassSteps, IsQuotientTerm}
 
 pub quotient_term : (n : ℕ) (s l t i f classes l2 i2 f2 : CompsD) (states steps initial final r : TermD) → r ≡ five_terms states (coll l2) steps initial final →

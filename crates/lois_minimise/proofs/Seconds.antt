@@ -8,8 +8,8 @@ use Rattle.lois_base.proofs.Members.{same_refl, same_sym}
 use Rattle.lois_algebra.specs.Gathered.{IsAmong, IsMadeBy, IsPut}
 use Rattle.lois_meaning.proofs.Operations.{pair_to}
 use Rattle.lois_automata.specs.Adding.{IsMadeOfOne}
-use Rattle.lois_automata.specs.Columns.{AddsOfOne, pair_of}
-use Rattle.lois_automata.specs.Spread.{LeadsTo}
+use Rattle.lois_automata.specs.Projections.{AddsOfOne, pair_of}
+use Rattle.lois_automata.specs.Reachability.{LeadsTo}
 use Rattle.lois_automata.proofs.Adding.{added_put, adds_nothing, one_among}
 use Rattle.lois_automata.proofs.Written.{pair_at, pair_here, pair_term}
 use Rattle.lois_minimise.specs.Classes.{AreSeconds, IsSecondOf}

@@ -15,7 +15,7 @@ use Rattle.lois_algebra.proofs.Among.{among_in}
 use Rattle.lois_automata.specs.Adding.{IsMadeOfOne}
 use Rattle.lois_automata.specs.Built.{HoldsWhereIn}
 use Rattle.lois_automata.proofs.Adding.{added_put, one_among}
-use Rattle.lois_minimise.specs.Classes.{IsInside, IsOutside, AddsShare, AreShared}
+use Rattle.lois_minimise.specs.Classes.{IsInFirstPart, IsInSecondPart, AddsPartition, IsPartition}
 
 -- one comprehension under a guard that holds where its own does and Q says so of its item
 module _ (n m : ℕ) (g told guard : List (List Lit)) (t : TermD) (Q : List Atom → PointValue → Type 0) (Q_same : (c : List Atom) (x y : PointValue) → IsSame x y → Q c x → Q c y)
@@ -51,7 +51,7 @@ module _ (n m : ℕ) (g found missing here there : List (List Lit)) (t s : TermD
       )
 
   pub adds_share : (before after others_before others_after : CompsD) → IsPut (comp m here t) before after → IsPut (comp m there t) others_before others_after → (ConstraintFits (n + m) g → ConstraintFits (n + m) here) → (ConstraintFits (n + m) g → ConstraintFits (n + m) there) →
-      ((o : Bool) → AdmitsConstraint o g → AdmitsTerm o t → AdmitsTerm o s → AdmitsConstraint o here × AdmitsConstraint o there) → AddsShare n (comp m g t) s before after others_before others_after
+      ((o : Bool) → AdmitsConstraint o g → AdmitsTerm o t → AdmitsTerm o s → AdmitsConstraint o here × AdmitsConstraint o there) → AddsPartition n (comp m g t) s before after others_before others_after
   adds_share before after others_before others_after put put' fits fits' admits = record {
     inside = added_put n (comp m here t) _ _ _ _ before after put (part_is n m g found here t (λ c x. IsIn x (point s c)) inside_same is met)
         (λ f. (f.0, fits f.1, f.2)) (λ o a. ((admits o a.0.0 a.0.1 a.1).0, a.0.1)) (λ u. u);
@@ -69,17 +69,17 @@ module _ (n m : ℕ) (g found missing here there : List (List Lit)) (t s : TermD
           let other : IsTrue (holds d missing) = isnt d ∙ ap not eq in
           inr ((put'.members c w).1 (inr (e, record { count = ext.count; guard = unmet d ∙ (both_true (holds d g) (holds d missing)).1 (ext.guard, other) }, h)))
 
-pub are_shared : (n : ℕ) (ks inside outside : CompsD) (t : TermD) → ((c : List Atom) → length c ≡ n → (w : PointValue) → IsIn w (point (coll inside) c) ↔ IsMadeOfOne (IsInside t c) (IsAmong ks c) w) →
-    ((c : List Atom) → length c ≡ n → (w : PointValue) → IsIn w (point (coll outside) c) ↔ IsMadeOfOne (IsOutside t c) (IsAmong ks c) w) → ((c : List Atom) → length c ≡ n → (w : PointValue) → IsAmong ks c w → IsAmong inside c w ⊎ IsAmong outside c w) →
-    (c : List Atom) → length c ≡ n → AreShared (point (coll ks) c) (point t c) (point (coll inside) c) (point (coll outside) c)
+pub are_shared : (n : ℕ) (ks inside outside : CompsD) (t : TermD) → ((c : List Atom) → length c ≡ n → (w : PointValue) → IsIn w (point (coll inside) c) ↔ IsMadeOfOne (IsInFirstPart t c) (IsAmong ks c) w) →
+    ((c : List Atom) → length c ≡ n → (w : PointValue) → IsIn w (point (coll outside) c) ↔ IsMadeOfOne (IsInSecondPart t c) (IsAmong ks c) w) → ((c : List Atom) → length c ≡ n → (w : PointValue) → IsAmong ks c w → IsAmong inside c w ⊎ IsAmong outside c w) →
+    (c : List Atom) → length c ≡ n → IsPartition (point (coll ks) c) (point t c) (point (coll inside) c) (point (coll outside) c)
 are_shared n ks inside outside t one other each c l = record {
   inner = λ w. (
-    λ i. inner_of w ((one_among (IsInside t) ks c w).0 ((one c l w).0 i)),
-    λ h. (one c l w).1 ((one_among (IsInside t) ks c w).1 (w, h.0, (same_refl w, h.1))),
+    λ i. inner_of w ((one_among (IsInFirstPart t) ks c w).0 ((one c l w).0 i)),
+    λ h. (one c l w).1 ((one_among (IsInFirstPart t) ks c w).1 (w, h.0, (same_refl w, h.1))),
   );
   outer = λ w. (
-    λ i. outer_of w ((one_among (IsOutside t) ks c w).0 ((other c l w).0 i)),
-    λ h. (other c l w).1 ((one_among (IsOutside t) ks c w).1 (w, h.0, (same_refl w, h.1))),
+    λ i. outer_of w ((one_among (IsInSecondPart t) ks c w).0 ((other c l w).0 i)),
+    λ h. (other c l w).1 ((one_among (IsInSecondPart t) ks c w).1 (w, h.0, (same_refl w, h.1))),
   );
   each = λ w i. elim (each c l w ((among_in ks c w).1 i)) [
     | inl h ↦ inl ((among_in inside c w).0 h)
@@ -87,14 +87,14 @@ are_shared n ks inside outside t one other each c l = record {
   ];
 }
   where
-    inner_of : (w : PointValue) → IsMadeOfOne (IsInside t c) (λ x. IsIn x (point (coll ks) c)) w → IsIn w (point (coll ks) c) × IsIn w (point t c)
+    inner_of : (w : PointValue) → IsMadeOfOne (IsInFirstPart t c) (λ x. IsIn x (point (coll ks) c)) w → IsIn w (point (coll ks) c) × IsIn w (point t c)
     inner_of w (x, i, (s, j)) = (in_same x w (point (coll ks) c) s i, in_same x w (point t c) s j)
 
-    outer_of : (w : PointValue) → IsMadeOfOne (IsOutside t c) (λ x. IsIn x (point (coll ks) c)) w → IsIn w (point (coll ks) c) × (IsIn w (point t c) → ⊥)
+    outer_of : (w : PointValue) → IsMadeOfOne (IsInSecondPart t c) (λ x. IsIn x (point (coll ks) c)) w → IsIn w (point (coll ks) c) × (IsIn w (point t c) → ⊥)
     outer_of w (x, i, (s, never)) = (in_same x w (point (coll ks) c) s i, λ j. never (in_same w x (point t c) (same_sym x w s) j))
 
 -- what was in one of the two lists still is
-pub still_shared : (n : ℕ) (k : CompD) (t : TermD) (before after others_before others_after : CompsD) → AddsShare n k t before after others_before others_after →
+pub still_shared : (n : ℕ) (k : CompD) (t : TermD) (before after others_before others_after : CompsD) → AddsPartition n k t before after others_before others_after →
     (c : List Atom) (w : PointValue) → length c ≡ n → IsAmong before c w ⊎ IsAmong others_before c w → IsAmong after c w ⊎ IsAmong others_after c w
 still_shared n k t before after others_before others_after add c w l h = elim h [
   | inl i ↦ inl ((add.inside.members c l w).1 (inl i))

@@ -7,12 +7,12 @@ use Rattle.lois_algebra.specs.Sets.{IsUnion}
 use Rattle.lois_meaning.specs.Automata.{IsPair, IsTriple}
 use Rattle.lois_meaning.proofs.Operations.{triple_both, triple_exists}
 use Rattle.lois_automata.specs.Built.{ArePairs}
-use Rattle.lois_automata.specs.Columns.{IsStep, AreShaped, AreSideBySide}
-use Rattle.lois_automata.specs.declared.columns.Shape.TheVariants.{Back}
+use Rattle.lois_automata.specs.Projections.{IsStep, AreProjected, AreSideBySide}
+use Rattle.lois_automata.specs.declared.projections.Projection.TheVariants.{Back}
 use Rattle.lois_automata.proofs.Tuples.{pair_parts}
-use Rattle.lois_minimise.specs.Classes.{AreShared, AreSplitPairs, AreBackward}
+use Rattle.lois_minimise.specs.Classes.{IsPartition, AreSplitPairs, AreBackward}
 
-module _ (n : ℕ) (nodes set one other r : TermD) (inside outside : CompsD) (c : List Atom) (l : length c ≡ n) (shared : AreShared (point nodes c) (point set c) (point (coll inside) c) (point (coll outside) c)) (first : ArePairs n (coll inside) (coll outside) one) (second : ArePairs n (coll outside) (coll inside) other) (all : IsUnion one other r) where
+module _ (n : ℕ) (nodes set one other r : TermD) (inside outside : CompsD) (c : List Atom) (l : length c ≡ n) (shared : IsPartition (point nodes c) (point set c) (point (coll inside) c) (point (coll outside) c)) (first : ArePairs n (coll inside) (coll outside) one) (second : ArePairs n (coll outside) (coll inside) other) (all : IsUnion one other r) where
   pub are_split_pairs : AreSplitPairs (point nodes c) (point set c) (point r c)
   are_split_pairs = record {
     pairs = λ x. (
@@ -40,7 +40,7 @@ module _ (n : ℕ) (nodes set one other r : TermD) (inside outside : CompsD) (c 
   }
 
 -- of the steps side by side the pairs (target, source)
-module _ (n : ℕ) (steps both r : TermD) (c : List Atom) (l : length c ≡ n) (along : AreSideBySide n steps steps both) (shaped : AreShaped n Back both r) where
+module _ (n : ℕ) (steps both r : TermD) (c : List Atom) (l : length c ≡ n) (along : AreSideBySide n steps steps both) (shaped : AreProjected n Back both r) where
   pub are_backward : AreBackward (point steps c) (point r c)
   are_backward y = (λ i. there ((shaped c l y).0 i), back)
     where

@@ -2,27 +2,27 @@
 use Rattle.std.proofs.Common.{ℕ, zero, suc, inl, inr, ◌↔◌}
 use Rattle.lois_base.specs.Values.{PointValue, IsSame, IsIn}
 use Rattle.lois_base.proofs.Members.{same_refl, same_sym, in_same}
-use Rattle.lois_meaning.specs.Automata.{Machine, IsPair, HasStep, IsReachable}
+use Rattle.lois_meaning.specs.Automata.{Automaton, IsPair, HasStep, IsReachable}
 use Rattle.lois_meaning.proofs.Automata.{step_same, reachable_same}
 use Rattle.lois_meaning.proofs.Operations.{pair_exists, pair_both, pair_to}
-use Rattle.lois_automata.specs.Spread.{Graph, LeadsTo, IsReachedBy, IsReached}
+use Rattle.lois_automata.specs.Reachability.{Graph, LeadsTo, IsReachedBy, IsReached}
 use Rattle.lois_automata.proofs.Paths.{machine_refl}
-use Rattle.lois_minimise.specs.Classes.{IsWholeWithReach, TellsApart, IsSplit, AreSplitPairs, AreBackward}
+use Rattle.lois_minimise.specs.Classes.{IsCompleteDeterministicWithReach, IsDistinguishability, IsSplit, AreSplitPairs, AreBackward}
 use Rattle.lois_minimise.proofs.ToldApart.{IsToldApartBy, IsToldApart, alike_exactly}
 
 -- what the three sets have to be, for the pairs of states of the automaton a
-pub record IsGraphOfPairs (g : Graph) (a : Machine) : Type 0 where
+pub record IsGraphOfPairs (g : Graph) (a : Automaton) : Type 0 where
   pub nodes : (x : PointValue) → IsIn x g.nodes ↔ ((p q : PointValue) × IsReachable a p × IsReachable a q × IsPair x p q)
   pub start : (x : PointValue) → IsIn x g.start ↔ ((p q : PointValue) × IsReachable a p × IsReachable a q × IsSplit a.final p q × IsPair x p q)
   pub moves : AreBackward a.steps g.moves
 
-split_same : (a : Machine) (p q p' q' : PointValue) → IsSame p p' → IsSame q q' → IsSplit a.final p q → IsSplit a.final p' q'
+split_same : (a : Automaton) (p q p' q' : PointValue) → IsSame p p' → IsSame q q' → IsSplit a.final p q → IsSplit a.final p' q'
 split_same a p q p' q' s t h = elim h [
   | inl k ↦ inl (in_same p p' a.final s k.0, λ i. k.1 (in_same q' q a.final (same_sym q q' t) i))
   | inr k ↦ inr (in_same q q' a.final t k.0, λ i. k.1 (in_same p' p a.final (same_sym p p' s) i))
 ]
 
-module _ (g : Graph) (a : Machine) (is : IsGraphOfPairs g a) where
+module _ (g : Graph) (a : Automaton) (is : IsGraphOfPairs g a) where
   reach_to : (p p' : PointValue) → IsSame p p' → IsReachable a p → IsReachable a p'
   reach_to p p' s r = reachable_same a a p p' (machine_refl a) s r
 
@@ -82,7 +82,7 @@ module _ (g : Graph) (a : Machine) (is : IsGraphOfPairs g a) where
   apart_exactly x p q pair = (λ h. (h.0, reached_apart h.0 x p q pair h.1), λ h. (h.0, apart_reached h.0 x p q pair h.1))
 
 -- The set that the moves lead to tells states apart.
-module _ (a : Machine) (nodes all start moves r : PointValue) (whole : IsWholeWithReach a nodes) (pairs : (x : PointValue) → IsIn x all ↔ ((p q : PointValue) × IsIn p nodes × IsIn q nodes × IsPair x p q)) (splits : AreSplitPairs nodes a.final start) (back : AreBackward a.steps moves)
+module _ (a : Automaton) (nodes all start moves r : PointValue) (whole : IsCompleteDeterministicWithReach a nodes) (pairs : (x : PointValue) → IsIn x all ↔ ((p q : PointValue) × IsIn p nodes × IsIn q nodes × IsPair x p q)) (splits : AreSplitPairs nodes a.final start) (back : AreBackward a.steps moves)
     (set : (x : PointValue) → IsIn x r ↔ IsReached (record { nodes = all; start = start; moves = moves }) x) where
   are : (p : PointValue) → IsIn p nodes ↔ IsReachable a p
   are p = whole.reached.1 p
@@ -107,7 +107,7 @@ module _ (a : Machine) (nodes all start moves r : PointValue) (whole : IsWholeWi
         (x.0, (set x.0).1 ((apart_exactly (record { nodes = all; start = start; moves = moves }) a of_pairs x.0 p q x.1).1 h), x.1),
   )
 
-  pub tells_apart : TellsApart a r
+  pub tells_apart : IsDistinguishability a r
   tells_apart p q rp rq =
       let alike = alike_exactly whole.value a whole.automaton whole.complete (λ s reach. splits.decided s ((are s).1 reach)) p q whole.deterministic rp rq in (
         λ never. alike.0 (λ t. never ((leads_exactly p q).1 t)),

@@ -10,16 +10,16 @@ use Rattle.lois_meaning.specs.Automata.{IsReachable, IsDeterministic, IsComplete
 use Rattle.lois_meaning.specs.Kinds.{IsSetOf}
 use Rattle.lois_meaning.specs.Operations.{ClassesExist}
 use Rattle.lois_meaning.proofs.Operations.{minimal_is_minimal}
-use Rattle.lois_automata.specs.Columns.{five_of, machine_at}
-use Rattle.lois_automata.specs.Machines.{IsWholeAt, IsReachAt}
+use Rattle.lois_automata.specs.Projections.{five_of, automaton_at}
+use Rattle.lois_automata.specs.Machines.{IsCompleteDeterministicAt, IsReachAt}
 use Rattle.lois_automata.specs.Throughout.{HoldsThroughout}
 use Rattle.lois_automata.proofs.FiveMachine.{five_equal, five_machine}
-use Rattle.lois_minimise.specs.Classes.{IsWholeWithReach, TellsApart, AreClassed, IsQuotientTerm}
+use Rattle.lois_minimise.specs.Classes.{IsCompleteDeterministicWithReach, IsDistinguishability, AreClassed, IsQuotientTerm}
 use Rattle.lois_minimise.specs.Minimal.{IsMinimalAt, IsLeastAt}
 use Rattle.lois_minimise.proofs.Classes.{are_with_classes, minimal_of, classes_exist, automaton_of}
 
 module _ (s l t i f : CompsD) (c : List Atom) where
-  pub whole_with_reach : (states : TermD) → IsWholeAt (five_of s l t i f) c → IsReachAt (five_of s l t i f) states c → IsWholeWithReach (machine_at s l t i f c) (point states c)
+  pub whole_with_reach : (states : TermD) → IsCompleteDeterministicAt (five_of s l t i f) c → IsReachAt (five_of s l t i f) states c → IsCompleteDeterministicWithReach (automaton_at s l t i f c) (point states c)
   whole_with_reach states (m, is, one, whole) (m', is', set) = record {
     value = point (five_of s l t i f) c;
     automaton = five_machine s l t i f c (m, is);
@@ -28,11 +28,11 @@ module _ (s l t i f : CompsD) (c : List Atom) where
     reached = subst (λ z. IsSetOf (point states c) (IsReachable z)) (five_equal s l t i f c m' is') set;
   }
 
-  pub minimal_at : (n : ℕ) (states apart pairs r : TermD) → length c ≡ n → IsWholeAt (five_of s l t i f) c → IsReachAt (five_of s l t i f) states c → TellsApart (machine_at s l t i f c) (point apart c) → AreClassed (point states c) (point apart c) (point pairs c) →
+  pub minimal_at : (n : ℕ) (states apart pairs r : TermD) → length c ≡ n → IsCompleteDeterministicAt (five_of s l t i f) c → IsReachAt (five_of s l t i f) states c → IsDistinguishability (automaton_at s l t i f c) (point apart c) → AreClassed (point states c) (point apart c) (point pairs c) →
       IsQuotientTerm n s l t i f pairs r → IsMinimalAt (five_of s l t i f) r c × IsLeastAt (five_of s l t i f) r c
   minimal_at n states apart pairs r k is_whole is_reach tells classed q =
-      let a = machine_at s l t i f c in
-      let m = machine_at q.states q.letters q.steps q.initial q.final c in
+      let a = automaton_at s l t i f c in
+      let m = automaton_at q.states q.letters q.steps q.initial q.final c in
       let all = whole_with_reach states is_whole is_reach in
       let v = point (five_of s l t i f) c in
       let own : IsAutomatonOf v a = five_machine s l t i f c (is_whole.0, is_whole.1) in
@@ -55,17 +55,17 @@ module _ (s l t i f : CompsD) (c : List Atom) where
       )
 
 -- throughout the choices that a constraint admits
-module _ (n : ℕ) (u : List (List Lit)) (a states : TermD) (s l t i f nodes : CompsD) (is : a ≡ five_of s l t i f) (is_nodes : states ≡ coll nodes) (whole : HoldsThroughout n u (IsWholeAt a)) (reach : HoldsThroughout n u (IsReachAt a states)) where
-  whole_of : (c : List Atom) → length c ≡ n → IsTrue (holds c u) → IsWholeAt (five_of s l t i f) c
-  whole_of c k h = subst (λ z. IsWholeAt z c) is (whole c k h)
+module _ (n : ℕ) (u : List (List Lit)) (a states : TermD) (s l t i f nodes : CompsD) (is : a ≡ five_of s l t i f) (is_nodes : states ≡ coll nodes) (whole : HoldsThroughout n u (IsCompleteDeterministicAt a)) (reach : HoldsThroughout n u (IsReachAt a states)) where
+  whole_of : (c : List Atom) → length c ≡ n → IsTrue (holds c u) → IsCompleteDeterministicAt (five_of s l t i f) c
+  whole_of c k h = subst (λ z. IsCompleteDeterministicAt z c) is (whole c k h)
 
   reach_of : (c : List Atom) → length c ≡ n → IsTrue (holds c u) → IsReachAt (five_of s l t i f) (coll nodes) c
   reach_of c k h = subst (λ z. IsReachAt z (coll nodes) c) is (subst (λ z. IsReachAt a z c) is_nodes (reach c k h))
 
-  pub whole_throughout : HoldsThroughout n u (λ c. IsWholeWithReach (machine_at s l t i f c) (point (coll nodes) c))
+  pub whole_throughout : HoldsThroughout n u (λ c. IsCompleteDeterministicWithReach (automaton_at s l t i f c) (point (coll nodes) c))
   whole_throughout c k h = whole_with_reach s l t i f c (coll nodes) (whole_of c k h) (reach_of c k h)
 
-  pub minimal_throughout : (apart pairs r : TermD) → HoldsThroughout n u (λ c. TellsApart (machine_at s l t i f c) (point apart c)) → ((c : List Atom) → length c ≡ n → AreClassed (point (coll nodes) c) (point apart c) (point pairs c)) → IsQuotientTerm n s l t i f pairs r →
+  pub minimal_throughout : (apart pairs r : TermD) → HoldsThroughout n u (λ c. IsDistinguishability (automaton_at s l t i f c) (point apart c)) → ((c : List Atom) → length c ≡ n → AreClassed (point (coll nodes) c) (point apart c) (point pairs c)) → IsQuotientTerm n s l t i f pairs r →
       HoldsThroughout n u (IsMinimalAt a r) × HoldsThroughout n u (IsLeastAt a r)
   minimal_throughout apart pairs r tells classed quotient =
       let both : (c : List Atom) → length c ≡ n → IsTrue (holds c u) → IsMinimalAt a r c × IsLeastAt a r c = λ c k h.

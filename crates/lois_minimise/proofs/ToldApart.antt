@@ -2,28 +2,28 @@
 use Rattle.std.proofs.Common.{ℕ, zero, suc, List, [], ◌∷◌, ◌⊎◌, inl, inr, ◌↔◌}
 use Rattle.lois_base.specs.Values.{PointValue, IsIn}
 use Rattle.lois_base.proofs.Members.{same_refl, same_sym, in_same}
-use Rattle.lois_meaning.specs.Automata.{Machine, IsAutomatonOf, HasStep, AcceptsFrom, IsReachable, IsDeterministic, IsComplete, HaveSameWords}
+use Rattle.lois_meaning.specs.Automata.{Automaton, IsAutomatonOf, HasStep, AcceptsFrom, IsReachable, IsDeterministic, IsComplete, HaveSameWords}
 use Rattle.lois_meaning.proofs.Automata.{accepts_from_same}
 use Rattle.lois_meaning.proofs.Operations.{words_sym, reach_step}
 use Rattle.lois_automata.proofs.Paths.{machine_refl, letter_in, reached_state}
 use Rattle.lois_minimise.specs.Classes.{IsSplit}
 
-final_of : (a : Machine) (q : PointValue) → AcceptsFrom a q [] → IsIn q a.final
+final_of : (a : Automaton) (q : PointValue) → AcceptsFrom a q [] → IsIn q a.final
 final_of a q (f, is, s) = in_same f q a.final (same_sym q f s) is
 
 -- a word of at most n letters is accepted from one of two reachable states, and not from the other
-abbrev pub IsToldApartBy : Machine → ℕ → PointValue → PointValue → Type 0
+abbrev pub IsToldApartBy : Automaton → ℕ → PointValue → PointValue → Type 0
 IsToldApartBy a zero p q = IsReachable a p × IsReachable a q × IsSplit a.final p q
 IsToldApartBy a (suc n) p q =
     IsToldApartBy a n p q ⊎ (IsReachable a p × IsReachable a q × ((l p' q' : PointValue) × HasStep a p l p' × HasStep a q l q' × IsToldApartBy a n p' q'))
 
-abbrev pub IsToldApart : Machine → PointValue → PointValue → Type 0
+abbrev pub IsToldApart : Automaton → PointValue → PointValue → Type 0
 IsToldApart a p q = (n : ℕ) × IsToldApartBy a n p q
 
-split_sym : (a : Machine) (p q : PointValue) → IsSplit a.final p q → IsSplit a.final q p
+split_sym : (a : Automaton) (p q : PointValue) → IsSplit a.final p q → IsSplit a.final q p
 split_sym a p q h = elim h [ inl k ↦ inr k | inr k ↦ inl k ]
 
-apart_sym : (a : Machine) (n : ℕ) (p q : PointValue) → IsToldApartBy a n p q → IsToldApartBy a n q p
+apart_sym : (a : Automaton) (n : ℕ) (p q : PointValue) → IsToldApartBy a n p q → IsToldApartBy a n q p
 apart_sym a zero p q h = (h.1, h.0, split_sym a p q h.2)
 apart_sym a (suc n) p q h = elim h [
   | inl k ↦ inl (apart_sym a n p q k)
@@ -31,14 +31,14 @@ apart_sym a (suc n) p q h = elim h [
 ]
 
 -- a letter leads on from states with the same words to states with the same words
-words_after : (a : Machine) (l p q p' q' : PointValue) → IsDeterministic a → HasStep a p l p' → HasStep a q l q' → HaveSameWords a p q → (word : List PointValue) → AcceptsFrom a p' word → AcceptsFrom a q' word
+words_after : (a : Automaton) (l p q p' q' : PointValue) → IsDeterministic a → HasStep a p l p' → HasStep a q l q' → HaveSameWords a p q → (word : List PointValue) → AcceptsFrom a p' word → AcceptsFrom a q' word
 words_after a l p q p' q' one sp sq same word (f, is, reads) =
     let there : AcceptsFrom a q (l ∷ word) = (same (l ∷ word)).0 (f, is, (p', sp, reads)) in
     let r = there.2.0 in
     accepts_from_same a a word r q' (machine_refl a) (one.1 q l r q' there.2.1 sq) (there.0, there.1, there.2.2)
 
 -- from states that are told apart not the same words are accepted
-pub apart_differ : (a : Machine) (n : ℕ) (p q : PointValue) → IsDeterministic a → IsToldApartBy a n p q → HaveSameWords a p q → ⊥
+pub apart_differ : (a : Automaton) (n : ℕ) (p q : PointValue) → IsDeterministic a → IsToldApartBy a n p q → HaveSameWords a p q → ⊥
 apart_differ a zero p q one h same = elim h.2 [
   | inl s ↦ s.1 (final_of a q ((same []).0 (p, s.0, same_refl p)))
   | inr s ↦ s.1 (final_of a p ((same []).1 (q, s.0, same_refl q)))
@@ -52,10 +52,10 @@ apart_differ a (suc n) p q one h same = elim h [
 ]
 
 -- whether a reachable state is final can be told
-abbrev pub FinalIsDecided : Machine → Type 0
+abbrev pub FinalIsDecided : Automaton → Type 0
 FinalIsDecided a = (q : PointValue) → IsReachable a q → IsIn q a.final ⊎ (IsIn q a.final → ⊥)
 
-module _ (v : PointValue) (a : Machine) (is : IsAutomatonOf v a) (whole : IsComplete a) (decided : FinalIsDecided a) where
+module _ (v : PointValue) (a : Automaton) (is : IsAutomatonOf v a) (whole : IsComplete a) (decided : FinalIsDecided a) where
   words_of : (word : List PointValue) (p q : PointValue) → IsReachable a p → IsReachable a q → (IsToldApart a p q → ⊥) → AcceptsFrom a p word → AcceptsFrom a q word
   words_of [] p q rp rq never h = elim (decided q rq) [
     | inl f ↦ (q, f, same_refl q)

@@ -3,17 +3,17 @@ use Rattle.std.specs.Prelude.{◌≡◌, ℕ, List, ◌++◌, length, ◌↔◌,
 use Rattle.lois_base.specs.Atom.{Atom}
 use Rattle.lois_base.specs.Data.{TermD, CompD, CompsD}
 use Rattle.lois_base.specs.Fits.{CompFits}
-use Rattle.lois_base.specs.Validity.{AdmitsTerm, AdmitsComp, HasUsualWidths, CompHasUsualWidths}
+use Rattle.lois_base.specs.Validity.{AdmitsTerm, AdmitsComp, HasBoundedWidths, CompHasBoundedWidths}
 use Rattle.lois_base.specs.Values.{PointValue, point, IsIn, IsSame}
 use Rattle.lois_algebra.specs.Gathered.{IsAmong, IsMadeBy}
-use Rattle.lois_meaning.specs.Automata.{Machine, IsPair, IsTriple, IsAutomatonOf, HasStep, IsReachable, IsDeterministic, IsComplete, HaveSameWords}
+use Rattle.lois_meaning.specs.Automata.{Automaton, IsPair, IsTriple, IsAutomatonOf, HasStep, IsReachable, IsDeterministic, IsComplete, HaveSameWords}
 use Rattle.lois_meaning.specs.Kinds.{IsSetOf}
 use Rattle.lois_automata.specs.Adding.{Adds, IsMadeOfOne}
-use Rattle.lois_automata.specs.Columns.{IsStep, five_of, machine_at, pair_of}
-use Rattle.lois_automata.specs.Spread.{LeadsTo}
+use Rattle.lois_automata.specs.Projections.{IsStep, five_of, automaton_at, pair_of}
+use Rattle.lois_automata.specs.Reachability.{LeadsTo}
 
 -- a complete deterministic automaton, and the set of its reachable states
-pub record IsWholeWithReach (a : Machine) (states : PointValue) : Type 0 where
+pub record IsCompleteDeterministicWithReach (a : Automaton) (states : PointValue) : Type 0 where
   pub value : PointValue
   pub automaton : IsAutomatonOf value a
   pub deterministic : IsDeterministic a
@@ -21,8 +21,8 @@ pub record IsWholeWithReach (a : Machine) (states : PointValue) : Type 0 where
   pub reached : IsSetOf states (IsReachable a)
 
 -- of two reachable states the set has no pair exactly where the same words are accepted from both
-abbrev pub TellsApart : Machine → PointValue → Type 0
-TellsApart a apart =
+abbrev pub IsDistinguishability : Automaton → PointValue → Type 0
+IsDistinguishability a apart =
     (p q : PointValue) → IsReachable a p → IsReachable a q → (LeadsTo apart p q → ⊥) ↔ HaveSameWords a p q
 
 -- ---- states that are told apart by the empty word
@@ -31,22 +31,22 @@ abbrev pub IsSplit : PointValue → PointValue → PointValue → Type 0
 IsSplit final p q = (IsIn p final × (IsIn q final → ⊥)) ⊎ (IsIn q final × (IsIn p final → ⊥))
 
 -- the nodes are shared between two sets: those of a third set t are inside, and the others outside
-pub record AreShared (nodes t inside outside : PointValue) : Type 0 where
+pub record IsPartition (nodes t inside outside : PointValue) : Type 0 where
   pub inner : (w : PointValue) → IsIn w inside ↔ (IsIn w nodes × IsIn w t)
   pub outer : (w : PointValue) → IsIn w outside ↔ (IsIn w nodes × (IsIn w t → ⊥))
   pub each : (w : PointValue) → IsIn w nodes → IsIn w inside ⊎ IsIn w outside
 
 -- w is x, which is in the set; which isn't
-abbrev pub IsInside : TermD → List Atom → PointValue → PointValue → Type 0
-IsInside t c x w = IsSame x w × IsIn x (point t c)
+abbrev pub IsInFirstPart : TermD → List Atom → PointValue → PointValue → Type 0
+IsInFirstPart t c x w = IsSame x w × IsIn x (point t c)
 
-abbrev pub IsOutside : TermD → List Atom → PointValue → PointValue → Type 0
-IsOutside t c x w = IsSame x w × (IsIn x (point t c) → ⊥)
+abbrev pub IsInSecondPart : TermD → List Atom → PointValue → PointValue → Type 0
+IsInSecondPart t c x w = IsSame x w × (IsIn x (point t c) → ⊥)
 
 -- each member of the comprehension is added to the one list where it is in the set, and to the other where it isn't
-pub record AddsShare (n : ℕ) (k : CompD) (t : TermD) (before after others_before others_after : CompsD) : Type 0 where
-  pub inside : Adds n (λ c. IsMadeOfOne (IsInside t c) (IsMadeBy k c)) (CompFits n k) (λ o. AdmitsComp o k × AdmitsTerm o t) (CompHasUsualWidths k) before after
-  pub outside : Adds n (λ c. IsMadeOfOne (IsOutside t c) (IsMadeBy k c)) (CompFits n k) (λ o. AdmitsComp o k × AdmitsTerm o t) (CompHasUsualWidths k) others_before others_after
+pub record AddsPartition (n : ℕ) (k : CompD) (t : TermD) (before after others_before others_after : CompsD) : Type 0 where
+  pub inside : Adds n (λ c. IsMadeOfOne (IsInFirstPart t c) (IsMadeBy k c)) (CompFits n k) (λ o. AdmitsComp o k × AdmitsTerm o t) (CompHasBoundedWidths k) before after
+  pub outside : Adds n (λ c. IsMadeOfOne (IsInSecondPart t c) (IsMadeBy k c)) (CompFits n k) (λ o. AdmitsComp o k × AdmitsTerm o t) (CompHasBoundedWidths k) others_before others_after
   pub each : (c : List Atom) → length c ≡ n → (w : PointValue) → IsMadeBy k c w → IsAmong after c w ⊎ IsAmong others_after c w
 
 -- v has exactly the pairs of nodes of which one is in the set and the other isn't, and each node is in the set or isn't
@@ -88,7 +88,7 @@ IsClassedAt nodes apart c = IsClassed (point nodes c) (point apart c)
 
 -- each member of the comprehension is added in a pair with its class
 pub record AddsClass (n : ℕ) (k : CompD) (nodes apart : TermD) (before after : CompsD) : Type 0 where
-  pub adds : Adds n (λ c. IsMadeOfOne (IsClassedAt nodes apart c) (IsMadeBy k c)) (CompFits n k) (λ o. AdmitsComp o k × (AdmitsTerm o nodes × AdmitsTerm o apart)) (CompHasUsualWidths k × HasUsualWidths nodes) before after
+  pub adds : Adds n (λ c. IsMadeOfOne (IsClassedAt nodes apart c) (IsMadeBy k c)) (CompFits n k) (λ o. AdmitsComp o k × (AdmitsTerm o nodes × AdmitsTerm o apart)) (CompHasBoundedWidths k × HasBoundedWidths nodes) before after
   pub each : (c : List Atom) → length c ≡ n → (p : PointValue) → IsMadeBy k c p → (y : PointValue) × IsAmong after c y × IsClassedAt nodes apart c p y
 
 -- ---- the automaton of classes
@@ -125,7 +125,7 @@ AreClassSteps pairs letters steps v =
     (w : PointValue) → IsIn w v ↔ ((q l r x z : PointValue) × LeadsTo pairs q x × IsIn l letters × LeadsTo pairs r z × IsStep steps q l r × IsTriple w x l z)
 
 -- the five sets of m are made of the pairs (state, class)
-pub record IsQuotient (m a : Machine) (pairs : PointValue) : Type 0 where
+pub record IsQuotient (m a : Automaton) (pairs : PointValue) : Type 0 where
   pub states : IsSetOf m.states (λ x. (q : PointValue) × LeadsTo pairs q x)
   pub letters : IsSame m.letters a.letters
   pub steps : IsSetOf m.steps (λ w. (q l r x z : PointValue) × LeadsTo pairs q x × IsIn l a.letters × LeadsTo pairs r z × HasStep a q l r × IsTriple w x l z)
@@ -140,4 +140,4 @@ pub record IsQuotientTerm (n : ℕ) (s l t i f : CompsD) (pairs r : TermD) : Typ
   pub initial : CompsD
   pub final : CompsD
   pub written : r ≡ five_of states letters steps initial final
-  pub quotient : (c : List Atom) → length c ≡ n → IsQuotient (machine_at states letters steps initial final c) (machine_at s l t i f c) (point pairs c)
+  pub quotient : (c : List Atom) → length c ≡ n → IsQuotient (automaton_at states letters steps initial final c) (automaton_at s l t i f c) (point pairs c)

@@ -3,7 +3,7 @@ use Rattle.std.specs.Prelude.{List, [], ◌∷◌, ◌↔◌}
 use Rattle.lois_base.specs.Atom.{Atom}
 use Rattle.lois_base.specs.Data.{TermD}
 use Rattle.lois_base.specs.Values.{PointValue, point, IsIn, IsSame}
-use Rattle.lois_meaning.specs.Automata.{Machine, IsAutomatonOf, Accepts, IsReachable, HaveSameWords}
+use Rattle.lois_meaning.specs.Automata.{Automaton, IsAutomatonOf, Accepts, IsReachable, HaveSameWords}
 use Rattle.lois_meaning.specs.Expressions.{IsResultOf}
 use Rattle.lois_script.specs.declared.syntax.Operation.TheVariants.{Minimise}
 
@@ -13,8 +13,8 @@ IsMinimalAt t r c = IsResultOf (point r c) Minimise (point t c ∷ [])
 
 -- r accepts exactly the words that t accepts, all its states are reachable, and from no two states that differ the same words are accepted
 pub record IsLeastAt (t r : TermD) (c : List Atom) : Type 0 where
-  pub first : Machine
-  pub made : Machine
+  pub first : Automaton
+  pub made : Automaton
   pub first_is : IsAutomatonOf (point t c) first
   pub made_is : IsAutomatonOf (point r c) made
   pub words : (word : List PointValue) → Accepts made word ↔ Accepts first word

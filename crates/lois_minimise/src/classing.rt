@@ -5,12 +5,12 @@ ghost use Rattle.lois_base.specs.Atom.{Atom};
 ghost use Rattle.lois_base.specs.Data.{coll, comps_of};
 ghost use Rattle.lois_base.specs.Fits.{Fits, CompFits, ItemsFit};
 ghost use Rattle.lois_base.specs.Tree.{tree, comp_of};
-ghost use Rattle.lois_base.specs.Validity.{AdmitsTerm, AdmitsComp, AdmitsItems, HasUsualWidths, ItemsHaveUsualWidths};
+ghost use Rattle.lois_base.specs.Validity.{AdmitsTerm, AdmitsComp, AdmitsItems, HasBoundedWidths, ItemsHaveBoundedWidths};
 ghost use Rattle.lois_base.specs.Values.{point};
 ghost use Rattle.lois_terms.specs.Guarded.{IsSet};
 ghost use Rattle.lois_minimise.specs.Classes.{AreClassed, AddsClass, IsClassTerm, IsSingle};
 
-use lois_algebra::{minus, put};
+use lois_algebra::{minus, push_comp};
 use lois_automata::{among_more, pair, targets_from};
 use lois_base::{Comp, Comps, Constraint, NoMemory, Structure, Term};
 use std::alloc::Global;
@@ -30,7 +30,7 @@ pub fn with_classes<T: Structure>(
     ensures classed { IfOk result (λ r. (c : List Atom) → length c ≡ size → AreClassed (point (coll (comps_of nodes.now)) c) (point (tree apart.now) c) (point (coll (comps_of r)) c)) }
     ensures levels { IfOk result (λ r. ItemsFit size (comps_of r)) }
     ensures operators { IfOk result (λ r. (o : Bool) → AdmitsItems o (comps_of nodes.now) → AdmitsTerm o (tree apart.now) → AdmitsItems o (comps_of r)) }
-    ensures widths { IfOk result (λ r. ItemsHaveUsualWidths (comps_of nodes.now) → ItemsHaveUsualWidths (comps_of r)) }
+    ensures widths { IfOk result (λ r. ItemsHaveBoundedWidths (comps_of nodes.now) → ItemsHaveBoundedWidths (comps_of r)) }
 {
     let mut classes = Comps::new(alloc);
     for comp in nodes.as_slice() {
@@ -59,7 +59,7 @@ fn add_class<T: Structure>(
     let class = class_of::<T>(alloc, &comp.item, nodes, apart, size, comp.binders)?;
     let guard = comp.guard.copy(alloc)?;
     let item = pair(alloc, &comp.item, &class)?;
-    put(
+    push_comp(
         classes,
         Comp {
             binders: comp.binders,
@@ -90,7 +90,7 @@ fn class_of<T: Structure>(
     ensures set { IfOk result (λ r. IsSet (tree r)) }
     ensures levels { IfOk result (λ r. Fits (size + by) (tree r)) }
     ensures operators { IfOk result (λ r. (o : Bool) → AdmitsTerm o (tree item.now) → AdmitsItems o (comps_of nodes.now) → AdmitsTerm o (tree apart.now) → AdmitsTerm o (tree r)) }
-    ensures widths { IfOk result (λ r. ItemsHaveUsualWidths (comps_of nodes.now) → HasUsualWidths (tree r)) }
+    ensures widths { IfOk result (λ r. ItemsHaveBoundedWidths (comps_of nodes.now) → HasBoundedWidths (tree r)) }
 {
     let states = Term::Coll(nodes.copy(alloc)?);
     let all = among_more(alloc, &states, size, by)?;

@@ -2,10 +2,10 @@
 #![tactic(auto)]
 
 mod classing;
+mod distinguishing;
 mod minimising;
 mod pairs;
-mod sharing;
-mod telling;
+mod partitioning;
 mod transitions;
 
 pub use minimising::minimise;

@@ -4,16 +4,16 @@ ghost use Rattle.std.specs.Prelude.{Bool, IfOk};
 ghost use Rattle.lois_base.specs.Data.{coll, comps_of};
 ghost use Rattle.lois_base.specs.Fits.{ConstraintFits, Fits, ItemsFit};
 ghost use Rattle.lois_base.specs.Tree.{tree};
-ghost use Rattle.lois_base.specs.Validity.{AdmitsConstraint, AdmitsTerm, AdmitsItems, HasUsualWidths, ItemsHaveUsualWidths};
+ghost use Rattle.lois_base.specs.Validity.{AdmitsConstraint, AdmitsTerm, AdmitsItems, HasBoundedWidths, ItemsHaveBoundedWidths};
 ghost use Rattle.lois_deciders.specs.OnlyAsked.{HasOnlyAsked};
-ghost use Rattle.lois_automata.specs.Machines.{IsWholeAt, IsReachAt};
+ghost use Rattle.lois_automata.specs.Machines.{IsCompleteDeterministicAt, IsReachAt};
 ghost use Rattle.lois_automata.specs.Throughout.{HoldsThroughout};
 ghost use Rattle.lois_minimise.specs.Classes.{IsQuotientTerm};
 ghost use Rattle.lois_minimise.specs.Minimal.{IsMinimalAt, IsLeastAt};
 
 use crate::classing::with_classes;
+use crate::distinguishing::distinguishable_pairs;
 use crate::pairs::second_parts;
-use crate::telling::told_apart;
 use crate::transitions::class_steps;
 use lois_automata::{FiveSets, five, of_five, targets_from};
 use lois_base::{Comps, Constraint, Decider, NoMemory, Structure, Term};
@@ -37,13 +37,13 @@ pub fn minimise<T: Structure>(
     requires reached_operators { AdmitsTerm T.ordered (tree reached.now) }
     requires under { ConstraintFits size under.now }
     requires under_operators { AdmitsConstraint T.ordered under.now }
-    requires whole { HoldsThroughout size under.now (IsWholeAt (tree a.now)) }
+    requires whole { HoldsThroughout size under.now (IsCompleteDeterministicAt (tree a.now)) }
     requires reached { HoldsThroughout size under.now (IsReachAt (tree a.now) (tree reached.now)) }
     ensures minimal { IfOk result (λ r. HoldsThroughout size under.now (IsMinimalAt (tree a.now) (tree r))) }
     ensures least { IfOk result (λ r. HoldsThroughout size under.now (IsLeastAt (tree a.now) (tree r))) }
     ensures levels { IfOk result (λ r. Fits size (tree r)) }
     ensures operators { IfOk result (λ r. (o : Bool) → AdmitsTerm o (tree a.now) → AdmitsTerm o (tree reached.now) → AdmitsConstraint o under.now → AdmitsTerm o (tree r)) }
-    ensures widths { IfOk result (λ r. HasUsualWidths (tree a.now) → HasUsualWidths (tree reached.now) → HasUsualWidths (tree r)) }
+    ensures widths { IfOk result (λ r. HasBoundedWidths (tree a.now) → HasBoundedWidths (tree reached.now) → HasBoundedWidths (tree r)) }
 
     // whatever is answered
     ensures only_asked { HasOnlyAsked (λ b. (⟦<dyn Decider as Decider>⟧ b.vtable).kind_of b.value) (λ b. (⟦<dyn Decider as Decider>⟧ b.vtable).questions b.value) chosen.old chosen.new }
@@ -54,7 +54,7 @@ pub fn minimise<T: Structure>(
     let Term::Coll(nodes) = reached else {
         return a.copy(alloc);
     };
-    let apart = told_apart::<T>(alloc, sets, nodes, under, size)?;
+    let apart = distinguishable_pairs::<T>(alloc, sets, nodes, under, size)?;
     let classes = with_classes::<T>(alloc, nodes, &apart, size)?;
     quotient::<T>(alloc, sets, &classes, size)
 }
@@ -79,7 +79,7 @@ fn quotient<T: Structure>(
     ensures quotient { IfOk result (λ r. IsQuotientTerm size (comps_of sets.entry.states.now) (comps_of sets.entry.letters.now) (comps_of sets.entry.steps.now) (comps_of sets.entry.initial.now) (comps_of sets.entry.accepting.now) (coll (comps_of classes.now)) (tree r)) }
     ensures levels { IfOk result (λ r. Fits size (tree r)) }
     ensures operators { IfOk result (λ r. (o : Bool) → AdmitsItems o (comps_of sets.entry.letters.now) → AdmitsItems o (comps_of sets.entry.steps.now) → AdmitsItems o (comps_of sets.entry.initial.now) → AdmitsItems o (comps_of sets.entry.accepting.now) → AdmitsItems o (comps_of classes.now) → AdmitsTerm o (tree r)) }
-    ensures widths { IfOk result (λ r. ItemsHaveUsualWidths (comps_of sets.entry.letters.now) → ItemsHaveUsualWidths (comps_of classes.now) → HasUsualWidths (tree r)) }
+    ensures widths { IfOk result (λ r. ItemsHaveBoundedWidths (comps_of sets.entry.letters.now) → ItemsHaveBoundedWidths (comps_of classes.now) → HasBoundedWidths (tree r)) }
 {
     let states = second_parts(alloc, classes)?;
     let letters = Term::Coll(sets.letters.copy(alloc)?);

@@ -4,12 +4,12 @@ ghost use Rattle.std.specs.Prelude.{ℕ, Bool, IfOk, OnOk};
 ghost use Rattle.lois_base.specs.Data.{coll, comps_of};
 ghost use Rattle.lois_base.specs.Fits.{Fits, ItemsFit};
 ghost use Rattle.lois_base.specs.Tree.{tree, comp_of};
-ghost use Rattle.lois_base.specs.Validity.{AdmitsTerm, AdmitsItems, HasUsualWidths, ItemsHaveUsualWidths};
+ghost use Rattle.lois_base.specs.Validity.{AdmitsTerm, AdmitsItems, HasBoundedWidths, ItemsHaveBoundedWidths};
 ghost use Rattle.lois_terms.specs.Guarded.{IsSet};
-ghost use Rattle.lois_automata.specs.Columns.{AddsOfOne};
+ghost use Rattle.lois_automata.specs.Projections.{AddsOfOne};
 ghost use Rattle.lois_minimise.specs.Classes.{AreSeconds, IsSecondOf};
 
-use lois_algebra::put;
+use lois_algebra::push_comp;
 use lois_automata::pair_parts;
 use lois_base::{Comp, Comps, NoMemory, Term};
 use std::alloc::Global;
@@ -20,7 +20,7 @@ pub fn second_parts(alloc: Global, pairs: &Comps) -> Result<Term, NoMemory>
     ensures set { IfOk result (λ r. IsSet (tree r)) }
     ensures levels { IfOk result (λ r. (n : ℕ) → ItemsFit n (comps_of pairs.now) → Fits n (tree r)) }
     ensures operators { IfOk result (λ r. (o : Bool) → AdmitsItems o (comps_of pairs.now) → AdmitsTerm o (tree r)) }
-    ensures widths { IfOk result (λ r. ItemsHaveUsualWidths (comps_of pairs.now) → HasUsualWidths (tree r)) }
+    ensures widths { IfOk result (λ r. ItemsHaveBoundedWidths (comps_of pairs.now) → HasBoundedWidths (tree r)) }
 {
     let mut made = Comps::new(alloc);
     for comp in pairs.as_slice() {
@@ -37,7 +37,7 @@ fn add_second(alloc: Global, made: &mut Comps, comp: &Comp) -> Result<(), NoMemo
     };
     let guard = comp.guard.copy(alloc)?;
     let item = second.copy(alloc)?;
-    put(
+    push_comp(
         made,
         Comp {
             binders: comp.binders,

@@ -5,13 +5,13 @@ ghost use Rattle.lois_base.specs.Atom.{Atom};
 ghost use Rattle.lois_base.specs.Data.{TermD, coll, comps_of};
 ghost use Rattle.lois_base.specs.Fits.{Fits, ItemsFit};
 ghost use Rattle.lois_base.specs.Tree.{tree, comp_of};
-ghost use Rattle.lois_base.specs.Validity.{AdmitsTerm, AdmitsItems, HasUsualWidths, ItemsHaveUsualWidths};
+ghost use Rattle.lois_base.specs.Validity.{AdmitsTerm, AdmitsItems, HasBoundedWidths, ItemsHaveBoundedWidths};
 ghost use Rattle.lois_base.specs.Values.{point};
 ghost use Rattle.lois_terms.specs.Guarded.{IsSet};
-ghost use Rattle.lois_automata.specs.Columns.{AddsOfOne, pair_of, triple_of};
+ghost use Rattle.lois_automata.specs.Projections.{AddsOfOne, pair_of, triple_of};
 ghost use Rattle.lois_minimise.specs.Classes.{AreClassSteps, AreStepMoves, IsStepMove, transition_of};
 
-use lois_algebra::put;
+use lois_algebra::push_comp;
 use lois_automata::{pair, pair_parts, pairs, targets_from, triple};
 use lois_base::{Comp, Comps, NoMemory, Structure, Term};
 use std::alloc::Global;
@@ -45,7 +45,7 @@ pub fn class_steps<T: Structure>(
     ensures set { IfOk result (λ r. IsSet (tree r)) }
     ensures levels { IfOk result (λ r. Fits size (tree r)) }
     ensures operators { IfOk result (λ r. (o : Bool) → AdmitsItems o (comps_of classes.now) → AdmitsItems o (comps_of letters.now) → AdmitsItems o (comps_of steps.now) → AdmitsTerm o (tree r)) }
-    ensures widths { IfOk result (λ r. ItemsHaveUsualWidths (comps_of classes.now) → ItemsHaveUsualWidths (comps_of letters.now) → HasUsualWidths (tree r)) }
+    ensures widths { IfOk result (λ r. ItemsHaveBoundedWidths (comps_of classes.now) → ItemsHaveBoundedWidths (comps_of letters.now) → HasBoundedWidths (tree r)) }
 {
     let Term::Coll(reads) = pairs(alloc, classes, letters, size)? else {
         unreachable!()
@@ -63,7 +63,7 @@ fn step_moves(alloc: Global, transitions: &Comps) -> Result<Comps, NoMemory>
     ensures moves { IfOk result (λ r. (n : ℕ) → AreStepMoves n (coll (comps_of transitions.now)) (coll (comps_of r))) }
     ensures levels { IfOk result (λ r. (n : ℕ) → ItemsFit n (comps_of transitions.now) → ItemsFit n (comps_of r)) }
     ensures operators { IfOk result (λ r. (o : Bool) → AdmitsItems o (comps_of transitions.now) → AdmitsItems o (comps_of r)) }
-    ensures widths { IfOk result (λ r. ItemsHaveUsualWidths (comps_of transitions.now) → ItemsHaveUsualWidths (comps_of r)) }
+    ensures widths { IfOk result (λ r. ItemsHaveBoundedWidths (comps_of transitions.now) → ItemsHaveBoundedWidths (comps_of r)) }
 {
     let mut moves = Comps::new(alloc);
     for comp in transitions.as_slice() {
@@ -80,7 +80,7 @@ fn add_move(alloc: Global, moves: &mut Comps, comp: &Comp) -> Result<(), NoMemor
     };
     let item = step_move(alloc, parts)?;
     let guard = comp.guard.copy(alloc)?;
-    put(
+    push_comp(
         moves,
         Comp {
             binders: comp.binders,

@@ -3,7 +3,7 @@
 ghost use Rattle.std.specs.Prelude.{true};
 
 use crate::cubes::contradicts;
-use crate::rule::{equated, joined, substituted};
+use crate::rule::{equal_level, resolve_bounds, substitute_in_cube};
 use lois_base::{Constraint, Cube, NoMemory, Op, Structure};
 use std::alloc::Global;
 
@@ -25,9 +25,9 @@ impl Structure for OrderAtoms {
         if contradicts(cube) {
             return Ok(answer);
         }
-        let rest = match equated(cube, size) {
-            Some(other) => substituted(alloc, cube, size, other)?,
-            None => joined(alloc, cube, size)?,
+        let rest = match equal_level(cube, size) {
+            Some(other) => substitute_in_cube(alloc, cube, size, other)?,
+            None => resolve_bounds(alloc, cube, size)?,
         };
         if !contradicts(&rest) {
             answer.push(rest)?;

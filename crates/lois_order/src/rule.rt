@@ -12,7 +12,7 @@ use lois_base::{Cube, Lit, NoMemory, Op};
 use std::alloc::Global;
 
 /// Another level that the cube sets equal to this one.
-pub fn equated(cube: &Cube, level: usize) -> Option<usize>
+pub fn equal_level(cube: &Cube, level: usize) -> Option<usize>
     ensures found { IfSome result (λ other. Equates cube.now level other) }
     ensures none { IfNone result (list_any (equates level) cube.now ≡ false) }
 {
@@ -36,7 +36,12 @@ fn renamed_to(level: usize, from: usize, to: usize) -> usize
 }
 
 /// The cube with the level `to` in place of `from`.
-pub fn substituted(alloc: Global, cube: &Cube, from: usize, to: usize) -> Result<Cube, NoMemory>
+pub fn substitute_in_cube(
+    alloc: Global,
+    cube: &Cube,
+    from: usize,
+    to: usize,
+) -> Result<Cube, NoMemory>
     requires other { to < from }
     requires levels { CubeFits (from + 1) cube.now }
     ensures holds { IfOk result (AreEquivalent (map (renamed from to) cube.now)) }
@@ -69,7 +74,7 @@ fn bounds_above(lit: &Lit, level: usize) -> bool
 
 /// What a cube says without the level, where no equation has it: the literals that don't speak
 /// of it, and that each lower bound of it is below each upper bound.
-pub fn joined(alloc: Global, cube: &Cube, level: usize) -> Result<Cube, NoMemory>
+pub fn resolve_bounds(alloc: Global, cube: &Cube, level: usize) -> Result<Cube, NoMemory>
     requires { CubeFits (level + 1) cube.now }
     ensures holds { IfOk result (JoinsBounds level cube.now) }
     ensures levels { IfOk result (CubeFits level) }

@@ -17,7 +17,7 @@ use Rattle.lois_base.specs.Data.{TermD, var, tup, coll, terms_of, TermsD, CompD,
 use Rattle.lois_base.specs.Data as data_of
 use Rattle.lois_base.specs.Fits.{LitFits, CubeFits, ConstraintFits, Fits, PartsFit, CompFits, ItemsFit}
 use Rattle.lois_base.specs.Names.{IsName, is_letter, is_name_byte}
-use Rattle.lois_base.specs.Validity.{AdmitsLit, AdmitsCube, AdmitsConstraint, AdmitsTerm, AdmitsParts, AdmitsComp, AdmitsItems, HasUsualWidths, PartsHaveUsualWidths, CompHasUsualWidths, ItemsHaveUsualWidths, count_of_parts}
+use Rattle.lois_base.specs.Validity.{AdmitsLit, AdmitsCube, AdmitsConstraint, AdmitsTerm, AdmitsParts, AdmitsComp, AdmitsItems, HasBoundedWidths, PartsHaveBoundedWidths, CompHasBoundedWidths, ItemsHaveBoundedWidths, count_of_parts}
 use Rattle.lois_base.specs.declared.guards.Lit.{Lit}
 use Rattle.lois_lexer.specs.Bytes.{is_word_byte}
 use Rattle.lois_answers.specs.Sound.{HasTags, PartsHaveTags, CompHasTags, ItemsHaveTags, AreDistinct}
@@ -406,7 +406,7 @@ parts_width ps n data_of.no_terms = refl
 parts_width ps n (data_of.term t ts) = ap suc (parts_width ps n ts)
 
 mutual
-  pub term_form : (ps : List (List ℕ)) (d n : ℕ) (t : TermD) → Parameters ps → Small ps n → Fits n t → HasTags t → HasUsualWidths t → depth t ≤ d → IsTermDraft d (term_draft ps n t)
+  pub term_form : (ps : List (List ℕ)) (d n : ℕ) (t : TermD) → Parameters ps → Small ps n → Fits n t → HasTags t → HasBoundedWidths t → depth t ≤ d → IsTermDraft d (term_draft ps n t)
   term_form ps d n (var i) good small fits tags widths deep = operand_form ps n i good small fits
   term_form ps d n (data_of.tag t) good small fits tags widths deep = name_is_word t tags
   term_form ps zero n (tup ts) good small fits tags widths deep = absurd (omega arith)
@@ -414,14 +414,14 @@ mutual
   term_form ps zero n (coll cs) good small fits tags widths deep = absurd (omega arith)
   term_form ps (suc d) n (coll cs) good small fits tags widths deep = items_form ps d n cs good small fits tags widths (omega arith)
 
-  parts_form : (ps : List (List ℕ)) (d n : ℕ) (ts : TermsD) → Parameters ps → Small ps n → PartsFit n ts → PartsHaveTags ts → PartsHaveUsualWidths ts → depth_of_parts ts ≤ d → AreTermDrafts d (parts_draft ps n ts)
+  parts_form : (ps : List (List ℕ)) (d n : ℕ) (ts : TermsD) → Parameters ps → Small ps n → PartsFit n ts → PartsHaveTags ts → PartsHaveBoundedWidths ts → depth_of_parts ts ≤ d → AreTermDrafts d (parts_draft ps n ts)
   parts_form ps d n data_of.no_terms good small fits tags widths deep = tt
   parts_form ps d n (data_of.term t ts) good small fits tags widths deep = (term_form ps d n t good small fits.0 tags.0 widths.0 (omega arith), parts_form ps d n ts good small fits.1 tags.1 widths.1 (omega arith))
 
-  comp_form : (ps : List (List ℕ)) (d n : ℕ) (c : CompD) → Parameters ps → CompFits n c → CompHasTags c → CompHasUsualWidths c → depth_of_comp c ≤ d → IsCompDraft d (comp_draft ps n c)
+  comp_form : (ps : List (List ℕ)) (d n : ℕ) (c : CompD) → Parameters ps → CompFits n c → CompHasTags c → CompHasBoundedWidths c → depth_of_comp c ≤ d → IsCompDraft d (comp_draft ps n c)
   comp_form ps d n (data_of.comp m g t) good fits tags widths deep = (term_form ps d (n + m) t good (small_inside ps (n + m) fits.0) fits.2 tags widths deep, numbers_form n m fits.0, guard_form ps (n + m) g good (small_inside ps (n + m) fits.0) fits.1)
 
-  items_form : (ps : List (List ℕ)) (d n : ℕ) (cs : CompsD) → Parameters ps → Small ps n → ItemsFit n cs → ItemsHaveTags cs → ItemsHaveUsualWidths cs → depth_of_items cs ≤ d → AreCompDrafts d (items_draft ps n cs)
+  items_form : (ps : List (List ℕ)) (d n : ℕ) (cs : CompsD) → Parameters ps → Small ps n → ItemsFit n cs → ItemsHaveTags cs → ItemsHaveBoundedWidths cs → depth_of_items cs ≤ d → AreCompDrafts d (items_draft ps n cs)
   items_form ps d n data_of.no_comps good small fits tags widths deep = tt
   items_form ps d n (data_of.more c cs) good small fits tags widths deep = (comp_form ps d n c good fits.0 tags.0 widths.0 (omega arith), items_form ps d n cs good small fits.1 tags.1 widths.1 (omega arith))
 
@@ -442,7 +442,7 @@ guard_whole s n ([] ∷ d ∷ ds) small fits admits = (refl, constraint_whole s 
 guard_whole s n ((l ∷ ls) ∷ cs) small fits admits = (refl, constraint_whole s n ((l ∷ ls) ∷ cs) small fits admits)
 
 mutual
-  pub term_whole : (s : Scope) (n : ℕ) (t : TermD) → Small s.names n → Fits n t → HasTags t → HasUsualWidths t → AdmitsTerm s.ordered t → Unbroken (term_pieces s n (term_draft s.names n t))
+  pub term_whole : (s : Scope) (n : ℕ) (t : TermD) → Small s.names n → Fits n t → HasTags t → HasBoundedWidths t → AdmitsTerm s.ordered t → Unbroken (term_pieces s n (term_draft s.names n t))
   term_whole s n (var i) small fits tags widths admits = (operand_whole s n i small fits, tt)
   term_whole s n (data_of.tag t) small fits tags widths admits = (ap not (le_test (length t) 64 tags.short), tt)
   term_whole s n (tup ts) small fits tags widths admits = (
@@ -452,14 +452,14 @@ mutual
   term_whole s n (coll cs) small fits tags widths admits =
       (refl, unbroken_append (item_pieces s n [] (items_draft s.names n cs)) (plain (codes "}") ∷ []) (items_whole s n [] cs tt small fits tags widths admits) (refl, tt))
 
-  parts_whole : (s : Scope) (n : ℕ) (before : List Piece) (ts : TermsD) → Unbroken before → Small s.names n → PartsFit n ts → PartsHaveTags ts → PartsHaveUsualWidths ts → AdmitsParts s.ordered ts → Unbroken (part_pieces s n before (parts_draft s.names n ts))
+  parts_whole : (s : Scope) (n : ℕ) (before : List Piece) (ts : TermsD) → Unbroken before → Small s.names n → PartsFit n ts → PartsHaveTags ts → PartsHaveBoundedWidths ts → AdmitsParts s.ordered ts → Unbroken (part_pieces s n before (parts_draft s.names n ts))
   parts_whole s n before data_of.no_terms h small fits tags widths admits = tt
   parts_whole s n before (data_of.term t ts) h small fits tags widths admits =
       unbroken_append (before ++ term_pieces s n (term_draft s.names n t)) (part_pieces s n comma (parts_draft s.names n ts))
       (unbroken_append before (term_pieces s n (term_draft s.names n t)) h (term_whole s n t small fits.0 tags.0 widths.0 admits.0))
       (parts_whole s n comma ts (refl, tt) small fits.1 tags.1 widths.1 admits.1)
 
-  comp_whole : (s : Scope) (n : ℕ) (c : CompD) → CompFits n c → CompHasTags c → CompHasUsualWidths c → AdmitsComp s.ordered c → Unbroken (comp_pieces s n (comp_draft s.names n c))
+  comp_whole : (s : Scope) (n : ℕ) (c : CompD) → CompFits n c → CompHasTags c → CompHasBoundedWidths c → AdmitsComp s.ordered c → Unbroken (comp_pieces s n (comp_draft s.names n c))
   comp_whole s n (data_of.comp m g t) fits tags widths admits =
       let small : Small s.names (n + m) = small_inside s.names (n + m) fits.0 in
       let e : n + m ≡ n + length (numbers_from n m) = ap (λ (k : ℕ). n + k) (sym (numbers_count n m)) in
@@ -469,7 +469,7 @@ mutual
       (binders_whole n m fits.0))
       (subst (λ (k : ℕ). Unbroken (guard_pieces s k (guard_draft s.names g))) e (guard_whole s (n + m) g small fits.1 admits.0))
 
-  items_whole : (s : Scope) (n : ℕ) (before : List Piece) (cs : CompsD) → Unbroken before → Small s.names n → ItemsFit n cs → ItemsHaveTags cs → ItemsHaveUsualWidths cs → AdmitsItems s.ordered cs → Unbroken (item_pieces s n before (items_draft s.names n cs))
+  items_whole : (s : Scope) (n : ℕ) (before : List Piece) (cs : CompsD) → Unbroken before → Small s.names n → ItemsFit n cs → ItemsHaveTags cs → ItemsHaveBoundedWidths cs → AdmitsItems s.ordered cs → Unbroken (item_pieces s n before (items_draft s.names n cs))
   items_whole s n before data_of.no_comps h small fits tags widths admits = tt
   items_whole s n before (data_of.more c cs) h small fits tags widths admits =
       unbroken_append (before ++ comp_pieces s n (comp_draft s.names n c)) (item_pieces s n comma (items_draft s.names n cs))

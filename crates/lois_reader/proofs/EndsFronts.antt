@@ -5,8 +5,8 @@ use Rattle.std.specs.List.{AllByRecursion}
 use Rattle.std.proofs.lemmas.Bool.{false≢true}
 use Rattle.lois_base.specs.declared.guards.Op.{Op}
 use Rattle.lois_base.specs.declared.guards.Op.TheVariants.{Eq, Ne, Lt}
-use Rattle.lois_reader.specs.declared.constraint_ends.Joint.{Joint}
-use Rattle.lois_reader.specs.declared.constraint_ends.Joint.TheVariants.{Start, And, Or}
+use Rattle.lois_reader.specs.declared.constraint_ends.Connective.{Connective}
+use Rattle.lois_reader.specs.declared.constraint_ends.Connective.TheVariants.{Start, And, Or}
 use Rattle.lois_reader.specs.declared.scope.Scope.{Scope}
 use Rattle.lois_reader.specs.Draft.{Operand, word, level, LitDraft, ConstraintDraft, TermDraft, atom, tag, tuple, set, TermDrafts, no_terms, term, CompDraft, comp, CompDrafts, no_comps, more, IsWord, IsNumber, IsOperand, IsLitDraft, IsConstraintDraft, IsTermDraft, AreTermDrafts, IsCompDraft, AreCompDrafts}
 use Rattle.lois_reader.specs.Pieces.{Piece, plain, each, comma, operand_piece, op_piece, literal_pieces, cube_pieces, constraint_pieces, guard_pieces, level_pieces, binder_pieces, term_pieces, part_pieces, comp_pieces, item_pieces}
@@ -36,7 +36,7 @@ comparison_front : (s : Scope) (n : ℕ) (op : Op) (o : Operand) (r : List ℕ) 
 unfolding comparison_at
 comparison_front s n op o r form ends = rw (op_front s op ((operand_piece s n o).bytes ++ r), operand_front s n o r form ends) refl
 
-first_front : (s : Scope) (n : ℕ) (joint : Joint) (o : Operand) (op : Op) (r : List ℕ) → IsOperand o → piece_at joint ((operand_piece s n o).bytes ++ ((op_piece s op).bytes ++ r)) ≡ comparison_at ((op_piece s op).bytes ++ r)
+first_front : (s : Scope) (n : ℕ) (joint : Connective) (o : Operand) (op : Op) (r : List ℕ) → IsOperand o → piece_at joint ((operand_piece s n o).bytes ++ ((op_piece s op).bytes ++ r)) ≡ comparison_at ((op_piece s op).bytes ++ r)
 unfolding piece_at
 first_front s n joint (word w) op r form =
     let t : List ℕ = (op_piece s op).bytes ++ r in
@@ -52,13 +52,13 @@ literal_text s n l r =
     let b = (operand_piece s n l.right).bytes in
     append_assoc a (o ++ (b ++ [])) r ∙ ap (λ (t : List ℕ). a ++ t) (append_assoc o (b ++ []) r ∙ ap (λ (t : List ℕ). o ++ t) (append_assoc b [] r))
 
-literal_front : (s : Scope) (n : ℕ) (joint : Joint) (l : LitDraft) (r : List ℕ) → IsLitDraft l → EndsWord r → piece_at joint (text_of (literal_pieces s n l) ++ r) ≡ joint_at r
+literal_front : (s : Scope) (n : ℕ) (joint : Connective) (l : LitDraft) (r : List ℕ) → IsLitDraft l → EndsWord r → piece_at joint (text_of (literal_pieces s n l) ++ r) ≡ joint_at r
 literal_front s n joint l r form ends =
     ap (piece_at joint) (literal_text s n l r)
     ∙ first_front s n joint l.left l.op ((operand_piece s n l.right).bytes ++ r) form.0
     ∙ comparison_front s n l.op l.right r form.1 ends
 
-true_front : (joint : Joint) (r : List ℕ) → is_and joint ≡ false → EndsWord r → begins_op r ≡ false → piece_at joint (codes "true" ++ r) ≡ or_at r
+true_front : (joint : Connective) (r : List ℕ) → is_and joint ≡ false → EndsWord r → begins_op r ≡ false → piece_at joint (codes "true" ++ r) ≡ or_at r
 unfolding piece_at
 true_front joint r other ends op = rw (word_front (codes "true") r refl ends, op, other) refl
 
@@ -67,28 +67,28 @@ unfolding piece_at
 false_front r ends op = rw (word_front (codes "false") r refl ends, op) refl
 
 -- the pieces from here on end before r, with any number of steps that is large enough
-abbrev PiecesEnd : Joint → List ℕ → List ℕ → Type 0
+abbrev PiecesEnd : Connective → List ℕ → List ℕ → Type 0
 PiecesEnd joint t r = (n : ℕ) → length t < n → pieces_end n joint t ≡ Ok r
 
-last_piece : (joint : Joint) (t r : List ℕ) → piece_at joint t ≡ Ok (None, r) → PiecesEnd joint t r
+last_piece : (joint : Connective) (t r : List ℕ) → piece_at joint t ≡ Ok (None, r) → PiecesEnd joint t r
 last_piece joint t r e zero enough = absurd (omega arith)
 last_piece joint t r e (suc n) enough = rw e refl
 
-next_piece : (joint next : Joint) (t u r : List ℕ) → piece_at joint t ≡ Ok (Some next, u) → length u < length t → PiecesEnd next u r → PiecesEnd joint t r
+next_piece : (joint next : Connective) (t u r : List ℕ) → piece_at joint t ≡ Ok (Some next, u) → length u < length t → PiecesEnd next u r → PiecesEnd joint t r
 next_piece joint next t u r e shorter later zero enough = absurd (omega arith)
 next_piece joint next t u r e shorter later (suc n) enough = rw e (later n (omega arith))
 
 -- what follows a literal, and what follows `true`: nothing more, or `or` and further pieces
-pub record Goes (reads : List ℕ → Result (Option Joint × List ℕ) ℕ) (t r : List ℕ) : Type 0 where
-  pub found : Option Joint × List ℕ
+pub record Goes (reads : List ℕ → Result (Option Connective × List ℕ) ℕ) (t r : List ℕ) : Type 0 where
+  pub found : Option Connective × List ℕ
   pub is_found : reads t ≡ Ok found
   pub shorter : length found.1 ≤ length t
-  pub on : (joint : Joint) (u : List ℕ) → piece_at joint u ≡ Ok found → length found.1 < length u → PiecesEnd joint u r
+  pub on : (joint : Connective) (u : List ℕ) → piece_at joint u ≡ Ok found → length found.1 < length u → PiecesEnd joint u r
 
-goes_closed : (reads : List ℕ → Result (Option Joint × List ℕ) ℕ) (r : List ℕ) → reads r ≡ Ok (None, r) → Goes reads r r
+goes_closed : (reads : List ℕ → Result (Option Connective × List ℕ) ℕ) (r : List ℕ) → reads r ≡ Ok (None, r) → Goes reads r r
 goes_closed reads r e = record { found = (None, r); is_found = e; shorter = omega arith; on = λ joint u h shorter. last_piece joint u r h }
 
-goes_on : (reads : List ℕ → Result (Option Joint × List ℕ) ℕ) (t u r : List ℕ) (next : Joint) → reads t ≡ Ok (Some next, u) → length u ≤ length t → PiecesEnd next u r → Goes reads t r
+goes_on : (reads : List ℕ → Result (Option Connective × List ℕ) ℕ) (t u r : List ℕ) (next : Connective) → reads t ≡ Ok (Some next, u) → length u ≤ length t → PiecesEnd next u r → Goes reads t r
 goes_on reads t u r next e shorter later = record { found = (Some next, u); is_found = e; shorter = shorter; on = λ joint v h less. next_piece joint next v u r h less later }
 
 joint_closed : (r : List ℕ) → begins 32 r ≡ false → joint_at r ≡ Ok (None, r)
@@ -116,7 +116,7 @@ operand_size s n (word []) form = absurd (false≢true form)
 operand_size s n (word (b ∷ w)) form = omega arith
 operand_size s n (level ds) form = omega arith
 
-literal_goes : (s : Scope) (n : ℕ) (joint : Joint) (l : LitDraft) (t r : List ℕ) → IsLitDraft l → EndsWord t → Goes joint_at t r → PiecesEnd joint (text_of (literal_pieces s n l) ++ t) r
+literal_goes : (s : Scope) (n : ℕ) (joint : Connective) (l : LitDraft) (t r : List ℕ) → IsLitDraft l → EndsWord t → Goes joint_at t r → PiecesEnd joint (text_of (literal_pieces s n l) ++ t) r
 literal_goes s n joint l t r form ends g =
     let a = (operand_piece s n l.left).bytes in
     let rest : List ℕ = (op_piece s l.op).bytes ++ ((operand_piece s n l.right).bytes ++ t) in
@@ -125,7 +125,7 @@ literal_goes s n joint l t r form ends g =
     let short = g.shorter in
     g.on joint (text_of (literal_pieces s n l) ++ t) (literal_front s n joint l t form ends ∙ g.is_found) (omega arith)
 
-literals_go : (s : Scope) (n : ℕ) (joint : Joint) (l : LitDraft) (ls : List LitDraft) (t r : List ℕ) → IsLitDraft l → AllByRecursion IsLitDraft ls → EndsWord t → Goes joint_at t r → PiecesEnd joint (text_of (cube_pieces s n (l ∷ ls)) ++ t) r
+literals_go : (s : Scope) (n : ℕ) (joint : Connective) (l : LitDraft) (ls : List LitDraft) (t r : List ℕ) → IsLitDraft l → AllByRecursion IsLitDraft ls → EndsWord t → Goes joint_at t r → PiecesEnd joint (text_of (cube_pieces s n (l ∷ ls)) ++ t) r
 literals_go s n joint l [] t r form forms ends g =
     subst (λ (u : List ℕ). PiecesEnd joint u r) (sym (text_split (literal_pieces s n l) [] t)) (literal_goes s n joint l t r form ends g)
 literals_go s n joint l (k ∷ ls) t r form forms ends g =
@@ -137,13 +137,13 @@ literals_go s n joint l (k ∷ ls) t r form forms ends g =
     (literal_goes s n joint l (codes " and " ++ (text_of rest ++ t)) r form refl joined)
 
 -- a cube, where what follows is read behind a literal and behind `true` alike
-cube_goes : (s : Scope) (n : ℕ) (joint : Joint) (c : List LitDraft) (t r : List ℕ) → is_and joint ≡ false → AllByRecursion IsLitDraft c → EndsWord t → begins_op t ≡ false → Goes joint_at t r → Goes or_at t r → PiecesEnd joint (text_of (cube_pieces s n c) ++ t) r
+cube_goes : (s : Scope) (n : ℕ) (joint : Connective) (c : List LitDraft) (t r : List ℕ) → is_and joint ≡ false → AllByRecursion IsLitDraft c → EndsWord t → begins_op t ≡ false → Goes joint_at t r → Goes or_at t r → PiecesEnd joint (text_of (cube_pieces s n c) ++ t) r
 cube_goes s n joint [] t r other forms ends op g h =
     let short = h.shorter in
     h.on joint (codes "true" ++ t) (true_front joint t other ends op ∙ h.is_found) (omega (arith, length-append (codes "true") t))
 cube_goes s n joint (l ∷ ls) t r other forms ends op g h = literals_go s n joint l ls t r forms.0 forms.1 ends g
 
-cubes_go : (s : Scope) (n : ℕ) (joint : Joint) (c : List LitDraft) (cs : ConstraintDraft) (r : List ℕ) → is_and joint ≡ false → AllByRecursion IsLitDraft c → IsConstraintDraft cs → Closes r → PiecesEnd joint (text_of (constraint_pieces s n (c ∷ cs)) ++ r) r
+cubes_go : (s : Scope) (n : ℕ) (joint : Connective) (c : List LitDraft) (cs : ConstraintDraft) (r : List ℕ) → is_and joint ≡ false → AllByRecursion IsLitDraft c → IsConstraintDraft cs → Closes r → PiecesEnd joint (text_of (constraint_pieces s n (c ∷ cs)) ++ r) r
 cubes_go s n joint c [] r other form forms closes =
     subst (λ (u : List ℕ). PiecesEnd joint u r) (sym (text_split (cube_pieces s n c) [] r))
     (cube_goes s n joint c r r other form closes.word_ends closes.op (goes_closed joint_at r (joint_closed r closes.space)) (goes_closed or_at r (or_closed r closes.space)))

@@ -6,8 +6,8 @@ use Rattle.std.proofs.lemmas.Bool.{eqb-true, false≢true, or_parts}
 use Rattle.std.proofs.lemmas.Bool.Decides.{nat_tests}
 use Rattle.lois_lexer.specs.Bytes.{is_word_byte}
 use Rattle.lois_lexer.specs.Forms.{is_word_form}
-use Rattle.lois_reader.specs.declared.constraint_ends.Joint.{Joint}
-use Rattle.lois_reader.specs.declared.constraint_ends.Joint.TheVariants.{Start, And, Or}
+use Rattle.lois_reader.specs.declared.constraint_ends.Connective.{Connective}
+use Rattle.lois_reader.specs.declared.constraint_ends.Connective.TheVariants.{Start, And, Or}
 use Rattle.lois_reader.specs.Reading.{◌>>=◌, End, first, passes, begins}
 use Rattle.lois_reader.specs.Ends.{fixed_end, word_at, word_end, number_end, level_end, operand_end, op_end, tag_end, joint_at, or_at, begins_op, is_and, is_start, comparison_at, piece_at, onward, pieces_end, constraint_end, guard_end, binders_end, tail_end, more_parts_end, tuple_end, comp_end, more_comps_end, items_end, set_end, term_end}
 use Rattle.lois_reader.proofs.Fronts.{EndsWord, word_front, word_ends, word_begins}
@@ -67,7 +67,7 @@ found_size {A} x s a y e =
     let is : length m.0 ≡ length y.1 = ap (λ (z : A × List ℕ). length z.1) (same_ok m.2) in
     omega arith
 
-joint_size : (s : List ℕ) (y : Option Joint × List ℕ) → joint_at s ≡ Ok y → length y.1 ≤ length s
+joint_size : (s : List ℕ) (y : Option Connective × List ℕ) → joint_at s ≡ Ok y → length y.1 ≤ length s
 unfolding joint_at
 joint_size s y e =
     elim (begins 32 s) as (λ v. begins 32 s ≡ v → length y.1 ≤ length s) [
@@ -78,18 +78,18 @@ joint_size s y e =
             | false ↦ λ g. found_size (codes "or ") m.0 (Some Or) y (rw g at m.2)
           ] refl in
           omega arith
-      | false ↦ λ h. omega (arith, ap (λ (z : Option Joint × List ℕ). length z.1) (same_ok (rw h at e)))
+      | false ↦ λ h. omega (arith, ap (λ (z : Option Connective × List ℕ). length z.1) (same_ok (rw h at e)))
     ] refl
 
-or_size : (s : List ℕ) (y : Option Joint × List ℕ) → or_at s ≡ Ok y → length y.1 ≤ length s
+or_size : (s : List ℕ) (y : Option Connective × List ℕ) → or_at s ≡ Ok y → length y.1 ≤ length s
 unfolding or_at
 or_size s y e =
     elim (begins 32 s) as (λ v. begins 32 s ≡ v → length y.1 ≤ length s) [
       | true ↦ λ h. found_size (codes " or ") s (Some Or) y (rw h at e)
-      | false ↦ λ h. omega (arith, ap (λ (z : Option Joint × List ℕ). length z.1) (same_ok (rw h at e)))
+      | false ↦ λ h. omega (arith, ap (λ (z : Option Connective × List ℕ). length z.1) (same_ok (rw h at e)))
     ] refl
 
-comparison_size : (s : List ℕ) (y : Option Joint × List ℕ) → comparison_at s ≡ Ok y → length y.1 < length s
+comparison_size : (s : List ℕ) (y : Option Connective × List ℕ) → comparison_at s ≡ Ok y → length y.1 < length s
 unfolding comparison_at
 comparison_size s y e =
     let m = got (op_end s >>= operand_end) joint_at y e in
@@ -100,26 +100,26 @@ comparison_size s y e =
     omega arith
 
 -- behind a word that stands in a constraint
-abbrev pub behind_word : Joint → List ℕ × List ℕ → Result (Option Joint × List ℕ) ℕ
+abbrev pub behind_word : Connective → List ℕ × List ℕ → Result (Option Connective × List ℕ) ℕ
 behind_word joint x =
     cond (begins_op x.1) (comparison_at x.1)
     (cond (not (is_and joint) && bytes_eq x.0 (codes "true")) (or_at x.1)
     (cond (is_start joint && bytes_eq x.0 (codes "false")) (Ok (None, x.1)) (Err (length x.1))))
 
-behind_word_size : (joint : Joint) (x : List ℕ × List ℕ) (y : Option Joint × List ℕ) → behind_word joint x ≡ Ok y → length y.1 ≤ length x.1
+behind_word_size : (joint : Connective) (x : List ℕ × List ℕ) (y : Option Connective × List ℕ) → behind_word joint x ≡ Ok y → length y.1 ≤ length x.1
 behind_word_size joint x y e =
     elim (begins_op x.1) as (λ v. begins_op x.1 ≡ v → length y.1 ≤ length x.1) [
       | true ↦ λ h. let lt : length y.1 < length x.1 = comparison_size x.1 y (rw h at e) in omega arith
       | false ↦ λ h. elim (not (is_and joint) && bytes_eq x.0 (codes "true")) as (λ v. (not (is_and joint) && bytes_eq x.0 (codes "true")) ≡ v → length y.1 ≤ length x.1) [
         | true ↦ λ g. or_size x.1 y (rw (h, g) at e)
         | false ↦ λ g. elim (is_start joint && bytes_eq x.0 (codes "false")) as (λ v. (is_start joint && bytes_eq x.0 (codes "false")) ≡ v → length y.1 ≤ length x.1) [
-          | true ↦ λ f. omega (arith, ap (λ (z : Option Joint × List ℕ). length z.1) (same_ok (rw (h, g, f) at e)))
+          | true ↦ λ f. omega (arith, ap (λ (z : Option Connective × List ℕ). length z.1) (same_ok (rw (h, g, f) at e)))
           | false ↦ λ f. absurd (no_ok (rw (h, g, f) at e))
         ] refl
       ] refl
     ] refl
 
-piece_size : (joint : Joint) (s : List ℕ) (y : Option Joint × List ℕ) → piece_at joint s ≡ Ok y → length y.1 < length s
+piece_size : (joint : Connective) (s : List ℕ) (y : Option Connective × List ℕ) → piece_at joint s ≡ Ok y → length y.1 < length s
 unfolding piece_at
 piece_size joint s y e =
     elim (begins 36 s) as (λ v. begins 36 s ≡ v → length y.1 < length s) [
@@ -133,18 +133,18 @@ piece_size joint s y e =
           omega (arith, ap length w.split, length-append m.0.0 m.0.1, word_size m.0.0 w.form)
     ] refl
 
-pieces_same : (n m : ℕ) (joint : Joint) (s : List ℕ) → length s < n → length s < m → pieces_end n joint s ≡ pieces_end m joint s
+pieces_same : (n m : ℕ) (joint : Connective) (s : List ℕ) → length s < n → length s < m → pieces_end n joint s ≡ pieces_end m joint s
 pieces_same zero m joint s a b = absurd (omega arith)
 pieces_same (suc n) zero joint s a b = absurd (omega arith)
 pieces_same (suc n) (suc m) joint s a b =
     bind_same (piece_at joint s) (λ x. onward (pieces_end n) x.0 x.1) (λ x. onward (pieces_end m) x.0 x.1)
     (λ x e. let lt : length x.1 < length s = piece_size joint s x e in onward_same x.0 x.1 (λ next. pieces_same n m next x.1 (omega arith) (omega arith)))
   where
-    onward_same : (found : Option Joint) (t : List ℕ) → ((next : Joint) → pieces_end n next t ≡ pieces_end m next t) → onward (pieces_end n) found t ≡ onward (pieces_end m) found t
+    onward_same : (found : Option Connective) (t : List ℕ) → ((next : Connective) → pieces_end n next t ≡ pieces_end m next t) → onward (pieces_end n) found t ≡ onward (pieces_end m) found t
     onward_same None t same = refl
     onward_same (Some next) t same = same next
 
-pieces_shorter : (n : ℕ) (joint : Joint) (s r : List ℕ) → pieces_end n joint s ≡ Ok r → length r < length s
+pieces_shorter : (n : ℕ) (joint : Connective) (s r : List ℕ) → pieces_end n joint s ≡ Ok r → length r < length s
 pieces_shorter zero joint s r e = absurd (no_ok e)
 pieces_shorter (suc n) joint s r e =
     let m = got (piece_at joint s) (λ x. onward (pieces_end n) x.0 x.1) r e in
@@ -152,7 +152,7 @@ pieces_shorter (suc n) joint s r e =
     let le : length r ≤ length m.0.1 = onward_size m.0.0 m.0.1 m.2 (λ next f. let below : length r < length m.0.1 = pieces_shorter n next m.0.1 r f in omega arith) in
     omega arith
   where
-    onward_size : (found : Option Joint) (t : List ℕ) → onward (pieces_end n) found t ≡ Ok r → ((next : Joint) → pieces_end n next t ≡ Ok r → length r ≤ length t) → length r ≤ length t
+    onward_size : (found : Option Connective) (t : List ℕ) → onward (pieces_end n) found t ≡ Ok r → ((next : Connective) → pieces_end n next t ≡ Ok r → length r ≤ length t) → length r ≤ length t
     onward_size None t e le = omega (arith, ap length (same_ok e))
     onward_size (Some next) t e le = le next e
 
@@ -173,11 +173,11 @@ digit_no_op b h = grind (arith, nat_tests)
 
 -- The reader of what follows the constraint.
 module _ (k : List ℕ → End) where
-  abbrev next : Option Joint → List ℕ → End
+  abbrev next : Option Connective → List ℕ → End
   next None s = k s
   next (Some joint) s = pieces_end (suc (length s)) joint s >>= k
 
-  abbrev onto : Result (Option Joint × List ℕ) ℕ → End
+  abbrev onto : Result (Option Connective × List ℕ) ℕ → End
   onto read = read >>= λ x. next x.0 x.1
 
   abbrev after_literal : List ℕ → End
@@ -189,17 +189,17 @@ module _ (k : List ℕ → End) where
   abbrev comparison : List ℕ → End
   comparison s = onto (comparison_at s)
 
-  abbrev pieces : Joint → List ℕ → End
+  abbrev pieces : Connective → List ℕ → End
   pieces joint s = pieces_end (suc (length s)) joint s >>= k
 
-  onward_next : (n : ℕ) (x : Option Joint × List ℕ) → length x.1 < n → (onward (pieces_end n) x.0 x.1 >>= k) ≡ next x.0 x.1
+  onward_next : (n : ℕ) (x : Option Connective × List ℕ) → length x.1 < n → (onward (pieces_end n) x.0 x.1 >>= k) ≡ next x.0 x.1
   onward_next n x lt = by_found x.0
     where
-      by_found : (found : Option Joint) → (onward (pieces_end n) found x.1 >>= k) ≡ next found x.1
+      by_found : (found : Option Connective) → (onward (pieces_end n) found x.1 >>= k) ≡ next found x.1
       by_found None = refl
       by_found (Some joint) = ap (λ (e : End). e >>= k) (pieces_same n (suc (length x.1)) joint x.1 lt (omega arith))
 
-  pieces_open : (joint : Joint) (s : List ℕ) → pieces joint s ≡ onto (piece_at joint s)
+  pieces_open : (joint : Connective) (s : List ℕ) → pieces joint s ≡ onto (piece_at joint s)
   pieces_open joint s =
       bind_assoc (piece_at joint s) (λ x. onward (pieces_end (length s)) x.0 x.1) k
       ∙ bind_same (piece_at joint s) (λ x. onward (pieces_end (length s)) x.0 x.1 >>= k) (λ x. next x.0 x.1) (λ x e. onward_next (length s) x (piece_size joint s x e))
@@ -243,7 +243,7 @@ module _ (k : List ℕ → End) where
 
     -- shorter texts are read exactly from any piece on
     abbrev Below : ℕ → Type 0
-    Below n = (m : ℕ) → m < n → (joint : Joint) → Upto m (pieces joint)
+    Below n = (m : ℕ) → m < n → (joint : Connective) → Upto m (pieces joint)
 
     and_or_exact : (n : ℕ) → Below n → (t : List ℕ) → length t < n → Exact and_or t
     and_or_exact n below t lt =
@@ -289,23 +289,23 @@ module _ (k : List ℕ → End) where
         let c = accepted_closes w e in
         comparison_is (codes "=a" ++ w) ∙ rw (equals_text (97 ∷ w), operand_text w c.word_ends) (literal_other w c.space ∙ e)
 
-    piece_level : (joint : Joint) (x : List ℕ) → pieces joint (36 ∷ x) ≡ ((number_end ⨾ comparison) x)
+    piece_level : (joint : Connective) (x : List ℕ) → pieces joint (36 ∷ x) ≡ ((number_end ⨾ comparison) x)
     unfolding piece_at level_end
     piece_level joint x = pieces_open joint (36 ∷ x) ∙ bind_assoc (number_end x) comparison_at (λ y. next y.0 y.1)
 
-    piece_word : (joint : Joint) (w r : List ℕ) → is_word_form w ≡ true → EndsWord r → pieces joint (w ++ r) ≡ onto (behind_word joint (w, r))
+    piece_word : (joint : Connective) (w r : List ℕ) → is_word_form w ≡ true → EndsWord r → pieces joint (w ++ r) ≡ onto (behind_word joint (w, r))
     unfolding piece_at
     piece_word joint w r form ends = pieces_open joint (w ++ r) ∙ rw (word_begins 36 w r form refl, word_front w r form ends) refl
 
-    piece_refused : (joint : Joint) (b : ℕ) (t : List ℕ) → (b == 36) ≡ false → is_ascii_alphabetic b ≡ false → pieces joint (b ∷ t) ≡ Err (suc (length t))
+    piece_refused : (joint : Connective) (b : ℕ) (t : List ℕ) → (b == 36) ≡ false → is_ascii_alphabetic b ≡ false → pieces joint (b ∷ t) ≡ Err (suc (length t))
     unfolding piece_at word_at
     piece_refused joint b t other none = pieces_open joint (b ∷ t) ∙ rw (other, none) refl
 
-    piece_nothing : (joint : Joint) → pieces joint [] ≡ Err 0
+    piece_nothing : (joint : Connective) → pieces joint [] ≡ Err 0
     unfolding piece_at word_at
     piece_nothing joint = pieces_open joint [] ∙ refl
 
-    word_then : (joint : Joint) (w r : List ℕ) → is_word_form w ≡ true → EndsWord r → begins_op r ≡ true → pieces joint (w ++ r) ≡ comparison r
+    word_then : (joint : Connective) (w r : List ℕ) → is_word_form w ≡ true → EndsWord r → begins_op r ≡ true → pieces joint (w ++ r) ≡ comparison r
     word_then joint w r form ends op = piece_word joint w r form ends ∙ rw op refl
 
     op_ends_word : (x : List ℕ) → begins_op x ≡ true → EndsWord x
@@ -339,7 +339,7 @@ module _ (k : List ℕ → End) where
     constraint_refuses : Refuses in_literal k
     constraint_refuses b t h = stops b t (rw h refl)
 
-    word_exact : (n : ℕ) → Below n → Upto n k → (joint : Joint) (w r : List ℕ) → is_word_form w ≡ true → EndsWord r → length r ≤ n → Exact (pieces joint) (w ++ r)
+    word_exact : (n : ℕ) → Below n → Upto n k → (joint : Connective) (w r : List ℕ) → is_word_form w ≡ true → EndsWord r → length r ≤ n → Exact (pieces joint) (w ++ r)
     word_exact n below upto joint w r form ends le =
         elim (begins_op r) as (λ v. begins_op r ≡ v → Exact (pieces joint) (w ++ r)) [
           | true ↦ λ h. behind (pieces joint) comparison (λ o. passes (λ c. c == 61) o || passes (λ c. c == 33) o || passes (λ c. c == 60) o) w r
@@ -359,13 +359,13 @@ module _ (k : List ℕ → End) where
         ] refl
 
     -- no piece begins here
-    none_exact : (joint : Joint) (s : List ℕ) → Exact k [] → pieces joint s ≡ Err (length s) → ((b : ℕ) (t u : List ℕ) → s ≡ b ∷ t → pieces joint (b ∷ u) ≡ Err (suc (length u))) → Exact (pieces joint) s
+    none_exact : (joint : Connective) (s : List ℕ) → Exact k [] → pieces joint s ≡ Err (length s) → ((b : ℕ) (t u : List ℕ) → s ≡ b ∷ t → pieces joint (b ∷ u) ≡ Err (suc (length u))) → Exact (pieces joint) s
     none_exact joint s some e stays =
         let text = accepted_text k some in
         refused_behind (pieces joint) [] s (codes "a=a" ++ text.0) e
         (word_then joint (codes "a") (codes "=a" ++ text.0) refl refl refl ∙ comparison_text text.0 text.1) stays
 
-    pieces_here : (n : ℕ) → Below n → Upto n k → (joint : Joint) → Upto n (pieces joint)
+    pieces_here : (n : ℕ) → Below n → Upto n k → (joint : Connective) → Upto n (pieces joint)
     pieces_here n below upto joint [] le = none_exact joint [] (upto [] le) (piece_nothing joint) (λ b t u e. cc)
     pieces_here n below upto joint (b ∷ t) le =
         elim (b == 36) as (λ v. (b == 36) ≡ v → Exact (pieces joint) (b ∷ t)) [
@@ -388,7 +388,7 @@ module _ (k : List ℕ → End) where
         pieces_here n (pieces_below n fewer) fewer joint s (omega arith)
 
     -- and one byte longer than the texts that k reads exactly
-    first_piece : (n : ℕ) → Upto n k → (joint : Joint) → Upto n (pieces joint)
+    first_piece : (n : ℕ) → Upto n k → (joint : Connective) → Upto n (pieces joint)
     first_piece n upto joint = pieces_here n (pieces_below n upto) upto joint
 
 pub constraint_part : IsPart in_constraint constraint_end

@@ -7,8 +7,8 @@ use Rattle.std.proofs.lemmas.Map.Views.{Contains-from_any}
 use Rattle.lois_lexer.specs.Words.{reserved}
 use Rattle.lois_answers.specs.TraceText.{kind_text}
 use Rattle.lois_answers.specs.declared.faults.FaultKind.{FaultKind}
-use Rattle.lois_reader.specs.declared.halt.Halt.{Halt}
-use Rattle.lois_reader.specs.declared.halt.Halt.TheVariants.{Left, NoMemory}
+use Rattle.lois_reader.specs.declared.parse_error.ParseError.{ParseError}
+use Rattle.lois_reader.specs.declared.parse_error.ParseError.TheVariants.{Left, NoMemory}
 use Rattle.std.proofs.lemmas.List.{drop_all}
 use Rattle.std.specs.List.{list_any, prefix_len}
 use Rattle.std.specs.Char.{is_ascii_alphabetic}
@@ -20,7 +20,7 @@ use Rattle.lois_lexer.specs.Bytes.{is_word_byte}
 use Rattle.lois_lexer.specs.Forms.{is_word_form}
 use Rattle.lois_lexer.proofs.Longest.{front_is_word}
 use Rattle.lois_reader.specs.Pieces.{value_from, value, is_free}
-use Rattle.lois_reader.specs.Reading.{first, passes, Fails, IsLeft}
+use Rattle.lois_reader.specs.Reading.{first, passes, ErrorIs, IsLeft}
 use Rattle.lois_reader.specs.Ends.{fixed_end, word_at}
 use Rattle.lois_reader.specs.AnswerValues.{kinds_at}
 use Rattle.lois_reader.specs.Values.{value_within, keyword}
@@ -82,11 +82,11 @@ free_is w b short h =
     rw (e, le-leb (length w) 64 short) refl
 
 -- what isn't there
-pub isn't_ok : {A : Type 0} (e : Halt) (read : Result A ℕ) → Fails e read → IsLeft e → is_ok read ≡ false
+pub isn't_ok : {A : Type 0} (e : ParseError) (read : Result A ℕ) → ErrorIs e read → IsLeft e → is_ok read ≡ false
 isn't_ok (Left left) read failed sure = rw failed refl
 isn't_ok NoMemory read failed sure = absurd sure
 
-pub no_keyword : (e : Halt) (k s : List ℕ) → Fails e (word_at s) → IsLeft e → keyword k s ≡ None
+pub no_keyword : (e : ParseError) (k s : List ℕ) → ErrorIs e (word_at s) → IsLeft e → keyword k s ≡ None
 unfolding keyword
 no_keyword (Left left) k s failed sure = rw failed refl
 no_keyword NoMemory k s failed sure = absurd sure
@@ -94,11 +94,11 @@ no_keyword NoMemory k s failed sure = absurd sure
 kinds_at_next : (ks : List FaultKind) (i left : ℕ) (d : FaultKind) (s : List ℕ) → i < length ks → fixed_end (kind_text (get_or ks i d)) s ≡ Err left → kinds_at (drop i ks) s ≡ kinds_at (drop (i + 1) ks) s
 kinds_at_next ks i left d s lt failed = rw (add-one, drop-cons ks i d lt, failed) refl
 
-left_of : {A : Type 0} (e : Halt) (read : Result A ℕ) → Fails e read → IsLeft e → (left : ℕ) × (read ≡ Err left)
+left_of : {A : Type 0} (e : ParseError) (read : Result A ℕ) → ErrorIs e read → IsLeft e → (left : ℕ) × (read ≡ Err left)
 left_of (Left left) read failed sure = (left, failed)
 left_of NoMemory read failed sure = absurd sure
 
-pub kinds_go_on : (e : Halt) (ks : List FaultKind) (i : ℕ) (d : FaultKind) (s : List ℕ) (total : Result (FaultKind × List ℕ) ℕ) → i < length ks → Fails e (fixed_end (kind_text (get_or ks i d)) s) → IsLeft e → kinds_at (drop i ks) s ≡ total → kinds_at (drop (i + 1) ks) s ≡ total
+pub kinds_go_on : (e : ParseError) (ks : List FaultKind) (i : ℕ) (d : FaultKind) (s : List ℕ) (total : Result (FaultKind × List ℕ) ℕ) → i < length ks → ErrorIs e (fixed_end (kind_text (get_or ks i d)) s) → IsLeft e → kinds_at (drop i ks) s ≡ total → kinds_at (drop (i + 1) ks) s ≡ total
 kinds_go_on e ks i d s total lt failed sure so_far =
     let l = left_of e (fixed_end (kind_text (get_or ks i d)) s) failed sure in
     sym (kinds_at_next ks i l.0 d s lt l.1) ∙ so_far

@@ -2,9 +2,9 @@
 use Rattle.std.proofs.Common.{◌≡◌, ℕ, suc, ◌+◌, ◌<◌, ◌≤◌, Bool, true, false, cond, List, [], ◌∷◌, ◌++◌, length, Result, Ok, Err, refl, sym, ap, ◌∙◌, append_assoc, arith}
 use Rattle.std.proofs.lemmas.List.{append-nil}
 use Rattle.std.specs.Prelude.{codes}
-use Rattle.lois_reader.specs.declared.halt.Halt.{Halt}
-use Rattle.lois_reader.specs.declared.halt.Halt.TheVariants.{Left, NoMemory}
-use Rattle.lois_reader.specs.Reading.{◌>>=◌, Fails, End, begins}
+use Rattle.lois_reader.specs.declared.parse_error.ParseError.{ParseError}
+use Rattle.lois_reader.specs.declared.parse_error.ParseError.TheVariants.{Left, NoMemory}
+use Rattle.lois_reader.specs.Reading.{◌>>=◌, ErrorIs, End, begins}
 use Rattle.lois_reader.specs.Ends.{fixed_end, level_end, term_end}
 use Rattle.lois_reader.specs.Values.{list_at, many_at, follows}
 use Rattle.lois_reader.specs.TermValues.{level_count, binder_at, levels_from, part_count}
@@ -46,14 +46,14 @@ module _ {A : Type 0} (test : List ℕ → Bool) (between : List ℕ) (item : Li
       let step : with_front front (list_at test between item (suc o.0) s) ≡ Ok (front ++ a ∷ [], after) = rw (found, none) refl in
       sym o.2 ∙ step
 
-  pub item_halts : (e : Halt) (front : List A) (s : List ℕ) (total : Result (List A × List ℕ) ℕ) → Fails e (item s) → Lists test between item front s total → Fails e total
+  pub item_halts : (e : ParseError) (front : List A) (s : List ℕ) (total : Result (List A × List ℕ) ℕ) → ErrorIs e (item s) → Lists test between item front s total → ErrorIs e total
   item_halts NoMemory front s total failed h = tt
   item_halts (Left left) front s total failed h =
       let o = one_step (λ n s. with_front front (list_at test between item n s)) s total h in
       let step : with_front front (list_at test between item (suc o.0) s) ≡ Err left = rw failed refl in
       sym o.2 ∙ step
 
-  pub between_halts : (e : Halt) (front : List A) (s : List ℕ) (a : A) (after : List ℕ) (total : Result (List A × List ℕ) ℕ) → item s ≡ Ok (a, after) → test after ≡ true → Fails e (fixed_end between after) → Lists test between item front s total → Fails e total
+  pub between_halts : (e : ParseError) (front : List A) (s : List ℕ) (a : A) (after : List ℕ) (total : Result (List A × List ℕ) ℕ) → item s ≡ Ok (a, after) → test after ≡ true → ErrorIs e (fixed_end between after) → Lists test between item front s total → ErrorIs e total
   between_halts NoMemory front s a after total found here failed h = tt
   between_halts (Left left) front s a after total found here failed h =
       let o = one_step (λ n s. with_front front (list_at test between item n s)) s total h in
@@ -77,7 +77,7 @@ module _ {A : Type 0} (test : List ℕ → Bool) (item : List ℕ → Result (A 
       let step : with_front front (many_at test item (suc o.0) s) ≡ Ok (front, s) = rw none (ap (λ (xs : List A). Ok (xs, s)) (append-nil front)) in
       sym o.2 ∙ step
 
-  pub many_halts : (e : Halt) (front : List A) (s : List ℕ) (total : Result (List A × List ℕ) ℕ) → test s ≡ true → Fails e (item s) → Gathers test item front s total → Fails e total
+  pub many_halts : (e : ParseError) (front : List A) (s : List ℕ) (total : Result (List A × List ℕ) ℕ) → test s ≡ true → ErrorIs e (item s) → Gathers test item front s total → ErrorIs e total
   many_halts NoMemory front s total here failed h = tt
   many_halts (Left left) front s total here failed h =
       let o = one_step (λ n s. with_front front (many_at test item n s)) s total h in
@@ -146,7 +146,7 @@ parts_counted_next d count s v r total here first second shorter h =
     let whole : cond (begins 44 s) (fixed_end (codes ", ") s >>= part_count (term_end d) (suc o.0) >>= (λ m. Ok (count + m))) (Ok count) ≡ (cond (begins 44 r) (fixed_end (codes ", ") r >>= part_count (term_end d) o.0 >>= (λ m. Ok (suc m))) (Ok 1) >>= λ m. Ok (count + m)) = rw (here, first, second) refl in
     record { steps = o.0; enough = omega arith; same = sym (whole ∙ cond_plus count (begins 44 r) (fixed_end (codes ", ") r >>= part_count (term_end d) o.0)) ∙ o.2 }
 
-pub part_halts : (e : Halt) (d count : ℕ) (s v : List ℕ) (total : Result ℕ ℕ) → begins 44 s ≡ true → fixed_end (codes ", ") s ≡ Ok v → Fails e (term_end d v) → PartsCounted d count s total → Fails e total
+pub part_halts : (e : ParseError) (d count : ℕ) (s v : List ℕ) (total : Result ℕ ℕ) → begins 44 s ≡ true → fixed_end (codes ", ") s ≡ Ok v → ErrorIs e (term_end d v) → PartsCounted d count s total → ErrorIs e total
 part_halts NoMemory d count s v total here first failed h = tt
 part_halts (Left left) d count s v total here first failed h =
     let o = one_step (λ n s. cond (begins 44 s) (fixed_end (codes ", ") s >>= part_count (term_end d) n >>= (λ m. Ok (count + m))) (Ok count)) s total h in

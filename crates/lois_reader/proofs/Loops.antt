@@ -1,12 +1,12 @@
 -- Loops that read on as long as something begins.
 use Rattle.std.proofs.Common.{◌≡◌, ℕ, suc, ◌<◌, ◌≤◌, Bool, true, false, cond, List, length, Ok, Err, Option, Some, None, ◌-◌, refl, sym, subst, arith}
 use Rattle.std.specs.Prelude.{codes}
-use Rattle.lois_reader.specs.Reading.{◌>>=◌, Fails, End, begins}
-use Rattle.lois_reader.specs.declared.halt.Halt.{Halt}
-use Rattle.lois_reader.specs.declared.halt.Halt.TheVariants.{Left, NoMemory}
+use Rattle.lois_reader.specs.Reading.{◌>>=◌, ErrorIs, End, begins}
+use Rattle.lois_reader.specs.declared.parse_error.ParseError.{ParseError}
+use Rattle.lois_reader.specs.declared.parse_error.ParseError.TheVariants.{Left, NoMemory}
 use Rattle.lois_reader.specs.Ends.{fixed_end, many_end, term_end, comp_end, binders_end, pieces_end, piece_at, onward, level_end, guard_end}
 use Rattle.lois_reader.specs.AnswerEnds.{name_end, choice_number_end, element_end, entry_at, entries_end}
-use Rattle.lois_reader.specs.declared.constraint_ends.Joint.{Joint}
+use Rattle.lois_reader.specs.declared.constraint_ends.Connective.{Connective}
 
 -- With enough steps, the total is what reading on here gives.
 pub record Comes {R : Type 0} (read : ℕ → List ℕ → R) (s : List ℕ) (total : R) : Type 0 where
@@ -36,7 +36,7 @@ Entries goes_on = Comes (λ n s. cond goes_on (entries_end n s) (Ok s))
 abbrev pub Binders : List ℕ → End → Type 0
 Binders = Comes binders_end
 
-abbrev pub Pieces : Joint → List ℕ → End → Type 0
+abbrev pub Pieces : Connective → List ℕ → End → Type 0
 Pieces joint = Comes (λ n. pieces_end n joint)
 
 -- a reading with enough steps has one step at least
@@ -72,22 +72,22 @@ module _ (test : List ℕ → Bool) (item : List ℕ → End) where
   many_ends s total none h = let o = one_step (many_end test item) s total h in many_ends_at o.0 s total none o.2
 
 -- pieces of a constraint
-pieces_at : (n : ℕ) (joint : Joint) (s : List ℕ) (x : Option Joint × List ℕ) (total : End) → piece_at joint s ≡ Ok x → pieces_end (suc n) joint s ≡ total → onward (pieces_end n) x.0 x.1 ≡ total
+pieces_at : (n : ℕ) (joint : Connective) (s : List ℕ) (x : Option Connective × List ℕ) (total : End) → piece_at joint s ≡ Ok x → pieces_end (suc n) joint s ≡ total → onward (pieces_end n) x.0 x.1 ≡ total
 pieces_at n joint s x total found same = rw found at same
 
-pub pieces_next : (joint next : Joint) (s after : List ℕ) (total : End) → piece_at joint s ≡ Ok (Some next, after) → length after < length s → Pieces joint s total → Pieces next after total
+pub pieces_next : (joint next : Connective) (s after : List ℕ) (total : End) → piece_at joint s ≡ Ok (Some next, after) → length after < length s → Pieces joint s total → Pieces next after total
 pieces_next joint next s after total found shorter h =
     let o = one_step (λ n. pieces_end n joint) s total h in
     let le : length s ≤ o.0 = o.1 in
     record { steps = o.0; enough = omega arith; same = pieces_at o.0 joint s (Some next, after) total found o.2 }
 
-pub pieces_done : (joint : Joint) (s after : List ℕ) (total : End) → piece_at joint s ≡ Ok (None, after) → Pieces joint s total → total ≡ Ok after
+pub pieces_done : (joint : Connective) (s after : List ℕ) (total : End) → piece_at joint s ≡ Ok (None, after) → Pieces joint s total → total ≡ Ok after
 pieces_done joint s after total found h = let o = one_step (λ n. pieces_end n joint) s total h in sym (pieces_at o.0 joint s (None, after) total found o.2)
 
-pieces_fail_at : (n left : ℕ) (joint : Joint) (s : List ℕ) (total : End) → piece_at joint s ≡ Err left → pieces_end (suc n) joint s ≡ total → total ≡ Err left
+pieces_fail_at : (n left : ℕ) (joint : Connective) (s : List ℕ) (total : End) → piece_at joint s ≡ Err left → pieces_end (suc n) joint s ≡ total → total ≡ Err left
 pieces_fail_at n left joint s total found same = sym (rw found at same)
 
-pub pieces_fail : (left : ℕ) (joint : Joint) (s : List ℕ) (total : End) → piece_at joint s ≡ Err left → Pieces joint s total → total ≡ Err left
+pub pieces_fail : (left : ℕ) (joint : Connective) (s : List ℕ) (total : End) → piece_at joint s ≡ Err left → Pieces joint s total → total ≡ Err left
 pieces_fail left joint s total found h = let o = one_step (λ n. pieces_end n joint) s total h in pieces_fail_at o.0 left joint s total found o.2
 
 -- binders
@@ -119,7 +119,7 @@ binders_next s after rest total here found yes_level read shorter h =
     record { steps = o.0; enough = omega arith; same = rw (found, yes_level, read) at o.2 }
 
 -- a comma that isn't there
-pub comma_halts : (e : Halt) (d : ℕ) (s : List ℕ) (total : End) → begins 44 s ≡ true → Fails e (fixed_end (codes ", ") s) → Parts d s total → Fails e total
+pub comma_halts : (e : ParseError) (d : ℕ) (s : List ℕ) (total : End) → begins 44 s ≡ true → ErrorIs e (fixed_end (codes ", ") s) → Parts d s total → ErrorIs e total
 comma_halts NoMemory d s total here failed h = tt
 comma_halts (Left left) d s total here failed h =
     many_fails (begins 44) (λ q. fixed_end (codes ", ") q >>= term_end d) left s total here (rw failed refl) h
@@ -134,7 +134,7 @@ entries_next s x total found shorter h =
     let le : length s ≤ o.0 = o.1 in
     record { steps = o.0; enough = omega arith; same = entries_next_at o.0 s x total found o.2 }
 
-pub entry_halts : (e : Halt) (s : List ℕ) (total : End) → Fails e (entry_at s) → Entries true s total → Fails e total
+pub entry_halts : (e : ParseError) (s : List ℕ) (total : End) → ErrorIs e (entry_at s) → Entries true s total → ErrorIs e total
 entry_halts NoMemory s total failed h = tt
 entry_halts (Left left) s total failed h = let o = one_step (λ n t. cond true (entries_end n t) (Ok t)) s total h in sym (rw failed at o.2)
 

@@ -1,9 +1,9 @@
 -- The loop that reads the parameters.
 use Rattle.std.proofs.Common.{◌≡◌, ℕ, ◌<◌, ◌≤◌, Bool, true, false, not, ◌&&◌, List, [], ◌∷◌, ◌++◌, length, Result, Ok, Err, refl, sym, arith}
 use Rattle.std.specs.Prelude.{codes, if◌then◌else◌}
-use Rattle.lois_reader.specs.declared.halt.Halt.{Halt}
-use Rattle.lois_reader.specs.declared.halt.Halt.TheVariants.{Left, NoMemory}
-use Rattle.lois_reader.specs.Reading.{◌>>=◌, Fails, begins}
+use Rattle.lois_reader.specs.declared.parse_error.ParseError.{ParseError}
+use Rattle.lois_reader.specs.declared.parse_error.ParseError.TheVariants.{Left, NoMemory}
+use Rattle.lois_reader.specs.Reading.{◌>>=◌, ErrorIs, begins}
 use Rattle.lois_reader.specs.Ends.{fixed_end, word_at}
 use Rattle.lois_reader.specs.Pieces.{is_among, is_free}
 use Rattle.lois_reader.specs.AnswerValues.{names_at}
@@ -17,7 +17,7 @@ names_here before s total here h =
     let o = one_step (λ n s. names_at n before s) s total h in
     (o.0, o.1, rw here at o.2)
 
-pub names_halt : (before : List (List ℕ)) (s t : List ℕ) (h : Halt) (total : Result (List (List ℕ) × List ℕ) ℕ) → begins 32 s ≡ true → fixed_end (codes " ") s ≡ Ok t → Fails h (word_at t) → NamesFollow before s total → Fails h total
+pub names_halt : (before : List (List ℕ)) (s t : List ℕ) (h : ParseError) (total : Result (List (List ℕ) × List ℕ) ℕ) → begins 32 s ≡ true → fixed_end (codes " ") s ≡ Ok t → ErrorIs h (word_at t) → NamesFollow before s total → ErrorIs h total
 names_halt before s t NoMemory total here behind failed h = tt
 names_halt before s t (Left left) total here behind failed h =
     let o = names_here before s total here h in

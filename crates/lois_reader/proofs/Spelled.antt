@@ -7,8 +7,8 @@ use Rattle.std.proofs.lemmas.Slice.Eq.{bytes_eq-Decides}
 use Rattle.lois_base.specs.declared.guards.Op.{Op}
 use Rattle.lois_base.specs.declared.guards.Op.TheVariants.{Eq, Ne, Lt}
 use Rattle.lois_answers.specs.TermText.{op_text}
-use Rattle.lois_reader.specs.declared.constraint_ends.Joint.{Joint}
-use Rattle.lois_reader.specs.declared.constraint_ends.Joint.TheVariants.{Start, And, Or}
+use Rattle.lois_reader.specs.declared.constraint_ends.Connective.{Connective}
+use Rattle.lois_reader.specs.declared.constraint_ends.Connective.TheVariants.{Start, And, Or}
 use Rattle.lois_reader.specs.declared.scope.Scope.{Scope}
 use Rattle.lois_reader.specs.Draft.{Operand, word, level, LitDraft, ConstraintDraft, TermDraft, atom, tag, tuple, set, TermDrafts, no_terms, term, CompDraft, comp, CompDrafts, no_comps, more, IsNumber, IsOperand, IsLitDraft, IsConstraintDraft, IsTermDraft, AreTermDrafts, IsCompDraft, AreCompDrafts}
 use Rattle.lois_reader.specs.Pieces.{Piece, plain, each, comma, operand_piece, literal_pieces, cube_pieces, constraint_pieces, guard_pieces, level_pieces, binder_pieces, term_pieces, part_pieces, comp_pieces, item_pieces}
@@ -89,45 +89,45 @@ op_spelled s r e =
 
 -- ---- constraints
 
-abbrev joint_text : Option Joint → List ℕ
+abbrev joint_text : Option Connective → List ℕ
 joint_text None = []
 joint_text (Some Start) = []
 joint_text (Some And) = codes " and "
 joint_text (Some Or) = codes " or "
 
 -- behind a literal, and behind `true`
-abbrev Joins : Option Joint → Type 0
+abbrev Joins : Option Connective → Type 0
 Joins None = Unit {0}
 Joins (Some Start) = ⊥
 Joins (Some And) = Unit {0}
 Joins (Some Or) = Unit {0}
 
-abbrev JoinsCubes : Option Joint → Type 0
+abbrev JoinsCubes : Option Connective → Type 0
 JoinsCubes None = Unit {0}
 JoinsCubes (Some Start) = ⊥
 JoinsCubes (Some And) = ⊥
 JoinsCubes (Some Or) = Unit {0}
 
-record Found (Allowed : Option Joint → Type 0) (s : List ℕ) (y : Option Joint × List ℕ) : Type 0 where
+record Found (Allowed : Option Connective → Type 0) (s : List ℕ) (y : Option Connective × List ℕ) : Type 0 where
   pub allowed : Allowed y.0
   pub text : s ≡ joint_text y.0 ++ y.1
 
 -- a joint that is written, its first bytes read before, and what follows it
-found_written : (Allowed : Option Joint → Type 0) (before x s m : List ℕ) (found : Option Joint) (y : Option Joint × List ℕ) → s ≡ before ++ m → joint_text found ≡ before ++ x → Allowed found → (fixed_end x m >>= λ t. Ok (found, t)) ≡ Ok y → Found Allowed s y
+found_written : (Allowed : Option Connective → Type 0) (before x s m : List ℕ) (found : Option Connective) (y : Option Connective × List ℕ) → s ≡ before ++ m → joint_text found ≡ before ++ x → Allowed found → (fixed_end x m >>= λ t. Ok (found, t)) ≡ Ok y → Found Allowed s y
 found_written Allowed before x s m found y split is allowed e =
     let t = got (fixed_end x m) (λ t. Ok (found, t)) y e in
-    let here : Option Joint × List ℕ = (found, t.0) in
+    let here : Option Connective × List ℕ = (found, t.0) in
     let same : here ≡ y = same_ok t.2 in
     let written : s ≡ joint_text found ++ t.0 = then_text before split (fixed_back x m t.0 t.1) ∙ sym (append_assoc before x t.0) ∙ ap (λ (u : List ℕ). u ++ t.0) (sym is) in
-    subst (λ (z : Option Joint × List ℕ). Found Allowed s z) same (record { allowed = allowed; text = written })
+    subst (λ (z : Option Connective × List ℕ). Found Allowed s z) same (record { allowed = allowed; text = written })
 
-found_none : (Allowed : Option Joint → Type 0) (s : List ℕ) (y : Option Joint × List ℕ) → Allowed None → (let r : Result (Option Joint × List ℕ) ℕ = Ok (None, s) in r) ≡ Ok y → Found Allowed s y
+found_none : (Allowed : Option Connective → Type 0) (s : List ℕ) (y : Option Connective × List ℕ) → Allowed None → (let r : Result (Option Connective × List ℕ) ℕ = Ok (None, s) in r) ≡ Ok y → Found Allowed s y
 found_none Allowed s y allowed e =
-    let here : Option Joint × List ℕ = (None, s) in
+    let here : Option Connective × List ℕ = (None, s) in
     let same : here ≡ y = same_ok e in
-    subst (λ (z : Option Joint × List ℕ). Found Allowed s z) same (record { allowed = allowed; text = refl })
+    subst (λ (z : Option Connective × List ℕ). Found Allowed s z) same (record { allowed = allowed; text = refl })
 
-joint_spelled : (s : List ℕ) (y : Option Joint × List ℕ) → joint_at s ≡ Ok y → Found Joins s y
+joint_spelled : (s : List ℕ) (y : Option Connective × List ℕ) → joint_at s ≡ Ok y → Found Joins s y
 unfolding joint_at
 joint_spelled s y e =
     elim (begins 32 s) as (λ v. begins 32 s ≡ v → Found Joins s y) [
@@ -140,7 +140,7 @@ joint_spelled s y e =
       | false ↦ λ h. found_none Joins s y tt (rw h at e)
     ] refl
 
-or_spelled : (s : List ℕ) (y : Option Joint × List ℕ) → or_at s ≡ Ok y → Found JoinsCubes s y
+or_spelled : (s : List ℕ) (y : Option Connective × List ℕ) → or_at s ≡ Ok y → Found JoinsCubes s y
 unfolding or_at
 or_spelled s y e =
     elim (begins 32 s) as (λ v. begins 32 s ≡ v → Found JoinsCubes s y) [
@@ -149,14 +149,14 @@ or_spelled s y e =
     ] refl
 
 -- behind the first operand of a literal
-record ComparedAt (s : List ℕ) (y : Option Joint × List ℕ) : Type 0 where
+record ComparedAt (s : List ℕ) (y : Option Connective × List ℕ) : Type 0 where
   pub op : Op
   pub right : Operand
   pub form : IsOperand right
   pub allowed : Joins y.0
   pub text : s ≡ op_text op ++ (operand_bytes right ++ (joint_text y.0 ++ y.1))
 
-compared : (s : List ℕ) (y : Option Joint × List ℕ) → comparison_at s ≡ Ok y → ComparedAt s y
+compared : (s : List ℕ) (y : Option Connective × List ℕ) → comparison_at s ≡ Ok y → ComparedAt s y
 unfolding comparison_at
 compared s y e =
     let m = got (op_end s >>= operand_end) joint_at y e in
@@ -167,12 +167,12 @@ compared s y e =
     record { op = op.0; right = o.0; form = o.1.form; allowed = j.allowed; text = then_text (op_text op.0) op.1 (then_text (operand_bytes o.0) o.1.text j.text) }
 
 -- A piece of a constraint: a literal; `true`, which no `and` stands before or behind; `false` alone.
-data PieceAt (joint : Joint) (s : List ℕ) (y : Option Joint × List ℕ) : Type 0 where
+data PieceAt (joint : Connective) (s : List ℕ) (y : Option Connective × List ℕ) : Type 0 where
   literal : (l : LitDraft) → IsLitDraft l → Joins y.0 → ((c : Scope) (n : ℕ) → s ≡ text_of (literal_pieces c n l) ++ (joint_text y.0 ++ y.1)) → PieceAt joint s y
   always : is_and joint ≡ false → JoinsCubes y.0 → s ≡ codes "true" ++ (joint_text y.0 ++ y.1) → PieceAt joint s y
   never : is_start joint ≡ true → y.0 ≡ None → s ≡ codes "false" ++ y.1 → PieceAt joint s y
 
-literal_is : (joint : Joint) (s m : List ℕ) (o : Operand) (y : Option Joint × List ℕ) → IsOperand o → s ≡ operand_bytes o ++ m → ComparedAt m y → PieceAt joint s y
+literal_is : (joint : Connective) (s m : List ℕ) (o : Operand) (y : Option Connective × List ℕ) → IsOperand o → s ≡ operand_bytes o ++ m → ComparedAt m y → PieceAt joint s y
 literal_is joint s m o y form split h =
     let l : LitDraft = record { left = o; op = h.op; right = h.right } in
     let rest : List ℕ = joint_text y.0 ++ y.1 in
@@ -183,7 +183,7 @@ literal_is joint s m o y form split h =
     ∙ sym (literal_text c n l rest))
 
 -- behind a word that isn't an operand
-keyword_is : (joint : Joint) (s w r : List ℕ) (y : Option Joint × List ℕ) → s ≡ w ++ r → cond (not (is_and joint) && bytes_eq w (codes "true")) (or_at r) (cond (is_start joint && bytes_eq w (codes "false")) (Ok (None, r)) (Err (length r))) ≡ Ok y → PieceAt joint s y
+keyword_is : (joint : Connective) (s w r : List ℕ) (y : Option Connective × List ℕ) → s ≡ w ++ r → cond (not (is_and joint) && bytes_eq w (codes "true")) (or_at r) (cond (is_start joint && bytes_eq w (codes "false")) (Ok (None, r)) (Err (length r))) ≡ Ok y → PieceAt joint s y
 keyword_is joint s w r y split e =
     elim (not (is_and joint) && bytes_eq w (codes "true")) as (λ v. (not (is_and joint) && bytes_eq w (codes "true")) ≡ v → PieceAt joint s y) [
       | true ↦ λ h. let parts = and_parts (not (is_and joint)) (bytes_eq w (codes "true")) h in
@@ -193,14 +193,14 @@ keyword_is joint s w r y split e =
       | false ↦ λ h. elim (is_start joint && bytes_eq w (codes "false")) as (λ v. (is_start joint && bytes_eq w (codes "false")) ≡ v → PieceAt joint s y) [
         | true ↦ λ g. let parts = and_parts (is_start joint) (bytes_eq w (codes "false")) g in
             let is : w ≡ codes "false" = (bytes_eq-Decides w (codes "false")).0 parts.1 in
-            let here : Option Joint × List ℕ = (None, r) in
+            let here : Option Connective × List ℕ = (None, r) in
             let same : here ≡ y = same_ok (rw (h, g) at e) in
-            subst (λ (z : Option Joint × List ℕ). PieceAt joint s z) same (never parts.0 refl (split ∙ ap (λ (x : List ℕ). x ++ r) is))
+            subst (λ (z : Option Connective × List ℕ). PieceAt joint s z) same (never parts.0 refl (split ∙ ap (λ (x : List ℕ). x ++ r) is))
         | false ↦ λ g. absurd (no_ok (rw (h, g) at e))
       ] refl
     ] refl
 
-piece_spelled : (joint : Joint) (s : List ℕ) (y : Option Joint × List ℕ) → piece_at joint s ≡ Ok y → PieceAt joint s y
+piece_spelled : (joint : Connective) (s : List ℕ) (y : Option Connective × List ℕ) → piece_at joint s ≡ Ok y → PieceAt joint s y
 unfolding piece_at
 piece_spelled joint s y e =
     elim (begins 36 s) as (λ v. begins 36 s ≡ v → PieceAt joint s y) [
@@ -219,7 +219,7 @@ abbrev further_cube : Scope → ℕ → List LitDraft → List Piece
 further_cube c n d = plain (codes " or ") ∷ cube_pieces c n d
 
 -- from a piece on that stands in a cube or begins one: the rest of the cube, and the cubes behind it
-record CubesAt (joint : Joint) (s r : List ℕ) : Type 0 where
+record CubesAt (joint : Connective) (s r : List ℕ) : Type 0 where
   pub cube : List LitDraft
   pub others : List (List LitDraft)
   pub cube_form : AllByRecursion IsLitDraft cube
@@ -234,7 +234,7 @@ others_more : (c : Scope) (n : ℕ) (d : List LitDraft) (ds : List (List LitDraf
 others_more c n d ds r = ap (λ (x : List ℕ). codes " or " ++ x) (text_split (cube_pieces c n d) (each (further_cube c n) ds) r)
 
 -- a literal that is the last piece, or stands before `and`, or before `or`
-last_literal : (joint : Joint) (s t r : List ℕ) (l : LitDraft) → IsLitDraft l → ((c : Scope) (n : ℕ) → s ≡ text_of (literal_pieces c n l) ++ t) → t ≡ r → CubesAt joint s r
+last_literal : (joint : Connective) (s t r : List ℕ) (l : LitDraft) → IsLitDraft l → ((c : Scope) (n : ℕ) → s ≡ text_of (literal_pieces c n l) ++ t) → t ≡ r → CubesAt joint s r
 last_literal joint s t r l form text e = record {
   cube = l ∷ [];
   others = [];
@@ -244,7 +244,7 @@ last_literal joint s t r l form text e = record {
   text = λ c n. then_text (text_of (literal_pieces c n l)) (text c n) e;
 }
 
-literal_and : (joint : Joint) (s t r : List ℕ) (l : LitDraft) → IsLitDraft l → ((c : Scope) (n : ℕ) → s ≡ text_of (literal_pieces c n l) ++ (codes " and " ++ t)) → CubesAt And t r → CubesAt joint s r
+literal_and : (joint : Connective) (s t r : List ℕ) (l : LitDraft) → IsLitDraft l → ((c : Scope) (n : ℕ) → s ≡ text_of (literal_pieces c n l) ++ (codes " and " ++ t)) → CubesAt And t r → CubesAt joint s r
 literal_and joint s t r l form text later = by_cube later.cube (later.some refl) later.cube_form later.text
   where
     by_cube : (ks : List LitDraft) → 0 < length ks → AllByRecursion IsLitDraft ks → ((c : Scope) (n : ℕ) → t ≡ text_of (cube_pieces c n ks) ++ (text_of (each (further_cube c n) later.others) ++ r)) → CubesAt joint s r
@@ -258,7 +258,7 @@ literal_and joint s t r l form text later = by_cube later.cube (later.some refl)
       text = λ c n. then_text (text_of (literal_pieces c n l)) (text c n) (ap (λ (x : List ℕ). codes " and " ++ x) (rest c n)) ∙ sym (cube_more c n l k ks (text_of (each (further_cube c n) later.others) ++ r));
     }
 
-literal_or : (joint : Joint) (s t r : List ℕ) (l : LitDraft) → IsLitDraft l → ((c : Scope) (n : ℕ) → s ≡ text_of (literal_pieces c n l) ++ (codes " or " ++ t)) → CubesAt Or t r → CubesAt joint s r
+literal_or : (joint : Connective) (s t r : List ℕ) (l : LitDraft) → IsLitDraft l → ((c : Scope) (n : ℕ) → s ≡ text_of (literal_pieces c n l) ++ (codes " or " ++ t)) → CubesAt Or t r → CubesAt joint s r
 literal_or joint s t r l form text later = record {
   cube = l ∷ [];
   others = later.cube ∷ later.others;
@@ -268,10 +268,10 @@ literal_or joint s t r l form text later = record {
   text = λ c n. then_text (text_of (literal_pieces c n l)) (text c n) (ap (λ (x : List ℕ). codes " or " ++ x) (later.text c n) ∙ sym (others_more c n later.cube later.others r));
 }
 
-no_and : (joint : Joint) → is_and joint ≡ false → is_and joint ≡ true → 0 < length (let ls : List LitDraft = [] in ls)
+no_and : (joint : Connective) → is_and joint ≡ false → is_and joint ≡ true → 0 < length (let ls : List LitDraft = [] in ls)
 no_and joint h e = absurd (false≢true (sym h ∙ e))
 
-last_true : (joint : Joint) (s t r : List ℕ) → is_and joint ≡ false → s ≡ codes "true" ++ t → t ≡ r → CubesAt joint s r
+last_true : (joint : Connective) (s t r : List ℕ) → is_and joint ≡ false → s ≡ codes "true" ++ t → t ≡ r → CubesAt joint s r
 last_true joint s t r other split e = record {
   cube = [];
   others = [];
@@ -281,7 +281,7 @@ last_true joint s t r other split e = record {
   text = λ c n. then_text (codes "true") split e;
 }
 
-true_or : (joint : Joint) (s t r : List ℕ) → is_and joint ≡ false → s ≡ codes "true" ++ (codes " or " ++ t) → CubesAt Or t r → CubesAt joint s r
+true_or : (joint : Connective) (s t r : List ℕ) → is_and joint ≡ false → s ≡ codes "true" ++ (codes " or " ++ t) → CubesAt Or t r → CubesAt joint s r
 true_or joint s t r other split later = record {
   cube = [];
   others = later.cube ∷ later.others;
@@ -292,33 +292,33 @@ true_or joint s t r other split later = record {
 }
 
 -- cubes, or `false` where nothing stands before it
-abbrev PiecesAt : Joint → List ℕ → List ℕ → Type 0
+abbrev PiecesAt : Connective → List ℕ → List ℕ → Type 0
 PiecesAt joint s r = CubesAt joint s r ⊎ ((is_start joint ≡ true) × (s ≡ codes "false" ++ r))
 
-cubes_of : (joint : Joint) (s r : List ℕ) → is_start joint ≡ false → PiecesAt joint s r → CubesAt joint s r
+cubes_of : (joint : Connective) (s r : List ℕ) → is_start joint ≡ false → PiecesAt joint s r → CubesAt joint s r
 cubes_of joint s r h (inl cubes) = cubes
 cubes_of joint s r h (inr other) = absurd (false≢true (sym h ∙ other.0))
 
 -- what follows a piece
-module _ (n : ℕ) (r : List ℕ) (rec : (joint : Joint) (s : List ℕ) → pieces_end n joint s ≡ Ok r → PiecesAt joint s r) where
-  add_literal : (joint : Joint) (s : List ℕ) (l : LitDraft) (found : Option Joint) (t : List ℕ) → IsLitDraft l → Joins found → ((c : Scope) (k : ℕ) → s ≡ text_of (literal_pieces c k l) ++ (joint_text found ++ t)) → onward (pieces_end n) found t ≡ Ok r → CubesAt joint s r
+module _ (n : ℕ) (r : List ℕ) (rec : (joint : Connective) (s : List ℕ) → pieces_end n joint s ≡ Ok r → PiecesAt joint s r) where
+  add_literal : (joint : Connective) (s : List ℕ) (l : LitDraft) (found : Option Connective) (t : List ℕ) → IsLitDraft l → Joins found → ((c : Scope) (k : ℕ) → s ≡ text_of (literal_pieces c k l) ++ (joint_text found ++ t)) → onward (pieces_end n) found t ≡ Ok r → CubesAt joint s r
   add_literal joint s l None t form allowed text e = last_literal joint s t r l form text (same_ok e)
   add_literal joint s l (Some Start) t form allowed text e = absurd allowed
   add_literal joint s l (Some And) t form allowed text e = literal_and joint s t r l form text (cubes_of And t r refl (rec And t e))
   add_literal joint s l (Some Or) t form allowed text e = literal_or joint s t r l form text (cubes_of Or t r refl (rec Or t e))
 
-  add_true : (joint : Joint) (s : List ℕ) (found : Option Joint) (t : List ℕ) → is_and joint ≡ false → JoinsCubes found → s ≡ codes "true" ++ (joint_text found ++ t) → onward (pieces_end n) found t ≡ Ok r → CubesAt joint s r
+  add_true : (joint : Connective) (s : List ℕ) (found : Option Connective) (t : List ℕ) → is_and joint ≡ false → JoinsCubes found → s ≡ codes "true" ++ (joint_text found ++ t) → onward (pieces_end n) found t ≡ Ok r → CubesAt joint s r
   add_true joint s None t other allowed split e = last_true joint s t r other split (same_ok e)
   add_true joint s (Some Start) t other allowed split e = absurd allowed
   add_true joint s (Some And) t other allowed split e = absurd allowed
   add_true joint s (Some Or) t other allowed split e = true_or joint s t r other split (cubes_of Or t r refl (rec Or t e))
 
-  add_piece : (joint : Joint) (s : List ℕ) (y : Option Joint × List ℕ) → onward (pieces_end n) y.0 y.1 ≡ Ok r → PieceAt joint s y → PiecesAt joint s r
+  add_piece : (joint : Connective) (s : List ℕ) (y : Option Connective × List ℕ) → onward (pieces_end n) y.0 y.1 ≡ Ok r → PieceAt joint s y → PiecesAt joint s r
   add_piece joint s y e (literal l form allowed text) = inl (add_literal joint s l y.0 y.1 form allowed text e)
   add_piece joint s y e (always other allowed split) = inl (add_true joint s y.0 y.1 other allowed split e)
-  add_piece joint s y e (never start none split) = inr (start, then_text (codes "false") split (same_ok (ap (λ (o : Option Joint). onward (pieces_end n) o y.1) (sym none) ∙ e)))
+  add_piece joint s y e (never start none split) = inr (start, then_text (codes "false") split (same_ok (ap (λ (o : Option Connective). onward (pieces_end n) o y.1) (sym none) ∙ e)))
 
-pieces_spelled : (n : ℕ) (r : List ℕ) (joint : Joint) (s : List ℕ) → pieces_end n joint s ≡ Ok r → PiecesAt joint s r
+pieces_spelled : (n : ℕ) (r : List ℕ) (joint : Connective) (s : List ℕ) → pieces_end n joint s ≡ Ok r → PiecesAt joint s r
 pieces_spelled zero r joint s e = absurd (no_ok e)
 pieces_spelled (suc n) r joint s e =
     let m = got (piece_at joint s) (λ x. onward (pieces_end n) x.0 x.1) r e in

@@ -12,7 +12,7 @@ use Rattle.std.proofs.lemmas.List.Elements.{All-from_recursion}
 use Rattle.std.proofs.lemmas.Slice.Eq.{bytes_eq-Decides}
 use Rattle.lois_base.specs.Data.{terms_of, comps_of, depth, depth_of_parts, depth_of_comp, depth_of_items}
 use Rattle.lois_base.specs.Fits.{LitFits, CubeFits, ConstraintFits, Fits, PartsFit, CompFits, ItemsFit}
-use Rattle.lois_base.specs.Validity.{is_admitted, AdmitsLit, AdmitsCube, AdmitsConstraint, AdmitsTerm, AdmitsParts, AdmitsComp, AdmitsItems, HasUsualWidths, PartsHaveUsualWidths, CompHasUsualWidths, ItemsHaveUsualWidths, count_of_parts}
+use Rattle.lois_base.specs.Validity.{is_admitted, AdmitsLit, AdmitsCube, AdmitsConstraint, AdmitsTerm, AdmitsParts, AdmitsComp, AdmitsItems, HasBoundedWidths, PartsHaveBoundedWidths, CompHasBoundedWidths, ItemsHaveBoundedWidths, count_of_parts}
 use Rattle.lois_answers.specs.Sound.{HasTags, PartsHaveTags, CompHasTags, ItemsHaveTags}
 use Rattle.lois_reader.specs.declared.scope.Scope.{Scope}
 use Rattle.lois_reader.specs.Draft.{Operand, word, level, LitDraft, ConstraintDraft, TermDraft, atom, tag, tuple, set, TermDrafts, no_terms, term, CompDraft, comp, CompDrafts, no_comps, more, IsNumber, IsOperand, IsLitDraft, IsConstraintDraft, IsTermDraft, AreTermDrafts, IsCompDraft, AreCompDrafts, width}
@@ -222,7 +222,7 @@ binders_size n (b ∷ bs) = omega (arith, levels_size n (b ∷ bs))
 pub record TermGood (s : Scope) (n d : ℕ) (t : TermDraft) : Type 0 where
   pub fits : Fits n (value_of s t)
   pub tags : HasTags (value_of s t)
-  pub widths : HasUsualWidths (value_of s t)
+  pub widths : HasBoundedWidths (value_of s t)
   pub admits : AdmitsTerm s.ordered (value_of s t)
   pub deep : depth (value_of s t) ≤ d
   pub same : term_draft s.names n (value_of s t) ≡ t
@@ -230,7 +230,7 @@ pub record TermGood (s : Scope) (n d : ℕ) (t : TermDraft) : Type 0 where
 record PartsGood (s : Scope) (n d : ℕ) (ts : TermDrafts) : Type 0 where
   pub fits : PartsFit n (terms_of (values_of s ts))
   pub tags : PartsHaveTags (terms_of (values_of s ts))
-  pub widths : PartsHaveUsualWidths (terms_of (values_of s ts))
+  pub widths : PartsHaveBoundedWidths (terms_of (values_of s ts))
   pub admits : AdmitsParts s.ordered (terms_of (values_of s ts))
   pub deep : depth_of_parts (terms_of (values_of s ts)) ≤ d
   pub count : count_of_parts (terms_of (values_of s ts)) ≡ width ts
@@ -239,7 +239,7 @@ record PartsGood (s : Scope) (n d : ℕ) (ts : TermDrafts) : Type 0 where
 record CompGood (s : Scope) (n d : ℕ) (c : CompDraft) : Type 0 where
   pub fits : CompFits n (item_of s c)
   pub tags : CompHasTags (item_of s c)
-  pub widths : CompHasUsualWidths (item_of s c)
+  pub widths : CompHasBoundedWidths (item_of s c)
   pub admits : AdmitsComp s.ordered (item_of s c)
   pub deep : depth_of_comp (item_of s c) ≤ d
   pub same : comp_draft s.names n (item_of s c) ≡ c
@@ -247,7 +247,7 @@ record CompGood (s : Scope) (n d : ℕ) (c : CompDraft) : Type 0 where
 record ItemsGood (s : Scope) (n d : ℕ) (cs : CompDrafts) : Type 0 where
   pub fits : ItemsFit n (comps_of (items_of s cs))
   pub tags : ItemsHaveTags (comps_of (items_of s cs))
-  pub widths : ItemsHaveUsualWidths (comps_of (items_of s cs))
+  pub widths : ItemsHaveBoundedWidths (comps_of (items_of s cs))
   pub admits : AdmitsItems s.ordered (comps_of (items_of s cs))
   pub deep : depth_of_items (comps_of (items_of s cs)) ≤ d
   pub same : items_draft s.names n (comps_of (items_of s cs)) ≡ cs

@@ -6,14 +6,14 @@ use Rattle.lois_reader.specs.Draft.{ResultsDraft, TraceDraft, AnswerDraft}
 use Rattle.lois_reader.specs.Draft as draft
 use Rattle.lois_reader.specs.Pieces.{Piece, results_pieces, trace_pieces, answer_pieces}
 use Rattle.lois_reader.specs.Shape.{text_of, first_broken, SpellsResults, SpellsAnswer, HasResultsShape, HasAnswerShape, LeavesShapeAt, BreaksRuleAt}
-use Rattle.lois_reader.specs.Reading.{◌>>=◌, End, Fails}
+use Rattle.lois_reader.specs.Reading.{◌>>=◌, End, ErrorIs}
 use Rattle.lois_reader.specs.Refusal.{IsResultsOf, IsAnswerOf, HasNone, IsPlace, IsErrorOfHalt, results_reading, answer_reading}
 use Rattle.lois_reader.specs.AnswerEnds.{results_text_end, answer_text_end}
 use Rattle.lois_reader.specs.AnswerValues.{results_text_at, answer_text_at}
 use Rattle.lois_reader.specs.declared.ResultError.{ResultError}
 use Rattle.lois_reader.specs.declared.ResultError.TheVariants.{NotResults, NoMemory}
-use Rattle.lois_reader.specs.declared.halt.Halt.{Halt}
-use Rattle.lois_reader.specs.declared.halt.Halt.TheVariants as halts
+use Rattle.lois_reader.specs.declared.parse_error.ParseError.{ParseError}
+use Rattle.lois_reader.specs.declared.parse_error.ParseError.TheVariants as halts
 use Rattle.lois_reader.proofs.Outcome.{size, size_is, out}
 use Rattle.lois_reader.proofs.AnswerOutcome.{results_of}
 use Rattle.lois_reader.proofs.TraceFronts.{trace_of, answer_of, answer_reading_is}
@@ -94,11 +94,11 @@ module _ {V D : Type 0} (ends : List ℕ → End) (value_at : List ℕ → Resul
             let at : length h.front ≡ length s - left = omega (arith, ap length h.split, length-append h.front h.rest) in
             inl (subst (LeavesShapeAt (λ t. (d : D) × Spells t d) s) at (leaves_at ends (λ t. (d : D) × Spells t d) reader.spelled reader.accepted s h))
 
-    place_of : (s : List ℕ) (h : Halt) (e : ResultError) → length s < 2 ^ 64 → Fails h (read s) → IsErrorOfHalt (length s) h e → IsPlace (λ t. (d : D) × Spells t d) Spells pieces s e
+    place_of : (s : List ℕ) (h : ParseError) (e : ResultError) → length s < 2 ^ 64 → ErrorIs h (read s) → IsErrorOfHalt (length s) h e → IsPlace (λ t. (d : D) × Spells t d) Spells pieces s e
     place_of s halts.NoMemory e short failed is_error = subst (IsPlace (λ t. (d : D) × Spells t d) Spells pieces s) (sym is_error) tt
     place_of s (halts.Left left) e short failed is_error = subst (IsPlace (λ t. (d : D) × Spells t d) Spells pieces s) (sym is_error) (place_is s left short failed)
 
-    none_of : (s : List ℕ) (h : Halt) (e : ResultError) → length s < 2 ^ 64 → Fails h (read s) → IsErrorOfHalt (length s) h e → HasNone (Holds s) e
+    none_of : (s : List ℕ) (h : ParseError) (e : ResultError) → length s < 2 ^ 64 → ErrorIs h (read s) → IsErrorOfHalt (length s) h e → HasNone (Holds s) e
     none_of s halts.NoMemory e short failed is_error = subst (HasNone (Holds s)) (sym is_error) tt
     none_of s (halts.Left left) e short failed is_error = subst (HasNone (Holds s)) (sym is_error) (λ v holds. no_ok (sym failed ∙ reader.back s v short holds))
 
@@ -141,10 +141,10 @@ results_hold = read_holds results_text_end results_text_at SpellsResults results
 pub results_those : (s : List ℕ) (r other : Results) → length s < 2 ^ 64 → results_reading s ≡ Ok r → IsResultsOf s other → r ≡ other
 results_those s r other short e holds = same_ok (sym e ∙ results_known s other short holds)
 
-pub results_place : (s : List ℕ) (h : Halt) (e : ResultError) → length s < 2 ^ 64 → Fails h (results_reading s) → IsErrorOfHalt (length s) h e → IsPlace HasResultsShape SpellsResults results_pieces s e
+pub results_place : (s : List ℕ) (h : ParseError) (e : ResultError) → length s < 2 ^ 64 → ErrorIs h (results_reading s) → IsErrorOfHalt (length s) h e → IsPlace HasResultsShape SpellsResults results_pieces s e
 results_place = place_of results_text_end results_text_at SpellsResults results_pieces results_of IsResultsOf results_reader
 
-pub results_none : (s : List ℕ) (h : Halt) (e : ResultError) → length s < 2 ^ 64 → Fails h (results_reading s) → IsErrorOfHalt (length s) h e → HasNone (IsResultsOf s) e
+pub results_none : (s : List ℕ) (h : ParseError) (e : ResultError) → length s < 2 ^ 64 → ErrorIs h (results_reading s) → IsErrorOfHalt (length s) h e → HasNone (IsResultsOf s) e
 results_none = none_of results_text_end results_text_at SpellsResults results_pieces results_of IsResultsOf results_reader
 
 -- ---- answers
@@ -183,8 +183,8 @@ answer_holds = read_holds answer_text_end answer_text_at SpellsAnswer answer_pie
 pub answer_those : (s : List ℕ) (a other : Answer) → length s < 2 ^ 64 → answer_reading s ≡ Ok a → IsAnswerOf s other → a ≡ other
 answer_those s a other short e holds = same_ok (sym e ∙ answer_known s other short holds)
 
-pub answer_place : (s : List ℕ) (h : Halt) (e : ResultError) → length s < 2 ^ 64 → Fails h (answer_reading s) → IsErrorOfHalt (length s) h e → IsPlace HasAnswerShape SpellsAnswer answer_pieces s e
+pub answer_place : (s : List ℕ) (h : ParseError) (e : ResultError) → length s < 2 ^ 64 → ErrorIs h (answer_reading s) → IsErrorOfHalt (length s) h e → IsPlace HasAnswerShape SpellsAnswer answer_pieces s e
 answer_place = place_of answer_text_end answer_text_at SpellsAnswer answer_pieces answer_of IsAnswerOf answer_reader
 
-pub answer_none : (s : List ℕ) (h : Halt) (e : ResultError) → length s < 2 ^ 64 → Fails h (answer_reading s) → IsErrorOfHalt (length s) h e → HasNone (IsAnswerOf s) e
+pub answer_none : (s : List ℕ) (h : ParseError) (e : ResultError) → length s < 2 ^ 64 → ErrorIs h (answer_reading s) → IsErrorOfHalt (length s) h e → HasNone (IsAnswerOf s) e
 answer_none = none_of answer_text_end answer_text_at SpellsAnswer answer_pieces answer_of IsAnswerOf answer_reader

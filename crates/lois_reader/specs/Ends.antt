@@ -4,8 +4,8 @@ use Rattle.std.specs.Char.{is_ascii_alphabetic, is_ascii_digit}
 use Rattle.std.specs.List.{prefix_len}
 use Rattle.lois_lexer.specs.Bytes.{is_word_byte}
 use Rattle.lois_reader.specs.Reading.{◌>>=◌, End, first, passes, begins}
-use Rattle.lois_reader.specs.declared.constraint_ends.Joint.{Joint}
-use Rattle.lois_reader.specs.declared.constraint_ends.Joint.TheVariants.{Start, And, Or}
+use Rattle.lois_reader.specs.declared.constraint_ends.Connective.{Connective}
+use Rattle.lois_reader.specs.declared.constraint_ends.Connective.TheVariants.{Start, And, Or}
 
 -- behind a text that is written so
 abbrev pub fixed_end : List ℕ → List ℕ → End
@@ -52,7 +52,7 @@ many_end test item zero s = Err (length s)
 many_end test item (suc n) s = if test s then item s >>= many_end test item n else Ok s
 
 -- Constraints. Behind a literal stands `and` or `or` with another piece, or nothing more.
-unfoldable pub joint_at : List ℕ → Result (Option Joint × List ℕ) ℕ
+unfoldable pub joint_at : List ℕ → Result (Option Connective × List ℕ) ℕ
 joint_at s =
     if begins 32 s then fixed_end (codes " ") s >>= (λ r.
     if begins 97 r then fixed_end (codes "and ") r >>= (λ t. Ok (Some And, t))
@@ -60,28 +60,28 @@ joint_at s =
     else Ok (None, s)
 
 -- what follows `true`
-unfoldable pub or_at : List ℕ → Result (Option Joint × List ℕ) ℕ
+unfoldable pub or_at : List ℕ → Result (Option Connective × List ℕ) ℕ
 or_at s = if begins 32 s then fixed_end (codes " or ") s >>= (λ t. Ok (Some Or, t)) else Ok (None, s)
 
 abbrev pub begins_op : List ℕ → Bool
 begins_op s = begins 61 s || begins 33 s || begins 60 s
 
-abbrev pub is_and : Joint → Bool
+abbrev pub is_and : Connective → Bool
 is_and Start = false
 is_and And = true
 is_and Or = false
 
-abbrev pub is_start : Joint → Bool
+abbrev pub is_start : Connective → Bool
 is_start Start = true
 is_start And = false
 is_start Or = false
 
 -- behind the first operand of a literal
-unfoldable pub comparison_at : List ℕ → Result (Option Joint × List ℕ) ℕ
+unfoldable pub comparison_at : List ℕ → Result (Option Connective × List ℕ) ℕ
 comparison_at s = op_end s >>= operand_end >>= joint_at
 
 -- a piece behind this joint: a literal, `true` or `false`
-unfoldable pub piece_at : Joint → List ℕ → Result (Option Joint × List ℕ) ℕ
+unfoldable pub piece_at : Connective → List ℕ → Result (Option Connective × List ℕ) ℕ
 piece_at joint s =
     if begins 36 s then level_end s >>= comparison_at
     else word_at s >>= (λ x.
@@ -90,11 +90,11 @@ piece_at joint s =
     else (if is_start joint && bytes_eq x.0 (codes "false") then Ok (None, x.1)
     else Err (length x.1))))
 
-abbrev pub onward : (Joint → List ℕ → End) → Option Joint → List ℕ → End
+abbrev pub onward : (Connective → List ℕ → End) → Option Connective → List ℕ → End
 onward go None s = Ok s
 onward go (Some joint) s = go joint s
 
-abbrev pub pieces_end : ℕ → Joint → List ℕ → End
+abbrev pub pieces_end : ℕ → Connective → List ℕ → End
 pieces_end zero joint s = Err (length s)
 pieces_end (suc n) joint s = piece_at joint s >>= λ x. onward (pieces_end n) x.0 x.1
 

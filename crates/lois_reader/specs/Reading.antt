@@ -1,7 +1,7 @@
 -- Reading from left to right, with the first fault that is met: how many bytes are left there.
 use Rattle.std.specs.Prelude.{◌≡◌, ℕ, Bool, false, ◌==◌, List, [], ◌∷◌, Option, Some, None, Result, Ok, Err}
-use Rattle.lois_reader.specs.declared.halt.Halt.{Halt}
-use Rattle.lois_reader.specs.declared.halt.Halt.TheVariants.{Left, NoMemory}
+use Rattle.lois_reader.specs.declared.parse_error.ParseError.{ParseError}
+use Rattle.lois_reader.specs.declared.parse_error.ParseError.TheVariants.{Left, NoMemory}
 
 infixl 10 ◌>>=◌
 abbrev pub ◌>>=◌ : {A B : Type 0} → Result A ℕ → (A → Result B ℕ) → Result B ℕ
@@ -9,18 +9,18 @@ abbrev pub ◌>>=◌ : {A B : Type 0} → Result A ℕ → (A → Result B ℕ) 
 (Err e) >>= f = Err e
 
 -- What a function returned, seen by view, is what reading gives, unless memory ran out.
-abbrev pub Fails : {Y : Type 0} → Halt → Result Y ℕ → Type 0
-Fails NoMemory read = Unit {0}
-Fails (Left left) read = read ≡ Err left
+abbrev pub ErrorIs : {Y : Type 0} → ParseError → Result Y ℕ → Type 0
+ErrorIs NoMemory read = Unit {0}
+ErrorIs (Left left) read = read ≡ Err left
 
 -- it isn't want of memory
-abbrev pub IsLeft : Halt → Type 0
+abbrev pub IsLeft : ParseError → Type 0
 IsLeft NoMemory = ⊥
 IsLeft (Left left) = Unit {0}
 
-abbrev pub Gives : {X Y : Type 0} → (X → Y) → Result X Halt → Result Y ℕ → Type 0
-Gives view (Ok x) read = read ≡ Ok (view x)
-Gives view (Err e) read = Fails e read
+abbrev pub ResultIs : {X Y : Type 0} → (X → Y) → Result X ParseError → Result Y ℕ → Type 0
+ResultIs view (Ok x) read = read ≡ Ok (view x)
+ResultIs view (Err e) read = ErrorIs e read
 
 -- the bytes after a part
 abbrev pub End : Type 0

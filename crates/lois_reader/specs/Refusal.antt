@@ -10,8 +10,8 @@ use Rattle.lois_answers.specs.declared.faults.Answer.TheVariants as answers
 use Rattle.lois_answers.specs.declared.results.Results.{Results}
 use Rattle.lois_answers.specs.ResultsText.{results_text}
 use Rattle.lois_answers.specs.TraceText.{answer_text}
-use Rattle.lois_reader.specs.declared.halt.Halt.{Halt}
-use Rattle.lois_reader.specs.declared.halt.Halt.TheVariants as halts
+use Rattle.lois_reader.specs.declared.parse_error.ParseError.{ParseError}
+use Rattle.lois_reader.specs.declared.parse_error.ParseError.TheVariants as halts
 use Rattle.lois_reader.specs.Reading.{◌>>=◌}
 use Rattle.lois_reader.specs.AnswerEnds.{results_text_end, answer_text_end}
 use Rattle.lois_reader.specs.AnswerValues.{results_text_at, answer_text_at}
@@ -31,9 +31,9 @@ IsPlace {D} Shape Spells pieces text NoMemory = Unit {0}
 IsPlace {D} Shape Spells pieces text (NotResults k) = LeavesShapeAt Shape text k ⊎ BreaksRuleAt (Spells text) pieces k
 
 -- the place of an error is a byte of a text of this length, or its end
-abbrev pub IsInside : ℕ → ResultError → Type 0
-IsInside len (NotResults k) = k ≤ len
-IsInside len NoMemory = Unit {0}
+abbrev pub IsOffsetInText : ℕ → ResultError → Type 0
+IsOffsetInText len (NotResults k) = k ≤ len
+IsOffsetInText len NoMemory = Unit {0}
 
 -- What reading gives: the shape is read first, and then what the text stands for.
 abbrev pub results_reading : List ℕ → Result Results ℕ
@@ -49,6 +49,6 @@ abbrev pub IsAnswerOf : List ℕ → Answer → Type 0
 IsAnswerOf text a = IsSoundAnswer a × (answer_text a ≡ text)
 
 -- the error of a halt, in a text of this length
-abbrev pub IsErrorOfHalt : ℕ → Halt → ResultError → Type 0
+abbrev pub IsErrorOfHalt : ℕ → ParseError → ResultError → Type 0
 IsErrorOfHalt len halts.NoMemory e = e ≡ NoMemory
 IsErrorOfHalt len (halts.Left left) e = e ≡ NotResults (len - left)

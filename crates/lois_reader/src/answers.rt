@@ -4,12 +4,12 @@ ghost use Rattle.std.specs.Prelude.{◌≡◌, ◌<◌, ◌≤◌, [], length, I
 ghost use Rattle.lois_answers.specs.CaseView.{case_of};
 ghost use Rattle.lois_answers.specs.LineView.{line_of};
 ghost use Rattle.lois_reader.specs.Pieces.{is_free};
-ghost use Rattle.lois_reader.specs.Reading.{Gives};
+ghost use Rattle.lois_reader.specs.Reading.{ResultIs};
 ghost use Rattle.lois_reader.specs.AnswerValues.{names_at, structure_at, parameters_at, head_at, name_at, line_at, starts_with, line_follows, lines_at, case_at, cases_at, results_at, place_at, kind_at, failure_at, number_of_choice_at, numbers_at, choice_at, element_at, elements_at, trace_at, results_text_at, version_at, answer_text_at};
 
 use crate::constraints::{constraint_at, value_of, value_within};
-use crate::halt::Halt;
 use crate::parameters::Parameters;
+use crate::parse_error::ParseError;
 use crate::scope::Scope;
 use crate::terms::{name_of, term_at};
 use crate::words::{begins, fixed_end, number_at, word_at};
@@ -30,8 +30,8 @@ fn is_free(word: &[u8]) -> bool
 }
 
 /// The parameters.
-fn names_at(alloc: Global, bytes: &[u8]) -> Result<(Parameters<'_>, &[u8]), Halt>
-    ensures names { Gives (λ x. (x.0, x.1.now)) result (names_at (suc (length bytes.now)) [] bytes.now) }
+fn names_at(alloc: Global, bytes: &[u8]) -> Result<(Parameters<'_>, &[u8]), ParseError>
+    ensures names { ResultIs (λ x. (x.0, x.1.now)) result (names_at (suc (length bytes.now)) [] bytes.now) }
     ensures shorter { IfOk result (λ x. length x.1.now ≤ length bytes.now) }
 {
     let mut names = Parameters::new(alloc);
@@ -40,7 +40,7 @@ fn names_at(alloc: Global, bytes: &[u8]) -> Result<(Parameters<'_>, &[u8]), Halt
         let inside = fixed_end(b" ", rest)?;
         let (word, after) = word_at(inside)?;
         if !is_free(word) || names.contains(word) {
-            return Err(Halt::Left(inside.len()));
+            return Err(ParseError::Left(inside.len()));
         }
         names = names.with(word, name_of(alloc, word)?)?;
         rest = after;
@@ -50,8 +50,8 @@ fn names_at(alloc: Global, bytes: &[u8]) -> Result<(Parameters<'_>, &[u8]), Halt
 
 /// Whether the atoms are ordered.
 #[tactic(auto, unfolding(crate::specs::AnswerValues::structure_at))]
-fn structure_at(bytes: &[u8]) -> Result<(bool, &[u8]), Halt>
-    ensures ordered { Gives (λ x. (x.0, x.1.now)) result (structure_at bytes.now) }
+fn structure_at(bytes: &[u8]) -> Result<(bool, &[u8]), ParseError>
+    ensures ordered { ResultIs (λ x. (x.0, x.1.now)) result (structure_at bytes.now) }
     ensures shorter { IfOk result (λ x. length x.1.now < length bytes.now) }
 {
     if begins(bytes, b'o') {
@@ -62,8 +62,8 @@ fn structure_at(bytes: &[u8]) -> Result<(bool, &[u8]), Halt>
 }
 
 #[tactic(auto, unfolding(crate::specs::AnswerValues::parameters_at))]
-fn parameters_at(alloc: Global, bytes: &[u8]) -> Result<(Parameters<'_>, &[u8]), Halt>
-    ensures names { Gives (λ x. (x.0, x.1.now)) result (parameters_at bytes.now) }
+fn parameters_at(alloc: Global, bytes: &[u8]) -> Result<(Parameters<'_>, &[u8]), ParseError>
+    ensures names { ResultIs (λ x. (x.0, x.1.now)) result (parameters_at bytes.now) }
     ensures shorter { IfOk result (λ x. length x.1.now < length bytes.now) }
 {
     names_at(alloc, fixed_end(b"parameters", bytes)?)
@@ -71,8 +71,8 @@ fn parameters_at(alloc: Global, bytes: &[u8]) -> Result<(Parameters<'_>, &[u8]),
 
 /// The structure and the parameters, where this is behind the version.
 #[tactic(auto, unfolding(crate::specs::AnswerValues::head_at))]
-fn head_at(alloc: Global, bytes: &[u8]) -> Result<(Scope<'_>, &[u8]), Halt>
-    ensures scope { Gives (λ x. (x.0, x.1.now)) result (head_at bytes.now) }
+fn head_at(alloc: Global, bytes: &[u8]) -> Result<(Scope<'_>, &[u8]), ParseError>
+    ensures scope { ResultIs (λ x. (x.0, x.1.now)) result (head_at bytes.now) }
     ensures shorter { IfOk result (λ x. length x.1.now < length bytes.now) }
 {
     let (ordered, rest) = structure_at(fixed_end(b"\natoms ", bytes)?)?;
@@ -83,13 +83,13 @@ fn head_at(alloc: Global, bytes: &[u8]) -> Result<(Scope<'_>, &[u8]), Halt>
 
 /// The name of a line.
 #[tactic(auto, unfolding(crate::specs::AnswerValues::name_at))]
-fn name_at(alloc: Global, bytes: &[u8]) -> Result<(Name, &[u8]), Halt>
-    ensures name { Gives (λ x. (x.0, x.1.now)) result (name_at bytes.now) }
+fn name_at(alloc: Global, bytes: &[u8]) -> Result<(Name, &[u8]), ParseError>
+    ensures name { ResultIs (λ x. (x.0, x.1.now)) result (name_at bytes.now) }
     ensures shorter { IfOk result (λ x. length x.1.now < length bytes.now) }
 {
     let (word, rest) = word_at(bytes)?;
     if !is_free(word) {
-        return Err(Halt::Left(bytes.len()));
+        return Err(ParseError::Left(bytes.len()));
     }
     Ok((name_of(alloc, word)?, rest))
 }
@@ -100,8 +100,8 @@ fn line_at<'a>(
     scope: &Scope<'_>,
     levels: usize,
     bytes: &'a [u8],
-) -> Result<(Line, &'a [u8]), Halt>
-    ensures line { Gives (λ x. (line_of x.0, x.1.now)) result (line_at scope.now levels bytes.now) }
+) -> Result<(Line, &'a [u8]), ParseError>
+    ensures line { ResultIs (λ x. (line_of x.0, x.1.now)) result (line_at scope.now levels bytes.now) }
     ensures shorter { IfOk result (λ x. length x.1.now < length bytes.now) }
 {
     let (name, rest) = name_at(alloc, bytes)?;
@@ -134,8 +134,8 @@ fn lines_at<'a>(
     scope: &Scope<'_>,
     levels: usize,
     bytes: &'a [u8],
-) -> Result<(Lines, &'a [u8]), Halt>
-    ensures lines { Gives (λ x. (x.0, x.1.now)) result (lines_at scope.now levels bytes.now) }
+) -> Result<(Lines, &'a [u8]), ParseError>
+    ensures lines { ResultIs (λ x. (x.0, x.1.now)) result (lines_at scope.now levels bytes.now) }
     ensures shorter { IfOk result (λ x. length x.1.now ≤ length bytes.now) }
 {
     let mut lines = Lines::new(alloc);
@@ -149,8 +149,12 @@ fn lines_at<'a>(
 }
 
 #[tactic(auto, unfolding(crate::specs::AnswerValues::case_at))]
-fn case_at<'a>(alloc: Global, scope: &Scope<'_>, bytes: &'a [u8]) -> Result<(Case, &'a [u8]), Halt>
-    ensures case { Gives (λ x. (case_of x.0, x.1.now)) result (case_at scope.now bytes.now) }
+fn case_at<'a>(
+    alloc: Global,
+    scope: &Scope<'_>,
+    bytes: &'a [u8],
+) -> Result<(Case, &'a [u8]), ParseError>
+    ensures case { ResultIs (λ x. (case_of x.0, x.1.now)) result (case_at scope.now bytes.now) }
     ensures shorter { IfOk result (λ x. length x.1.now < length bytes.now) }
 {
     let levels = scope.names.len();
@@ -166,8 +170,8 @@ fn cases_at<'a>(
     alloc: Global,
     scope: &Scope<'_>,
     bytes: &'a [u8],
-) -> Result<(Cases, &'a [u8]), Halt>
-    ensures cases { Gives (λ x. (x.0, x.1.now)) result (cases_at scope.now bytes.now) }
+) -> Result<(Cases, &'a [u8]), ParseError>
+    ensures cases { ResultIs (λ x. (x.0, x.1.now)) result (cases_at scope.now bytes.now) }
     ensures shorter { IfOk result (λ x. length x.1.now ≤ length bytes.now) }
 {
     let mut cases = Cases::new(alloc);
@@ -182,8 +186,8 @@ fn cases_at<'a>(
 
 /// The results, where this is behind the version.
 #[tactic(auto, unfolding(crate::specs::AnswerValues::results_at))]
-fn results_at(alloc: Global, bytes: &[u8]) -> Result<(Results, &[u8]), Halt>
-    ensures results { Gives (λ x. (x.0, x.1.now)) result (results_at bytes.now) }
+fn results_at(alloc: Global, bytes: &[u8]) -> Result<(Results, &[u8]), ParseError>
+    ensures results { ResultIs (λ x. (x.0, x.1.now)) result (results_at bytes.now) }
     ensures shorter { IfOk result (λ x. length x.1.now < length bytes.now) }
 {
     let (scope, rest) = head_at(alloc, bytes)?;
@@ -202,21 +206,21 @@ fn results_at(alloc: Global, bytes: &[u8]) -> Result<(Results, &[u8]), Halt>
 
 /// A line or a column of a script.
 #[tactic(auto, unfolding(crate::specs::AnswerValues::place_at))]
-fn place_at(bytes: &[u8]) -> Result<(usize, &[u8]), Halt>
-    ensures place { Gives (λ x. (x.0, x.1.now)) result (place_at bytes.now) }
+fn place_at(bytes: &[u8]) -> Result<(usize, &[u8]), ParseError>
+    ensures place { ResultIs (λ x. (x.0, x.1.now)) result (place_at bytes.now) }
     ensures shorter { IfOk result (λ x. length x.1.now < length bytes.now) }
 {
     let (digits, rest) = number_at(bytes)?;
     let Some(place) = value_within(digits, 1, PLACES_END) else {
-        return Err(Halt::Left(bytes.len()));
+        return Err(ParseError::Left(bytes.len()));
     };
     Ok((place, rest))
 }
 
 /// The kind of a failure. No kind's text begins with another's.
 #[tactic(auto, unfolding(crate::specs::AnswerValues::kind_at))]
-fn kind_at(bytes: &[u8]) -> Result<(FaultKind, &[u8]), Halt>
-    ensures kind { Gives (λ x. (x.0, x.1.now)) result (kind_at bytes.now) }
+fn kind_at(bytes: &[u8]) -> Result<(FaultKind, &[u8]), ParseError>
+    ensures kind { ResultIs (λ x. (x.0, x.1.now)) result (kind_at bytes.now) }
     ensures shorter { IfOk result (λ x. length x.1.now ≤ length bytes.now) }
 {
     let kinds = [
@@ -236,13 +240,13 @@ fn kind_at(bytes: &[u8]) -> Result<(FaultKind, &[u8]), Halt>
             return Ok((kind, rest));
         }
     }
-    Err(Halt::Left(bytes.len()))
+    Err(ParseError::Left(bytes.len()))
 }
 
 /// The line, the column and the kind of a failure.
 #[tactic(auto, unfolding(crate::specs::AnswerValues::failure_at))]
-fn failure_at(bytes: &[u8]) -> Result<((usize, (usize, FaultKind)), &[u8]), Halt>
-    ensures failure { Gives (λ x. (x.0, x.1.now)) result (failure_at bytes.now) }
+fn failure_at(bytes: &[u8]) -> Result<((usize, (usize, FaultKind)), &[u8]), ParseError>
+    ensures failure { ResultIs (λ x. (x.0, x.1.now)) result (failure_at bytes.now) }
     ensures shorter { IfOk result (λ x. length x.1.now < length bytes.now) }
 {
     let (line, rest) = place_at(fixed_end(b"failed at ", bytes)?)?;
@@ -252,21 +256,21 @@ fn failure_at(bytes: &[u8]) -> Result<((usize, (usize, FaultKind)), &[u8]), Halt
 }
 
 #[tactic(auto, unfolding(crate::specs::AnswerValues::number_of_choice_at))]
-fn number_of_choice_at(bytes: &[u8]) -> Result<(u64, &[u8]), Halt>
-    ensures number { Gives (λ x. (x.0, x.1.now)) result (number_of_choice_at bytes.now) }
+fn number_of_choice_at(bytes: &[u8]) -> Result<(u64, &[u8]), ParseError>
+    ensures number { ResultIs (λ x. (x.0, x.1.now)) result (number_of_choice_at bytes.now) }
     ensures shorter { IfOk result (λ x. length x.1.now < length bytes.now) }
 {
     let inside = fixed_end(b" ", bytes)?;
     let (digits, rest) = number_at(inside)?;
     let Some(number) = value_of(digits) else {
-        return Err(Halt::Left(inside.len()));
+        return Err(ParseError::Left(inside.len()));
     };
     Ok((number as u64, rest))
 }
 
 #[tactic(auto, unfolding(crate::specs::AnswerValues::numbers_at))]
-fn numbers_at(alloc: Global, bytes: &[u8]) -> Result<(Numbers, &[u8]), Halt>
-    ensures numbers { Gives (λ x. (x.0, x.1.now)) result (numbers_at bytes.now) }
+fn numbers_at(alloc: Global, bytes: &[u8]) -> Result<(Numbers, &[u8]), ParseError>
+    ensures numbers { ResultIs (λ x. (x.0, x.1.now)) result (numbers_at bytes.now) }
     ensures shorter { IfOk result (λ x. length x.1.now ≤ length bytes.now) }
 {
     let mut numbers = Numbers::new(alloc);
@@ -281,13 +285,13 @@ fn numbers_at(alloc: Global, bytes: &[u8]) -> Result<(Numbers, &[u8]), Halt>
 
 /// The choice, which has a number for each parameter at least.
 #[tactic(auto, unfolding(crate::specs::AnswerValues::choice_at))]
-fn choice_at(alloc: Global, fewest: usize, bytes: &[u8]) -> Result<(Numbers, &[u8]), Halt>
-    ensures choice { Gives (λ x. (x.0, x.1.now)) result (choice_at fewest bytes.now) }
+fn choice_at(alloc: Global, fewest: usize, bytes: &[u8]) -> Result<(Numbers, &[u8]), ParseError>
+    ensures choice { ResultIs (λ x. (x.0, x.1.now)) result (choice_at fewest bytes.now) }
     ensures shorter { IfOk result (λ x. length x.1.now < length bytes.now) }
 {
     let (numbers, rest) = numbers_at(alloc, fixed_end(b"choice", bytes)?)?;
     if numbers.len() < fewest {
-        return Err(Halt::Left(rest.len()));
+        return Err(ParseError::Left(rest.len()));
     }
     Ok((numbers, fixed_end(b"\n", rest)?))
 }
@@ -298,8 +302,8 @@ fn element_at<'a>(
     scope: &Scope<'_>,
     levels: usize,
     bytes: &'a [u8],
-) -> Result<(Line, &'a [u8]), Halt>
-    ensures element { Gives (λ x. (line_of x.0, x.1.now)) result (element_at scope.now levels bytes.now) }
+) -> Result<(Line, &'a [u8]), ParseError>
+    ensures element { ResultIs (λ x. (line_of x.0, x.1.now)) result (element_at scope.now levels bytes.now) }
     ensures shorter { IfOk result (λ x. length x.1.now < length bytes.now) }
 {
     line_at(alloc, scope, levels, fixed_end(b"for ", bytes)?)
@@ -311,8 +315,8 @@ fn elements_at<'a>(
     scope: &Scope<'_>,
     levels: usize,
     bytes: &'a [u8],
-) -> Result<(Lines, &'a [u8]), Halt>
-    ensures elements { Gives (λ x. (x.0, x.1.now)) result (elements_at scope.now levels bytes.now) }
+) -> Result<(Lines, &'a [u8]), ParseError>
+    ensures elements { ResultIs (λ x. (x.0, x.1.now)) result (elements_at scope.now levels bytes.now) }
     ensures shorter { IfOk result (λ x. length x.1.now ≤ length bytes.now) }
 {
     let mut elements = Lines::new(alloc);
@@ -327,8 +331,8 @@ fn elements_at<'a>(
 
 /// The trace, where this is behind the version.
 #[tactic(auto, unfolding(crate::specs::AnswerValues::trace_at))]
-fn trace_at(alloc: Global, bytes: &[u8]) -> Result<(Trace, &[u8]), Halt>
-    ensures trace { Gives (λ x. (x.0, x.1.now)) result (trace_at bytes.now) }
+fn trace_at(alloc: Global, bytes: &[u8]) -> Result<(Trace, &[u8]), ParseError>
+    ensures trace { ResultIs (λ x. (x.0, x.1.now)) result (trace_at bytes.now) }
     ensures shorter { IfOk result (λ x. length x.1.now < length bytes.now) }
 {
     let (scope, rest) = head_at(alloc, bytes)?;
@@ -353,16 +357,16 @@ fn trace_at(alloc: Global, bytes: &[u8]) -> Result<(Trace, &[u8]), Halt>
 
 /// The results that a text of their shape stands for.
 #[tactic(auto, unfolding(crate::specs::AnswerValues::results_text_at))]
-pub fn results_text_at(alloc: Global, text: &[u8]) -> Result<Results, Halt>
-    ensures { Gives (λ r. r) result (results_text_at text.now) }
+pub fn results_text_at(alloc: Global, text: &[u8]) -> Result<Results, ParseError>
+    ensures { ResultIs (λ r. r) result (results_text_at text.now) }
 {
     let (results, _) = results_at(alloc, fixed_end(b"lois results 1", text)?)?;
     Ok(results)
 }
 
 #[tactic(auto, unfolding(crate::specs::AnswerValues::version_at))]
-fn version_at(alloc: Global, bytes: &[u8]) -> Result<Answer, Halt>
-    ensures { Gives (λ a. a) result (version_at bytes.now) }
+fn version_at(alloc: Global, bytes: &[u8]) -> Result<Answer, ParseError>
+    ensures { ResultIs (λ a. a) result (version_at bytes.now) }
 {
     if begins(bytes, b'2') {
         let (trace, _) = trace_at(alloc, fixed_end(b"2", bytes)?)?;
@@ -374,8 +378,8 @@ fn version_at(alloc: Global, bytes: &[u8]) -> Result<Answer, Halt>
 
 /// The results or the trace that a text of their shape stands for.
 #[tactic(auto, unfolding(crate::specs::AnswerValues::answer_text_at))]
-pub fn answer_text_at(alloc: Global, text: &[u8]) -> Result<Answer, Halt>
-    ensures { Gives (λ a. a) result (answer_text_at text.now) }
+pub fn answer_text_at(alloc: Global, text: &[u8]) -> Result<Answer, ParseError>
+    ensures { ResultIs (λ a. a) result (answer_text_at text.now) }
 {
     version_at(alloc, fixed_end(b"lois results ", text)?)
 }

@@ -1,38 +1,38 @@
 //! Where constraints end.
 
 ghost use Rattle.std.specs.Prelude.{◌≡◌, ◌<◌, ◌≤◌, length, IfOk};
-ghost use Rattle.lois_reader.specs.Reading.{Gives};
+ghost use Rattle.lois_reader.specs.Reading.{ResultIs};
 ghost use Rattle.lois_reader.specs.Ends.{joint_at, or_at, comparison_at, piece_at, constraint_end, is_and, is_start};
 
-use crate::halt::Halt;
+use crate::parse_error::ParseError;
 use crate::words::{begins, begins_op, fixed_end, level_end, op_end, operand_end, word_at};
 
 /// What stands before a piece of a constraint: nothing, `and` or `or`.
 #[derive(Clone, Copy, Debug, PartialEq, Eq)]
-pub enum Joint {
+pub enum Connective {
     Start,
     And,
     Or,
 }
 
-impl Joint {
+impl Connective {
     fn is_and(self) -> bool
         ensures { result ≡ is_and self }
     {
-        matches!(self, Joint::And)
+        matches!(self, Connective::And)
     }
 
     fn is_start(self) -> bool
         ensures { result ≡ is_start self }
     {
-        matches!(self, Joint::Start)
+        matches!(self, Connective::Start)
     }
 }
 
 /// What joins another piece behind a literal, if one follows.
 #[tactic(auto, unfolding(crate::specs::Ends::joint_at))]
-fn joint_at(bytes: &[u8]) -> Result<(Option<Joint>, &[u8]), Halt>
-    ensures joint { Gives (λ x. (x.0, x.1.now)) result (joint_at bytes.now) }
+fn joint_at(bytes: &[u8]) -> Result<(Option<Connective>, &[u8]), ParseError>
+    ensures joint { ResultIs (λ x. (x.0, x.1.now)) result (joint_at bytes.now) }
     ensures shorter { IfOk result (λ x. length x.1.now ≤ length bytes.now) }
 {
     if !begins(bytes, b' ') {
@@ -40,28 +40,28 @@ fn joint_at(bytes: &[u8]) -> Result<(Option<Joint>, &[u8]), Halt>
     }
     let rest = fixed_end(b" ", bytes)?;
     if begins(rest, b'a') {
-        Ok((Some(Joint::And), fixed_end(b"and ", rest)?))
+        Ok((Some(Connective::And), fixed_end(b"and ", rest)?))
     } else {
-        Ok((Some(Joint::Or), fixed_end(b"or ", rest)?))
+        Ok((Some(Connective::Or), fixed_end(b"or ", rest)?))
     }
 }
 
 /// What joins another piece behind `true`, if one follows.
 #[tactic(auto, unfolding(crate::specs::Ends::or_at))]
-fn or_at(bytes: &[u8]) -> Result<(Option<Joint>, &[u8]), Halt>
-    ensures joint { Gives (λ x. (x.0, x.1.now)) result (or_at bytes.now) }
+fn or_at(bytes: &[u8]) -> Result<(Option<Connective>, &[u8]), ParseError>
+    ensures joint { ResultIs (λ x. (x.0, x.1.now)) result (or_at bytes.now) }
     ensures shorter { IfOk result (λ x. length x.1.now ≤ length bytes.now) }
 {
     if !begins(bytes, b' ') {
         return Ok((None, bytes));
     }
-    Ok((Some(Joint::Or), fixed_end(b" or ", bytes)?))
+    Ok((Some(Connective::Or), fixed_end(b" or ", bytes)?))
 }
 
 /// What joins another piece behind the operator and the second operand that stand here.
 #[tactic(auto, unfolding(crate::specs::Ends::comparison_at))]
-fn comparison_at(bytes: &[u8]) -> Result<(Option<Joint>, &[u8]), Halt>
-    ensures joint { Gives (λ x. (x.0, x.1.now)) result (comparison_at bytes.now) }
+fn comparison_at(bytes: &[u8]) -> Result<(Option<Connective>, &[u8]), ParseError>
+    ensures joint { ResultIs (λ x. (x.0, x.1.now)) result (comparison_at bytes.now) }
     ensures shorter { IfOk result (λ x. length x.1.now < length bytes.now) }
 {
     joint_at(operand_end(op_end(bytes)?)?)
@@ -70,8 +70,8 @@ fn comparison_at(bytes: &[u8]) -> Result<(Option<Joint>, &[u8]), Halt>
 /// What joins another piece behind the piece that stands here, which may be `true` but behind `and`, and `false` at the
 /// start.
 #[tactic(auto, unfolding(crate::specs::Ends::piece_at))]
-fn piece_at(bytes: &[u8], joint: Joint) -> Result<(Option<Joint>, &[u8]), Halt>
-    ensures joint { Gives (λ x. (x.0, x.1.now)) result (piece_at joint bytes.now) }
+fn piece_at(bytes: &[u8], joint: Connective) -> Result<(Option<Connective>, &[u8]), ParseError>
+    ensures joint { ResultIs (λ x. (x.0, x.1.now)) result (piece_at joint bytes.now) }
     ensures shorter { IfOk result (λ x. length x.1.now < length bytes.now) }
 {
     if begins(bytes, b'$') {
@@ -85,18 +85,18 @@ fn piece_at(bytes: &[u8], joint: Joint) -> Result<(Option<Joint>, &[u8]), Halt>
     } else if joint.is_start() && word == b"false".as_slice() {
         Ok((None, rest))
     } else {
-        Err(Halt::Left(rest.len()))
+        Err(ParseError::Left(rest.len()))
     }
 }
 
 /// What follows the constraint.
 #[tactic(auto, unfolding(crate::specs::Ends::constraint_end))]
-pub fn constraint_end(bytes: &[u8]) -> Result<&[u8], Halt>
-    ensures end { Gives (λ r. r.now) result (constraint_end bytes.now) }
+pub fn constraint_end(bytes: &[u8]) -> Result<&[u8], ParseError>
+    ensures end { ResultIs (λ r. r.now) result (constraint_end bytes.now) }
     ensures shorter { IfOk result (λ r. length r.now < length bytes.now) }
 {
     let mut rest = bytes;
-    let mut joint = Joint::Start;
+    let mut joint = Connective::Start;
     loop {
         let (found, after) = piece_at(rest, joint)?;
         match found {

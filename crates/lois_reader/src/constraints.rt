@@ -2,11 +2,11 @@
 
 ghost use Rattle.std.specs.Prelude.{◌≡◌, ◌+◌, ◌-◌, ◌*◌, ◌^◌, ◌<◌, length, IfOk, IfSome, Some, None, option_map, nat_lt, if◌then◌else◌};
 ghost use Rattle.lois_reader.specs.Pieces.{value};
-ghost use Rattle.lois_reader.specs.Reading.{Gives};
+ghost use Rattle.lois_reader.specs.Reading.{ResultIs};
 ghost use Rattle.lois_reader.specs.Values.{value_within, level_at, parameter_at, operand_at, op_at, literal_at, keyword, follows, literals_at, cube_at, cubes_at, constraint_at};
 
-use crate::halt::Halt;
 use crate::parameters::Parameters;
+use crate::parse_error::ParseError;
 use crate::scope::Scope;
 use crate::words::{begins, begins_op, fixed_end, number_at, word_at};
 use lois_base::{Constraint, Cube, Lit, Op};
@@ -49,26 +49,29 @@ fn level_at<'a>(
     names: &Parameters<'_>,
     levels: usize,
     bytes: &'a [u8],
-) -> Result<(usize, &'a [u8]), Halt>
-    ensures level { Gives (λ x. (x.0, x.1.now)) result (level_at names.now levels bytes.now) }
+) -> Result<(usize, &'a [u8]), ParseError>
+    ensures level { ResultIs (λ x. (x.0, x.1.now)) result (level_at names.now levels bytes.now) }
     ensures shorter { IfOk result (λ x. length x.1.now < length bytes.now) }
 {
     let (digits, rest) = number_at(fixed_end(b"$", bytes)?)?;
     let Some(level) = value_within(digits, names.len(), levels) else {
-        return Err(Halt::Left(bytes.len()));
+        return Err(ParseError::Left(bytes.len()));
     };
     Ok((level, rest))
 }
 
 /// The level of the parameter whose name stands here.
 #[tactic(auto, unfolding(crate::specs::Values::parameter_at))]
-fn parameter_at<'a>(names: &Parameters<'_>, bytes: &'a [u8]) -> Result<(usize, &'a [u8]), Halt>
-    ensures level { Gives (λ x. (x.0, x.1.now)) result (parameter_at names.now bytes.now) }
+fn parameter_at<'a>(
+    names: &Parameters<'_>,
+    bytes: &'a [u8],
+) -> Result<(usize, &'a [u8]), ParseError>
+    ensures level { ResultIs (λ x. (x.0, x.1.now)) result (parameter_at names.now bytes.now) }
     ensures shorter { IfOk result (λ x. length x.1.now < length bytes.now) }
 {
     let (word, rest) = word_at(bytes)?;
     let Some(level) = names.place(word) else {
-        return Err(Halt::Left(bytes.len()));
+        return Err(ParseError::Left(bytes.len()));
     };
     Ok((level, rest))
 }
@@ -79,8 +82,8 @@ pub fn operand_at<'a>(
     scope: &Scope<'_>,
     levels: usize,
     bytes: &'a [u8],
-) -> Result<(usize, &'a [u8]), Halt>
-    ensures level { Gives (λ x. (x.0, x.1.now)) result (operand_at scope.now levels bytes.now) }
+) -> Result<(usize, &'a [u8]), ParseError>
+    ensures level { ResultIs (λ x. (x.0, x.1.now)) result (operand_at scope.now levels bytes.now) }
     ensures shorter { IfOk result (λ x. length x.1.now < length bytes.now) }
 {
     if begins(bytes, b'$') {
@@ -91,8 +94,8 @@ pub fn operand_at<'a>(
 }
 
 #[tactic(auto, unfolding(crate::specs::Values::op_at))]
-fn op_at(ordered: bool, bytes: &[u8]) -> Result<(Op, &[u8]), Halt>
-    ensures op { Gives (λ x. (x.0, x.1.now)) result (op_at ordered bytes.now) }
+fn op_at(ordered: bool, bytes: &[u8]) -> Result<(Op, &[u8]), ParseError>
+    ensures op { ResultIs (λ x. (x.0, x.1.now)) result (op_at ordered bytes.now) }
     ensures shorter { IfOk result (λ x. length x.1.now < length bytes.now) }
 {
     if begins(bytes, b'=') {
@@ -104,7 +107,7 @@ fn op_at(ordered: bool, bytes: &[u8]) -> Result<(Op, &[u8]), Halt>
     if ordered {
         return Ok((Op::Lt, fixed_end(b"<", bytes)?));
     }
-    Err(Halt::Left(bytes.len()))
+    Err(ParseError::Left(bytes.len()))
 }
 
 #[tactic(auto, unfolding(crate::specs::Values::literal_at))]
@@ -112,8 +115,8 @@ fn literal_at<'a>(
     scope: &Scope<'_>,
     levels: usize,
     bytes: &'a [u8],
-) -> Result<(Lit, &'a [u8]), Halt>
-    ensures literal { Gives (λ x. (x.0, x.1.now)) result (literal_at scope.now levels bytes.now) }
+) -> Result<(Lit, &'a [u8]), ParseError>
+    ensures literal { ResultIs (λ x. (x.0, x.1.now)) result (literal_at scope.now levels bytes.now) }
     ensures shorter { IfOk result (λ x. length x.1.now < length bytes.now) }
 {
     let (left, rest) = operand_at(scope, levels, bytes)?;
@@ -153,8 +156,8 @@ fn literals_at<'a>(
     scope: &Scope<'_>,
     levels: usize,
     bytes: &'a [u8],
-) -> Result<(Cube, &'a [u8]), Halt>
-    ensures cube { Gives (λ x. (x.0, x.1.now)) result (literals_at scope.now levels bytes.now) }
+) -> Result<(Cube, &'a [u8]), ParseError>
+    ensures cube { ResultIs (λ x. (x.0, x.1.now)) result (literals_at scope.now levels bytes.now) }
     ensures shorter { IfOk result (λ x. length x.1.now < length bytes.now) }
 {
     let mut cube = Cube::new(alloc);
@@ -175,8 +178,8 @@ fn cube_at<'a>(
     scope: &Scope<'_>,
     levels: usize,
     bytes: &'a [u8],
-) -> Result<(Cube, &'a [u8]), Halt>
-    ensures cube { Gives (λ x. (x.0, x.1.now)) result (cube_at scope.now levels bytes.now) }
+) -> Result<(Cube, &'a [u8]), ParseError>
+    ensures cube { ResultIs (λ x. (x.0, x.1.now)) result (cube_at scope.now levels bytes.now) }
     ensures shorter { IfOk result (λ x. length x.1.now < length bytes.now) }
 {
     if let Some(rest) = keyword(b"true", bytes) {
@@ -191,8 +194,8 @@ fn cubes_at<'a>(
     scope: &Scope<'_>,
     levels: usize,
     bytes: &'a [u8],
-) -> Result<(Constraint, &'a [u8]), Halt>
-    ensures constraint { Gives (λ x. (x.0, x.1.now)) result (cubes_at scope.now levels bytes.now) }
+) -> Result<(Constraint, &'a [u8]), ParseError>
+    ensures constraint { ResultIs (λ x. (x.0, x.1.now)) result (cubes_at scope.now levels bytes.now) }
     ensures shorter { IfOk result (λ x. length x.1.now < length bytes.now) }
 {
     let mut constraint = Constraint::new(alloc);
@@ -214,8 +217,8 @@ pub fn constraint_at<'a>(
     scope: &Scope<'_>,
     levels: usize,
     bytes: &'a [u8],
-) -> Result<(Constraint, &'a [u8]), Halt>
-    ensures constraint { Gives (λ x. (x.0, x.1.now)) result (constraint_at scope.now levels bytes.now) }
+) -> Result<(Constraint, &'a [u8]), ParseError>
+    ensures constraint { ResultIs (λ x. (x.0, x.1.now)) result (constraint_at scope.now levels bytes.now) }
     ensures shorter { IfOk result (λ x. length x.1.now < length bytes.now) }
 {
     if let Some(rest) = keyword(b"false", bytes) {

@@ -1,24 +1,24 @@
 //! Where terms end.
 
 ghost use Rattle.std.specs.Prelude.{◌<◌, ◌≤◌, length, IfOk, suc};
-ghost use Rattle.lois_reader.specs.Reading.{Gives};
+ghost use Rattle.lois_reader.specs.Reading.{ResultIs};
 ghost use Rattle.lois_reader.specs.Ends.{guard_end, binders_end, tail_end, more_parts_end, tuple_end, comp_end, more_comps_end, items_end, set_end, term_end};
 
 use crate::constraint_ends::constraint_end;
-use crate::halt::Halt;
+use crate::parse_error::ParseError;
 use crate::words::{begins, fixed_end, level_end, operand_end, tag_end};
 
 #[tactic(auto, unfolding(crate::specs::Ends::guard_end))]
-fn guard_end(bytes: &[u8]) -> Result<&[u8], Halt>
-    ensures end { Gives (λ r. r.now) result (guard_end bytes.now) }
+fn guard_end(bytes: &[u8]) -> Result<&[u8], ParseError>
+    ensures end { ResultIs (λ r. r.now) result (guard_end bytes.now) }
     ensures shorter { IfOk result (λ r. length r.now < length bytes.now) }
 {
     constraint_end(fixed_end(b"if ", bytes)?)
 }
 
 /// What follows the binders behind the first, and a guard behind them.
-fn binders_end(bytes: &[u8]) -> Result<&[u8], Halt>
-    ensures end { Gives (λ r. r.now) result (binders_end (suc (length bytes.now)) bytes.now) }
+fn binders_end(bytes: &[u8]) -> Result<&[u8], ParseError>
+    ensures end { ResultIs (λ r. r.now) result (binders_end (suc (length bytes.now)) bytes.now) }
     ensures shorter { IfOk result (λ r. length r.now ≤ length bytes.now) }
 {
     let mut rest = bytes;
@@ -34,8 +34,8 @@ fn binders_end(bytes: &[u8]) -> Result<&[u8], Halt>
 
 /// What follows the binders and the guard behind an item.
 #[tactic(auto, unfolding(crate::specs::Ends::tail_end))]
-fn tail_end(bytes: &[u8]) -> Result<&[u8], Halt>
-    ensures end { Gives (λ r. r.now) result (tail_end bytes.now) }
+fn tail_end(bytes: &[u8]) -> Result<&[u8], ParseError>
+    ensures end { ResultIs (λ r. r.now) result (tail_end bytes.now) }
     ensures shorter { IfOk result (λ r. length r.now ≤ length bytes.now) }
 {
     if !begins(bytes, b' ') {
@@ -52,8 +52,8 @@ fn tail_end(bytes: &[u8]) -> Result<&[u8], Halt>
 /// What follows the parts behind the second, each behind a comma.
 #[cycle(term_ends)]
 #[tactic(auto, unfolding(crate::specs::Ends::more_parts_end))]
-fn more_parts_end(bytes: &[u8], brackets: usize) -> Result<&[u8], Halt>
-    ensures end { Gives (λ r. r.now) result (more_parts_end (term_end brackets) bytes.now) }
+fn more_parts_end(bytes: &[u8], brackets: usize) -> Result<&[u8], ParseError>
+    ensures end { ResultIs (λ r. r.now) result (more_parts_end (term_end brackets) bytes.now) }
     ensures shorter { IfOk result (λ r. length r.now ≤ length bytes.now) }
 {
     let mut rest = bytes;
@@ -65,8 +65,8 @@ fn more_parts_end(bytes: &[u8], brackets: usize) -> Result<&[u8], Halt>
 
 #[cycle(term_ends)]
 #[tactic(auto, unfolding(crate::specs::Ends::tuple_end))]
-fn tuple_end(bytes: &[u8], brackets: usize) -> Result<&[u8], Halt>
-    ensures end { Gives (λ r. r.now) result (tuple_end (term_end brackets) bytes.now) }
+fn tuple_end(bytes: &[u8], brackets: usize) -> Result<&[u8], ParseError>
+    ensures end { ResultIs (λ r. r.now) result (tuple_end (term_end brackets) bytes.now) }
     ensures shorter { IfOk result (λ r. length r.now < length bytes.now) }
 {
     let rest = term_end(fixed_end(b"(", bytes)?, brackets)?;
@@ -76,8 +76,8 @@ fn tuple_end(bytes: &[u8], brackets: usize) -> Result<&[u8], Halt>
 
 #[cycle(term_ends)]
 #[tactic(auto, unfolding(crate::specs::Ends::comp_end))]
-fn comp_end(bytes: &[u8], brackets: usize) -> Result<&[u8], Halt>
-    ensures end { Gives (λ r. r.now) result (comp_end (term_end brackets) bytes.now) }
+fn comp_end(bytes: &[u8], brackets: usize) -> Result<&[u8], ParseError>
+    ensures end { ResultIs (λ r. r.now) result (comp_end (term_end brackets) bytes.now) }
     ensures shorter { IfOk result (λ r. length r.now < length bytes.now) }
 {
     tail_end(term_end(bytes, brackets)?)
@@ -85,8 +85,8 @@ fn comp_end(bytes: &[u8], brackets: usize) -> Result<&[u8], Halt>
 
 #[cycle(term_ends)]
 #[tactic(auto, unfolding(crate::specs::Ends::more_comps_end))]
-fn more_comps_end(bytes: &[u8], brackets: usize) -> Result<&[u8], Halt>
-    ensures end { Gives (λ r. r.now) result (more_comps_end (term_end brackets) bytes.now) }
+fn more_comps_end(bytes: &[u8], brackets: usize) -> Result<&[u8], ParseError>
+    ensures end { ResultIs (λ r. r.now) result (more_comps_end (term_end brackets) bytes.now) }
     ensures shorter { IfOk result (λ r. length r.now ≤ length bytes.now) }
 {
     let mut rest = bytes;
@@ -99,8 +99,8 @@ fn more_comps_end(bytes: &[u8], brackets: usize) -> Result<&[u8], Halt>
 /// What follows the comprehensions of a set, at least one, and its brace.
 #[cycle(term_ends)]
 #[tactic(auto, unfolding(crate::specs::Ends::items_end))]
-fn items_end(bytes: &[u8], brackets: usize) -> Result<&[u8], Halt>
-    ensures end { Gives (λ r. r.now) result (items_end (term_end brackets) bytes.now) }
+fn items_end(bytes: &[u8], brackets: usize) -> Result<&[u8], ParseError>
+    ensures end { ResultIs (λ r. r.now) result (items_end (term_end brackets) bytes.now) }
     ensures shorter { IfOk result (λ r. length r.now < length bytes.now) }
 {
     let rest = comp_end(bytes, brackets)?;
@@ -109,8 +109,8 @@ fn items_end(bytes: &[u8], brackets: usize) -> Result<&[u8], Halt>
 
 #[cycle(term_ends)]
 #[tactic(auto, unfolding(crate::specs::Ends::set_end))]
-fn set_end(bytes: &[u8], brackets: usize) -> Result<&[u8], Halt>
-    ensures end { Gives (λ r. r.now) result (set_end (term_end brackets) bytes.now) }
+fn set_end(bytes: &[u8], brackets: usize) -> Result<&[u8], ParseError>
+    ensures end { ResultIs (λ r. r.now) result (set_end (term_end brackets) bytes.now) }
     ensures shorter { IfOk result (λ r. length r.now < length bytes.now) }
 {
     let rest = fixed_end(b"{", bytes)?;
@@ -123,8 +123,8 @@ fn set_end(bytes: &[u8], brackets: usize) -> Result<&[u8], Halt>
 /// What follows the term, in which at most so many brackets are open at one place.
 #[cycle(term_ends)]
 #[tactic(auto, unfolding(crate::specs::Ends::term_end))]
-pub fn term_end(bytes: &[u8], brackets: usize) -> Result<&[u8], Halt>
-    ensures end { Gives (λ r. r.now) result (term_end brackets bytes.now) }
+pub fn term_end(bytes: &[u8], brackets: usize) -> Result<&[u8], ParseError>
+    ensures end { ResultIs (λ r. r.now) result (term_end brackets bytes.now) }
     ensures shorter { IfOk result (λ r. length r.now < length bytes.now) }
 {
     if begins(bytes, b'\'') {

@@ -4,11 +4,11 @@ ghost use Rattle.std.specs.Prelude.{◌≡◌, ◌+◌, ◌<◌, ◌≤◌, ◌^
 ghost use Rattle.lois_base.specs.Tree.{tree, comp_of};
 ghost use Rattle.lois_lexer.specs.Forms.{is_word_form};
 ghost use Rattle.lois_reader.specs.Ends.{term_end};
-ghost use Rattle.lois_reader.specs.Reading.{Gives};
+ghost use Rattle.lois_reader.specs.Reading.{ResultIs};
 ghost use Rattle.lois_reader.specs.TermValues.{level_count, binder_count, binder_at, levels_from, binders_at, true_alone, behind_if, guard_at, tag_at, var_at, part_count, parts_at, closed_parts_at, tuple_at, comp_at, comps_at, closed_comps_at, set_at, term_at};
 
 use crate::constraints::{constraint_at, follows, keyword, operand_at, value_within};
-use crate::halt::Halt;
+use crate::parse_error::ParseError;
 use crate::scope::Scope;
 use crate::term_ends::term_end;
 use crate::words::{begins, fixed_end, level_end, number_at, word_at};
@@ -17,8 +17,8 @@ use lois_base::{Comp, Comps, Constraint, Name, NoMemory, Term, Terms};
 use std::alloc::Global;
 
 /// How many levels are written here, each behind a space.
-fn level_count(bytes: &[u8]) -> Result<usize, Halt>
-    ensures count { Gives (λ m. m) result (level_count (suc (length bytes.now)) bytes.now) }
+fn level_count(bytes: &[u8]) -> Result<usize, ParseError>
+    ensures count { ResultIs (λ m. m) result (level_count (suc (length bytes.now)) bytes.now) }
 {
     let mut rest = bytes;
     let mut count = 0;
@@ -31,8 +31,8 @@ fn level_count(bytes: &[u8]) -> Result<usize, Halt>
 
 /// How many binders are written here.
 #[tactic(auto, unfolding(crate::specs::TermValues::binder_count))]
-fn binder_count(bytes: &[u8]) -> Result<usize, Halt>
-    ensures count { Gives (λ m. m) result (binder_count bytes.now) }
+fn binder_count(bytes: &[u8]) -> Result<usize, ParseError>
+    ensures count { ResultIs (λ m. m) result (binder_count bytes.now) }
 {
     if !follows(bytes, b'f') {
         return Ok(0);
@@ -42,27 +42,27 @@ fn binder_count(bytes: &[u8]) -> Result<usize, Halt>
 
 /// What follows the binder of this number.
 #[tactic(auto, unfolding(crate::specs::TermValues::binder_at))]
-fn binder_at(level: usize, bytes: &[u8]) -> Result<&[u8], Halt>
+fn binder_at(level: usize, bytes: &[u8]) -> Result<&[u8], ParseError>
     requires { level + 1 < 2 ^ 64 }
-    ensures end { Gives (λ r. r.now) result (binder_at level bytes.now) }
+    ensures end { ResultIs (λ r. r.now) result (binder_at level bytes.now) }
     ensures shorter { IfOk result (λ r. length r.now < length bytes.now) }
 {
     let (digits, rest) = number_at(fixed_end(b"$", bytes)?)?;
     if value_within(digits, level, level + 1).is_none() {
-        return Err(Halt::Left(bytes.len()));
+        return Err(ParseError::Left(bytes.len()));
     }
     Ok(rest)
 }
 
 /// What follows the binders from this number on. No memory holds a choice of more levels than the greatest usize.
-fn levels_from(first: usize, bytes: &[u8]) -> Result<&[u8], Halt>
-    ensures end { Gives (λ r. r.now) result (levels_from (suc (length bytes.now)) first bytes.now) }
+fn levels_from(first: usize, bytes: &[u8]) -> Result<&[u8], ParseError>
+    ensures end { ResultIs (λ r. r.now) result (levels_from (suc (length bytes.now)) first bytes.now) }
     ensures shorter { IfOk result (λ r. length r.now ≤ length bytes.now) }
 {
     let mut rest = bytes;
     let mut level = first;
     while follows(rest, b'$') {
-        let next = level.checked_add(1).ok_or(Halt::NoMemory)?;
+        let next = level.checked_add(1).ok_or(ParseError::NoMemory)?;
         rest = binder_at(level, fixed_end(b" ", rest)?)?;
         level = next;
     }
@@ -71,8 +71,8 @@ fn levels_from(first: usize, bytes: &[u8]) -> Result<&[u8], Halt>
 
 /// What follows the binders of a comprehension inside so many levels.
 #[tactic(auto, unfolding(crate::specs::TermValues::binders_at))]
-fn binders_at(levels: usize, bytes: &[u8]) -> Result<&[u8], Halt>
-    ensures end { Gives (λ r. r.now) result (binders_at levels bytes.now) }
+fn binders_at(levels: usize, bytes: &[u8]) -> Result<&[u8], ParseError>
+    ensures end { ResultIs (λ r. r.now) result (binders_at levels bytes.now) }
     ensures shorter { IfOk result (λ r. length r.now ≤ length bytes.now) }
 {
     if !follows(bytes, b'f') {
@@ -98,12 +98,12 @@ fn behind_if<'a>(
     scope: &Scope<'_>,
     levels: usize,
     bytes: &'a [u8],
-) -> Result<(Constraint, &'a [u8]), Halt>
-    ensures guard { Gives (λ x. (x.0, x.1.now)) result (behind_if scope.now levels bytes.now) }
+) -> Result<(Constraint, &'a [u8]), ParseError>
+    ensures guard { ResultIs (λ x. (x.0, x.1.now)) result (behind_if scope.now levels bytes.now) }
     ensures shorter { IfOk result (λ x. length x.1.now < length bytes.now) }
 {
     if true_alone(bytes) {
-        return Err(Halt::Left(bytes.len()));
+        return Err(ParseError::Left(bytes.len()));
     }
     constraint_at(alloc, scope, levels, bytes)
 }
@@ -115,8 +115,8 @@ fn guard_at<'a>(
     scope: &Scope<'_>,
     levels: usize,
     bytes: &'a [u8],
-) -> Result<(Constraint, &'a [u8]), Halt>
-    ensures guard { Gives (λ x. (x.0, x.1.now)) result (guard_at scope.now levels bytes.now) }
+) -> Result<(Constraint, &'a [u8]), ParseError>
+    ensures guard { ResultIs (λ x. (x.0, x.1.now)) result (guard_at scope.now levels bytes.now) }
     ensures shorter { IfOk result (λ x. length x.1.now ≤ length bytes.now) }
 {
     if !begins(bytes, b' ') {
@@ -135,20 +135,24 @@ pub fn name_of(alloc: Global, word: &[u8]) -> Result<Name, NoMemory>
 }
 
 #[tactic(auto, unfolding(crate::specs::TermValues::tag_at))]
-fn tag_at(alloc: Global, bytes: &[u8]) -> Result<(Term, &[u8]), Halt>
-    ensures term { Gives (λ x. (tree x.0, x.1.now)) result (tag_at bytes.now) }
+fn tag_at(alloc: Global, bytes: &[u8]) -> Result<(Term, &[u8]), ParseError>
+    ensures term { ResultIs (λ x. (tree x.0, x.1.now)) result (tag_at bytes.now) }
     ensures shorter { IfOk result (λ x. length x.1.now < length bytes.now) }
 {
     let (word, rest) = word_at(fixed_end(b"'", bytes)?)?;
     if word.len() > LONGEST_NAME {
-        return Err(Halt::Left(bytes.len()));
+        return Err(ParseError::Left(bytes.len()));
     }
     Ok((Term::Tag(name_of(alloc, word)?), rest))
 }
 
 #[tactic(auto, unfolding(crate::specs::TermValues::var_at))]
-fn var_at<'a>(scope: &Scope<'_>, levels: usize, bytes: &'a [u8]) -> Result<(Term, &'a [u8]), Halt>
-    ensures term { Gives (λ x. (tree x.0, x.1.now)) result (var_at scope.now levels bytes.now) }
+fn var_at<'a>(
+    scope: &Scope<'_>,
+    levels: usize,
+    bytes: &'a [u8],
+) -> Result<(Term, &'a [u8]), ParseError>
+    ensures term { ResultIs (λ x. (tree x.0, x.1.now)) result (var_at scope.now levels bytes.now) }
     ensures shorter { IfOk result (λ x. length x.1.now < length bytes.now) }
 {
     let (level, rest) = operand_at(scope, levels, bytes)?;
@@ -156,8 +160,8 @@ fn var_at<'a>(scope: &Scope<'_>, levels: usize, bytes: &'a [u8]) -> Result<(Term
 }
 
 /// How many parts are written here, with commas between them.
-fn part_count(bytes: &[u8], brackets: usize) -> Result<usize, Halt>
-    ensures count { Gives (λ m. m) result (part_count (term_end brackets) (suc (length bytes.now)) bytes.now) }
+fn part_count(bytes: &[u8], brackets: usize) -> Result<usize, ParseError>
+    ensures count { ResultIs (λ m. m) result (part_count (term_end brackets) (suc (length bytes.now)) bytes.now) }
 {
     let mut rest = term_end(bytes, brackets)?;
     let mut count = 1;
@@ -177,8 +181,8 @@ fn parts_at<'a>(
     levels: usize,
     brackets: usize,
     bytes: &'a [u8],
-) -> Result<(Terms, &'a [u8]), Halt>
-    ensures parts { Gives (λ x. (x.0, x.1.now)) result (parts_at (term_at brackets scope.now levels) bytes.now) }
+) -> Result<(Terms, &'a [u8]), ParseError>
+    ensures parts { ResultIs (λ x. (x.0, x.1.now)) result (parts_at (term_at brackets scope.now levels) bytes.now) }
     ensures shorter { IfOk result (λ x. length x.1.now < length bytes.now) }
 {
     let mut parts = Terms::new(alloc);
@@ -201,8 +205,8 @@ fn closed_parts_at<'a>(
     levels: usize,
     brackets: usize,
     bytes: &'a [u8],
-) -> Result<(Term, &'a [u8]), Halt>
-    ensures term { Gives (λ x. (tree x.0, x.1.now)) result (closed_parts_at (term_at brackets scope.now levels) bytes.now) }
+) -> Result<(Term, &'a [u8]), ParseError>
+    ensures term { ResultIs (λ x. (tree x.0, x.1.now)) result (closed_parts_at (term_at brackets scope.now levels) bytes.now) }
     ensures shorter { IfOk result (λ x. length x.1.now < length bytes.now) }
 {
     let (parts, rest) = parts_at(alloc, scope, levels, brackets, bytes)?;
@@ -218,13 +222,13 @@ fn tuple_at<'a>(
     levels: usize,
     brackets: usize,
     bytes: &'a [u8],
-) -> Result<(Term, &'a [u8]), Halt>
-    ensures term { Gives (λ x. (tree x.0, x.1.now)) result (tuple_at (term_end brackets) (term_at brackets scope.now levels) bytes.now) }
+) -> Result<(Term, &'a [u8]), ParseError>
+    ensures term { ResultIs (λ x. (tree x.0, x.1.now)) result (tuple_at (term_end brackets) (term_at brackets scope.now levels) bytes.now) }
     ensures shorter { IfOk result (λ x. length x.1.now < length bytes.now) }
 {
     let inside = fixed_end(b"(", bytes)?;
     if part_count(inside, brackets)? > GREATEST_WIDTH {
-        return Err(Halt::Left(bytes.len()));
+        return Err(ParseError::Left(bytes.len()));
     }
     closed_parts_at(alloc, scope, levels, brackets, inside)
 }
@@ -238,12 +242,12 @@ fn comp_at<'a>(
     levels: usize,
     brackets: usize,
     bytes: &'a [u8],
-) -> Result<(Comp, &'a [u8]), Halt>
-    ensures comp { Gives (λ x. (comp_of x.0, x.1.now)) result (comp_at (term_end brackets) (term_at brackets scope.now) scope.now levels bytes.now) }
+) -> Result<(Comp, &'a [u8]), ParseError>
+    ensures comp { ResultIs (λ x. (comp_of x.0, x.1.now)) result (comp_at (term_end brackets) (term_at brackets scope.now) scope.now levels bytes.now) }
     ensures shorter { IfOk result (λ x. length x.1.now < length bytes.now) }
 {
     let binders = binder_count(term_end(bytes, brackets)?)?;
-    let inner = levels.checked_add(binders).ok_or(Halt::NoMemory)?;
+    let inner = levels.checked_add(binders).ok_or(ParseError::NoMemory)?;
     let (item, rest) = term_at(alloc, scope, inner, brackets, bytes)?;
     let rest = binders_at(levels, rest)?;
     let (guard, rest) = guard_at(alloc, scope, inner, rest)?;
@@ -266,8 +270,8 @@ fn comps_at<'a>(
     levels: usize,
     brackets: usize,
     bytes: &'a [u8],
-) -> Result<(Comps, &'a [u8]), Halt>
-    ensures comps { Gives (λ x. (x.0, x.1.now)) result (comps_at (comp_at (term_end brackets) (term_at brackets scope.now) scope.now levels) bytes.now) }
+) -> Result<(Comps, &'a [u8]), ParseError>
+    ensures comps { ResultIs (λ x. (x.0, x.1.now)) result (comps_at (comp_at (term_end brackets) (term_at brackets scope.now) scope.now levels) bytes.now) }
     ensures shorter { IfOk result (λ x. length x.1.now < length bytes.now) }
 {
     let mut comps = Comps::new(alloc);
@@ -290,8 +294,8 @@ fn closed_comps_at<'a>(
     levels: usize,
     brackets: usize,
     bytes: &'a [u8],
-) -> Result<(Term, &'a [u8]), Halt>
-    ensures term { Gives (λ x. (tree x.0, x.1.now)) result (closed_comps_at (comp_at (term_end brackets) (term_at brackets scope.now) scope.now levels) bytes.now) }
+) -> Result<(Term, &'a [u8]), ParseError>
+    ensures term { ResultIs (λ x. (tree x.0, x.1.now)) result (closed_comps_at (comp_at (term_end brackets) (term_at brackets scope.now) scope.now levels) bytes.now) }
     ensures shorter { IfOk result (λ x. length x.1.now < length bytes.now) }
 {
     let (comps, rest) = comps_at(alloc, scope, levels, brackets, bytes)?;
@@ -306,8 +310,8 @@ fn set_at<'a>(
     levels: usize,
     brackets: usize,
     bytes: &'a [u8],
-) -> Result<(Term, &'a [u8]), Halt>
-    ensures term { Gives (λ x. (tree x.0, x.1.now)) result (set_at (comp_at (term_end brackets) (term_at brackets scope.now) scope.now levels) bytes.now) }
+) -> Result<(Term, &'a [u8]), ParseError>
+    ensures term { ResultIs (λ x. (tree x.0, x.1.now)) result (set_at (comp_at (term_end brackets) (term_at brackets scope.now) scope.now levels) bytes.now) }
     ensures shorter { IfOk result (λ x. length x.1.now < length bytes.now) }
 {
     let inside = fixed_end(b"{", bytes)?;
@@ -326,8 +330,8 @@ pub fn term_at<'a>(
     levels: usize,
     brackets: usize,
     bytes: &'a [u8],
-) -> Result<(Term, &'a [u8]), Halt>
-    ensures term { Gives (λ x. (tree x.0, x.1.now)) result (term_at brackets scope.now levels bytes.now) }
+) -> Result<(Term, &'a [u8]), ParseError>
+    ensures term { ResultIs (λ x. (tree x.0, x.1.now)) result (term_at brackets scope.now levels bytes.now) }
     ensures shorter { IfOk result (λ x. length x.1.now < length bytes.now) }
 {
     if begins(bytes, b'\'') {

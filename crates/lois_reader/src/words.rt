@@ -5,10 +5,10 @@ ghost use Rattle.std.specs.List.{prefix_len};
 ghost use Rattle.std.specs.Char.{is_ascii_digit, is_ascii_alphabetic};
 ghost use Rattle.lois_lexer.specs.Bytes.{is_word_byte};
 ghost use Rattle.lois_lexer.specs.Forms.{is_word_form};
-ghost use Rattle.lois_reader.specs.Reading.{Gives, IsLeft, begins, first, passes};
+ghost use Rattle.lois_reader.specs.Reading.{ResultIs, IsLeft, begins, first, passes};
 ghost use Rattle.lois_reader.specs.Ends.{fixed_end, word_at, word_end, number_at, number_end, level_end, operand_end, op_end, tag_end, begins_op};
 
-use crate::halt::Halt;
+use crate::parse_error::ParseError;
 
 /// Whether the first byte is this one.
 pub fn begins(bytes: &[u8], byte: u8) -> bool
@@ -58,15 +58,15 @@ fn digits_len(bytes: &[u8]) -> usize
 }
 
 /// What follows the text.
-pub fn fixed_end<'a>(text: &[u8], bytes: &'a [u8]) -> Result<&'a [u8], Halt>
-    ensures end { Gives (λ r. r.now) result (fixed_end text.now bytes.now) }
+pub fn fixed_end<'a>(text: &[u8], bytes: &'a [u8]) -> Result<&'a [u8], ParseError>
+    ensures end { ResultIs (λ r. r.now) result (fixed_end text.now bytes.now) }
     ensures shorter { IfOk result (λ r. length r.now + length text.now ≡ length bytes.now) }
     ensures sure { IfErr result IsLeft }
 {
     let mut rest = bytes;
     for wanted in text {
         if !begins(rest, *wanted) {
-            return Err(Halt::Left(rest.len()));
+            return Err(ParseError::Left(rest.len()));
         }
         rest = &rest[1..];
     }
@@ -75,22 +75,22 @@ pub fn fixed_end<'a>(text: &[u8], bytes: &'a [u8]) -> Result<&'a [u8], Halt>
 
 /// The word, and what follows it.
 #[tactic(auto, unfolding(crate::specs::Ends::word_at))]
-pub fn word_at(bytes: &[u8]) -> Result<(&[u8], &[u8]), Halt>
-    ensures word { Gives (λ x. (x.0.now, x.1.now)) result (word_at bytes.now) }
+pub fn word_at(bytes: &[u8]) -> Result<(&[u8], &[u8]), ParseError>
+    ensures word { ResultIs (λ x. (x.0.now, x.1.now)) result (word_at bytes.now) }
     ensures form { IfOk result (λ x. IsTrue (is_word_form x.0.now)) }
     ensures sure { IfErr result IsLeft }
     ensures shorter { IfOk result (λ x. length x.1.now < length bytes.now) }
 {
     if !begins_with_letter(bytes) {
-        return Err(Halt::Left(bytes.len()));
+        return Err(ParseError::Left(bytes.len()));
     }
     Ok(bytes.split_at(word_len(bytes)))
 }
 
 /// What follows the word.
 #[tactic(auto, unfolding(crate::specs::Ends::word_end))]
-pub fn word_end(bytes: &[u8]) -> Result<&[u8], Halt>
-    ensures end { Gives (λ r. r.now) result (word_end bytes.now) }
+pub fn word_end(bytes: &[u8]) -> Result<&[u8], ParseError>
+    ensures end { ResultIs (λ r. r.now) result (word_end bytes.now) }
     ensures shorter { IfOk result (λ r. length r.now < length bytes.now) }
 {
     let (_, rest) = word_at(bytes)?;
@@ -99,23 +99,23 @@ pub fn word_end(bytes: &[u8]) -> Result<&[u8], Halt>
 
 /// The digits of the number, and what follows it.
 #[tactic(auto, unfolding(crate::specs::Ends::number_at))]
-pub fn number_at(bytes: &[u8]) -> Result<(&[u8], &[u8]), Halt>
-    ensures number { Gives (λ x. (x.0.now, x.1.now)) result (number_at bytes.now) }
+pub fn number_at(bytes: &[u8]) -> Result<(&[u8], &[u8]), ParseError>
+    ensures number { ResultIs (λ x. (x.0.now, x.1.now)) result (number_at bytes.now) }
     ensures shorter { IfOk result (λ x. length x.1.now < length bytes.now) }
 {
     if begins(bytes, b'0') {
         return Ok(bytes.split_at(1));
     }
     if !begins_with_digit(bytes) {
-        return Err(Halt::Left(bytes.len()));
+        return Err(ParseError::Left(bytes.len()));
     }
     Ok(bytes.split_at(digits_len(bytes)))
 }
 
 /// What follows the number.
 #[tactic(auto, unfolding(crate::specs::Ends::number_end))]
-pub fn number_end(bytes: &[u8]) -> Result<&[u8], Halt>
-    ensures end { Gives (λ r. r.now) result (number_end bytes.now) }
+pub fn number_end(bytes: &[u8]) -> Result<&[u8], ParseError>
+    ensures end { ResultIs (λ r. r.now) result (number_end bytes.now) }
     ensures shorter { IfOk result (λ r. length r.now < length bytes.now) }
 {
     let (_, rest) = number_at(bytes)?;
@@ -124,8 +124,8 @@ pub fn number_end(bytes: &[u8]) -> Result<&[u8], Halt>
 
 /// What follows the level.
 #[tactic(auto, unfolding(crate::specs::Ends::level_end))]
-pub fn level_end(bytes: &[u8]) -> Result<&[u8], Halt>
-    ensures end { Gives (λ r. r.now) result (level_end bytes.now) }
+pub fn level_end(bytes: &[u8]) -> Result<&[u8], ParseError>
+    ensures end { ResultIs (λ r. r.now) result (level_end bytes.now) }
     ensures shorter { IfOk result (λ r. length r.now < length bytes.now) }
 {
     number_end(fixed_end(b"$", bytes)?)
@@ -133,8 +133,8 @@ pub fn level_end(bytes: &[u8]) -> Result<&[u8], Halt>
 
 /// What follows the word or the level.
 #[tactic(auto, unfolding(crate::specs::Ends::operand_end))]
-pub fn operand_end(bytes: &[u8]) -> Result<&[u8], Halt>
-    ensures end { Gives (λ r. r.now) result (operand_end bytes.now) }
+pub fn operand_end(bytes: &[u8]) -> Result<&[u8], ParseError>
+    ensures end { ResultIs (λ r. r.now) result (operand_end bytes.now) }
     ensures shorter { IfOk result (λ r. length r.now < length bytes.now) }
 {
     if begins(bytes, b'$') {
@@ -146,8 +146,8 @@ pub fn operand_end(bytes: &[u8]) -> Result<&[u8], Halt>
 
 /// What follows the operator.
 #[tactic(auto, unfolding(crate::specs::Ends::op_end))]
-pub fn op_end(bytes: &[u8]) -> Result<&[u8], Halt>
-    ensures end { Gives (λ r. r.now) result (op_end bytes.now) }
+pub fn op_end(bytes: &[u8]) -> Result<&[u8], ParseError>
+    ensures end { ResultIs (λ r. r.now) result (op_end bytes.now) }
     ensures shorter { IfOk result (λ r. length r.now < length bytes.now) }
 {
     if begins(bytes, b'=') {
@@ -161,8 +161,8 @@ pub fn op_end(bytes: &[u8]) -> Result<&[u8], Halt>
 
 /// What follows the tag.
 #[tactic(auto, unfolding(crate::specs::Ends::tag_end))]
-pub fn tag_end(bytes: &[u8]) -> Result<&[u8], Halt>
-    ensures end { Gives (λ r. r.now) result (tag_end bytes.now) }
+pub fn tag_end(bytes: &[u8]) -> Result<&[u8], ParseError>
+    ensures end { ResultIs (λ r. r.now) result (tag_end bytes.now) }
     ensures shorter { IfOk result (λ r. length r.now < length bytes.now) }
 {
     word_end(fixed_end(b"'", bytes)?)

@@ -8,7 +8,7 @@ use Rattle.lois_base.specs.Data.{var}
 use Rattle.lois_base.specs.Values.{PointValue, point}
 use Rattle.lois_base.proofs.Members.{same_refl}
 use Rattle.lois_base.proofs.Order.{equal_refl}
-use Rattle.lois_meaning.specs.Automata.{Machine, IsAutomatonOf, JoinsStates, HasStep, Reads, Accepts}
+use Rattle.lois_meaning.specs.Automata.{Automaton, IsAutomatonOf, JoinsStates, HasStep, Reads, Accepts}
 use Rattle.lois_meaning.specs.Kinds.{IsAtomValue, HasParts, IsSetOf}
 use Rattle.lois_meaning.proofs.Alike.{is_atom_same}
 use Rattle.lois_meaning.proofs.Operations.{triple_exists}
@@ -50,14 +50,14 @@ module _ (r : Registers) (valid : IsRegisters r) where
   first_listed = (valid.initial, length-replicate r.registers None)
 
 -- what is left to show of a machine
-pub record HasSets (r : Registers) (m : Machine) : Type 0 where
+pub record HasSets (r : Registers) (m : Automaton) : Type 0 where
   pub states : IsSetOf m.states (λ v. (p : Configuration) × IsConfigurationOf r p × IsValueOf v p)
   pub letters : IsSetOf m.letters (λ v. (x : Atom) × IsAtomValue v x)
   pub steps : IsSetOf m.steps (IsStepValue r)
   pub initial : IsSetOf m.initial (λ v. IsValueOf v (first r))
   pub final : IsSetOf m.final (λ v. (p : Configuration) × IsConfigurationOf r p × Contains r.finals p.state × IsValueOf v p)
 
-module _ (r : Registers) (valid : IsRegisters r) (m : Machine) (sets : HasSets r m) where
+module _ (r : Registers) (valid : IsRegisters r) (m : Automaton) (sets : HasSets r m) where
   pub is_automaton : (v : PointValue) → HasParts v (m.states ∷ m.letters ∷ m.steps ∷ m.initial ∷ m.final ∷ []) → IsAutomatonOf v m
   is_automaton v five = record {
     five = five;

@@ -10,8 +10,8 @@ use Rattle.std.proofs.lemmas.List.Splits.{slice_split_none, slice_split_at, join
 use Rattle.std.proofs.lemmas.List.Elements.{All-nil, All-cons, All-head, All-tail}
 use Rattle.lois_base.proofs.Connectives.{both_true}
 use Rattle.lois_registers.specs.Reading.{is_clean, AreWords, HasNames, IsLeftAt}
-use Rattle.lois_registers.specs.declared.halt.Halt.{Halt}
-use Rattle.lois_registers.specs.declared.halt.Halt.TheVariants.{Left, NoMemory}
+use Rattle.lois_registers.specs.declared.parse_error.ParseError.{ParseError}
+use Rattle.lois_registers.specs.declared.parse_error.ParseError.TheVariants.{Left, NoMemory}
 use Rattle.lois_base.specs.Names.{IsName, is_name_byte}
 use Rattle.lois_base.proofs.Viewed.{rest_at}
 use Rattle.lois_registers.specs.Texts.{spelled}
@@ -167,7 +167,7 @@ pub named_only : (first text rest : List ℕ) (ws : List (List ℕ)) → IsTrue 
 named_only first text rest ws c are e names (form, (more, f)) =
     (words_unique ws (first ∷ names) rest more are (named_words first names c form) (sym e ∙ f)).0
 
-pub left_weaker : (text : List ℕ) (C D : Type 0) (h : Halt) → (C → D) → IsLeftAt text C h → IsLeftAt text D h
+pub left_weaker : (text : List ℕ) (C D : Type 0) (h : ParseError) → (C → D) → IsLeftAt text C h → IsLeftAt text D h
 left_weaker text C D (Left n) f (e, c) = (e, f c)
 left_weaker text C D NoMemory f c = tt
 
@@ -177,7 +177,7 @@ module _ {X Y : Type 0} (f : X → Y) (P : Y → Type 0) where
   all_unmapped (x ∷ xs) h = All-cons (λ z. P (f z)) x xs (All-head P (f x) (map f xs) h) (all_unmapped xs (All-tail P (f x) (map f xs) h))
 
 -- a cause that goes on to the caller
-pub err_left : {V : Type 0} (r : Result V Halt) (h : Halt) (Q : Halt → Type 0) → IsErrAnd r (λ e. e ≡ h) → Q h → IfErr r Q
+pub err_left : {V : Type 0} (r : Result V ParseError) (h : ParseError) (Q : ParseError → Type 0) → IsErrAnd r (λ e. e ≡ h) → Q h → IfErr r Q
 err_left (Ok v) h Q e q = tt
 err_left (Err k) h Q e q = subst Q (sym e) q
 

@@ -6,7 +6,7 @@ use Rattle.lois_base.specs.Atom.{Atom}
 use Rattle.lois_base.specs.Data.{TermD, CompD, comp, comps_of, depth_of_comp, depth_of_comps}
 use Rattle.lois_base.specs.Fits.{CompFits, ItemsFit}
 use Rattle.lois_base.specs.Truth.{holds}
-use Rattle.lois_base.specs.Validity.{AdmitsComp, AdmitsItems, CompHasUsualWidths, ItemsHaveUsualWidths}
+use Rattle.lois_base.specs.Validity.{AdmitsComp, AdmitsItems, CompHasBoundedWidths, ItemsHaveBoundedWidths}
 use Rattle.lois_base.specs.Values.{MakesAt, MemberAt}
 use Rattle.lois_base.specs.Validity.{AdmitsConstraint}
 use Rattle.lois_base.specs.Fits.{ConstraintFits}
@@ -89,8 +89,8 @@ fits_made n (comp m g t) (comp o h s) (i, j, same) f = go m o t s i j f
 pub admits_made : (o : Bool) (k l : CompD) → IsMadeOf k l → AdmitsComp o k → AdmitsComp o l
 admits_made o (comp m g t) (comp n h s) (i, j, same) f = subst (λ z. AdmitsComp o (comp n h z)) j (same.operators o f.0, f.1)
 
-pub widths_made : (k l : CompD) → IsMadeOf k l → CompHasUsualWidths k → CompHasUsualWidths l
-widths_made (comp m g t) (comp n h s) (i, j, same) f = subst (λ z. CompHasUsualWidths (comp n h z)) j f
+pub widths_made : (k l : CompD) → IsMadeOf k l → CompHasBoundedWidths k → CompHasBoundedWidths l
+widths_made (comp m g t) (comp n h s) (i, j, same) f = subst (λ z. CompHasBoundedWidths (comp n h z)) j f
 
 pub tags_made : (k l : CompD) → IsMadeOf k l → CompHasTags k → CompHasTags l
 tags_made (comp m g t) (comp n h s) (i, j, same) f = subst (λ z. CompHasTags (comp n h z)) j f
@@ -107,7 +107,7 @@ pub items_admit : (o : Bool) (ks : List CompD) → Each (AdmitsComp o) ks → Ad
 items_admit o [] h = tt
 items_admit o (k ∷ ks) h = (h.0, items_admit o ks h.1)
 
-pub items_widths : (ks : List CompD) → Each CompHasUsualWidths ks → ItemsHaveUsualWidths (comps_of ks)
+pub items_widths : (ks : List CompD) → Each CompHasBoundedWidths ks → ItemsHaveBoundedWidths (comps_of ks)
 items_widths [] h = tt
 items_widths (k ∷ ks) h = (h.0, items_widths ks h.1)
 

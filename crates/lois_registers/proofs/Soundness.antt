@@ -8,7 +8,7 @@ use Rattle.lois_answers.specs.Sound.{HasTags, PartsHaveTags, CompHasTags, IsSoun
 use Rattle.lois_base.specs.Data.{TermD, var, tup, coll, terms_of, CompD, comp, comps_of, depth, depth_of_parts, depth_of_comp}
 use Rattle.lois_base.specs.Fits.{Fits, PartsFit, CompFits, CubeFits, ConstraintFits}
 use Rattle.lois_base.specs.Names.{IsName}
-use Rattle.lois_base.specs.Validity.{AdmitsTerm, AdmitsParts, AdmitsComp, AdmitsCube, AdmitsConstraint, AdmitsLit, HasUsualWidths, PartsHaveUsualWidths, CompHasUsualWidths, count_of_parts}
+use Rattle.lois_base.specs.Validity.{AdmitsTerm, AdmitsParts, AdmitsComp, AdmitsCube, AdmitsConstraint, AdmitsLit, HasBoundedWidths, PartsHaveBoundedWidths, CompHasBoundedWidths, count_of_parts}
 use Rattle.lois_base.specs.declared.guards.Lit.{Lit}
 use Rattle.lois_registers.specs.Placed.{full, placements, content_term, configuration_term, configuration_comp, configurations, step_item, step_comp, step_comps, AreMade, IsMadeOf}
 use Rattle.lois_registers.specs.Runs.{stored_from}
@@ -31,7 +31,7 @@ none_name = record { short = omega arith; letter = refl; bytes = refl }
 record IsSoundItem (o : Bool) (n d : ℕ) (t : TermD) : Type 0 where
   levels : Fits n t
   tags : HasTags t
-  widths : HasUsualWidths t
+  widths : HasBoundedWidths t
   operators : AdmitsTerm o t
   low : depth t ≤ d
 
@@ -45,7 +45,7 @@ parts_tags [] = tt
 parts_tags (None ∷ os) = (none_name, parts_tags os)
 parts_tags (Some i ∷ os) = (tt, parts_tags os)
 
-parts_widths : (os : List (Option ℕ)) → PartsHaveUsualWidths (terms_of (map content_term os))
+parts_widths : (os : List (Option ℕ)) → PartsHaveBoundedWidths (terms_of (map content_term os))
 parts_widths [] = tt
 parts_widths (None ∷ os) = (tt, parts_widths os)
 parts_widths (Some i ∷ os) = (tt, parts_widths os)
@@ -77,7 +77,7 @@ configuration_sound o n name os is some few below = record {
 record IsSoundComp (o : Bool) (d : ℕ) (k : CompD) : Type 0 where
   levels : CompFits 0 k
   tags : CompHasTags k
-  widths : CompHasUsualWidths k
+  widths : CompHasBoundedWidths k
   operators : AdmitsComp o k
   low : depth_of_comp k ≤ d
 
@@ -103,7 +103,7 @@ set_sound o d ks l h = record {
   sound = record {
     levels = items_fit 0 ks (each (CompFits 0) (λ k i. i.levels) ks h);
     tags = items_tags ks (each CompHasTags (λ k i. i.tags) ks h);
-    widths = items_widths ks (each CompHasUsualWidths (λ k i. i.widths) ks h);
+    widths = items_widths ks (each CompHasBoundedWidths (λ k i. i.widths) ks h);
     operators = items_admit o ks (each (AdmitsComp o) (λ k i. i.operators) ks h);
     brackets = omega (arith, items_depth d ks (each (λ k. depth_of_comp k ≤ d) (λ k i. i.low) ks h));
   };

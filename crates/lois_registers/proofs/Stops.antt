@@ -11,8 +11,8 @@ use Rattle.lois_registers.specs.Texts.{spelled, title_words, order_words, count_
 use Rattle.lois_registers.specs.Valid.{IsCount, AreStates, AreListed, IsRegStep, IsRegisters}
 use Rattle.lois_registers.specs.declared.automata.RegStep.{RegStep}
 use Rattle.lois_registers.specs.declared.automata.Registers.{Registers}
-use Rattle.lois_registers.specs.declared.halt.Halt.{Halt}
-use Rattle.lois_registers.specs.declared.halt.Halt.TheVariants.{Left, NoMemory}
+use Rattle.lois_registers.specs.declared.parse_error.ParseError.{ParseError}
+use Rattle.lois_registers.specs.declared.parse_error.ParseError.TheVariants.{Left, NoMemory}
 use Rattle.lois_registers.proofs.Contents.{mapped_from}
 use Rattle.lois_registers.proofs.Members.{contains_first}
 
@@ -75,14 +75,14 @@ too_many more steps line rest e full few =
     omega (arith, ap length e, length-append (map step_words steps ++ line ∷ []) rest, length-append (map step_words steps) (line ∷ []), length-map more step_words, length-map steps step_words)
 
 -- what stops the reading at the lines so far
-stop : (text rest : List ℕ) (lines : Lines) (h : Halt) (C : Type 0) → text ≡ flat_map spelled lines ++ rest → AreGoodLines lines →
+stop : (text rest : List ℕ) (lines : Lines) (h : ParseError) (C : Type 0) → text ≡ flat_map spelled lines ++ rest → AreGoodLines lines →
     (C → (line : List (List ℕ)) (more : List ℕ) → rest ≡ spelled line ++ more → AreGoodLines (lines ++ line ∷ []) → ⊥) →
     ((r : Registers) → front_lines r ≡ lines → ⊥) → IsLeftAt rest C h → StopsIn text h
 stop text rest lines (Left n) C e good further short (l, cause) =
     (lines, rest, record { whole = e; good = good; further = further cause; last = λ r v f _. absurd (short r f) }, l)
 stop text rest lines NoMemory C e good further short h = tt
 
-module _ (text : List ℕ) (h : Halt) where
+module _ (text : List ℕ) (h : ParseError) where
   pub stop_title : IsLeftAt text ((more : List ℕ) → text ≡ spelled title_words ++ more → ⊥) h → StopsIn text h
   stop_title left =
       let r = made false 1 some_states (codes "s") [] [] in

@@ -12,7 +12,7 @@ use Rattle.lois_registers.specs.Valid.{IsRegStep, IsRegisters}
 use Rattle.lois_registers.specs.declared.RegistersError.TheVariants.{NotRegisters}
 use Rattle.lois_registers.specs.declared.automata.RegStep.{RegStep}
 use Rattle.lois_registers.specs.declared.automata.Registers.{Registers}
-use Rattle.lois_registers.specs.declared.halt.Halt.TheVariants.{Left}
+use Rattle.lois_registers.specs.declared.parse_error.ParseError.TheVariants.{Left}
 use Rattle.lois_registers.proofs.Cuts.{clean_words, named_words, words_unique}
 use Rattle.lois_registers.proofs.Members.{contains_first}
 use Rattle.lois_registers.proofs.StepWords.{both_cons, digit_clean, step_are}

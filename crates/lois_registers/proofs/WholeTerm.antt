@@ -6,7 +6,7 @@ use Rattle.lois_answers.specs.Sound.{IsSoundTerm}
 use Rattle.lois_base.specs.Data.{TermD, var, tup, coll, terms_of, CompD, comp, comps_of}
 use Rattle.lois_base.specs.Names.{IsName}
 use Rattle.lois_base.specs.Values.{PointValue, point}
-use Rattle.lois_meaning.specs.Automata.{Machine}
+use Rattle.lois_meaning.specs.Automata.{Automaton}
 use Rattle.lois_registers.specs.Placed.{placements, configurations, configuration_term, step_comps, AreMade}
 use Rattle.lois_registers.specs.Runs.{first}
 use Rattle.lois_registers.specs.Translation.{IsStepValue, IsTranslatedTo}
@@ -36,7 +36,7 @@ module _ (r : Registers) (valid : IsRegisters r) (made : List CompD) (are : AreM
   abbrev pub whole_term : TermD
   whole_term = tup (terms_of (states_term ∷ letters_term ∷ steps_term ∷ initial_term ∷ final_term ∷ []))
 
-  abbrev machine : Machine
+  abbrev machine : Automaton
   machine = record { states = point states_term []; letters = point letters_term []; steps = point steps_term []; initial = point initial_term []; final = point final_term [] }
 
   step_to : (v : PointValue) → IsStepOf r.registers r.steps v → IsStepValue r v

@@ -6,8 +6,8 @@ use Rattle.lois_registers.specs.Valid.{IsRegisters}
 use Rattle.lois_registers.specs.declared.RegistersError.{RegistersError}
 use Rattle.lois_registers.specs.declared.RegistersError.TheVariants.{NotRegisters, NoMemory as OutOfMemory}
 use Rattle.lois_registers.specs.declared.automata.Registers.{Registers}
-use Rattle.lois_registers.specs.declared.halt.Halt.{Halt}
-use Rattle.lois_registers.specs.declared.halt.Halt.TheVariants.{Left, NoMemory}
+use Rattle.lois_registers.specs.declared.parse_error.ParseError.{ParseError}
+use Rattle.lois_registers.specs.declared.parse_error.ParseError.TheVariants.{Left, NoMemory}
 
 -- the text is that of r
 pub record IsRegistersOf (text : List ℕ) (r : Registers) : Type 0 where
@@ -44,6 +44,6 @@ HasNone text (NotRegisters at) = (r : Registers) → IsRegistersOf text r → �
 HasNone text OutOfMemory = Unit {0}
 
 -- the same by how many bytes are left
-abbrev pub StopsIn : List ℕ → Halt → Type 0
+abbrev pub StopsIn : List ℕ → ParseError → Type 0
 StopsIn text (Left n) = (lines : List (List (List ℕ))) × (rest : List ℕ) × BreaksAt text lines rest × (n ≡ length rest)
 StopsIn text NoMemory = Unit {0}

@@ -3,8 +3,8 @@ use Rattle.std.specs.Prelude.{◌≡◌, ℕ, Bool, not, ◌&&◌, List, ◌∷�
 use Rattle.std.specs.List.{All, list_all, slice_split, join_with_byte}
 use Rattle.lois_base.specs.Names.{IsName}
 use Rattle.lois_registers.specs.Texts.{spelled}
-use Rattle.lois_registers.specs.declared.halt.Halt.{Halt}
-use Rattle.lois_registers.specs.declared.halt.Halt.TheVariants.{Left, NoMemory}
+use Rattle.lois_registers.specs.declared.parse_error.ParseError.{ParseError}
+use Rattle.lois_registers.specs.declared.parse_error.ParseError.TheVariants.{Left, NoMemory}
 
 -- without the ends of lines and of words
 abbrev pub is_clean : List ℕ → Bool
@@ -16,7 +16,7 @@ pub record AreWords (words : List (List ℕ)) : Type 0 where
   pub cut : slice_split (λ b. nat_eq b 32) (join_with_byte 32 words) ≡ words
 
 -- reading stopped at the front of the text, for this cause; or for want of memory
-abbrev pub IsLeftAt : List ℕ → Type 0 → Halt → Type 0
+abbrev pub IsLeftAt : List ℕ → Type 0 → ParseError → Type 0
 IsLeftAt text Cause (Left n) = (n ≡ length text) × Cause
 IsLeftAt text Cause NoMemory = Unit {0}
 

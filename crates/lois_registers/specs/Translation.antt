@@ -4,7 +4,7 @@ use Rattle.std.specs.List.{Contains, AllZip}
 use Rattle.lois_base.specs.Atom.{Atom}
 use Rattle.lois_base.specs.Data.{TermD}
 use Rattle.lois_base.specs.Values.{PointValue, point}
-use Rattle.lois_meaning.specs.Automata.{Machine, IsAutomatonOf, IsTriple, Accepts}
+use Rattle.lois_meaning.specs.Automata.{Automaton, IsAutomatonOf, IsTriple, Accepts}
 use Rattle.lois_meaning.specs.Kinds.{IsAtomValue, IsTagValue, HasParts, IsSetOf}
 use Rattle.lois_registers.specs.Runs.{Configuration, IsConfigurationOf, first, Leads, AcceptsAtoms}
 use Rattle.lois_registers.specs.declared.automata.Registers.{Registers}
@@ -26,7 +26,7 @@ IsStepValue r v =
     IsValueOf c p × IsAtomValue l x × IsValueOf d q × IsTriple v c l d
 
 -- the automaton m does what the register automaton r does
-pub record IsTranslation (r : Registers) (m : Machine) : Type 0 where
+pub record IsTranslation (r : Registers) (m : Automaton) : Type 0 where
   pub states : IsSetOf m.states (λ v. (p : Configuration) × IsConfigurationOf r p × IsValueOf v p)
   pub letters : IsSetOf m.letters (λ v. (x : Atom) × IsAtomValue v x)
   pub steps : IsSetOf m.steps (IsStepValue r)
@@ -36,4 +36,4 @@ pub record IsTranslation (r : Registers) (m : Machine) : Type 0 where
 
 -- the value of the term is the automaton of r
 abbrev pub IsTranslatedTo : Registers → TermD → Type 0
-IsTranslatedTo r t = (m : Machine) × IsAutomatonOf (point t []) m × IsTranslation r m
+IsTranslatedTo r t = (m : Automaton) × IsAutomatonOf (point t []) m × IsTranslation r m

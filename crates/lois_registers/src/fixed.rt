@@ -5,8 +5,8 @@ ghost use Rattle.lois_registers.specs.Reading.{IsLeftAt, HasNoLine};
 ghost use Rattle.lois_registers.specs.Valid.{IsCount};
 ghost use Rattle.lois_registers.specs.Texts.{spelled, title_words, order_words, count_words};
 
-use crate::halt::Halt;
 use crate::lines::is;
+use crate::parse_error::ParseError;
 
 /// What follows the text at the front.
 fn behind<'a>(text: &'a [u8], front: &[u8]) -> Option<&'a [u8]>
@@ -21,18 +21,18 @@ fn behind<'a>(text: &'a [u8], front: &[u8]) -> Option<&'a [u8]>
 }
 
 /// What follows the title.
-pub fn title(text: &[u8]) -> Result<&[u8], Halt>
+pub fn title(text: &[u8]) -> Result<&[u8], ParseError>
     ensures read { IfOk result (λ rest. text.now ≡ spelled title_words ++ rest.now) }
     ensures left { IfErr result (IsLeftAt text.now ((more : List ℕ) → text.now ≡ spelled title_words ++ more → ⊥)) }
 {
     match behind(text, b"lois registers 1\n") {
         Some(rest) => Ok(rest),
-        None => Err(Halt::Left(text.len())),
+        None => Err(ParseError::Left(text.len())),
     }
 }
 
 /// Whether atoms are ordered, and what follows the line.
-pub fn order_line(text: &[u8]) -> Result<(bool, &[u8]), Halt>
+pub fn order_line(text: &[u8]) -> Result<(bool, &[u8]), ParseError>
     ensures read { IfOk result (λ x. text.now ≡ spelled (order_words x.0) ++ x.1.now) }
     ensures left { IfErr result (IsLeftAt text.now ((order : Bool) (more : List ℕ) → text.now ≡ spelled (order_words order) ++ more → ⊥)) }
 {
@@ -41,12 +41,12 @@ pub fn order_line(text: &[u8]) -> Result<(bool, &[u8]), Halt>
     }
     match behind(text, b"atoms order\n") {
         Some(rest) => Ok((true, rest)),
-        None => Err(Halt::Left(text.len())),
+        None => Err(ParseError::Left(text.len())),
     }
 }
 
 /// The number of registers, and what follows the line.
-pub fn count_line(text: &[u8]) -> Result<(u32, &[u8]), Halt>
+pub fn count_line(text: &[u8]) -> Result<(u32, &[u8]), ParseError>
     ensures read { IfOk result (λ x. IsCount x.0 × (text.now ≡ spelled (count_words x.0) ++ x.1.now)) }
     ensures left { IfErr result (IsLeftAt text.now (HasNoLine IsCount count_words text.now)) }
 {
@@ -61,6 +61,6 @@ pub fn count_line(text: &[u8]) -> Result<(u32, &[u8]), Halt>
     }
     match behind(text, b"registers 4\n") {
         Some(rest) => Ok((4, rest)),
-        None => Err(Halt::Left(text.len())),
+        None => Err(ParseError::Left(text.len())),
     }
 }

@@ -6,8 +6,8 @@ ghost use Rattle.std.specs.Prelude.{◌≡◌};
 
 mod automata;
 mod fixed;
-mod halt;
 mod lines;
+mod parse_error;
 mod placements;
 mod reading;
 mod results;
@@ -17,7 +17,7 @@ mod translating;
 
 pub use automata::{RegStep, RegSteps, Registers, Stores};
 pub use reading::read_registers;
-pub use results::translated;
+pub use results::translate_to_results;
 use thiserror::Error;
 pub use translating::translate;
 

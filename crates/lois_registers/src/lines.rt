@@ -5,7 +5,7 @@ ghost use Rattle.std.specs.List.{slice_split};
 ghost use Rattle.lois_registers.specs.Reading.{AreWords, IsLeftAt};
 ghost use Rattle.lois_registers.specs.Texts.{spelled};
 
-use crate::halt::Halt;
+use crate::parse_error::ParseError;
 use std::alloc::{AllocError, Global};
 
 /// Whether the word is this text.
@@ -37,12 +37,15 @@ fn line_end(text: &[u8]) -> Option<usize>
 }
 
 /// The words of the line at the front, and what follows the line. Stops where no line ends.
-pub fn line_words<'a>(alloc: Global, text: &'a [u8]) -> Result<(Vec<&'a [u8]>, &'a [u8]), Halt>
+pub fn line_words<'a>(
+    alloc: Global,
+    text: &'a [u8],
+) -> Result<(Vec<&'a [u8]>, &'a [u8]), ParseError>
     ensures read { IfOk result (λ x. AreWords (map (λ w. w.now) x.0.items) × (text.now ≡ spelled (map (λ w. w.now) x.0.items) ++ x.1.now)) }
     ensures left { IfErr result (IsLeftAt text.now ((words : List (List ℕ)) (more : List ℕ) → text.now ≡ spelled words ++ more → ⊥)) }
 {
     let Some(end) = line_end(text) else {
-        return Err(Halt::Left(text.len()));
+        return Err(ParseError::Left(text.len()));
     };
     let words = split_words(alloc, &text[..end])?;
     Ok((words, &text[end + 1..]))

@@ -11,10 +11,10 @@ ghost use Rattle.lois_registers.specs.declared.automata.Registers.{Registers};
 ghost use Rattle.std.specs.Prelude.{◌⊎◌};
 
 use crate::fixed::{count_line, order_line, title};
-use crate::halt::Halt;
 use crate::lines::is;
+use crate::parse_error::ParseError;
 use crate::states::{final_line, initial_line, states_line};
-use crate::steps::{Frame, step_line};
+use crate::steps::{Header, step_line};
 use crate::{RegSteps, Registers, RegistersError};
 use lois_base::NoMemory;
 use std::alloc::Global;
@@ -25,7 +25,7 @@ const MOST_STEPS: usize = 256;
 /// As many steps as there are, but not more than the most, and what follows their lines.
 fn steps<'a>(
     alloc: Global,
-    frame: Frame<'_>,
+    frame: Header<'_>,
     text: &'a [u8],
 ) -> Result<(RegSteps, &'a [u8]), NoMemory>
     requires count { IsCount frame.registers }
@@ -43,15 +43,15 @@ fn steps<'a>(
                 steps.push(step)?;
                 rest = after;
             }
-            Err(Halt::Left(_)) => return Ok((steps, rest)),
-            Err(Halt::NoMemory) => return Err(NoMemory),
+            Err(ParseError::Left(_)) => return Ok((steps, rest)),
+            Err(ParseError::NoMemory) => return Err(NoMemory),
         }
     }
     Ok((steps, rest))
 }
 
-fn registers_of(alloc: Global, text: &[u8]) -> Result<Registers, Halt>
-    ensures those { IfOk result (IsRegistersOf text.now) }
+fn registers_of(alloc: Global, text: &[u8]) -> Result<Registers, ParseError>
+    ensures exact { IfOk result (IsRegistersOf text.now) }
     ensures left { IfErr result (StopsIn text.now) }
 {
     let rest = title(text)?;
@@ -60,14 +60,14 @@ fn registers_of(alloc: Global, text: &[u8]) -> Result<Registers, Halt>
     let (states, rest) = states_line(alloc, rest)?;
     let (initial, rest) = initial_line(alloc, states.as_slice(), rest)?;
     let (finals, rest) = final_line(alloc, states.as_slice(), rest)?;
-    let frame = Frame {
+    let frame = Header {
         order,
         registers,
         states: states.as_slice(),
     };
     let (steps, rest) = steps(alloc, frame, rest)?;
     if !is(rest, b"end\n") {
-        return Err(Halt::Left(rest.len()));
+        return Err(ParseError::Left(rest.len()));
     }
     Ok(Registers {
         order,
@@ -87,7 +87,7 @@ fn registers_of(alloc: Global, text: &[u8]) -> Result<Registers, Halt>
 /// out.
 pub fn read_registers(alloc: Global, text: &[u8]) -> Result<Registers, RegistersError>
     // Ok gives the register automaton of the text, which is the only one.
-    ensures those { IfOk result (IsRegistersOf text.now) }
+    ensures exact { IfOk result (IsRegistersOf text.now) }
     ensures alone { IfOk result (λ r. (s : Registers) → IsRegistersOf text.now s → s ≡ r) }
 
     // A refusal comes only where there is none, at the first line at fault.
@@ -98,7 +98,7 @@ pub fn read_registers(alloc: Global, text: &[u8]) -> Result<Registers, Registers
     let len = text.len();
     match registers_of(alloc, text) {
         Ok(registers) => Ok(registers),
-        Err(Halt::Left(left)) => Err(RegistersError::NotRegisters(len.saturating_sub(left))),
-        Err(Halt::NoMemory) => Err(RegistersError::NoMemory),
+        Err(ParseError::Left(left)) => Err(RegistersError::NotRegisters(len.saturating_sub(left))),
+        Err(ParseError::NoMemory) => Err(RegistersError::NoMemory),
     }
 }

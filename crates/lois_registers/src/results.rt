@@ -12,7 +12,7 @@ use lois_base::{Constraint, Name, Names, NoMemory};
 use std::alloc::Global;
 
 /// The results that hold the automaton of `r`: one case, which always holds, with the line `automaton`. Errors: `NoMemory`.
-pub fn translated(alloc: Global, r: &Registers) -> Result<Results, NoMemory>
+pub fn translate_to_results(alloc: Global, r: &Registers) -> Result<Results, NoMemory>
     requires valid { IsRegisters r.now }
     ensures order { IfOk result (λ s. s.order ≡ r.now.order) }
     ensures parameters { IfOk result (λ s. s.parameters ≡ []) }

@@ -8,8 +8,8 @@ ghost use Rattle.lois_registers.specs.Reading.{IsLeftAt, HasNoLine, HasNames, is
 ghost use Rattle.lois_registers.specs.Texts.{spelled, states_words, initial_words, final_words};
 ghost use Rattle.lois_registers.specs.Valid.{AreStates, AreListed};
 
-use crate::halt::Halt;
 use crate::lines::{is, line_words};
+use crate::parse_error::ParseError;
 use lois_base::{Name, Names, NoMemory, is_name};
 use std::alloc::Global;
 
@@ -42,7 +42,7 @@ pub fn begins(words: &[&[u8]], first: &[u8]) -> bool
 }
 
 /// The names of a line that begins with this word, and what follows the line.
-fn named<'a>(alloc: Global, first: &[u8], text: &'a [u8]) -> Result<(Names, &'a [u8]), Halt>
+fn named<'a>(alloc: Global, first: &[u8], text: &'a [u8]) -> Result<(Names, &'a [u8]), ParseError>
     requires clean { IsTrue (is_clean first.now) }
     ensures read { IfOk result (λ x. All IsName x.0 × (text.now ≡ spelled (first.now ∷ x.0) ++ x.1.now)) }
     ensures only { IfOk result (λ x. (names : List (List ℕ)) → HasNames first.now names text.now → names ≡ x.0) }
@@ -51,7 +51,7 @@ fn named<'a>(alloc: Global, first: &[u8], text: &'a [u8]) -> Result<(Names, &'a 
     let (words, rest) = line_words(alloc, text)?;
     let words = words.as_slice();
     if !begins(words, first) || !are_names(&words[1..]) {
-        return Err(Halt::Left(text.len()));
+        return Err(ParseError::Left(text.len()));
     }
     Ok((names_of(alloc, &words[1..])?, rest))
 }
@@ -87,14 +87,14 @@ fn are_among(states: &[Name], names: &[Name]) -> bool
 }
 
 /// The states, and what follows their line.
-pub fn states_line(alloc: Global, text: &[u8]) -> Result<(Names, &[u8]), Halt>
+pub fn states_line(alloc: Global, text: &[u8]) -> Result<(Names, &[u8]), ParseError>
     ensures read { IfOk result (λ x. AreStates x.0 × (text.now ≡ spelled (states_words x.0) ++ x.1.now)) }
     ensures left { IfErr result (IsLeftAt text.now (HasNoLine AreStates states_words text.now)) }
 {
     let (names, rest) = named(alloc, b"states", text)?;
     let count = names.len();
     if count == 0 || count > MOST_STATES || !are_distinct(names.as_slice()) {
-        return Err(Halt::Left(text.len()));
+        return Err(ParseError::Left(text.len()));
     }
     Ok((names, rest))
 }
@@ -104,7 +104,7 @@ pub fn initial_line<'a>(
     alloc: Global,
     states: &[Name],
     text: &'a [u8],
-) -> Result<(Name, &'a [u8]), Halt>
+) -> Result<(Name, &'a [u8]), ParseError>
     requires form { All IsName states.now }
     ensures read { IfOk result (λ x. Contains states.now x.0 × (text.now ≡ spelled (initial_words x.0) ++ x.1.now)) }
     ensures left { IfErr result (IsLeftAt text.now (HasNoLine (Contains states.now) initial_words text.now)) }
@@ -112,7 +112,7 @@ pub fn initial_line<'a>(
     let (names, rest) = named(alloc, b"initial", text)?;
     let names = names.as_slice();
     if names.len() != 1 || !is_among(states, names[0].bytes()) {
-        return Err(Halt::Left(text.len()));
+        return Err(ParseError::Left(text.len()));
     }
     Ok((names[0].copy(alloc)?, rest))
 }
@@ -122,14 +122,14 @@ pub fn final_line<'a>(
     alloc: Global,
     states: &[Name],
     text: &'a [u8],
-) -> Result<(Names, &'a [u8]), Halt>
+) -> Result<(Names, &'a [u8]), ParseError>
     requires form { All IsName states.now }
     ensures read { IfOk result (λ x. AreListed states.now x.0 × (text.now ≡ spelled (final_words x.0) ++ x.1.now)) }
     ensures left { IfErr result (IsLeftAt text.now (HasNoLine (AreListed states.now) final_words text.now)) }
 {
     let (names, rest) = named(alloc, b"final", text)?;
     if !are_among(states, names.as_slice()) || !are_distinct(names.as_slice()) {
-        return Err(Halt::Left(text.len()));
+        return Err(ParseError::Left(text.len()));
     }
     Ok((names, rest))
 }

@@ -11,8 +11,8 @@ ghost use Rattle.lois_registers.specs.Valid.{IsCount, IsLiteral, AreLiterals, Is
 ghost use Rattle.lois_base.specs.declared.guards.Lit.{Lit};
 ghost use Rattle.lois_base.specs.declared.guards.Op.{Op};
 
-use crate::halt::Halt;
 use crate::lines::{is, line_words};
+use crate::parse_error::ParseError;
 use crate::states::is_among;
 use crate::{RegStep, Stores};
 use lois_base::{Cube, Lit, Name, NoMemory, Op};
@@ -200,14 +200,14 @@ fn first_of(words: &[&[u8]], word: &[u8]) -> Option<usize>
 
 /// What the steps of a text may be: over which atoms, how many registers and which states.
 #[derive(Clone, Copy)]
-pub struct Frame<'a> {
+pub struct Header<'a> {
     pub order: bool,
     pub registers: u32,
     pub states: &'a [Name],
 }
 
 /// The step that the words spell.
-fn step(alloc: Global, frame: Frame<'_>, words: &[&[u8]]) -> Result<Option<RegStep>, NoMemory>
+fn step(alloc: Global, frame: Header<'_>, words: &[&[u8]]) -> Result<Option<RegStep>, NoMemory>
     requires count { IsCount frame.registers }
     requires form { All IsName frame.states.now }
     ensures { IfOk result (AreOf (IsRegStep frame.entry.order frame.entry.registers frame.entry.states.now) step_words (map (λ w. w.now) words.now)) }
@@ -239,9 +239,9 @@ fn step(alloc: Global, frame: Frame<'_>, words: &[&[u8]]) -> Result<Option<RegSt
 /// The step of the line at the front, and what follows the line.
 pub fn step_line<'a>(
     alloc: Global,
-    frame: Frame<'_>,
+    frame: Header<'_>,
     text: &'a [u8],
-) -> Result<(RegStep, &'a [u8]), Halt>
+) -> Result<(RegStep, &'a [u8]), ParseError>
     requires count { IsCount frame.registers }
     requires form { All IsName frame.states.now }
     ensures read { IfOk result (λ x. IsRegStep frame.entry.order frame.entry.registers frame.entry.states.now x.0 × (text.now ≡ spelled (step_words x.0) ++ x.1.now)) }
@@ -250,6 +250,6 @@ pub fn step_line<'a>(
     let (words, rest) = line_words(alloc, text)?;
     match step(alloc, frame, &words)? {
         Some(step) => Ok((step, rest)),
-        None => Err(Halt::Left(text.len())),
+        None => Err(ParseError::Left(text.len())),
     }
 }

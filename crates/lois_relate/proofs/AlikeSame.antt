@@ -16,7 +16,7 @@ use Rattle.lois_base.specs.declared.values.Term.{Term}
 use Rattle.lois_base.proofs.Order.{equal_refl}
 use Rattle.lois_base.proofs.Same.{same_at_sym}
 use Rattle.lois_relate.specs.Alike.{LevelsMatch, LitsMatch, CubesMatch, GuardsMatch, AreAlike, PartsAlike, CompsAlike, ItemsAlike, IsListed}
-use Rattle.lois_relate.specs.Built.{Says}
+use Rattle.lois_relate.specs.Built.{Defines}
 use Rattle.lois_relate.specs.Named.{chosen}
 use Rattle.lois_relate.proofs.Names.{length-chosen, atom_chosen}
 use Rattle.lois_relate.proofs.Sets.{sets_same}
@@ -156,9 +156,9 @@ module _ (sn tn : List ℕ) (c : List Atom) where
   pub listed_each : (k : CompD) (qs : CompsD) → IsListed sn tn k qs → EachInAt k (chosen sn c) qs (chosen tn c)
   listed_each k qs h = listed_within k qs qs h (λ w x m. m)
 
-pub always_says : (n : ℕ) (Q : List Atom → Type 0) (A : Bool → Type 0) (f : FormulaD) → f ≡ all no_formulas → ((c : List Atom) → Q c) → Says n Q A f
+pub always_says : (n : ℕ) (Q : List Atom → Type 0) (A : Bool → Type 0) (f : FormulaD) → f ≡ all no_formulas → ((c : List Atom) → Q c) → Defines n Q A f
 always_says n Q A f e each =
-    subst (Says n Q A) (sym e) (record { truth = λ c k. (λ h. each c, λ h. tt); levels = tt; operators = λ o h. tt })
+    subst (Defines n Q A) (sym e) (record { truth = λ c k. (λ h. each c, λ h. tt); levels = tt; operators = λ o h. tt })
 
 -- lists of other lengths don't match
 module _ (sn tn : List ℕ) where

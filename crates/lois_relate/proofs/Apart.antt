@@ -9,9 +9,9 @@ use Rattle.lois_base.specs.Values.{SameAt, SamePartsAt, OneIsAt}
 use Rattle.lois_base.specs.declared.guards.Lit.{Lit}
 use Rattle.lois_base.specs.declared.values.Term.{Term}
 use Rattle.lois_base.proofs.Same.{same_at_sym}
-use Rattle.lois_relate.specs.Apart.{AreApart, LeavesOut}
-use Rattle.lois_relate.specs.Built.{Says}
-use Rattle.lois_relate.specs.Compared.{SaysPaired, SaysItem}
+use Rattle.lois_relate.specs.Apart.{AreNeverSame, LeavesOut}
+use Rattle.lois_relate.specs.Built.{Defines}
+use Rattle.lois_relate.specs.Compared.{DefinesPaired, DefinesItem}
 use Rattle.lois_relate.proofs.Parts.{as_many_items}
 use Rattle.lois_relate.proofs.Sets.{parts_as_many}
 
@@ -35,23 +35,23 @@ pub without_cubes : (m : ℕ) (g : List (List Lit)) (t s : TermD) → length g �
 without_cubes m [] t s none = λ c d h same. absurd (false≢true h)
 without_cubes m (k ∷ g) t s none = absurd (cc)
 
-pub apart_item : (m : ℕ) (g : List (List Lit)) (t s : TermD) → AreApart t s → LeavesOut (comp m g t) s
+pub apart_item : (m : ℕ) (g : List (List Lit)) (t s : TermD) → AreNeverSame t s → LeavesOut (comp m g t) s
 apart_item m g t s apart = λ c d h same. apart c d same
 
 pub no_item : (k : CompD) (s : TermD) (c d : List Atom) → LeavesOut k s → OneIsAt k c s d → ⊥
 no_item (comp m g t) s c d out (e, ext, same) = out (c ++ e) d ext.guard same
 
 -- ---- what holds nowhere
-pub nowhere_says : (n : ℕ) (Q : List Atom → Type 0) (A : Bool → Type 0) (f : FormulaD) → f ≡ any no_formulas → ((c : List Atom) → Q c → ⊥) → Says n Q A f
+pub nowhere_says : (n : ℕ) (Q : List Atom → Type 0) (A : Bool → Type 0) (f : FormulaD) → f ≡ any no_formulas → ((c : List Atom) → Q c → ⊥) → Defines n Q A f
 nowhere_says n Q A f e never =
-    subst (Says n Q A) (sym e) (record { truth = λ c k. (λ h. absurd h, λ h. absurd (never c h)); levels = tt; operators = λ o h. tt })
+    subst (Defines n Q A) (sym e) (record { truth = λ c k. (λ h. absurd h, λ h. absurd (never c h)); levels = tt; operators = λ o h. tt })
 
 module _ (n : ℕ) (sn tn : List ℕ) (k : ℕ) (h : List (List Lit)) (s : TermD) (f : FormulaD) (nowhere : f ≡ any no_formulas) where
-  pub item_left_out : (q : CompD) → LeavesOut q s → SaysItem n sn (comp k h s) tn q f
+  pub item_left_out : (q : CompD) → LeavesOut q s → DefinesItem n sn (comp k h s) tn q f
   item_left_out q out = nowhere_says (n + k) _ _ f nowhere (λ c x. no_item q s _ _ out x.1)
 
-  pub pair_left_out : (m : ℕ) (g : List (List Lit)) (t : TermD) → LeavesOut (comp m g t) s → SaysPaired n sn (comp k h s) tn (comp m g t) f
+  pub pair_left_out : (m : ℕ) (g : List (List Lit)) (t : TermD) → LeavesOut (comp m g t) s → DefinesPaired n sn (comp k h s) tn (comp m g t) f
   pair_left_out m g t out = nowhere_says ((n + k) + m) _ _ f nowhere (λ c x. out _ _ x.1 x.2)
 
-  pub pair_left_out_back : (m : ℕ) (g : List (List Lit)) (t : TermD) → LeavesOut (comp m g t) s → SaysPaired n tn (comp m g t) sn (comp k h s) f
+  pub pair_left_out_back : (m : ℕ) (g : List (List Lit)) (t : TermD) → LeavesOut (comp m g t) s → DefinesPaired n tn (comp m g t) sn (comp k h s) f
   pair_left_out_back m g t out = nowhere_says ((n + m) + k) _ _ f nowhere (λ c x. out _ _ x.0 (same_at_sym s _ t _ x.2))

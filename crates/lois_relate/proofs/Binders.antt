@@ -9,7 +9,7 @@ use Rattle.lois_base.specs.Truth.{holds}
 use Rattle.lois_base.specs.Validity.{AdmitsConstraint, AdmitsTerm, AdmitsComp, AdmitsItems, AdmitsFormula}
 use Rattle.lois_base.specs.Values.{SameAt, EachInAt, InAt, SomeIsAt, OneIsAt}
 use Rattle.lois_base.specs.declared.guards.Lit.{Lit}
-use Rattle.lois_relate.specs.Built.{Says, IsBoth, IsNegation, IsForSome}
+use Rattle.lois_relate.specs.Built.{Defines, IsBoth, IsNegation, IsForSome}
 use Rattle.lois_relate.specs.Compared.{IsForEach}
 use Rattle.lois_relate.specs.Named.{chosen, AreBelow, levels_from}
 use Rattle.lois_relate.proofs.Decided.{formula_decided}
@@ -36,7 +36,7 @@ module _ (n m inner : ℕ) (sum : inner ≡ n + m) (own outer names : List ℕ) 
 
   module _ (g : List (List Lit)) (t s : TermD) (e h b r : FormulaD) where
     -- the item is the same as s for some atoms that the guard admits
-    pub one_says : Says inner (λ c. SameAt t (chosen names c) s (chosen own c)) (λ o. AdmitsTerm o t × AdmitsTerm o s) e → Says inner (λ c. IsTrue (holds (chosen names c) g)) (λ o. AdmitsConstraint o g) h → IsBoth e h b → IsForSome m b r → Says n (λ c. OneIsAt (comp m g t) (chosen outer c) s (chosen own c)) (λ o. AdmitsComp o (comp m g t) × AdmitsTerm o s) r
+    pub one_says : Defines inner (λ c. SameAt t (chosen names c) s (chosen own c)) (λ o. AdmitsTerm o t × AdmitsTerm o s) e → Defines inner (λ c. IsTrue (holds (chosen names c) g)) (λ o. AdmitsConstraint o g) h → IsBoth e h b → IsForSome m b r → Defines n (λ c. OneIsAt (comp m g t) (chosen outer c) s (chosen own c)) (λ o. AdmitsComp o (comp m g t) × AdmitsTerm o s) r
     one_says equal guard both some = record {
       truth = λ c k. (λ x. there c k ((some.truth c).0 x), λ x. back c k x);
       levels = some.levels n (subst (λ j. FormulaFits j b) sum (both.levels inner equal.levels guard.levels));
@@ -58,7 +58,7 @@ module _ (n m inner : ℕ) (sum : inner ≡ n + m) (own outer names : List ℕ) 
 
   module _ (g : List (List Lit)) (t s : TermD) (e : FormulaD) where
     -- an item that is the same as s nowhere isn't so for atoms that the guard admits
-    pub none_says : e ≡ any no_formulas → Says inner (λ c. SameAt t (chosen names c) s (chosen own c)) (λ o. AdmitsTerm o t × AdmitsTerm o s) e → Says n (λ c. OneIsAt (comp m g t) (chosen outer c) s (chosen own c)) (λ o. AdmitsComp o (comp m g t) × AdmitsTerm o s) e
+    pub none_says : e ≡ any no_formulas → Defines inner (λ c. SameAt t (chosen names c) s (chosen own c)) (λ o. AdmitsTerm o t × AdmitsTerm o s) e → Defines n (λ c. OneIsAt (comp m g t) (chosen outer c) s (chosen own c)) (λ o. AdmitsComp o (comp m g t) × AdmitsTerm o s) e
     none_says never equal = record {
       truth = λ c k. (λ h. absurd (subst (FormulaHolds c) never h), λ x. absurd (back c k x));
       levels = subst (FormulaFits n) (sym never) tt;
@@ -73,7 +73,7 @@ module _ (n m inner : ℕ) (sum : inner ≡ n + m) (own outer names : List ℕ) 
 
   module _ (g : List (List Lit)) (t : TermD) (ss : CompsD) (f r : FormulaD) where
     -- each item that the guard admits is found in the set
-    pub each_says : Says inner (λ c. IsTrue (holds (chosen names c) g) × SomeIsAt ss (chosen own c) t (chosen names c)) (λ o. AdmitsComp o (comp m g t) × AdmitsItems o ss) f → IsForEach n m names g f r → Says n (λ c. EachInAt (comp m g t) (chosen outer c) ss (chosen own c)) (λ o. AdmitsComp o (comp m g t) × AdmitsItems o ss) r
+    pub each_says : Defines inner (λ c. IsTrue (holds (chosen names c) g) × SomeIsAt ss (chosen own c) t (chosen names c)) (λ o. AdmitsComp o (comp m g t) × AdmitsItems o ss) f → IsForEach n m names g f r → Defines n (λ c. EachInAt (comp m g t) (chosen outer c) ss (chosen own c)) (λ o. AdmitsComp o (comp m g t) × AdmitsItems o ss) r
     each_says found each = record {
       truth = λ c k. (
         λ p e y. is_in c e k y.count ((each.truth c k).0 p e y.count (guard_back g c e k y.count y.guard)),
@@ -95,7 +95,7 @@ module _ (n m inner : ℕ) (sum : inner ≡ n + m) (own outer names : List ℕ) 
 
   -- the item of a pair is there, for some atoms at the other's binders
   module _ (h g : List (List Lit)) (s t : TermD) (A : Bool → Type 0) (f r : FormulaD) where
-    pub paired_one : Says inner (λ c. IsTrue (holds (chosen own c) h) × IsTrue (holds (chosen names c) g) × SameAt t (chosen names c) s (chosen own c)) A f → IsForSome m f r → Says n (λ c. IsTrue (holds (chosen own c) h) × OneIsAt (comp m g t) (chosen outer c) s (chosen own c)) A r
+    pub paired_one : Defines inner (λ c. IsTrue (holds (chosen own c) h) × IsTrue (holds (chosen names c) g) × SameAt t (chosen names c) s (chosen own c)) A f → IsForSome m f r → Defines n (λ c. IsTrue (holds (chosen own c) h) × OneIsAt (comp m g t) (chosen outer c) s (chosen own c)) A r
     paired_one pair some = record {
       truth = λ c k. (λ x. there c k ((some.truth c).0 x), λ x. back c k x);
       levels = some.levels n (subst (λ j. FormulaFits j f) sum pair.levels);
@@ -117,7 +117,7 @@ module _ (n m inner : ℕ) (sum : inner ≡ n + m) (own outer names : List ℕ) 
 
 -- nothing that the guard admits is missing
 module _ (n m : ℕ) (names : List ℕ) (g : List (List Lit)) (f d h b x r : FormulaD) (fits : FormulaFits (n + m) f) where
-  pub each_met : IsNegation f d → Says (n + m) (λ c. IsTrue (holds (chosen names c) g)) (λ o. AdmitsConstraint o g) h → IsBoth h d b → IsForSome m b x → IsNegation x r → IsForEach n m names g f r
+  pub each_met : IsNegation f d → Defines (n + m) (λ c. IsTrue (holds (chosen names c) g)) (λ o. AdmitsConstraint o g) h → IsBoth h d b → IsForSome m b x → IsNegation x r → IsForEach n m names g f r
   each_met absent guard both some none = record {
     truth = λ c k. (λ p. there c k ((none.truth c).0 p), λ p. (none.truth c).1 (λ q. back c k p ((some.truth c).0 q)));
     levels = none.levels n (some.levels n (both.levels (n + m) guard.levels (absent.levels (n + m) fits)));

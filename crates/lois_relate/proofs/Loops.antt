@@ -4,7 +4,7 @@ use Rattle.lois_base.specs.Atom.{Atom}
 use Rattle.lois_base.specs.FormulaData.{FormulaD, all, any, no_formulas, FormulaFits}
 use Rattle.lois_base.specs.FormulaTruth.{FormulaHolds}
 use Rattle.lois_base.specs.Validity.{AdmitsFormula}
-use Rattle.lois_relate.specs.Built.{Says, IsBoth, IsEither}
+use Rattle.lois_relate.specs.Built.{Defines, IsBoth, IsEither}
 
 -- f says what the parts before the rest say
 pub record AllSoFar (n : ℕ) (Rest Whole : List Atom → Type 0) (A : Bool → Type 0) (f : FormulaD) : Type 0 where
@@ -25,7 +25,7 @@ module _ (n : ℕ) (Rest Whole : List Atom → Type 0) (A : Bool → Type 0) whe
     operators = λ o h. tt;
   })
 
-  pub all_go_on : (Q Rest' : List Atom → Type 0) (A' : Bool → Type 0) (f g r : FormulaD) → AllSoFar n Rest Whole A f → ((c : List Atom) → Rest c ↔ (Q c × Rest' c)) → Says n Q A' g → ((o : Bool) → A o → A' o) → IsBoth f g r → AllSoFar n Rest' Whole A r
+  pub all_go_on : (Q Rest' : List Atom → Type 0) (A' : Bool → Type 0) (f g r : FormulaD) → AllSoFar n Rest Whole A f → ((c : List Atom) → Rest c ↔ (Q c × Rest' c)) → Defines n Q A' g → ((o : Bool) → A o → A' o) → IsBoth f g r → AllSoFar n Rest' Whole A r
   all_go_on Q Rest' A' f g r so_far split says admits both = record {
     truth = λ c k. (
       λ h. let x = (both.truth c).0 h.0 in (so_far.truth c k).0 (x.0, (split c).1 ((says.truth c k).0 x.1, h.1)),
@@ -36,7 +36,7 @@ module _ (n : ℕ) (Rest Whole : List Atom → Type 0) (A : Bool → Type 0) whe
     operators = λ o h. both.operators o (so_far.operators o h) (says.operators o (admits o h));
   }
 
-  pub all_end : (f : FormulaD) → ((c : List Atom) → Rest c) → AllSoFar n Rest Whole A f → Says n Whole A f
+  pub all_end : (f : FormulaD) → ((c : List Atom) → Rest c) → AllSoFar n Rest Whole A f → Defines n Whole A f
   all_end f rest so_far = record {
     truth = λ c k. (λ h. (so_far.truth c k).0 (h, rest c), λ h. ((so_far.truth c k).1 h).0);
     levels = so_far.levels;
@@ -44,7 +44,7 @@ module _ (n : ℕ) (Rest Whole : List Atom → Type 0) (A : Bool → Type 0) whe
   }
 
   -- what is false already stays false
-  pub all_cut : (f : FormulaD) → f ≡ any no_formulas → AllSoFar n Rest Whole A f → Says n Whole A f
+  pub all_cut : (f : FormulaD) → f ≡ any no_formulas → AllSoFar n Rest Whole A f → Defines n Whole A f
   all_cut f e so_far = record {
     truth = λ c k. (λ h. absurd (subst (FormulaHolds c) e h), λ h. ((so_far.truth c k).1 h).0);
     levels = so_far.levels;
@@ -58,7 +58,7 @@ module _ (n : ℕ) (Rest Whole : List Atom → Type 0) (A : Bool → Type 0) whe
     operators = λ o h. tt;
   })
 
-  pub any_go_on : (Q Rest' : List Atom → Type 0) (A' : Bool → Type 0) (f g r : FormulaD) → AnySoFar n Rest Whole A f → ((c : List Atom) → Rest c ↔ (Q c ⊎ Rest' c)) → Says n Q A' g → ((o : Bool) → A o → A' o) → IsEither f g r → AnySoFar n Rest' Whole A r
+  pub any_go_on : (Q Rest' : List Atom → Type 0) (A' : Bool → Type 0) (f g r : FormulaD) → AnySoFar n Rest Whole A f → ((c : List Atom) → Rest c ↔ (Q c ⊎ Rest' c)) → Defines n Q A' g → ((o : Bool) → A o → A' o) → IsEither f g r → AnySoFar n Rest' Whole A r
   any_go_on Q Rest' A' f g r so_far split says admits either = record {
     truth = λ c k. (there c k, λ h. back c k ((so_far.truth c k).1 h));
     levels = either.levels n so_far.levels says.levels;
@@ -93,7 +93,7 @@ module _ (n : ℕ) (Rest Whole : List Atom → Type 0) (A : Bool → Type 0) whe
     operators = so_far.operators;
   }
 
-  pub any_end : (f : FormulaD) → ((c : List Atom) → Rest c → ⊥) → AnySoFar n Rest Whole A f → Says n Whole A f
+  pub any_end : (f : FormulaD) → ((c : List Atom) → Rest c → ⊥) → AnySoFar n Rest Whole A f → Defines n Whole A f
   any_end f rest so_far = record {
     truth = λ c k. (
       λ h. (so_far.truth c k).0 (inl h),
@@ -104,7 +104,7 @@ module _ (n : ℕ) (Rest Whole : List Atom → Type 0) (A : Bool → Type 0) whe
   }
 
   -- what is true already stays true
-  pub any_cut : (f : FormulaD) → f ≡ all no_formulas → AnySoFar n Rest Whole A f → Says n Whole A f
+  pub any_cut : (f : FormulaD) → f ≡ all no_formulas → AnySoFar n Rest Whole A f → Defines n Whole A f
   any_cut f e so_far = record {
     truth = λ c k. (λ h. (so_far.truth c k).0 (inl h), λ h. subst (FormulaHolds c) (sym e) tt);
     levels = so_far.levels;

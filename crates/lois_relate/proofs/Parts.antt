@@ -4,7 +4,7 @@ use Rattle.std.proofs.lemmas.List.{drop_all}
 use Rattle.lois_base.specs.Data.{TermD, TermsD, no_terms, term, terms_of, CompD, CompsD, no_comps, more, comps_of, depth, depth_of_terms, depth_of_comps}
 use Rattle.lois_base.specs.Fits.{Fits, PartsFit, CompFits, ItemsFit}
 use Rattle.lois_base.specs.Tree.{tree, comp_of}
-use Rattle.lois_base.specs.Validity.{AdmitsTerm, AdmitsParts, AdmitsComp, AdmitsItems, HasUsualWidths, PartsHaveUsualWidths, CompHasUsualWidths, ItemsHaveUsualWidths}
+use Rattle.lois_base.specs.Validity.{AdmitsTerm, AdmitsParts, AdmitsComp, AdmitsItems, HasBoundedWidths, PartsHaveBoundedWidths, CompHasBoundedWidths, ItemsHaveBoundedWidths}
 use Rattle.lois_base.specs.declared.values.Comp.{Comp}
 use Rattle.lois_base.specs.declared.values.Term.{Term}
 use Rattle.lois_base.proofs.Viewed.{rest_is}
@@ -54,13 +54,13 @@ pub record IsPartOf (vs : List TermD) (t : Term) : Type 0 where
   pub depth : depth (tree t) ≤ depth_of_terms vs
   pub fits : (n : ℕ) → PartsFit n (terms_of vs) → Fits n (tree t)
   pub admits : (o : Bool) → AdmitsParts o (terms_of vs) → AdmitsTerm o (tree t)
-  pub widths : PartsHaveUsualWidths (terms_of vs) → HasUsualWidths (tree t)
+  pub widths : PartsHaveBoundedWidths (terms_of vs) → HasBoundedWidths (tree t)
 
 pub record IsCompOf (vs : List CompD) (k : Comp) : Type 0 where
   pub depth : depth (tree k.item) ≤ depth_of_comps vs
   pub fits : (n : ℕ) → ItemsFit n (comps_of vs) → CompFits n (comp_of k)
   pub admits : (o : Bool) → AdmitsItems o (comps_of vs) → AdmitsComp o (comp_of k)
-  pub widths : ItemsHaveUsualWidths (comps_of vs) → CompHasUsualWidths (comp_of k)
+  pub widths : ItemsHaveBoundedWidths (comps_of vs) → CompHasBoundedWidths (comp_of k)
 
 depth_at : (ts : List Term) (i : ℕ) (d : Term) → i < length ts → depth (tree (get_or ts i d)) ≤ depth_of_terms (map tree ts)
 depth_at [] i d l = omega arith
@@ -77,7 +77,7 @@ is_part_of ts vs i t m l e = record {
   depth = subst (λ v. depth (tree t) ≤ depth_of_terms v) m (subst (λ u. depth (tree u) ≤ depth_of_terms (map tree ts)) (sym e) (depth_at ts i t l));
   fits = λ n h. part_has (λ x. Fits n x) (λ x. PartsFit n x) (λ x xs p. p) ts vs i t m l e h;
   admits = λ o h. part_has (λ x. AdmitsTerm o x) (λ x. AdmitsParts o x) (λ x xs p. p) ts vs i t m l e h;
-  widths = λ h. part_has HasUsualWidths PartsHaveUsualWidths (λ x xs p. p) ts vs i t m l e h;
+  widths = λ h. part_has HasBoundedWidths PartsHaveBoundedWidths (λ x xs p. p) ts vs i t m l e h;
 }
 
 pub is_comp_of : (ks : List Comp) (vs : List CompD) (i : ℕ) (k : Comp) → map comp_of ks ≡ vs → i < length ks → k ≡ get_or ks i k → IsCompOf vs k
@@ -85,7 +85,7 @@ is_comp_of ks vs i k m l e = record {
   depth = subst (λ v. depth (tree k.item) ≤ depth_of_comps v) m (subst (λ u. depth (tree u.item) ≤ depth_of_comps (map comp_of ks)) (sym e) (item_depth_at ks i k l));
   fits = λ n h. comp_has (λ x. CompFits n x) (λ x. ItemsFit n x) (λ x xs p. p) ks vs i k m l e h;
   admits = λ o h. comp_has (λ x. AdmitsComp o x) (λ x. AdmitsItems o x) (λ x xs p. p) ks vs i k m l e h;
-  widths = λ h. comp_has CompHasUsualWidths ItemsHaveUsualWidths (λ x xs p. p) ks vs i k m l e h;
+  widths = λ h. comp_has CompHasBoundedWidths ItemsHaveBoundedWidths (λ x xs p. p) ks vs i k m l e h;
 }
 
 pub as_many_items : (ts us : List Term) (vs ws : List TermD) → map tree ts ≡ vs → map tree us ≡ ws → length vs ≡ length ws → length ts ≡ length us

@@ -4,7 +4,7 @@ use Rattle.std.proofs.lemmas.List.{map-append}
 use Rattle.std.specs.Prelude.{slice_get}
 use Rattle.lois_base.specs.Data.{CompD}
 use Rattle.lois_base.specs.FormulaData.{FormulaD}
-use Rattle.lois_relate.specs.Compared.{SaysPaired, IsKnown, IsRow, AreRows}
+use Rattle.lois_relate.specs.Compared.{DefinesPaired, IsCached, IsRow, AreRows}
 
 module _ {X : Type 0} (y : X) where
   -- an item of a list that has grown by one is an old one or the new one
@@ -36,16 +36,16 @@ module _ (n : ℕ) (ks : List CompD) (tn : List ℕ) (qs : List CompD) (sn : Lis
           subst (λ z. IsRow n z tn qs sn row') item (subst (IsRow n k tn qs sn) q is_row)
 
   -- what all rows say of the comprehension at one place
-  pub rows_known : (rows : List (List FormulaD)) (j : ℕ) (q : CompD) → AreRows n ks tn qs sn rows → slice_get qs j ≡ Some q → IsKnown n ks tn q sn rows j
+  pub rows_known : (rows : List (List FormulaD)) (j : ℕ) (q : CompD) → AreRows n ks tn qs sn rows → slice_get qs j ≡ Some q → IsCached n ks tn q sn rows j
   rows_known rows j q are at i k f here (row, r, e) = are i k row here r j q f at e
 
 module _ (n : ℕ) (k : CompD) (tn : List ℕ) (qs : List CompD) (sn : List ℕ) where
-  pub row_more : (row row' : List FormulaD) (i : ℕ) (q : CompD) (f : FormulaD) → IsRow n k tn qs sn row → length row ≡ i → slice_get qs i ≡ Some q → row' ≡ row ++ f ∷ [] → SaysPaired n sn q tn k f → IsRow n k tn qs sn row'
+  pub row_more : (row row' : List FormulaD) (i : ℕ) (q : CompD) (f : FormulaD) → IsRow n k tn qs sn row → length row ≡ i → slice_get qs i ≡ Some q → row' ≡ row ++ f ∷ [] → DefinesPaired n sn q tn k f → IsRow n k tn qs sn row'
   row_more row row' i q f so_far long at e says =
       subst (IsRow n k tn qs sn) (sym e) (λ j q' f' at' r. pick j q' f' at' (got_pushed f row j f' r))
     where
-      pick : (j : ℕ) (q' : CompD) (f' : FormulaD) → slice_get qs j ≡ Some q' → (slice_get row j ≡ Some f') ⊎ ((j ≡ length row) × (f ≡ f')) → SaysPaired n sn q' tn k f'
+      pick : (j : ℕ) (q' : CompD) (f' : FormulaD) → slice_get qs j ≡ Some q' → (slice_get row j ≡ Some f') ⊎ ((j ≡ length row) × (f ≡ f')) → DefinesPaired n sn q' tn k f'
       pick j q' f' at' (inl r) = so_far j q' f' at' r
       pick j q' f' at' (inr (p, u)) =
           let item : q ≡ q' = same_item q q' (sym at ∙ ap (slice_get qs) (sym (p ∙ long)) ∙ at') in
-          subst (λ z. SaysPaired n sn z tn k f') item (subst (SaysPaired n sn q tn k) u says)
+          subst (λ z. DefinesPaired n sn z tn k f') item (subst (DefinesPaired n sn q tn k) u says)

@@ -13,7 +13,7 @@ use Rattle.lois_base.specs.declared.guards.Lit.{Lit}
 use Rattle.lois_base.specs.declared.values.Comp.{Comp}
 use Rattle.lois_base.proofs.Order.{test}
 use Rattle.lois_base.proofs.Same.{same_at_sym}
-use Rattle.lois_relate.specs.Built.{Says, IsBoth, IsImplied}
+use Rattle.lois_relate.specs.Built.{Defines, IsBoth, IsImplied}
 use Rattle.lois_relate.specs.Named.{chosen}
 use Rattle.lois_relate.specs.Singles.{IsSingle}
 use Rattle.lois_relate.proofs.Sets.{sets_same}
@@ -61,7 +61,7 @@ alone_same g t d h s d' =
     )
 
 module _ (n : ℕ) (sn tn : List ℕ) (g h : List (List Lit)) (t s : TermD) (e i j i' j' b x y r : FormulaD) where
-  pub singles_say : Says n (λ c. SameAt t (chosen sn c) s (chosen tn c)) (λ o. AdmitsTerm o t × AdmitsTerm o s) e → Says n (λ c. IsTrue (holds (chosen sn c) g)) (λ o. AdmitsConstraint o g) i → Says n (λ c. IsTrue (holds (chosen tn c) h)) (λ o. AdmitsConstraint o h) j → i' ≡ i → j' ≡ j → IsBoth j e b → IsImplied i b x → IsImplied j' i' y → IsBoth x y r → Says n (λ c. SameAt (coll (alone g t)) (chosen sn c) (coll (alone h s)) (chosen tn c)) (λ o. AdmitsComp o (comp 0 g t) × AdmitsComp o (comp 0 h s)) r
+  pub singles_say : Defines n (λ c. SameAt t (chosen sn c) s (chosen tn c)) (λ o. AdmitsTerm o t × AdmitsTerm o s) e → Defines n (λ c. IsTrue (holds (chosen sn c) g)) (λ o. AdmitsConstraint o g) i → Defines n (λ c. IsTrue (holds (chosen tn c) h)) (λ o. AdmitsConstraint o h) j → i' ≡ i → j' ≡ j → IsBoth j e b → IsImplied i b x → IsImplied j' i' y → IsBoth x y r → Defines n (λ c. SameAt (coll (alone g t)) (chosen sn c) (coll (alone h s)) (chosen tn c)) (λ o. AdmitsComp o (comp 0 g t) × AdmitsComp o (comp 0 h s)) r
   singles_say equal own other own_copy other_copy both forth rear_copied all = record {
     truth = λ c k. (
       λ p. let q = (all.truth c).0 p in
@@ -93,9 +93,9 @@ module _ (n : ℕ) (sn tn : List ℕ) (g h : List (List Lit)) (t s : TermD) (e i
       rear_back c k q (inr z) = inl (λ p. let w : IsTrue (holds (chosen tn c) h) = (other.truth c k).0 p in absurd (cc))
 
 -- the same of the lists that have these comprehensions alone
-pub singles_sets : (n : ℕ) (sn tn : List ℕ) (vs ws : List CompD) (k q : CompD) (f : FormulaD) → vs ≡ k ∷ [] → ws ≡ q ∷ [] → Says n (λ c. SameAt (coll (more k no_comps)) (chosen sn c) (coll (more q no_comps)) (chosen tn c)) (λ o. AdmitsComp o k × AdmitsComp o q) f → Says n (λ c. SameAt (coll (comps_of vs)) (chosen sn c) (coll (comps_of ws)) (chosen tn c)) (λ o. AdmitsItems o (comps_of vs) × AdmitsItems o (comps_of ws)) f
+pub singles_sets : (n : ℕ) (sn tn : List ℕ) (vs ws : List CompD) (k q : CompD) (f : FormulaD) → vs ≡ k ∷ [] → ws ≡ q ∷ [] → Defines n (λ c. SameAt (coll (more k no_comps)) (chosen sn c) (coll (more q no_comps)) (chosen tn c)) (λ o. AdmitsComp o k × AdmitsComp o q) f → Defines n (λ c. SameAt (coll (comps_of vs)) (chosen sn c) (coll (comps_of ws)) (chosen tn c)) (λ o. AdmitsItems o (comps_of vs) × AdmitsItems o (comps_of ws)) f
 singles_sets n sn tn vs ws k q f e d says =
-    subst (λ z. Says n (λ c. SameAt (coll (comps_of z)) (chosen sn c) (coll (comps_of ws)) (chosen tn c)) (λ o. AdmitsItems o (comps_of z) × AdmitsItems o (comps_of ws)) f) (sym e) (subst (λ z. Says n (λ c. SameAt (coll (comps_of (k ∷ []))) (chosen sn c) (coll (comps_of z)) (chosen tn c)) (λ o. AdmitsItems o (comps_of (k ∷ [])) × AdmitsItems o (comps_of z)) f) (sym d) (record {
+    subst (λ z. Defines n (λ c. SameAt (coll (comps_of z)) (chosen sn c) (coll (comps_of ws)) (chosen tn c)) (λ o. AdmitsItems o (comps_of z) × AdmitsItems o (comps_of ws)) f) (sym e) (subst (λ z. Defines n (λ c. SameAt (coll (comps_of (k ∷ []))) (chosen sn c) (coll (comps_of z)) (chosen tn c)) (λ o. AdmitsItems o (comps_of (k ∷ [])) × AdmitsItems o (comps_of z)) f) (sym d) (record {
       truth = says.truth;
       levels = says.levels;
       operators = λ o h. says.operators o (h.0.0, h.1.0);
@@ -120,6 +120,6 @@ not_single ks vs m differ h = differ (single_length ks (subst (λ z. IsSingle (c
 pub not_bare : (ks : List Comp) (vs : List CompD) (k : Comp) → map comp_of ks ≡ vs → length ks ≡ 1 → k ≡ get_or ks 0 k → (k.binders ≡ 0 → ⊥) → IsSingle (comps_of vs) → ⊥
 not_bare ks vs k m l e differ h = differ (subst (λ z. IsSingle (comps_of z)) (only_comp ks vs k m l e) h)
 
-pub bare_say : (n : ℕ) (sn tn : List ℕ) (m k : ℕ) (g h : List (List Lit)) (t s : TermD) (f : FormulaD) → m ≡ 0 → k ≡ 0 → Says n (λ c. SameAt (coll (alone g t)) (chosen sn c) (coll (alone h s)) (chosen tn c)) (λ o. AdmitsComp o (comp 0 g t) × AdmitsComp o (comp 0 h s)) f → Says n (λ c. SameAt (coll (more (comp m g t) no_comps)) (chosen sn c) (coll (more (comp k h s) no_comps)) (chosen tn c)) (λ o. AdmitsComp o (comp m g t) × AdmitsComp o (comp k h s)) f
+pub bare_say : (n : ℕ) (sn tn : List ℕ) (m k : ℕ) (g h : List (List Lit)) (t s : TermD) (f : FormulaD) → m ≡ 0 → k ≡ 0 → Defines n (λ c. SameAt (coll (alone g t)) (chosen sn c) (coll (alone h s)) (chosen tn c)) (λ o. AdmitsComp o (comp 0 g t) × AdmitsComp o (comp 0 h s)) f → Defines n (λ c. SameAt (coll (more (comp m g t) no_comps)) (chosen sn c) (coll (more (comp k h s) no_comps)) (chosen tn c)) (λ o. AdmitsComp o (comp m g t) × AdmitsComp o (comp k h s)) f
 bare_say n sn tn m k g h t s f e d says =
-    subst (λ z. Says n (λ c. SameAt (coll (more (comp z g t) no_comps)) (chosen sn c) (coll (more (comp k h s) no_comps)) (chosen tn c)) (λ o. AdmitsComp o (comp z g t) × AdmitsComp o (comp k h s)) f) (sym e) (subst (λ z. Says n (λ c. SameAt (coll (alone g t)) (chosen sn c) (coll (more (comp z h s) no_comps)) (chosen tn c)) (λ o. AdmitsComp o (comp 0 g t) × AdmitsComp o (comp z h s)) f) (sym d) says)
+    subst (λ z. Defines n (λ c. SameAt (coll (more (comp z g t) no_comps)) (chosen sn c) (coll (more (comp k h s) no_comps)) (chosen tn c)) (λ o. AdmitsComp o (comp z g t) × AdmitsComp o (comp k h s)) f) (sym e) (subst (λ z. Defines n (λ c. SameAt (coll (alone g t)) (chosen sn c) (coll (more (comp z h s) no_comps)) (chosen tn c)) (λ o. AdmitsComp o (comp 0 g t) × AdmitsComp o (comp z h s)) f) (sym d) says)

@@ -13,8 +13,8 @@ use Rattle.lois_base.specs.Values.{SameAt}
 use Rattle.lois_base.specs.declared.guards.Lit.{Lit}
 use Rattle.lois_base.proofs.Same.{same_at_sym}
 use Rattle.lois_elim.specs.Bound.{AgreesWith}
-use Rattle.lois_relate.specs.Built.{Says, IsBoth}
-use Rattle.lois_relate.specs.Compared.{IsEquivalent, IsTurned, SaysPaired, turned_names}
+use Rattle.lois_relate.specs.Built.{Defines, IsBoth}
+use Rattle.lois_relate.specs.Compared.{IsEquivalent, IsTurned, DefinesPaired, turned_names}
 use Rattle.lois_relate.specs.Named.{chosen, AreBelow, levels_from}
 use Rattle.lois_relate.proofs.Names.{chosen_levels, chosen_longer, chosen_entered, chosen_own, levels_below, own_below, below_more, below_entered, length-levels_from}
 
@@ -56,7 +56,7 @@ module _ (n m k : ℕ) where
 
 -- ---- a constraint that stands for a formula, under other names
 module _ (n : ℕ) (f r : FormulaD) (g : List (List Lit)) (agrees : AgreesWith n f g) (operators : (o : Bool) → AdmitsFormula o f → AdmitsConstraint o g) where
-  pub stays : (names : List ℕ) → names ≡ levels_from 0 n → ((j : ℕ) → AreBelow j names → Says j (λ c. IsTrue (holds (chosen names c) g)) (λ o. AdmitsConstraint o g) r) → IsEquivalent n f r
+  pub stays : (names : List ℕ) → names ≡ levels_from 0 n → ((j : ℕ) → AreBelow j names → Defines j (λ c. IsTrue (holds (chosen names c) g)) (λ o. AdmitsConstraint o g) r) → IsEquivalent n f r
   stays names is says =
       let here = says n (subst (AreBelow n) (sym is) (own_below n)) in
       record {
@@ -70,7 +70,7 @@ module _ (n : ℕ) (f r : FormulaD) (g : List (List Lit)) (agrees : AgreesWith n
       }
 
 module _ (n m k : ℕ) (f r : FormulaD) (g : List (List Lit)) (agrees : AgreesWith ((n + m) + k) f g) (operators : (o : Bool) → AdmitsFormula o f → AdmitsConstraint o g) where
-  pub turns : (names : List ℕ) → names ≡ turned_names n m k → ((j : ℕ) → AreBelow j names → Says j (λ c. IsTrue (holds (chosen names c) g)) (λ o. AdmitsConstraint o g) r) → IsTurned n m k f r
+  pub turns : (names : List ℕ) → names ≡ turned_names n m k → ((j : ℕ) → AreBelow j names → Defines j (λ c. IsTrue (holds (chosen names c) g)) (λ o. AdmitsConstraint o g) r) → IsTurned n m k f r
   turns names is says =
       let here = says ((n + k) + m) (subst (AreBelow ((n + k) + m)) (sym is) (turned_below n m k)) in
       record {
@@ -101,8 +101,8 @@ module _ (n : ℕ) (names : List ℕ) (below : AreBelow n names) (c : List Atom)
       let size : length (c ++ x) ≡ n + a = omega (arith, length-append c x) in
       chosen_entered names (n + a) b (c ++ x) y size p (below_more n a names below) ∙ ap (λ z. z ++ y) (longer n names c x cn below)
 
-module _ (n : ℕ) (sn tn : List ℕ) (sn_below : AreBelow n sn) (tn_below : AreBelow n tn) (k m : ℕ) (h g : List (List Lit)) (s t : TermD) (f r : FormulaD) (says : SaysPaired n sn (comp k h s) tn (comp m g t) f) where
-  pub pair_stays : IsEquivalent ((n + k) + m) f r → SaysPaired n sn (comp k h s) tn (comp m g t) r
+module _ (n : ℕ) (sn tn : List ℕ) (sn_below : AreBelow n sn) (tn_below : AreBelow n tn) (k m : ℕ) (h g : List (List Lit)) (s t : TermD) (f r : FormulaD) (says : DefinesPaired n sn (comp k h s) tn (comp m g t) f) where
+  pub pair_stays : IsEquivalent ((n + k) + m) f r → DefinesPaired n sn (comp k h s) tn (comp m g t) r
   pair_stays equivalent = record {
     truth = λ c l. (
       λ p. (says.truth c l).0 ((equivalent.truth c l).0 p),
@@ -149,7 +149,7 @@ module _ (n : ℕ) (sn tn : List ℕ) (sn_below : AreBelow n sn) (tn_below : Are
         (turned.truth c d e cn dk em).1 ((says.truth (c ++ d ++ e) old_length).1 p)
 
   -- the same pair, seen from the other comprehension
-  pub pair_turns : IsTurned n k m f r → SaysPaired n tn (comp m g t) sn (comp k h s) r
+  pub pair_turns : IsTurned n k m f r → DefinesPaired n tn (comp m g t) sn (comp k h s) r
   pair_turns turned = record {
     truth = λ x l.
         let rest : List Atom = drop n x in
@@ -168,7 +168,7 @@ module _ (n : ℕ) (sn tn : List ℕ) (sn_below : AreBelow n sn) (tn_below : Are
 
 -- from the formulas of both guards and of the items
 module _ (n k m inner whole : ℕ) (sum : inner ≡ n + k) (total : whole ≡ inner + m) (sn tn left right : List ℕ) (left_is : left ≡ sn ++ levels_from n k) (right_is : right ≡ tn ++ levels_from inner m) (h g : List (List Lit)) (s t : TermD) (i j b e p : FormulaD) where
-  pub pair_says : Says whole (λ c. IsTrue (holds (chosen left c) h)) (λ o. AdmitsConstraint o h) i → Says whole (λ c. IsTrue (holds (chosen right c) g)) (λ o. AdmitsConstraint o g) j → IsBoth i j b → Says whole (λ c. SameAt t (chosen right c) s (chosen left c)) (λ o. AdmitsTerm o t × AdmitsTerm o s) e → IsBoth b e p → SaysPaired n sn (comp k h s) tn (comp m g t) p
+  pub pair_says : Defines whole (λ c. IsTrue (holds (chosen left c) h)) (λ o. AdmitsConstraint o h) i → Defines whole (λ c. IsTrue (holds (chosen right c) g)) (λ o. AdmitsConstraint o g) j → IsBoth i j b → Defines whole (λ c. SameAt t (chosen right c) s (chosen left c)) (λ o. AdmitsTerm o t × AdmitsTerm o s) e → IsBoth b e p → DefinesPaired n sn (comp k h s) tn (comp m g t) p
   pair_says guard other both same whole_both =
       let size : whole ≡ (n + k) + m = omega arith in
       let names : right ≡ tn ++ levels_from (n + k) m = subst (λ q. right ≡ tn ++ levels_from q m) sum right_is in
@@ -183,4 +183,4 @@ module _ (n k m inner whole : ℕ) (sum : inner ≡ n + k) (total : whole ≡ in
       })))
     where
       At : ℕ → List ℕ → List ℕ → Type 0
-      At q x y = Says q (λ c. IsTrue (holds (chosen x c) h) × IsTrue (holds (chosen y c) g) × SameAt t (chosen y c) s (chosen x c)) (λ o. AdmitsComp o (comp k h s) × AdmitsComp o (comp m g t)) p
+      At q x y = Defines q (λ c. IsTrue (holds (chosen x c) h) × IsTrue (holds (chosen y c) g) × SameAt t (chosen y c) s (chosen x c)) (λ o. AdmitsComp o (comp k h s) × AdmitsComp o (comp m g t)) p

@@ -6,8 +6,8 @@ use Rattle.lois_base.specs.Truth.{holds}
 use Rattle.lois_base.specs.Values.{point, IsSame, SameAt}
 
 -- the terms have the same value at no two choices
-abbrev pub AreApart : TermD → TermD → Type 0
-AreApart s t = (c d : List Atom) → IsSame (point s c) (point t d) → ⊥
+abbrev pub AreNeverSame : TermD → TermD → Type 0
+AreNeverSame s t = (c d : List Atom) → IsSame (point s c) (point t d) → ⊥
 
 -- wherever the guard of the comprehension holds, its item has another value than s
 abbrev pub LeavesOut : CompD → TermD → Type 0

@@ -6,7 +6,7 @@ use Rattle.lois_base.specs.FormulaTruth.{FormulaHolds}
 use Rattle.lois_base.specs.Validity.{AdmitsFormula}
 
 -- A formula over n levels that holds at each choice of n atoms exactly where Q does. Which operators it has, A says.
-pub record Says (n : ℕ) (Q : List Atom → Type 0) (A : Bool → Type 0) (f : FormulaD) : Type 0 where
+pub record Defines (n : ℕ) (Q : List Atom → Type 0) (A : Bool → Type 0) (f : FormulaD) : Type 0 where
   pub truth : (c : List Atom) → length c ≡ n → FormulaHolds c f ↔ Q c
   pub levels : FormulaFits n f
   pub operators : (o : Bool) → A o → AdmitsFormula o f

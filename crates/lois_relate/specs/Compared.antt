@@ -8,7 +8,7 @@ use Rattle.lois_base.specs.Truth.{holds}
 use Rattle.lois_base.specs.Validity.{AdmitsConstraint, AdmitsComp, AdmitsItems, AdmitsFormula}
 use Rattle.lois_base.specs.Values.{SameAt, SomeIsAt, OneIsAt}
 use Rattle.lois_base.specs.declared.guards.Lit.{Lit}
-use Rattle.lois_relate.specs.Built.{Says}
+use Rattle.lois_relate.specs.Built.{Defines}
 use Rattle.lois_relate.specs.Named.{chosen, levels_from}
 
 -- r holds where f does
@@ -34,33 +34,33 @@ abbrev pub turned_names : ℕ → ℕ → ℕ → List ℕ
 turned_names n m k = (levels_from 0 n ++ levels_from (n + k) m) ++ levels_from n k
 
 -- over n levels, the binders of the one comprehension and then those of the other, f says where both guards hold and both items are the same
-abbrev pub SaysPaired : ℕ → List ℕ → CompD → List ℕ → CompD → FormulaD → Type 0
-SaysPaired n sn (comp k h s) tn (comp m g t) =
-    Says ((n + k) + m) (λ c. IsTrue (holds (chosen (sn ++ levels_from n k) c) h) × IsTrue (holds (chosen (tn ++ levels_from (n + k) m) c) g) × SameAt t (chosen (tn ++ levels_from (n + k) m) c) s (chosen (sn ++ levels_from n k) c)) (λ o. AdmitsComp o (comp k h s) × AdmitsComp o (comp m g t))
+abbrev pub DefinesPaired : ℕ → List ℕ → CompD → List ℕ → CompD → FormulaD → Type 0
+DefinesPaired n sn (comp k h s) tn (comp m g t) =
+    Defines ((n + k) + m) (λ c. IsTrue (holds (chosen (sn ++ levels_from n k) c) h) × IsTrue (holds (chosen (tn ++ levels_from (n + k) m) c) g) × SameAt t (chosen (tn ++ levels_from (n + k) m) c) s (chosen (sn ++ levels_from n k) c)) (λ o. AdmitsComp o (comp k h s) × AdmitsComp o (comp m g t))
 
 -- over n levels and the binders of the first comprehension, f says where its guard holds and its item is one of the other's
-abbrev pub SaysItem : ℕ → List ℕ → CompD → List ℕ → CompD → FormulaD → Type 0
-SaysItem n sn (comp k h s) tn q =
-    Says (n + k) (λ c. IsTrue (holds (chosen (sn ++ levels_from n k) c) h) × OneIsAt q (chosen tn c) s (chosen (sn ++ levels_from n k) c)) (λ o. AdmitsComp o (comp k h s) × AdmitsComp o q)
+abbrev pub DefinesItem : ℕ → List ℕ → CompD → List ℕ → CompD → FormulaD → Type 0
+DefinesItem n sn (comp k h s) tn q =
+    Defines (n + k) (λ c. IsTrue (holds (chosen (sn ++ levels_from n k) c) h) × OneIsAt q (chosen tn c) s (chosen (sn ++ levels_from n k) c)) (λ o. AdmitsComp o (comp k h s) × AdmitsComp o q)
 
 -- the same of a set
-abbrev pub SaysFound : ℕ → List ℕ → CompD → List ℕ → CompsD → FormulaD → Type 0
-SaysFound n sn (comp k h s) tn qs =
-    Says (n + k) (λ c. IsTrue (holds (chosen (sn ++ levels_from n k) c) h) × SomeIsAt qs (chosen tn c) s (chosen (sn ++ levels_from n k) c)) (λ o. AdmitsComp o (comp k h s) × AdmitsItems o qs)
+abbrev pub DefinesFound : ℕ → List ℕ → CompD → List ℕ → CompsD → FormulaD → Type 0
+DefinesFound n sn (comp k h s) tn qs =
+    Defines (n + k) (λ c. IsTrue (holds (chosen (sn ++ levels_from n k) c) h) × SomeIsAt qs (chosen tn c) s (chosen (sn ++ levels_from n k) c)) (λ o. AdmitsComp o (comp k h s) × AdmitsItems o qs)
 
 -- row i has f at place j
 abbrev pub IsEntry : List (List FormulaD) → ℕ → ℕ → FormulaD → Type 0
 IsEntry rows i j f = (row : List FormulaD) × (slice_get rows i ≡ Some row) × (slice_get row j ≡ Some f)
 
 -- what each row has at that place says where the comprehension q is paired with the row's
-abbrev pub IsKnown : ℕ → List CompD → List ℕ → CompD → List ℕ → List (List FormulaD) → ℕ → Type 0
-IsKnown n ks tn q sn rows j =
-    (i : ℕ) (k : CompD) (f : FormulaD) → slice_get ks i ≡ Some k → IsEntry rows i j f → SaysPaired n sn q tn k f
+abbrev pub IsCached : ℕ → List CompD → List ℕ → CompD → List ℕ → List (List FormulaD) → ℕ → Type 0
+IsCached n ks tn q sn rows j =
+    (i : ℕ) (k : CompD) (f : FormulaD) → slice_get ks i ≡ Some k → IsEntry rows i j f → DefinesPaired n sn q tn k f
 
 -- what the row of the comprehension k has at a place says where it is paired with the one at that place
 abbrev pub IsRow : ℕ → CompD → List ℕ → List CompD → List ℕ → List FormulaD → Type 0
 IsRow n k tn qs sn row =
-    (j : ℕ) (q : CompD) (f : FormulaD) → slice_get qs j ≡ Some q → slice_get row j ≡ Some f → SaysPaired n sn q tn k f
+    (j : ℕ) (q : CompD) (f : FormulaD) → slice_get qs j ≡ Some q → slice_get row j ≡ Some f → DefinesPaired n sn q tn k f
 
 -- the rows of the comprehensions ks, each beside all of qs
 abbrev pub AreRows : ℕ → List CompD → List ℕ → List CompD → List ℕ → List (List FormulaD) → Type 0

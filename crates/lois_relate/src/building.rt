@@ -9,21 +9,21 @@ use lois_base::{Formula, Formulas, NoMemory};
 use std::alloc::Global;
 
 /// True at each choice.
-pub fn always(alloc: Global) -> Formula
+pub fn true_formula(alloc: Global) -> Formula
     ensures { view result ≡ all no_formulas }
 {
     Formula::All(Formulas::new(alloc))
 }
 
 /// False at each choice.
-pub fn never(alloc: Global) -> Formula
+pub fn false_formula(alloc: Global) -> Formula
     ensures { view result ≡ any no_formulas }
 {
     Formula::Any(Formulas::new(alloc))
 }
 
-/// Whether the formula is written as `always` is.
-pub fn is_always(f: &Formula) -> bool
+/// Whether the formula is written as `true_formula` is.
+pub fn is_true_formula(f: &Formula) -> bool
     ensures { IsTrue result ↔ (view f.now ≡ all no_formulas) }
 {
     match f {
@@ -32,8 +32,8 @@ pub fn is_always(f: &Formula) -> bool
     }
 }
 
-/// Whether the formula is written as `never` is.
-pub fn is_never(f: &Formula) -> bool
+/// Whether the formula is written as `false_formula` is.
+pub fn is_false_formula(f: &Formula) -> bool
     ensures { IsTrue result ↔ (view f.now ≡ any no_formulas) }
 {
     match f {
@@ -43,19 +43,19 @@ pub fn is_never(f: &Formula) -> bool
 }
 
 /// Where both hold.
-pub fn both(alloc: Global, f: Formula, g: Formula) -> Result<Formula, NoMemory>
+pub fn conjunction(alloc: Global, f: Formula, g: Formula) -> Result<Formula, NoMemory>
     ensures { IfOk result (λ r. IsBoth (view f) (view g) (view r)) }
 {
-    if is_never(&f) {
+    if is_false_formula(&f) {
         return Ok(f);
     }
-    if is_never(&g) {
+    if is_false_formula(&g) {
         return Ok(g);
     }
-    if is_always(&f) {
+    if is_true_formula(&f) {
         return Ok(g);
     }
-    if is_always(&g) {
+    if is_true_formula(&g) {
         return Ok(f);
     }
     joined_by_all(alloc, f, g)
@@ -93,19 +93,19 @@ fn append(parts: &mut Formulas, more: Formulas) -> Result<(), NoMemory>
 }
 
 /// Where one of them holds.
-pub fn either(alloc: Global, f: Formula, g: Formula) -> Result<Formula, NoMemory>
+pub fn disjunction(alloc: Global, f: Formula, g: Formula) -> Result<Formula, NoMemory>
     ensures { IfOk result (λ r. IsEither (view f) (view g) (view r)) }
 {
-    if is_always(&f) {
+    if is_true_formula(&f) {
         return Ok(f);
     }
-    if is_always(&g) {
+    if is_true_formula(&g) {
         return Ok(g);
     }
-    if is_never(&f) {
+    if is_false_formula(&f) {
         return Ok(g);
     }
-    if is_never(&g) {
+    if is_false_formula(&g) {
         return Ok(f);
     }
     joined_by_any(alloc, f, g)
@@ -133,34 +133,34 @@ fn pair(alloc: Global, f: Formula, g: Formula) -> Result<Formulas, NoMemory>
 }
 
 /// Where the formula doesn't hold.
-pub fn negated(alloc: Global, f: Formula) -> Result<Formula, NoMemory>
+pub fn negation(alloc: Global, f: Formula) -> Result<Formula, NoMemory>
     ensures { IfOk result (λ r. IsNegation (view f) (view r)) }
 {
-    if is_never(&f) {
-        return Ok(always(alloc));
+    if is_false_formula(&f) {
+        return Ok(true_formula(alloc));
     }
-    if is_always(&f) {
-        return Ok(never(alloc));
+    if is_true_formula(&f) {
+        return Ok(false_formula(alloc));
     }
     Ok(Formula::Not(f.boxed(alloc)?))
 }
 
 /// Where the second holds, or the first doesn't.
-pub fn implied(alloc: Global, f: Formula, g: Formula) -> Result<Formula, NoMemory>
+pub fn implication(alloc: Global, f: Formula, g: Formula) -> Result<Formula, NoMemory>
     ensures { IfOk result (λ r. IsImplied (view f) (view g) (view r)) }
 {
-    let absent = negated(alloc, f)?;
-    either(alloc, absent, g)
+    let absent = negation(alloc, f)?;
+    disjunction(alloc, absent, g)
 }
 
 /// For some atoms at the `count` highest levels.
 pub fn for_some(alloc: Global, f: Formula, count: usize) -> Result<Formula, NoMemory>
     ensures { IfOk result (λ r. IsForSome count (view f) (view r)) }
 {
-    if is_never(&f) {
+    if is_false_formula(&f) {
         return Ok(f);
     }
-    if is_always(&f) {
+    if is_true_formula(&f) {
         return Ok(f);
     }
     let mut bound = f;

@@ -5,14 +5,14 @@ ghost use Rattle.lois_base.specs.Atom.{Atom};
 ghost use Rattle.lois_base.specs.Data.{terms_of};
 ghost use Rattle.lois_base.specs.Tree.{tree, comp_of};
 ghost use Rattle.lois_base.specs.Values.{SamePartsAt};
-ghost use Rattle.lois_relate.specs.Apart.{AreApart, LeavesOut};
+ghost use Rattle.lois_relate.specs.Apart.{AreNeverSame, LeavesOut};
 
 use lois_base::{Comp, Term, Terms};
 
 /// Whether the shapes of the two terms rule out that they have the same value, at any two choices: they are of other kinds, other tags, tuples of other lengths, or tuples with parts that clash. Terms that don't clash may be apart for other reasons.
 #[cycle(clashing)]
 pub fn clash(s: &Term, t: &Term) -> bool
-    ensures { IsTrue result → AreApart (tree s.now) (tree t.now) }
+    ensures { IsTrue result → AreNeverSame (tree s.now) (tree t.now) }
 {
     match (s, t) {
         (Term::Var(_), Term::Var(_)) => false,

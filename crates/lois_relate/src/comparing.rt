@@ -5,7 +5,7 @@ ghost use Rattle.lois_base.specs.FormulaData.{FormulaFits};
 ghost use Rattle.lois_base.specs.FormulaView.{view, views};
 ghost use Rattle.lois_relate.specs.Compared.{IsEquivalent, IsTurned, IsEntry, turned_names};
 
-use crate::naming::{entered, guard_formula, inner_size};
+use crate::naming::{extend_names, guard_formula, inner_size};
 use lois_base::{Formula, Formulas, NoMemory};
 use lois_elim::quantifier_free;
 use lois_order::OrderAtoms;
@@ -20,12 +20,12 @@ pub struct Comparison {
 
 /// What is known of one comprehension beside those of a set: for each of these a row, and the place in all rows.
 #[derive(Clone, Copy)]
-pub struct Known<'a> {
+pub struct PairCache<'a> {
     pub rows: &'a [Formulas],
     pub place: usize,
 }
 
-impl<'a> Known<'a> {
+impl<'a> PairCache<'a> {
     /// The formula that is known for the comprehension.
     pub fn of(self, comp: usize) -> Option<&'a Formula>
         ensures { IfSome result (λ f. IsEntry (map views self.entry.rows.now) comp self.entry.place (view f.now)) }
@@ -42,9 +42,9 @@ fn turned(alloc: Global, size: usize, first: usize, second: usize) -> Result<Vec
     ensures { IfOk result (λ r. r.items ≡ turned_names size first second) }
 {
     let inner = inner_size(size, second)?;
-    let levels = entered(alloc, &[], 0, size)?;
-    let longer = entered(alloc, levels.as_slice(), inner, first)?;
-    entered(alloc, longer.as_slice(), size, second)
+    let levels = extend_names(alloc, &[], 0, size)?;
+    let longer = extend_names(alloc, levels.as_slice(), inner, first)?;
+    extend_names(alloc, longer.as_slice(), size, second)
 }
 
 /// The formula, and the same with the blocks turned. It is freed of quantifiers before it is doubled: else nested sets would double it at each depth.
@@ -63,7 +63,7 @@ pub fn both_ways(
     let whole = size + first + second;
     // The atoms are the same fractions in each structure, and an answer has `<` only where the formula has it.
     let kept = quantifier_free::<OrderAtoms>(alloc, paired, whole)?;
-    let levels = entered(alloc, &[], 0, whole)?;
+    let levels = extend_names(alloc, &[], 0, whole)?;
     let forth = guard_formula(alloc, &kept, levels.as_slice())?;
     let other_levels = turned(alloc, size, first, second)?;
     let back = guard_formula(alloc, &kept, other_levels.as_slice())?;

@@ -5,10 +5,10 @@ ghost use Rattle.lois_base.specs.Fits.{LitFits, CubeFits, ConstraintFits};
 ghost use Rattle.lois_base.specs.FormulaView.{view};
 ghost use Rattle.lois_base.specs.Truth.{cube_holds, holds};
 ghost use Rattle.lois_base.specs.Validity.{AdmitsCube, AdmitsConstraint};
-ghost use Rattle.lois_relate.specs.Built.{Says};
+ghost use Rattle.lois_relate.specs.Built.{Defines};
 ghost use Rattle.lois_relate.specs.Named.{chosen, AreBelow, levels_from, named_lit};
 
-use crate::building::{always, both, either, never};
+use crate::building::{conjunction, disjunction, false_formula, true_formula};
 use lois_base::{Constraint, Cube, Formula, Lit, NoMemory};
 use std::alloc::Global;
 
@@ -20,7 +20,7 @@ pub fn inner_size(size: usize, binders: usize) -> Result<usize, NoMemory>
 }
 
 // The names, and then those of `binders` further levels of the term, which are the levels from `size` on.
-pub fn entered(
+pub fn extend_names(
     alloc: Global,
     names: &[usize],
     size: usize,
@@ -49,12 +49,12 @@ fn named_literal(lit: Lit, names: &[usize]) -> Lit
 
 fn cube_formula(alloc: Global, cube: &Cube, names: &[usize]) -> Result<Formula, NoMemory>
     requires { CubeFits (length names.now) cube.now }
-    ensures { IfOk result (λ f. (n : ℕ) → AreBelow n names.now → Says n (λ c. IsTrue (cube_holds (chosen names.now c) cube.now)) (λ o. AdmitsCube o cube.now) (view f)) }
+    ensures { IfOk result (λ f. (n : ℕ) → AreBelow n names.now → Defines n (λ c. IsTrue (cube_holds (chosen names.now c) cube.now)) (λ o. AdmitsCube o cube.now) (view f)) }
 {
-    let mut met = always(alloc);
+    let mut met = true_formula(alloc);
     for lit in cube.as_slice() {
         let literal = Formula::Lit(named_literal(*lit, names));
-        met = both(alloc, met, literal)?;
+        met = conjunction(alloc, met, literal)?;
     }
     Ok(met)
 }
@@ -66,12 +66,12 @@ pub fn guard_formula(
     names: &[usize],
 ) -> Result<Formula, NoMemory>
     requires { ConstraintFits (length names.now) guard.now }
-    ensures { IfOk result (λ f. (n : ℕ) → AreBelow n names.now → Says n (λ c. IsTrue (holds (chosen names.now c) guard.now)) (λ o. AdmitsConstraint o guard.now) (view f)) }
+    ensures { IfOk result (λ f. (n : ℕ) → AreBelow n names.now → Defines n (λ c. IsTrue (holds (chosen names.now c) guard.now)) (λ o. AdmitsConstraint o guard.now) (view f)) }
 {
-    let mut found = never(alloc);
+    let mut found = false_formula(alloc);
     for cube in guard.as_slice() {
         let one = cube_formula(alloc, cube, names)?;
-        found = either(alloc, found, one)?;
+        found = disjunction(alloc, found, one)?;
     }
     Ok(found)
 }

@@ -11,19 +11,20 @@ ghost use Rattle.lois_base.specs.Tree.{tree, comp_of};
 ghost use Rattle.lois_base.specs.Validity.{AdmitsTerm, AdmitsParts, AdmitsComp, AdmitsItems, AdmitsFormula};
 ghost use Rattle.lois_base.specs.Values.{SameAt, SamePartsAt, AllInAt, EachInAt, SomeIsAt, OneIsAt};
 ghost use Rattle.lois_terms.specs.Guarded.{IsSet};
-ghost use Rattle.lois_relate.specs.Built.{Says};
-ghost use Rattle.lois_relate.specs.Compared.{IsForEach, SaysPaired, SaysItem, SaysFound, IsKnown, IsRow, AreRows};
+ghost use Rattle.lois_relate.specs.Built.{Defines};
+ghost use Rattle.lois_relate.specs.Compared.{IsForEach, DefinesPaired, DefinesItem, DefinesFound, IsCached, IsRow, AreRows};
 ghost use Rattle.lois_relate.specs.Named.{chosen, AreBelow, levels_from};
 ghost use Rattle.lois_relate.specs.Singles.{IsSingle};
 ghost use Rattle.lois_relate.specs.Relations.{HoldsWhereSame, HoldsWhereIn, HoldsWhereItemIn, HoldsWhereIncluded};
 
 use crate::building::{
-    always, both, either, for_some, implied, is_always, is_never, negated, never,
+    conjunction, disjunction, false_formula, for_some, implication, is_false_formula,
+    is_true_formula, negation, true_formula,
 };
 use crate::clashes::leaves_out;
-use crate::comparing::{Comparison, Known, both_ways};
+use crate::comparing::{Comparison, PairCache, both_ways};
 use crate::matching::{is_listed, sets_match};
-use crate::naming::{entered, guard_formula, inner_size};
+use crate::naming::{extend_names, guard_formula, inner_size};
 use lois_base::{Comp, Comps, Formula, Formulas, Lit, NoMemory, Op, Term, Terms};
 use std::alloc::Global;
 
@@ -35,7 +36,7 @@ pub fn equal_formula(alloc: Global, s: &Term, t: &Term, size: usize) -> Result<F
     ensures levels { IfOk result (λ f. FormulaFits size (view f)) }
     ensures operators { IfOk result (λ f. (ordered : Bool) → AdmitsTerm ordered (tree s.now) → AdmitsTerm ordered (tree t.now) → AdmitsFormula ordered (view f)) }
 {
-    let levels = entered(alloc, &[], 0, size)?;
+    let levels = extend_names(alloc, &[], 0, size)?;
     let own = levels.as_slice();
     same(alloc, s, own, t, own, size)
 }
@@ -49,7 +50,7 @@ pub fn member_formula(alloc: Global, s: &Term, t: &Term, size: usize) -> Result<
     ensures levels { IfOk result (λ f. FormulaFits size (view f)) }
     ensures operators { IfOk result (λ f. (ordered : Bool) → AdmitsTerm ordered (tree s.now) → AdmitsTerm ordered (tree t.now) → AdmitsFormula ordered (view f)) }
 {
-    let levels = entered(alloc, &[], 0, size)?;
+    let levels = extend_names(alloc, &[], 0, size)?;
     let own = levels.as_slice();
     match t {
         Term::Coll(comps) => member(alloc, s, own, comps.as_slice(), own, size),
@@ -72,9 +73,9 @@ pub fn item_formula(
     ensures operators { IfOk result (λ f. (ordered : Bool) → AdmitsTerm ordered (tree item.now) → AdmitsItems ordered (comps_of (map comp_of others.now)) → AdmitsFormula ordered (view f)) }
 {
     let inner = inner_size(size, binders)?;
-    let levels = entered(alloc, &[], 0, size)?;
+    let levels = extend_names(alloc, &[], 0, size)?;
     let own = levels.as_slice();
-    let longer = entered(alloc, own, size, binders)?;
+    let longer = extend_names(alloc, own, size, binders)?;
     member(alloc, item, longer.as_slice(), others, own, inner)
 }
 
@@ -88,7 +89,7 @@ pub fn included_formula(alloc: Global, s: &Term, t: &Term, size: usize) -> Resul
     ensures levels { IfOk result (λ f. FormulaFits size (view f)) }
     ensures operators { IfOk result (λ f. (ordered : Bool) → AdmitsTerm ordered (tree s.now) → AdmitsTerm ordered (tree t.now) → AdmitsFormula ordered (view f)) }
 {
-    let levels = entered(alloc, &[], 0, size)?;
+    let levels = extend_names(alloc, &[], 0, size)?;
     let own = levels.as_slice();
     match (s, t) {
         (Term::Coll(comps), Term::Coll(others)) => {
@@ -112,15 +113,15 @@ fn same(
     requires left_names { AreBelow size s_names.now }
     requires right { Fits (length t_names.now) (tree t.now) }
     requires right_names { AreBelow size t_names.now }
-    ensures { IfOk result (λ f. Says size (λ c. SameAt (tree s.now) (chosen s_names.now c) (tree t.now) (chosen t_names.now c)) (λ o. AdmitsTerm o (tree s.now) × AdmitsTerm o (tree t.now)) (view f)) }
+    ensures { IfOk result (λ f. Defines size (λ c. SameAt (tree s.now) (chosen s_names.now c) (tree t.now) (chosen t_names.now c)) (λ o. AdmitsTerm o (tree s.now) × AdmitsTerm o (tree t.now)) (view f)) }
 {
     match (s, t) {
         (Term::Var(i), Term::Var(j)) => Ok(same_atoms(alloc, s_names[*i], t_names[*j])),
         (Term::Tag(name), Term::Tag(other)) => {
             if name == other {
-                Ok(always(alloc))
+                Ok(true_formula(alloc))
             } else {
-                Ok(never(alloc))
+                Ok(false_formula(alloc))
             }
         }
         (Term::Tup(parts), Term::Tup(others)) => {
@@ -129,16 +130,16 @@ fn same(
         (Term::Coll(comps), Term::Coll(others)) => {
             same_sets(alloc, comps, s_names, others, t_names, size)
         }
-        _ => Ok(never(alloc)),
+        _ => Ok(false_formula(alloc)),
     }
 }
 
 // The literal that two levels have the same atom.
 fn same_atoms(alloc: Global, left: usize, right: usize) -> Formula
-    ensures { (n : ℕ) → left < n → right < n → Says n (λ c. IsTrue (equal (atom_at c left) (atom_at c right))) (λ o. Unit {0}) (view result) }
+    ensures { (n : ℕ) → left < n → right < n → Defines n (λ c. IsTrue (equal (atom_at c left) (atom_at c right))) (λ o. Unit {0}) (view result) }
 {
     if left == right {
-        return always(alloc);
+        return true_formula(alloc);
     }
     Formula::Lit(Lit {
         op: Op::Eq,
@@ -160,18 +161,18 @@ fn same_parts(
     requires left_names { AreBelow size s_names.now }
     requires right { PartsFit (length t_names.now) (terms_of others.now) }
     requires right_names { AreBelow size t_names.now }
-    ensures { IfOk result (λ f. Says size (λ c. SamePartsAt (terms_of terms.now) (chosen s_names.now c) (terms_of others.now) (chosen t_names.now c)) (λ o. AdmitsParts o (terms_of terms.now) × AdmitsParts o (terms_of others.now)) (view f)) }
+    ensures { IfOk result (λ f. Defines size (λ c. SamePartsAt (terms_of terms.now) (chosen s_names.now c) (terms_of others.now) (chosen t_names.now c)) (λ o. AdmitsParts o (terms_of terms.now) × AdmitsParts o (terms_of others.now)) (view f)) }
 {
     let parts = terms.as_slice();
     let partners = others.as_slice();
     if parts.len() != partners.len() {
-        return Ok(never(alloc));
+        return Ok(false_formula(alloc));
     }
-    let mut met = always(alloc);
+    let mut met = true_formula(alloc);
     for (i, part) in parts.iter().enumerate() {
         let one = same(alloc, part, s_names, &partners[i], t_names, size)?;
-        met = both(alloc, met, one)?;
-        if is_never(&met) {
+        met = conjunction(alloc, met, one)?;
+        if is_false_formula(&met) {
             return Ok(met);
         }
     }
@@ -192,10 +193,10 @@ fn same_sets(
     requires left_names { AreBelow size s_names.now }
     requires right { ItemsFit (length t_names.now) (comps_of others.now) }
     requires right_names { AreBelow size t_names.now }
-    ensures { IfOk result (λ f. Says size (λ c. SameAt (coll (comps_of comps.now)) (chosen s_names.now c) (coll (comps_of others.now)) (chosen t_names.now c)) (λ o. AdmitsItems o (comps_of comps.now) × AdmitsItems o (comps_of others.now)) (view f)) }
+    ensures { IfOk result (λ f. Defines size (λ c. SameAt (coll (comps_of comps.now)) (chosen s_names.now c) (coll (comps_of others.now)) (chosen t_names.now c)) (λ o. AdmitsItems o (comps_of comps.now) × AdmitsItems o (comps_of others.now)) (view f)) }
 {
     if sets_match(comps, s_names, others, t_names) {
-        return Ok(always(alloc));
+        return Ok(true_formula(alloc));
     }
     if let Some(one) = single(comps) {
         if let Some(other) = single(others) {
@@ -203,7 +204,7 @@ fn same_sets(
         }
     }
     let there = sets_compared(alloc, comps, s_names, others, t_names, size)?;
-    if is_never(&there.included) {
+    if is_false_formula(&there.included) {
         return Ok(there.included);
     }
     let back = included(
@@ -215,7 +216,7 @@ fn same_sets(
         s_names,
         size,
     )?;
-    both(alloc, there.included, back)
+    conjunction(alloc, there.included, back)
 }
 
 // The comprehension of a set that has no other, and no binders.
@@ -247,15 +248,15 @@ fn same_singles(
     requires right { CompFits (length t_names.now) (comp_of other.now) }
     requires right_names { AreBelow size t_names.now }
     requires right_binders { other.now.binders ≡ 0 }
-    ensures { IfOk result (λ f. Says size (λ c. SameAt (coll (more (comp_of one.now) no_comps)) (chosen s_names.now c) (coll (more (comp_of other.now) no_comps)) (chosen t_names.now c)) (λ o. AdmitsComp o (comp_of one.now) × AdmitsComp o (comp_of other.now)) (view f)) }
+    ensures { IfOk result (λ f. Defines size (λ c. SameAt (coll (more (comp_of one.now) no_comps)) (chosen s_names.now c) (coll (more (comp_of other.now) no_comps)) (chosen t_names.now c)) (λ o. AdmitsComp o (comp_of one.now) × AdmitsComp o (comp_of other.now)) (view f)) }
 {
     let equal = same(alloc, &one.item, s_names, &other.item, t_names, size)?;
     let one_there = guard_formula(alloc, &one.guard, s_names)?;
     let other_there = guard_formula(alloc, &other.guard, t_names)?;
-    let back = implied(alloc, other_there.copy(alloc)?, one_there.copy(alloc)?)?;
-    let partner = both(alloc, other_there, equal)?;
-    let forth = implied(alloc, one_there, partner)?;
-    both(alloc, forth, back)
+    let back = implication(alloc, other_there.copy(alloc)?, one_there.copy(alloc)?)?;
+    let partner = conjunction(alloc, other_there, equal)?;
+    let forth = implication(alloc, one_there, partner)?;
+    conjunction(alloc, forth, back)
 }
 
 // Where each member of the one set is in the other.
@@ -274,15 +275,15 @@ fn included(
     requires right { ItemsFit (length t_names.now) (comps_of others.now) }
     requires right_names { AreBelow size t_names.now }
     requires rows { AreRows size others.now t_names.now comps.now s_names.now (map views rows.now) }
-    ensures { IfOk result (λ f. Says size (λ c. AllInAt (comps_of comps.now) (chosen s_names.now c) (comps_of others.now) (chosen t_names.now c)) (λ o. AdmitsItems o (comps_of comps.now) × AdmitsItems o (comps_of others.now)) (view f)) }
+    ensures { IfOk result (λ f. Defines size (λ c. AllInAt (comps_of comps.now) (chosen s_names.now c) (comps_of others.now) (chosen t_names.now c)) (λ o. AdmitsItems o (comps_of comps.now) × AdmitsItems o (comps_of others.now)) (view f)) }
 {
-    let mut met = always(alloc);
+    let mut met = true_formula(alloc);
     let items = comps.as_slice();
     for (place, comp) in items.iter().enumerate() {
-        let known = Known { rows, place };
+        let known = PairCache { rows, place };
         let one = each_in(alloc, known, comp, s_names, others, t_names, size)?;
-        met = both(alloc, met, one)?;
-        if is_never(&met) {
+        met = conjunction(alloc, met, one)?;
+        if is_false_formula(&met) {
             return Ok(met);
         }
     }
@@ -293,7 +294,7 @@ fn included(
 #[cycle(relating)]
 fn each_in(
     alloc: Global,
-    known: Known<'_>,
+    known: PairCache<'_>,
     comp: &Comp,
     s_names: &[usize],
     others: &Comps,
@@ -304,13 +305,13 @@ fn each_in(
     requires left_names { AreBelow size s_names.now }
     requires right { ItemsFit (length t_names.now) (comps_of others.now) }
     requires right_names { AreBelow size t_names.now }
-    requires known { IsKnown size others.now t_names.now (comp_of comp.now) s_names.now (map views known.rows.now) known.place }
-    ensures { IfOk result (λ f. Says size (λ c. EachInAt (comp_of comp.now) (chosen s_names.now c) (comps_of others.now) (chosen t_names.now c)) (λ o. AdmitsComp o (comp_of comp.now) × AdmitsItems o (comps_of others.now)) (view f)) }
+    requires known { IsCached size others.now t_names.now (comp_of comp.now) s_names.now (map views known.rows.now) known.place }
+    ensures { IfOk result (λ f. Defines size (λ c. EachInAt (comp_of comp.now) (chosen s_names.now c) (comps_of others.now) (chosen t_names.now c)) (λ o. AdmitsComp o (comp_of comp.now) × AdmitsItems o (comps_of others.now)) (view f)) }
 {
     if is_listed(comp, s_names, others, t_names) {
-        return Ok(always(alloc));
+        return Ok(true_formula(alloc));
     }
-    let longer = entered(alloc, s_names, size, comp.binders)?;
+    let longer = extend_names(alloc, s_names, size, comp.binders)?;
     let found = found_in(
         alloc,
         known,
@@ -334,15 +335,15 @@ fn none_missing(
     ensures { IfOk result (λ r. (n : ℕ) → AreBelow (n + comp.now.binders) names.now → FormulaFits (n + comp.now.binders) (view found) → IsForEach n comp.now.binders names.now comp.now.guard (view found) (view r)) }
 {
     let guard = guard_formula(alloc, &comp.guard, names)?;
-    let missing = both(alloc, guard, negated(alloc, found)?)?;
-    negated(alloc, for_some(alloc, missing, comp.binders)?)
+    let missing = conjunction(alloc, guard, negation(alloc, found)?)?;
+    negation(alloc, for_some(alloc, missing, comp.binders)?)
 }
 
 // Where the guard admits the item of the comprehension, and it is in the set.
 #[cycle(relating)]
 fn found_in(
     alloc: Global,
-    known: Known<'_>,
+    known: PairCache<'_>,
     comp: &Comp,
     s_names: &[usize],
     others: &[Comp],
@@ -353,14 +354,14 @@ fn found_in(
     requires left_names { AreBelow size s_names.now }
     requires right { ItemsFit (length t_names.now) (comps_of (map comp_of others.now)) }
     requires right_names { AreBelow size t_names.now }
-    requires known { IsKnown size (map comp_of others.now) t_names.now (comp_of comp.now) s_names.now (map views known.rows.now) known.place }
-    ensures { IfOk result (λ f. SaysFound size s_names.now (comp_of comp.now) t_names.now (comps_of (map comp_of others.now)) (view f)) }
+    requires known { IsCached size (map comp_of others.now) t_names.now (comp_of comp.now) s_names.now (map views known.rows.now) known.place }
+    ensures { IfOk result (λ f. DefinesFound size s_names.now (comp_of comp.now) t_names.now (comps_of (map comp_of others.now)) (view f)) }
 {
-    let mut found = never(alloc);
+    let mut found = false_formula(alloc);
     for (i, other) in others.iter().enumerate() {
         let one = one_found(alloc, known.of(i), comp, s_names, other, t_names, size)?;
-        found = either(alloc, found, one)?;
-        if is_always(&found) {
+        found = disjunction(alloc, found, one)?;
+        if is_true_formula(&found) {
             return Ok(found);
         }
     }
@@ -382,20 +383,20 @@ fn one_found(
     requires left_names { AreBelow size s_names.now }
     requires right { CompFits (length t_names.now) (comp_of other.now) }
     requires right_names { AreBelow size t_names.now }
-    requires known { IfSome known (λ f. SaysPaired size s_names.now (comp_of comp.now) t_names.now (comp_of other.now) (view f.now)) }
-    ensures { IfOk result (λ f. SaysItem size s_names.now (comp_of comp.now) t_names.now (comp_of other.now) (view f)) }
+    requires known { IfSome known (λ f. DefinesPaired size s_names.now (comp_of comp.now) t_names.now (comp_of other.now) (view f.now)) }
+    ensures { IfOk result (λ f. DefinesItem size s_names.now (comp_of comp.now) t_names.now (comp_of other.now) (view f)) }
 {
     if let Some(paired) = known {
         return for_some(alloc, paired.copy(alloc)?, other.binders);
     }
     if leaves_out(other, &comp.item) {
-        return Ok(never(alloc));
+        return Ok(false_formula(alloc));
     }
     let inner = inner_size(size, comp.binders)?;
-    let longer = entered(alloc, s_names, size, comp.binders)?;
+    let longer = extend_names(alloc, s_names, size, comp.binders)?;
     let names = longer.as_slice();
     let one = is_item(alloc, &comp.item, names, other, t_names, inner)?;
-    both(alloc, guard_formula(alloc, &comp.guard, names)?, one)
+    conjunction(alloc, guard_formula(alloc, &comp.guard, names)?, one)
 }
 
 // Where the value is in the set of the comprehensions.
@@ -411,14 +412,14 @@ fn member(
     requires left_names { AreBelow size s_names.now }
     requires right { ItemsFit (length t_names.now) (comps_of (map comp_of comps.now)) }
     requires right_names { AreBelow size t_names.now }
-    ensures { IfOk result (λ f. Says size (λ c. SomeIsAt (comps_of (map comp_of comps.now)) (chosen t_names.now c) (tree s.now) (chosen s_names.now c)) (λ o. AdmitsItems o (comps_of (map comp_of comps.now)) × AdmitsTerm o (tree s.now)) (view f)) }
+    ensures { IfOk result (λ f. Defines size (λ c. SomeIsAt (comps_of (map comp_of comps.now)) (chosen t_names.now c) (tree s.now) (chosen s_names.now c)) (λ o. AdmitsItems o (comps_of (map comp_of comps.now)) × AdmitsTerm o (tree s.now)) (view f)) }
 {
-    let mut found = never(alloc);
+    let mut found = false_formula(alloc);
     for comp in comps {
         if !leaves_out(comp, s) {
             let one = is_item(alloc, s, s_names, comp, t_names, size)?;
-            found = either(alloc, found, one)?;
-            if is_always(&found) {
+            found = disjunction(alloc, found, one)?;
+            if is_true_formula(&found) {
                 return Ok(found);
             }
         }
@@ -440,17 +441,17 @@ fn is_item(
     requires left_names { AreBelow size s_names.now }
     requires right { CompFits (length t_names.now) (comp_of comp.now) }
     requires right_names { AreBelow size t_names.now }
-    ensures { IfOk result (λ f. Says size (λ c. OneIsAt (comp_of comp.now) (chosen t_names.now c) (tree s.now) (chosen s_names.now c)) (λ o. AdmitsComp o (comp_of comp.now) × AdmitsTerm o (tree s.now)) (view f)) }
+    ensures { IfOk result (λ f. Defines size (λ c. OneIsAt (comp_of comp.now) (chosen t_names.now c) (tree s.now) (chosen s_names.now c)) (λ o. AdmitsComp o (comp_of comp.now) × AdmitsTerm o (tree s.now)) (view f)) }
 {
     let inner = inner_size(size, comp.binders)?;
-    let longer = entered(alloc, t_names, size, comp.binders)?;
+    let longer = extend_names(alloc, t_names, size, comp.binders)?;
     let names = longer.as_slice();
     let equal = same(alloc, &comp.item, names, s, s_names, inner)?;
-    if is_never(&equal) {
+    if is_false_formula(&equal) {
         return Ok(equal);
     }
     let guard = guard_formula(alloc, &comp.guard, names)?;
-    for_some(alloc, both(alloc, equal, guard)?, comp.binders)
+    for_some(alloc, conjunction(alloc, equal, guard)?, comp.binders)
 }
 
 // Where the one set is included in the other, and where each pair of comprehensions is there, as the other inclusion asks for it: a row for each of the one set's.
@@ -481,16 +482,16 @@ fn sets_compared(
     requires left_names { AreBelow size s_names.now }
     requires right { ItemsFit (length t_names.now) (comps_of others.now) }
     requires right_names { AreBelow size t_names.now }
-    ensures included { IfOk result (λ r. Says size (λ c. AllInAt (comps_of comps.now) (chosen s_names.now c) (comps_of others.now) (chosen t_names.now c)) (λ o. AdmitsItems o (comps_of comps.now) × AdmitsItems o (comps_of others.now)) (view r.included)) }
+    ensures included { IfOk result (λ r. Defines size (λ c. AllInAt (comps_of comps.now) (chosen s_names.now c) (comps_of others.now) (chosen t_names.now c)) (λ o. AdmitsItems o (comps_of comps.now) × AdmitsItems o (comps_of others.now)) (view r.included)) }
     ensures rows { IfOk result (λ r. AreRows size comps.now s_names.now others.now t_names.now (map views r.rows.items)) }
 {
-    let mut met = always(alloc);
+    let mut met = true_formula(alloc);
     let mut rows = Vec::new(alloc);
     for comp in comps.as_slice() {
         let Row { there, pairs } = each_compared(alloc, comp, s_names, others, t_names, size)?;
         rows.push(pairs)?;
-        met = both(alloc, met, there)?;
-        if is_never(&met) {
+        met = conjunction(alloc, met, there)?;
+        if is_false_formula(&met) {
             return Ok(Compared {
                 included: met,
                 rows,
@@ -517,16 +518,16 @@ fn each_compared(
     requires left_names { AreBelow size s_names.now }
     requires right { ItemsFit (length t_names.now) (comps_of others.now) }
     requires right_names { AreBelow size t_names.now }
-    ensures there { IfOk result (λ r. Says size (λ c. EachInAt (comp_of comp.now) (chosen s_names.now c) (comps_of others.now) (chosen t_names.now c)) (λ o. AdmitsComp o (comp_of comp.now) × AdmitsItems o (comps_of others.now)) (view r.there)) }
+    ensures there { IfOk result (λ r. Defines size (λ c. EachInAt (comp_of comp.now) (chosen s_names.now c) (comps_of others.now) (chosen t_names.now c)) (λ o. AdmitsComp o (comp_of comp.now) × AdmitsItems o (comps_of others.now)) (view r.there)) }
     ensures pairs { IfOk result (λ r. IsRow size (comp_of comp.now) s_names.now others.now t_names.now (views r.pairs)) }
 {
     if is_listed(comp, s_names, others, t_names) {
         return Ok(Row {
-            there: always(alloc),
+            there: true_formula(alloc),
             pairs: Formulas::new(alloc),
         });
     }
-    let longer = entered(alloc, s_names, size, comp.binders)?;
+    let longer = extend_names(alloc, s_names, size, comp.binders)?;
     let found = item_compared(alloc, comp, s_names, others.as_slice(), t_names, size)?;
     Ok(Row {
         there: none_missing(alloc, found.there, comp, longer.as_slice())?,
@@ -548,15 +549,15 @@ fn item_compared(
     requires left_names { AreBelow size s_names.now }
     requires right { ItemsFit (length t_names.now) (comps_of (map comp_of others.now)) }
     requires right_names { AreBelow size t_names.now }
-    ensures there { IfOk result (λ r. SaysFound size s_names.now (comp_of comp.now) t_names.now (comps_of (map comp_of others.now)) (view r.there)) }
+    ensures there { IfOk result (λ r. DefinesFound size s_names.now (comp_of comp.now) t_names.now (comps_of (map comp_of others.now)) (view r.there)) }
     ensures pairs { IfOk result (λ r. IsRow size (comp_of comp.now) s_names.now (map comp_of others.now) t_names.now (views r.pairs)) }
 {
-    let mut found = never(alloc);
+    let mut found = false_formula(alloc);
     let mut pairs = Formulas::new(alloc);
     for other in others {
         let Comparison { forth, back } = pair_compared(alloc, comp, s_names, other, t_names, size)?;
         pairs.push(back)?;
-        found = either(alloc, found, for_some(alloc, forth, other.binders)?)?;
+        found = disjunction(alloc, found, for_some(alloc, forth, other.binders)?)?;
     }
     Ok(Row {
         there: found,
@@ -578,25 +579,25 @@ fn pair_compared(
     requires left_names { AreBelow size s_names.now }
     requires right { CompFits (length t_names.now) (comp_of other.now) }
     requires right_names { AreBelow size t_names.now }
-    ensures forth { IfOk result (λ r. SaysPaired size s_names.now (comp_of comp.now) t_names.now (comp_of other.now) (view r.forth)) }
-    ensures back { IfOk result (λ r. SaysPaired size t_names.now (comp_of other.now) s_names.now (comp_of comp.now) (view r.back)) }
+    ensures forth { IfOk result (λ r. DefinesPaired size s_names.now (comp_of comp.now) t_names.now (comp_of other.now) (view r.forth)) }
+    ensures back { IfOk result (λ r. DefinesPaired size t_names.now (comp_of other.now) s_names.now (comp_of comp.now) (view r.back)) }
 {
     if leaves_out(other, &comp.item) {
         return Ok(Comparison {
-            forth: never(alloc),
-            back: never(alloc),
+            forth: false_formula(alloc),
+            back: false_formula(alloc),
         });
     }
     let inner = inner_size(size, comp.binders)?;
     let whole = inner_size(inner, other.binders)?;
-    let own = entered(alloc, s_names, size, comp.binders)?;
-    let longer = entered(alloc, t_names, inner, other.binders)?;
+    let own = extend_names(alloc, s_names, size, comp.binders)?;
+    let longer = extend_names(alloc, t_names, inner, other.binders)?;
     let left = own.as_slice();
     let right = longer.as_slice();
     let equal = same(alloc, &other.item, right, &comp.item, left, whole)?;
     let guard = guard_formula(alloc, &comp.guard, left)?;
     let other_guard = guard_formula(alloc, &other.guard, right)?;
-    let there = both(alloc, guard, other_guard)?;
-    let paired = both(alloc, there, equal)?;
+    let there = conjunction(alloc, guard, other_guard)?;
+    let paired = conjunction(alloc, there, equal)?;
     both_ways(alloc, &paired, size, comp.binders, other.binders)
 }

@@ -2,9 +2,9 @@
 #![tactic(auto)]
 
 mod families;
-mod resting;
+mod fixpoint;
 mod rounds;
 
 pub use families::{Family, Member};
-pub use resting::{grow, shrink};
+pub use fixpoint::{grow, shrink};
 pub use rounds::Round;

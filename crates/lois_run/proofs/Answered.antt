@@ -16,10 +16,10 @@ use Rattle.lois_answers.specs.declared.results.Results.{Results}
 use Rattle.lois_meaning.proofs.TheLaws.{never_both}
 use Rattle.lois_interp.specs.Interpreted.{parameter_name, AreResultsOf}
 use Rattle.lois_reader.proofs.Told.{results_are_told}
-use Rattle.lois_scope.specs.Refusals.{Refuses as ScopeRefuses}
+use Rattle.lois_scope.specs.Refusals.{IsScopeRefusal as ScopeRefuses}
 use Rattle.lois_scope.specs.declared.checking.ScopeError.{ScopeError}
 use Rattle.lois_scope.specs.declared.checking.ScopeError.TheVariants.{Unknown, Again, OuterAssign, PrintInLoop, OrderInEquality, NoMemory as ScopeMemory}
-use Rattle.lois_syntax.specs.Refusals.{tokens_in, Refuses as SyntaxRefuses}
+use Rattle.lois_syntax.specs.Refusals.{tokens_in, IsSyntaxRefusal as SyntaxRefuses}
 use Rattle.lois_syntax.specs.declared.SyntaxError.{SyntaxError}
 use Rattle.lois_syntax.specs.declared.SyntaxError.TheVariants.{NoScript, TooNested, WideTuple, TurnsTooMany, NoMemory as SyntaxMemory}
 use Rattle.lois_syntax.proofs.OneStatement.{one_script_of_text}

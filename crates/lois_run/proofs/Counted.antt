@@ -4,7 +4,7 @@ use Rattle.std.specs.List.{All}
 use Rattle.lois_answers.specs.ResultsData.{CaseD}
 use Rattle.lois_answers.specs.declared.results.Results.{Results}
 use Rattle.lois_census.specs.Censuses.{HasLine, HasSet}
-use Rattle.lois_census.specs.Refusals.{IsFirstWithout, IsRefusedAs, HasCause}
+use Rattle.lois_census.specs.Refusals.{IsFirstWithout, IsRefusedAs, IsCensusAnswer}
 use Rattle.lois_census.specs.declared.counting.Answer.{Answer}
 use Rattle.lois_census.specs.declared.counting.Answer.TheVariants.{Listed, Refused as Uncounted}
 use Rattle.lois_census.specs.declared.counting.Refusal.{Refusal as Cause}
@@ -39,7 +39,7 @@ module _ (r : Results) (name : List ℕ) where
   one_cause (NotASet n k) (NoLine m l) (none, is, lines, first) (nothing, e, other) = absurd (has_all (HasLine name) r.cases l lines other)
   one_cause (NotASet n k) (NotASet m l) (none, is, lines, first) (nothing, e, others, other) = ap₂ NotASet (is ∙ sym e) (same_number (HasSet name) r.cases k l first other)
 
-  pub counted_once : (ordered : Bool) (x y : Answer) (q : Refusal) → HasCause ordered r name x → HasCause ordered r name y → Refused q ≡ listed_outcome x → listed_outcome y ≡ listed_outcome x
+  pub counted_once : (ordered : Bool) (x y : Answer) (q : Refusal) → IsCensusAnswer ordered r name x → IsCensusAnswer ordered r name y → Refused q ≡ listed_outcome x → listed_outcome y ≡ listed_outcome x
   counted_once ordered (Listed cs) y q h g is = absurd (cc is)
   counted_once ordered (Uncounted x) (Uncounted y) q h g is = ap (λ z. listed_outcome (Uncounted z)) (one_cause y x g h)
   counted_once ordered (Uncounted HasParameters) (Listed cs) q h g is = some_parameters h g.parameters

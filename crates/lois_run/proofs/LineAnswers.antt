@@ -4,7 +4,7 @@ use Rattle.std.specs.List.{All, AllZip}
 use Rattle.std.proofs.lemmas.List.Elements.{All-head, All-tail, All-cons, All-nil, All-filter}
 use Rattle.lois_answers.specs.ResultsData.{CaseD}
 use Rattle.lois_answers.specs.Sound.{IsSound, IsSoundCase}
-use Rattle.lois_base.specs.Validity.{HasUsualWidths}
+use Rattle.lois_base.specs.Validity.{HasBoundedWidths}
 use Rattle.lois_census.specs.CensusData.{CensusD}
 use Rattle.lois_census.specs.Censuses.{IsCensusOf, NumberedD, numbered, is_met}
 use Rattle.lois_census.specs.OrbitData.{OrbitD}
@@ -13,15 +13,15 @@ use Rattle.lois_equal.proofs.CaseLines.{found_sound}
 use Rattle.lois_run.specs.Outcomes.{HasText, CanBeListed, IsWritable}
 use Rattle.lois_run.specs.declared.outcomes.Outcome.{Outcome}
 use Rattle.lois_answers.specs.declared.results.Results.{Results}
-use Rattle.lois_census.specs.Refusals.{HasCause as IsCounted}
+use Rattle.lois_census.specs.Refusals.{IsCensusAnswer as IsCounted}
 use Rattle.lois_census.specs.declared.counting.Answer.{Answer}
 use Rattle.lois_census.specs.declared.counting.Answer.TheVariants.{Listed, Refused as Uncounted}
 use Rattle.lois_census.specs.declared.counting.Refusal.TheVariants as uncounted
 use Rattle.lois_equal.specs.Comparing.{IsComparison, IfDiffer}
-use Rattle.lois_equal.specs.Differing.{AreUsual}
+use Rattle.lois_equal.specs.Differing.{AreBounded}
 use Rattle.lois_equal.specs.declared.comparing.Comparison.{Comparison}
 use Rattle.lois_equal.specs.declared.comparing.Comparison.TheVariants.{Alike, Differ as Unlike, Refused as Unfit}
-use Rattle.lois_equal.specs.declared.comparing.Unfit.TheVariants as unfit
+use Rattle.lois_equal.specs.declared.comparing.ComparisonFault.TheVariants as unfit
 use Rattle.lois_lexer.specs.declared.Place.{Place}
 use Rattle.lois_reader.specs.Refusal.{IsResultsOf}
 use Rattle.lois_base.specs.Data.{TermD}
@@ -81,13 +81,13 @@ module _ (text : List ℕ) where
 
 -- ---- what is found can be written
 
-compared_is_written : (n : ℕ) (a b : List ℕ) (r : Results) (x : Comparison) (ordered : Bool) → IsComparison n a b r.cases x → IfDiffer (λ d. AreUsual ordered d.word) x → HasText (compared_outcome r.parameters x)
+compared_is_written : (n : ℕ) (a b : List ℕ) (r : Results) (x : Comparison) (ordered : Bool) → IsComparison n a b r.cases x → IfDiffer (λ d. AreBounded ordered d.word) x → HasText (compared_outcome r.parameters x)
 compared_is_written n a b r Alike ordered found usual = tt
 compared_is_written n a b r (Unlike k d name) ordered found usual = record { levels = found.1.own.difference.levels; widths = usual.widths }
 compared_is_written n a b r (Unfit (unfit.NoLine name k)) ordered found usual = tt
 compared_is_written n a b r (Unfit (unfit.NotDeterministic name k)) ordered found usual = tt
 
-pub comparison_is_written : (n : ℕ) (a b : List ℕ) (r : Results) (x : Comparison) (ordered : Bool) (o : Outcome) → IsComparison n a b r.cases x → IfDiffer (λ d. AreUsual ordered d.word) x → o ≡ compared_outcome r.parameters x → HasText o
+pub comparison_is_written : (n : ℕ) (a b : List ℕ) (r : Results) (x : Comparison) (ordered : Bool) (o : Outcome) → IsComparison n a b r.cases x → IfDiffer (λ d. AreBounded ordered d.word) x → o ≡ compared_outcome r.parameters x → HasText o
 comparison_is_written n a b r x ordered o found usual is = subst HasText (sym is) (compared_is_written n a b r x ordered found usual)
 
 module _ (r : Results) (sound : IsSound r) (name : List ℕ) where
@@ -99,10 +99,10 @@ module _ (r : Results) (sound : IsSound r) (name : List ℕ) where
   sound_numbered n (c ∷ cs) h =
       All-cons Usable (record { number = n; case = c }) (numbered (suc n) cs) (All-head (IsSoundCase r.order (length r.parameters)) c cs h) (sound_numbered (suc n) cs (All-tail (IsSoundCase r.order (length r.parameters)) c cs h))
 
-  all_written : (os : List OrbitD) → All FitsSample os → All (λ k. HasUsualWidths k.item) os → All IsWritable os
+  all_written : (os : List OrbitD) → All FitsSample os → All (λ k. HasBoundedWidths k.item) os → All IsWritable os
   all_written [] levels widths = All-nil IsWritable
   all_written (o ∷ os) levels widths =
-      All-cons IsWritable o os (record { levels = All-head FitsSample o os levels; widths = All-head (λ k. HasUsualWidths k.item) o os widths }) (all_written os (All-tail FitsSample o os levels) (All-tail (λ k. HasUsualWidths k.item) o os widths))
+      All-cons IsWritable o os (record { levels = All-head FitsSample o os levels; widths = All-head (λ k. HasBoundedWidths k.item) o os widths }) (all_written os (All-tail FitsSample o os levels) (All-tail (λ k. HasBoundedWidths k.item) o os widths))
 
   all_listed : (ks : List NumberedD) (es : List CensusD) → All Usable ks → AllZip (IsCensusOf r.order name) ks es → All CanBeListed es
   all_listed [] [] h z = All-nil CanBeListed

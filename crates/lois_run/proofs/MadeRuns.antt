@@ -3,14 +3,14 @@ use Rattle.std.proofs.Common.{◌≡◌, ℕ, ◌≤◌, ◌⊎◌, refl, arith}
 use mathlib.Core.Logic.{inl, inr}
 use Rattle.lois_base.specs.declared.limits.TheConstants.{LONGEST_TEXT}
 use Rattle.lois_answers.specs.declared.results.Results.{Results}
-use Rattle.lois_made.specs.MadeCounts.{HasMadeCounts}
-use Rattle.lois_made.specs.MadeScript.{made_script}
-use Rattle.lois_made.specs.MadeTree.{made_tree}
-use Rattle.lois_made.proofs.MadeEnds.{made_never_fails}
-use Rattle.lois_made.proofs.MadeResults.{results_have_made_counts}
-use Rattle.lois_made.proofs.MadeScoped.{made_is_well_scoped}
-use Rattle.lois_made.proofs.MadeScript.{script_length}
-use Rattle.lois_made.proofs.MadeSpelled.{made_is_spelled}
+use Rattle.lois_make.specs.MadeCounts.{HasMadeCounts}
+use Rattle.lois_make.specs.MadeScript.{made_script}
+use Rattle.lois_make.specs.MadeTree.{made_tree}
+use Rattle.lois_make.proofs.MadeEnds.{made_never_fails}
+use Rattle.lois_make.proofs.MadeResults.{results_have_made_counts}
+use Rattle.lois_make.proofs.MadeScoped.{made_is_well_scoped}
+use Rattle.lois_make.proofs.MadeScript.{script_length}
+use Rattle.lois_make.proofs.MadeSpelled.{made_is_spelled}
 use Rattle.lois_run.specs.Headline.{FailsSomewhere, IsCompleted, IsRight, IsRunOrFault, IsToRun, Headline}
 use Rattle.lois_run.specs.declared.outcomes.Outcome.{Outcome}
 use Rattle.lois_run.specs.declared.outcomes.Outcome.TheVariants.{Completed}

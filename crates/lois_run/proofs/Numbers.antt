@@ -9,7 +9,7 @@ use Rattle.std.proofs.lemmas.Bool.{and_parts, le-leb, leb-true, lt-leb}
 use Rattle.std.proofs.lemmas.Str.Parse.{IsNumeralModel, numerals_by_fold, parse_plain}
 use Rattle.lois_script.specs.Grammar.{decimal, decimal_behind}
 use Rattle.lois_base.specs.declared.deciding.Kind.{Kind}
-use Rattle.lois_run.specs.Words.{Asks, command_alone, command_of, command_with_number, is_number, number_first, number_last, number_named, option_named, command_with_names, free_name, one_name, two_names}
+use Rattle.lois_run.specs.Words.{Requests, command_alone, command_of, command_with_number, is_number, number_first, number_last, number_named, option_named, command_with_names, free_name, one_name, two_names}
 use Rattle.lois_run.specs.declared.words.Command.{Command}
 use Rattle.lois_run.specs.declared.words.Command.TheVariants.{Run, Check, Reread, Make, Registers, Census}
 
@@ -136,5 +136,5 @@ limited (w ∷ ws) =
     (limited_if (bytes_eq w (codes "registers")) _ _ (limited_alone Registers tt ws)
     (limited_if (bytes_eq w (codes "census")) _ None (limited_name ws) tt))))))
 
-pub made_limits : (words : List (List ℕ)) (n : ℕ) (kind : Option Kind) → Asks (Make n kind) words → (1 ≤ n) × (n ≤ 10000)
+pub made_limits : (words : List (List ℕ)) (n : ℕ) (kind : Option Kind) → Requests (Make n kind) words → (1 ≤ n) × (n ≤ 10000)
 made_limits words n kind asks = subst (λ (o : Option Command). IfSome o IsLimited) asks (limited words)

@@ -12,19 +12,19 @@ use Rattle.lois_script.specs.Limits.{Spells}
 use Rattle.lois_script.specs.Scope.{RuleD, rule_number, ScriptBreaks, IsWellScoped, BreaksFirst, unknown, again, outer_assign, print_in_loop, order_in_equality}
 use Rattle.lois_script.specs.Tree.{ScriptD}
 use Rattle.lois_answers.specs.declared.results.Results.{Results}
-use Rattle.lois_census.specs.Refusals.{HasCause as IsCounted}
+use Rattle.lois_census.specs.Refusals.{IsCensusAnswer as IsCounted}
 use Rattle.lois_equal.specs.Comparing.{IsComparison}
 use Rattle.lois_reader.proofs.Told.{results_are_told}
 use Rattle.lois_reader.specs.Pieces.{Piece, answer_pieces, results_pieces}
 use Rattle.lois_reader.specs.Refusal.{IsAnswerOf, IsResultsOf}
 use Rattle.lois_reader.specs.Shape.{HasAnswerShape, SpellsAnswer, HasResultsShape, SpellsResults, LeavesShapeAt}
 use Rattle.lois_scope.proofs.First.{same_first}
-use Rattle.lois_scope.specs.Refusals.{Refuses as ScopeRefuses}
+use Rattle.lois_scope.specs.Refusals.{IsScopeRefusal as ScopeRefuses}
 use Rattle.lois_scope.specs.declared.checking.ScopeError.{ScopeError}
 use Rattle.lois_scope.specs.declared.checking.ScopeError.TheVariants.{Unknown, Again, OuterAssign, PrintInLoop, OrderInEquality, NoMemory as ScopeMemory}
 use Rattle.lois_syntax.proofs.OneStatement.{one_script_of_text}
 use Rattle.lois_syntax.proofs.Refusing.{one_refusal as one_syntax, never_both as script_or_refusal}
-use Rattle.lois_syntax.specs.Refusals.{tokens_in, Refuses as SyntaxRefuses}
+use Rattle.lois_syntax.specs.Refusals.{tokens_in, IsSyntaxRefusal as SyntaxRefuses}
 use Rattle.lois_syntax.specs.declared.SyntaxError.{SyntaxError}
 use Rattle.lois_syntax.specs.declared.SyntaxError.TheVariants.{NoScript, TooNested, WideTuple, TurnsTooMany, NoMemory as SyntaxMemory}
 use Rattle.lois_run.specs.Causes.{IsRefusedBy, HasCause, IsOfText}

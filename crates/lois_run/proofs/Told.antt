@@ -17,7 +17,7 @@ use Rattle.lois_run.specs.Outcomes.{made_counts, failure_status, status_of}
 use Rattle.lois_run.specs.declared.outcomes.Made.{Made}
 use Rattle.lois_base.specs.declared.limits.TheConstants.{LONGEST_TEXT}
 use Rattle.lois_deciders.specs.Choice.{IsUnwanted}
-use Rattle.lois_run.specs.Words.{Asks, Lacks, IsUsage, asks_decider, wanted_kind}
+use Rattle.lois_run.specs.Words.{Requests, LacksDecider, IsUsage, asks_decider, wanted_kind}
 use Rattle.lois_run.specs.declared.outcomes.Outcome.{Outcome}
 use Rattle.lois_run.specs.declared.outcomes.Outcome.TheVariants.{Completed, Failed, Reread as WrittenAgain, Checked, Made as WasMade, Same, Differ, Translated, Census as Listed, Refused, ReadFault, Usage}
 use Rattle.lois_run.specs.declared.outcomes.Refusal.TheVariants.{TooLong, Lexical, Syntax, Scope, NotResults, NotRegisters, NoLine, NotDeterministic as NotFit, HasParameters, NotASet as NoSet}
@@ -42,7 +42,7 @@ made_is_not_fault counts e = cc e
 usage_is_not_fault : Usage ≡ ReadFault → ⊥
 usage_is_not_fault e = cc e
 
-one_command : (c d : Command) (words : List (List ℕ)) → Asks c words → Asks d words → c ≡ d
+one_command : (c d : Command) (words : List (List ℕ)) → Requests c words → Requests d words → c ≡ d
 one_command c d words a b = some_is (sym a ∙ b)
   where
     some_is : Some c ≡ Some d → c ≡ d
@@ -72,10 +72,10 @@ reads_text (Census a) none = tt
 -- ---- the decider of a command
 
 module _ {X : Type 0} (kinds : List Kind) (command : Command) (chosen : Option X) (choice : IsNone chosen ↔ All (IsUnwanted (wanted_kind command)) kinds) where
-  pub lacks_decider : (words : List (List ℕ)) → Asks command words → IsTrue (asks_decider command) → IsNone chosen → IsUsage words kinds
-  lacks_decider words asks wants none other asked = subst (λ c. Lacks c kinds) (one_command command other words asks asked) (wants, choice.0 none)
+  pub lacks_decider : (words : List (List ℕ)) → Requests command words → IsTrue (asks_decider command) → IsNone chosen → IsUsage words kinds
+  lacks_decider words asks wants none other asked = subst (λ c. LacksDecider c kinds) (one_command command other words asks asked) (wants, choice.0 none)
 
-  pub has_decider : (IsTrue (asks_decider command) → IsSome chosen) → Lacks command kinds → ⊥
+  pub has_decider : (IsTrue (asks_decider command) → IsSome chosen) → LacksDecider command kinds → ⊥
   has_decider some (wants, unwanted) = true≢false (sym (some wants) ∙ choice.1 unwanted)
 
 module _ {S : Type 0} (words : List (List ℕ)) (kinds : List Kind) (left : S → Option (List ℕ)) (faults : S → ℕ) (takes : Takes S) (from to : S) where
@@ -118,11 +118,11 @@ module _ {S : Type 0} (words : List (List ℕ)) (kinds : List Kind) (left : S �
       usage_cause (Census a) None = tt
       usage_cause (Census a) (Some text) = tt
 
-  module _ (command : Command) (asks : Asks command words) (has : Lacks command kinds → ⊥) where
+  module _ (command : Command) (asks : Requests command words) (has : LacksDecider command kinds → ⊥) where
     no_usage : IsUsage words kinds → ⊥
     no_usage lacking = has (lacking command asks)
 
-    for_command : (P : Command → Type 0) → P command → (c : Command) → Asks c words → P c
+    for_command : (P : Command → Type 0) → P command → (c : Command) → Requests c words → P c
     for_command P p c a = subst P (one_command command c words asks a) p
 
     known : (P : List ℕ → Type 0) → ((text : List ℕ) → P text) → (at : Option (List ℕ)) → IfSome at P
@@ -149,7 +149,7 @@ module _ {S : Type 0} (words : List (List ℕ)) (kinds : List Kind) (left : S �
         number_of e = cc e
 
     -- what reads a text isn't `make`
-    no_make : {P : Type 0} (n : ℕ) (kind : Option Kind) → ReadsText command → Asks (Make n kind) words → P
+    no_make : {P : Type 0} (n : ℕ) (kind : Option Kind) → ReadsText command → Requests (Make n kind) words → P
     no_make n kind reads a = absurd (subst ReadsText (one_command command (Make n kind) words asks a) reads)
 
     fault_promise : Rose faults_before faults_after → (c : Command) → ReadsText c → (text : List ℕ) → Promises c text (Rose faults_before faults_after) ReadFault

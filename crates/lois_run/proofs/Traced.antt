@@ -7,7 +7,7 @@ use Rattle.std.proofs.lemmas.List.Sums.{count_by-le-length, suffix_len-le-length
 use Rattle.lois_base.specs.Data.{depth}
 use Rattle.lois_base.specs.Fits.{Fits}
 use Rattle.lois_base.specs.Truth.{sampled}
-use Rattle.lois_base.specs.Validity.{AdmitsTerm, HasUsualWidths}
+use Rattle.lois_base.specs.Validity.{AdmitsTerm, HasBoundedWidths}
 use Rattle.lois_base.specs.declared.limits.TheConstants.{LONGEST_TEXT}
 use Rattle.lois_base.proofs.Validity.{all_that_are}
 use Rattle.lois_lexer.specs.declared.Place.{Place}
@@ -49,7 +49,7 @@ module _ (text : List ℕ) (s : ScriptD) (spelled : Spells text s) (scoped : IsW
     term = record {
       levels = All-contains (λ l. Fits (length f.sample.items) l.term) f.elements l h.levels there;
       tags = All-contains (λ l. HasTags l.term) f.elements l tags there;
-      widths = All-contains (λ l. HasUsualWidths l.term) f.elements l h.widths there;
+      widths = All-contains (λ l. HasBoundedWidths l.term) f.elements l h.widths there;
       operators = All-contains (λ l. AdmitsTerm s.ordered l.term) f.elements l h.operators there;
       brackets = All-contains (λ l. depth l.term ≤ 64) f.elements l h.brackets there;
     };

@@ -21,7 +21,7 @@ use Rattle.lois_run.specs.Headline.{Headline, Completes, NamesFailure}
 use Rattle.lois_run.specs.Outcomes.{status_of, outcome_text, made_counts}
 use Rattle.lois_run.specs.Lines.{Compares, Lists, Translates}
 use Rattle.lois_run.specs.Refusals.{IsRefusedAs, IsNoAnswer, IsNoResults, IsNoRegisters}
-use Rattle.lois_run.specs.Words.{Asks, IsUsage}
+use Rattle.lois_run.specs.Words.{Requests, IsUsage}
 use Rattle.lois_run.specs.declared.outcomes.Made.{Made}
 use Rattle.lois_run.specs.declared.outcomes.Outcome.{Outcome}
 use Rattle.lois_run.specs.declared.outcomes.Outcome.TheVariants.{Completed, Failed, Reread, Checked, Made as WasMade, Same, Differ, Translated, Census, Refused, ReadFault, Usage}
@@ -128,7 +128,7 @@ Takes S = S → ℕ → Option (List ℕ) → S → Type 0
 
 -- the outcome has its cause in the text, and keeps what the command that the words ask for promises of it
 abbrev pub Serves : List (List ℕ) → List ℕ → Outcome → Type 0
-Serves words text o = (command : Command) → Asks command words → HasCause command text o × Promises command text ⊥ o
+Serves words text o = (command : Command) → Requests command words → HasCause command text o × Promises command text ⊥ o
 
 -- What the calls of the source gave, whether or not it tells what is left: too many bytes; or some, and then the last call
 -- failed; or the whole text that the outcome is about, up to its end. For usage and for `make` there was no call.
@@ -136,7 +136,7 @@ abbrev pub HasRead : {S : Type 0} → Takes S → List (List ℕ) → S → S �
 HasRead {S} takes words from to (Refused TooLong) = GivesUp takes LONGEST_TEXT from (unread.TooLong (LONGEST_TEXT + 1)) to
 HasRead {S} takes words from to ReadFault = GivesUp takes LONGEST_TEXT from unread.ReadFault to
 HasRead {S} takes words from to Usage = from ≡ to
-HasRead {S} takes words from to (WasMade counts) = (from ≡ to) × ((command : Command) → Asks command words → IsMadeBy command counts)
+HasRead {S} takes words from to (WasMade counts) = (from ≡ to) × ((command : Command) → Requests command words → IsMadeBy command counts)
 HasRead {S} takes words from to o = (text : List ℕ) × ReadsToEnd takes (LONGEST_TEXT + 1) from text to × (length text ≤ LONGEST_TEXT) × Serves words text o
 
 -- The outcome of a call with these words and deciders of these kinds, which led from a source to a source: what each has
@@ -148,11 +148,11 @@ pub record IsOutcomeOf {S : Type 0} (words : List (List ℕ)) (kinds : List Kind
   pub read : HasRead takes words from to o
   -- the same of a source that tells what it has left; there the text is also that of which too many bytes or too few were read
   pub taken : HasTaken (left from) (left to) o
-  pub cause : (command : Command) → Asks command words → IfSome (left from) (λ text. HasCause command text o)
+  pub cause : (command : Command) → Requests command words → IfSome (left from) (λ text. HasCause command text o)
   -- `make` comes to its counts, whatever the source tells
-  pub made : (n : ℕ) (kind : Option Kind) → Asks (Make n kind) words → (IsUsage words kinds → ⊥) → o ≡ WasMade (made_counts n)
+  pub made : (n : ℕ) (kind : Option Kind) → Requests (Make n kind) words → (IsUsage words kinds → ⊥) → o ≡ WasMade (made_counts n)
   -- unless it is usage, the outcome keeps what the command promises
-  pub promise : (command : Command) → Asks command words → (IsUsage words kinds → ⊥) → IfSome (left from) (λ text. Promises command text (Rose (faults from) (faults to)) o)
+  pub promise : (command : Command) → Requests command words → (IsUsage words kinds → ⊥) → IfSome (left from) (λ text. Promises command text (Rose (faults from) (faults to)) o)
 
 -- calls that gave these bytes, of which the last one may have failed
 abbrev pub Gave : {S : Type 0} → Takes S → S → List ℕ → S → Type 0
@@ -173,8 +173,8 @@ Puts K = K → List ℕ → Option ℕ → K → Type 0
 
 -- The status is the outcome's, and the sink has its text whole; or it is 7, the sink's count of faults rose, and the sink
 -- has a first part of the text, but not all of it. The same of the calls, where the sink doesn't tell what it holds.
-abbrev pub IsTold : {K : Type 0} → (K → Option (List ℕ)) → (K → ℕ) → Puts K → K → K → Outcome → ℕ → Type 0
-IsTold {K} held faults puts from to o status =
+abbrev pub OutcomeIsWritten : {K : Type 0} → (K → Option (List ℕ)) → (K → ℕ) → Puts K → K → K → Outcome → ℕ → Type 0
+OutcomeIsWritten {K} held faults puts from to o status =
     ((status ≡ status_of o) × Appends (held from) (held to) (outcome_text o) × Writes puts from (outcome_text o) [] to) ⊎
     ((status ≡ 7) × Rose (faults from) (faults to) × AppendsProperPrefix (held from) (held to) (outcome_text o) × FailsWriting puts from (outcome_text o) to)
 

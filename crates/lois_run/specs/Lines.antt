@@ -7,8 +7,8 @@ use Rattle.lois_reader.specs.Refusal.{IsResultsOf}
 use Rattle.lois_equal.specs.Comparing.{IsComparison}
 use Rattle.lois_equal.specs.declared.comparing.Comparison.{Comparison}
 use Rattle.lois_equal.specs.declared.comparing.Comparison.TheVariants as compared
-use Rattle.lois_equal.specs.declared.comparing.Unfit.TheVariants as unfit
-use Rattle.lois_census.specs.Refusals.{HasCause}
+use Rattle.lois_equal.specs.declared.comparing.ComparisonFault.TheVariants as unfit
+use Rattle.lois_census.specs.Refusals.{IsCensusAnswer}
 use Rattle.lois_census.specs.declared.counting.Answer.{Answer}
 use Rattle.lois_census.specs.declared.counting.Answer.TheVariants as listed
 use Rattle.lois_census.specs.declared.counting.Refusal.TheVariants as unlisted
@@ -50,7 +50,7 @@ pub record Lists (name : List ℕ) (text : List ℕ) (o : Outcome) : Type 0 wher
   pub results : Results
   pub read : IsResultsOf text results
   pub answer : Answer
-  pub found : HasCause results.order results name answer
+  pub found : IsCensusAnswer results.order results name answer
   pub told : o ≡ listed_outcome answer
 
 -- The results hold the automaton of the register automaton whose text it is: in one case, which always holds, without parameters.

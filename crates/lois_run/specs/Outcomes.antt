@@ -3,7 +3,7 @@ use Rattle.std.specs.Prelude.{◌≤◌, ℕ, ◌+◌, ◌*◌, min, List, [], �
 use Rattle.std.specs.Fmt.{decimal}
 use Rattle.std.specs.List.{All}
 use Rattle.lois_base.specs.Fits.{Fits}
-use Rattle.lois_base.specs.Validity.{HasUsualWidths}
+use Rattle.lois_base.specs.Validity.{HasBoundedWidths}
 use Rattle.lois_answers.specs.ResultsText.{lined, results_text}
 use Rattle.lois_answers.specs.Sound.{IsSound, IsSoundTrace}
 use Rattle.lois_answers.specs.TraceText.{trace_text, answer_text}
@@ -93,11 +93,11 @@ HasNumber _ = Unit {0}
 -- each term of a difference or of an orbit fits the length of the sample beside it, and has the usual widths
 pub record CanBeWritten (d : Difference) : Type 0 where
   pub levels : All (Fits (length d.sample)) d.word
-  pub widths : All HasUsualWidths d.word
+  pub widths : All HasBoundedWidths d.word
 
 pub record IsWritable (o : OrbitD) : Type 0 where
   pub levels : Fits (length o.sample) o.item
-  pub widths : HasUsualWidths o.item
+  pub widths : HasBoundedWidths o.item
 
 abbrev pub CanBeListed : CensusD → Type 0
 CanBeListed c = All IsWritable c.orbits

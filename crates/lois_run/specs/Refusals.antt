@@ -1,6 +1,6 @@
 -- Why a text is refused: each refusal with the fact that it comes for.
 use Rattle.std.specs.Prelude.{◌≡◌, ℕ, List, length, slice_get, option_map, unwrap_or}
-use Rattle.lois_lexer.specs.Refusals.{Refuses as LexRefuses}
+use Rattle.lois_lexer.specs.Refusals.{IsLexicalRefusal as LexRefuses}
 use Rattle.lois_lexer.specs.Tokens.{HasTokens}
 use Rattle.lois_lexer.specs.declared.LexError.{LexError}
 use Rattle.lois_lexer.specs.declared.LexError.TheVariants.{BadByte, LongName, BadNumber}
@@ -9,13 +9,13 @@ use Rattle.lois_lexer.specs.declared.Token.{Token}
 use Rattle.lois_script.specs.Limits.{Spells}
 use Rattle.lois_script.specs.Tree.{ScriptD}
 use Rattle.lois_reader.specs.Pieces.{Piece, answer_pieces, results_pieces}
-use Rattle.lois_reader.specs.Refusal.{HasNone, IsAnswerOf, IsResultsOf, IsInside, IsPlace}
+use Rattle.lois_reader.specs.Refusal.{HasNone, IsAnswerOf, IsResultsOf, IsOffsetInText, IsPlace}
 use Rattle.lois_reader.specs.Shape.{HasAnswerShape, SpellsAnswer, HasResultsShape, SpellsResults}
 use Rattle.lois_reader.specs.declared.ResultError.TheVariants as results
-use Rattle.lois_scope.specs.Refusals.{Refuses as ScopeRefuses}
+use Rattle.lois_scope.specs.Refusals.{IsScopeRefusal as ScopeRefuses}
 use Rattle.lois_scope.specs.declared.checking.ScopeError.{ScopeError}
 use Rattle.lois_scope.specs.declared.checking.ScopeError.TheVariants.{Unknown, Again, OuterAssign, PrintInLoop, OrderInEquality}
-use Rattle.lois_syntax.specs.Refusals.{tokens_in, Refuses as SyntaxRefuses}
+use Rattle.lois_syntax.specs.Refusals.{tokens_in, IsSyntaxRefusal as SyntaxRefuses}
 use Rattle.lois_syntax.specs.declared.SyntaxError.{SyntaxError}
 use Rattle.lois_syntax.specs.declared.SyntaxError.TheVariants.{NoScript, TooNested, WideTuple, TurnsTooMany}
 use Rattle.lois_registers.specs.Places.{HasNone as HasNoRegisters, IsPlace as IsRegistersPlace}
@@ -77,7 +77,7 @@ IsRefusedAs text _ = ⊥
 pub record IsNoneAt {V D : Type 0} (Holds : V → Type 0) (Shape : List ℕ → Type 0) (SpelledBy : List ℕ → D → Type 0) (pieces : D → List Piece) (text : List ℕ) (k : ℕ) : Type 0 where
   pub none : HasNone Holds (results.NotResults k)
   pub place : IsPlace Shape SpelledBy pieces text (results.NotResults k)
-  pub inside : IsInside (length text) (results.NotResults k)
+  pub inside : IsOffsetInText (length text) (results.NotResults k)
 
 -- no sound results and no sound trace; no sound results
 abbrev pub IsNoAnswerAt : List ℕ → ℕ → Type 0

@@ -91,8 +91,8 @@ command_of (word ∷ words) =
     (if (bytes_eq word (codes "census")) then (one_name words) else None))))))
 
 -- the words ask for this
-abbrev pub Asks : Command → List (List ℕ) → Type 0
-Asks command words = command_of words ≡ Some command
+abbrev pub Requests : Command → List (List ℕ) → Type 0
+Requests command words = command_of words ≡ Some command
 
 -- which decider the command wants, of which kind where one is named
 abbrev pub wanted_kind : Command → Option Kind
@@ -107,9 +107,9 @@ asks_decider Registers = false
 asks_decider _ = true
 
 -- a command that asks a decider has none of the named kind, or none at all
-abbrev pub Lacks : Command → List Kind → Type 0
-Lacks command kinds = IsTrue (asks_decider command) × All (IsUnwanted (wanted_kind command)) kinds
+abbrev pub LacksDecider : Command → List Kind → Type 0
+LacksDecider command kinds = IsTrue (asks_decider command) × All (IsUnwanted (wanted_kind command)) kinds
 
 -- The words ask for nothing, or for something that lacks its decider. They ask for one thing at most.
 abbrev pub IsUsage : List (List ℕ) → List Kind → Type 0
-IsUsage words kinds = (command : Command) → Asks command words → Lacks command kinds
+IsUsage words kinds = (command : Command) → Requests command words → LacksDecider command kinds

@@ -2,9 +2,9 @@
 
 ghost use Rattle.std.specs.Prelude.{◌≡◌, length, IfOk};
 ghost use Rattle.lois_answers.specs.Sound.{IsSound};
-ghost use Rattle.lois_census.specs.Refusals.{HasCause};
+ghost use Rattle.lois_census.specs.Refusals.{IsCensusAnswer};
 ghost use Rattle.lois_equal.specs.Comparing.{IsComparison, IfDiffer};
-ghost use Rattle.lois_equal.specs.Differing.{AreUsual};
+ghost use Rattle.lois_equal.specs.Differing.{AreBounded};
 ghost use Rattle.lois_run.specs.Causes.{AnswersText};
 ghost use Rattle.lois_run.specs.Outcomes.{HasText};
 ghost use Rattle.lois_run.specs.Lines.{IsResultsRead, compared_outcome, listed_outcome};
@@ -16,11 +16,11 @@ use lois_answers::Results;
 use lois_base::{Name, Names, NoMemory};
 use lois_census::{Answer, census_of};
 use lois_deciders::Chosen;
-use lois_equal::{Comparison, Unfit, compare};
+use lois_equal::{Comparison, ComparisonFault, compare};
 use lois_equality::EqualityAtoms;
 use lois_order::OrderAtoms;
 use lois_reader::{ResultError, read_results};
-use lois_registers::{RegistersError, read_registers, translated};
+use lois_registers::{RegistersError, read_registers, translate_to_results};
 use std::alloc::Global;
 
 // What a text is that is to be results.
@@ -71,7 +71,7 @@ fn compared(
 ) -> Result<Comparison, NoMemory>
     requires sound { IsSound results.now }
     ensures comparison { IfOk result (IsComparison (length results.now.parameters) first.now second.now results.now.cases) }
-    ensures usual { IfOk result (IfDiffer (λ d. AreUsual results.now.order d.word)) }
+    ensures usual { IfOk result (IfDiffer (λ d. AreBounded results.now.order d.word)) }
 {
     if results.order {
         compare::<OrderAtoms>(alloc, results, first, second, chosen)
@@ -88,10 +88,10 @@ fn compared_outcome(parameters: Names, comparison: Comparison) -> Outcome
         Comparison::Differ(case, difference, name) => Outcome::Differ(
             case, difference, name, parameters,
         ),
-        Comparison::Refused(Unfit::NoLine(name, case)) => Outcome::Refused(Refusal::NoLine(
-            name, case,
-        )),
-        Comparison::Refused(Unfit::NotDeterministic(name, case)) => Outcome::Refused(
+        Comparison::Refused(ComparisonFault::NoLine(name, case)) => Outcome::Refused(
+            Refusal::NoLine(name, case),
+        ),
+        Comparison::Refused(ComparisonFault::NotDeterministic(name, case)) => Outcome::Refused(
             Refusal::NotDeterministic(name, case),
         ),
     }
@@ -123,7 +123,7 @@ fn counted(
     chosen: &mut Chosen,
 ) -> Result<Answer, NoMemory>
     requires sound { IsSound results.now }
-    ensures answer { IfOk result (HasCause results.now.order results.now name.now) }
+    ensures answer { IfOk result (IsCensusAnswer results.now.order results.now name.now) }
 {
     if results.order {
         census_of::<OrderAtoms>(alloc, results, name, chosen)
@@ -156,7 +156,7 @@ pub(crate) fn translate_text(alloc: Global, text: &[u8]) -> Result<Outcome, NoMe
     ensures written { IfOk result HasText }
 {
     match read_registers(alloc, text) {
-        Ok(automaton) => Ok(Outcome::Translated(translated(alloc, &automaton)?)),
+        Ok(automaton) => Ok(Outcome::Translated(translate_to_results(alloc, &automaton)?)),
         Err(RegistersError::NotRegisters(offset)) => {
             Ok(Outcome::Refused(Refusal::NotRegisters(place_at(text, offset))))
         }

@@ -11,11 +11,15 @@ use crate::{Made, Outcome};
 use lois_answers::Results;
 use lois_base::{NoMemory, Term};
 use lois_deciders::Chosen;
-use lois_made::make_script;
+use lois_make::make_script;
 use std::alloc::Global;
 
 /// The outcome of `make` with so many loops, with the decider that was chosen. The made script completes.
-pub(crate) fn made(alloc: Global, count: u32, chosen: Option<Chosen>) -> Result<Outcome, NoMemory>
+pub(crate) fn run_make(
+    alloc: Global,
+    count: u32,
+    chosen: Option<Chosen>,
+) -> Result<Outcome, NoMemory>
     requires some { 1 ≤ count }
     requires few { count ≤ 10000 }
     requires decider { IsSome chosen }

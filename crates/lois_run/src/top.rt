@@ -3,18 +3,18 @@
 ghost use Rattle.std.specs.Prelude.{◌≡◌, ℕ, ◌+◌, ◌≤◌, ◌⊎◌, ◌↔◌, ◌&&◌, List, Option, is_none, IfOk, IfErr, IsSome, IsTrue, Ok, length, map, string_bytes};
 ghost use Rattle.lois_base.specs.declared.deciding.Kind.{Kind};
 ghost use Rattle.lois_outside.specs.Faults.{Rose};
-ghost use Rattle.lois_run.specs.Causes.{AnswersText, ReadsText, IsOutcomeOf, GaveAtMost, IsTold};
+ghost use Rattle.lois_run.specs.Causes.{AnswersText, ReadsText, IsOutcomeOf, GaveAtMost, OutcomeIsWritten};
 ghost use Rattle.lois_base.specs.declared.limits.TheConstants.{LONGEST_TEXT};
 ghost use Rattle.lois_run.specs.Outcomes.{HasText};
-ghost use Rattle.lois_run.specs.Words.{Asks, IsUsage, Lacks, wanted_kind, asks_decider};
+ghost use Rattle.lois_run.specs.Words.{Requests, IsUsage, LacksDecider, wanted_kind, asks_decider};
 ghost use Rattle.lois_run.specs.declared.outcomes.Outcome.{Outcome};
 ghost use Rattle.lois_run.specs.declared.words.Command.TheVariants.{Run, Check, Reread, Make};
 
 use crate::lines::{compare_text, count_text, translate_text};
-use crate::made::made;
+use crate::made::run_make;
 use crate::reading::{Read, place_at, read_text};
 use crate::running::run;
-use crate::words::{Command, asked};
+use crate::words::{Command, parse_command};
 use crate::{Outcome, Refusal};
 use lois_base::limits::LONGEST_TEXT;
 use lois_base::{Decider, Kind, NoMemory};
@@ -136,14 +136,14 @@ fn served<S: Source>(
 ) -> Result<Outcome, NoMemory>
     requires number { (count : ℕ) → (kind : Option Kind) → command ≡ Make count kind → (1 ≤ count) × (count ≤ 10000) }
     requires decider { IsTrue (asks_decider command) → IsSome chosen }
-    ensures outcome { IfOk result (λ o. (words : List (List ℕ)) → (kinds : List Kind) → Asks command words → (Lacks command kinds → ⊥) → IsOutcomeOf words kinds S.left S.faults S.takes source.old source.new o) }
+    ensures outcome { IfOk result (λ o. (words : List (List ℕ)) → (kinds : List Kind) → Requests command words → (LacksDecider command kinds → ⊥) → IsOutcomeOf words kinds S.left S.faults S.takes source.old source.new o) }
     ensures make_asks_nothing { (count : ℕ) → (kind : Option Kind) → command ≡ Make count kind → source.new ≡ source.old }
     ensures count_never_falls { S.faults source.old ≤ S.faults source.new }
     ensures written { IfOk result HasText }
     ensures no_memory { IfErr result (λ e. GaveAtMost S.left S.takes LONGEST_TEXT source.old source.new) }
 {
     if let Command::Make(count, _) = command {
-        return made(alloc, count, chosen);
+        return run_make(alloc, count, chosen);
     }
     match read_all(alloc, source, LONGEST_TEXT) {
         Ok(text) => answer(alloc, command, &text, chosen),
@@ -170,7 +170,7 @@ pub fn outcome<S: Source>(
     // After usage the source is as it was, also where memory ran out.
     ensures source_untouched { IsUsage (map string_bytes words.now) (map (λ b. kind_of b) deciders.items) → source.new ≡ source.old }
     // So it is after `make`.
-    ensures make_asks_nothing { (count : ℕ) → (kind : Option Kind) → Asks (Make count kind) (map string_bytes words.now) → source.new ≡ source.old }
+    ensures make_asks_nothing { (count : ℕ) → (kind : Option Kind) → Requests (Make count kind) (map string_bytes words.now) → source.new ≡ source.old }
     ensures count_never_falls { S.faults source.old ≤ S.faults source.new }
 
     ensures written { IfOk result HasText }
@@ -178,7 +178,7 @@ pub fn outcome<S: Source>(
     // Where memory ran out, no more was read than a script may have.
     ensures no_memory { IfErr result (λ e. GaveAtMost S.left S.takes LONGEST_TEXT source.old source.new) }
 {
-    let Some(command) = asked(alloc, words)? else {
+    let Some(command) = parse_command(alloc, words)? else {
         return Ok(Outcome::Usage);
     };
     let chosen = Chosen::choose(deciders, wanted_kind(&command));
@@ -198,11 +198,11 @@ pub fn lois<S: Source, K: Sink>(
     deciders: Vec<Box<dyn Decider>>,
 ) -> u8
     // Either memory ran out before the first call of the sink, or some outcome of the words and the source is told.
-    ensures answer { ((result ≡ 8) × (sink.new ≡ sink.old) × GaveAtMost S.left S.takes (LONGEST_TEXT + 1) source.old source.new) ⊎ ((o : Outcome) × IsOutcomeOf (map string_bytes words.now) (map (λ b. kind_of b) deciders.items) S.left S.faults S.takes source.old source.new o × HasText o × IsTold K.held K.faults K.puts sink.old sink.new o result) }
+    ensures answer { ((result ≡ 8) × (sink.new ≡ sink.old) × GaveAtMost S.left S.takes (LONGEST_TEXT + 1) source.old source.new) ⊎ ((o : Outcome) × IsOutcomeOf (map string_bytes words.now) (map (λ b. kind_of b) deciders.items) S.left S.faults S.takes source.old source.new o × HasText o × OutcomeIsWritten K.held K.faults K.puts sink.old sink.new o result) }
 
     // After usage and after `make` the source is as it was, whatever becomes of the answer.
     ensures source_untouched { IsUsage (map string_bytes words.now) (map (λ b. kind_of b) deciders.items) → source.new ≡ source.old }
-    ensures make_asks_nothing { (count : ℕ) → (kind : Option Kind) → Asks (Make count kind) (map string_bytes words.now) → source.new ≡ source.old }
+    ensures make_asks_nothing { (count : ℕ) → (kind : Option Kind) → Requests (Make count kind) (map string_bytes words.now) → source.new ≡ source.old }
     ensures write_fault { result ≡ 7 → Rose (K.faults sink.old) (K.faults sink.new) }
     ensures reads_never_fall { S.faults source.old ≤ S.faults source.new }
     ensures writes_never_fall { K.faults sink.old ≤ K.faults sink.new }

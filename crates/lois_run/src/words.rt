@@ -32,7 +32,7 @@ pub(crate) enum Command {
 }
 
 /// What these words ask for; `None` where they are none that the program takes.
-pub(crate) fn asked(alloc: Global, words: &[String]) -> Result<Option<Command>, NoMemory>
+pub(crate) fn parse_command(alloc: Global, words: &[String]) -> Result<Option<Command>, NoMemory>
     ensures { IfOk result (λ o. o ≡ command_of (map string_bytes words.now)) }
 {
     if !are_expected(words) {

@@ -15,10 +15,10 @@ RefusesFor rule at (OrderInEquality p) = (rule ≡ order_in_equality) × (at ≡
 RefusesFor rule at NoMemory = Unit {0}
 
 -- the rule that the refusal names is broken first, at its place
-abbrev pub Refuses : ScriptD → ScopeError → Type 0
-Refuses script (Unknown p) = BreaksFirst script unknown p.offset
-Refuses script (Again p) = BreaksFirst script again p.offset
-Refuses script (OuterAssign p) = BreaksFirst script outer_assign p.offset
-Refuses script (PrintInLoop p) = BreaksFirst script print_in_loop p.offset
-Refuses script (OrderInEquality p) = BreaksFirst script order_in_equality p.offset
-Refuses script NoMemory = Unit {0}
+abbrev pub IsScopeRefusal : ScriptD → ScopeError → Type 0
+IsScopeRefusal script (Unknown p) = BreaksFirst script unknown p.offset
+IsScopeRefusal script (Again p) = BreaksFirst script again p.offset
+IsScopeRefusal script (OuterAssign p) = BreaksFirst script outer_assign p.offset
+IsScopeRefusal script (PrintInLoop p) = BreaksFirst script print_in_loop p.offset
+IsScopeRefusal script (OrderInEquality p) = BreaksFirst script order_in_equality p.offset
+IsScopeRefusal script NoMemory = Unit {0}

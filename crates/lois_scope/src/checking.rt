@@ -4,7 +4,7 @@ ghost use Rattle.std.specs.Prelude.{◌≡◌, ℕ, IfOk, IfErr, IsErrAnd, IsOkU
 ghost use Rattle.lois_script.specs.Scope.{RuleD, IsWellScoped, BreaksFirst};
 ghost use Rattle.lois_script.specs.View.{script_tree};
 ghost use Rattle.lois_scope.specs.Breaks.{rule_view};
-ghost use Rattle.lois_scope.specs.Refusals.{RefusesFor, Refuses};
+ghost use Rattle.lois_scope.specs.Refusals.{RefusesFor, IsScopeRefusal};
 
 use crate::breaks::{Break, FirstBreak, Rule};
 use crate::names::Names;
@@ -123,7 +123,7 @@ pub fn check(alloc: Global, script: Script) -> Result<Scoped, ScopeError>
     ensures same { IfOk result (λ s. s ≡ script) }
     ensures scoped { IfOk result (λ s. IsWellScoped (script_tree script)) }
     ensures passes { IsWellScoped (script_tree script) → IsOkUnless result ScopeError.NoMemory }
-    ensures refused { IfErr result (Refuses (script_tree script)) }
+    ensures refused { IfErr result (IsScopeRefusal (script_tree script)) }
     ensures first { (rule : RuleD) (at : ℕ) → BreaksFirst (script_tree script) rule at → IsErrAnd result (RefusesFor rule at) }
 {
     match first_break(alloc, &script) {

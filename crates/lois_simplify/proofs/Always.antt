@@ -8,7 +8,7 @@ use Rattle.lois_base.specs.Atom.{Atom, whole}
 use Rattle.lois_base.specs.Truth.{holds}
 use Rattle.lois_base.specs.declared.guards.Lit.{Lit}
 use Rattle.lois_constraint.specs.Normalised.{IsTurned, lit_before, cube_before, is_part, IsNormalCube, IsNormalised}
-use Rattle.lois_deciders.specs.Asked.{CanBeMet}
+use Rattle.lois_deciders.specs.Satisfaction.{ConstraintIsSatisfiable}
 
 -- nothing is added where the guard always holds
 pub always_adds_nothing : (u g : List (List Lit)) → g ≡ [] ∷ [] → (c : List Atom) → holds c u ≡ (holds c u && holds c g)
@@ -41,6 +41,6 @@ some_choice : (n : ℕ) → (c : List Atom) × (length c ≡ n)
 some_choice zero = ([], refl)
 some_choice (suc n) = (whole 0 ∷ (some_choice n).0, ap suc (some_choice n).1)
 
-pub always_can_be_met : (n : ℕ) (u : List (List Lit)) → u ≡ [] ∷ [] → CanBeMet n u
+pub always_can_be_met : (n : ℕ) (u : List (List Lit)) → u ≡ [] ∷ [] → ConstraintIsSatisfiable n u
 always_can_be_met n u e =
     let c = some_choice n in (c.0, c.1, subst (λ z. holds c.0 z ≡ true) (sym e) refl)

@@ -11,7 +11,7 @@ use Rattle.lois_base.specs.Fits.{LitFits, CubeFits, ConstraintFits}
 use Rattle.lois_base.specs.Truth.{atom_at, holds, sampled}
 use Rattle.lois_base.specs.declared.guards.Lit.{Lit}
 use Rattle.lois_base.specs.declared.guards.Op.TheVariants.{Ne}
-use Rattle.lois_deciders.specs.Asked.{Meets, CanBeMet}
+use Rattle.lois_deciders.specs.Satisfaction.{IsConstraintSample, ConstraintIsSatisfiable}
 use Rattle.lois_simplify.specs.Fixed.{IsFixed, CanBeApart}
 
 abbrev pub apart : ℕ → ℕ → List (List Lit)
@@ -42,7 +42,7 @@ can_be_apart n b a h r c both l o =
     let parts = and_parts (holds c h) (holds c (apart b a)) (sym (both c) ∙ o) in
     (c, l, parts.0, not_true (equal (atom_at c b) (atom_at c a)) (sym (apart_holds c b a) ∙ parts.1))
 
-pub is_fixed : (n b a : ℕ) (h r : List (List Lit)) → ((d : List Atom) → holds d r ≡ (holds d h && holds d (apart b a))) → (CanBeMet n r → ⊥) → IsFixed n h b a
+pub is_fixed : (n b a : ℕ) (h r : List (List Lit)) → ((d : List Atom) → holds d r ≡ (holds d h && holds d (apart b a))) → (ConstraintIsSatisfiable n r → ⊥) → IsFixed n h b a
 is_fixed n b a h r both none c l o =
     true_of_not (equal (atom_at c b) (atom_at c a))
     (λ e. none (c, l, both c ∙ (ap (λ t. t && holds c (apart b a)) o ∙ (apart_holds c b a ∙ e))))
@@ -58,7 +58,7 @@ numbers_differ m n d = go (equal (whole m) (whole n)) refl
     go true e = absurd (d (numbers_same m n e))
 
 -- the sample itself has different numbers there
-pub sample_is_apart : (n b a : ℕ) (h : List (List Lit)) (s : List ℕ) → Meets n h s → b < n → a < n → (get_or s b 0 ≡ get_or s a 0 → ⊥) → CanBeApart n h b a
+pub sample_is_apart : (n b a : ℕ) (h : List (List Lit)) (s : List ℕ) → IsConstraintSample n h s → b < n → a < n → (get_or s b 0 ≡ get_or s a 0 → ⊥) → CanBeApart n h b a
 sample_is_apart n b a h s m l k d =
     let at_b : atom_at (sampled s) b ≡ whole (get_or s b 0) = get_or-map whole s b 0 (whole 0) (omega (arith, m.0.count)) in
     let at_a : atom_at (sampled s) a ≡ whole (get_or s a 0) = get_or-map whole s a 0 (whole 0) (omega (arith, m.0.count)) in (

@@ -5,7 +5,7 @@ use Rattle.std.proofs.lemmas.List.Elements.{Contains-append_left, Contains-appen
 use Rattle.lois_base.specs.Atom.{Atom}
 use Rattle.lois_base.specs.Data.{TermD, CompD, comps_of, depth_of_comps}
 use Rattle.lois_base.specs.Fits.{ItemsFit}
-use Rattle.lois_base.specs.Validity.{AdmitsItems, ItemsHaveUsualWidths}
+use Rattle.lois_base.specs.Validity.{AdmitsItems, ItemsHaveBoundedWidths}
 use Rattle.lois_base.specs.Values.{MakesAt, MemberAt, SameAt, InAt}
 use Rattle.lois_base.specs.declared.guards.Lit.{Lit}
 use Rattle.lois_base.proofs.Same.{same_at_refl, same_at_sym, same_at_trans}
@@ -79,8 +79,8 @@ module _ (u : List (List Lit)) (n : ℕ) where
     operators = λ o f. let left : AdmitsItems o (comps_of rs) = p.operators o (each_admits_items o ps (λ k h. items_admit_each o (ps ++ bs) k f (each_left ps bs k h))) in
         let right : AdmitsItems o (comps_of qs) = q.operators o (each_admits_items o bs (λ k h. items_admit_each o (ps ++ bs) k f (each_right ps bs k h))) in
         each_admits_items o (rs ++ qs) (λ k h. elim (Contains-append_cases rs qs k h) [ inl i ↦ items_admit_each o rs k left i | inr i ↦ items_admit_each o qs k right i ]);
-    widths = λ f. let left : ItemsHaveUsualWidths (comps_of rs) = p.widths (each_wide_items ps (λ k h. items_wide_each (ps ++ bs) k f (each_left ps bs k h))) in
-        let right : ItemsHaveUsualWidths (comps_of qs) = q.widths (each_wide_items bs (λ k h. items_wide_each (ps ++ bs) k f (each_right ps bs k h))) in
+    widths = λ f. let left : ItemsHaveBoundedWidths (comps_of rs) = p.widths (each_wide_items ps (λ k h. items_wide_each (ps ++ bs) k f (each_left ps bs k h))) in
+        let right : ItemsHaveBoundedWidths (comps_of qs) = q.widths (each_wide_items bs (λ k h. items_wide_each (ps ++ bs) k f (each_right ps bs k h))) in
         each_wide_items (rs ++ qs) (λ k h. elim (Contains-append_cases rs qs k h) [ inl i ↦ items_wide_each rs k left i | inr i ↦ items_wide_each qs k right i ]);
     depth = let a : depth_of_comps rs ≤ depth_of_comps (ps ++ bs) = omega (arith, p.depth, comps_depth_le ps (depth_of_comps (ps ++ bs)) (λ k h. comp_depth_le (ps ++ bs) k (each_left ps bs k h))) in
         let b : depth_of_comps qs ≤ depth_of_comps (ps ++ bs) = omega (arith, q.depth, comps_depth_le bs (depth_of_comps (ps ++ bs)) (λ k h. comp_depth_le (ps ++ bs) k (each_right ps bs k h))) in

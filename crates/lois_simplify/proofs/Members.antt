@@ -5,7 +5,7 @@ use Rattle.std.specs.List.{Contains}
 use Rattle.lois_base.specs.Atom.{Atom}
 use Rattle.lois_base.specs.Data.{TermD, CompD, comps_of, depth_of_comp, depth_of_comps}
 use Rattle.lois_base.specs.Fits.{CompFits, ItemsFit}
-use Rattle.lois_base.specs.Validity.{AdmitsComp, AdmitsItems, CompHasUsualWidths, ItemsHaveUsualWidths}
+use Rattle.lois_base.specs.Validity.{AdmitsComp, AdmitsItems, CompHasBoundedWidths, ItemsHaveBoundedWidths}
 use Rattle.lois_base.specs.Values.{MakesAt, MemberAt, SameAt, InAt}
 use Rattle.lois_base.proofs.Same.{all_in_is, is_all_in, is_some_is, same_at_refl, same_at_sym}
 use Rattle.lois_simplify.specs.Kept.{set_of}
@@ -84,15 +84,15 @@ each_admits_items o [] f = tt
 each_admits_items o (c ∷ cs) f =
     (f c (contains_first c cs), each_admits_items o cs (λ k h. f k (contains_later c k cs h)))
 
-pub items_wide_each : (cs : List CompD) (k : CompD) → ItemsHaveUsualWidths (comps_of cs) → Contains cs k → CompHasUsualWidths k
+pub items_wide_each : (cs : List CompD) (k : CompD) → ItemsHaveBoundedWidths (comps_of cs) → Contains cs k → CompHasBoundedWidths k
 items_wide_each [] k f h = absurd (contains_none k h)
 items_wide_each (c ∷ cs) k f h =
     elim (contains_cases c k cs h) [
-      | inl e ↦ subst CompHasUsualWidths e f.0
+      | inl e ↦ subst CompHasBoundedWidths e f.0
       | inr i ↦ items_wide_each cs k f.1 i
     ]
 
-pub each_wide_items : (cs : List CompD) → ((k : CompD) → Contains cs k → CompHasUsualWidths k) → ItemsHaveUsualWidths (comps_of cs)
+pub each_wide_items : (cs : List CompD) → ((k : CompD) → Contains cs k → CompHasBoundedWidths k) → ItemsHaveBoundedWidths (comps_of cs)
 each_wide_items [] f = tt
 each_wide_items (c ∷ cs) f =
     (f c (contains_first c cs), each_wide_items cs (λ k h. f k (contains_later c k cs h)))

@@ -11,13 +11,13 @@ use Rattle.lois_base.specs.Normal.{both, Occurs, IsNormal}
 use Rattle.lois_base.specs.Rename.{rename, rename_constraint}
 use Rattle.lois_base.specs.Tree.{tree, comp_of}
 use Rattle.lois_base.specs.Truth.{holds}
-use Rattle.lois_base.specs.Validity.{AdmitsConstraint, AdmitsComp, CompHasUsualWidths}
+use Rattle.lois_base.specs.Validity.{AdmitsConstraint, AdmitsComp, CompHasBoundedWidths}
 use Rattle.lois_base.specs.declared.guards.Lit.{Lit}
 use Rattle.lois_base.specs.declared.values.Comp.{Comp}
 use Rattle.lois_base.proofs.Both.{holds_both}
 use Rattle.lois_base.proofs.RenamedForm.{NamesFit, depth_renamed, widths_renamed, admits_renamed, fits_renamed}
 use Rattle.lois_constraint.specs.Normalised.{IsNormalised}
-use Rattle.lois_deciders.specs.Asked.{CanBeMet}
+use Rattle.lois_deciders.specs.Satisfaction.{ConstraintIsSatisfiable}
 use Rattle.lois_base.specs.Bound.{HoldsForSome}
 use Rattle.lois_simplify.specs.Fixed.{IsFixed}
 use Rattle.lois_simplify.specs.Kept.{IsSameWhere, IsKept, set_of}
@@ -35,7 +35,7 @@ use Rattle.lois_simplify.proofs.Single.{guard_changed, item_changed, nothing_the
 use Rattle.lois_simplify.proofs.Under.{normal_under}
 
 module _ (u : List (List Lit)) (n : ℕ) where
-  comp_kept : (k r : CompD) → IsSameWhere u n (set_of (only k)) (set_of (only r)) → (CompFits n k → CompFits n r) → ((o : Bool) → AdmitsComp o k → AdmitsComp o r) → (CompHasUsualWidths k → CompHasUsualWidths r) → depth_of_comp r ≤ depth_of_comp k → IsKept u n (set_of (only k)) (set_of (only r))
+  comp_kept : (k r : CompD) → IsSameWhere u n (set_of (only k)) (set_of (only r)) → (CompFits n k → CompFits n r) → ((o : Bool) → AdmitsComp o k → AdmitsComp o r) → (CompHasBoundedWidths k → CompHasBoundedWidths r) → depth_of_comp r ≤ depth_of_comp k → IsKept u n (set_of (only k)) (set_of (only r))
   comp_kept k r value levels operators widths deep = record {
     value = value;
     levels = λ f. (levels f.0, tt);
@@ -45,7 +45,7 @@ module _ (u : List (List Lit)) (n : ℕ) where
   }
 
   -- no members
-  pub nothing_kept : (m : ℕ) (g h : List (List Lit)) (t : TermD) → ConstraintFits n u → ((d : List Atom) → holds d h ≡ (holds d u && holds d g)) → (CanBeMet (n + m) h → ⊥) → IsKept u n (set_of (only (comp m g t))) (set_of [])
+  pub nothing_kept : (m : ℕ) (g h : List (List Lit)) (t : TermD) → ConstraintFits n u → ((d : List Atom) → holds d h ≡ (holds d u && holds d g)) → (ConstraintIsSatisfiable (n + m) h → ⊥) → IsKept u n (set_of (only (comp m g t))) (set_of [])
   nothing_kept m g h t fits here none = record {
     value = nothing_there u h n m g t fits here none;
     levels = λ f. tt;
@@ -153,7 +153,7 @@ module _ (n : ℕ) where
       binder_less u n m m' b 0 g h t s count e f from below some levels admits whole (unused_can_leave u n (n + m) b 0 g t unused)
 
 -- ---- a comprehension without binders, whose guard always holds
-pub always_open : (u : List (List Lit)) (n m : ℕ) (g : List (List Lit)) → m ≡ 0 → g ≡ [] ∷ [] → ConstraintFits n u → CanBeMet n u → IsOpen u n m g u
+pub always_open : (u : List (List Lit)) (n m : ℕ) (g : List (List Lit)) → m ≡ 0 → g ≡ [] ∷ [] → ConstraintFits n u → ConstraintIsSatisfiable n u → IsOpen u n m g u
 always_open u n m g none always fits met =
     let same : n ≡ n + m = omega (arith, none) in
     record {
@@ -161,7 +161,7 @@ always_open u n m g none always fits met =
       operators = λ o a b. a;
       here = always_adds_nothing u g always;
       guard = subst IsNormalised (sym always) always_is_normalised;
-      met = subst (λ j. CanBeMet j u) same met;
+      met = subst (λ j. ConstraintIsSatisfiable j u) same met;
       free = λ b from below. absurd (omega (arith, none, from, below));
     }
 

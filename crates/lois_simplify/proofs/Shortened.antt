@@ -12,7 +12,7 @@ use Rattle.lois_base.specs.Truth.{lit_holds, cube_holds, holds}
 use Rattle.lois_base.specs.Validity.{AdmitsLit, AdmitsCube, AdmitsConstraint}
 use Rattle.lois_base.specs.declared.guards.Lit.{Lit}
 use Rattle.lois_base.proofs.Both.{cubes_append, holds_append}
-use Rattle.lois_constraint.proofs.Denied.{alternatives_hold}
+use Rattle.lois_constraint.proofs.NegatedLiterals.{alternatives_hold}
 use Rattle.lois_constraint.specs.Alternatives.{alternatives}
 use Rattle.lois_simplify.specs.Shortened.{CubeEntails, IsWeakened, IsShortened}
 

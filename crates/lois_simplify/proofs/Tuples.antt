@@ -7,7 +7,7 @@ use Rattle.lois_base.specs.Data.{TermD, tup, terms_of, depth_of_parts}
 use Rattle.lois_base.specs.Fits.{PartsFit}
 use Rattle.lois_base.specs.Normal.{IsNormal, PartsAreNormal}
 use Rattle.lois_base.specs.Truth.{holds}
-use Rattle.lois_base.specs.Validity.{AdmitsParts, count_of_parts, PartsHaveUsualWidths}
+use Rattle.lois_base.specs.Validity.{AdmitsParts, count_of_parts, PartsHaveBoundedWidths}
 use Rattle.lois_base.specs.Values.{SamePartsAt}
 use Rattle.lois_base.specs.declared.guards.Lit.{Lit}
 use Rattle.lois_simplify.specs.Kept.{IsKept}
@@ -56,7 +56,7 @@ module _ (u : List (List Lit)) (n : ℕ) where
   parts_count (t ∷ ts) [] h = absurd h
   parts_count (t ∷ ts) (s ∷ ss) h = ap suc (parts_count ts ss h.1)
 
-  parts_widths : (ts ss : List TermD) → PartsSimplified ts ss → PartsHaveUsualWidths (terms_of ts) → PartsHaveUsualWidths (terms_of ss)
+  parts_widths : (ts ss : List TermD) → PartsSimplified ts ss → PartsHaveBoundedWidths (terms_of ts) → PartsHaveBoundedWidths (terms_of ss)
   parts_widths [] [] h f = f
   parts_widths [] (s ∷ ss) h f = absurd h
   parts_widths (t ∷ ts) [] h f = absurd h

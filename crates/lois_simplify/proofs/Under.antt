@@ -5,7 +5,7 @@ use Rattle.std.specs.Bool.{IsTrue}
 use Rattle.std.specs.List.{Contains}
 use Rattle.lois_base.specs.Atom.{Atom}
 use Rattle.lois_base.specs.Data.{TermD, var, tag, tup, coll, TermsD, no_terms, term, CompD, comp, CompsD, no_comps, more, comps_of}
-use Rattle.lois_base.specs.Normal.{both, joined, Meets, IsLean, IsNormal, PartsAreNormal, EachIsNormal, IsNormalComp}
+use Rattle.lois_base.specs.Normal.{both, joined, Satisfies, IsIrredundant, IsNormal, PartsAreNormal, EachIsNormal, IsNormalComp}
 use Rattle.lois_base.specs.Truth.{holds}
 use Rattle.lois_base.specs.declared.guards.Lit.{Lit}
 use Rattle.lois_base.proofs.Both.{holds_both}
@@ -16,10 +16,10 @@ module _ (u v : List (List Lit)) (same : (c : List Atom) → holds c u ≡ holds
   pub both_same : (g : List (List Lit)) (c : List Atom) → holds c (both u g) ≡ holds c (both v g)
   both_same g c = holds_both c u g ∙ (ap (λ b. b && holds c g) (same c) ∙ sym (holds_both c v g))
 
-  meets_same : (n : ℕ) (g : List (List Lit)) (c : List Atom) → Meets n (both u g) c → Meets n (both v g) c
+  meets_same : (n : ℕ) (g : List (List Lit)) (c : List Atom) → Satisfies n (both u g) c → Satisfies n (both v g) c
   meets_same n g c m = record { count = m.count; met = subst IsTrue (both_same g c) m.met }
 
-  lean_same : (m : ℕ) (g : List (List Lit)) (t : TermD) (others : CompsD) (n : ℕ) → IsLean m g t others u n → IsLean m g t others v n
+  lean_same : (m : ℕ) (g : List (List Lit)) (t : TermD) (others : CompsD) (n : ℕ) → IsIrredundant m g t others u n → IsIrredundant m g t others v n
   lean_same m g t others n l = record {
     met = (l.met.0, meets_same (n + m) g l.met.0 l.met.1);
     used = l.used;

@@ -4,7 +4,7 @@ use Rattle.lois_base.specs.Atom.{Atom}
 use Rattle.lois_base.specs.Data.{TermD, coll, CompD, comps_of, depth}
 use Rattle.lois_base.specs.Fits.{Fits}
 use Rattle.lois_base.specs.Truth.{holds}
-use Rattle.lois_base.specs.Validity.{AdmitsTerm, HasUsualWidths}
+use Rattle.lois_base.specs.Validity.{AdmitsTerm, HasBoundedWidths}
 use Rattle.lois_base.specs.Values.{point, IsSame}
 use Rattle.lois_base.specs.declared.guards.Lit.{Lit}
 
@@ -17,7 +17,7 @@ pub record IsKept (u : List (List Lit)) (n : ℕ) (t r : TermD) : Type 0 where
   pub value : IsSameWhere u n t r
   pub levels : Fits n t → Fits n r
   pub operators : (ordered : Bool) → AdmitsTerm ordered t → AdmitsTerm ordered r
-  pub widths : HasUsualWidths t → HasUsualWidths r
+  pub widths : HasBoundedWidths t → HasBoundedWidths r
   pub depth : depth r ≤ depth t
 
 -- the set with these comprehensions

@@ -10,7 +10,7 @@ use Rattle.lois_base.specs.Validity.{AdmitsConstraint}
 use Rattle.lois_base.specs.declared.guards.Lit.{Lit}
 use Rattle.lois_base.specs.declared.values.Comp.{Comp}
 use Rattle.lois_constraint.specs.Normalised.{IsNormalised}
-use Rattle.lois_deciders.specs.Asked.{CanBeMet}
+use Rattle.lois_deciders.specs.Satisfaction.{ConstraintIsSatisfiable}
 use Rattle.lois_simplify.specs.Fixed.{CanBeApart}
 use Rattle.lois_simplify.specs.Kept.{IsKept, set_of}
 use Rattle.lois_simplify.specs.Lean.{IsLeanComp}
@@ -41,7 +41,7 @@ pub record IsOpen (u : List (List Lit)) (n m : ℕ) (g h : List (List Lit)) : Ty
   pub operators : (ordered : Bool) → AdmitsConstraint ordered u → AdmitsConstraint ordered g → AdmitsConstraint ordered h
   pub here : (c : List Atom) → holds c h ≡ (holds c u && holds c g)
   pub guard : IsNormalised g
-  pub met : CanBeMet (n + m) h
+  pub met : ConstraintIsSatisfiable (n + m) h
   pub free : (b : ℕ) → n ≤ b → b < n + m → (a : ℕ) → a < b → CanBeApart (n + m) h b a
 
 abbrev pub IsOpeningOf : List (List Lit) → ℕ → Comp → Opening → Type 0

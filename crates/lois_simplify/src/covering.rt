@@ -13,11 +13,11 @@ ghost use Rattle.lois_simplify.specs.Kept.{IsKept, set_of};
 ghost use Rattle.lois_simplify.specs.Lean.{IsLeanComp, HasOwn, EachHasOwn};
 ghost use Rattle.lois_simplify.specs.Covered.{IsCovered};
 
-use crate::answering::Answers;
 use crate::guards::inside;
+use crate::oracle::Oracle;
 use lois_base::{Comp, Comps, Constraint, Formula, NoMemory, Structure, Term};
 use lois_elim::quantifier_free;
-use lois_relate::building::{either, is_never};
+use lois_relate::building::{disjunction, is_false_formula};
 use lois_relate::item_formula;
 use std::alloc::Global;
 use std::mem;
@@ -39,12 +39,12 @@ fn item_among(
 {
     let before = item_formula(alloc, &comp.item, kept.as_slice(), size, comp.binders)?;
     let behind = item_formula(alloc, &comp.item, coming, size, comp.binders)?;
-    either(alloc, before, behind)
+    disjunction(alloc, before, behind)
 }
 
 // Whether those before it and behind it have each member of the comprehension wherever `under` holds. Where none of them can
 // have the item, they haven't the members that the comprehension has.
-fn is_covered<T: Structure, D: Answers>(
+fn is_covered<T: Structure, D: Oracle>(
     alloc: Global,
     comp: &Comp,
     kept: &Comps,
@@ -67,7 +67,7 @@ fn is_covered<T: Structure, D: Answers>(
     ensures asked { D.reaches decider.old decider.new }
 {
     let membership = item_among(alloc, comp, kept, coming, size)?;
-    if is_never(&membership) {
+    if is_false_formula(&membership) {
         return Ok(false);
     }
     let inner = size + comp.binders;
@@ -90,7 +90,7 @@ fn moved_away(alloc: Global) -> Comp
 
 /// The comprehensions without those whose members the others have wherever `under` holds. One pass serves, since the others
 /// only get fewer.
-pub(crate) fn uncovered<T: Structure, D: Answers>(
+pub(crate) fn uncovered<T: Structure, D: Oracle>(
     alloc: Global,
     comps: Comps,
     under: &Constraint,

@@ -6,10 +6,10 @@ ghost use Rattle.lois_base.specs.Fits.{ConstraintFits};
 ghost use Rattle.lois_base.specs.Normal.{Occurs};
 ghost use Rattle.lois_base.specs.Tree.{tree};
 ghost use Rattle.lois_base.specs.Truth.{holds};
-ghost use Rattle.lois_deciders.specs.Asked.{Meets, CanBeMet};
+ghost use Rattle.lois_deciders.specs.Satisfaction.{IsConstraintSample, ConstraintIsSatisfiable};
 ghost use Rattle.lois_simplify.specs.Fixed.{IsFixed, CanBeApart};
 
-use crate::answering::Answers;
+use crate::oracle::Oracle;
 use lois_base::{Constraint, Cube, Lit, NoMemory, Op, Term};
 use lois_constraint::and;
 use lois_terms::occurs;
@@ -38,7 +38,7 @@ fn apart(alloc: Global, left: usize, right: usize) -> Result<Constraint, NoMemor
 
 // Whether the binder has the atom of the level wherever the constraint holds. The sample tells of most pairs that they can
 // differ. A question needs no pruned constraint.
-fn is_fixed<D: Answers>(
+fn is_fixed<D: Oracle>(
     alloc: Global,
     here: &Constraint,
     size: usize,
@@ -51,7 +51,7 @@ fn is_fixed<D: Answers>(
     requires here { ConstraintFits size here.now }
     requires binder { binder < size }
     requires level { level < size }
-    requires sample { Meets size here.now sample.now }
+    requires sample { IsConstraintSample size here.now sample.now }
     ensures fixed { IfOk result (λ b. IsTrue b → IsFixed size here.now binder level) }
     ensures free { IfOk result (λ b. IsFalse b → CanBeApart size here.now binder level) }
     ensures asked { D.reaches decider.old decider.new }
@@ -64,7 +64,7 @@ fn is_fixed<D: Answers>(
     Ok(other.is_none())
 }
 
-fn fixed_level<D: Answers>(
+fn fixed_level<D: Oracle>(
     alloc: Global,
     here: &Constraint,
     size: usize,
@@ -75,7 +75,7 @@ fn fixed_level<D: Answers>(
     requires sound { D.sound }
     requires here { ConstraintFits size here.now }
     requires binder { binder < size }
-    requires sample { Meets size here.now sample.now }
+    requires sample { IsConstraintSample size here.now sample.now }
     ensures some { IfOk result (λ o. IfSome o (λ a. (a < binder) × IsFixed size here.now binder a)) }
     ensures none { IfOk result (λ o. IsNone o → (a : ℕ) → a < binder → CanBeApart size here.now binder a) }
     ensures asked { D.reaches decider.old decider.new }
@@ -89,7 +89,7 @@ fn fixed_level<D: Answers>(
 }
 
 /// The first binder from `from` on that is fixed to an earlier level wherever the constraint holds, with that level.
-pub(crate) fn fixed_binder<D: Answers>(
+pub(crate) fn fixed_binder<D: Oracle>(
     alloc: Global,
     here: &Constraint,
     from: usize,
@@ -99,7 +99,7 @@ pub(crate) fn fixed_binder<D: Answers>(
 ) -> Result<Option<Fixed>, NoMemory>
     requires sound { D.sound }
     requires here { ConstraintFits size here.now }
-    requires sample { Meets size here.now sample.now }
+    requires sample { IsConstraintSample size here.now sample.now }
     ensures range { IfOk result (λ o. IfSome o (λ f. (from ≤ f.binder) × (f.binder < size) × (f.level < f.binder))) }
     ensures some { IfOk result (λ o. IfSome o (λ f. IsFixed size here.now f.binder f.level)) }
     ensures none { IfOk result (λ o. IsNone o → (b : ℕ) → from ≤ b → b < size → (a : ℕ) → a < b → CanBeApart size here.now b a) }

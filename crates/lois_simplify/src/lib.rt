@@ -1,12 +1,12 @@
 //! Normal terms: the same values with as few comprehensions and binders as they need.
 #![tactic(auto)]
 
-mod answering;
 mod covering;
 mod distinct;
 mod fixing;
 mod guards;
 mod moving;
+mod oracle;
 mod rounds;
 mod shortening;
 mod simplifying;

@@ -4,13 +4,13 @@ ghost use Rattle.std.specs.Prelude.{◌≡◌, ◌+◌, ◌≤◌, [], ◌∷◌
 ghost use Rattle.lois_base.specs.Fits.{ConstraintFits, CompFits};
 ghost use Rattle.lois_base.specs.Tree.{comp_of};
 ghost use Rattle.lois_base.specs.Validity.{AdmitsComp};
-ghost use Rattle.lois_deciders.specs.Asked.{CanBeMet};
+ghost use Rattle.lois_deciders.specs.Satisfaction.{ConstraintIsSatisfiable};
 ghost use Rattle.lois_simplify.specs.Rounds.{IsOpeningOf, IsClosingOf, IsKeptEverywhere};
 
-use crate::answering::Answers;
 use crate::fixing::{fixed_binder, unused_binder};
 use crate::guards::is_always;
 use crate::moving::without_binder;
+use crate::oracle::Oracle;
 use crate::shortening::shortened;
 use lois_base::{Comp, Constraint, NoMemory, Structure};
 use lois_constraint::normalise;
@@ -65,7 +65,7 @@ fn has_one_member(alloc: Global, comp: &Comp) -> Result<bool, NoMemory>
 /// Drops a comprehension without members, and leaves out the first binder that is fixed. Binders that the item doesn't use go
 /// before any decider is asked. `met` says that `under` is known to be met somewhere: then nothing is asked about a comprehension
 /// that has one member at each choice.
-pub(crate) fn open_round<T: Structure, D: Answers>(
+pub(crate) fn open_round<T: Structure, D: Oracle>(
     alloc: Global,
     comp: Comp,
     under: &Constraint,
@@ -77,7 +77,7 @@ pub(crate) fn open_round<T: Structure, D: Answers>(
     requires levels { CompFits size (comp_of comp) }
     requires under_levels { ConstraintFits size under.now }
     requires operators { AdmitsComp T.ordered (comp_of comp) }
-    requires met { IsTrue met → CanBeMet size under.now }
+    requires met { IsTrue met → ConstraintIsSatisfiable size under.now }
     ensures opening { IfOk result (IsOpeningOf under.now size comp) }
     ensures asked { D.reaches decider.old decider.new }
 {
@@ -91,7 +91,7 @@ pub(crate) fn open_round<T: Structure, D: Answers>(
 }
 
 // The same where a decider has to be asked.
-fn open_asked<T: Structure, D: Answers>(
+fn open_asked<T: Structure, D: Oracle>(
     alloc: Global,
     comp: Comp,
     under: &Constraint,

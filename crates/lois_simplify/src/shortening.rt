@@ -6,7 +6,7 @@ ghost use Rattle.lois_base.specs.Truth.{lit_holds, cube_holds, holds};
 ghost use Rattle.lois_simplify.specs.Shortened.{IsWeakened, IsShortened};
 
 use lois_base::{Constraint, Cube, Lit, NoMemory};
-use lois_constraint::{alternatives, has_cube, prune};
+use lois_constraint::{alternatives, covers_cube, prune};
 use std::alloc::Global;
 
 fn constraint_of(alloc: Global, cubes: Vec<Cube>) -> Result<Constraint, NoMemory>
@@ -51,7 +51,7 @@ fn has_gained(
     let turned = alternatives(alloc, lit)?;
     for other in turned.as_slice() {
         let gained = longer_cube(alloc, without, *other)?;
-        if !has_cube(alloc, others, &gained, under)? {
+        if !covers_cube(alloc, others, &gained, under)? {
             return Ok(false);
         }
     }
@@ -89,7 +89,7 @@ fn turned(alloc: Global, constraint: Constraint, under: &Constraint) -> Result<C
     let mut cubes = constraint.into_vec();
     let first = cubes.remove(0);
     let mut others = constraint_of(alloc, cubes)?;
-    if has_cube(alloc, &others, &first, under)? {
+    if covers_cube(alloc, &others, &first, under)? {
         return Ok(others);
     }
     let short = weakened(alloc, &first, &others, under)?;

@@ -6,18 +6,18 @@ ghost use Rattle.lois_base.specs.Data.{depth, tup, terms_of, comps_of};
 ghost use Rattle.lois_base.specs.Fits.{ConstraintFits, Fits, PartsFit, CompFits, ItemsFit};
 ghost use Rattle.lois_base.specs.Normal.{IsNormal, PartsAreNormal};
 ghost use Rattle.lois_base.specs.Tree.{tree, comp_of};
-ghost use Rattle.lois_base.specs.Validity.{AdmitsConstraint, AdmitsTerm, AdmitsParts, AdmitsComp, AdmitsItems, HasUsualWidths};
-ghost use Rattle.lois_deciders.specs.Asked.{Meets, CanBeMet, Parts, IsEntailed};
-ghost use Rattle.lois_deciders.specs.Met.{AreMet, ExcludeEachOther};
+ghost use Rattle.lois_base.specs.Validity.{AdmitsConstraint, AdmitsTerm, AdmitsParts, AdmitsComp, AdmitsItems, HasBoundedWidths};
+ghost use Rattle.lois_deciders.specs.Satisfaction.{IsConstraintSample, ConstraintIsSatisfiable, IsCounterexample, IsEntailed};
+ghost use Rattle.lois_deciders.specs.Conjunction.{IsSampledConjunction, AreInconsistent};
 ghost use Rattle.lois_deciders.specs.OnlyAsked.{HasOnlyAsked};
 ghost use Rattle.lois_simplify.specs.Kept.{IsKept, IsSameWhere, set_of};
 ghost use Rattle.lois_simplify.specs.Lean.{HasNormalGuards, PartsHaveNormalGuards, IsLeanComp};
 ghost use Rattle.lois_simplify.specs.Rounds.{only, listed, IsRoundOf};
 
-use crate::answering::{Answers, Asking};
 use crate::covering::uncovered;
 use crate::distinct::distinct;
 use crate::guards::is_always;
+use crate::oracle::{Oracle, Queries};
 use crate::rounds::{Open, Opening, Round, close_round, open_round};
 use lois_base::{Comp, Comps, Constraint, Decider, NoMemory, Structure, Term, Terms};
 use lois_deciders::Chosen;
@@ -42,31 +42,31 @@ pub fn simplify<T: Structure>(
     ensures guards { IfOk result (λ r. HasNormalGuards (tree r)) }
     ensures levels { IfOk result (λ r. Fits size (tree r)) }
     ensures operators { IfOk result (λ r. (ordered : Bool) → AdmitsTerm ordered (tree term.now) → AdmitsTerm ordered (tree r)) }
-    ensures widths { IfOk result (λ r. HasUsualWidths (tree term.now) → HasUsualWidths (tree r)) }
+    ensures widths { IfOk result (λ r. HasBoundedWidths (tree term.now) → HasBoundedWidths (tree r)) }
     ensures depth { IfOk result (λ r. depth (tree r) ≤ depth (tree term.now)) }
 
     // whatever is answered
     ensures only_asked { HasOnlyAsked (λ b. (⟦<dyn Decider as Decider>⟧ b.vtable).kind_of b.value) (λ b. (⟦<dyn Decider as Decider>⟧ b.vtable).questions b.value) chosen.old chosen.new }
 {
-    let mut asking = Asking {
+    let mut asking = Queries {
         decider: chosen,
         sample: |asked: &mut Chosen, alloc: Global, c: &Constraint, size: usize|
             requires levels { ConstraintFits size c.now }
-            ensures some { IfOk result (λ o. IfSome o (λ s. Meets size c.now s.items)) }
-            ensures none { IfOk result (λ o. IsNone o ↔ (CanBeMet size c.now → ⊥)) }
+            ensures some { IfOk result (λ o. IfSome o (λ s. IsConstraintSample size c.now s.items)) }
+            ensures none { IfOk result (λ o. IsNone o ↔ (ConstraintIsSatisfiable size c.now → ⊥)) }
             ensures only_asked { HasOnlyAsked (λ b. kind_of (b.vtable, b.value)) (λ b. questions (b.vtable, b.value)) asked.old asked.new }
         { asked.ask(alloc, c, size) },
         both: |asked: &mut Chosen, alloc: Global, a: &Constraint, b: &Constraint, size: usize|
             requires first { ConstraintFits size a.now }
             requires second { ConstraintFits size b.now }
-            ensures met { IfOk result (λ o. IfSome o (λ m. AreMet size a.now b.now m.constraint m.sample)) }
-            ensures none { IfOk result (λ o. IsNone o ↔ ExcludeEachOther size a.now b.now) }
+            ensures met { IfOk result (λ o. IfSome o (λ m. IsSampledConjunction size a.now b.now m.constraint m.sample)) }
+            ensures none { IfOk result (λ o. IsNone o ↔ AreInconsistent size a.now b.now) }
             ensures only_asked { HasOnlyAsked (λ b. kind_of (b.vtable, b.value)) (λ b. questions (b.vtable, b.value)) asked.old asked.new }
         { asked.meet(alloc, a, b, size) },
         counterexample: |asked: &mut Chosen, alloc: Global, c: &Constraint, d: &Constraint, size: usize|
             requires first { ConstraintFits size c.now }
             requires second { ConstraintFits size d.now }
-            ensures some { IfOk result (λ o. IfSome o (λ s. Parts size c.now d.now s.items)) }
+            ensures some { IfOk result (λ o. IfSome o (λ s. IsCounterexample size c.now d.now s.items)) }
             ensures none { IfOk result (λ o. IsNone o ↔ IsEntailed size c.now d.now) }
             ensures only_asked { HasOnlyAsked (λ b. kind_of (b.vtable, b.value)) (λ b. questions (b.vtable, b.value)) asked.old asked.new }
         { asked.entails(alloc, c, d, size) },
@@ -100,7 +100,7 @@ fn may_have_sets(term: &Term) -> bool {
 }
 
 // Whether `under` is known to be met somewhere. That isn't asked for a term without sets.
-fn is_known_met<D: Answers>(
+fn is_known_met<D: Oracle>(
     alloc: Global,
     term: &Term,
     under: &Constraint,
@@ -109,7 +109,7 @@ fn is_known_met<D: Answers>(
 ) -> Result<bool, NoMemory>
     requires sound { D.sound }
     requires levels { ConstraintFits size under.now }
-    ensures met { IfOk result (λ b. IsTrue b → CanBeMet size under.now) }
+    ensures met { IfOk result (λ b. IsTrue b → ConstraintIsSatisfiable size under.now) }
     ensures asked { D.reaches decider.old decider.new }
 {
     if !may_have_sets(term) {
@@ -123,7 +123,7 @@ fn is_known_met<D: Answers>(
 }
 
 // A copy of the term, simplified: below, whatever is kept is moved.
-fn simplified_copy<T: Structure, D: Answers>(
+fn simplified_copy<T: Structure, D: Oracle>(
     alloc: Global,
     term: &Term,
     under: &Constraint,
@@ -146,7 +146,7 @@ fn simplified_copy<T: Structure, D: Answers>(
 }
 
 #[cycle(simplifying)]
-fn simplified<T: Structure, D: Answers>(
+fn simplified<T: Structure, D: Oracle>(
     alloc: Global,
     term: Term,
     under: &Constraint,
@@ -157,7 +157,7 @@ fn simplified<T: Structure, D: Answers>(
     requires sound { D.sound }
     requires levels { Fits size (tree term) }
     requires under_levels { ConstraintFits size under.now }
-    requires met { IsTrue met → CanBeMet size under.now }
+    requires met { IsTrue met → ConstraintIsSatisfiable size under.now }
     requires operators { AdmitsTerm T.ordered (tree term) }
     requires under_operators { AdmitsConstraint T.ordered under.now }
     ensures kept { IfOk result (λ r. IsKept under.now size (tree term) (tree r)) }
@@ -179,7 +179,7 @@ fn simplified<T: Structure, D: Answers>(
 }
 
 #[cycle(simplifying)]
-fn simplified_parts<T: Structure, D: Answers>(
+fn simplified_parts<T: Structure, D: Oracle>(
     alloc: Global,
     parts: Terms,
     under: &Constraint,
@@ -190,7 +190,7 @@ fn simplified_parts<T: Structure, D: Answers>(
     requires sound { D.sound }
     requires levels { PartsFit size (terms_of parts) }
     requires under_levels { ConstraintFits size under.now }
-    requires met { IsTrue met → CanBeMet size under.now }
+    requires met { IsTrue met → ConstraintIsSatisfiable size under.now }
     requires operators { AdmitsParts T.ordered (terms_of parts) }
     requires under_operators { AdmitsConstraint T.ordered under.now }
     ensures kept { IfOk result (λ r. IsKept under.now size (tup (terms_of parts)) (tup (terms_of r))) }
@@ -208,7 +208,7 @@ fn simplified_parts<T: Structure, D: Answers>(
 // Each comprehension made lean by itself. Those that are written alike are cut first, before a decider is asked, and again
 // at the end.
 #[cycle(simplifying)]
-fn lean_comps<T: Structure, D: Answers>(
+fn lean_comps<T: Structure, D: Oracle>(
     alloc: Global,
     comps: Comps,
     under: &Constraint,
@@ -219,7 +219,7 @@ fn lean_comps<T: Structure, D: Answers>(
     requires sound { D.sound }
     requires levels { ItemsFit size (comps_of comps) }
     requires under_levels { ConstraintFits size under.now }
-    requires met { IsTrue met → CanBeMet size under.now }
+    requires met { IsTrue met → ConstraintIsSatisfiable size under.now }
     requires operators { AdmitsItems T.ordered (comps_of comps) }
     requires under_operators { AdmitsConstraint T.ordered under.now }
     ensures kept { IfOk result (λ r. IsKept under.now size (set_of comps) (set_of r)) }
@@ -238,7 +238,7 @@ fn lean_comps<T: Structure, D: Answers>(
 
 // The comprehension made lean by itself, or `None` where it has no members.
 #[cycle(simplifying)]
-fn lean_comp<T: Structure, D: Answers>(
+fn lean_comp<T: Structure, D: Oracle>(
     alloc: Global,
     comp: Comp,
     under: &Constraint,
@@ -249,7 +249,7 @@ fn lean_comp<T: Structure, D: Answers>(
     requires sound { D.sound }
     requires levels { CompFits size (comp_of comp) }
     requires under_levels { ConstraintFits size under.now }
-    requires met { IsTrue met → CanBeMet size under.now }
+    requires met { IsTrue met → ConstraintIsSatisfiable size under.now }
     requires operators { AdmitsComp T.ordered (comp_of comp) }
     requires under_operators { AdmitsConstraint T.ordered under.now }
     ensures kept { IfOk result (λ o. IsKept under.now size (set_of (only (comp_of comp))) (set_of (listed o))) }
@@ -268,7 +268,7 @@ fn lean_comp<T: Structure, D: Answers>(
 
 // Whatever a round has changed is looked at afresh in the next one.
 #[cycle(simplifying)]
-fn one_round<T: Structure, D: Answers>(
+fn one_round<T: Structure, D: Oracle>(
     alloc: Global,
     comp: Comp,
     under: &Constraint,
@@ -279,7 +279,7 @@ fn one_round<T: Structure, D: Answers>(
     requires sound { D.sound }
     requires levels { CompFits size (comp_of comp) }
     requires under_levels { ConstraintFits size under.now }
-    requires met { IsTrue met → CanBeMet size under.now }
+    requires met { IsTrue met → ConstraintIsSatisfiable size under.now }
     requires operators { AdmitsComp T.ordered (comp_of comp) }
     requires under_operators { AdmitsConstraint T.ordered under.now }
     ensures round { IfOk result (IsRoundOf under.now size comp) }

@@ -7,20 +7,20 @@ use Rattle.lois_script.specs.Grammar.{placed}
 use Rattle.lois_script.specs.Limits.{Spells}
 use Rattle.lois_script.specs.Tree.{ScriptD}
 use Rattle.lois_descent.specs.Descent as descent
-use Rattle.lois_descent.specs.Reading.{Stops, refusal_of}
-use Rattle.lois_descent.specs.Laws.{Judged}
+use Rattle.lois_descent.specs.Reading.{ErrorIs, refusal_of}
+use Rattle.lois_descent.specs.Laws.{IsCorrectResult}
 use Rattle.lois_descent.specs.Refusals.{Refused}
 use Rattle.lois_syntax.specs.Causes.{error_of}
-use Rattle.lois_syntax.specs.Refusals.{Refuses, refusal, tokens_in}
+use Rattle.lois_syntax.specs.Refusals.{IsSyntaxRefusal, refusal, tokens_in}
 use Rattle.lois_syntax.specs.declared.SyntaxError.{SyntaxError}
 use Rattle.lois_syntax.specs.declared.SyntaxError.TheVariants as errors
-use Rattle.lois_descent.specs.declared.halt.Halt.{Halt}
-use Rattle.lois_descent.specs.declared.halt.Halt.TheVariants.{NoScript, TooNested, WideTuple, TurnsTooMany, NoMemory}
+use Rattle.lois_descent.specs.declared.parse_error.ParseError.{ParseError}
+use Rattle.lois_descent.specs.declared.parse_error.ParseError.TheVariants.{NoScript, TooNested, WideTuple, TurnsTooMany, NoMemory}
 use Rattle.lois_descent.proofs.DescendsScript.{script_reads}
 use Rattle.lois_descent.proofs.OneStatement.{one_script_of_text}
 use Rattle.lois_syntax.proofs.Refusing.{never_both, one_refusal}
 
-refusal_is : (count : ℕ) (h : Halt) → refusal_of count h ≡ refusal (error_of count h)
+refusal_is : (count : ℕ) (h : ParseError) → refusal_of count h ≡ refusal (error_of count h)
 refusal_is count (NoScript left) = refl
 refusal_is count (TooNested left) = refl
 refusal_is count (WideTuple left) = refl
@@ -30,28 +30,28 @@ refusal_is count NoMemory = refl
 module _ (text : List ℕ) (tokens : List Token) (cut : HasTokens text tokens) where
   pub spells : (s : ScriptD) → descent.script (tokens_in text tokens) ≡ Ok s → Spells text s
   spells s e =
-      let found : Judged (tokens_in text tokens) (Ok s) = subst (Judged (tokens_in text tokens)) e (script_reads (tokens_in text tokens)) in
+      let found : IsCorrectResult (tokens_in text tokens) (Ok s) = subst (IsCorrectResult (tokens_in text tokens)) e (script_reads (tokens_in text tokens)) in
       record { tokens = tokens; cut = cut; script = found.0; nesting = found.1; forms = found.2 }
 
   count : length (tokens_in text tokens) ≡ length tokens
   count = length-map tokens (placed text)
 
-  refused_by : (h : Halt) → descent.script (tokens_in text tokens) ≡ Err h → Refuses (tokens_in text tokens) (error_of (length tokens) h)
+  refused_by : (h : ParseError) → descent.script (tokens_in text tokens) ≡ Err h → IsSyntaxRefusal (tokens_in text tokens) (error_of (length tokens) h)
   refused_by h e =
-      let found : Judged (tokens_in text tokens) (Err h) = subst (Judged (tokens_in text tokens)) e (script_reads (tokens_in text tokens)) in
-      subst (λ n. Refuses (tokens_in text tokens) (error_of n h)) count (subst (Refused (tokens_in text tokens)) (refusal_is (length (tokens_in text tokens)) h) found.1)
+      let found : IsCorrectResult (tokens_in text tokens) (Err h) = subst (IsCorrectResult (tokens_in text tokens)) e (script_reads (tokens_in text tokens)) in
+      subst (λ n. IsSyntaxRefusal (tokens_in text tokens) (error_of n h)) count (subst (Refused (tokens_in text tokens)) (refusal_is (length (tokens_in text tokens)) h) found.1)
 
-  pub refuses : (h : Halt) → Stops h (descent.script (tokens_in text tokens)) → error_of (length tokens) h ≢ errors.NoMemory → Refuses (tokens_in text tokens) (error_of (length tokens) h)
+  pub refuses : (h : ParseError) → ErrorIs h (descent.script (tokens_in text tokens)) → error_of (length tokens) h ≢ errors.NoMemory → IsSyntaxRefusal (tokens_in text tokens) (error_of (length tokens) h)
   refuses (NoScript left) e some = refused_by (NoScript left) e
   refuses (TooNested left) e some = refused_by (TooNested left) e
   refuses (WideTuple left) e some = refused_by (WideTuple left) e
   refuses (TurnsTooMany left) e some = refused_by (TurnsTooMany left) e
   refuses NoMemory e some = absurd (some refl)
 
-  never : (h : Halt) → descent.script (tokens_in text tokens) ≡ Err h → (s : ScriptD) → Spells text s → ⊥
+  never : (h : ParseError) → descent.script (tokens_in text tokens) ≡ Err h → (s : ScriptD) → Spells text s → ⊥
   never h e s spelled = never_both text tokens s (error_of (length tokens) h) cut spelled (refused_by h e)
 
-  pub accepts : (h : Halt) → Stops h (descent.script (tokens_in text tokens)) → (s : ScriptD) → Spells text s → error_of (length tokens) h ≡ errors.NoMemory
+  pub accepts : (h : ParseError) → ErrorIs h (descent.script (tokens_in text tokens)) → (s : ScriptD) → Spells text s → error_of (length tokens) h ≡ errors.NoMemory
   accepts (NoScript left) e s spelled = absurd (never (NoScript left) e s spelled)
   accepts (TooNested left) e s spelled = absurd (never (TooNested left) e s spelled)
   accepts (WideTuple left) e s spelled = absurd (never (WideTuple left) e s spelled)
@@ -62,14 +62,14 @@ module _ (text : List ℕ) (tokens : List Token) (cut : HasTokens text tokens) w
   pub those : (s : ScriptD) → descent.script (tokens_in text tokens) ≡ Ok s → (other : ScriptD) → Spells text other → s ≡ other
   those s e other spelled = one_script_of_text text s other (spells s e) spelled
 
-  pub never_refused : (s : ScriptD) → descent.script (tokens_in text tokens) ≡ Ok s → (error : SyntaxError) → Refuses (tokens_in text tokens) error → ⊥
+  pub never_refused : (s : ScriptD) → descent.script (tokens_in text tokens) ≡ Ok s → (error : SyntaxError) → IsSyntaxRefusal (tokens_in text tokens) error → ⊥
   never_refused s e error refused = never_both text tokens s error cut (spells s e) refused
 
-  only : (h : Halt) → descent.script (tokens_in text tokens) ≡ Err h → (error : SyntaxError) → Refuses (tokens_in text tokens) error → error_of (length tokens) h ≡ error
+  only : (h : ParseError) → descent.script (tokens_in text tokens) ≡ Err h → (error : SyntaxError) → IsSyntaxRefusal (tokens_in text tokens) error → error_of (length tokens) h ≡ error
   only h e error refused = one_refusal (tokens_in text tokens) (error_of (length tokens) h) error (refused_by h e) refused
 
   -- the tokens are refused in this way alone, unless memory ran out
-  pub refuses_so : (h : Halt) → Stops h (descent.script (tokens_in text tokens)) → (error : SyntaxError) → Refuses (tokens_in text tokens) error → (error_of (length tokens) h ≡ error) ⊎ (error_of (length tokens) h ≡ errors.NoMemory)
+  pub refuses_so : (h : ParseError) → ErrorIs h (descent.script (tokens_in text tokens)) → (error : SyntaxError) → IsSyntaxRefusal (tokens_in text tokens) error → (error_of (length tokens) h ≡ error) ⊎ (error_of (length tokens) h ≡ errors.NoMemory)
   refuses_so (NoScript left) e error refused = inl (only (NoScript left) e error refused)
   refuses_so (TooNested left) e error refused = inl (only (TooNested left) e error refused)
   refuses_so (WideTuple left) e error refused = inl (only (WideTuple left) e error refused)

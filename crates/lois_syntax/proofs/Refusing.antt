@@ -5,7 +5,7 @@ use Rattle.lois_descent.specs.Refusals as refusals
 use Rattle.lois_descent.specs.Refusals.{Refusal}
 use Rattle.lois_descent.proofs.Refusing as below
 use Rattle.lois_syntax.specs.Laws.{NeverBoth}
-use Rattle.lois_syntax.specs.Refusals.{Refuses, refusal}
+use Rattle.lois_syntax.specs.Refusals.{IsSyntaxRefusal, refusal}
 use Rattle.lois_syntax.specs.declared.SyntaxError.{SyntaxError}
 use Rattle.lois_syntax.specs.declared.SyntaxError.TheVariants.{NoScript, TooNested, WideTuple, TurnsTooMany, NoMemory}
 
@@ -24,7 +24,7 @@ back (WideTuple k) = refl
 back (TurnsTooMany k) = refl
 back NoMemory = refl
 
-pub one_refusal : (ts : List PlacedToken) (a b : SyntaxError) → Refuses ts a → Refuses ts b → a ≡ b
+pub one_refusal : (ts : List PlacedToken) (a b : SyntaxError) → IsSyntaxRefusal ts a → IsSyntaxRefusal ts b → a ≡ b
 one_refusal ts a b f g = sym (back a) ∙ ap error_for (below.one_refusal ts (refusal a) (refusal b) f g) ∙ back b
 
 pub never_both : NeverBoth

@@ -1,7 +1,7 @@
 -- The number and the words of each cause of a refusal, and which error a halt of the reader is.
 use Rattle.std.specs.Prelude.{ℕ, ◌-◌, List, codes}
-use Rattle.lois_descent.specs.declared.halt.Halt.{Halt}
-use Rattle.lois_descent.specs.declared.halt.Halt.TheVariants as halts
+use Rattle.lois_descent.specs.declared.parse_error.ParseError.{ParseError}
+use Rattle.lois_descent.specs.declared.parse_error.ParseError.TheVariants as parse_errors
 use Rattle.lois_syntax.specs.declared.SyntaxError.{SyntaxError}
 use Rattle.lois_syntax.specs.declared.SyntaxError.TheVariants.{NoScript, TooNested, WideTuple, TurnsTooMany, NoMemory}
 
@@ -21,9 +21,9 @@ cause_text (TurnsTooMany at) = codes "turns over 1000000"
 cause_text NoMemory = codes "out of memory"
 
 -- the error that a halt is, where there are so many tokens
-abbrev pub error_of : ℕ → Halt → SyntaxError
-error_of count (halts.NoScript left) = NoScript (count - left)
-error_of count (halts.TooNested left) = TooNested (count - left)
-error_of count (halts.WideTuple left) = WideTuple (count - left)
-error_of count (halts.TurnsTooMany left) = TurnsTooMany (count - left)
-error_of count halts.NoMemory = NoMemory
+abbrev pub error_of : ℕ → ParseError → SyntaxError
+error_of count (parse_errors.NoScript left) = NoScript (count - left)
+error_of count (parse_errors.TooNested left) = TooNested (count - left)
+error_of count (parse_errors.WideTuple left) = WideTuple (count - left)
+error_of count (parse_errors.TurnsTooMany left) = TurnsTooMany (count - left)
+error_of count parse_errors.NoMemory = NoMemory

@@ -16,5 +16,5 @@ refusal (TurnsTooMany k) = refusals.TurnsTooMany k
 refusal NoMemory = refusals.NoMemory
 
 -- The tokens are refused so.
-abbrev pub Refuses : List PlacedToken → SyntaxError → Type 0
-Refuses tokens error = Refused tokens (refusal error)
+abbrev pub IsSyntaxRefusal : List PlacedToken → SyntaxError → Type 0
+IsSyntaxRefusal tokens error = Refused tokens (refusal error)

@@ -6,9 +6,9 @@ use Rattle.lois_base.specs.Data.{TermD}
 use Rattle.lois_base.specs.Shift.{shift, shift_constraint}
 use Rattle.lois_base.specs.declared.guards.Lit.{Lit}
 use Rattle.lois_base.proofs.Raised.{raised, same_raised}
-use Rattle.lois_terms.specs.Raised.{IsRaised, IsPlacedGuard, IsPlacedItem}
+use Rattle.lois_terms.specs.Shifted.{IsShifted, IsPlacedGuard, IsPlacedItem}
 
-pub is_raised : (from by : ℕ) (t : TermD) → IsRaised from by t (shift from by t)
+pub is_raised : (from by : ℕ) (t : TermD) → IsShifted from by t (shift from by t)
 is_raised from by t = λ a x d e f. rw (← e, ← f) (same_raised a x t d)
 
 put_in_length : (size at : ℕ) (a x : List Atom) → length a ≡ size → length (a ++ x) ≡ at → length x ≡ at - size

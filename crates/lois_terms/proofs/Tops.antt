@@ -5,7 +5,7 @@ use Rattle.lois_base.specs.Data.{TermD, var, tag, tup, coll, TermsD, no_terms, t
 use Rattle.lois_base.specs.Fits.{LitFits, CubeFits, ConstraintFits, Fits, PartsFit, CompFits, ItemsFit}
 use Rattle.lois_base.specs.Shift.{top, top_of_parts, top_of_comp, top_of_items, top_of_lits, top_of_cubes}
 use Rattle.lois_base.specs.declared.guards.Lit.{Lit}
-use Rattle.lois_terms.specs.Raised.{CanShift}
+use Rattle.lois_terms.specs.Shifted.{CanShift}
 
 top_of_lits_fit : (n : ℕ) (k : List Lit) → CubeFits n k → top_of_lits k ≤ n
 top_of_lits_fit n [] h = omega arith

@@ -6,7 +6,7 @@ use Rattle.lois_base.specs.Data.{TermD, var, tag, tup, coll, CompD, comp, CompsD
 use Rattle.lois_base.specs.Fits.{LitFits, ConstraintFits, Fits, ItemsFit}
 use Rattle.lois_base.specs.Normal.{both}
 use Rattle.lois_base.specs.Truth.{holds}
-use Rattle.lois_base.specs.Validity.{AdmitsLit, AdmitsConstraint, AdmitsTerm, AdmitsItems, HasUsualWidths, ItemsHaveUsualWidths}
+use Rattle.lois_base.specs.Validity.{AdmitsLit, AdmitsConstraint, AdmitsTerm, AdmitsItems, HasBoundedWidths, ItemsHaveBoundedWidths}
 use Rattle.lois_base.specs.Values.{MemberAt, SameAt}
 use Rattle.lois_base.specs.declared.guards.Lit.{Lit}
 use Rattle.lois_base.proofs.Both.{all_both, holds_both}
@@ -90,11 +90,11 @@ pub admits_guarded : (c : List (List Lit)) (t : TermD) (ordered : Bool) → Admi
 admits_guarded c (coll ks) ordered f h = items_admit c ordered h ks f
 admits_guarded c _ ordered f h = f
 
-items_have_widths : (c : List (List Lit)) (ks : CompsD) → ItemsHaveUsualWidths ks → ItemsHaveUsualWidths (guarded_items c ks)
+items_have_widths : (c : List (List Lit)) (ks : CompsD) → ItemsHaveBoundedWidths ks → ItemsHaveBoundedWidths (guarded_items c ks)
 items_have_widths c no_comps f = f
 items_have_widths c (more (comp m g t) ks) f = (f.0, items_have_widths c ks f.1)
 
-pub widths_guarded : (c : List (List Lit)) (t : TermD) → HasUsualWidths t → HasUsualWidths (guarded c t)
+pub widths_guarded : (c : List (List Lit)) (t : TermD) → HasBoundedWidths t → HasBoundedWidths (guarded c t)
 widths_guarded c (coll ks) f = items_have_widths c ks f
 widths_guarded c _ f = f
 

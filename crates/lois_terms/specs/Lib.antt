@@ -1,3 +1,3 @@
-pub mod Raised
+pub mod Shifted
 pub mod Guarded
 pub mod Binding

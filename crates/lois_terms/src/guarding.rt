@@ -5,7 +5,7 @@ ghost use Rattle.lois_base.specs.Data.{depth};
 ghost use Rattle.lois_base.specs.Fits.{ConstraintFits, Fits};
 ghost use Rattle.lois_base.specs.Normal.{both};
 ghost use Rattle.lois_base.specs.Tree.{tree};
-ghost use Rattle.lois_base.specs.Validity.{AdmitsConstraint, AdmitsTerm, HasUsualWidths};
+ghost use Rattle.lois_base.specs.Validity.{AdmitsConstraint, AdmitsTerm, HasBoundedWidths};
 ghost use Rattle.lois_terms.specs.Guarded.{IsSet, KeepsWhere, IsEmptyElsewhere, guarded, guarded_comp};
 
 use lois_base::{Comp, Comps, Constraint, Cube, NoMemory, Term};
@@ -20,7 +20,7 @@ pub fn with_guard(alloc: Global, t: &Term, c: &Constraint) -> Result<Term, NoMem
     ensures set { IfOk result (λ r. IsSet (tree r)) }
     ensures levels { IfOk result (λ r. (n : ℕ) → Fits n (tree t.now) → ConstraintFits n c.now → Fits n (tree r)) }
     ensures operators { IfOk result (λ r. (ordered : Bool) → AdmitsTerm ordered (tree t.now) → AdmitsConstraint ordered c.now → AdmitsTerm ordered (tree r)) }
-    ensures widths { IfOk result (λ r. HasUsualWidths (tree t.now) → HasUsualWidths (tree r)) }
+    ensures widths { IfOk result (λ r. HasBoundedWidths (tree t.now) → HasBoundedWidths (tree r)) }
     ensures height { IfOk result (λ r. depth (tree r) ≡ depth (tree t.now)) }
 {
     guarded_set(alloc, t, c)

@@ -4,8 +4,8 @@ ghost use Rattle.std.specs.Prelude.{◌≡◌, ◌+◌, ◌-◌, ◌≤◌, IfOk
 ghost use Rattle.lois_base.specs.Fits.{ConstraintFits, Fits, CompFits};
 ghost use Rattle.lois_base.specs.Shift.{shift, shift_constraint};
 ghost use Rattle.lois_base.specs.Tree.{tree, comp_of};
-ghost use Rattle.lois_base.specs.Validity.{AdmitsConstraint, AdmitsTerm, HasUsualWidths};
-ghost use Rattle.lois_terms.specs.Raised.{IsPlacedGuard, IsPlacedItem};
+ghost use Rattle.lois_base.specs.Validity.{AdmitsConstraint, AdmitsTerm, HasBoundedWidths};
+ghost use Rattle.lois_terms.specs.Shifted.{IsPlacedGuard, IsPlacedItem};
 
 use crate::shifting::{shifted_constraint, shifted_term};
 use lois_base::{Comp, Constraint, NoMemory, Term};
@@ -31,7 +31,7 @@ pub fn instantiate(alloc: Global, comp: &Comp, size: usize, at: usize) -> Result
     ensures item_levels { IfOk result (λ r. Fits (at + comp.now.binders) (tree r.item)) }
     ensures guard_operators { IfOk result (λ r. (ordered : Bool) → AdmitsConstraint ordered comp.now.guard → AdmitsConstraint ordered r.guard) }
     ensures item_operators { IfOk result (λ r. (ordered : Bool) → AdmitsTerm ordered (tree comp.now.item) → AdmitsTerm ordered (tree r.item)) }
-    ensures widths { IfOk result (λ r. HasUsualWidths (tree comp.now.item) → HasUsualWidths (tree r.item)) }
+    ensures widths { IfOk result (λ r. HasBoundedWidths (tree comp.now.item) → HasBoundedWidths (tree r.item)) }
 {
     let by = at - size;
     Ok(Placed {

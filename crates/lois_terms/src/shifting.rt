@@ -5,8 +5,8 @@ ghost use Rattle.lois_base.specs.Data.{terms_of, comps_of};
 ghost use Rattle.lois_base.specs.Fits.{Fits};
 ghost use Rattle.lois_base.specs.Shift.{shift_level, shift_lit, shift_cube, shift_constraint, shift, shift_comp, top, top_of_lits, top_of_cubes, top_of_comp, top_of_parts, top_of_items};
 ghost use Rattle.lois_base.specs.Tree.{tree, comp_of};
-ghost use Rattle.lois_base.specs.Validity.{AdmitsTerm, HasUsualWidths};
-ghost use Rattle.lois_terms.specs.Raised.{CanShift, IsRaised};
+ghost use Rattle.lois_base.specs.Validity.{AdmitsTerm, HasBoundedWidths};
+ghost use Rattle.lois_terms.specs.Shifted.{CanShift, IsShifted};
 
 use lois_base::{Comp, Comps, Constraint, Cube, Lit, NoMemory, Term, Terms};
 use std::alloc::Global;
@@ -15,10 +15,10 @@ use std::alloc::Global;
 pub fn shift_term(alloc: Global, t: &Term, from: usize, by: usize) -> Result<Term, NoMemory>
     requires { CanShift from by (tree t.now) }
     ensures raised { IfOk result (λ r. tree r ≡ shift from by (tree t.now)) }
-    ensures value { IfOk result (λ r. IsRaised from by (tree t.now) (tree r)) }
+    ensures value { IfOk result (λ r. IsShifted from by (tree t.now) (tree r)) }
     ensures levels { IfOk result (λ r. (n : ℕ) → from ≤ n → Fits n (tree t.now) → Fits (n + by) (tree t.now) → Fits (n + by) (tree r)) }
     ensures operators { IfOk result (λ r. (ordered : Bool) → AdmitsTerm ordered (tree t.now) → AdmitsTerm ordered (tree r)) }
-    ensures widths { IfOk result (λ r. HasUsualWidths (tree t.now) → HasUsualWidths (tree r)) }
+    ensures widths { IfOk result (λ r. HasBoundedWidths (tree t.now) → HasBoundedWidths (tree r)) }
 {
     shifted_term(alloc, t, from, by)
 }

@@ -6,8 +6,8 @@ use crate::making::{Comparison, Dice, constraint_of, cube_of, lit};
 use lois_base::Op::{Eq, Lt, Ne};
 use lois_base::{Constraint, Cube, NoMemory};
 use lois_constraint::{
-    alternatives, and, and_not, conflict, conjoin_cube, has_cube, implies, meet, negate, normalise,
-    or, prune, shift, substitute, substitute_cube, tighten, within,
+    alternatives, and, and_not, conflict, conjoin_cube, covers_cube, entails, implies, meet,
+    negate, normalise, or, prune, shift, substitute, substitute_cube, tighten,
 };
 use std::alloc::Global;
 use std::process::Abort;
@@ -193,7 +193,7 @@ fn is_within(
 ) -> Result<bool, NoMemory> {
     let cube = cube_of(alloc, literals)?;
     let other = cube_of(alloc, others)?;
-    within(alloc, &cube, &other)
+    entails(alloc, &cube, &other)
 }
 
 #[test]
@@ -227,7 +227,7 @@ fn have_the_step(
     let others = constraint_of(alloc, others)?;
     let under = constraint_of(alloc, under)?;
     let step = cube_of(alloc, &[(0, Lt, 1)])?;
-    has_cube(alloc, &others, &step, &under)
+    covers_cube(alloc, &others, &step, &under)
 }
 
 #[test]

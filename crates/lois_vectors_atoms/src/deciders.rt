@@ -3,7 +3,7 @@
 use crate::making::{Comparison, constraint_of, cube_of, lit};
 use lois_base::Op::{self, Eq, Lt, Ne};
 use lois_base::{Constraint, Cube, Decider, Kind, NoMemory};
-use lois_deciders::{Chosen, GraphDecider, MemoDecider, Met, PlainDecider};
+use lois_deciders::{Chosen, GraphDecider, MemoDecider, PlainDecider, SampledConstraint};
 use std::alloc::Global;
 use std::process::Abort;
 use std::test::Fail;
@@ -245,7 +245,7 @@ fn meeting(
     chosen: &mut Chosen,
     first: Comparison,
     second: Comparison,
-) -> Result<Option<Met>, NoMemory> {
+) -> Result<Option<SampledConstraint>, NoMemory> {
     let c = constraint_of(alloc, &[&[first]])?;
     let d = constraint_of(alloc, &[&[second]])?;
     assert!(rt; c.fits(3) && d.fits(3));

@@ -8,7 +8,7 @@ ghost use Rattle.lois_base.specs.Validity.{AdmitsFormula, AdmitsFormulas};
 use crate::making::{Comparison, Dice, constraint_of, lit};
 use lois_base::Op::{Eq, Lt, Ne};
 use lois_base::{Constraint, Cube, Formula, Formulas, NoMemory, Structure};
-use lois_constraint::{conflict, within};
+use lois_constraint::{conflict, entails};
 use lois_elim::{for_some_more, quantifier_free};
 use lois_equality::EqualityAtoms;
 use lois_order::OrderAtoms;
@@ -199,7 +199,7 @@ fn is_needless(alloc: Global, cubes: &[Cube], place: usize, cube: &Cube) -> Resu
         return Ok(true);
     }
     for (other_place, other) in cubes.iter().enumerate() {
-        if place != other_place && within(alloc, cube, other)? {
+        if place != other_place && entails(alloc, cube, other)? {
             return Ok(true);
         }
     }

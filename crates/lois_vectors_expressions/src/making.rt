@@ -3,7 +3,7 @@
 ghost use Rattle.std.specs.Prelude.{◌≡◌, ◌<◌, true, IfOk, IfSome};
 ghost use Rattle.lois_base.specs.Fits.{ConstraintFits, Fits};
 ghost use Rattle.lois_base.specs.Tree.{tree as term_tree};
-ghost use Rattle.lois_eval.specs.Standing.{IsPlaced, Stands, CondStands, names_of};
+ghost use Rattle.lois_eval.specs.WellFormed.{IsWellFormedIn, IsWellFormed, CondIsWellFormed, names_of};
 ghost use Rattle.lois_script.specs.View.{tree, cond_tree};
 
 use crate::standing::{condition_stands, stands};
@@ -181,7 +181,7 @@ fn stopped(stop: Stop) -> Result<Answer, Fail> {
 
 // Whether the expression may be evaluated in the context.
 fn placed(alloc: Global, e: &Expr, context: &Context) -> Option<()>
-    ensures { IfSome result (λ _. IsPlaced (Stands (tree e.now)) true context.now) }
+    ensures { IfSome result (λ _. IsWellFormedIn (IsWellFormed (tree e.now)) true context.now) }
 {
     let Ok(names) = names_in(alloc, &context.store) else {
         return None;
@@ -206,7 +206,7 @@ fn evaluated(
 
 // Whether the condition may be decided in the context.
 fn condition_placed(alloc: Global, c: &Cond, context: &Context) -> Option<()>
-    ensures { IfSome result (λ _. IsPlaced (CondStands (cond_tree c.now)) true context.now) }
+    ensures { IfSome result (λ _. IsWellFormedIn (CondIsWellFormed (cond_tree c.now)) true context.now) }
 {
     let Ok(names) = names_in(alloc, &context.store) else {
         return None;

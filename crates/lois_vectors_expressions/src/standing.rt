@@ -2,7 +2,7 @@
 
 ghost use Rattle.std.specs.Prelude.{◌≡◌, [], ◌∷◌, ◌++◌, IfSome, IsNone};
 ghost use Rattle.lois_script.specs.View.{tree, cond_tree, exprs_of, exprs_list, bindings_of, bindings_list, conds_of, conds_list};
-ghost use Rattle.lois_eval.specs.Standing.{IsNamed, IsUnnamed, Stands, AllStand, BindersStand, CondStands, AllCondsStand, names_behind, arity};
+ghost use Rattle.lois_eval.specs.WellFormed.{IsNamed, IsUnnamed, IsWellFormed, AreWellFormed, BindersAreWellFormed, CondIsWellFormed, CondsAreWellFormed, names_behind, arity};
 
 use lois_base::{Name, Names};
 use lois_script::{Binding, Bindings, Cond, Conds, Expr, Exprs, Operation};
@@ -32,7 +32,7 @@ fn operands(operation: Operation) -> usize
 /// `None` where the expression may not stand there, and for want of memory.
 #[cycle(standing)]
 pub(crate) fn stands(alloc: Global, e: &Expr, ordered: bool, names: &Names) -> Option<()>
-    ensures { IfSome result (λ _. Stands (tree e.now) ordered names.now) }
+    ensures { IfSome result (λ _. IsWellFormed (tree e.now) ordered names.now) }
 {
     match e {
         Expr::Atoms(_) => Some(()),
@@ -62,7 +62,7 @@ pub(crate) fn stands(alloc: Global, e: &Expr, ordered: bool, names: &Names) -> O
 
 #[cycle(standing)]
 fn all_stand(alloc: Global, es: &Exprs, ordered: bool, names: &Names) -> Option<()>
-    ensures { IfSome result (λ _. AllStand (exprs_of (exprs_list es.now)) ordered names.now) }
+    ensures { IfSome result (λ _. AreWellFormed (exprs_of (exprs_list es.now)) ordered names.now) }
 {
     for e in es.as_slice() {
         stands(alloc, e, ordered, names)?;
@@ -73,7 +73,7 @@ fn all_stand(alloc: Global, es: &Exprs, ordered: bool, names: &Names) -> Option<
 // The names in scope behind the bindings.
 #[cycle(standing)]
 fn behind(alloc: Global, bindings: &Bindings, ordered: bool, names: &Names) -> Option<Names>
-    ensures stand { IfSome result (λ _. BindersStand (bindings_of (bindings_list bindings.now)) ordered names.now) }
+    ensures stand { IfSome result (λ _. BindersAreWellFormed (bindings_of (bindings_list bindings.now)) ordered names.now) }
     ensures names { IfSome result (λ r. r ≡ names_behind (bindings_of (bindings_list bindings.now)) names.now) }
 {
     let mut inside = names.copy(alloc).ok()?;
@@ -86,7 +86,7 @@ fn behind(alloc: Global, bindings: &Bindings, ordered: bool, names: &Names) -> O
 // The names in scope behind one binding.
 #[cycle(standing)]
 fn bound(alloc: Global, binding: &Binding, ordered: bool, names: &Names) -> Option<Names>
-    ensures from { IfSome result (λ _. Stands (tree binding.now.from) ordered names.now) }
+    ensures from { IfSome result (λ _. IsWellFormed (tree binding.now.from) ordered names.now) }
     ensures new { IfSome result (λ _. IsUnnamed binding.now.name names.now) }
     ensures names { IfSome result (λ r. r ≡ names.now ++ binding.now.name ∷ []) }
 {
@@ -108,7 +108,7 @@ fn with_name(alloc: Global, names: &Names, name: &Name) -> Option<Names>
 /// The same of a condition.
 #[cycle(standing)]
 pub(crate) fn condition_stands(alloc: Global, c: &Cond, ordered: bool, names: &Names) -> Option<()>
-    ensures { IfSome result (λ _. CondStands (cond_tree c.now) ordered names.now) }
+    ensures { IfSome result (λ _. CondIsWellFormed (cond_tree c.now) ordered names.now) }
 {
     match c {
         Cond::True => Some(()),
@@ -139,7 +139,7 @@ pub(crate) fn condition_stands(alloc: Global, c: &Cond, ordered: bool, names: &N
 
 #[cycle(standing)]
 fn conditions_stand(alloc: Global, cs: &Conds, ordered: bool, names: &Names) -> Option<()>
-    ensures { IfSome result (λ _. AllCondsStand (conds_of (conds_list cs.now)) ordered names.now) }
+    ensures { IfSome result (λ _. CondsAreWellFormed (conds_of (conds_list cs.now)) ordered names.now) }
 {
     for c in cs.as_slice() {
         condition_stands(alloc, c, ordered, names)?;

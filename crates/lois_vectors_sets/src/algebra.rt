@@ -8,7 +8,7 @@ ghost use Rattle.lois_algebra.specs.Sets.{IsSetOfSets};
 
 use crate::making::{each, guard_of, lit, pair, set_of};
 use lois_algebra::{
-    all_atoms, collect_over, depth_formula, inter, minus, project, put, selected_guard, union,
+    all_atoms, collect_over, depth_formula, inter, minus, project, push_comp, selected_guard, union,
 };
 use lois_base::{Comp, Comps, Constraint, Formula, Lit, NoMemory, Op, Term};
 use lois_elim::quantifier_free;
@@ -218,9 +218,9 @@ fn empty_comprehensions_are_not_put(rt: HostRuntime) -> Result<(), Fail> {
         guard: Constraint::new(alloc),
         item: Term::Var(0),
     };
-    put(&mut comps, empty)?;
+    push_comp(&mut comps, empty)?;
     assert_eq!(rt; comps.len(), 1);
-    put(&mut comps, each(alloc, 0, &[], Term::Var(0))?)?;
+    push_comp(&mut comps, each(alloc, 0, &[], Term::Var(0))?)?;
     assert_eq!(rt; comps.len(), 2);
     Ok(())
 }

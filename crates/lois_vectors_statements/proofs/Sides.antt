@@ -12,9 +12,9 @@ use Rattle.lois_script.specs.Tree.{ExprD, CondD, StmtD, «let», if, StmtsD, no_
 use Rattle.lois_script.specs.View.{stmts_of}
 use Rattle.lois_context.specs.Slots.{slot_name}
 use Rattle.lois_context.specs.declared.contexts.Context.{Context}
-use Rattle.lois_eval.specs.Standing.{IsPlaced}
-use Rattle.lois_interp.specs.Standing.{BlockMayStand}
-use Rattle.lois_interp.specs.Formed.{StmtsAreFormed}
+use Rattle.lois_eval.specs.WellFormed.{IsWellFormedIn}
+use Rattle.lois_interp.specs.WellScoped.{BlockIsWellScoped}
+use Rattle.lois_interp.specs.WithinLimits.{StmtsAreWithinLimits}
 use Rattle.lois_interp.proofs.Spelled.{spelled_formed}
 
 -- the first statements of a list
@@ -27,9 +27,9 @@ two_first (x ∷ y ∷ rest) a b p q = (rest, ap (λ z. z ∷ y ∷ rest) (some_
     some_is u v e = cc
 
 module _ (s : ScriptD) (text : List ℕ) (spelled : Spells text s) (scoped : IsWellScoped s) (none : s.parameters ≡ []) where
-  pub side_stands : (p : ℕ) (x : List ℕ) (e : ExprD) (c : CondD) (side other rest : StmtsD) → s.body ≡ stmt («let» p x e) (stmt ((if) c side other) rest) → BlockMayStand side s.ordered (x ∷ [])
+  pub side_stands : (p : ℕ) (x : List ℕ) (e : ExprD) (c : CondD) (side other rest : StmtsD) → s.body ≡ stmt («let» p x e) (stmt ((if) c side other) rest) → BlockIsWellScoped side s.ordered (x ∷ [])
   side_stands p x e c side other rest is =
-      let formed : StmtsAreFormed (stmt («let» p x e) (stmt ((if) c side other) rest)) = subst StmtsAreFormed is (spelled_formed text s spelled) in
+      let formed : StmtsAreWithinLimits (stmt («let» p x e) (stmt ((if) c side other) rest)) = subst StmtsAreWithinLimits is (spelled_formed text s spelled) in
       record {
         scope = declare x inner (opening_scope s.ordered);
         named = refl;
@@ -40,9 +40,9 @@ module _ (s : ScriptD) (text : List ℕ) (spelled : Spells text s) (scoped : IsW
       }
 
   pub side_placed : (p : ℕ) (x : List ℕ) (e : ExprD) (c : CondD) (side other rest : StmtsD) → s.body ≡ stmt («let» p x e) (stmt ((if) c side other) rest) → s.ordered ≡ true →
-      (k : Context) (t : TermD) (from : ℕ) → k.«when» ≡ [] ∷ [] → k.store ≡ record { name = x; term = t; from = from } ∷ [] → k.lines ≡ [] → IsPlaced (BlockMayStand side) true k
+      (k : Context) (t : TermD) (from : ℕ) → k.«when» ≡ [] ∷ [] → k.store ≡ record { name = x; term = t; from = from } ∷ [] → k.lines ≡ [] → IsWellFormedIn (BlockIsWellScoped side) true k
   side_placed p x e c side other rest is order k t from always store lines = record {
-    names = subst (BlockMayStand side true) (sym (ap (map slot_name) store)) (subst (λ o. BlockMayStand side o (x ∷ [])) order (side_stands p x e c side other rest is));
+    names = subst (BlockIsWellScoped side true) (sym (ap (map slot_name) store)) (subst (λ o. BlockIsWellScoped side o (x ∷ [])) order (side_stands p x e c side other rest is));
     operators = record {
       «when» = subst (All (AdmitsCube true)) (sym always) (All-cons (AdmitsCube true) [] [] (All-nil (AdmitsLit true)) (All-nil (AdmitsCube true)));
       store = subst (All (λ z. AdmitsTerm true z.term)) (sym store) (All-cons (λ z. AdmitsTerm true z.term) _ [] (term_admitted t) (All-nil (λ z. AdmitsTerm true z.term)));

@@ -13,15 +13,15 @@ use Rattle.lois_algebra.proofs.depth.+deepening.Goals as goal
 
 pub deeper-returns-in-Var : goal.deeper-returns-in-Var
 deeper-returns-in-Var t c =
-    never_says c.args.size _ _ (view c.never.result) c.never.ensures (λ a h. subst (λ z. DeeperAt (tree z) a c.args.limit) c.in-Var.is h)
+    never_says c.args.size _ _ (view c.false_formula.result) c.false_formula.ensures (λ a h. subst (λ z. DeeperAt (tree z) a c.args.limit) c.in-Var.is h)
 
 pub deeper-returns-in-Tag : goal.deeper-returns-in-Tag
 deeper-returns-in-Tag t c =
-    never_says c.args.size _ _ (view c.never-in-Tag.result) c.never-in-Tag.ensures (λ a h. subst (λ z. DeeperAt (tree z) a c.args.limit) c.in-Tag.is h)
+    never_says c.args.size _ _ (view c.false_formula-in-Tag.result) c.false_formula-in-Tag.ensures (λ a h. subst (λ z. DeeperAt (tree z) a c.args.limit) c.in-Tag.is h)
 
 pub deeper-returns-then-limit-eq0 : goal.deeper-returns-then-limit-eq0
 deeper-returns-then-limit-eq0 t c =
-    always_says c.args.size _ _ (view c.always.result) c.always.ensures (tuple_deep (tree c.args.t.now) (terms_of c.in-Tup.parts) c.args.limit (ap tree c.in-Tup.is) c.if-limit-eq0.true)
+    always_says c.args.size _ _ (view c.true_formula.result) c.true_formula.ensures (tuple_deep (tree c.args.t.now) (terms_of c.in-Tup.parts) c.args.limit (ap tree c.in-Tup.is) c.if-limit-eq0.true)
 
 pub some_part_deeper-deeper-requires : goal.some_part_deeper-deeper-requires
 some_part_deeper-deeper-requires t c =
@@ -50,9 +50,9 @@ some_member_deeper-loop-comp-preserved t c =
 pub one_deeper-returns : goal.one_deeper-returns
 one_deeper-returns t c =
     let comp = c.args.comp.now in
-    IfOk-weaker c.for_some.result (λ r. IsForSome comp.binders (view c.in_ok-both.field-0) (view r)) _ (λ r some. one_deeper_says c.args.size comp.binders c.args.limit (c.args.size + comp.binders) comp.guard (tree comp.item) (view c.in_ok-deep.deep) (view c.in_ok-guard.guard) (view c.in_ok-both.field-0) (view r) refl c.in_ok-deep.ensures (c.in_ok-guard.ensures (c.args.size + comp.binders) c.requires.1) c.in_ok-both.ensures some) c.for_some.ensures
+    IfOk-weaker c.for_some.result (λ r. IsForSome comp.binders (view c.in_ok-conjunction.field-0) (view r)) _ (λ r some. one_deeper_says c.args.size comp.binders c.args.limit (c.args.size + comp.binders) comp.guard (tree comp.item) (view c.in_ok-deep.deep) (view c.in_ok-guard.guard) (view c.in_ok-conjunction.field-0) (view r) refl c.in_ok-deep.ensures (c.in_ok-guard.ensures (c.args.size + comp.binders) c.requires.1) c.in_ok-conjunction.ensures some) c.for_some.ensures
 
-pub one_deeper-returns-then-is_never : goal.one_deeper-returns-then-is_never
-one_deeper-returns-then-is_never t c =
+pub one_deeper-returns-then-is_false_formula : goal.one_deeper-returns-then-is_false_formula
+one_deeper-returns-then-is_false_formula t c =
     let comp = c.args.comp.now in
-    none_deeper_says c.args.size comp.binders c.args.limit (c.args.size + comp.binders) comp.guard (tree comp.item) (view c.in_ok-deep.deep) refl c.in_ok-deep.ensures (c.is_never.ensures.0 c.if-is_never.true)
+    none_deeper_says c.args.size comp.binders c.args.limit (c.args.size + comp.binders) comp.guard (tree comp.item) (view c.in_ok-deep.deep) refl c.in_ok-deep.ensures (c.is_false_formula.ensures.0 c.if-is_false_formula.true)

@@ -19,8 +19,8 @@ loop-inner-preserved c =
     let inner = c.inner-item.result in
     let k = is_comp_of items c.args.items.now i inner c.as_slice-inner-items.ensures c.loop-inner-test.true c.inner-item.is in
     let fits = k.fits (c.args.size + comp.binders) c.requires.items in
-    let put = put_item (comp.binders + inner.binders) c.in_ok-guard.guard (tree inner.item) (tree c.in_ok-item.item) (comps_of c.loop-inner.gathered) (comps_of c.put.new.comps) (ap tree c.in_ok-item.ensures) c.in_ok-put.ensures.added in
-    items_more c.args.size comp.binders comp.guard (comps_from items i) (comps_from items (i + 1)) (comps_of c.args.items.now) _ (comps_of c.loop-inner.gathered) (comps_of c.put.new.comps) inner.binders inner.guard c.in_ok-guard.guard (tree inner.item) (comps_are items i inner c.loop-inner-test.true c.inner-item.is) c.loop-inner.invariant c.requires.guard c.in_ok-guard.ensures.truth (joined_fits c.args.size comp.binders inner.binders comp.guard inner.guard c.in_ok-guard.guard (tree inner.item) c.requires.guard fits c.in_ok-guard.ensures.fits) (λ o a h. (c.in_ok-guard.ensures.operators o a (k.admits o h).0, (k.admits o h).1)) k.widths put
+    let put = put_item (comp.binders + inner.binders) c.in_ok-guard.guard (tree inner.item) (tree c.in_ok-item.item) (comps_of c.loop-inner.gathered) (comps_of c.push_comp.new.comps) (ap tree c.in_ok-item.ensures) c.in_ok-push_comp.ensures.added in
+    items_more c.args.size comp.binders comp.guard (comps_from items i) (comps_from items (i + 1)) (comps_of c.args.items.now) _ (comps_of c.loop-inner.gathered) (comps_of c.push_comp.new.comps) inner.binders inner.guard c.in_ok-guard.guard (tree inner.item) (comps_are items i inner c.loop-inner-test.true c.inner-item.is) c.loop-inner.invariant c.requires.guard c.in_ok-guard.ensures.truth (joined_fits c.args.size comp.binders inner.binders comp.guard inner.guard c.in_ok-guard.guard (tree inner.item) c.requires.guard fits c.in_ok-guard.ensures.fits) (λ o a h. (c.in_ok-guard.ensures.operators o a (k.admits o h).0, (k.admits o h).1)) k.widths put
 
 pub returns : goal.returns
 returns c =

@@ -27,8 +27,8 @@ loop-comp-preserved g c =
     let fits = k.fits c.args.size c.requires.left in
     let item = tree (c.comp-item.result).item in
     let m = (c.comp-item.result).binders in
-    let put = put_item m c.in_ok-guard.guard item (tree c.in_ok-item.item) (comps_of c.loop-comp.kept) (comps_of c.put.new.comps) (ap tree c.in_ok-item.ensures) c.in_ok-put.ensures.added in
-    selected_more c.args.size c.args.wanted (coll (comps_of c.args.others.now)) (comps_from items i) (comps_from items (i + 1)) (comps_of c.args.comps.now) (comps_of c.loop-comp.kept) (comps_of c.put.new.comps) m (c.comp-item.result).guard c.in_ok-guard.guard item (comps_are items i c.comp-item.result c.loop-comp-test.true c.comp-item.is) c.loop-comp.invariant c.in_ok-guard.ensures.truth (fits.0, c.in_ok-guard.ensures.levels, fits.2) (λ o h t. (c.in_ok-guard.ensures.operators o (k.admits o h) t, (k.admits o h).1)) k.widths put
+    let put = put_item m c.in_ok-guard.guard item (tree c.in_ok-item.item) (comps_of c.loop-comp.kept) (comps_of c.push_comp.new.comps) (ap tree c.in_ok-item.ensures) c.in_ok-push_comp.ensures.added in
+    selected_more c.args.size c.args.wanted (coll (comps_of c.args.others.now)) (comps_from items i) (comps_from items (i + 1)) (comps_of c.args.comps.now) (comps_of c.loop-comp.kept) (comps_of c.push_comp.new.comps) m (c.comp-item.result).guard c.in_ok-guard.guard item (comps_are items i c.comp-item.result c.loop-comp-test.true c.comp-item.is) c.loop-comp.invariant c.in_ok-guard.ensures.truth (fits.0, c.in_ok-guard.ensures.levels, fits.2) (λ o h t. (c.in_ok-guard.ensures.operators o (k.admits o h) t, (k.admits o h).1)) k.widths put
 
 pub returns-clause-members : goal.returns-clause-members
 returns-clause-members g c =

@@ -1,5 +1,5 @@
-use Rattle.lois_deciders.specs.Asked.{Parts}
-use Rattle.lois_deciders.proofs.Asking.{some_is, none_is}
+use Rattle.lois_deciders.specs.Satisfaction.{IsCounterexample}
+use Rattle.lois_deciders.proofs.Oracle.{some_is, none_is}
 use Rattle.lois_automata.proofs.Checked.{parted_breaks}
 use Rattle.lois_automata.proofs.checks.asked.Goals as goal
 
@@ -9,7 +9,7 @@ returns-in-Some-clause-verdict g c =
     let u = c.args.under.now in
     let w = c.args.wanted.now in
     let s = c.in-Some.sample in
-    parted_breaks n u w s.items (some_is (λ x. Parts n u w x.items) c.in_ok-sample.field-0 s c.in-Some.is c.in_ok-sample.ensures.sample)
+    parted_breaks n u w s.items (some_is (λ x. IsCounterexample n u w x.items) c.in_ok-sample.field-0 s c.in-Some.is c.in_ok-sample.ensures.sample)
 
 pub returns-in-None-clause-verdict : goal.returns-in-None-clause-verdict
 returns-in-None-clause-verdict g c = c.in_ok-sample.ensures.none.0 (none_is c.in_ok-sample.field-0 c.in-None.is)

@@ -3,7 +3,7 @@ use Rattle.std.proofs.lemmas.Result.{IfOk-weaker}
 use Rattle.lois_base.specs.Tree.{tree, comp_of}
 use Rattle.lois_elim.specs.Bound.{HoldsForSomeMore}
 use Rattle.lois_automata.specs.Built.{AreBeside}
-use Rattle.lois_automata.specs.Columns.{pair_of}
+use Rattle.lois_automata.specs.Projections.{pair_of}
 use Rattle.lois_automata.proofs.Apart.{differs_nowhere}
 use Rattle.lois_automata.proofs.Clashes.{first_is_no_pair, second_is_no_pair, differing}
 use Rattle.lois_automata.proofs.conditions.where_differing.Goals as goal

@@ -7,7 +7,7 @@ use Rattle.lois_base.specs.Fits.{CubeFits, ConstraintFits}
 use Rattle.lois_base.specs.Truth.{holds}
 use Rattle.lois_base.specs.Values.{point}
 use Rattle.lois_relate.proofs.Parts.{is_comp_of}
-use Rattle.lois_automata.specs.Columns.{IsFunction}
+use Rattle.lois_automata.specs.Projections.{IsFunction}
 use Rattle.lois_automata.proofs.Telling.{clashes_begin, clashes_more, clashes_end, unless_not}
 use Rattle.lois_automata.proofs.conditions.where_function.Goals as goal
 

@@ -4,7 +4,7 @@ use Rattle.lois_base.specs.Data.{coll, comps_of}
 use Rattle.lois_base.specs.Tree.{tree}
 use Rattle.lois_base.specs.Values.{point}
 use Rattle.lois_automata.specs.Built.{ArePairs}
-use Rattle.lois_automata.specs.Columns.{IsFunction, HasOneAtMost}
+use Rattle.lois_automata.specs.Projections.{IsFunction, HasOneAtMost}
 use Rattle.lois_automata.specs.Throughout.{HoldsWhere}
 use Rattle.lois_automata.proofs.Checked.{one_at_most}
 use Rattle.lois_automata.proofs.Telling.{where_as}

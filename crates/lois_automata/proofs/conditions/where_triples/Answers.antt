@@ -3,7 +3,7 @@ use Rattle.std.proofs.lemmas.Result.{IfOk-weaker}
 use Rattle.lois_base.specs.Data.{coll, no_comps, comps_of}
 use Rattle.lois_base.specs.Tree.{tree}
 use Rattle.lois_base.specs.Values.{point, IsIncluded}
-use Rattle.lois_automata.specs.Columns.{AreTriples}
+use Rattle.lois_automata.specs.Projections.{AreTriples}
 use Rattle.lois_automata.specs.Throughout.{HoldsWhere}
 use Rattle.lois_automata.proofs.Checked.{all_triples}
 use Rattle.lois_automata.proofs.Telling.{where_as}

@@ -2,7 +2,7 @@ use Rattle.std.proofs.Common.{◌≡◌, ap}
 use Rattle.std.proofs.lemmas.Result.{IfOk-weaker}
 use Rattle.lois_base.specs.Data.{coll, comps_of}
 use Rattle.lois_base.specs.Tree.{tree}
-use Rattle.lois_automata.specs.Columns.{five_terms}
+use Rattle.lois_automata.specs.Projections.{five_terms}
 use Rattle.lois_automata.proofs.FiveMachine.{complement_throughout}
 use Rattle.lois_automata.proofs.operations.complement.Goals as goal
 

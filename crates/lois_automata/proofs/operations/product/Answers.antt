@@ -2,7 +2,7 @@ use Rattle.std.proofs.Common.{◌≡◌}
 use Rattle.std.proofs.lemmas.Result.{IfOk-weaker}
 use Rattle.lois_base.specs.Data.{comps_of}
 use Rattle.lois_base.specs.Tree.{tree}
-use Rattle.lois_automata.specs.Columns.{five_terms}
+use Rattle.lois_automata.specs.Projections.{five_terms}
 use Rattle.lois_automata.proofs.FiveMachine.{product_throughout}
 use Rattle.lois_automata.proofs.operations.product.Goals as goal
 

@@ -38,11 +38,11 @@ returns g c =
     let b = tree other.letter.now in
     let item = tree c.in_ok-item.item in
     let before = comps_of c.args.made.now in
-    let after = comps_of c.put.new.comps in
-    IfOk-weaker c.put.result (λ _. IsPut (comp both.binders guard item) before after) _ (λ _ added.
+    let after = comps_of c.push_comp.new.comps in
+    IfOk-weaker c.push_comp.result (λ _. IsPut (comp both.binders guard item) before after) _ (λ _ added.
     step_put n (comp_of c.args.first.now) (comp_of c.args.second.now) both.binders both.guard found guard (tree both.first) (tree both.second)
     (tree one.source.now) l (tree one.target.now) (tree other.source.now) b (tree other.target.now) item before after
     c.in-Some.ensures.some c.in-Some-step_parts.ensures.some c.in_ok-item.ensures told.made
     (formula_where inner (λ d. IsSame (point l d) (point b d)) (view c.in_ok-same.same) found c.in_ok-same.ensures.truth c.in_ok-found.ensures.truth) c.in_ok-guard.ensures.truth added
     (told.room, c.in_ok-guard.ensures.fits inner told.guard_fits c.in_ok-found.ensures.levels, told.first_fits) told.second_fits told.operators
-    (λ o h p q. c.in_ok-guard.ensures.operators o h (c.in_ok-found.ensures.operators o (c.in_ok-same.ensures.operators o p q))) told.first_widths told.second_widths) c.put.ensures.added
+    (λ o h p q. c.in_ok-guard.ensures.operators o h (c.in_ok-found.ensures.operators o (c.in_ok-same.ensures.operators o p q))) told.first_widths told.second_widths) c.push_comp.ensures.added

@@ -1,6 +1,6 @@
 use Rattle.std.proofs.Common.{◌≡◌, ◌++◌, ◌∷◌, [], true, refl, sym, ◌∙◌, subst}
 use Rattle.lois_answers.specs.CaseView.{case_of}
-use Rattle.lois_deciders.proofs.Asking.{on_ok}
+use Rattle.lois_deciders.proofs.Oracle.{on_ok}
 use Rattle.lois_census.specs.CensusData.{CensusD}
 use Rattle.lois_census.specs.Censuses.{NumberedD, is_met, AreCensusesOf, IsCensusAdded}
 use Rattle.lois_census.proofs.Numbering.{census_put}

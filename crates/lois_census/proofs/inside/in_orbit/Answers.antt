@@ -25,7 +25,7 @@ returns-clause-truth g c =
     let is_same : HoldsWhereSame (n + m) (tree c.in_ok-listed.listed) (tree c.in_ok-own.own) (view c.in_ok-same.same) =
     subst (λ k. HoldsWhereSame k (tree c.in_ok-listed.listed) (tree c.in_ok-own.own) (view c.in_ok-same.same)) all c.in_ok-same.ensures.truth in
     IfOk-weaker c.normalise.result (λ r. (e : List Atom) → holds e r ≡ holds e c.in_ok-inside.inside) _ (λ r normal.
-    inside g.T.Structure.ordered n m (tree c.args.item.now) o (tree c.in_ok-own.own) (tree c.in_ok-listed.listed) (view c.in_ok-standing.standing) (view c.in_ok-same.same) (view c.in_ok-both.field-0) (view c.in_ok-somewhere.somewhere) c.in_ok-inside.inside r (sym (ap length is)) c.in_ok-own.ensures.value c.in_ok-listed.ensures.value stands is_same c.in_ok-both.ensures c.in_ok-somewhere.ensures c.in_ok-inside.ensures.truth normal) c.normalise.ensures.truth
+    inside g.T.Structure.ordered n m (tree c.args.item.now) o (tree c.in_ok-own.own) (tree c.in_ok-listed.listed) (view c.in_ok-standing.standing) (view c.in_ok-same.same) (view c.in_ok-conjunction.field-0) (view c.in_ok-somewhere.somewhere) c.in_ok-inside.inside r (sym (ap length is)) c.in_ok-own.ensures.value c.in_ok-listed.ensures.value stands is_same c.in_ok-conjunction.ensures c.in_ok-somewhere.ensures c.in_ok-inside.ensures.truth normal) c.normalise.ensures.truth
 
 pub returns-clause-fits : goal.returns-clause-fits
 returns-clause-fits g c =

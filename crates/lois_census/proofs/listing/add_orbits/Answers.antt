@@ -4,12 +4,12 @@ use Rattle.std.specs.List.{AllPairs}
 use Rattle.lois_base.specs.Atom.{whole}
 use Rattle.lois_base.specs.Tree.{tree, comp_of}
 use Rattle.lois_base.specs.Truth.{sampled}
-use Rattle.lois_deciders.proofs.Asking.{some_is, none_is}
+use Rattle.lois_deciders.proofs.Oracle.{some_is, none_is}
 use Rattle.lois_deciders.proofs.OnlyAsked.{only_asked_nothing, only_asked_then}
-use Rattle.lois_deciders.specs.Asked.{Meets}
+use Rattle.lois_deciders.specs.Satisfaction.{IsConstraintSample}
 use Rattle.lois_census.specs.Left.{IsTakenFrom, IsWithout, IsLeft}
 use Rattle.lois_census.specs.OrbitData.{OrbitD}
-use Rattle.lois_census.specs.Orbits.{AreApart}
+use Rattle.lois_census.specs.Orbits.{AreDisjointOrbits}
 use Rattle.lois_census.proofs.Lefts.{left_more, covered, apart_from, pairs_more}
 use Rattle.lois_census.proofs.Lists.{adds_nothing, adds_one}
 use Rattle.lois_census.proofs.Measures.{fewer}
@@ -30,7 +30,7 @@ orbits-smaller g c =
     let n = c.args.comp.now.binders in
     let u = c.orbits.left in
     let o : OrbitD = record { item = tree c.in_ok-copy.field-0; sample = c.from_vec.result } in
-    let meets : Meets n u o.sample = subst (Meets n u) (sym c.from_vec.ensures) (some_is (λ s. Meets n u s.items) c.in_ok-sample.field-0 c.in-Some.sample c.in-Some.is c.in_ok-sample.ensures.sample) in
+    let meets : IsConstraintSample n u o.sample = subst (IsConstraintSample n u) (sym c.from_vec.ensures) (some_is (λ s. IsConstraintSample n u s.items) c.in_ok-sample.field-0 c.in-Some.sample c.in-Some.is c.in_ok-sample.ensures.sample) in
     let less : IsWithout g.T.Structure.ordered n o.item o u c.in_ok-left-2.left = subst (λ t. IsWithout g.T.Structure.ordered n t o u c.in_ok-left-2.left) (sym (ap tree c.in_ok-copy.ensures)) c.in_ok-left-2.ensures.truth in
     fewer g.T.Structure.ordered n o u c.in_ok-left-2.left less meets
 
@@ -42,7 +42,7 @@ orbits-preserved g c =
     let os = c.orbits.orbits in
     let kept = c.orbits.invariant in
     let o : OrbitD = record { item = tree c.in_ok-copy.field-0; sample = c.from_vec.result } in
-    let meets : Meets n u o.sample = subst (Meets n u) (sym c.from_vec.ensures) (some_is (λ s. Meets n u s.items) c.in_ok-sample.field-0 c.in-Some.sample c.in-Some.is c.in_ok-sample.ensures.sample) in
+    let meets : IsConstraintSample n u o.sample = subst (IsConstraintSample n u) (sym c.from_vec.ensures) (some_is (λ s. IsConstraintSample n u s.items) c.in_ok-sample.field-0 c.in-Some.sample c.in-Some.is c.in_ok-sample.ensures.sample) in
     let item : o.item ≡ tree k.item = ap tree c.in_ok-copy.ensures in
     let appended : c.push.new.self ≡ os ++ o ∷ [] = c.in_ok-push.ensures.appended in
     record {
@@ -53,7 +53,7 @@ orbits-preserved g c =
       added =
           adds_one (IsTakenFrom (comp_of k)) c.args.orbits.now os c.push.new.self o kept.added (item, (meets.0, kept.left.within (sampled o.sample) (length-map o.sample whole ∙ meets.0.count) meets.1)) appended;
       apart =
-          subst (AllPairs (AreApart g.T.Structure.ordered)) (sym appended) (pairs_more g.T.Structure.ordered os o kept.apart (apart_from g.T.Structure.ordered n (tree k.item) k.guard os u kept.left kept.fits kept.operators o item meets));
+          subst (AllPairs (AreDisjointOrbits g.T.Structure.ordered)) (sym appended) (pairs_more g.T.Structure.ordered os o kept.apart (apart_from g.T.Structure.ordered n (tree k.item) k.guard os u kept.left kept.fits kept.operators o item meets));
       only_asked = only_asked_then (λ b. (goal.Decider-dyn g (b.vtable, b.value)).kind_of b.value) (λ b. (goal.Decider-dyn g (b.vtable, b.value)).questions b.value) c.args.chosen.now c.orbits.chosen c.ask.new.self kept.only_asked c.ask.ensures.only_asked;
     }
 

@@ -4,7 +4,7 @@ use Rattle.lois_base.specs.Tree.{tree, comp_of}
 use Rattle.lois_base.specs.Validity.{AdmitsConstraint}
 use Rattle.lois_deciders.specs.OnlyAsked.{HasOnlyAsked}
 use Rattle.lois_census.specs.Left.{IsTakenFrom, AddsOnly, IsLeft}
-use Rattle.lois_census.specs.Orbits.{AreApart}
+use Rattle.lois_census.specs.Orbits.{AreDisjointOrbits}
 use Rattle.lois_census.proofs.Measures.{sample_count}
 use Rattle.lois_census.proofs.listing.add_orbits.Given as goal
 
@@ -14,7 +14,7 @@ invariant-orbits g l = record {
   fits : ConstraintFits l.comp.binders l.left;
   operators : AdmitsConstraint g.T.Structure.ordered l.left;
   added : AddsOnly (IsTakenFrom (comp_of l.comp)) l.fn.orbits l.orbits;
-  apart : AllPairs (AreApart g.T.Structure.ordered) l.orbits;
+  apart : AllPairs (AreDisjointOrbits g.T.Structure.ordered) l.orbits;
   only_asked : HasOnlyAsked (λ b. (goal.Decider-dyn g (b.vtable, b.value)).kind_of b.value) (λ b. (goal.Decider-dyn g (b.vtable, b.value)).questions b.value) l.fn.chosen l.chosen;
 }
 

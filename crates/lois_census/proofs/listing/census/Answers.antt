@@ -4,7 +4,7 @@ use Rattle.std.specs.List.{All}
 use Rattle.lois_base.specs.Data.{coll, comps_of}
 use Rattle.lois_base.specs.Fits.{Fits}
 use Rattle.lois_base.specs.Tree.{tree}
-use Rattle.lois_base.specs.Validity.{AdmitsTerm, HasUsualWidths}
+use Rattle.lois_base.specs.Validity.{AdmitsTerm, HasBoundedWidths}
 use Rattle.lois_base.specs.Values.{PointValue, point, IsMember, IsIn}
 use Rattle.lois_census.specs.Left.{IsTakenFromSome, IsCovered}
 use Rattle.lois_census.specs.Orbits.{value_of, IsListed, FitsSample}
@@ -39,4 +39,4 @@ pub returns-clause-widths : goal.returns-clause-widths
 returns-clause-widths g c =
     let ks = c.in-Coll.comps in
     let set : tree c.args.set.now ≡ coll (comps_of ks) = ap tree c.in-Coll.is in
-    IfOk-weaker c.all_orbits.result (All (IsTakenFromSome ks)) (λ r. HasUsualWidths (tree c.args.set.now) → All (λ k. HasUsualWidths k.item) r) (λ r h w. all_wide ks (subst HasUsualWidths set w) r h) c.all_orbits.ensures.taken
+    IfOk-weaker c.all_orbits.result (All (IsTakenFromSome ks)) (λ r. HasBoundedWidths (tree c.args.set.now) → All (λ k. HasBoundedWidths k.item) r) (λ r h w. all_wide ks (subst HasBoundedWidths set w) r h) c.all_orbits.ensures.taken

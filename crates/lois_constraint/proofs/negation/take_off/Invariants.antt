@@ -6,6 +6,6 @@ use Rattle.lois_constraint.proofs.negation.take_off.Given as goal
 
 abbrev pub invariant-loop-cube : goal.invariant-loop-cube
 invariant-loop-cube l = record {
-  truth : (e : List Atom) → holds e l.rest ≡ (holds e l.fn.pile && not (holds e (take l.cube-index l.cube-items)));
-  rules : (rule : Rule) → ConstraintObeys rule l.fn.pile → ConstraintObeys rule l.c → ConstraintObeys rule l.rest;
+  truth : (e : List Atom) → holds e l.rest ≡ (holds e l.fn.antichain && not (holds e (take l.cube-index l.cube-items)));
+  rules : (rule : Rule) → ConstraintObeys rule l.fn.antichain → ConstraintObeys rule l.c → ConstraintObeys rule l.rest;
 }

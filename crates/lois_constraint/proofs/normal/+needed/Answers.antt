@@ -15,7 +15,7 @@ returns-clause-truth t c =
     let rest : List Lit = c.in_ok-rest.rest.items in
     let both = rw c.in-Some.is at c.in_ok-beside.ensures.truth in
     λ e.
-    halves_thinned e (cube_holds e c.args.known.now) (cube_holds e c.args.others.now) beside low high kept rest c.args.literals.now c.extend_from_slice.new.self.items (both e ∙ ap (λ (k : List Lit). cube_holds e k && cube_holds e c.args.others.now) c.in_ok-copy.ensures) (c.in_ok-kept.ensures.truth e) (subst (λ (z : List Lit). (cube_holds e beside && (cube_holds e z && cube_holds e rest)) ≡ (cube_holds e beside && (cube_holds e z && cube_holds e high))) c.deref.ensures.value (c.in_ok-rest.ensures.truth e)) c.split_at.ensures.by_index.0 (c.in_ok-extend_from_slice.ensures.items ∙ ap (λ (z : List Lit). kept ++ z) c.deref-2.ensures.value)
+    halves_thinned e (cube_holds e c.args.closed.now) (cube_holds e c.args.others.now) beside low high kept rest c.args.literals.now c.extend_from_slice.new.self.items (both e ∙ ap (λ (k : List Lit). cube_holds e k && cube_holds e c.args.others.now) c.in_ok-copy.ensures) (c.in_ok-kept.ensures.truth e) (subst (λ (z : List Lit). (cube_holds e beside && (cube_holds e z && cube_holds e rest)) ≡ (cube_holds e beside && (cube_holds e z && cube_holds e high))) c.deref.ensures.value (c.in_ok-rest.ensures.truth e)) c.split_at.ensures.by_index.0 (c.in_ok-extend_from_slice.ensures.items ∙ ap (λ (z : List Lit). kept ++ z) c.deref-2.ensures.value)
 
 pub returns-clause-rules : goal.returns-clause-rules
 returns-clause-rules t c = λ rule h.

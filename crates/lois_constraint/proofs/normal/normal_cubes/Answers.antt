@@ -5,7 +5,7 @@ use Rattle.std.proofs.lemmas.List.Elements.{All-push}
 use Rattle.lois_base.specs.Atom.{Atom}
 use Rattle.lois_base.specs.Truth.{cube_holds, holds}
 use Rattle.lois_base.specs.declared.guards.Lit.{Lit}
-use Rattle.lois_constraint.specs.Met.{CanBeMet, IsPruned}
+use Rattle.lois_constraint.specs.Entailment.{CubeIsSatisfiable, IsPruned}
 use Rattle.lois_constraint.specs.Normalised.{IsNormalCube}
 use Rattle.lois_constraint.specs.Rules.{CubeObeys, ConstraintObeys}
 use Rattle.lois_constraint.proofs.Pruned.{ApartFrom, read_holds, read_pruned, read_apart}
@@ -15,7 +15,7 @@ use Rattle.lois_constraint.proofs.normal.normal_cubes.Goals as goal
 pub normal_cube-requires : goal.normal_cube-requires
 normal_cube-requires c =
     let whole : IsPruned c.as_slice-cube-items.result.now = subst IsPruned (sym c.as_slice-cube-items.ensures) c.requires in
-    subst CanBeMet (sym c.cube-item.is) (whole.met c.loop-cube.cube-index c.cube-item.result c.loop-cube-test.true)
+    subst CubeIsSatisfiable (sym c.cube-item.is) (whole.met c.loop-cube.cube-index c.cube-item.result c.loop-cube-test.true)
 
 pub loop-cube-preserved : goal.loop-cube-preserved
 loop-cube-preserved c =

@@ -2,7 +2,7 @@ use Rattle.std.proofs.Common.{◌≡◌, List, take}
 use Rattle.std.specs.List.{All}
 use Rattle.lois_base.specs.Atom.{Atom}
 use Rattle.lois_base.specs.Truth.{holds}
-use Rattle.lois_constraint.specs.Met.{IsPruned}
+use Rattle.lois_constraint.specs.Entailment.{IsPruned}
 use Rattle.lois_constraint.specs.Normalised.{IsNormalCube}
 use Rattle.lois_constraint.specs.Rules.{Rule, ConstraintObeys}
 use Rattle.lois_constraint.proofs.Pruned.{ApartFrom}

@@ -6,7 +6,7 @@ use Rattle.lois_base.specs.Fits.{ConstraintFits}
 use Rattle.lois_base.specs.Truth.{cube_holds, holds}
 use Rattle.lois_base.specs.Validity.{AdmitsConstraint, UsesOnly}
 use Rattle.lois_base.specs.declared.guards.Lit.{Lit}
-use Rattle.lois_constraint.specs.Met.{IsPruned}
+use Rattle.lois_constraint.specs.Entailment.{IsPruned}
 use Rattle.lois_constraint.specs.Normalised.{IsNormalCube, IsNormalised}
 use Rattle.lois_constraint.specs.Rules.{uses, fits, admits, CubeObeys}
 use Rattle.lois_constraint.proofs.Normals.{normalised_from}

@@ -17,12 +17,12 @@ loop-lit-preserved c =
     elim c.if-not-implies.branch [
       | then-not-implies+in_ok-push w ↦ (let is : after ≡ before ++ get_or xs i _ ∷ [] = ap (λ v. v.items) w.kept-is ∙ w.in_ok-push.ensures.items in
           record {
-            truth = λ e. beside_grows e (cube_holds e c.args.known.now) before xs i _ inside (c.loop-lit.invariant.truth e) after is;
+            truth = λ e. beside_grows e (cube_holds e c.args.closed.now) before xs i _ inside (c.loop-lit.invariant.truth e) after is;
             rules = λ rule h. subst (CubeObeys rule) (sym is) (All-push (Obeys rule) before _ (c.loop-lit.invariant.rules rule h) (h i _ inside));
           })
       | else-not-implies w ↦ (let is : after ≡ before = ap (λ v. v.items) w.kept-is in
           record {
-            truth = λ e. ap (λ z. cube_holds e c.args.known.now && cube_holds e z) is ∙ beside_stays e (cube_holds e c.args.known.now) before xs i _ inside (c.loop-lit.invariant.truth e) (c.implies.ensures.0 w.if-not-implies.false e);
+            truth = λ e. ap (λ z. cube_holds e c.args.closed.now && cube_holds e z) is ∙ beside_stays e (cube_holds e c.args.closed.now) before xs i _ inside (c.loop-lit.invariant.truth e) (c.implies.ensures.0 w.if-not-implies.false e);
             rules = λ rule h. subst (CubeObeys rule) (sym is) (c.loop-lit.invariant.rules rule h);
           })
     ]

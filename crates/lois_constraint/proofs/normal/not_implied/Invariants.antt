@@ -6,6 +6,6 @@ use Rattle.lois_constraint.proofs.normal.not_implied.Given as goal
 
 abbrev pub invariant-loop-lit : goal.invariant-loop-lit
 invariant-loop-lit l = record {
-  truth : (c : List Atom) → (cube_holds c l.known && cube_holds c l.kept.items) ≡ (cube_holds c l.known && cube_holds c (take l.lit-index l.literals));
+  truth : (c : List Atom) → (cube_holds c l.closed && cube_holds c l.kept.items) ≡ (cube_holds c l.closed && cube_holds c (take l.lit-index l.literals));
   rules : (rule : Rule) → CubeObeys rule l.literals → CubeObeys rule l.kept.items;
 }

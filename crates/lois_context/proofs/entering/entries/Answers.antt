@@ -3,7 +3,7 @@ use Rattle.lois_base.specs.Tree.{comp_of}
 use Rattle.lois_context.specs.Entered.{IsEntry, AreEntries}
 use Rattle.lois_deciders.proofs.OnlyAsked.{only_asked_then}
 use Rattle.lois_context.proofs.Entered.{entries_skip, entries_put}
-use Rattle.lois_deciders.proofs.Asking.{some_is, none_is}
+use Rattle.lois_deciders.proofs.Oracle.{some_is, none_is}
 use Rattle.lois_base.proofs.Viewed.{one_more}
 use Rattle.lois_relate.proofs.Parts.{is_comp_of}
 use Rattle.lois_context.proofs.entering.entries.Goals as goal

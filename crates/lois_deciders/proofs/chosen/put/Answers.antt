@@ -2,7 +2,7 @@ use Rattle.std.proofs.Common.{◌≡◌, ◌<◌, inl, inr, List, length, get_or
 use Rattle.lois_base.specs.Theory.{IsSatisfiable}
 use Rattle.lois_base.specs.declared.guards.Lit.{Lit}
 use Rattle.lois_deciders.proofs.Following.{up_to}
-use Rattle.lois_deciders.proofs.Asking.{asked_one, some_question, no_cube_met, cube_at}
+use Rattle.lois_deciders.proofs.Oracle.{asked_one, some_question, no_cube_met, cube_at}
 use Rattle.lois_deciders.proofs.OnlyAsked.{no_lower_at_first, no_lower_risen}
 use Rattle.lois_deciders.proofs.chosen.put.Goals as goal
 

@@ -1,6 +1,6 @@
 use Rattle.std.proofs.Common.{◌+◌, length, sym, ap, ◌∙◌, subst, arith, below_more}
 use Rattle.lois_base.specs.Truth.{holds, sampled}
-use Rattle.lois_deciders.specs.Asked.{IsSmall}
+use Rattle.lois_deciders.specs.Satisfaction.{IsSmall}
 use Rattle.lois_deciders.proofs.Placed.{FailsAt, no_place, new_small}
 use Rattle.lois_deciders.proofs.places.with_one_more.Goals as goal
 

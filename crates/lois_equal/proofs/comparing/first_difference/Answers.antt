@@ -4,8 +4,8 @@ use Rattle.lois_answers.specs.CaseView.{case_of}
 use Rattle.lois_answers.specs.Sound.{IsSoundCase}
 use Rattle.lois_deciders.proofs.OnlyAsked.{only_asked_then}
 use Rattle.lois_printer.proofs.Fitting.{holds_of_each}
-use Rattle.lois_equal.specs.Comparing.{AreFit, AreAlike, AreApart, IsFirstDifference, IfDiffer, side_name}
-use Rattle.lois_equal.specs.Differing.{AreUsual}
+use Rattle.lois_equal.specs.Comparing.{AreComparable, LinesHaveSameLanguage, LinesDiffer, IsFirstDifference, IfDiffer, side_name}
+use Rattle.lois_equal.specs.Differing.{AreBounded}
 use Rattle.lois_equal.specs.declared.comparing.Comparison.TheVariants.{Differ}
 use Rattle.lois_equal.proofs.CaseLines.{holds_so_far, holds_of_all, first_here, alike_at, apart_at, usual_at}
 use Rattle.lois_equal.proofs.comparing.first_difference.Goals as goal
@@ -16,7 +16,7 @@ compare_lines-requires-clause-sound g c =
 
 pub compare_lines-requires-clause-fit : goal.compare_lines-requires-clause-fit
 compare_lines-requires-clause-fit g c =
-    holds_of_each (AreFit c.args.size c.args.first.now c.args.second.now) case_of c.args.cases.now c.as_slice-case-items.result.now c.loop-index.index c.case-item.result c.as_slice-case-items.ensures.items c.loop-index-test.true c.case-item.is c.requires.fit
+    holds_of_each (AreComparable c.args.size c.args.first.now c.args.second.now) case_of c.args.cases.now c.as_slice-case-items.result.now c.loop-index.index c.case-item.result c.as_slice-case-items.ensures.items c.loop-index-test.true c.case-item.is c.requires.fit
 
 pub loop-index-preserved : goal.loop-index-preserved
 loop-index-preserved g c =
@@ -26,7 +26,7 @@ loop-index-preserved g c =
     let x = c.case-item.result in
     record {
       sofar =
-          holds_so_far (AreAlike n a b) case_of c.as_slice-case-items.result.now c.loop-index.index x c.loop-index-test.true c.case-item.is c.loop-index.invariant.sofar
+          holds_so_far (LinesHaveSameLanguage n a b) case_of c.as_slice-case-items.result.now c.loop-index.index x c.loop-index-test.true c.case-item.is c.loop-index.invariant.sofar
           (alike_at n a b (case_of x) c.in_ok-found.found c.in_default.is c.in_ok-found.ensures.equality);
       only_asked = only_asked_then (λ d. (goal.Decider-dyn g (d.vtable, d.value)).kind_of d.value) (λ d. (goal.Decider-dyn g (d.vtable, d.value)).questions d.value) c.args.chosen.now c.loop-index.chosen c.compare_lines.new.chosen c.loop-index.invariant.only_asked c.compare_lines.ensures.only_asked;
     }
@@ -42,16 +42,16 @@ returns-in-Differs-clause-first g c =
     let name = side_name d.left a b in
     IfOk-weaker c.differs.result (λ r. r ≡ Differ (i + 1) d name) _ (λ r e.
     subst (IsFirstDifference n a b c.args.cases.now) (sym e)
-    (first_here (AreAlike n a b) case_of (AreApart n a b d name) c.args.cases.now c.as_slice-case-items.result.now i (i + 1) x c.as_slice-case-items.ensures.items c.loop-index-test.true c.case-item.is refl c.loop-index.invariant.sofar
+    (first_here (LinesHaveSameLanguage n a b) case_of (LinesDiffer n a b d name) c.args.cases.now c.as_slice-case-items.result.now i (i + 1) x c.as_slice-case-items.ensures.items c.loop-index-test.true c.case-item.is refl c.loop-index.invariant.sofar
     (apart_at n a b (case_of x) c.in_ok-found.found d c.in-Differs.is c.in_ok-found.ensures.equality))) c.differs.ensures
 
 pub returns-clause-first : goal.returns-clause-first
 returns-clause-first g c =
-    holds_of_all (AreAlike c.args.size c.args.first.now c.args.second.now) case_of c.args.cases.now c.as_slice-case-items.result.now c.loop-index.index c.as_slice-case-items.ensures.items (omega (arith, c.loop-index-test.false)) c.loop-index.invariant.sofar
+    holds_of_all (LinesHaveSameLanguage c.args.size c.args.first.now c.args.second.now) case_of c.args.cases.now c.as_slice-case-items.result.now c.loop-index.index c.as_slice-case-items.ensures.items (omega (arith, c.loop-index-test.false)) c.loop-index.invariant.sofar
 
 pub returns-in-Differs-clause-usual : goal.returns-in-Differs-clause-usual
 returns-in-Differs-clause-usual g c =
     let d = c.in-Differs.difference in
     let name = side_name d.left c.args.first.now c.args.second.now in
     IfOk-weaker c.differs.result (λ r. r ≡ Differ (c.loop-index.index + 1) d name) _ (λ r e.
-    subst (IfDiffer (λ z. AreUsual g.T.Structure.ordered z.word)) (sym e) (usual_at g.T.Structure.ordered c.in_ok-found.found d c.in-Differs.is c.in_ok-found.ensures.usual)) c.differs.ensures
+    subst (IfDiffer (λ z. AreBounded g.T.Structure.ordered z.word)) (sym e) (usual_at g.T.Structure.ordered c.in_ok-found.found d c.in-Differs.is c.in_ok-found.ensures.usual)) c.differs.ensures

@@ -1,17 +1,17 @@
 use Rattle.std.specs.List.{All}
 use Rattle.std.specs.Prelude.{Bool}
 use Rattle.lois_base.specs.Tree.{tree}
-use Rattle.lois_base.specs.Validity.{AdmitsTerm, HasUsualWidths}
+use Rattle.lois_base.specs.Validity.{AdmitsTerm, HasBoundedWidths}
 use Rattle.lois_equal.proofs.Shorter.{shorter_found, shorter_has}
 use Rattle.lois_equal.proofs.differing.equal.Goals as goal
 
 pub returns-clause-same : goal.returns-clause-same
 returns-clause-same g c =
-    (shorter_found c.args.size c.args.under.now (tree c.args.a.now) (tree c.args.b.now) c.in_ok-first.first c.in_ok-second.second c.shorter.result c.in_ok-first.ensures.none c.in_ok-first.ensures.found c.in_ok-second.ensures.none c.in_ok-second.ensures.found c.shorter.ensures).0
+    (shorter_found c.args.size c.args.under.now (tree c.args.a.now) (tree c.args.b.now) c.in_ok-first.first c.in_ok-second.second c.shorter.result c.in_ok-first.ensures.none c.in_ok-first.ensures.difference_of c.in_ok-second.ensures.none c.in_ok-second.ensures.difference_of c.shorter.ensures).0
 
 pub returns-clause-differs : goal.returns-clause-differs
 returns-clause-differs g c =
-    (shorter_found c.args.size c.args.under.now (tree c.args.a.now) (tree c.args.b.now) c.in_ok-first.first c.in_ok-second.second c.shorter.result c.in_ok-first.ensures.none c.in_ok-first.ensures.found c.in_ok-second.ensures.none c.in_ok-second.ensures.found c.shorter.ensures).1
+    (shorter_found c.args.size c.args.under.now (tree c.args.a.now) (tree c.args.b.now) c.in_ok-first.first c.in_ok-second.second c.shorter.result c.in_ok-first.ensures.none c.in_ok-first.ensures.difference_of c.in_ok-second.ensures.none c.in_ok-second.ensures.difference_of c.shorter.ensures).1
 
 pub returns-clause-operators : goal.returns-clause-operators
 returns-clause-operators g c =
@@ -24,5 +24,5 @@ pub returns-clause-widths : goal.returns-clause-widths
 returns-clause-widths g c =
     let a = tree c.args.a.now in
     let b = tree c.args.b.now in
-    shorter_has (λ ts. HasUsualWidths a → HasUsualWidths b → All HasUsualWidths ts) (λ ts. HasUsualWidths b → HasUsualWidths a → All HasUsualWidths ts) (λ ts. HasUsualWidths a → HasUsualWidths b → All HasUsualWidths ts)
+    shorter_has (λ ts. HasBoundedWidths a → HasBoundedWidths b → All HasBoundedWidths ts) (λ ts. HasBoundedWidths b → HasBoundedWidths a → All HasBoundedWidths ts) (λ ts. HasBoundedWidths a → HasBoundedWidths b → All HasBoundedWidths ts)
     c.in_ok-first.first c.in_ok-second.second c.shorter.result c.in_ok-first.ensures.widths c.in_ok-second.ensures.widths (λ ts h. h) (λ ts h p q. h q p) c.shorter.ensures

@@ -5,8 +5,8 @@ use Rattle.lois_base.specs.Tree.{tree}
 use Rattle.lois_base.specs.Validity.{AdmitsTerm}
 use Rattle.lois_algebra.specs.Gathered.{IsPut}
 use Rattle.lois_automata.specs.Built.{HoldsWhereIn}
-use Rattle.lois_automata.specs.Columns.{pair_of}
-use Rattle.lois_equal.specs.Completed.{AddsLedOut}
+use Rattle.lois_automata.specs.Projections.{pair_of}
+use Rattle.lois_equal.specs.Completed.{AddsSinkSteps}
 use Rattle.lois_equal.proofs.LedOut.{adds_led_out, none_led_out}
 use Rattle.lois_equal.proofs.leading.add_led_out.Goals as goal
 
@@ -28,13 +28,13 @@ returns g c =
     let guard = c.in_ok-guard.guard in
     let target = tree c.in_ok-target.target in
     let before = comps_of c.args.made.now in
-    let after = comps_of c.put.new.comps in
+    let after = comps_of c.push_comp.new.comps in
     let is : HoldsWhereIn n k.binders (pair_of p l) there found = subst (λ z. HoldsWhereIn n k.binders z there found) c.in-Some.ensures.some c.in_ok-found.ensures.truth in
-    IfOk-weaker c.put.result (λ _. IsPut (comp k.binders guard (tree c.in_ok-item.item)) before after) _ (λ _ added.
-    subst (λ z. AddsLedOut n (comp k.binders k.guard z) there sink before after) (sym c.in-Some.ensures.some)
+    IfOk-weaker c.push_comp.result (λ _. IsPut (comp k.binders guard (tree c.in_ok-item.item)) before after) _ (λ _ added.
+    subst (λ z. AddsSinkSteps n (comp k.binders k.guard z) there sink before after) (sym c.in-Some.ensures.some)
     (adds_led_out n k.binders k.guard found missing guard p l target there sink is c.in_ok-missing.ensures.truth c.in_ok-guard.ensures.truth c.in_ok-target.ensures.value before after
     (subst (λ z. IsPut (comp k.binders guard z) before after) c.in_ok-item.ensures added)
     (λ h. c.in_ok-guard.ensures.fits (n + k.binders) h (c.in_ok-missing.ensures.fits (n + k.binders) c.in_ok-found.ensures.fits))
     c.in_ok-target.ensures.fits
     (λ o h a b. c.in_ok-guard.ensures.operators o h (c.in_ok-missing.ensures.operators o (c.in_ok-found.ensures.operators o (subst (λ z. AdmitsTerm o z) (sym c.in-Some.ensures.some) a) b)))
-    c.in_ok-target.ensures.operators c.in_ok-target.ensures.widths)) c.put.ensures.added
+    c.in_ok-target.ensures.operators c.in_ok-target.ensures.widths)) c.push_comp.ensures.added

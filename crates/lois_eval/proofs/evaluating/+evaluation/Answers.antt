@@ -27,7 +27,7 @@ use Rattle.lois_eval.specs.Evaluated.{IsTermOf, AreTermsOf, IsConstraintOf, IsWi
 use Rattle.lois_eval.specs.Folded.{IsGathered, IsFoundInside, IsFaultInside}
 use Rattle.lois_eval.specs.Forms.{each_from, joint, quantifier, two}
 use Rattle.lois_eval.specs.Made.{IsPartFault}
-use Rattle.lois_eval.specs.Standing.{IsPlaced, Stands, AllStand, CondStands}
+use Rattle.lois_eval.specs.WellFormed.{IsWellFormedIn, IsWellFormed, AreWellFormed, CondIsWellFormed}
 use Rattle.lois_eval.specs.Throughout.{IfFault, IsFaultOf}
 use Rattle.lois_eval.proofs.Bindings.{first_weight, first_new, first_no_set, first_inside, first_loop, first_within, first_fails, last_none, last_item_placed, last_one, last_within, last_item_fails, bound_new, bound_no_set, bound_inside, bound_loop, bound_fails}
 use Rattle.lois_eval.proofs.Comparing.{sides_from}
@@ -36,7 +36,7 @@ use Rattle.lois_eval.proofs.Emptiness.{empty_decided, empty_fails}
 use Rattle.lois_eval.proofs.Evaluations.{placed_as, terms_none, terms_more, some_fails, joint_fails, joint_placed}
 use Rattle.lois_eval.proofs.FaultsAt.{if_fault}
 use Rattle.lois_eval.proofs.Gathering.{gathered_more, found_more}
-use Rattle.lois_eval.proofs.Handed.{handed_fault, handed_same, handed_ok, item_there, passed_on}
+use Rattle.lois_eval.proofs.LoopExit.{handed_fault, handed_same, handed_ok, item_there, passed_on}
 use Rattle.lois_eval.proofs.Nodes.{part_made, part_fails, made_as, breaks_as, too_deep_fails}
 use Rattle.lois_eval.proofs.Parts.{is_expr_of, is_cond_of}
 use Rattle.lois_eval.proofs.Plain.{truth_decided, falsity_decided, decided_as, cond_fails_as}
@@ -47,8 +47,8 @@ use Rattle.lois_eval.proofs.evaluating.+evaluation.Goals as goal
 pub all_decided-loop-part-init : goal.all_decided-loop-part-init
 all_decided-loop-part-init g t c =
     record {
-      constraint = joint_none c.args.context.now (CondStands (joint c.args.every (conds_of (conds_list c.args.parts.now)))) c.args.every c.in_ok-found.found c.in_ok-found.ensures.truth (c.in_ok-found.ensures.levels c.args.context.now.size) c.in_ok-found.ensures.operators;
-      asked = g.met.D.Asks.reaches_itself c.args.decider.now;
+      constraint = joint_none c.args.context.now (CondIsWellFormed (joint c.args.every (conds_of (conds_list c.args.parts.now)))) c.args.every c.in_ok-found.found c.in_ok-found.ensures.truth (c.in_ok-found.ensures.levels c.args.context.now.size) c.in_ok-found.ensures.operators;
+      asked = g.met.D.Oracle.reaches_itself c.args.decider.now;
     }
 
 pub all_decided-decided-requires : goal.all_decided-decided-requires
@@ -74,7 +74,7 @@ all_decided-loop-part-preserved g t c =
     let i = c.loop-part.part-index in
     let one = c.part-item.result in
     let cs = conds_of (conds_list c.args.parts.now) in
-    let S = CondStands (joint c.args.every cs) in
+    let S = CondIsWellFormed (joint c.args.every cs) in
     let p = is_cond_of items (conds_list c.args.parts.now) i one c.as_slice-part-items.ensures.items c.loop-part-test.true c.part-item.is in
     let after = c.in_ok-found-2.found in
     let done = c.in_ok-found-2.ensures in
@@ -82,7 +82,7 @@ all_decided-loop-part-preserved g t c =
       constraint =
           subst (λ z. IsConstraintOf k (HasTruth (joint c.args.every (conds_of z))) S after) (sym (one_more cond_tree items i one c.loop-part-test.true c.part-item.is))
           (joint_more k S c.args.every (map cond_tree (take i items)) (cond_tree one) c.loop-part.found c.in_ok-one.one after c.loop-part.invariant.constraint c.in_ok-one.ensures.constraint done.truth done.levels done.operators (λ o h. joint_placed k c.args.every cs (cond_tree one) o p h));
-      asked = g.met.D.Asks.reaches_then c.args.decider.now c.loop-part.decider c.decided.new.decider c.loop-part.invariant.asked c.decided.ensures.asked;
+      asked = g.met.D.Oracle.reaches_then c.args.decider.now c.loop-part.decider c.decided.new.decider c.loop-part.invariant.asked c.decided.ensures.asked;
     }
 
 pub all_evaluated-evaluated-requires : goal.all_evaluated-evaluated-requires
@@ -91,7 +91,7 @@ all_evaluated-evaluated-requires g t c κs within =
     let es = exprs_of (exprs_list c.args.es.now) in
     let e = c.e-item.result in
     let p = is_expr_of c.as_slice-e-items.result.now (exprs_list c.args.es.now) c.loop-e.e-index e c.as_slice-e-items.ensures.items c.loop-e-test.true c.e-item.is in
-    (omega (arith, p.weight), (within.0, (within.1, (c.requires.sound, placed_as k g.T.Structure.ordered (AllStand es) (Stands (tree e)) p.stands c.requires.placed))))
+    (omega (arith, p.weight), (within.0, (within.1, (c.requires.sound, placed_as k g.T.Structure.ordered (AreWellFormed es) (IsWellFormed (tree e)) p.stands c.requires.placed))))
 
 pub all_evaluated-returns-in_err-evaluated-clause-fault :
     goal.all_evaluated-returns-in_err-evaluated-clause-fault
@@ -108,13 +108,13 @@ all_evaluated-loop-e-preserved g t c =
     let items = c.as_slice-e-items.result.now in
     let i = c.loop-e.e-index in
     let e = c.e-item.result in
-    let S = AllStand (exprs_of (exprs_list c.args.es.now)) in
+    let S = AreWellFormed (exprs_of (exprs_list c.args.es.now)) in
     let item = is_expr_of items (exprs_list c.args.es.now) i e c.as_slice-e-items.ensures.items c.loop-e-test.true c.e-item.is in
     record {
       terms =
           subst (λ z. AreTermsOf k (exprs_of z) S c.push.new.self) (sym (one_more tree items i e c.loop-e-test.true c.e-item.is))
-          (terms_more k S (map tree (take i items)) (tree e) c.loop-e.values c.push.new.self (term_tree c.in_ok-evaluated.field-0) c.loop-e.invariant.terms c.in_ok-evaluated.ensures.term (λ o h. placed_as k o S (Stands (tree e)) item.stands h) c.in_ok-push.ensures.ok);
-      asked = g.met.D.Asks.reaches_then c.args.decider.now c.loop-e.decider c.evaluated.new.decider c.loop-e.invariant.asked c.evaluated.ensures.asked;
+          (terms_more k S (map tree (take i items)) (tree e) c.loop-e.values c.push.new.self (term_tree c.in_ok-evaluated.field-0) c.loop-e.invariant.terms c.in_ok-evaluated.ensures.term (λ o h. placed_as k o S (IsWellFormed (tree e)) item.stands h) c.in_ok-push.ensures.ok);
+      asked = g.met.D.Oracle.reaches_then c.args.decider.now c.loop-e.decider c.evaluated.new.decider c.loop-e.invariant.asked c.evaluated.ensures.asked;
     }
 
 pub both_evaluated-returns-clause-terms : goal.both_evaluated-returns-clause-terms
@@ -122,10 +122,10 @@ both_evaluated-returns-clause-terms g t c =
     let k = c.args.context.now in
     let e = tree c.args.e.now in
     let f = tree c.args.f.now in
-    let S = AllStand (two e f) in
+    let S = AreWellFormed (two e f) in
     let none = subst (AreTermsOf k (exprs_of []) S) (sym c.new-values.ensures) (terms_none k S) in
-    let one = terms_more k S [] e c.new-values.result c.push.new.self (term_tree c.in_ok-evaluated.field-0) none c.in_ok-evaluated.ensures.term (λ o h. placed_as k o S (Stands e) (λ o xs h. h.0) h) c.in_ok-push.ensures.ok in
-    terms_more k S (e ∷ []) f c.push.new.self c.push-2.new.self (term_tree c.in_ok-evaluated-2.field-0) one c.in_ok-evaluated-2.ensures.term (λ o h. placed_as k o S (Stands f) (λ o xs h. h.1.0) h) c.in_ok-push-2.ensures.ok
+    let one = terms_more k S [] e c.new-values.result c.push.new.self (term_tree c.in_ok-evaluated.field-0) none c.in_ok-evaluated.ensures.term (λ o h. placed_as k o S (IsWellFormed e) (λ o xs h. h.0) h) c.in_ok-push.ensures.ok in
+    terms_more k S (e ∷ []) f c.push.new.self c.push-2.new.self (term_tree c.in_ok-evaluated-2.field-0) one c.in_ok-evaluated-2.ensures.term (λ o h. placed_as k o S (IsWellFormed f) (λ o xs h. h.1.0) h) c.in_ok-push-2.ensures.ok
 
 pub decided-compared-requires-clause-values : goal.decided-compared-requires-clause-values
 decided-compared-requires-clause-values g t c =
@@ -168,7 +168,7 @@ decided-wordless-requires g t c =
     let e = c.in-Empty.e in
     let is = ap cond_tree c.in-Empty.is ∙ cond_Empty e in
     let o = g.T.Structure.ordered in
-    let placed = subst (λ z. IsPlaced (CondStands z) o c.args.context.now) is c.requires.placed in
+    let placed = subst (λ z. IsWellFormedIn (CondIsWellFormed z) o c.args.context.now) is c.requires.placed in
     record {
       sound = c.requires.sound;
       levels = own.levels;
@@ -216,7 +216,7 @@ decided-returns-in_ok-negate-in-Not-clause-constraint g t c =
     let negated = c.in-Not.negated in
     let r = c.in_ok-negate-in-Not.field-0 in
     let done = c.in_ok-negate-in-Not.ensures in
-    let held = subst (λ (z : Cond). IsConstraintOf k (HasTruth (cond_tree z)) (CondStands (cond_tree z)) c.in_ok-held-in-Not.held) c.deref.ensures c.in_ok-held-in-Not.ensures.constraint in
+    let held = subst (λ (z : Cond). IsConstraintOf k (HasTruth (cond_tree z)) (CondIsWellFormed (cond_tree z)) c.in_ok-held-in-Not.held) c.deref.ensures c.in_ok-held-in-Not.ensures.constraint in
     decided_as k (cond_tree c.args.c.now) (not (cond_tree negated.value)) r (ap cond_tree c.in-Not.is ∙ cond_Not negated)
     (not_decided k (cond_tree negated.value) c.in_ok-held-in-Not.held r held done.truth (done.fits k.size held.levels) done.operators)
 
@@ -246,9 +246,9 @@ found_inside-loop-context-preserved g t c =
     let longer : c.args.size ≤ d.size = subst (λ z. c.args.size ≤ z.size) (sym c.context-item.is) (c.requires.sizes i d c.loop-context-test.true) in
     record {
       constraint =
-          subst (λ z. IsFoundInside c.args.size (HasTruth b) c.args.wanted (CondStands b) z c.in_ok-found.found) (sym more)
-          (found_more c.args.size (HasTruth b) c.args.wanted (CondStands b) (truth_same b) (take i inner) c.loop-context.found d c.in_ok-held.held r.there r.some c.in_ok-found.found c.loop-context.invariant.constraint longer own r.sought r.bound r.joined (r.levels c.loop-context.invariant.constraint.levels) (λ o a p. r.operators o a (own.operators o p) p.operators));
-      asked = g.met.D.Asks.reaches_then c.args.decider.now c.loop-context.decider c.decided.new.decider c.loop-context.invariant.asked c.decided.ensures.asked;
+          subst (λ z. IsFoundInside c.args.size (HasTruth b) c.args.wanted (CondIsWellFormed b) z c.in_ok-found.found) (sym more)
+          (found_more c.args.size (HasTruth b) c.args.wanted (CondIsWellFormed b) (truth_same b) (take i inner) c.loop-context.found d c.in_ok-held.held r.there r.some c.in_ok-found.found c.loop-context.invariant.constraint longer own r.sought r.bound r.joined (r.levels c.loop-context.invariant.constraint.levels) (λ o a p. r.operators o a (own.operators o p) p.operators));
+      asked = g.met.D.Oracle.reaches_then c.args.decider.now c.loop-context.decider c.decided.new.decider c.loop-context.invariant.asked c.decided.ensures.asked;
     }
 
 pub gathered-entered-requires-clause-new_name : goal.gathered-entered-requires-clause-new_name
@@ -304,8 +304,8 @@ gathered-returns-clause-term g t c =
     let is = c.index-bindings-from.is in
     let t = term_tree c.in_ok-elements.elements in
     let ds = c.deref.result.now in
-    handed_same c.handed_comps.result c.gathered_inside.result (λ r. IsGathered k.size (Makes (each_from item bs (i + 1) cond)) (Stands (each_from item bs (i + 1) cond)) ds (comps_of r)) (λ r. IsTermOf k (Makes (each_from item bs i cond)) (Stands (each_from item bs i cond)) (coll (comps_of r)))
-    c.handed_comps.ensures.ok c.gathered_inside.ensures.comps (λ r h. first_loop k item bs i b cond l is t c.in_ok-elements.ensures.term ds c.in_ok-inner.ensures.set (subst (AreEntered k b.name t) (sym c.deref.ensures.value) c.in_ok-inner.ensures.entered) (comps_of r) h)
+    handed_same c.leave_loop_with_comps.result c.gathered_inside.result (λ r. IsGathered k.size (Makes (each_from item bs (i + 1) cond)) (IsWellFormed (each_from item bs (i + 1) cond)) ds (comps_of r)) (λ r. IsTermOf k (Makes (each_from item bs i cond)) (IsWellFormed (each_from item bs i cond)) (coll (comps_of r)))
+    c.leave_loop_with_comps.ensures.ok c.gathered_inside.ensures.comps (λ r h. first_loop k item bs i b cond l is t c.in_ok-elements.ensures.term ds c.in_ok-inner.ensures.set (subst (AreEntered k b.name t) (sym c.deref.ensures.value) c.in_ok-inner.ensures.entered) (comps_of r) h)
 
 pub gathered-returns-clause-within : goal.gathered-returns-clause-within
 gathered-returns-clause-within g t c =
@@ -319,8 +319,8 @@ gathered-returns-clause-within g t c =
     let is = c.index-bindings-from.is in
     let t = term_tree c.in_ok-elements.elements in
     let ds = c.deref.result.now in
-    handed_same c.handed_comps.result c.gathered_inside.result (λ r. IsGathered k.size (Makes (each_from item bs (i + 1) cond)) (Stands (each_from item bs (i + 1) cond)) ds (comps_of r)) (λ r. IsWithin k (coll (comps_of r)))
-    c.handed_comps.ensures.ok c.gathered_inside.ensures.comps (λ r h. first_within k item bs i b cond l is t c.in_ok-elements.ensures.term ds c.in_ok-inner.ensures.set (subst (AreEntered k b.name t) (sym c.deref.ensures.value) c.in_ok-inner.ensures.entered) (comps_of r) h)
+    handed_same c.leave_loop_with_comps.result c.gathered_inside.result (λ r. IsGathered k.size (Makes (each_from item bs (i + 1) cond)) (IsWellFormed (each_from item bs (i + 1) cond)) ds (comps_of r)) (λ r. IsWithin k (coll (comps_of r)))
+    c.leave_loop_with_comps.ensures.ok c.gathered_inside.ensures.comps (λ r h. first_within k item bs i b cond l is t c.in_ok-elements.ensures.term ds c.in_ok-inner.ensures.set (subst (AreEntered k b.name t) (sym c.deref.ensures.value) c.in_ok-inner.ensures.entered) (comps_of r) h)
 
 pub gathered-returns-clause-fault : goal.gathered-returns-clause-fault
 gathered-returns-clause-fault g t c =
@@ -334,7 +334,7 @@ gathered-returns-clause-fault g t c =
     let is = c.index-bindings-from.is in
     let t = term_tree c.in_ok-elements.elements in
     let ds = c.deref.result.now in
-    handed_fault c.handed_comps.result c.gathered_inside.result k.size (IsFaultInside ds (Breaks (each_from item bs (i + 1) cond))) (IsFaultOf k (Breaks (each_from item bs i cond))) c.handed_comps.ensures.fault c.gathered_inside.ensures.fault (λ f h inside cut. first_fails k item bs i b cond l is t c.in_ok-elements.ensures.term ds c.in_ok-inner.ensures.set (subst (AreEntered k b.name t) (sym c.deref.ensures.value) c.in_ok-inner.ensures.entered) f h inside cut)
+    handed_fault c.leave_loop_with_comps.result c.gathered_inside.result k.size (IsFaultInside ds (Breaks (each_from item bs (i + 1) cond))) (IsFaultOf k (Breaks (each_from item bs i cond))) c.leave_loop_with_comps.ensures.fault c.gathered_inside.ensures.fault (λ f h inside cut. first_fails k item bs i b cond l is t c.in_ok-elements.ensures.term ds c.in_ok-inner.ensures.set (subst (AreEntered k b.name t) (sym c.deref.ensures.value) c.in_ok-inner.ensures.entered) f h inside cut)
 
 pub gathered_here-returns-in_default-clause-term :
     goal.gathered_here-returns-in_default-clause-term
@@ -387,7 +387,7 @@ gathered_here-returns-clause-term g t c =
     let kept = λ (o : Bool) (p : AdmitsContext o k) (q : AdmitsConstraint o wanted). subst (λ z. IfSome z (AdmitsContext o)) c.in-Some.is (c.in_ok-here.ensures.operators o p q) in
     let t = term_tree c.in_ok-evaluated.field-0 in
     let room : k.size < 2 ^ 64 = omega arith in
-    IfOk-weaker c.alone.result (λ r. r ≡ comp 0 d.«when» t ∷ []) _ (λ r is. last_one k item bs cond wanted held d side kept t (comps_of r) c.in_ok-evaluated.ensures.term room (ap comps_of is)) c.alone.ensures.ok
+    IfOk-weaker c.singleton_set.result (λ r. r ≡ comp 0 d.«when» t ∷ []) _ (λ r is. last_one k item bs cond wanted held d side kept t (comps_of r) c.in_ok-evaluated.ensures.term room (ap comps_of is)) c.singleton_set.ensures.ok
 
 pub gathered_here-returns-clause-within : goal.gathered_here-returns-clause-within
 gathered_here-returns-clause-within g t c =
@@ -401,7 +401,7 @@ gathered_here-returns-clause-within g t c =
     let side = subst (λ o. IfSome o (IsSide k (λ a. holds a wanted))) c.in-Some.is c.in_ok-here.ensures.side in
     let kept = λ (o : Bool) (p : AdmitsContext o k) (q : AdmitsConstraint o wanted). subst (λ z. IfSome z (AdmitsContext o)) c.in-Some.is (c.in_ok-here.ensures.operators o p q) in
     let t = term_tree c.in_ok-evaluated.field-0 in
-    IfOk-weaker c.alone.result (λ r. r ≡ comp 0 d.«when» t ∷ []) _ (λ r is. last_within k item bs cond wanted held d side kept t (comps_of r) c.in_ok-evaluated.ensures.term (ap comps_of is)) c.alone.ensures.ok
+    IfOk-weaker c.singleton_set.result (λ r. r ≡ comp 0 d.«when» t ∷ []) _ (λ r is. last_within k item bs cond wanted held d side kept t (comps_of r) c.in_ok-evaluated.ensures.term (ap comps_of is)) c.singleton_set.ensures.ok
 
 pub gathered_inside-returns-in_err-more-clause-fault :
     goal.gathered_inside-returns-in_err-more-clause-fault
@@ -420,9 +420,9 @@ gathered_inside-loop-context-preserved g t c =
     let longer : c.args.size ≤ d.size = subst (λ z. c.args.size ≤ z.size) (sym c.context-item.is) (c.requires.sizes i d c.loop-context-test.true) in
     record {
       comps =
-          subst (λ z. IsGathered c.args.size (Makes e) (Stands e) z (comps_of c.put_outward.new.comps)) (sym more)
-          (gathered_more c.args.size (Makes e) (Stands e) (makes_same e) (take i inner) c.loop-context.comps d c.in_ok-more.more c.put_outward.new.comps c.loop-context.invariant.comps longer c.in_ok-more.ensures.term c.in_ok-more.ensures.within c.in_ok-put_outward.ensures);
-      asked = g.met.D.Asks.reaches_then c.args.decider.now c.loop-context.decider c.gathered.new.decider c.loop-context.invariant.asked c.gathered.ensures.asked;
+          subst (λ z. IsGathered c.args.size (Makes e) (IsWellFormed e) z (comps_of c.put_outward.new.comps)) (sym more)
+          (gathered_more c.args.size (Makes e) (IsWellFormed e) (makes_same e) (take i inner) c.loop-context.comps d c.in_ok-more.more c.put_outward.new.comps c.loop-context.invariant.comps longer c.in_ok-more.ensures.term c.in_ok-more.ensures.within c.in_ok-put_outward.ensures);
+      asked = g.met.D.Oracle.reaches_then c.args.decider.now c.loop-context.decider c.gathered.new.decider c.loop-context.invariant.asked c.gathered.ensures.asked;
     }
 
 pub made-returns-in_ok-gathered-in-Each-clause-term :
@@ -435,10 +435,10 @@ made-returns-in_ok-gathered-in-Each-clause-term g t c =
     let cond = c.in-Each.condition in
     let t = coll (comps_of c.in_ok-gathered-in-Each.field-0) in
     let is = ap tree c.in-Each.is ∙ tree_Each p item bindings cond in
-    let Made : Expr → Cond → Type 0 = λ e d. IsTermOf k (Makes (each_from e c.as_slice.result.now 0 d)) (Stands (each_from e c.as_slice.result.now 0 d)) t in
+    let Made : Expr → Cond → Type 0 = λ e d. IsTermOf k (Makes (each_from e c.as_slice.result.now 0 d)) (IsWellFormed (each_from e c.as_slice.result.now 0 d)) t in
     let made = subst (λ e. Made e cond.value) c.deref.ensures (subst (λ d. Made c.deref.result.now d) c.deref-in-Each.ensures c.in_ok-gathered-in-Each.ensures.term) in
     made_as k (tree c.args.e.now) (each p.offset (tree item.value) (bindings_of (bindings_list bindings)) (cond_tree cond.value)) t is
-    (subst (λ z. IsTermOf k (Makes (each p.offset (tree item.value) (bindings_of z) (cond_tree cond.value))) (Stands (each p.offset (tree item.value) (bindings_of z) (cond_tree cond.value))) t) c.as_slice.ensures.items made)
+    (subst (λ z. IsTermOf k (Makes (each p.offset (tree item.value) (bindings_of z) (cond_tree cond.value))) (IsWellFormed (each p.offset (tree item.value) (bindings_of z) (cond_tree cond.value))) t) c.as_slice.ensures.items made)
 
 pub made-returns-in_ok-evaluated-in-Part-clause-term :
     goal.made-returns-in_ok-evaluated-in-Part-clause-term
@@ -449,7 +449,7 @@ made-returns-in_ok-evaluated-in-Part-clause-term g t c =
     let n = c.in-Part.n in
     let u = term_tree c.in_ok-evaluated-in-Part.field-0 in
     let is = ap tree c.in-Part.is ∙ tree_Part p whole n in
-    let own = subst (λ (z : Expr). IsTermOf k (Gives (tree z)) (Stands (tree z)) u) c.deref-in-Part-2.ensures c.in_ok-evaluated-in-Part.ensures.term in
+    let own = subst (λ (z : Expr). IsTermOf k (Gives (tree z)) (IsWellFormed (tree z)) u) c.deref-in-Part-2.ensures c.in_ok-evaluated-in-Part.ensures.term in
     IfOk-weaker c.part.result (λ r. part_of u n ≡ Some (term_tree r)) _ (λ r found. made_as k (tree c.args.e.now) (part p.offset (tree whole.value) n) (term_tree r) is (part_made k p.offset (tree whole.value) n u (term_tree r) own found)) c.part.ensures.part
 
 pub made-returns-in_ok-evaluated-in-Part-clause-fault :
@@ -461,7 +461,7 @@ made-returns-in_ok-evaluated-in-Part-clause-fault g t c =
     let n = c.in-Part.n in
     let u = term_tree c.in_ok-evaluated-in-Part.field-0 in
     let is = ap tree c.in-Part.is ∙ tree_Part p whole n in
-    let own = subst (λ (z : Expr). IsTermOf k (Gives (tree z)) (Stands (tree z)) u) c.deref-in-Part-2.ensures c.in_ok-evaluated-in-Part.ensures.term in
+    let own = subst (λ (z : Expr). IsTermOf k (Gives (tree z)) (IsWellFormed (tree z)) u) c.deref-in-Part-2.ensures c.in_ok-evaluated-in-Part.ensures.term in
     IfErr-weaker c.part.result (λ s. IfFault s (IsPartFault k u n c.pos-pos.result.offset)) _ (λ s h. if_fault s (IsPartFault k u n c.pos-pos.result.offset) (IsFaultOf k (Breaks (tree c.args.e.now))) (λ f d. breaks_as k (tree c.args.e.now) (part p.offset (tree whole.value) n) f is (part_fails k p.offset (tree whole.value) n u f own (subst (λ z. IsPartFault k u n z f) (c.pos-pos.ensures.first_token ∙ ap (λ (z : Expr). pos (tree z)) c.deref-in-Part.ensures) d))) h) c.part.ensures.fault
 
 pub quantified-entered-requires-clause-new_name : goal.quantified-entered-requires-clause-new_name
@@ -506,9 +506,9 @@ quantified-returns-clause-constraint g t c =
     let set = c.in_ok-inner.ensures.set in
     let entered = subst (AreEntered k b.name t) (sym c.deref.ensures.value) c.in_ok-inner.ensures.entered in
     let own = c.in_ok-elements.ensures.term in
-    handed_ok c.handed_constraint.result c.found_inside.result (λ r f. (a : List Atom) → holds a r ≡ (if some then holds a f else opposite (holds a f))) (λ r f. ConstraintFits k.size f → ConstraintFits k.size r) (λ r f. (o : Bool) → AdmitsConstraint o f → AdmitsConstraint o r)
-    (IsFoundInside k.size (HasTruth (cond_tree body)) some (CondStands (cond_tree body)) ds) (IsConstraintOf k (HasTruth (quantifier some (binding_tree b) (cond_tree body))) (CondStands (quantifier some (binding_tree b) (cond_tree body))))
-    c.handed_constraint.ensures.truth c.handed_constraint.ensures.levels c.handed_constraint.ensures.operators c.found_inside.ensures.constraint
+    handed_ok c.leave_loop_with_constraint.result c.found_inside.result (λ r f. (a : List Atom) → holds a r ≡ (if some then holds a f else opposite (holds a f))) (λ r f. ConstraintFits k.size f → ConstraintFits k.size r) (λ r f. (o : Bool) → AdmitsConstraint o f → AdmitsConstraint o r)
+    (IsFoundInside k.size (HasTruth (cond_tree body)) some (CondIsWellFormed (cond_tree body)) ds) (IsConstraintOf k (HasTruth (quantifier some (binding_tree b) (cond_tree body))) (CondIsWellFormed (quantifier some (binding_tree b) (cond_tree body))))
+    c.leave_loop_with_constraint.ensures.truth c.leave_loop_with_constraint.ensures.levels c.leave_loop_with_constraint.ensures.operators c.found_inside.ensures.constraint
     (λ r f holding levels operators found. bound_loop k some b body t own ds set entered f r found holding (levels found.levels) operators)
 
 pub quantified-returns-clause-fault : goal.quantified-returns-clause-fault
@@ -522,4 +522,4 @@ quantified-returns-clause-fault g t c =
     let set = c.in_ok-inner.ensures.set in
     let entered = subst (AreEntered k b.name t) (sym c.deref.ensures.value) c.in_ok-inner.ensures.entered in
     let own = c.in_ok-elements.ensures.term in
-    handed_fault c.handed_constraint.result c.found_inside.result k.size (IsFaultInside ds (CondFails (cond_tree body))) (IsFaultOf k (CondFails (quantifier some (binding_tree b) (cond_tree body)))) c.handed_constraint.ensures.fault c.found_inside.ensures.fault (λ f h there cut. bound_fails k some b body t own ds set entered f h there cut)
+    handed_fault c.leave_loop_with_constraint.result c.found_inside.result k.size (IsFaultInside ds (CondFails (cond_tree body))) (IsFaultOf k (CondFails (quantifier some (binding_tree b) (cond_tree body)))) c.leave_loop_with_constraint.ensures.fault c.found_inside.ensures.fault (λ f h there cut. bound_fails k some b body t own ds set entered f h there cut)

@@ -5,7 +5,7 @@ use Rattle.lois_script.specs.View.{tree, cond_tree, binding_tree, exprs_of, expr
 use Rattle.lois_eval.specs.Evaluated.{AreTermsOf, IsConstraintOf}
 use Rattle.lois_eval.specs.Folded.{IsGathered, IsFoundInside}
 use Rattle.lois_eval.specs.Forms.{each_from, joint}
-use Rattle.lois_eval.specs.Standing.{Stands, AllStand, CondStands}
+use Rattle.lois_eval.specs.WellFormed.{IsWellFormed, AreWellFormed, CondIsWellFormed}
 use Rattle.lois_eval.proofs.Weights.{weight, weight_of_exprs, weight_of_binding, weight_of_cond, weight_of_conds, weight_from}
 use Rattle.lois_eval.proofs.evaluating.+evaluation.Given as goal
 
@@ -43,29 +43,29 @@ decreases-found_inside g l = 4 * weight_of_cond (cond_tree l.body.now) + 1
 abbrev pub invariant-all_evaluated-loop-e : goal.invariant-all_evaluated-loop-e
 invariant-all_evaluated-loop-e g l =
     record {
-      terms : AreTermsOf l.context (exprs_of (map tree (take l.e-index l.e-items))) (AllStand (exprs_of (exprs_list l.es))) l.values;
-      asked : g.D.Asks.reaches l.fn.decider l.decider;
+      terms : AreTermsOf l.context (exprs_of (map tree (take l.e-index l.e-items))) (AreWellFormed (exprs_of (exprs_list l.es))) l.values;
+      asked : g.D.Oracle.reaches l.fn.decider l.decider;
     }
 
 abbrev pub invariant-gathered_inside-loop-context : goal.invariant-gathered_inside-loop-context
 invariant-gathered_inside-loop-context g l =
     record {
-      comps : IsGathered l.size (Makes (each_from l.item l.bindings l.from l.condition)) (Stands (each_from l.item l.bindings l.from l.condition)) (take l.context-index l.inner) (comps_of l.comps);
-      asked : g.D.Asks.reaches l.fn.decider l.decider;
+      comps : IsGathered l.size (Makes (each_from l.item l.bindings l.from l.condition)) (IsWellFormed (each_from l.item l.bindings l.from l.condition)) (take l.context-index l.inner) (comps_of l.comps);
+      asked : g.D.Oracle.reaches l.fn.decider l.decider;
     }
 
 abbrev pub invariant-all_decided-loop-part : goal.invariant-all_decided-loop-part
 invariant-all_decided-loop-part g l =
     record {
-      constraint : IsConstraintOf l.context (HasTruth (joint l.every (conds_of (map cond_tree (take l.part-index l.part-items))))) (CondStands (joint l.every (conds_of (conds_list l.parts)))) l.found;
-      asked : g.D.Asks.reaches l.fn.decider l.decider;
+      constraint : IsConstraintOf l.context (HasTruth (joint l.every (conds_of (map cond_tree (take l.part-index l.part-items))))) (CondIsWellFormed (joint l.every (conds_of (conds_list l.parts)))) l.found;
+      asked : g.D.Oracle.reaches l.fn.decider l.decider;
     }
 
 abbrev pub invariant-found_inside-loop-context : goal.invariant-found_inside-loop-context
 invariant-found_inside-loop-context g l =
     record {
-      constraint : IsFoundInside l.size (HasTruth (cond_tree l.body)) l.wanted (CondStands (cond_tree l.body)) (take l.context-index l.inner) l.found;
-      asked : g.D.Asks.reaches l.fn.decider l.decider;
+      constraint : IsFoundInside l.size (HasTruth (cond_tree l.body)) l.wanted (CondIsWellFormed (cond_tree l.body)) (take l.context-index l.inner) l.found;
+      asked : g.D.Oracle.reaches l.fn.decider l.decider;
     }
 
 abbrev pub decreases-both_evaluated : goal.decreases-both_evaluated

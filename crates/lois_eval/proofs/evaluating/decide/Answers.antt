@@ -7,7 +7,7 @@ use Rattle.lois_deciders.proofs.Reached.{reached_keeps, kept_between}
 use Rattle.lois_meaning.specs.Expressions.{HasTruth}
 use Rattle.lois_script.specs.View.{cond_tree}
 use Rattle.lois_eval.specs.Evaluated.{IsConstraintOf}
-use Rattle.lois_eval.specs.Standing.{CondStands}
+use Rattle.lois_eval.specs.WellFormed.{CondIsWellFormed}
 use Rattle.lois_eval.proofs.Evaluations.{cond_fails_nowhere}
 use Rattle.lois_eval.proofs.evaluating.decide.Goals as goal
 
@@ -15,25 +15,25 @@ pub returns-clause-truth : goal.returns-clause-truth
 returns-clause-truth g c =
     let k = c.args.context.now in
     let d = cond_tree c.args.c.now in
-    IfOk-weaker c.decided.result (IsConstraintOf k (HasTruth d) (CondStands d)) _ (λ r h. h.truth) c.decided.ensures.constraint
+    IfOk-weaker c.decided.result (IsConstraintOf k (HasTruth d) (CondIsWellFormed d)) _ (λ r h. h.truth) c.decided.ensures.constraint
 
 pub returns-clause-nowhere : goal.returns-clause-nowhere
 returns-clause-nowhere g c =
     let k = c.args.context.now in
     let d = cond_tree c.args.c.now in
-    IfOk-weaker c.decided.result (IsConstraintOf k (HasTruth d) (CondStands d)) _ (λ r h. cond_fails_nowhere k d r h.truth) c.decided.ensures.constraint
+    IfOk-weaker c.decided.result (IsConstraintOf k (HasTruth d) (CondIsWellFormed d)) _ (λ r h. cond_fails_nowhere k d r h.truth) c.decided.ensures.constraint
 
 pub returns-clause-levels : goal.returns-clause-levels
 returns-clause-levels g c =
     let k = c.args.context.now in
     let d = cond_tree c.args.c.now in
-    IfOk-weaker c.decided.result (IsConstraintOf k (HasTruth d) (CondStands d)) _ (λ r h. h.levels) c.decided.ensures.constraint
+    IfOk-weaker c.decided.result (IsConstraintOf k (HasTruth d) (CondIsWellFormed d)) _ (λ r h. h.levels) c.decided.ensures.constraint
 
 pub returns-clause-operators : goal.returns-clause-operators
 returns-clause-operators g c =
     let k = c.args.context.now in
     let d = cond_tree c.args.c.now in
-    IfOk-weaker c.decided.result (IsConstraintOf k (HasTruth d) (CondStands d)) _ (λ r h. h.operators) c.decided.ensures.constraint
+    IfOk-weaker c.decided.result (IsConstraintOf k (HasTruth d) (CondIsWellFormed d)) _ (λ r h. h.operators) c.decided.ensures.constraint
 
 pub returns-clause-only_asked : goal.returns-clause-only_asked
 returns-clause-only_asked g c =

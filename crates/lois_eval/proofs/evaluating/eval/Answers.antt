@@ -9,7 +9,7 @@ use Rattle.lois_deciders.proofs.Reached.{reached_keeps, kept_between}
 use Rattle.lois_meaning.specs.Expressions.{Gives}
 use Rattle.lois_script.specs.View.{tree}
 use Rattle.lois_eval.specs.Evaluated.{IsTermOf}
-use Rattle.lois_eval.specs.Standing.{Stands}
+use Rattle.lois_eval.specs.WellFormed.{IsWellFormed}
 use Rattle.lois_eval.proofs.Evaluations.{fails_nowhere}
 use Rattle.lois_eval.proofs.evaluating.eval.Goals as goal
 
@@ -17,31 +17,31 @@ pub returns-clause-value : goal.returns-clause-value
 returns-clause-value g c =
     let k = c.args.context.now in
     let e = tree c.args.e.now in
-    IfOk-weaker c.evaluated.result (λ (t : Term). IsTermOf k (Gives e) (Stands e) (term_tree t)) _ (λ t h. h.value) c.evaluated.ensures.term
+    IfOk-weaker c.evaluated.result (λ (t : Term). IsTermOf k (Gives e) (IsWellFormed e) (term_tree t)) _ (λ t h. h.value) c.evaluated.ensures.term
 
 pub returns-clause-nowhere : goal.returns-clause-nowhere
 returns-clause-nowhere g c =
     let k = c.args.context.now in
     let e = tree c.args.e.now in
-    IfOk-weaker c.evaluated.result (λ (t : Term). IsTermOf k (Gives e) (Stands e) (term_tree t)) _ (λ t h. fails_nowhere k e (term_tree t) h.value) c.evaluated.ensures.term
+    IfOk-weaker c.evaluated.result (λ (t : Term). IsTermOf k (Gives e) (IsWellFormed e) (term_tree t)) _ (λ t h. fails_nowhere k e (term_tree t) h.value) c.evaluated.ensures.term
 
 pub returns-clause-levels : goal.returns-clause-levels
 returns-clause-levels g c =
     let k = c.args.context.now in
     let e = tree c.args.e.now in
-    IfOk-weaker c.evaluated.result (λ (t : Term). IsTermOf k (Gives e) (Stands e) (term_tree t)) _ (λ t h. h.levels) c.evaluated.ensures.term
+    IfOk-weaker c.evaluated.result (λ (t : Term). IsTermOf k (Gives e) (IsWellFormed e) (term_tree t)) _ (λ t h. h.levels) c.evaluated.ensures.term
 
 pub returns-clause-operators : goal.returns-clause-operators
 returns-clause-operators g c =
     let k = c.args.context.now in
     let e = tree c.args.e.now in
-    IfOk-weaker c.evaluated.result (λ (t : Term). IsTermOf k (Gives e) (Stands e) (term_tree t)) _ (λ t h. h.operators) c.evaluated.ensures.term
+    IfOk-weaker c.evaluated.result (λ (t : Term). IsTermOf k (Gives e) (IsWellFormed e) (term_tree t)) _ (λ t h. h.operators) c.evaluated.ensures.term
 
 pub returns-clause-widths : goal.returns-clause-widths
 returns-clause-widths g c =
     let k = c.args.context.now in
     let e = tree c.args.e.now in
-    IfOk-weaker c.evaluated.result (λ (t : Term). IsTermOf k (Gives e) (Stands e) (term_tree t)) _ (λ t h. h.widths) c.evaluated.ensures.term
+    IfOk-weaker c.evaluated.result (λ (t : Term). IsTermOf k (Gives e) (IsWellFormed e) (term_tree t)) _ (λ t h. h.widths) c.evaluated.ensures.term
 
 pub returns-clause-only_asked : goal.returns-clause-only_asked
 returns-clause-only_asked g c =

@@ -4,14 +4,14 @@ use Rattle.lois_base.specs.Tree.{comp_of}
 use Rattle.lois_base.proofs.Viewed.{one_more, all_taken}
 use Rattle.lois_relate.proofs.Parts.{is_comp_of}
 use Rattle.lois_eval.specs.Operands.{HasSetsOf, IsMemberFault}
-use Rattle.lois_eval.proofs.Handed.{passed_on}
+use Rattle.lois_eval.proofs.LoopExit.{passed_on}
 use Rattle.lois_eval.proofs.Flattened.{sets_none, sets_more, fault_of_comp}
 use Rattle.lois_eval.proofs.flattening.kept.Goals as goal
 
 pub loop-comp-init : goal.loop-comp-init
 loop-comp-init g c = record {
   sets = subst (λ z. HasSetsOf c.args.context.now (coll (comps_of [])) (coll (comps_of z))) (sym c.new-kept.ensures) (sets_none c.args.context.now);
-  asked = g.met.D.Asks.reaches_itself c.args.decider.now;
+  asked = g.met.D.Oracle.reaches_itself c.args.decider.now;
 }
 
 pub put_set-requires-clause-levels : goal.put_set-requires-clause-levels
@@ -36,7 +36,7 @@ loop-comp-preserved g c =
       sets =
           subst (λ z. HasSetsOf k (coll (comps_of z)) (coll (comps_of c.put_set.new.kept))) (sym (one_more comp_of items i c.comp-item.result c.loop-comp-test.true c.comp-item.is))
           (sets_more k (map comp_of (take i items)) c.loop-comp.kept c.put_set.new.kept (comp_of c.comp-item.result) c.loop-comp.invariant.sets (comp.fits k.size c.requires.levels) c.in_ok-put_set.ensures.kept);
-      asked = g.met.D.Asks.reaches_then c.args.decider.now c.loop-comp.decider c.put_set.new.decider c.loop-comp.invariant.asked c.put_set.ensures.asked;
+      asked = g.met.D.Oracle.reaches_then c.args.decider.now c.loop-comp.decider c.put_set.new.decider c.loop-comp.invariant.asked c.put_set.ensures.asked;
     }
 
 pub returns-clause-sets : goal.returns-clause-sets

@@ -7,5 +7,5 @@ use Rattle.lois_eval.proofs.flattening.kept.Given as goal
 abbrev pub invariant-loop-comp : goal.invariant-loop-comp
 invariant-loop-comp g l = record {
   sets : HasSetsOf l.context (coll (comps_of (map comp_of (take l.comp-index l.comp-items)))) (coll (comps_of l.kept));
-  asked : g.D.Asks.reaches l.fn.decider l.decider;
+  asked : g.D.Oracle.reaches l.fn.decider l.decider;
 }

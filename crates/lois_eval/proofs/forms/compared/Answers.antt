@@ -5,7 +5,7 @@ use Rattle.lois_base.specs.Validity.{AdmitsParts}
 use Rattle.lois_script.specs.View.{cond_tree}
 use Rattle.lois_eval.specs.Evaluated.{AreTermsOf}
 use Rattle.lois_eval.specs.Forms.{sides_of}
-use Rattle.lois_eval.specs.Standing.{CondStands}
+use Rattle.lois_eval.specs.WellFormed.{CondIsWellFormed}
 use Rattle.lois_eval.proofs.Comparing.{two_sides}
 use Rattle.lois_eval.proofs.forms.compared.Goals as goal
 
@@ -20,7 +20,7 @@ compared_with-requires g c =
     let admits = subst (λ z. AdmitsParts o (terms_of z)) c.two_terms.ensures (c.requires.values.operators o c.requires.placed) in
     record {
       form = c.requires.form;
-      values = subst (AreTermsOf k (sides_of (cond_tree c.args.c.now)) (CondStands (cond_tree c.args.c.now))) c.two_terms.ensures c.requires.values;
+      values = subst (AreTermsOf k (sides_of (cond_tree c.args.c.now)) (CondIsWellFormed (cond_tree c.args.c.now))) c.two_terms.ensures c.requires.values;
       left = fits.0;
       left_operators = admits.0;
       right = fits.1.0;

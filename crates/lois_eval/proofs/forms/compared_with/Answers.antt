@@ -9,12 +9,12 @@ use Rattle.lois_script.specs.View.{tree, cond_tree}
 use Rattle.lois_script.proofs.Views.{cond_Same, cond_Differ, cond_Below, cond_Member, cond_Included}
 use Rattle.lois_eval.specs.Checks.{IsSetFault}
 use Rattle.lois_eval.specs.Compared.{AreAtomsBelow, IsBelowFault}
-use Rattle.lois_eval.specs.Standing.{CondStands}
+use Rattle.lois_eval.specs.WellFormed.{CondIsWellFormed}
 use Rattle.lois_eval.specs.Throughout.{IfFault, IsFaultOf}
 use Rattle.lois_eval.proofs.Comparing.{sides_as, below_fails, member_fails, included_fails_left, included_fails_right}
 use Rattle.lois_eval.proofs.Conditions.{same_decided, differ_decided, below_decided, member_decided, included_decided}
 use Rattle.lois_eval.proofs.FaultsAt.{if_fault}
-use Rattle.lois_eval.proofs.Handed.{passed_on, three_ok}
+use Rattle.lois_eval.proofs.LoopExit.{passed_on, three_ok}
 use Rattle.lois_eval.proofs.Plain.{decided_as, cond_fails_as}
 use Rattle.lois_eval.proofs.forms.compared_with.Goals as goal
 
@@ -95,7 +95,7 @@ returns-in-Below-clause-fault g c =
     let p = c.in-Below.field-0 in
     let P = IsBelowFault k s c.pos.result.offset t c.pos-in-Below.result.offset in
     IfErr-weaker c.below.result (λ z. IfFault z P) _ (λ z h. if_fault z P (IsFaultOf k (CondFails (cond_tree c.args.c.now))) (λ x bad. cond_fails_as k (cond_tree c.args.c.now) (below p.offset e f) x is
-    (below_fails k e f s t (CondStands (below p.offset e f)) both x p.offset (subst (λ at. IsBelowFault k s at t (pos f) x) c.pos.ensures.first_token (subst (λ at. IsBelowFault k s c.pos.result.offset t at x) c.pos-in-Below.ensures.first_token bad)))) h) c.below.ensures.fault
+    (below_fails k e f s t (CondIsWellFormed (below p.offset e f)) both x p.offset (subst (λ at. IsBelowFault k s at t (pos f) x) c.pos.ensures.first_token (subst (λ at. IsBelowFault k s c.pos.result.offset t at x) c.pos-in-Below.ensures.first_token bad)))) h) c.below.ensures.fault
 
 pub returns-in_err-check_set-in-Member-clause-fault : goal.returns-in_err-check_set-in-Member-clause-fault
 returns-in_err-check_set-in-Member-clause-fault g c =
@@ -107,7 +107,7 @@ returns-in_err-check_set-in-Member-clause-fault g c =
     let is = ap cond_tree c.in-Member.is ∙ cond_Member c.in-Member.field-0 c.in-Member.f in
     let both = sides_as k (cond_tree c.args.c.now) (member e f) (s ∷ t ∷ []) is c.requires.values in
     passed_on c.from_residual-in_err-check_set-in-Member.result c.in_err-check_set-in-Member.field-0.0 (IsSetFault k t c.pos-in-Member.result.offset) (IsFaultOf k (CondFails (cond_tree c.args.c.now))) c.from_residual-in_err-check_set-in-Member.ensures.1
-    (λ x bad. cond_fails_as k (cond_tree c.args.c.now) (member e f) x is (member_fails k e f s t (CondStands (member e f)) both x (subst (λ at. IsSetFault k t at x) c.pos-in-Member.ensures.first_token bad))) c.in_err-check_set-in-Member.ensures.fault
+    (λ x bad. cond_fails_as k (cond_tree c.args.c.now) (member e f) x is (member_fails k e f s t (CondIsWellFormed (member e f)) both x (subst (λ at. IsSetFault k t at x) c.pos-in-Member.ensures.first_token bad))) c.in_err-check_set-in-Member.ensures.fault
 
 pub returns-in_err-check_set-in-Included-clause-fault : goal.returns-in_err-check_set-in-Included-clause-fault
 returns-in_err-check_set-in-Included-clause-fault g c =
@@ -119,7 +119,7 @@ returns-in_err-check_set-in-Included-clause-fault g c =
     let is = ap cond_tree c.in-Included.is ∙ cond_Included c.in-Included.e c.in-Included.f in
     let both = sides_as k (cond_tree c.args.c.now) (included e f) (s ∷ t ∷ []) is c.requires.values in
     passed_on c.from_residual-in_err-check_set-in-Included.result c.in_err-check_set-in-Included.field-0.0 (IsSetFault k s c.pos-in-Included.result.offset) (IsFaultOf k (CondFails (cond_tree c.args.c.now))) c.from_residual-in_err-check_set-in-Included.ensures.1
-    (λ x bad. cond_fails_as k (cond_tree c.args.c.now) (included e f) x is (included_fails_left k e f s t (CondStands (included e f)) both x (subst (λ at. IsSetFault k s at x) c.pos-in-Included.ensures.first_token bad))) c.in_err-check_set-in-Included.ensures.fault
+    (λ x bad. cond_fails_as k (cond_tree c.args.c.now) (included e f) x is (included_fails_left k e f s t (CondIsWellFormed (included e f)) both x (subst (λ at. IsSetFault k s at x) c.pos-in-Included.ensures.first_token bad))) c.in_err-check_set-in-Included.ensures.fault
 
 pub returns-in_err-check_set-in-Included-2-clause-fault : goal.returns-in_err-check_set-in-Included-2-clause-fault
 returns-in_err-check_set-in-Included-2-clause-fault g c =
@@ -131,4 +131,4 @@ returns-in_err-check_set-in-Included-2-clause-fault g c =
     let is = ap cond_tree c.in-Included.is ∙ cond_Included c.in-Included.e c.in-Included.f in
     let both = sides_as k (cond_tree c.args.c.now) (included e f) (s ∷ t ∷ []) is c.requires.values in
     passed_on c.from_residual-in_err-check_set-in-Included-2.result c.in_err-check_set-in-Included-2.field-0.0 (IsSetFault k t c.pos-in-Included-2.result.offset) (IsFaultOf k (CondFails (cond_tree c.args.c.now))) c.from_residual-in_err-check_set-in-Included-2.ensures.1
-    (λ x bad. cond_fails_as k (cond_tree c.args.c.now) (included e f) x is (included_fails_right k e f s t (CondStands (included e f)) both x (subst (λ at. IsSetFault k t at x) c.pos-in-Included-2.ensures.first_token bad))) c.in_err-check_set-in-Included-2.ensures.fault
+    (λ x bad. cond_fails_as k (cond_tree c.args.c.now) (included e f) x is (included_fails_right k e f s t (CondIsWellFormed (included e f)) both x (subst (λ at. IsSetFault k t at x) c.pos-in-Included-2.ensures.first_token bad))) c.in_err-check_set-in-Included-2.ensures.fault

@@ -3,7 +3,7 @@ use Rattle.std.proofs.lemmas.Result.{IfErr-weaker}
 use Rattle.lois_base.specs.Data.{tup, terms_of}
 use Rattle.lois_base.specs.Fits.{Fits}
 use Rattle.lois_base.specs.Tree.{tree as term_tree}
-use Rattle.lois_base.specs.Validity.{AdmitsTerm, AdmitsParts, HasUsualWidths, PartsHaveUsualWidths}
+use Rattle.lois_base.specs.Validity.{AdmitsTerm, AdmitsParts, HasBoundedWidths, PartsHaveBoundedWidths}
 use Rattle.lois_meaning.specs.Faults.{Breaks}
 use Rattle.lois_script.specs.Tree.{tuple, listed, apply}
 use Rattle.lois_script.specs.View.{tree, exprs_of, exprs_list}
@@ -12,10 +12,10 @@ use Rattle.lois_context.specs.Choices.{AdmitsContext}
 use Rattle.lois_eval.specs.Evaluated.{AreTermsOf}
 use Rattle.lois_eval.specs.Forms.{parts_of}
 use Rattle.lois_eval.specs.Operands.{IsAppliedThroughout, IsUnfitFault}
-use Rattle.lois_eval.specs.Standing.{IsPlaced, Stands}
+use Rattle.lois_eval.specs.WellFormed.{IsWellFormedIn, IsWellFormed}
 use Rattle.lois_eval.specs.Throughout.{IfFault, IsFaultOf}
 use Rattle.lois_eval.proofs.FaultsAt.{if_fault}
-use Rattle.lois_eval.proofs.Handed.{four_ok}
+use Rattle.lois_eval.proofs.LoopExit.{four_ok}
 use Rattle.lois_eval.proofs.Nodes.{tuple_made, listed_made, apply_made, apply_fails, made_as, breaks_as}
 use Rattle.lois_eval.proofs.Parts.{count_of-more}
 use Rattle.lois_eval.proofs.forms.composed.Goals as goal
@@ -27,7 +27,7 @@ returns-in-Tuple-clause-term g c =
     let es = exprs_of (exprs_list c.in-Tuple.field-1) in
     let is = ap tree c.in-Tuple.is ∙ tree_Tuple p c.in-Tuple.field-1 in
     made_as k (tree c.args.e.now) (tuple p.offset es) (tup (terms_of c.args.values)) is
-    (tuple_made k p.offset es g.T.Structure.ordered c.args.values (subst (λ z. IsPlaced (Stands z) g.T.Structure.ordered k) is c.requires.placed) (subst (λ z. AreTermsOf k (parts_of z) (Stands z) c.args.values) is c.requires.values))
+    (tuple_made k p.offset es g.T.Structure.ordered c.args.values (subst (λ z. IsWellFormedIn (IsWellFormed z) g.T.Structure.ordered k) is c.requires.placed) (subst (λ z. AreTermsOf k (parts_of z) (IsWellFormed z) c.args.values) is c.requires.values))
 
 pub returns-in_ok-set_of-in-Listed-clause-term : goal.returns-in_ok-set_of-in-Listed-clause-term
 returns-in_ok-set_of-in-Listed-clause-term g c =
@@ -38,7 +38,7 @@ returns-in_ok-set_of-in-Listed-clause-term g c =
     let is = ap tree c.in-Listed.is ∙ tree_Listed p c.in-Listed.field-1 in
     let room : k.size < 2 ^ 64 = omega arith in
     made_as k (tree c.args.e.now) (listed p.offset es) t is
-    (listed_made k p.offset es c.args.values t room (subst (λ z. AreTermsOf k (parts_of z) (Stands z) c.args.values) is c.requires.values) c.in_ok-set_of-in-Listed.ensures)
+    (listed_made k p.offset es c.args.values t room (subst (λ z. AreTermsOf k (parts_of z) (IsWellFormed z) c.args.values) is c.requires.values) c.in_ok-set_of-in-Listed.ensures)
 
 pub applied-requires : goal.applied-requires
 applied-requires g c =
@@ -48,8 +48,8 @@ applied-requires g c =
     let op = c.in-Apply.operation in
     let es = exprs_list c.in-Apply.operands in
     let is = ap tree c.in-Apply.is ∙ tree_Apply p op c.in-Apply.operands in
-    let placed = subst (λ z. IsPlaced (Stands z) o k) is c.requires.placed in
-    let values = subst (λ z. AreTermsOf k (parts_of z) (Stands z) c.args.values) is c.requires.values in
+    let placed = subst (λ z. IsWellFormedIn (IsWellFormed z) o k) is c.requires.placed in
+    let values = subst (λ z. AreTermsOf k (parts_of z) (IsWellFormed z) c.args.values) is c.requires.values in
     record {
       sound = c.requires.sound;
       operands = sym (count_of-more es) ∙ placed.names.0;
@@ -67,8 +67,8 @@ returns-in-Apply-clause-term g c =
     let ts = c.args.values in
     let es = exprs_of (exprs_list c.in-Apply.operands) in
     let is = ap tree c.in-Apply.is ∙ tree_Apply p op c.in-Apply.operands in
-    let values = subst (λ z. AreTermsOf k (parts_of z) (Stands z) ts) is c.requires.values in
-    four_ok c.applied.result (λ r. IsAppliedThroughout k op ts (term_tree r)) (λ r. Fits k.size (term_tree r)) (λ r. (o : Bool) → AdmitsContext o k → AdmitsParts o (terms_of ts) → AdmitsTerm o (term_tree r)) (λ r. PartsHaveUsualWidths (terms_of ts) → HasUsualWidths (term_tree r)) _
+    let values = subst (λ z. AreTermsOf k (parts_of z) (IsWellFormed z) ts) is c.requires.values in
+    four_ok c.applied.result (λ r. IsAppliedThroughout k op ts (term_tree r)) (λ r. Fits k.size (term_tree r)) (λ r. (o : Bool) → AdmitsContext o k → AdmitsParts o (terms_of ts) → AdmitsTerm o (term_tree r)) (λ r. PartsHaveBoundedWidths (terms_of ts) → HasBoundedWidths (term_tree r)) _
     c.applied.ensures.applied c.applied.ensures.levels c.applied.ensures.operators c.applied.ensures.widths
     (λ r applied fits admits widths. made_as k (tree c.args.e.now) (apply p.offset op es) (term_tree r) is (apply_made k p.offset op es ts (term_tree r) values applied fits admits widths))
 
@@ -80,6 +80,6 @@ returns-in-Apply-clause-fault g c =
     let ts = c.args.values in
     let es = exprs_of (exprs_list c.in-Apply.operands) in
     let is = ap tree c.in-Apply.is ∙ tree_Apply p op c.in-Apply.operands in
-    let values = subst (λ z. AreTermsOf k (parts_of z) (Stands z) ts) is c.requires.values in
+    let values = subst (λ z. AreTermsOf k (parts_of z) (IsWellFormed z) ts) is c.requires.values in
     let P = IsUnfitFault k op es (terms_of ts) in
     IfErr-weaker c.applied.result (λ s. IfFault s P) _ (λ s h. if_fault s P (IsFaultOf k (Breaks (tree c.args.e.now))) (λ f unfit. breaks_as k (tree c.args.e.now) (apply p.offset op es) f is (apply_fails k p.offset op es ts f values unfit)) h) c.applied.ensures.fault

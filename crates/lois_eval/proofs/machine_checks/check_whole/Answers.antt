@@ -1,16 +1,16 @@
 use Rattle.std.proofs.Common.{inl, subst}
 use Rattle.std.proofs.lemmas.Result.{IfErr-weaker}
 use Rattle.lois_base.specs.Tree.{tree}
-use Rattle.lois_automata.specs.Machines.{IsDeterministicAt, IsCompleteAt, IsWholeAt}
+use Rattle.lois_automata.specs.Machines.{IsDeterministicAt, IsCompleteAt, IsCompleteDeterministicAt}
 use Rattle.lois_automata.specs.Throughout.{HoldsThroughout, IsVerdictOn}
 use Rattle.lois_answers.specs.declared.faults.FaultKind.TheVariants.{NotDeterministic, NotComplete}
-use Rattle.lois_meaning.specs.Faults.{IsNoAutomaton, IsUnfitFor}
+use Rattle.lois_meaning.specs.Faults.{IsNoAutomaton, IsInvalidOperand}
 use Rattle.lois_script.specs.declared.syntax.Operation.TheVariants.{Minimise}
 use Rattle.lois_eval.specs.Automata.{IsFailed, IsValueFault}
 use Rattle.lois_eval.specs.Throughout.{IfFault}
 use Rattle.lois_eval.proofs.Automata.{is_whole, not_deterministic, not_complete, value_fault_weaker, on_holds, on_weaker}
 use Rattle.lois_eval.proofs.FaultsAt.{if_fault}
-use Rattle.lois_eval.proofs.Handed.{passed_on}
+use Rattle.lois_eval.proofs.LoopExit.{passed_on}
 use Rattle.lois_eval.proofs.machine_checks.check_whole.Goals as goal
 
 pub returns-in_err-check_machine-clause-fault : goal.returns-in_err-check_machine-clause-fault
@@ -18,15 +18,15 @@ returns-in_err-check_machine-clause-fault g c =
     let k = c.args.context.now in
     let t = tree c.args.value.now in
     let at = c.args.pos.offset in
-    passed_on c.from_residual.result c.in_err-check_machine.field-0.0 (IsValueFault k IsNoAutomaton t at) (IsValueFault k (IsUnfitFor Minimise) t at) c.from_residual.ensures.1
-    (λ f h. value_fault_weaker k t IsNoAutomaton (IsUnfitFor Minimise) at f (λ v kind no. inl no) h) c.in_err-check_machine.ensures.fault
+    passed_on c.from_residual.result c.in_err-check_machine.field-0.0 (IsValueFault k IsNoAutomaton t at) (IsValueFault k (IsInvalidOperand Minimise) t at) c.from_residual.ensures.1
+    (λ f h. value_fault_weaker k t IsNoAutomaton (IsInvalidOperand Minimise) at f (λ v kind no. inl no) h) c.in_err-check_machine.ensures.fault
 
 pub returns-in_err-passed-clause-fault : goal.returns-in_err-passed-clause-fault
 returns-in_err-passed-clause-fault g c =
     let k = c.args.context.now in
     let t = tree c.args.value.now in
     let v = c.in_ok-single.single in
-    passed_on c.from_residual-in_err-passed.result c.in_err-passed.field-0.0 (IsFailed v c.args.pos NotDeterministic) (IsValueFault k (IsUnfitFor Minimise) t c.args.pos.offset) c.from_residual-in_err-passed.ensures.1
+    passed_on c.from_residual-in_err-passed.result c.in_err-passed.field-0.0 (IsFailed v c.args.pos NotDeterministic) (IsValueFault k (IsInvalidOperand Minimise) t c.args.pos.offset) c.from_residual-in_err-passed.ensures.1
     (not_deterministic k t c.in_ok-check_machine.ensures.automaton c.args.pos v c.in_ok-single.ensures.verdict) c.in_err-passed.ensures.fault
 
 pub returns-clause-whole : goal.returns-clause-whole
@@ -34,7 +34,7 @@ returns-clause-whole g c =
     let k = c.args.context.now in
     let t = tree c.args.value.now in
     let single = subst (IsVerdictOn k.size k.«when» (IsDeterministicAt t)) c.in_ok-passed.ensures.holds c.in_ok-single.ensures.verdict in
-    on_weaker c.passed-2.result (HoldsThroughout k.size k.«when» (IsCompleteAt t)) (HoldsThroughout k.size k.«when» (IsWholeAt t)) (λ total. is_whole k.size k.«when» t single total)
+    on_weaker c.passed-2.result (HoldsThroughout k.size k.«when» (IsCompleteAt t)) (HoldsThroughout k.size k.«when» (IsCompleteDeterministicAt t)) (λ total. is_whole k.size k.«when» t single total)
     (on_holds c.passed-2.result c.in_ok-total.total (IsVerdictOn k.size k.«when» (IsCompleteAt t)) c.passed-2.ensures.holds c.in_ok-total.ensures.verdict)
 
 pub returns-clause-fault : goal.returns-clause-fault
@@ -44,4 +44,4 @@ returns-clause-fault g c =
     let v = c.in_ok-total.total in
     let P = IsFailed v c.args.pos NotComplete in
     let single = subst (IsVerdictOn k.size k.«when» (IsDeterministicAt t)) c.in_ok-passed.ensures.holds c.in_ok-single.ensures.verdict in
-    IfErr-weaker c.passed-2.result (λ s. IfFault s P) _ (λ s h. if_fault s P (IsValueFault k (IsUnfitFor Minimise) t c.args.pos.offset) (not_complete k t single c.args.pos v c.in_ok-total.ensures.verdict) h) c.passed-2.ensures.fault
+    IfErr-weaker c.passed-2.result (λ s. IfFault s P) _ (λ s h. if_fault s P (IsValueFault k (IsInvalidOperand Minimise) t c.args.pos.offset) (not_complete k t single c.args.pos v c.in_ok-total.ensures.verdict) h) c.passed-2.ensures.fault

@@ -4,13 +4,13 @@ use Rattle.lois_base.specs.Data.{terms_of}
 use Rattle.lois_base.specs.Fits.{PartsFit}
 use Rattle.lois_base.specs.Tree.{tree as term_tree}
 use Rattle.lois_base.specs.Validity.{AdmitsParts}
-use Rattle.lois_meaning.specs.Faults.{IsUnfitFor}
+use Rattle.lois_meaning.specs.Faults.{IsInvalidOperand}
 use Rattle.lois_meaning.specs.declared.faults.Fault.{Fault}
 use Rattle.lois_script.specs.View.{tree, exprs_of, exprs_list}
 use Rattle.lois_script.specs.declared.syntax.Operation.TheVariants.{Product}
 use Rattle.lois_eval.specs.Automata.{IsMadeOf, IsValueFault}
 use Rattle.lois_eval.specs.Operands.{IsUnfitFault}
-use Rattle.lois_eval.specs.Standing.{arity}
+use Rattle.lois_eval.specs.WellFormed.{arity}
 use Rattle.lois_eval.specs.Throughout.{IfFault}
 use Rattle.lois_eval.proofs.Automata.{made_of, of_one_automaton, one_unfit, two_unfit}
 use Rattle.lois_eval.proofs.FaultsAt.{if_fault}
@@ -47,7 +47,7 @@ returns-in-Product-clause-fault g c =
     let f = c.two_exprs.result.1.now in
     let s = term_tree c.two_terms.result.0.now in
     let t = term_tree c.two_terms.result.1.now in
-    let P = λ (x : Fault). IsValueFault k (IsUnfitFor Product) s c.pos.result.offset x ⊎ IsValueFault k (IsUnfitFor Product) t c.pos-in-Product.result.offset x in
+    let P = λ (x : Fault). IsValueFault k (IsInvalidOperand Product) s c.pos.result.offset x ⊎ IsValueFault k (IsInvalidOperand Product) t c.pos-in-Product.result.offset x in
     let Q = IsUnfitFault k c.args.operation (exprs_of (exprs_list c.args.operands.now)) (terms_of c.args.values.now) in
     IfErr-weaker c.product_of.result (λ z. IfFault z P) _
     (λ z h. if_fault z P Q (λ x unfit. subst (λ op. IsUnfitFault k op (exprs_of (exprs_list c.args.operands.now)) (terms_of c.args.values.now) x) (sym c.in-Product.is)
@@ -83,7 +83,7 @@ returns-in_default-clause-fault g c =
     let k = c.args.context.now in
     let op = c.args.operation in
     let t = term_tree c.one_term.result.now in
-    let P = IsValueFault k (IsUnfitFor op) t c.pos-pos.result.offset in
+    let P = IsValueFault k (IsInvalidOperand op) t c.pos-pos.result.offset in
     let Q = IsUnfitFault k op (exprs_of (exprs_list c.args.operands.now)) (terms_of c.args.values.now) in
     IfErr-weaker c.of_one.result (λ z. IfFault z P) _
     (λ z h. if_fault z P Q (λ x unfit. one_unfit k op (exprs_list c.args.operands.now) c.args.values.now x (tree c.one_expr.result.now) t c.pos-pos.result.offset c.one_expr.ensures c.one_term.ensures c.pos-pos.ensures.first_token unfit) h) c.of_one.ensures.fault

@@ -3,18 +3,18 @@ use Rattle.std.proofs.lemmas.Result.{IfOk-weaker, IfErr-weaker}
 use Rattle.lois_base.specs.Data.{terms_of}
 use Rattle.lois_base.specs.Fits.{PartsFit}
 use Rattle.lois_base.specs.Tree.{tree as term_tree}
-use Rattle.lois_base.specs.Validity.{AdmitsTerm, AdmitsParts, HasUsualWidths, PartsHaveUsualWidths}
+use Rattle.lois_base.specs.Validity.{AdmitsTerm, AdmitsParts, HasBoundedWidths, PartsHaveBoundedWidths}
 use Rattle.lois_meaning.specs.declared.faults.Fault.{Fault}
 use Rattle.lois_script.specs.View.{tree, exprs_of, exprs_list}
 use Rattle.lois_script.specs.declared.syntax.Operation.TheVariants.{Flatten}
 use Rattle.lois_eval.specs.Automata.{IsMadeOf}
 use Rattle.lois_eval.specs.Checks.{IsSetFault}
 use Rattle.lois_eval.specs.Operands.{IsOfTwoSets, IsAppliedThroughout, IsUnfitFault, IsMemberFault}
-use Rattle.lois_eval.specs.Standing.{arity}
+use Rattle.lois_eval.specs.WellFormed.{arity}
 use Rattle.lois_eval.specs.Throughout.{IfFault}
 use Rattle.lois_eval.proofs.Automata.{of_automata}
 use Rattle.lois_eval.proofs.FaultsAt.{if_fault}
-use Rattle.lois_eval.proofs.Unfit.{flatten_unfit}
+use Rattle.lois_eval.proofs.InvalidOperands.{flatten_unfit}
 use Rattle.lois_eval.proofs.operations.applied.Goals as goal
 
 pub combined-requires : goal.combined-requires
@@ -66,8 +66,8 @@ returns-in-Flatten-clause-operators g c =
 
 pub returns-in-Flatten-clause-widths : goal.returns-in-Flatten-clause-widths
 returns-in-Flatten-clause-widths g c =
-    IfOk-weaker c.flattened.result (λ r. HasUsualWidths (term_tree c.one_term.result.now) → HasUsualWidths (term_tree r)) _
-    (λ r h usual. h (subst (λ z. PartsHaveUsualWidths (terms_of z)) c.one_term.ensures usual).0) c.flattened.ensures.widths
+    IfOk-weaker c.flattened.result (λ r. HasBoundedWidths (term_tree c.one_term.result.now) → HasBoundedWidths (term_tree r)) _
+    (λ r h usual. h (subst (λ z. PartsHaveBoundedWidths (terms_of z)) c.one_term.ensures usual).0) c.flattened.ensures.widths
 
 pub returns-in-Flatten-clause-fault : goal.returns-in-Flatten-clause-fault
 returns-in-Flatten-clause-fault g c =

@@ -6,7 +6,7 @@ use Rattle.lois_algebra.specs.Sets.{IsUnion, IsIntersection, IsDifference}
 use Rattle.lois_terms.specs.Guarded.{IsSet}
 use Rattle.lois_eval.specs.Operands.{IsAppliedThroughout}
 use Rattle.lois_eval.proofs.Applied.{union_applied, inter_applied, minus_applied}
-use Rattle.lois_eval.proofs.Handed.{both_ok}
+use Rattle.lois_eval.proofs.LoopExit.{both_ok}
 use Rattle.lois_eval.proofs.operations.combination.Goals as goal
 
 pub returns-in-Union-clause-applied : goal.returns-in-Union-clause-applied

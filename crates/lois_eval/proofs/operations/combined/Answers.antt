@@ -2,12 +2,12 @@ use Rattle.std.proofs.Common.{sym, subst}
 use Rattle.lois_base.specs.Data.{terms_of}
 use Rattle.lois_base.specs.Fits.{PartsFit}
 use Rattle.lois_base.specs.Tree.{tree as term_tree}
-use Rattle.lois_base.specs.Validity.{AdmitsParts, PartsHaveUsualWidths}
+use Rattle.lois_base.specs.Validity.{AdmitsParts, PartsHaveBoundedWidths}
 use Rattle.lois_script.specs.View.{tree, exprs_of, exprs_list}
 use Rattle.lois_eval.specs.Checks.{IsSetFault}
 use Rattle.lois_eval.specs.Operands.{IsAppliedThroughout, IsUnfitFault}
-use Rattle.lois_eval.proofs.Handed.{passed_on}
-use Rattle.lois_eval.proofs.Unfit.{left_unfit, right_unfit}
+use Rattle.lois_eval.proofs.LoopExit.{passed_on}
+use Rattle.lois_eval.proofs.InvalidOperands.{left_unfit, right_unfit}
 use Rattle.lois_eval.proofs.operations.combined.Goals as goal
 
 pub returns-in_err-check_set-clause-fault : goal.returns-in_err-check_set-clause-fault
@@ -56,5 +56,5 @@ returns-clause-operators g c = λ o h.
 
 pub returns-clause-widths : goal.returns-clause-widths
 returns-clause-widths g c = λ h.
-    let usual = subst (λ z. PartsHaveUsualWidths (terms_of z)) c.two_terms.ensures h in
+    let usual = subst (λ z. PartsHaveBoundedWidths (terms_of z)) c.two_terms.ensures h in
     c.in_ok-combination.ensures.widths usual.0 usual.1.0

@@ -3,7 +3,7 @@ use Rattle.lois_base.specs.Tree.{tree}
 use Rattle.lois_eval.specs.Checks.{IsSetFault}
 use Rattle.lois_eval.specs.Operands.{IsMemberFault}
 use Rattle.lois_eval.proofs.Applied.{flatten_applied}
-use Rattle.lois_eval.proofs.Handed.{passed_on}
+use Rattle.lois_eval.proofs.LoopExit.{passed_on}
 use Rattle.lois_eval.proofs.operations.flattened.Goals as goal
 
 pub returns-in_err-check_set-clause-fault : goal.returns-in_err-check_set-clause-fault

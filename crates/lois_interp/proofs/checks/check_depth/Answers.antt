@@ -4,7 +4,7 @@ use Rattle.lois_base.specs.Tree.{tree}
 use Rattle.lois_base.specs.Truth.{sampled}
 use Rattle.lois_base.specs.Values.{point, IsDeeper}
 use Rattle.lois_answers.specs.declared.faults.FaultKind.TheVariants.{DepthLimit}
-use Rattle.lois_deciders.specs.Met.{AreMet}
+use Rattle.lois_deciders.specs.Conjunction.{IsSampledConjunction}
 use Rattle.lois_meaning.specs.Store.{depth_limit}
 use Rattle.lois_context.specs.Choices.{IsAdmitted}
 use Rattle.lois_eval.specs.Checks.{IsFaultWith, IsDepthFault}
@@ -16,7 +16,7 @@ returns-in-Some-clause-fault g c =
     let k = c.args.context.now in
     let met = c.in-Some.met in
     let deep = c.in_ok-deep.deep in
-    let own = subst (λ o. IfSome o (λ m. AreMet k.size k.«when» deep m.constraint m.sample)) c.in-Some.is c.in_ok-met.ensures.met in
+    let own = subst (λ o. IfSome o (λ m. IsSampledConjunction k.size k.«when» deep m.constraint m.sample)) c.in-Some.is c.in_ok-met.ensures.met in
     let both = met_admitted k deep met.sample (meets_both k.size k.«when» deep met.constraint met.sample own) in
     let same = c.into_vec.ensures in
     if_fault c.fault.result (IsFaultWith c.args.pos DepthLimit c.into_vec.result.items) (IsDepthFault k (tree c.args.term.now) c.args.pos.offset) (λ f h. record {

@@ -2,16 +2,16 @@ use Rattle.std.proofs.Common.{◌≡◌, IfErr, refl, sym, subst}
 use Rattle.lois_script.specs.Limits.{Spells}
 use Rattle.lois_script.specs.Scope.{IsWellScoped}
 use Rattle.lois_script.specs.View.{script_tree}
-use Rattle.lois_eval.specs.Standing.{IsPlaced}
+use Rattle.lois_eval.specs.WellFormed.{IsWellFormedIn}
 use Rattle.lois_eval.specs.Throughout.{IfFault}
 use Rattle.lois_interp.specs.Failed.{FailsWithin}
 use Rattle.lois_interp.specs.Interpreted.{AreResultsOf, IsFailureOf}
 use Rattle.lois_interp.specs.Run.{block_run}
-use Rattle.lois_interp.specs.Standing.{BlockMayStand}
+use Rattle.lois_interp.specs.WellScoped.{BlockIsWellScoped}
 use Rattle.lois_interp.proofs.Lists.{all_one}
 use Rattle.lois_interp.proofs.Opened.{parameters_distinct, body_placed}
 use Rattle.lois_interp.proofs.ScriptRuns.{interpreted, failure_of}
-use Rattle.lois_eval.proofs.Handed.{passed_on}
+use Rattle.lois_eval.proofs.LoopExit.{passed_on}
 use Rattle.lois_interp.proofs.interpreting.interpret.Goals as goal
 
 -- what is known of the script is known of its tree where it is held
@@ -49,7 +49,7 @@ all_printed-requires g c =
     let text = c.requires.spelled.0 in
     let order = g.T.Structure.ordered in
     c.in_ok-ends.ensures.runs.operators order
-    (all_one (IsPlaced (BlockMayStand s.body) order) o (body_placed s text o (subst (λ x. Spells text (script_tree x)) same c.requires.spelled.1) (subst (λ x. IsWellScoped (script_tree x)) same c.script-script.ensures.scoped) c.in_ok-opening.ensures order (subst (λ x. (script_tree x).ordered ≡ order) same c.requires.structure)))
+    (all_one (IsWellFormedIn (BlockIsWellScoped s.body) order) o (body_placed s text o (subst (λ x. Spells text (script_tree x)) same c.requires.spelled.1) (subst (λ x. IsWellScoped (script_tree x)) same c.script-script.ensures.scoped) c.in_ok-opening.ensures order (subst (λ x. (script_tree x).ordered ≡ order) same c.requires.structure)))
 
 pub returns-clause-results : goal.returns-clause-results
 returns-clause-results g c =

@@ -1,7 +1,7 @@
 use Rattle.std.proofs.Common.{bytes_eq, sym, subst, ◌∙◌}
 use Rattle.std.specs.List.{IsDistinct}
 use Rattle.lois_base.specs.Truth.{sampled}
-use Rattle.lois_base.specs.Validity.{AdmitsTerm, HasUsualWidths}
+use Rattle.lois_base.specs.Validity.{AdmitsTerm, HasBoundedWidths}
 use Rattle.lois_interp.specs.Tidied.{AreCounted, AreTidied}
 use Rattle.lois_interp.proofs.ForRuns.{tidied_names}
 use Rattle.lois_eval.proofs.FaultsAt.{own_sample}
@@ -56,7 +56,7 @@ returns-clause-behind g c =
         lines = own.lines;
       };
       widths = λ p q. let own = E.widths p q in record {
-        store = tidied_have HasUsualWidths j.size j.«when» c.deref.result.now j.store s (λ i a b h. h.widths) T own.store;
+        store = tidied_have HasBoundedWidths j.size j.«when» c.deref.result.now j.store s (λ i a b h. h.widths) T own.store;
         lines = own.lines;
       };
     }

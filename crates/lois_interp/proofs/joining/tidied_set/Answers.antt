@@ -6,7 +6,7 @@ use Rattle.lois_base.specs.Data.{coll, comps_of}
 use Rattle.lois_base.specs.Fits.{ItemsFit}
 use Rattle.lois_base.specs.Tree.{tree}
 use Rattle.lois_base.specs.Truth.{holds}
-use Rattle.lois_base.specs.Validity.{AdmitsItems, AdmitsTerm, HasUsualWidths}
+use Rattle.lois_base.specs.Validity.{AdmitsItems, AdmitsTerm, HasBoundedWidths}
 use Rattle.lois_base.specs.Values.{point, IsSame}
 use Rattle.lois_context.specs.Entered.{comps_listed}
 use Rattle.lois_interp.specs.Members.{ArePutBehind}
@@ -44,5 +44,5 @@ returns-clause-tidied g c =
     E.levels
     (subst (λ z. (a : List Atom) → length a ≡ n → IsTrue (holds a u) → IsSame (point (coll (comps_of z)) a) (point lean a)) P.added E.value)
     (subst (λ z. (o : Bool) → AdmitsTerm o (coll (comps_of z)) → AdmitsTerm o lean) P.added E.operators)
-    (subst (λ z. HasUsualWidths (coll (comps_of z)) → HasUsualWidths lean) P.added E.widths))
+    (subst (λ z. HasBoundedWidths (coll (comps_of z)) → HasBoundedWidths lean) P.added E.widths))
     c.with_items.ensures

@@ -2,7 +2,7 @@ use Rattle.std.proofs.Common.{[], ◌∷◌, ◌≡◌, ◌≤◌, slice_set, sy
 use Rattle.lois_answers.specs.declared.faults.FaultKind.TheVariants.{NotASet}
 use Rattle.lois_base.specs.Fits.{Fits}
 use Rattle.lois_base.specs.Tree.{tree as term_tree}
-use Rattle.lois_deciders.proofs.Asking.{none_is}
+use Rattle.lois_deciders.proofs.Oracle.{none_is}
 use Rattle.lois_deciders.proofs.OnlyAsked.{only_asked_then}
 use Rattle.lois_script.specs.Tree.{add}
 use Rattle.lois_script.specs.View.{tree}
@@ -11,7 +11,7 @@ use Rattle.lois_context.specs.Slots.{SlotD, comps_in}
 use Rattle.lois_context.specs.declared.contexts.Context.{Context}
 use Rattle.lois_eval.specs.Throughout.{IsFaultOf}
 use Rattle.lois_eval.proofs.FaultsAt.{if_fault}
-use Rattle.lois_eval.proofs.Handed.{passed_on}
+use Rattle.lois_eval.proofs.LoopExit.{passed_on}
 use Rattle.lois_eval.proofs.Names.{not_new, held_value}
 use Rattle.lois_eval.specs.Checks.{IsFaultWith, IsDepthFault}
 use Rattle.lois_interp.specs.Failed.{FailsWithin}

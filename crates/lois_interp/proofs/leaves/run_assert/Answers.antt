@@ -1,7 +1,7 @@
 use Rattle.std.proofs.Common.{sym, subst}
 use Rattle.lois_answers.specs.declared.faults.FaultKind.TheVariants.{Assertion}
-use Rattle.lois_deciders.specs.Asked.{Parts}
-use Rattle.lois_deciders.proofs.Asking.{some_is, none_is}
+use Rattle.lois_deciders.specs.Satisfaction.{IsCounterexample}
+use Rattle.lois_deciders.proofs.Oracle.{some_is, none_is}
 use Rattle.lois_script.specs.Tree.{assert}
 use Rattle.lois_script.specs.View.{cond_tree}
 use Rattle.lois_meaning.specs.Expressions.{HasTruth}
@@ -9,7 +9,7 @@ use Rattle.lois_meaning.specs.Faults.{CondFails}
 use Rattle.lois_context.specs.Slots.{store_at}
 use Rattle.lois_eval.specs.Throughout.{IsFaultOf}
 use Rattle.lois_eval.proofs.FaultsAt.{if_fault}
-use Rattle.lois_eval.proofs.Handed.{passed_on}
+use Rattle.lois_eval.proofs.LoopExit.{passed_on}
 use Rattle.lois_eval.specs.Checks.{IsFaultWith}
 use Rattle.lois_interp.specs.Failed.{FailsWithin}
 use Rattle.lois_interp.specs.Reached.{RunsAs}
@@ -31,7 +31,7 @@ returns-in-Some-clause-fault g c =
     let q = cond_tree c.args.condition.now in let k = c.args.context in
     let decided = c.in_ok-decided.decided in
     let sample = c.in-Some.sample.items in
-    let parts = some_is (λ s. Parts k.size k.«when» decided s.items) c.in_ok-sample.field-0 c.in-Some.sample c.in-Some.is c.in_ok-sample.ensures.sample in
+    let parts = some_is (λ s. IsCounterexample k.size k.«when» decided s.items) c.in_ok-sample.field-0 c.in-Some.sample c.in-Some.is c.in_ok-sample.ensures.sample in
     if_fault c.fault.result (IsFaultWith c.args.pos Assertion sample) (FailsWithin (stmt_run (assert c.args.pos.offset q)) k) (λ f h. assertion_fails c.args.pos q k decided sample f c.in_ok-decided.ensures.truth parts h) c.fault.ensures
 
 pub returns-in_ok-one-in-None-clause-runs : goal.returns-in_ok-one-in-None-clause-runs

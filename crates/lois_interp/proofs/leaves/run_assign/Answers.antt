@@ -1,13 +1,13 @@
 use Rattle.std.proofs.Common.{[], ◌∷◌, ◌≤◌, slice_set, sym, ap, subst, ◌∙◌, arith}
 use Rattle.lois_base.specs.Fits.{Fits}
 use Rattle.lois_base.specs.Tree.{tree as term_tree}
-use Rattle.lois_deciders.proofs.Asking.{none_is}
+use Rattle.lois_deciders.proofs.Oracle.{none_is}
 use Rattle.lois_script.specs.Tree.{assign}
 use Rattle.lois_script.specs.View.{tree}
 use Rattle.lois_meaning.specs.Faults.{Fails}
 use Rattle.lois_context.specs.Slots.{SlotD, comps_in}
 use Rattle.lois_eval.specs.Throughout.{IsFaultOf}
-use Rattle.lois_eval.proofs.Handed.{passed_on}
+use Rattle.lois_eval.proofs.LoopExit.{passed_on}
 use Rattle.lois_eval.proofs.Names.{not_new}
 use Rattle.lois_interp.specs.Failed.{FailsWithin}
 use Rattle.lois_interp.specs.Leaves.{IsWithStore}

@@ -6,7 +6,7 @@ use Rattle.lois_script.specs.View.{tree}
 use Rattle.lois_meaning.specs.Faults.{Fails}
 use Rattle.lois_context.specs.Slots.{SlotD, IsNew, comps_in}
 use Rattle.lois_eval.specs.Throughout.{IsFaultOf}
-use Rattle.lois_eval.proofs.Handed.{passed_on}
+use Rattle.lois_eval.proofs.LoopExit.{passed_on}
 use Rattle.lois_interp.specs.Failed.{FailsWithin}
 use Rattle.lois_interp.specs.Leaves.{IsWithStore}
 use Rattle.lois_interp.specs.Reached.{RunsAs}

@@ -6,7 +6,7 @@ use Rattle.std.proofs.lemmas.List.Elements.{AllZip-push, All-contains}
 use Rattle.lois_context.specs.Choices.{AdmitsContext}
 use Rattle.lois_deciders.proofs.OnlyAsked.{only_asked_then}
 use Rattle.lois_interp.specs.Printed.{IsPrinted}
-use Rattle.lois_eval.proofs.Handed.{item_there}
+use Rattle.lois_eval.proofs.LoopExit.{item_there}
 use Rattle.lois_interp.proofs.printing.all_printed.Goals as goal
 
 pub one_printed-requires : goal.one_printed-requires

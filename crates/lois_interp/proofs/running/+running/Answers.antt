@@ -13,17 +13,17 @@ use Rattle.lois_script.specs.View.{binding_tree, cond_tree, stmt_tree, stmts_of,
 use Rattle.lois_script.proofs.Views.{binding_is, stmt_For, stmt_If, stmt_While}
 use Rattle.lois_meaning.specs.Faults.{CondFails}
 use Rattle.lois_context.specs.declared.contexts.Context.{Context}
-use Rattle.lois_eval.specs.Standing.{IsPlaced}
+use Rattle.lois_eval.specs.WellFormed.{IsWellFormedIn}
 use Rattle.lois_eval.specs.Throughout.{IsFaultOf, IfFault}
 use Rattle.lois_eval.proofs.FaultsAt.{if_fault}
-use Rattle.lois_eval.proofs.Handed.{item_there}
+use Rattle.lois_eval.proofs.LoopExit.{item_there}
 use Rattle.lois_interp.specs.Decided.{listed, IsTrueSide}
 use Rattle.lois_interp.specs.Elements.{SetFails}
 use Rattle.lois_interp.specs.Failed.{FailsWithin, FailsFrom}
 use Rattle.lois_interp.specs.Looped.{LoopRuns, FailsInside}
 use Rattle.lois_interp.specs.Reached.{RunsFrom, RunsAs}
 use Rattle.lois_interp.specs.Run.{stmt_run, list_run, block_run, turn_run, leave_run}
-use Rattle.lois_interp.specs.Standing.{StmtMayStand, BlockMayStand, TurnMayStand}
+use Rattle.lois_interp.specs.WellScoped.{StmtIsWellScoped, BlockIsWellScoped, TurnIsWellScoped}
 use Rattle.lois_interp.specs.Turned.{Parts}
 use Rattle.lois_interp.proofs.Compose.{from_none, from_more, from_merged, from_apart, one_apart}
 use Rattle.lois_interp.proofs.Contents.{run_different}
@@ -40,7 +40,7 @@ use Rattle.lois_interp.proofs.running.+running.Goals as goal
 pub run_each-loop-context-init : goal.run_each-loop-context-init
 run_each-loop-context-init g t c =
     let R = stmt_run (stmt_tree c.args.stmt.now) in
-    record { can_next = tt; is_finite = tt; runs = subst (λ z. RunsFrom R [] z) (sym c.new-next.ensures.items) (from_none R); asked = g.met.S.Steps.reaches_itself c.args.steps.now }
+    record { can_next = tt; is_finite = tt; runs = subst (λ z. RunsFrom R [] z) (sym c.new-next.ensures.items) (from_none R); asked = g.met.S.Oracle.reaches_itself c.args.steps.now }
 
 pub run_each-loop-context-preserved : goal.run_each-loop-context-preserved
 run_each-loop-context-preserved g t c =
@@ -51,7 +51,7 @@ run_each-loop-context-preserved g t c =
       is_finite = tt;
       runs = subst (λ z. RunsFrom R (c.loop-context.yielded ++ k ∷ []) z) (sym c.in_ok-append-in-Ok.ensures)
           (from_more R c.loop-context.yielded c.loop-context.next.items (k ∷ []) c.in-Ok.ends.items c.loop-context.invariant.runs c.in-Ok.ensures.runs);
-      asked = g.met.S.Steps.reaches_then c.args.steps.now c.loop-context.steps c.run_stmt.new.steps c.loop-context.invariant.asked c.run_stmt.ensures.asked;
+      asked = g.met.S.Oracle.reaches_then c.args.steps.now c.loop-context.steps c.run_stmt.new.steps c.loop-context.invariant.asked c.run_stmt.ensures.asked;
     }
 
 pub run_each-returns-in-Err-clause-fault : goal.run_each-returns-in-Err-clause-fault
@@ -75,13 +75,13 @@ pub run_for-enter-requires-clause-placed : goal.run_for-enter-requires-clause-pl
 run_for-enter-requires-clause-placed g t c =
     let o = g.T.Structure.ordered in let k = c.args.context in let b = c.args.binding.now in
     let q = cond_tree c.args.guard.now in let body = stmts_of (stmts_list c.args.body.now) in
-    set_placed b.pos.offset b.name (tree b.from) q body k o (subst (λ z. IsPlaced (StmtMayStand (for z q body)) o k) (binding_is b) c.requires.placed)
+    set_placed b.pos.offset b.name (tree b.from) q body k o (subst (λ z. IsWellFormedIn (StmtIsWellScoped (for z q body)) o k) (binding_is b) c.requires.placed)
 
 pub run_for-enter-requires-clause-new_name : goal.run_for-enter-requires-clause-new_name
 run_for-enter-requires-clause-new_name g t c =
     let o = g.T.Structure.ordered in let k = c.args.context in let b = c.args.binding.now in
     let q = cond_tree c.args.guard.now in let body = stmts_of (stmts_list c.args.body.now) in
-    for_new b.pos.offset b.name (tree b.from) q body k o (subst (λ z. IsPlaced (StmtMayStand (for z q body)) o k) (binding_is b) c.requires.placed)
+    for_new b.pos.offset b.name (tree b.from) q body k o (subst (λ z. IsWellFormedIn (StmtIsWellScoped (for z q body)) o k) (binding_is b) c.requires.placed)
 
 pub run_for-returns-in-Err-clause-fault : goal.run_for-returns-in-Err-clause-fault
 run_for-returns-in-Err-clause-fault g t c =
@@ -94,7 +94,7 @@ pub run_for-run_inside-requires : goal.run_for-run_inside-requires
 run_for-run_inside-requires g t c κs within =
     let o = g.T.Structure.ordered in let k = c.args.context in let b = c.args.binding.now in
     let q = cond_tree c.args.guard.now in let body = stmts_of (stmts_list c.args.body.now) in
-    let may = subst (λ z. IsPlaced (StmtMayStand (for z q body)) o k) (binding_is b) c.requires.placed in
+    let may = subst (λ z. IsWellFormedIn (StmtIsWellScoped (for z q body)) o k) (binding_is b) c.requires.placed in
     let inside = c.in-Ok.inside.items in
     (omega arith, (within.0, (within.1, (c.requires.sound, (inside_may b.pos.offset b.name (tree b.from) q body k o may inside c.in-Ok.ensures.entered, inside_elements b.pos.offset b.name (tree b.from) q body k o may inside c.in-Ok.ensures.entered)))))
 
@@ -102,7 +102,7 @@ pub run_for-returns-in-Err-run_inside-clause-fault : goal.run_for-returns-in-Err
 run_for-returns-in-Err-run_inside-clause-fault g t c =
     let o = g.T.Structure.ordered in let k = c.args.context in let b = c.args.binding.now in
     let q = cond_tree c.args.guard.now in let body = stmts_of (stmts_list c.args.body.now) in
-    let may = subst (λ z. IsPlaced (StmtMayStand (for z q body)) o k) (binding_is b) c.requires.placed in
+    let may = subst (λ z. IsWellFormedIn (StmtIsWellScoped (for z q body)) o k) (binding_is b) c.requires.placed in
     subst (λ z. IfFault c.in-Err-run_inside.stop (FailsWithin (stmt_run (for z q body)) k)) (sym (binding_is b))
     (if_fault c.in-Err-run_inside.stop (λ f. (d : Context) × Contains c.in-Ok.inside.items d × FailsInside b.name q body d f) (FailsWithin (stmt_run (for (binding b.pos.offset b.name (tree b.from)) q body)) k)
     (λ f h. for_fails_inside b.pos.offset b.name (tree b.from) q body k o may c.in-Ok.inside.items c.in-Ok.ensures.entered f h) c.in-Err-run_inside.ensures.fault)
@@ -111,21 +111,21 @@ pub run_for-join-requires-clause-ends : goal.run_for-join-requires-clause-ends
 run_for-join-requires-clause-ends g t c =
     let o = g.T.Structure.ordered in let k = c.args.context in let b = c.args.binding.now in
     let q = cond_tree c.args.guard.now in let body = stmts_of (stmts_list c.args.body.now) in
-    let may = subst (λ z. IsPlaced (StmtMayStand (for z q body)) o k) (binding_is b) c.requires.placed in
+    let may = subst (λ z. IsWellFormedIn (StmtIsWellScoped (for z q body)) o k) (binding_is b) c.requires.placed in
     for_ends b.pos.offset b.name (tree b.from) q body k o may c.in-Ok.inside.items c.in-Ok.ensures.entered c.in-Ok-run_inside.ends.items c.in-Ok-run_inside.ensures.runs
 
 pub run_for-join-requires-clause-end_operators : goal.run_for-join-requires-clause-end_operators
 run_for-join-requires-clause-end_operators g t c =
     let o = g.T.Structure.ordered in let k = c.args.context in let b = c.args.binding.now in
     let q = cond_tree c.args.guard.now in let body = stmts_of (stmts_list c.args.body.now) in
-    let may = subst (λ z. IsPlaced (StmtMayStand (for z q body)) o k) (binding_is b) c.requires.placed in
+    let may = subst (λ z. IsWellFormedIn (StmtIsWellScoped (for z q body)) o k) (binding_is b) c.requires.placed in
     ends_admit b.pos.offset b.name (tree b.from) q body k o may c.in-Ok.inside.items c.in-Ok.ensures.entered c.in-Ok-run_inside.ends.items c.in-Ok-run_inside.ensures.runs o may
 
 pub run_for-returns-clause-runs : goal.run_for-returns-clause-runs
 run_for-returns-clause-runs g t c =
     let o = g.T.Structure.ordered in let k = c.args.context in let b = c.args.binding.now in
     let q = cond_tree c.args.guard.now in let body = stmts_of (stmts_list c.args.body.now) in
-    let may = subst (λ z. IsPlaced (StmtMayStand (for z q body)) o k) (binding_is b) c.requires.placed in
+    let may = subst (λ z. IsWellFormedIn (StmtIsWellScoped (for z q body)) o k) (binding_is b) c.requires.placed in
     let r = c.in_ok-behind.behind in
     subst (λ z. RunsAs (stmt_run (for (binding_tree b) q body)) k z) (sym c.in_ok-one.ensures)
     (subst (λ z. RunsAs (stmt_run (for z q body)) k (r ∷ [])) (sym (binding_is b))
@@ -133,19 +133,19 @@ run_for-returns-clause-runs g t c =
 
 pub run_for-returns-in_err-one-clause-asked : goal.run_for-returns-in_err-one-clause-asked
 run_for-returns-in_err-one-clause-asked g t c =
-    let then = g.met.S.Steps.reaches_then in
+    let then = g.met.S.Oracle.reaches_then in
     then c.args.steps.now c.run_inside.new.steps c.join.new.self (then c.args.steps.now c.enter.new.self c.run_inside.new.steps c.enter.ensures.asked c.run_inside.ensures.asked) c.join.ensures.asked
 
 pub run_for-returns-clause-asked : goal.run_for-returns-clause-asked
 run_for-returns-clause-asked g t c =
-    let then = g.met.S.Steps.reaches_then in
+    let then = g.met.S.Oracle.reaches_then in
     then c.args.steps.now c.run_inside.new.steps c.join.new.self (then c.args.steps.now c.enter.new.self c.run_inside.new.steps c.enter.ensures.asked c.run_inside.ensures.asked) c.join.ensures.asked
 
 -- ---- the contexts inside
 pub run_inside-loop-context-init : goal.run_inside-loop-context-init
 run_inside-loop-context-init g t c =
     let q = cond_tree c.args.guard.now in let body = stmts_of (stmts_list c.args.body.now) in
-    record { can_next = tt; is_finite = tt; runs = subst (λ z. LoopRuns q body [] z) (sym c.new-ends.ensures.items) (runs_none q body); asked = g.met.S.Steps.reaches_itself c.args.steps.now }
+    record { can_next = tt; is_finite = tt; runs = subst (λ z. LoopRuns q body [] z) (sym c.new-ends.ensures.items) (runs_none q body); asked = g.met.S.Oracle.reaches_itself c.args.steps.now }
 
 pub run_inside-loop-context-preserved : goal.run_inside-loop-context-preserved
 run_inside-loop-context-preserved g t c =
@@ -156,7 +156,7 @@ run_inside-loop-context-preserved g t c =
       is_finite = tt;
       runs = subst (λ z. LoopRuns q body (c.loop-context.yielded ++ k ∷ []) z) (sym c.in_ok-append-in-Ok.ensures)
           (runs_more q body c.loop-context.yielded c.loop-context.ends.items k c.in-Ok.more.items c.loop-context.invariant.runs c.in-Ok.ensures.runs);
-      asked = g.met.S.Steps.reaches_then c.args.steps.now c.loop-context.steps c.run_member.new.steps c.loop-context.invariant.asked c.run_member.ensures.asked;
+      asked = g.met.S.Oracle.reaches_then c.args.steps.now c.loop-context.steps c.run_member.new.steps c.loop-context.invariant.asked c.run_member.ensures.asked;
     }
 
 pub run_inside-returns-in-Err-clause-fault : goal.run_inside-returns-in-Err-clause-fault
@@ -227,7 +227,7 @@ run_passing-returns-clause-runs g t c =
 pub run_stmt-run_for-requires : goal.run_stmt-run_for-requires
 run_stmt-run_for-requires g t c κs within =
     let is : stmt_tree c.args.stmt.now ≡ for (binding_tree c.in-For.binding) (cond_tree c.in-For.guard) (stmts_of (stmts_list c.in-For.body)) = ap stmt_tree c.in-For.is ∙ stmt_For c.in-For.binding c.in-For.guard c.in-For.body in
-    (omega (arith, ap stmt_size is, size_for (binding_tree c.in-For.binding) (cond_tree c.in-For.guard) (stmts_of (stmts_list c.in-For.body))), (within.0, (within.1, (c.requires.sound, subst (λ z. IsPlaced (StmtMayStand z) g.T.Structure.ordered c.args.context) is c.requires.placed))))
+    (omega (arith, ap stmt_size is, size_for (binding_tree c.in-For.binding) (cond_tree c.in-For.guard) (stmts_of (stmts_list c.in-For.body))), (within.0, (within.1, (c.requires.sound, subst (λ z. IsWellFormedIn (StmtIsWellScoped z) g.T.Structure.ordered c.args.context) is c.requires.placed))))
 
 pub run_stmt-returns-in-For-clause-runs : goal.run_stmt-returns-in-For-clause-runs
 run_stmt-returns-in-For-clause-runs g t c =
@@ -243,7 +243,7 @@ pub run_stmt-run_if-requires : goal.run_stmt-run_if-requires
 run_stmt-run_if-requires g t c κs within =
     let q = cond_tree c.in-If.condition in let a = stmts_of (stmts_list c.in-If.yes) in let b = stmts_of (stmts_list c.in-If.no) in
     let is : stmt_tree c.args.stmt.now ≡ (if) q a b = ap stmt_tree c.in-If.is ∙ stmt_If c.in-If.condition c.in-If.yes c.in-If.no in
-    (omega (arith, ap stmt_size is, size_if q a b), (within.0, (within.1, (c.requires.sound, subst (λ z. IsPlaced (StmtMayStand z) g.T.Structure.ordered c.args.context) is c.requires.placed))))
+    (omega (arith, ap stmt_size is, size_if q a b), (within.0, (within.1, (c.requires.sound, subst (λ z. IsWellFormedIn (StmtIsWellScoped z) g.T.Structure.ordered c.args.context) is c.requires.placed))))
 
 pub run_stmt-returns-in-If-clause-runs : goal.run_stmt-returns-in-If-clause-runs
 run_stmt-returns-in-If-clause-runs g t c =
@@ -261,7 +261,7 @@ pub run_stmt-run_while-requires : goal.run_stmt-run_while-requires
 run_stmt-run_while-requires g t c κs within =
     let q = cond_tree c.in-While.condition in let body = stmts_of (stmts_list c.in-While.body) in
     let is : stmt_tree c.args.stmt.now ≡ while c.in-While.pos.offset q c.in-While.turns body = ap stmt_tree c.in-While.is ∙ stmt_While c.in-While.pos c.in-While.condition c.in-While.turns c.in-While.body in
-    (omega (arith, ap stmt_size is, size_while c.in-While.pos.offset q c.in-While.turns body), (within.0, (within.1, (c.requires.sound, subst (λ z. IsPlaced (StmtMayStand z) g.T.Structure.ordered c.args.context) is c.requires.placed))))
+    (omega (arith, ap stmt_size is, size_while c.in-While.pos.offset q c.in-While.turns body), (within.0, (within.1, (c.requires.sound, subst (λ z. IsWellFormedIn (StmtIsWellScoped z) g.T.Structure.ordered c.args.context) is c.requires.placed))))
 
 pub run_stmt-returns-in-While-clause-runs : goal.run_stmt-returns-in-While-clause-runs
 run_stmt-returns-in-While-clause-runs g t c =
@@ -282,7 +282,7 @@ run_stmt-simple-requires-clause-leaf g t c = is_leaf c.args.stmt.now c.in_defaul
 pub run_stmts-loop-stmt-init : goal.run_stmts-loop-stmt-init
 run_stmts-loop-stmt-init g t c = record {
   runs = subst (λ z. RunsAs (list_run []) c.args.context z) (sym c.in_ok-contexts.ensures) (list_none c.args.context);
-  asked = g.met.S.Steps.reaches_itself c.args.steps.now;
+  asked = g.met.S.Oracle.reaches_itself c.args.steps.now;
 }
 
 pub run_stmts-run_each-requires : goal.run_stmts-run_each-requires
@@ -301,7 +301,7 @@ run_stmts-run_each-requires g t c κs within =
           (
             c.requires.sound,
             (
-              may_at done a rest k c.loop-stmt.contexts.items c.loop-stmt.invariant.runs o (subst (λ z. IsPlaced (BlockMayStand (stmts_of z)) o k) whole c.requires.placed),
+              may_at done a rest k c.loop-stmt.contexts.items c.loop-stmt.invariant.runs o (subst (λ z. IsWellFormedIn (BlockIsWellScoped (stmts_of z)) o k) whole c.requires.placed),
               from_apart (list_run done) (k ∷ []) c.loop-stmt.contexts.items c.loop-stmt.invariant.runs (one_apart k),
             ),
           ),
@@ -327,7 +327,7 @@ run_stmts-loop-stmt-preserved g t c =
     record {
       runs = subst (λ z. RunsAs (list_run z) k c.in-Ok.next.items) (sym (one_more stmt_tree items i c.stmt-item.result c.loop-stmt-test.true c.stmt-item.is))
           (list_more done a (k ∷ []) c.loop-stmt.contexts.items c.in-Ok.next.items c.loop-stmt.invariant.runs c.in-Ok.ensures.runs);
-      asked = g.met.S.Steps.reaches_then c.args.steps.now c.loop-stmt.steps c.run_each.new.steps c.loop-stmt.invariant.asked c.run_each.ensures.asked;
+      asked = g.met.S.Oracle.reaches_then c.args.steps.now c.loop-stmt.steps c.run_each.new.steps c.loop-stmt.invariant.asked c.run_each.ensures.asked;
     }
 
 pub run_stmts-returns-clause-runs : goal.run_stmts-returns-clause-runs
@@ -400,12 +400,12 @@ run_side-returns-in-Some-clause-fault g t c =
 pub run_turn-loop-context-init : goal.run_turn-loop-context-init
 run_turn-loop-context-init g t c =
     let q = cond_tree c.args.condition.now in let body = stmts_of (stmts_list c.args.body.now) in
-    let P = Parts (leave_run 0 q) (turn_run q body) (TurnMayStand q body) [] in
+    let P = Parts (leave_run 0 q) (turn_run q body) (TurnIsWellScoped q body) [] in
     record {
       can_next = tt;
       is_finite = tt;
-      parts = subst (λ z. P z c.new-going.result.items) (sym c.new-left.ensures.items) (subst (P []) (sym c.new-going.ensures.items) (parts_none (leave_run 0 q) (turn_run q body) (TurnMayStand q body)));
-      asked = g.met.S.Steps.reaches_itself c.args.steps.now;
+      parts = subst (λ z. P z c.new-going.result.items) (sym c.new-left.ensures.items) (subst (P []) (sym c.new-going.ensures.items) (parts_none (leave_run 0 q) (turn_run q body) (TurnIsWellScoped q body)));
+      asked = g.met.S.Oracle.reaches_itself c.args.steps.now;
     }
 
 pub run_turn-sides-requires-clause-placed : goal.run_turn-sides-requires-clause-placed
@@ -413,7 +413,7 @@ run_turn-sides-requires-clause-placed g t c =
     let q = cond_tree c.args.condition.now in let body = stmts_of (stmts_list c.args.body.now) in let o = g.T.Structure.ordered in
     let k = c.in-Some.context in
     let turn = YieldsList-turn (YieldsList-from_vec c.args.contexts.items (cc) (cc)) c.loop-context.yielded c.loop-context.context-iterator c.loop-context.yielded_by c.next.result c.next.new.self k c.in-Some.is c.next.ensures.steps in
-    turn_placed q body k o (All-contains (IsPlaced (TurnMayStand q body) o) c.args.contexts.items k c.requires.placed (item_there c.args.contexts.items (length c.loop-context.yielded) k turn.0 turn.1))
+    turn_placed q body k o (All-contains (IsWellFormedIn (TurnIsWellScoped q body) o) c.args.contexts.items k c.requires.placed (item_there c.args.contexts.items (length c.loop-context.yielded) k turn.0 turn.1))
 
 pub run_turn-returns-in-Err-clause-fault : goal.run_turn-returns-in-Err-clause-fault
 run_turn-returns-in-Err-clause-fault g t c =
@@ -428,7 +428,7 @@ run_turn-run_side-requires g t c κs within =
     let q = cond_tree c.args.condition.now in let body = stmts_of (stmts_list c.args.body.now) in let o = g.T.Structure.ordered in
     let k = c.in-Some.context in
     let turn = YieldsList-turn (YieldsList-from_vec c.args.contexts.items (cc) (cc)) c.loop-context.yielded c.loop-context.context-iterator c.loop-context.yielded_by c.next.result c.next.new.self k c.in-Some.is c.next.ensures.steps in
-    let placed = All-contains (IsPlaced (TurnMayStand q body) o) c.args.contexts.items k c.requires.placed (item_there c.args.contexts.items (length c.loop-context.yielded) k turn.0 turn.1) in
+    let placed = All-contains (IsWellFormedIn (TurnIsWellScoped q body) o) c.args.contexts.items k c.requires.placed (item_there c.args.contexts.items (length c.loop-context.yielded) k turn.0 turn.1) in
     (omega arith, (within.0, (within.1, (c.requires.sound, turn_may q body k o c.in-Ok.sides.yes placed c.in-Ok.ensures.decided.yes))))
 
 pub run_turn-returns-in-Err-run_side-clause-fault : goal.run_turn-returns-in-Err-run_side-clause-fault
@@ -445,14 +445,14 @@ run_turn-loop-context-preserved g t c =
     let k = c.in-Some.context in
     let sides = c.in-Ok.sides in
     let more = c.in-Ok-run_side.more.items in
-    let P = Parts (leave_run 0 q) (turn_run q body) (TurnMayStand q body) (c.loop-context.yielded ++ k ∷ []) in
+    let P = Parts (leave_run 0 q) (turn_run q body) (TurnIsWellScoped q body) (c.loop-context.yielded ++ k ∷ []) in
     let one = turn_parts q body k sides more c.in-Ok.ensures.decided c.in-Ok-run_side.ensures.runs in
-    let both = parts_more (leave_run 0 q) (turn_run q body) (TurnMayStand q body) c.loop-context.yielded c.loop-context.left.items c.loop-context.going.items (k ∷ []) (listed sides.no) more c.loop-context.invariant.parts one in
+    let both = parts_more (leave_run 0 q) (turn_run q body) (TurnIsWellScoped q body) c.loop-context.yielded c.loop-context.left.items c.loop-context.going.items (k ∷ []) (listed sides.no) more c.loop-context.invariant.parts one in
     record {
       can_next = tt;
       is_finite = tt;
       parts = subst (λ z. P z c.append.new.contexts.items) (sym c.in_ok-put.ensures) (subst (P (c.loop-context.left.items ++ listed sides.no)) (sym c.in_ok-append-in-Ok-run_side.ensures) both);
-      asked = g.met.S.Steps.reaches_then c.args.steps.now c.loop-context.steps c.run_side.new.steps c.loop-context.invariant.asked (g.met.S.Steps.reaches_then c.loop-context.steps c.sides.new.self c.run_side.new.steps c.sides.ensures.asked c.run_side.ensures.asked);
+      asked = g.met.S.Oracle.reaches_then c.args.steps.now c.loop-context.steps c.run_side.new.steps c.loop-context.invariant.asked (g.met.S.Oracle.reaches_then c.loop-context.steps c.sides.new.self c.run_side.new.steps c.sides.ensures.asked c.run_side.ensures.asked);
     }
 
 pub run_turn-returns-clause-turn : goal.run_turn-returns-clause-turn
@@ -460,8 +460,8 @@ run_turn-returns-clause-turn g t c =
     let q = cond_tree c.args.condition.now in let body = stmts_of (stmts_list c.args.body.now) in
     let end = YieldsList-end (YieldsList-from_vec c.args.contexts.items (cc) (cc)) c.loop-context.yielded c.loop-context.context-iterator c.loop-context.yielded_by c.next.result c.next.new.self c.in-None.is c.next.ensures.steps in
     let all : c.loop-context.yielded ≡ c.args.contexts.items = sym (map-id c.loop-context.yielded) ∙ end.0 in
-    let parts = subst (λ z. Parts (leave_run 0 q) (turn_run q body) (TurnMayStand q body) z c.loop-context.left.items c.loop-context.going.items) all c.loop-context.invariant.parts in
-    parts_merged (leave_run 0 q) (turn_run q body) (TurnMayStand q body) c.args.contexts.items c.loop-context.left.items c.loop-context.going.items c.in_ok-going.going.items c.requires.apart parts c.in_ok-going.ensures
+    let parts = subst (λ z. Parts (leave_run 0 q) (turn_run q body) (TurnIsWellScoped q body) z c.loop-context.left.items c.loop-context.going.items) all c.loop-context.invariant.parts in
+    parts_merged (leave_run 0 q) (turn_run q body) (TurnIsWellScoped q body) c.args.contexts.items c.loop-context.left.items c.loop-context.going.items c.in_ok-going.going.items c.requires.apart parts c.in_ok-going.ensures
 
 -- ---- turn after turn
 pub run_while-loop-turn-init : goal.run_while-loop-turn-init
@@ -470,7 +470,7 @@ run_while-loop-turn-init g t c =
     let H = HasTurned c.args.pos.offset q c.args.turns body k 0 in
     record {
       turned = subst (λ z. H z c.in_ok-going.going.items) (sym c.new-done.ensures.items) (subst (H []) (sym c.in_ok-going.ensures) (turned_none c.args.pos.offset q c.args.turns body k));
-      asked = g.met.S.Steps.reaches_itself c.args.steps.now;
+      asked = g.met.S.Oracle.reaches_itself c.args.steps.now;
     }
 
 pub run_while-returns-then-is_empty-clause-runs : goal.run_while-returns-then-is_empty-clause-runs
@@ -500,7 +500,7 @@ run_while-loop-turn-preserved g t c =
     record {
       turned = subst (λ z. HasTurned c.args.pos.offset q c.args.turns body k z c.append.new.contexts.items further) (sym (add-one i))
           (subst (λ z. HasTurned c.args.pos.offset q c.args.turns body k (suc i) z further) (sym c.in_ok-append.ensures) turned);
-      asked = g.met.S.Steps.reaches_then c.args.steps.now c.loop-turn.steps c.run_turn.new.steps c.loop-turn.invariant.asked c.run_turn.ensures.asked;
+      asked = g.met.S.Oracle.reaches_then c.args.steps.now c.loop-turn.steps c.run_turn.new.steps c.loop-turn.invariant.asked c.run_turn.ensures.asked;
     }
 
 pub run_while-leave_all-requires-clause-placed : goal.run_while-leave_all-requires-clause-placed
@@ -530,20 +530,20 @@ run_while-returns-then-is_empty-clause-asked g t c = c.loop-turn.invariant.asked
 
 pub run_while-returns-in-Err-clause-asked : goal.run_while-returns-in-Err-clause-asked
 run_while-returns-in-Err-clause-asked g t c =
-    g.met.S.Steps.reaches_then c.args.steps.now c.loop-turn.steps c.run_turn.new.steps c.loop-turn.invariant.asked c.run_turn.ensures.asked
+    g.met.S.Oracle.reaches_then c.args.steps.now c.loop-turn.steps c.run_turn.new.steps c.loop-turn.invariant.asked c.run_turn.ensures.asked
 
 pub run_while-returns-in_err-append-clause-asked : goal.run_while-returns-in_err-append-clause-asked
 run_while-returns-in_err-append-clause-asked g t c =
-    g.met.S.Steps.reaches_then c.args.steps.now c.loop-turn.steps c.run_turn.new.steps c.loop-turn.invariant.asked c.run_turn.ensures.asked
+    g.met.S.Oracle.reaches_then c.args.steps.now c.loop-turn.steps c.run_turn.new.steps c.loop-turn.invariant.asked c.run_turn.ensures.asked
 
 pub run_while-returns-in_err-append-in-Ok-leave_all-clause-asked : goal.run_while-returns-in_err-append-in-Ok-leave_all-clause-asked
 run_while-returns-in_err-append-in-Ok-leave_all-clause-asked g t c =
-    g.met.S.Steps.reaches_then c.args.steps.now c.loop-turn.steps c.leave_all.new.steps c.loop-turn.invariant.asked c.leave_all.ensures.asked
+    g.met.S.Oracle.reaches_then c.args.steps.now c.loop-turn.steps c.leave_all.new.steps c.loop-turn.invariant.asked c.leave_all.ensures.asked
 
 pub run_while-returns-in-Err-leave_all-clause-asked : goal.run_while-returns-in-Err-leave_all-clause-asked
 run_while-returns-in-Err-leave_all-clause-asked g t c =
-    g.met.S.Steps.reaches_then c.args.steps.now c.loop-turn.steps c.leave_all.new.steps c.loop-turn.invariant.asked c.leave_all.ensures.asked
+    g.met.S.Oracle.reaches_then c.args.steps.now c.loop-turn.steps c.leave_all.new.steps c.loop-turn.invariant.asked c.leave_all.ensures.asked
 
 pub run_while-returns-clause-asked : goal.run_while-returns-clause-asked
 run_while-returns-clause-asked g t c =
-    g.met.S.Steps.reaches_then c.args.steps.now c.loop-turn.steps c.leave_all.new.steps c.loop-turn.invariant.asked c.leave_all.ensures.asked
+    g.met.S.Oracle.reaches_then c.args.steps.now c.loop-turn.steps c.leave_all.new.steps c.loop-turn.invariant.asked c.leave_all.ensures.asked

@@ -3,7 +3,7 @@ use Rattle.lois_script.specs.View.{cond_tree, stmt_tree, stmts_of, stmts_list}
 use Rattle.lois_interp.specs.Looped.{LoopRuns}
 use Rattle.lois_interp.specs.Reached.{RunsFrom, RunsAs}
 use Rattle.lois_interp.specs.Run.{stmt_run, list_run, turn_run, leave_run}
-use Rattle.lois_interp.specs.Standing.{TurnMayStand}
+use Rattle.lois_interp.specs.WellScoped.{TurnIsWellScoped}
 use Rattle.lois_interp.specs.Turned.{Parts}
 use Rattle.lois_interp.proofs.Sizes.{stmt_size, list_size}
 use Rattle.lois_interp.proofs.WhileRuns.{HasTurned}
@@ -14,7 +14,7 @@ invariant-run_each-loop-context g l = record {
   can_next : (goal.iterator-run_each-loop-context g).can_next l.context-iterator;
   is_finite : (goal.iterator-run_each-loop-context g).is_finite l.context-iterator;
   runs : RunsFrom (stmt_run (stmt_tree l.stmt)) l.yielded l.next.items;
-  asked : g.S.Steps.reaches l.fn.steps l.steps;
+  asked : g.S.Oracle.reaches l.fn.steps l.steps;
 }
 
 abbrev pub invariant-run_inside-loop-context : goal.invariant-run_inside-loop-context
@@ -22,27 +22,27 @@ invariant-run_inside-loop-context g l = record {
   can_next : (goal.iterator-run_inside-loop-context g).can_next l.context-iterator;
   is_finite : (goal.iterator-run_inside-loop-context g).is_finite l.context-iterator;
   runs : LoopRuns (cond_tree l.guard) (stmts_of (stmts_list l.body)) l.yielded l.ends.items;
-  asked : g.S.Steps.reaches l.fn.steps l.steps;
+  asked : g.S.Oracle.reaches l.fn.steps l.steps;
 }
 
 abbrev pub invariant-run_turn-loop-context : goal.invariant-run_turn-loop-context
 invariant-run_turn-loop-context g l = record {
   can_next : (goal.iterator-run_turn-loop-context g).can_next l.context-iterator;
   is_finite : (goal.iterator-run_turn-loop-context g).is_finite l.context-iterator;
-  parts : Parts (leave_run 0 (cond_tree l.condition)) (turn_run (cond_tree l.condition) (stmts_of (stmts_list l.body))) (TurnMayStand (cond_tree l.condition) (stmts_of (stmts_list l.body))) l.yielded l.left.items l.going.items;
-  asked : g.S.Steps.reaches l.fn.steps l.steps;
+  parts : Parts (leave_run 0 (cond_tree l.condition)) (turn_run (cond_tree l.condition) (stmts_of (stmts_list l.body))) (TurnIsWellScoped (cond_tree l.condition) (stmts_of (stmts_list l.body))) l.yielded l.left.items l.going.items;
+  asked : g.S.Oracle.reaches l.fn.steps l.steps;
 }
 
 abbrev pub invariant-run_stmts-loop-stmt : goal.invariant-run_stmts-loop-stmt
 invariant-run_stmts-loop-stmt g l = record {
   runs : RunsAs (list_run (map stmt_tree (take l.stmt-index l.stmt-items))) l.fn.context l.contexts.items;
-  asked : g.S.Steps.reaches l.fn.steps l.steps;
+  asked : g.S.Oracle.reaches l.fn.steps l.steps;
 }
 
 abbrev pub invariant-run_while-loop-turn : goal.invariant-run_while-loop-turn
 invariant-run_while-loop-turn g l = record {
   turned : HasTurned l.pos.offset (cond_tree l.condition) l.turns (stmts_of (stmts_list l.body)) l.fn.context l._turn l.done.items l.going.items;
-  asked : g.S.Steps.reaches l.fn.steps l.steps;
+  asked : g.S.Oracle.reaches l.fn.steps l.steps;
 }
 
 -- each call goes into a part of the statement, or on to a function of a lower rank

@@ -6,7 +6,7 @@ use Rattle.lois_meaning.specs.Faults.{CondFails}
 use Rattle.lois_eval.specs.Throughout.{IsFaultOf}
 use Rattle.lois_eval.specs.Checks.{IsFaultWith}
 use Rattle.lois_eval.proofs.FaultsAt.{if_fault}
-use Rattle.lois_eval.proofs.Handed.{passed_on}
+use Rattle.lois_eval.proofs.LoopExit.{passed_on}
 use Rattle.lois_eval.specs.Checks.{IsFaultWith}
 use Rattle.lois_interp.specs.Decided.{listed, IsTrueSide}
 use Rattle.lois_interp.specs.Failed.{FailsWithin}

@@ -3,7 +3,7 @@ use Rattle.std.proofs.lemmas.Iterator.Adapters.{YieldsList-from_vec}
 use Rattle.std.proofs.lemmas.Iterator.Consumers.{YieldsList-turn, YieldsList-end}
 use Rattle.std.proofs.lemmas.List.{map-id}
 use Rattle.lois_script.specs.View.{cond_tree}
-use Rattle.lois_eval.proofs.Handed.{item_there, passed_on}
+use Rattle.lois_eval.proofs.LoopExit.{item_there, passed_on}
 use Rattle.lois_interp.specs.Failed.{FailsWithin, FailsFrom}
 use Rattle.lois_interp.specs.Reached.{RunsFrom}
 use Rattle.lois_interp.specs.Run.{leave_run}
@@ -13,7 +13,7 @@ use Rattle.lois_interp.proofs.turns.leave_all.Goals as goal
 pub loop-context-init : goal.loop-context-init
 loop-context-init g c = record {
   runs = subst (RunsFrom (leave_run c.args.pos.offset (cond_tree c.args.condition.now)) []) (sym c.new-left.ensures.items) (from_none (leave_run c.args.pos.offset (cond_tree c.args.condition.now)));
-  asked = g.met.S.Steps.reaches_itself c.args.steps.now;
+  asked = g.met.S.Oracle.reaches_itself c.args.steps.now;
 }
 
 pub loop-context-preserved : goal.loop-context-preserved
@@ -23,7 +23,7 @@ loop-context-preserved g c =
     record {
       runs = subst (RunsFrom R (c.loop-context.yielded ++ k ∷ [])) (sym c.in_ok-append.ensures)
           (from_more R c.loop-context.yielded c.loop-context.left.items (k ∷ []) c.in_ok-more.more.items c.loop-context.invariant.runs c.in_ok-more.ensures.runs);
-      asked = g.met.S.Steps.reaches_then c.args.steps.now c.loop-context.steps c.leave.new.steps c.loop-context.invariant.asked c.leave.ensures.asked;
+      asked = g.met.S.Oracle.reaches_then c.args.steps.now c.loop-context.steps c.leave.new.steps c.loop-context.invariant.asked c.leave.ensures.asked;
     }
 
 pub returns-in_err-more-clause-fault : goal.returns-in_err-more-clause-fault

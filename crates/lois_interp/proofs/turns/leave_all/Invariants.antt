@@ -6,5 +6,5 @@ use Rattle.lois_interp.proofs.turns.leave_all.Given as goal
 abbrev pub invariant-loop-context : goal.invariant-loop-context
 invariant-loop-context g l = record {
   runs : RunsFrom (leave_run l.pos.offset (cond_tree l.condition)) l.yielded l.left.items;
-  asked : g.S.Steps.reaches l.fn.steps l.steps;
+  asked : g.S.Oracle.reaches l.fn.steps l.steps;
 }

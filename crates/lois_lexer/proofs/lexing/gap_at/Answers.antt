@@ -2,7 +2,7 @@ use Rattle.std.proofs.Common.{◌≡◌, ℕ, ◌<◌, length, get_or, subst, sy
 use Rattle.std.specs.List.{prefix_len}
 use Rattle.lois_lexer.specs.Bytes.{is_comment_byte}
 use Rattle.lois_lexer.specs.Tokens.{IsComment}
-use Rattle.lois_lexer.specs.Tokens.IsGap.{one_blank, one_comment}
+use Rattle.lois_lexer.specs.Tokens.IsTrivia.{one_blank, one_comment}
 use Rattle.lois_lexer.specs.Refusals.{BreaksComment}
 use Rattle.lois_lexer.specs.Refusals.IsWrongAt.{bad_comment}
 use Rattle.lois_lexer.proofs.Gaps.{breaks, comment_ends}

@@ -3,7 +3,7 @@ use Rattle.std.proofs.lemmas.Result.{IfOk-weaker}
 use Rattle.lois_base.specs.Data.{coll, comps_of}
 use Rattle.lois_base.specs.Tree.{tree}
 use Rattle.lois_algebra.specs.Sets.{IsDifference}
-use Rattle.lois_terms.specs.Raised.{IsRaised}
+use Rattle.lois_terms.specs.Shifted.{IsShifted}
 use Rattle.lois_minimise.proofs.ClassTerms.{class_term}
 use Rattle.lois_minimise.proofs.classing.class_of.Goals as goal
 
@@ -16,8 +16,8 @@ returns-clause-class g c =
     let told = coll (comps_of c.in-Coll.told) in
     let own = tree c.in_ok-own.own in
     let others = tree c.in_ok-others.others in
-    let is_told : IsRaised n m apart told = subst (λ z. IsRaised n m apart z) (ap tree c.in-Coll.is) c.in_ok-told.ensures.value in
+    let is_told : IsShifted n m apart told = subst (λ z. IsShifted n m apart z) (ap tree c.in-Coll.is) c.in_ok-told.ensures.value in
     let nodes = coll (comps_of c.args.nodes.now) in
-    let is_all : IsRaised n m nodes all = subst (λ z. IsRaised n m (coll (comps_of z)) all) c.in_ok-copy.ensures c.in_ok-all.ensures.value in
+    let is_all : IsShifted n m nodes all = subst (λ z. IsShifted n m (coll (comps_of z)) all) c.in_ok-copy.ensures c.in_ok-all.ensures.value in
     IfOk-weaker c.minus.result (λ r. IsDifference (n + m) all others (tree r)) _ (λ r without.
     class_term n m nodes apart (tree c.args.item.now) all told own others (tree r) is_all is_told c.in_ok-own.ensures.members c.in_ok-others.ensures.members without) c.minus.ensures.members

@@ -12,8 +12,8 @@ returns-in_default-clause-minimal g c = IfOk-weaker c.copy.result (λ r. r ≡ c
 pub returns-in_default-clause-least : goal.returns-in_default-clause-least
 returns-in_default-clause-least g c = IfOk-weaker c.copy.result (λ r. r ≡ c.args.a.now) _ (λ r e d l u. let h = c.requires.whole d l u in absurd (c.in_default.ensures.none d (h.0, h.1))) c.copy.ensures
 
-pub told_apart-requires-clause-whole : goal.told_apart-requires-clause-whole
-told_apart-requires-clause-whole g c =
+pub distinguishable_pairs-requires-clause-whole : goal.distinguishable_pairs-requires-clause-whole
+distinguishable_pairs-requires-clause-whole g c =
     let sets = c.in-Some.sets in
     whole_throughout c.args.size c.args.under.now (tree c.args.a.now) (tree c.args.reached.now) (comps_of sets.states.now) (comps_of sets.letters.now) (comps_of sets.steps.now) (comps_of sets.initial.now) (comps_of sets.accepting.now) (comps_of c.in-Coll.nodes) c.in-Some.ensures.some (ap tree c.in-Coll.is) c.requires.whole c.requires.reached
 

@@ -23,8 +23,8 @@ returns-in-Err-clause-place c =
     let short : length c.args.text.now < 2 ^ 64 = omega arith in
     answer_place c.args.text.now c.in-Err.halt c.error_of.result short c.in-Err.ensures c.error_of.ensures.error
 
-pub returns-in-Ok-clause-those : goal.returns-in-Ok-clause-those
-returns-in-Ok-clause-those c =
+pub returns-in-Ok-clause-exact : goal.returns-in-Ok-clause-exact
+returns-in-Ok-clause-exact c =
     let short : length c.args.text.now < 2 ^ 64 = omega arith in
     λ other holds. answer_those c.args.text.now c.in-Ok.answer other short c.in-Ok.ensures holds
 

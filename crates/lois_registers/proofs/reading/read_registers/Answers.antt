@@ -12,4 +12,4 @@ returns-in-Err-Left-clause-only c =
     only_left c.args.text.now c.in-Err-Left.left c.saturating_sub.result c.saturating_sub.ensures (subst (StopsIn c.args.text.now) c.in-Err-Left.field-0-is c.in-Err-Left.ensures.left)
 
 pub returns-in-Ok-clause-alone : goal.returns-in-Ok-clause-alone
-returns-in-Ok-clause-alone c = λ s h. one_automaton c.args.text.now c.in-Ok.registers s c.in-Ok.ensures.those h
+returns-in-Ok-clause-alone c = λ s h. one_automaton c.args.text.now c.in-Ok.registers s c.in-Ok.ensures.exact h

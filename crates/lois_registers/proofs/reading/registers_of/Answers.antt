@@ -3,7 +3,7 @@ use Rattle.std.specs.List.{All, Contains}
 use Rattle.lois_registers.specs.Reading.{IsLeftAt, HasNoLine}
 use Rattle.lois_registers.specs.Texts.{spelled, initial_words, final_words, step_words, end_words}
 use Rattle.lois_registers.specs.Valid.{AreListed, IsRegStep}
-use Rattle.lois_registers.specs.declared.halt.Halt.TheVariants.{NoMemory}
+use Rattle.lois_registers.specs.declared.parse_error.ParseError.TheVariants.{NoMemory}
 use Rattle.lois_registers.proofs.Cuts.{err_left}
 use Rattle.lois_registers.proofs.Stops.{stop_title, stop_order, stop_count, stop_states, stop_initial, stop_final, stop_end, is_read}
 use Rattle.lois_registers.proofs.reading.registers_of.Goals as goal
@@ -58,8 +58,8 @@ returns-then-not-is-clause-left c =
       refl,
     )
 
-pub returns-clause-those : goal.returns-clause-those
-returns-clause-those c =
+pub returns-clause-exact : goal.returns-clause-exact
+returns-clause-exact c =
     let states = c.in_ok-states.states in
     let o = c.in_ok-order.order in
     let k = c.in_ok-registers.registers in

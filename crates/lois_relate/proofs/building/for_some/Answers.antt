@@ -6,12 +6,12 @@ use Rattle.lois_base.proofs.FormulaViews.{view_Exists}
 use Rattle.lois_relate.proofs.Forms.{for_some_never, for_some_always, for_some_none, for_some_more}
 use Rattle.lois_relate.proofs.building.for_some.Goals as goal
 
-pub returns-then-is_never : goal.returns-then-is_never
-returns-then-is_never c = for_some_never c.args.count (view c.args.f) (c.is_never.ensures.0 c.if-is_never.true)
+pub returns-then-is_false_formula : goal.returns-then-is_false_formula
+returns-then-is_false_formula c = for_some_never c.args.count (view c.args.f) (c.is_false_formula.ensures.0 c.if-is_false_formula.true)
 
-pub returns-then-is_always : goal.returns-then-is_always
-returns-then-is_always c =
-    for_some_always c.args.count (view c.args.f) (c.is_always.ensures.0 c.if-is_always.true)
+pub returns-then-is_true_formula : goal.returns-then-is_true_formula
+returns-then-is_true_formula c =
+    for_some_always c.args.count (view c.args.f) (c.is_true_formula.ensures.0 c.if-is_true_formula.true)
 
 pub loop-init : goal.loop-init
 loop-init c = for_some_none (view c.args.f)

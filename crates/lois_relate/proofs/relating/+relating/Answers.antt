@@ -8,8 +8,8 @@ use Rattle.lois_base.specs.FormulaView.{view, views}
 use Rattle.lois_base.specs.Tree.{tree, comp_of}
 use Rattle.lois_base.specs.Validity.{AdmitsComp}
 use Rattle.lois_base.specs.Values.{SameAt, AllInAt}
-use Rattle.lois_relate.specs.Built.{Says, IsBoth, IsForSome}
-use Rattle.lois_relate.specs.Compared.{IsForEach, SaysPaired, SaysFound, IsKnown}
+use Rattle.lois_relate.specs.Built.{Defines, IsBoth, IsForSome}
+use Rattle.lois_relate.specs.Compared.{IsForEach, DefinesPaired, DefinesFound, IsCached}
 use Rattle.lois_relate.specs.Named.{chosen, levels_from}
 use Rattle.lois_relate.proofs.AlikeSame.{always_says, listed_each, sets_alike}
 use Rattle.lois_relate.proofs.Apart.{item_left_out, pair_left_out, pair_left_out_back}
@@ -27,7 +27,7 @@ pub each_in-found_in-requires : goal.each_in-found_in-requires
 each_in-found_in-requires t c =
     let items : map comp_of c.as_slice.result.now ≡ c.args.others.now = c.as_slice.ensures in
     let fits = subst (λ z. ItemsFit (length c.args.t_names.now) (comps_of z)) (sym items) c.requires.right in
-    let known = subst (λ z. IsKnown c.args.size z c.args.t_names.now (comp_of c.args.comp.now) c.args.s_names.now (map views c.args.known.rows.now) c.args.known.place) (sym items) c.requires.known in
+    let known = subst (λ z. IsCached c.args.size z c.args.t_names.now (comp_of c.args.comp.now) c.args.s_names.now (map views c.args.known.rows.now) c.args.known.place) (sym items) c.requires.known in
     (omega (arith, ap depth_of_comps items), (c.requires.left, (c.requires.left_names, (fits, (c.requires.right_names, known)))))
 
 pub each_in-none_missing-requires : goal.each_in-none_missing-requires
@@ -45,7 +45,7 @@ each_in-returns t c =
     let names = c.as_slice-2.result.now in
     let e : names ≡ sn ++ levels_from n comp.binders = c.as_slice-2.ensures.value ∙ c.in_ok-longer.ensures in
     let below = names_below n comp.binders (n + comp.binders) refl sn names e c.requires.left_names in
-    let found = subst (λ z. SaysFound n sn (comp_of comp) tn (comps_of z) (view c.in_ok-found.found)) c.as_slice.ensures c.in_ok-found.ensures in
+    let found = subst (λ z. DefinesFound n sn (comp_of comp) tn (comps_of z) (view c.in_ok-found.found)) c.as_slice.ensures c.in_ok-found.ensures in
     IfOk-weaker c.none_missing.result _ _ (λ r each. each_found n sn tn comp.binders comp.guard (tree comp.item) c.requires.left_names c.requires.right_names (comps_of c.args.others.now) (view c.in_ok-found.found) (view r) found (subst (λ z. IsForEach n comp.binders z comp.guard (view c.in_ok-found.found) (view r)) e (each n below found.levels))) c.none_missing.ensures
 
 pub found_in-one_found-requires : goal.found_in-one_found-requires
@@ -69,14 +69,14 @@ pub one_found-returns-in-Some : goal.one_found-returns-in-Some
 one_found-returns-in-Some t c =
     let comp = c.args.comp.now in
     let other = c.args.other.now in
-    let known = subst (λ o. IfSome o (λ f. SaysPaired c.args.size c.args.s_names.now (comp_of comp) c.args.t_names.now (comp_of other) (view f.now))) c.in-Some.is c.requires.known in
-    let pair : SaysPaired c.args.size c.args.s_names.now (comp_of comp) c.args.t_names.now (comp_of other) (view c.in_ok-copy.field-0) = subst (SaysPaired c.args.size c.args.s_names.now (comp_of comp) c.args.t_names.now (comp_of other)) (sym c.in_ok-copy.ensures) known in
+    let known = subst (λ o. IfSome o (λ f. DefinesPaired c.args.size c.args.s_names.now (comp_of comp) c.args.t_names.now (comp_of other) (view f.now))) c.in-Some.is c.requires.known in
+    let pair : DefinesPaired c.args.size c.args.s_names.now (comp_of comp) c.args.t_names.now (comp_of other) (view c.in_ok-copy.field-0) = subst (DefinesPaired c.args.size c.args.s_names.now (comp_of comp) c.args.t_names.now (comp_of other)) (sym c.in_ok-copy.ensures) known in
     IfOk-weaker c.for_some.result (λ r. IsForSome other.binders (view c.in_ok-copy.field-0) (view r)) _ (λ r some. pair_item c.args.size c.args.s_names.now c.args.t_names.now comp.binders comp.guard (tree comp.item) c.requires.left_names c.requires.right_names other.binders other.guard (tree other.item) (view c.in_ok-copy.field-0) (view r) pair some) c.for_some.ensures
 
 pub one_found-returns-then-leaves_out : goal.one_found-returns-then-leaves_out
 one_found-returns-then-leaves_out t c =
     let comp = c.args.comp.now in
-    item_left_out c.args.size c.args.s_names.now c.args.t_names.now comp.binders comp.guard (tree comp.item) (view c.never.result) c.never.ensures (comp_of c.args.other.now) (c.leaves_out.ensures c.if-leaves_out.true)
+    item_left_out c.args.size c.args.s_names.now c.args.t_names.now comp.binders comp.guard (tree comp.item) (view c.false_formula.result) c.false_formula.ensures (comp_of c.args.other.now) (c.leaves_out.ensures c.if-leaves_out.true)
 
 pub one_found-is_item-requires : goal.one_found-is_item-requires
 one_found-is_item-requires t c =
@@ -100,7 +100,7 @@ one_found-returns t c =
     let names = c.as_slice-names.result.now in
     let e : names ≡ c.args.s_names.now ++ levels_from c.args.size comp.binders = c.as_slice-names.ensures.value ∙ c.in_ok-longer.ensures in
     let below = names_below c.args.size comp.binders c.in_ok-inner.inner c.in_ok-inner.ensures c.args.s_names.now names e c.requires.left_names in
-    IfOk-weaker c.both.result (λ r. IsBoth (view c.in_ok-guard_formula.field-0) (view c.in_ok-one.one) (view r)) _ (λ r both. guarded_item c.args.size c.args.s_names.now c.args.t_names.now comp.binders comp.guard (tree comp.item) c.in_ok-inner.inner c.in_ok-inner.ensures names e (comp_of other) (view c.in_ok-guard_formula.field-0) (view c.in_ok-one.one) (view r) (c.in_ok-guard_formula.ensures c.in_ok-inner.inner below) c.in_ok-one.ensures both) c.both.ensures
+    IfOk-weaker c.conjunction.result (λ r. IsBoth (view c.in_ok-guard_formula.field-0) (view c.in_ok-one.one) (view r)) _ (λ r both. guarded_item c.args.size c.args.s_names.now c.args.t_names.now comp.binders comp.guard (tree comp.item) c.in_ok-inner.inner c.in_ok-inner.ensures names e (comp_of other) (view c.in_ok-guard_formula.field-0) (view c.in_ok-one.one) (view r) (c.in_ok-guard_formula.ensures c.in_ok-inner.inner below) c.in_ok-one.ensures both) c.conjunction.ensures
 
 pub included-each_in-requires : goal.included-each_in-requires
 included-each_in-requires t c =
@@ -118,12 +118,12 @@ included-loop-place-preserved t c =
     let k = is_comp_of items c.args.comps.now i c.index-items-place.result c.as_slice-items.ensures c.loop-place-test.true c.index-items-place.is in
     all_go_on c.args.size _ _ _ _ _ _ (view c.loop-place.met) (view c.in_ok-one.one) (view c.in_ok-met.met) c.loop-place.invariant (λ a. all_in_split (comps_from items i) (comps_from items (i + 1)) (comp_of c.index-items-place.result) (comps_are items i c.index-items-place.result c.loop-place-test.true c.index-items-place.is) (chosen c.args.s_names.now a) (comps_of c.args.others.now) (chosen c.args.t_names.now a)) c.in_ok-one.ensures (λ o h. (k.admits o h.0, h.1)) c.in_ok-met.ensures
 
-pub included-returns-then-is_never : goal.included-returns-then-is_never
-included-returns-then-is_never t c =
+pub included-returns-then-is_false_formula : goal.included-returns-then-is_false_formula
+included-returns-then-is_false_formula t c =
     let items = c.as_slice-items.result.now in
     let i = c.loop-place.place in
     let k = is_comp_of items c.args.comps.now i c.index-items-place.result c.as_slice-items.ensures c.loop-place-test.true c.index-items-place.is in
-    all_cut c.args.size (λ a. AllInAt (comps_from items (i + 1)) (chosen c.args.s_names.now a) (comps_of c.args.others.now) (chosen c.args.t_names.now a)) _ _ (view c.in_ok-met.met) (c.is_never.ensures.0 c.if-is_never.true) (all_go_on c.args.size _ _ _ _ _ _ (view c.loop-place.met) (view c.in_ok-one.one) (view c.in_ok-met.met) c.loop-place.invariant (λ a. all_in_split (comps_from items i) (comps_from items (i + 1)) (comp_of c.index-items-place.result) (comps_are items i c.index-items-place.result c.loop-place-test.true c.index-items-place.is) (chosen c.args.s_names.now a) (comps_of c.args.others.now) (chosen c.args.t_names.now a)) c.in_ok-one.ensures (λ o h. (k.admits o h.0, h.1)) c.in_ok-met.ensures)
+    all_cut c.args.size (λ a. AllInAt (comps_from items (i + 1)) (chosen c.args.s_names.now a) (comps_of c.args.others.now) (chosen c.args.t_names.now a)) _ _ (view c.in_ok-met.met) (c.is_false_formula.ensures.0 c.if-is_false_formula.true) (all_go_on c.args.size _ _ _ _ _ _ (view c.loop-place.met) (view c.in_ok-one.one) (view c.in_ok-met.met) c.loop-place.invariant (λ a. all_in_split (comps_from items i) (comps_from items (i + 1)) (comp_of c.index-items-place.result) (comps_are items i c.index-items-place.result c.loop-place-test.true c.index-items-place.is) (chosen c.args.s_names.now a) (comps_of c.args.others.now) (chosen c.args.t_names.now a)) c.in_ok-one.ensures (λ o h. (k.admits o h.0, h.1)) c.in_ok-met.ensures)
 
 pub is_item-same-requires : goal.is_item-same-requires
 is_item-same-requires t c =
@@ -140,11 +140,11 @@ is_item-guard_formula-requires t c =
     let e : c.as_slice-names.result.now ≡ c.args.t_names.now ++ levels_from c.args.size comp.binders = c.as_slice-names.ensures.value ∙ c.in_ok-longer.ensures in
     guard_fits c.args.size comp.binders c.in_ok-inner.inner c.in_ok-inner.ensures c.args.t_names.now c.as_slice-names.result.now e comp.guard (tree comp.item) c.requires.right
 
-pub is_item-returns-then-is_never : goal.is_item-returns-then-is_never
-is_item-returns-then-is_never t c =
+pub is_item-returns-then-is_false_formula : goal.is_item-returns-then-is_false_formula
+is_item-returns-then-is_false_formula t c =
     let comp = c.args.comp.now in
     let e : c.as_slice-names.result.now ≡ c.args.t_names.now ++ levels_from c.args.size comp.binders = c.as_slice-names.ensures.value ∙ c.in_ok-longer.ensures in
-    none_says c.args.size comp.binders c.in_ok-inner.inner c.in_ok-inner.ensures c.args.s_names.now c.args.t_names.now c.as_slice-names.result.now e c.requires.left_names c.requires.right_names comp.guard (tree comp.item) (tree c.args.s.now) (view c.in_ok-equal.equal) (c.is_never.ensures.0 c.if-is_never.true) c.in_ok-equal.ensures
+    none_says c.args.size comp.binders c.in_ok-inner.inner c.in_ok-inner.ensures c.args.s_names.now c.args.t_names.now c.as_slice-names.result.now e c.requires.left_names c.requires.right_names comp.guard (tree comp.item) (tree c.args.s.now) (view c.in_ok-equal.equal) (c.is_false_formula.ensures.0 c.if-is_false_formula.true) c.in_ok-equal.ensures
 
 pub is_item-returns : goal.is_item-returns
 is_item-returns t c =
@@ -152,7 +152,7 @@ is_item-returns t c =
     let e : c.as_slice-names.result.now ≡ c.args.t_names.now ++ levels_from c.args.size comp.binders = c.as_slice-names.ensures.value ∙ c.in_ok-longer.ensures in
     let below = names_below c.args.size comp.binders c.in_ok-inner.inner c.in_ok-inner.ensures c.args.t_names.now c.as_slice-names.result.now e c.requires.right_names in
     let guard = c.in_ok-guard.ensures c.in_ok-inner.inner below in
-    IfOk-weaker c.for_some.result (λ r. IsForSome comp.binders (view c.in_ok-both.field-0) (view r)) _ (λ r some. one_says c.args.size comp.binders c.in_ok-inner.inner c.in_ok-inner.ensures c.args.s_names.now c.args.t_names.now c.as_slice-names.result.now e c.requires.left_names c.requires.right_names comp.guard (tree comp.item) (tree c.args.s.now) (view c.in_ok-equal.equal) (view c.in_ok-guard.guard) (view c.in_ok-both.field-0) (view r) c.in_ok-equal.ensures guard c.in_ok-both.ensures some) c.for_some.ensures
+    IfOk-weaker c.for_some.result (λ r. IsForSome comp.binders (view c.in_ok-conjunction.field-0) (view r)) _ (λ r some. one_says c.args.size comp.binders c.in_ok-inner.inner c.in_ok-inner.ensures c.args.s_names.now c.args.t_names.now c.as_slice-names.result.now e c.requires.left_names c.requires.right_names comp.guard (tree comp.item) (tree c.args.s.now) (view c.in_ok-equal.equal) (view c.in_ok-guard.guard) (view c.in_ok-conjunction.field-0) (view r) c.in_ok-equal.ensures guard c.in_ok-conjunction.ensures some) c.for_some.ensures
 
 pub same-returns-in-Var-Var : goal.same-returns-in-Var-Var
 same-returns-in-Var-Var t c =
@@ -163,7 +163,7 @@ same-returns-in-Var-Var t c =
 
 pub same_parts-returns-then-parts-partners : goal.same_parts-returns-then-parts-partners
 same_parts-returns-then-parts-partners t c =
-    parts_apart c.args.size c.args.s_names.now c.args.t_names.now c.as_slice-parts.result.now c.as_slice-partners.result.now c.args.terms.now c.args.others.now (view c.never.result) c.as_slice-parts.ensures c.as_slice-partners.ensures c.if-parts-partners.true c.never.ensures
+    parts_apart c.args.size c.args.s_names.now c.args.t_names.now c.as_slice-parts.result.now c.as_slice-partners.result.now c.args.terms.now c.args.others.now (view c.false_formula.result) c.as_slice-parts.ensures c.as_slice-partners.ensures c.if-parts-partners.true c.false_formula.ensures
 
 pub same_parts-same-requires : goal.same_parts-same-requires
 same_parts-same-requires t c =
@@ -184,19 +184,19 @@ same_parts-loop-i-preserved t c =
 
 pub same_sets-returns : goal.same_sets-returns
 same_sets-returns t c =
-    IfOk-weaker c.both.result (λ r. IsBoth (view c.in_ok-there.there.included) (view c.in_ok-back.back) (view r)) _ (λ r both. sets_say c.args.size c.args.s_names.now c.args.t_names.now (comps_of c.args.comps.now) (comps_of c.args.others.now) (view c.in_ok-there.there.included) (view c.in_ok-back.back) (view r) c.in_ok-there.ensures.included c.in_ok-back.ensures both) c.both.ensures
+    IfOk-weaker c.conjunction.result (λ r. IsBoth (view c.in_ok-there.there.included) (view c.in_ok-back.back) (view r)) _ (λ r both. sets_say c.args.size c.args.s_names.now c.args.t_names.now (comps_of c.args.comps.now) (comps_of c.args.others.now) (view c.in_ok-there.there.included) (view c.in_ok-back.back) (view r) c.in_ok-there.ensures.included c.in_ok-back.ensures both) c.conjunction.ensures
 
 pub each_in-returns-then-is_listed : goal.each_in-returns-then-is_listed
 each_in-returns-then-is_listed t c =
-    always_says c.args.size _ _ (view c.always.result) c.always.ensures (λ a. listed_each c.args.s_names.now c.args.t_names.now a (comp_of c.args.comp.now) (comps_of c.args.others.now) (c.is_listed.ensures.0 c.if-is_listed.true))
+    always_says c.args.size _ _ (view c.true_formula.result) c.true_formula.ensures (λ a. listed_each c.args.s_names.now c.args.t_names.now a (comp_of c.args.comp.now) (comps_of c.args.others.now) (c.is_listed.ensures.0 c.if-is_listed.true))
 
 pub same_sets-returns-then-sets_match : goal.same_sets-returns-then-sets_match
 same_sets-returns-then-sets_match t c =
-    always_says c.args.size _ _ (view c.always.result) c.always.ensures (λ a. sets_alike c.args.s_names.now c.args.t_names.now a (comps_of c.args.comps.now) (comps_of c.args.others.now) (c.sets_match.ensures.0 c.if-sets_match.true))
+    always_says c.args.size _ _ (view c.true_formula.result) c.true_formula.ensures (λ a. sets_alike c.args.s_names.now c.args.t_names.now a (comps_of c.args.comps.now) (comps_of c.args.others.now) (c.sets_match.ensures.0 c.if-sets_match.true))
 
 pub same_sets-returns-in-Some-single : goal.same_sets-returns-in-Some-single
 same_sets-returns-in-Some-single t c =
-    IfOk-weaker c.same_singles.result (λ r. Says c.args.size (λ a. SameAt (coll (more (comp_of c.in-Some.one.now) no_comps)) (chosen c.args.s_names.now a) (coll (more (comp_of c.in-Some-single.other.now) no_comps)) (chosen c.args.t_names.now a)) (λ o. AdmitsComp o (comp_of c.in-Some.one.now) × AdmitsComp o (comp_of c.in-Some-single.other.now)) (view r)) _ (λ r says. singles_sets c.args.size c.args.s_names.now c.args.t_names.now c.args.comps.now c.args.others.now (comp_of c.in-Some.one.now) (comp_of c.in-Some-single.other.now) (view r) c.in-Some.ensures.some.0 c.in-Some-single.ensures.some.0 says) c.same_singles.ensures
+    IfOk-weaker c.same_singles.result (λ r. Defines c.args.size (λ a. SameAt (coll (more (comp_of c.in-Some.one.now) no_comps)) (chosen c.args.s_names.now a) (coll (more (comp_of c.in-Some-single.other.now) no_comps)) (chosen c.args.t_names.now a)) (λ o. AdmitsComp o (comp_of c.in-Some.one.now) × AdmitsComp o (comp_of c.in-Some-single.other.now)) (view r)) _ (λ r says. singles_sets c.args.size c.args.s_names.now c.args.t_names.now c.args.comps.now c.args.others.now (comp_of c.in-Some.one.now) (comp_of c.in-Some-single.other.now) (view r) c.in-Some.ensures.some.0 c.in-Some-single.ensures.some.0 says) c.same_singles.ensures
 
 pub same_singles-returns : goal.same_singles-returns
 same_singles-returns t c =
@@ -206,7 +206,7 @@ same_singles-returns t c =
     let tn = c.args.t_names.now in
     let own = c.in_ok-one_there.ensures c.args.size c.requires.left_names in
     let else_there = c.in_ok-other_there.ensures c.args.size c.requires.right_names in
-    IfOk-weaker c.both-2.result (λ r. IsBoth (view c.in_ok-forth.forth) (view c.in_ok-back.back) (view r)) _ (λ r all. bare_say c.args.size sn tn one.binders other.binders one.guard other.guard (tree one.item) (tree other.item) (view r) c.requires.left_binders c.requires.right_binders (singles_say c.args.size sn tn one.guard other.guard (tree one.item) (tree other.item) (view c.in_ok-equal.equal) (view c.in_ok-one_there.one_there) (view c.in_ok-other_there.other_there) (view c.in_ok-copy-2.field-0) (view c.in_ok-copy.field-0) (view c.in_ok-partner.partner) (view c.in_ok-forth.forth) (view c.in_ok-back.back) (view r) c.in_ok-equal.ensures own else_there c.in_ok-copy-2.ensures c.in_ok-copy.ensures c.in_ok-partner.ensures c.in_ok-forth.ensures c.in_ok-back.ensures all)) c.both-2.ensures
+    IfOk-weaker c.conjunction-2.result (λ r. IsBoth (view c.in_ok-forth.forth) (view c.in_ok-back.back) (view r)) _ (λ r all. bare_say c.args.size sn tn one.binders other.binders one.guard other.guard (tree one.item) (tree other.item) (view r) c.requires.left_binders c.requires.right_binders (singles_say c.args.size sn tn one.guard other.guard (tree one.item) (tree other.item) (view c.in_ok-equal.equal) (view c.in_ok-one_there.one_there) (view c.in_ok-other_there.other_there) (view c.in_ok-copy-2.field-0) (view c.in_ok-copy.field-0) (view c.in_ok-partner.partner) (view c.in_ok-forth.forth) (view c.in_ok-back.back) (view r) c.in_ok-equal.ensures own else_there c.in_ok-copy-2.ensures c.in_ok-copy.ensures c.in_ok-partner.ensures c.in_ok-forth.ensures c.in_ok-back.ensures all)) c.conjunction-2.ensures
 
 pub sets_compared-each_compared-requires : goal.sets_compared-each_compared-requires
 sets_compared-each_compared-requires t c =
@@ -226,15 +226,15 @@ sets_compared-loop-comp-preserved t c =
       rows_more c.args.size c.args.comps.now c.args.s_names.now c.args.others.now c.args.t_names.now (map views old) (map views c.push.new.self.items) i (comp_of c.comp-item.result) _ c.loop-comp.invariant.2 c.loop-comp.invariant.1 at more c.in_ok-there.ensures.pairs,
     )
 
-pub sets_compared-returns-then-is_never-clause-included : goal.sets_compared-returns-then-is_never-clause-included
-sets_compared-returns-then-is_never-clause-included t c =
+pub sets_compared-returns-then-is_false_formula-clause-included : goal.sets_compared-returns-then-is_false_formula-clause-included
+sets_compared-returns-then-is_false_formula-clause-included t c =
     let items = c.as_slice-comp-items.result.now in
     let i = c.loop-comp.comp-index in
     let k = is_comp_of items c.args.comps.now i c.comp-item.result c.as_slice-comp-items.ensures c.loop-comp-test.true c.comp-item.is in
-    all_cut c.args.size (λ a. AllInAt (comps_from items (i + 1)) (chosen c.args.s_names.now a) (comps_of c.args.others.now) (chosen c.args.t_names.now a)) _ _ (view c.in_ok-met.met) (c.is_never.ensures.0 c.if-is_never.true) (all_go_on c.args.size _ _ _ _ _ _ (view c.loop-comp.met) _ (view c.in_ok-met.met) c.loop-comp.invariant.0 (λ a. all_in_split (comps_from items i) (comps_from items (i + 1)) (comp_of c.comp-item.result) (comps_are items i c.comp-item.result c.loop-comp-test.true c.comp-item.is) (chosen c.args.s_names.now a) (comps_of c.args.others.now) (chosen c.args.t_names.now a)) c.in_ok-there.ensures.there (λ o h. (k.admits o h.0, h.1)) c.in_ok-met.ensures)
+    all_cut c.args.size (λ a. AllInAt (comps_from items (i + 1)) (chosen c.args.s_names.now a) (comps_of c.args.others.now) (chosen c.args.t_names.now a)) _ _ (view c.in_ok-met.met) (c.is_false_formula.ensures.0 c.if-is_false_formula.true) (all_go_on c.args.size _ _ _ _ _ _ (view c.loop-comp.met) _ (view c.in_ok-met.met) c.loop-comp.invariant.0 (λ a. all_in_split (comps_from items i) (comps_from items (i + 1)) (comp_of c.comp-item.result) (comps_are items i c.comp-item.result c.loop-comp-test.true c.comp-item.is) (chosen c.args.s_names.now a) (comps_of c.args.others.now) (chosen c.args.t_names.now a)) c.in_ok-there.ensures.there (λ o h. (k.admits o h.0, h.1)) c.in_ok-met.ensures)
 
-pub sets_compared-returns-then-is_never-clause-rows : goal.sets_compared-returns-then-is_never-clause-rows
-sets_compared-returns-then-is_never-clause-rows t c =
+pub sets_compared-returns-then-is_false_formula-clause-rows : goal.sets_compared-returns-then-is_false_formula-clause-rows
+sets_compared-returns-then-is_false_formula-clause-rows t c =
     let items = c.as_slice-comp-items.result.now in
     let i = c.loop-comp.comp-index in
     let at = item_got items c.args.comps.now i c.comp-item.result c.as_slice-comp-items.ensures c.loop-comp-test.true c.comp-item.is in
@@ -244,7 +244,7 @@ sets_compared-returns-then-is_never-clause-rows t c =
 
 pub each_compared-returns-then-is_listed-clause-there : goal.each_compared-returns-then-is_listed-clause-there
 each_compared-returns-then-is_listed-clause-there t c =
-    always_says c.args.size _ _ (view c.always.result) c.always.ensures (λ a. listed_each c.args.s_names.now c.args.t_names.now a (comp_of c.args.comp.now) (comps_of c.args.others.now) (c.is_listed.ensures.0 c.if-is_listed.true))
+    always_says c.args.size _ _ (view c.true_formula.result) c.true_formula.ensures (λ a. listed_each c.args.s_names.now c.args.t_names.now a (comp_of c.args.comp.now) (comps_of c.args.others.now) (c.is_listed.ensures.0 c.if-is_listed.true))
 
 pub each_compared-none_missing-requires : goal.each_compared-none_missing-requires
 each_compared-none_missing-requires t c =
@@ -261,7 +261,7 @@ each_compared-returns-clause-there t c =
     let names = c.as_slice-2.result.now in
     let e : names ≡ sn ++ levels_from n comp.binders = c.as_slice-2.ensures.value ∙ c.in_ok-longer.ensures in
     let below = names_below n comp.binders (n + comp.binders) refl sn names e c.requires.left_names in
-    let found = subst (λ z. SaysFound n sn (comp_of comp) tn (comps_of z) (view c.in_ok-found.found.there)) c.as_slice.ensures c.in_ok-found.ensures.there in
+    let found = subst (λ z. DefinesFound n sn (comp_of comp) tn (comps_of z) (view c.in_ok-found.found.there)) c.as_slice.ensures c.in_ok-found.ensures.there in
     let each = c.in_ok-none_missing.ensures n below found.levels in
     each_found n sn tn comp.binders comp.guard (tree comp.item) c.requires.left_names c.requires.right_names (comps_of c.args.others.now) (view c.in_ok-found.found.there) (view c.in_ok-none_missing.field-0) found (subst (λ z. IsForEach n comp.binders z comp.guard (view c.in_ok-found.found.there) (view c.in_ok-none_missing.field-0)) e each)
 
@@ -292,13 +292,13 @@ pub pair_compared-returns-then-leaves_out-clause-forth : goal.pair_compared-retu
 pair_compared-returns-then-leaves_out-clause-forth t c =
     let comp = c.args.comp.now in
     let other = c.args.other.now in
-    pair_left_out c.args.size c.args.s_names.now c.args.t_names.now comp.binders comp.guard (tree comp.item) (view c.never.result) c.never.ensures other.binders other.guard (tree other.item) (c.leaves_out.ensures c.if-leaves_out.true)
+    pair_left_out c.args.size c.args.s_names.now c.args.t_names.now comp.binders comp.guard (tree comp.item) (view c.false_formula.result) c.false_formula.ensures other.binders other.guard (tree other.item) (c.leaves_out.ensures c.if-leaves_out.true)
 
 pub pair_compared-returns-then-leaves_out-clause-back : goal.pair_compared-returns-then-leaves_out-clause-back
 pair_compared-returns-then-leaves_out-clause-back t c =
     let comp = c.args.comp.now in
     let other = c.args.other.now in
-    pair_left_out_back c.args.size c.args.s_names.now c.args.t_names.now comp.binders comp.guard (tree comp.item) (view c.never-then-leaves_out.result) c.never-then-leaves_out.ensures other.binders other.guard (tree other.item) (c.leaves_out.ensures c.if-leaves_out.true)
+    pair_left_out_back c.args.size c.args.s_names.now c.args.t_names.now comp.binders comp.guard (tree comp.item) (view c.false_formula-then-leaves_out.result) c.false_formula-then-leaves_out.ensures other.binders other.guard (tree other.item) (c.leaves_out.ensures c.if-leaves_out.true)
 
 pub pair_compared-same-requires : goal.pair_compared-same-requires
 pair_compared-same-requires t c =
@@ -344,7 +344,7 @@ pair_compared-both_ways-requires-clause-levels t c =
     let right_is : right ≡ c.args.t_names.now ++ levels_from inner other.binders = c.as_slice-right.ensures.value ∙ c.in_ok-longer.ensures in
     let left_below = own_below_more inner other.binders whole left c.in_ok-whole.ensures (names_below n comp.binders inner c.in_ok-inner.ensures c.args.s_names.now left left_is c.requires.left_names) in
     let right_below = names_below inner other.binders whole c.in_ok-whole.ensures c.args.t_names.now right right_is (own_below_more n comp.binders inner c.args.t_names.now c.in_ok-inner.ensures c.requires.right_names) in
-    let pair : SaysPaired n c.args.s_names.now (comp_of comp) c.args.t_names.now (comp_of other) (view c.in_ok-paired.paired) = pair_says n comp.binders other.binders inner whole c.in_ok-inner.ensures c.in_ok-whole.ensures c.args.s_names.now c.args.t_names.now left right left_is right_is comp.guard other.guard (tree comp.item) (tree other.item) (view c.in_ok-guard.guard) (view c.in_ok-other_guard.other_guard) (view c.in_ok-there.there) (view c.in_ok-equal.equal) (view c.in_ok-paired.paired) (c.in_ok-guard.ensures whole left_below) (c.in_ok-other_guard.ensures whole right_below) c.in_ok-there.ensures c.in_ok-equal.ensures c.in_ok-paired.ensures in
+    let pair : DefinesPaired n c.args.s_names.now (comp_of comp) c.args.t_names.now (comp_of other) (view c.in_ok-paired.paired) = pair_says n comp.binders other.binders inner whole c.in_ok-inner.ensures c.in_ok-whole.ensures c.args.s_names.now c.args.t_names.now left right left_is right_is comp.guard other.guard (tree comp.item) (tree other.item) (view c.in_ok-guard.guard) (view c.in_ok-other_guard.other_guard) (view c.in_ok-there.there) (view c.in_ok-equal.equal) (view c.in_ok-paired.paired) (c.in_ok-guard.ensures whole left_below) (c.in_ok-other_guard.ensures whole right_below) c.in_ok-there.ensures c.in_ok-equal.ensures c.in_ok-paired.ensures in
     pair.levels
 
 pub pair_compared-returns-clause-forth : goal.pair_compared-returns-clause-forth
@@ -360,7 +360,7 @@ pair_compared-returns-clause-forth t c =
     let right_is : right ≡ c.args.t_names.now ++ levels_from inner other.binders = c.as_slice-right.ensures.value ∙ c.in_ok-longer.ensures in
     let left_below = own_below_more inner other.binders whole left c.in_ok-whole.ensures (names_below n comp.binders inner c.in_ok-inner.ensures c.args.s_names.now left left_is c.requires.left_names) in
     let right_below = names_below inner other.binders whole c.in_ok-whole.ensures c.args.t_names.now right right_is (own_below_more n comp.binders inner c.args.t_names.now c.in_ok-inner.ensures c.requires.right_names) in
-    let pair : SaysPaired n c.args.s_names.now (comp_of comp) c.args.t_names.now (comp_of other) (view c.in_ok-paired.paired) = pair_says n comp.binders other.binders inner whole c.in_ok-inner.ensures c.in_ok-whole.ensures c.args.s_names.now c.args.t_names.now left right left_is right_is comp.guard other.guard (tree comp.item) (tree other.item) (view c.in_ok-guard.guard) (view c.in_ok-other_guard.other_guard) (view c.in_ok-there.there) (view c.in_ok-equal.equal) (view c.in_ok-paired.paired) (c.in_ok-guard.ensures whole left_below) (c.in_ok-other_guard.ensures whole right_below) c.in_ok-there.ensures c.in_ok-equal.ensures c.in_ok-paired.ensures in
+    let pair : DefinesPaired n c.args.s_names.now (comp_of comp) c.args.t_names.now (comp_of other) (view c.in_ok-paired.paired) = pair_says n comp.binders other.binders inner whole c.in_ok-inner.ensures c.in_ok-whole.ensures c.args.s_names.now c.args.t_names.now left right left_is right_is comp.guard other.guard (tree comp.item) (tree other.item) (view c.in_ok-guard.guard) (view c.in_ok-other_guard.other_guard) (view c.in_ok-there.there) (view c.in_ok-equal.equal) (view c.in_ok-paired.paired) (c.in_ok-guard.ensures whole left_below) (c.in_ok-other_guard.ensures whole right_below) c.in_ok-there.ensures c.in_ok-equal.ensures c.in_ok-paired.ensures in
     IfOk-weaker c.both_ways.result _ _ (λ r same. pair_stays c.args.size c.args.s_names.now c.args.t_names.now c.requires.left_names c.requires.right_names comp.binders other.binders comp.guard other.guard (tree comp.item) (tree other.item) (view c.in_ok-paired.paired) (view r.forth) pair same) c.both_ways.ensures.forth
 
 pub pair_compared-returns-clause-back : goal.pair_compared-returns-clause-back
@@ -376,5 +376,5 @@ pair_compared-returns-clause-back t c =
     let right_is : right ≡ c.args.t_names.now ++ levels_from inner other.binders = c.as_slice-right.ensures.value ∙ c.in_ok-longer.ensures in
     let left_below = own_below_more inner other.binders whole left c.in_ok-whole.ensures (names_below n comp.binders inner c.in_ok-inner.ensures c.args.s_names.now left left_is c.requires.left_names) in
     let right_below = names_below inner other.binders whole c.in_ok-whole.ensures c.args.t_names.now right right_is (own_below_more n comp.binders inner c.args.t_names.now c.in_ok-inner.ensures c.requires.right_names) in
-    let pair : SaysPaired n c.args.s_names.now (comp_of comp) c.args.t_names.now (comp_of other) (view c.in_ok-paired.paired) = pair_says n comp.binders other.binders inner whole c.in_ok-inner.ensures c.in_ok-whole.ensures c.args.s_names.now c.args.t_names.now left right left_is right_is comp.guard other.guard (tree comp.item) (tree other.item) (view c.in_ok-guard.guard) (view c.in_ok-other_guard.other_guard) (view c.in_ok-there.there) (view c.in_ok-equal.equal) (view c.in_ok-paired.paired) (c.in_ok-guard.ensures whole left_below) (c.in_ok-other_guard.ensures whole right_below) c.in_ok-there.ensures c.in_ok-equal.ensures c.in_ok-paired.ensures in
+    let pair : DefinesPaired n c.args.s_names.now (comp_of comp) c.args.t_names.now (comp_of other) (view c.in_ok-paired.paired) = pair_says n comp.binders other.binders inner whole c.in_ok-inner.ensures c.in_ok-whole.ensures c.args.s_names.now c.args.t_names.now left right left_is right_is comp.guard other.guard (tree comp.item) (tree other.item) (view c.in_ok-guard.guard) (view c.in_ok-other_guard.other_guard) (view c.in_ok-there.there) (view c.in_ok-equal.equal) (view c.in_ok-paired.paired) (c.in_ok-guard.ensures whole left_below) (c.in_ok-other_guard.ensures whole right_below) c.in_ok-there.ensures c.in_ok-equal.ensures c.in_ok-paired.ensures in
     IfOk-weaker c.both_ways.result _ _ (λ r turned. pair_turns c.args.size c.args.s_names.now c.args.t_names.now c.requires.left_names c.requires.right_names comp.binders other.binders comp.guard other.guard (tree comp.item) (tree other.item) (view c.in_ok-paired.paired) (view r.back) pair turned) c.both_ways.ensures.back

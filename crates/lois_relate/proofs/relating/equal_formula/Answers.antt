@@ -5,7 +5,7 @@ use Rattle.lois_base.specs.FormulaView.{view}
 use Rattle.lois_base.specs.Tree.{tree}
 use Rattle.lois_base.specs.Validity.{AdmitsTerm}
 use Rattle.lois_base.specs.Values.{SameAt}
-use Rattle.lois_relate.specs.Built.{Says}
+use Rattle.lois_relate.specs.Built.{Defines}
 use Rattle.lois_relate.specs.Named.{chosen, levels_from}
 use Rattle.lois_relate.proofs.Own.{length-own, all_below, holds_where_same}
 use Rattle.lois_relate.proofs.relating.equal_formula.Goals as goal
@@ -34,4 +34,4 @@ pub returns-clause-truth : goal.returns-clause-truth
 returns-clause-truth c =
     let e : c.as_slice-own.result.now ≡ levels_from 0 c.args.size = c.as_slice-own.ensures.value ∙ c.in_ok-levels.ensures in
     let own = c.as_slice-own.result.now in
-    IfOk-weaker c.same.result (λ f. Says c.args.size (λ a. SameAt (tree c.args.s.now) (chosen own a) (tree c.args.t.now) (chosen own a)) (λ o. AdmitsTerm o (tree c.args.s.now) × AdmitsTerm o (tree c.args.t.now)) (view f)) _ (λ f says. holds_where_same c.args.size own e _ (view f) (tree c.args.s.now) (tree c.args.t.now) says) c.same.ensures
+    IfOk-weaker c.same.result (λ f. Defines c.args.size (λ a. SameAt (tree c.args.s.now) (chosen own a) (tree c.args.t.now) (chosen own a)) (λ o. AdmitsTerm o (tree c.args.s.now) × AdmitsTerm o (tree c.args.t.now)) (view f)) _ (λ f says. holds_where_same c.args.size own e _ (view f) (tree c.args.s.now) (tree c.args.t.now) says) c.same.ensures

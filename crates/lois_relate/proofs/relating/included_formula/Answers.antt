@@ -6,7 +6,7 @@ use Rattle.lois_base.specs.FormulaView.{view}
 use Rattle.lois_base.specs.Tree.{tree}
 use Rattle.lois_base.specs.Validity.{AdmitsItems}
 use Rattle.lois_base.specs.Values.{AllInAt}
-use Rattle.lois_relate.specs.Built.{Says}
+use Rattle.lois_relate.specs.Built.{Defines}
 use Rattle.lois_relate.specs.Named.{chosen, levels_from}
 use Rattle.lois_relate.proofs.Own.{length-own, all_below, holds_where_included}
 use Rattle.lois_relate.proofs.relating.included_formula.Goals as goal
@@ -37,4 +37,4 @@ returns-clause-truth c =
     let own = c.as_slice-own.result.now in
     let cs = comps_of c.in-Coll-Coll.comps in
     let ks = comps_of c.in-Coll-Coll.others in
-    IfOk-weaker c.included.result (λ f. Says c.args.size (λ a. AllInAt cs (chosen own a) ks (chosen own a)) (λ o. AdmitsItems o cs × AdmitsItems o ks) (view f)) _ (λ f says. holds_where_included c.args.size own e _ (view f) (tree c.args.s.now) (tree c.args.t.now) cs ks (ap tree c.in-Coll-Coll.is-0) (ap tree c.in-Coll-Coll.is-1) says) c.included.ensures
+    IfOk-weaker c.included.result (λ f. Defines c.args.size (λ a. AllInAt cs (chosen own a) ks (chosen own a)) (λ o. AdmitsItems o cs × AdmitsItems o ks) (view f)) _ (λ f says. holds_where_included c.args.size own e _ (view f) (tree c.args.s.now) (tree c.args.t.now) cs ks (ap tree c.in-Coll-Coll.is-0) (ap tree c.in-Coll-Coll.is-1) says) c.included.ensures

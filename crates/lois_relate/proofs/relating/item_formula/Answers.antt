@@ -6,7 +6,7 @@ use Rattle.lois_base.specs.FormulaView.{view}
 use Rattle.lois_base.specs.Tree.{tree, comp_of}
 use Rattle.lois_base.specs.Validity.{AdmitsTerm, AdmitsItems}
 use Rattle.lois_base.specs.Values.{SomeIsAt}
-use Rattle.lois_relate.specs.Built.{Says}
+use Rattle.lois_relate.specs.Built.{Defines}
 use Rattle.lois_relate.specs.Named.{chosen, levels_from}
 use Rattle.lois_relate.proofs.Own.{length-own, all_below, holds_where_item_in}
 use Rattle.lois_relate.proofs.Steps.{names_below, names_length, own_below_more}
@@ -50,4 +50,4 @@ returns-clause-truth c =
     let ks = comps_of (map comp_of c.args.others.now) in
     let is : own ≡ levels_from 0 n = c.as_slice-own.ensures.value ∙ c.in_ok-levels.ensures in
     let entered : names ≡ own ++ levels_from n c.args.binders = c.as_slice.ensures.value ∙ c.in_ok-longer.ensures in
-    IfOk-weaker c.member.result (λ f. Says c.in_ok-inner.inner (λ a. SomeIsAt ks (chosen own a) (tree c.args.item.now) (chosen names a)) (λ o. AdmitsItems o ks × AdmitsTerm o (tree c.args.item.now)) (view f)) _ (λ f says. holds_where_item_in n c.args.binders c.in_ok-inner.inner c.in_ok-inner.ensures own names is entered (λ o. AdmitsItems o ks × AdmitsTerm o (tree c.args.item.now)) (view f) (tree c.args.item.now) ks says) c.member.ensures
+    IfOk-weaker c.member.result (λ f. Defines c.in_ok-inner.inner (λ a. SomeIsAt ks (chosen own a) (tree c.args.item.now) (chosen names a)) (λ o. AdmitsItems o ks × AdmitsTerm o (tree c.args.item.now)) (view f)) _ (λ f says. holds_where_item_in n c.args.binders c.in_ok-inner.inner c.in_ok-inner.ensures own names is entered (λ o. AdmitsItems o ks × AdmitsTerm o (tree c.args.item.now)) (view f) (tree c.args.item.now) ks says) c.member.ensures

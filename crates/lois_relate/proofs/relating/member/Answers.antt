@@ -9,7 +9,7 @@ use Rattle.lois_relate.proofs.Apart.{no_item}
 use Rattle.lois_relate.proofs.Loops.{AnySoFar, any_go_on, any_pass}
 use Rattle.lois_relate.proofs.Parts.{comps_from, comps_are, is_comp_of}
 use Rattle.lois_relate.proofs.Steps.{some_is_split}
-use Rattle.lois_relate.proofs.relating.member.Goals.{then-not-leaves_out+in_ok-one+in_ok-found+else-is_always, else-not-leaves_out}
+use Rattle.lois_relate.proofs.relating.member.Goals.{then-not-leaves_out+in_ok-one+in_ok-found+else-is_true_formula, else-not-leaves_out}
 use Rattle.lois_relate.proofs.relating.member.Goals as goal
 
 pub is_item-requires-clause-right : goal.is_item-requires-clause-right
@@ -30,7 +30,7 @@ loop-comp-preserved c =
     let k = is_comp_of items (map comp_of items) i c.comp-item.result refl c.loop-comp-test.true c.comp-item.is in
     let first = comps_are items i c.comp-item.result c.loop-comp-test.true c.comp-item.is in
     elim c.if-not-leaves_out.branch [
-      | then-not-leaves_out+in_ok-one+in_ok-found+else-is_always w ↦
+      | then-not-leaves_out+in_ok-one+in_ok-found+else-is_true_formula w ↦
           subst (λ z. AnySoFar n (λ a. SomeIsAt (comps_from items (i + 1)) (chosen tn a) s (chosen sn a)) (λ a. SomeIsAt ks (chosen tn a) s (chosen sn a)) (λ o. AdmitsItems o ks × AdmitsTerm o s) (view z)) (sym w.found-is)
           (any_go_on n _ _ _ _ _ _ (view c.loop-comp.found) (view w.in_ok-one.one) (view w.in_ok-found.found) c.loop-comp.invariant (λ a. some_is_split (comps_from items i) (comps_from items (i + 1)) q first (chosen tn a) s (chosen sn a)) w.in_ok-one.ensures (λ o h. (k.admits o h.0, h.1)) w.in_ok-found.ensures)
       | else-not-leaves_out w ↦

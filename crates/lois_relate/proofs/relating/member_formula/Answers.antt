@@ -6,7 +6,7 @@ use Rattle.lois_base.specs.FormulaView.{view}
 use Rattle.lois_base.specs.Tree.{tree, comp_of}
 use Rattle.lois_base.specs.Validity.{AdmitsTerm, AdmitsItems}
 use Rattle.lois_base.specs.Values.{SomeIsAt}
-use Rattle.lois_relate.specs.Built.{Says}
+use Rattle.lois_relate.specs.Built.{Defines}
 use Rattle.lois_relate.specs.Named.{chosen, levels_from}
 use Rattle.lois_relate.proofs.Own.{length-own, all_below, holds_where_in}
 use Rattle.lois_relate.proofs.relating.member_formula.Goals as goal
@@ -37,4 +37,4 @@ returns-clause-truth c =
     let own = c.as_slice-own.result.now in
     let ks = comps_of (map comp_of c.as_slice.result.now) in
     let set = ap tree c.in-Coll.is ∙ ap (λ z. coll (comps_of z)) (sym c.as_slice.ensures) in
-    IfOk-weaker c.member.result (λ f. Says c.args.size (λ a. SomeIsAt ks (chosen own a) (tree c.args.s.now) (chosen own a)) (λ o. AdmitsItems o ks × AdmitsTerm o (tree c.args.s.now)) (view f)) _ (λ f says. holds_where_in c.args.size own e _ (view f) (tree c.args.s.now) (tree c.args.t.now) ks set says) c.member.ensures
+    IfOk-weaker c.member.result (λ f. Defines c.args.size (λ a. SomeIsAt ks (chosen own a) (tree c.args.s.now) (chosen own a)) (λ o. AdmitsItems o ks × AdmitsTerm o (tree c.args.s.now)) (view f)) _ (λ f says. holds_where_in c.args.size own e _ (view f) (tree c.args.s.now) (tree c.args.t.now) ks set says) c.member.ensures

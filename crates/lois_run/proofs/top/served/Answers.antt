@@ -10,13 +10,13 @@ use Rattle.lois_run.proofs.top.served.Goals as goal
 pub returns-in-Make-clause-outcome : goal.returns-in-Make-clause-outcome
 returns-in-Make-clause-outcome g c =
     let from = c.args.source.now in
-    IfOk-weaker c.made.result _ _ (λ o is words kinds asks has.
+    IfOk-weaker c.run_make.result _ _ (λ o is words kinds asks has.
     subst (IsOutcomeOf words kinds g.S.Source.left g.S.Source.faults g.S.Source.takes from from) (sym is)
-    (made_is_told words kinds g.S.Source.left g.S.Source.faults g.S.Source.takes from from c.args.command asks has c.in-Make.count c.in-Make.field-1 c.in-Make.is refl)) c.made.ensures.made
+    (made_is_told words kinds g.S.Source.left g.S.Source.faults g.S.Source.takes from from c.args.command asks has c.in-Make.count c.in-Make.field-1 c.in-Make.is refl)) c.run_make.ensures.run_make
 
 pub returns-in-Make-clause-no_memory : goal.returns-in-Make-clause-no_memory
 returns-in-Make-clause-no_memory g c =
-    whatever_error g.S.Source.left g.S.Source.takes LONGEST_TEXT c.args.source.now c.args.source.now c.made.result
+    whatever_error g.S.Source.left g.S.Source.takes LONGEST_TEXT c.args.source.now c.args.source.now c.run_make.result
     (gave_nothing g.S.Source.left g.S.Source.takes LONGEST_TEXT c.args.source.now)
 
 pub returns-in-Ok-clause-outcome : goal.returns-in-Ok-clause-outcome

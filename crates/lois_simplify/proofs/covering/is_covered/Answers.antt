@@ -5,15 +5,15 @@ use Rattle.lois_base.specs.FormulaView.{view}
 use Rattle.lois_base.specs.Tree.{tree, comp_of}
 use Rattle.lois_base.specs.Truth.{sampled}
 use Rattle.lois_base.proofs.Validity.{fits_longer}
-use Rattle.lois_deciders.specs.Asked.{Parts}
+use Rattle.lois_deciders.specs.Satisfaction.{IsCounterexample}
 use Rattle.lois_simplify.proofs.Asked.{none_there, some_there}
 use Rattle.lois_simplify.proofs.Beside.{is_asked, asked_covered, asked_own, alone_has_own}
 use Rattle.lois_simplify.proofs.covering.is_covered.Goals as goal
 
-pub returns-then-is_never-clause-own : goal.returns-then-is_never-clause-own
-returns-then-is_never-clause-own g c = λ e.
+pub returns-then-is_false_formula-clause-own : goal.returns-then-is_false_formula-clause-own
+returns-then-is_false_formula-clause-own g c = λ e.
     let k = c.args.comp.now in
-    alone_has_own c.args.under.now c.args.size k.binders k.guard (tree k.item) (c.args.kept.now ++ map comp_of c.args.coming.now) (view c.in_ok-membership.membership) c.requires.under_levels c.in_ok-membership.ensures.truth (c.is_never.ensures.0 c.if-is_never.true) c.requires.lean
+    alone_has_own c.args.under.now c.args.size k.binders k.guard (tree k.item) (c.args.kept.now ++ map comp_of c.args.coming.now) (view c.in_ok-membership.membership) c.requires.under_levels c.in_ok-membership.ensures.truth (c.is_false_formula.ensures.0 c.if-is_false_formula.true) c.requires.lean
 
 pub quantifier_free-requires-clause-operators : goal.quantifier_free-requires-clause-operators
 quantifier_free-requires-clause-operators g c =
@@ -36,6 +36,6 @@ returns-clause-own g c = λ f.
     let k = c.args.comp.now in
     let others = c.args.kept.now ++ map comp_of c.args.coming.now in
     let asked = is_asked c.args.under.now c.args.size k.binders k.guard (tree k.item) others c.in_ok-here.here c.in_ok-within.within (view c.in_ok-membership.membership) c.requires.under_levels c.in_ok-here.ensures.truth c.in_ok-membership.ensures.truth c.in_ok-within.ensures.truth in
-    let s = some_there (λ v. Parts (c.args.size + k.binders) c.in_ok-here.here c.in_ok-within.within v.items) c.in_ok-sample.sample c.is_none.result c.is_none.ensures f c.in_ok-sample.ensures.some in
+    let s = some_there (λ v. IsCounterexample (c.args.size + k.binders) c.in_ok-here.here c.in_ok-within.within v.items) c.in_ok-sample.sample c.is_none.result c.is_none.ensures f c.in_ok-sample.ensures.some in
     asked_own c.args.under.now c.args.size k.binders k.guard (tree k.item) others c.in_ok-here.here c.in_ok-within.within asked
     (sampled s.0.items) (length-map s.0.items whole ∙ s.1.0.count) s.1.1 s.1.2

@@ -18,15 +18,15 @@ pub returns-clause-truth : goal.returns-clause-truth
 returns-clause-truth c =
     let comp = c.args.comp.now in
     let before = subst (λ z. HoldsWhereItemIn c.args.size comp.binders (tree comp.item) (comps_of z) (view c.in_ok-before.before)) c.as_slice.ensures c.in_ok-before.ensures.truth in
-    IfOk-weaker c.either.result (λ r. IsEither (view c.in_ok-before.before) (view c.in_ok-behind.behind) (view r)) _ (λ r either. among_all c.args.size comp.binders (tree comp.item) c.args.kept.now (map comp_of c.args.coming.now) (view c.in_ok-before.before) (view c.in_ok-behind.behind) (view r) before c.in_ok-behind.ensures.truth either) c.either.ensures
+    IfOk-weaker c.disjunction.result (λ r. IsEither (view c.in_ok-before.before) (view c.in_ok-behind.behind) (view r)) _ (λ r either. among_all c.args.size comp.binders (tree comp.item) c.args.kept.now (map comp_of c.args.coming.now) (view c.in_ok-before.before) (view c.in_ok-behind.behind) (view r) before c.in_ok-behind.ensures.truth either) c.disjunction.ensures
 
 pub returns-clause-levels : goal.returns-clause-levels
 returns-clause-levels c =
     let inner = c.args.size + c.args.comp.now.binders in
-    IfOk-weaker c.either.result (λ r. IsEither (view c.in_ok-before.before) (view c.in_ok-behind.behind) (view r)) _ (λ r either. either.levels inner c.in_ok-before.ensures.levels c.in_ok-behind.ensures.levels) c.either.ensures
+    IfOk-weaker c.disjunction.result (λ r. IsEither (view c.in_ok-before.before) (view c.in_ok-behind.behind) (view r)) _ (λ r either. either.levels inner c.in_ok-before.ensures.levels c.in_ok-behind.ensures.levels) c.disjunction.ensures
 
 pub returns-clause-operators : goal.returns-clause-operators
 returns-clause-operators c =
     let item = tree c.args.comp.now.item in
     let before = subst (λ z. (o : Bool) → AdmitsTerm o item → AdmitsItems o (comps_of z) → AdmitsFormula o (view c.in_ok-before.before)) c.as_slice.ensures c.in_ok-before.ensures.operators in
-    IfOk-weaker c.either.result (λ r. IsEither (view c.in_ok-before.before) (view c.in_ok-behind.behind) (view r)) _ (λ r either o a k l. either.operators o (before o a k) (c.in_ok-behind.ensures.operators o a l)) c.either.ensures
+    IfOk-weaker c.disjunction.result (λ r. IsEither (view c.in_ok-before.before) (view c.in_ok-behind.behind) (view r)) _ (λ r either o a k l. either.operators o (before o a k) (c.in_ok-behind.ensures.operators o a l)) c.disjunction.ensures

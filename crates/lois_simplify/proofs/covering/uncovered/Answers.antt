@@ -19,7 +19,7 @@ loop-index-init g c =
       count = sym c.into_vec-items.result.ok.0 ∙ sym c.len-index-end.ensures;
       so_far = subst (λ z. UncoveredSoFar c.args.under.now c.args.size c.args.comps z (map comp_of c.into_vec-items.result.items)) (sym c.new-kept.ensures)
           (subst (UncoveredSoFar c.args.under.now c.args.size c.args.comps []) (sym c.into_vec-items.ensures) (uncovered_begin c.args.under.now c.args.size c.args.comps));
-      asked = g.met.D.Answers.reaches_itself c.args.decider.now;
+      asked = g.met.D.Oracle.reaches_itself c.args.decider.now;
     }
 
 pub is_covered-requires-clause-levels : goal.is_covered-requires-clause-levels
@@ -118,5 +118,5 @@ loop-index-preserved g c =
             | else-not-branch+in-Coll-1 w ↦ subst (λ z. UncoveredSoFar u n whole z coming) (sym w.kept-is) (dropped w.if-not-branch.false)
             | else-not-branch+in-Var-1 w ↦ subst (λ z. UncoveredSoFar u n whole z coming) (sym w.kept-is) (dropped w.if-not-branch.false)
           ]);
-      asked = g.met.D.Answers.reaches_then c.args.decider.now c.loop-index.decider c.is_covered.new.decider c.loop-index.invariant.asked c.is_covered.ensures.asked;
+      asked = g.met.D.Oracle.reaches_then c.args.decider.now c.loop-index.decider c.is_covered.new.decider c.loop-index.invariant.asked c.is_covered.ensures.asked;
     }

@@ -7,5 +7,5 @@ abbrev pub invariant-loop-index : goal.invariant-loop-index
 invariant-loop-index g l = record {
   count : length l.items.items ≡ l.index-end;
   so_far : UncoveredSoFar l.under l.size l.fn.comps l.kept (map comp_of (drop l.index l.items.items));
-  asked : g.D.Answers.reaches l.fn.decider l.decider;
+  asked : g.D.Oracle.reaches l.fn.decider l.decider;
 }

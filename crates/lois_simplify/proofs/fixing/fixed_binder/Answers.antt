@@ -8,7 +8,7 @@ loop-binder-preserved g c =
     record {
       apart = λ b from l. below_more (λ j. c.args.from ≤ j → (a : ℕ) → a < j → CanBeApart c.args.size c.args.here.now j a) c.loop-binder.binder
           (λ j k m. c.loop-binder.invariant.apart j m k) (λ m. c.in_ok-level.ensures.none (ap is_some c.in_default.is)) b l from;
-      asked = g.met.D.Answers.reaches_then c.args.decider.now c.loop-binder.decider c.fixed_level.new.decider c.loop-binder.invariant.asked c.fixed_level.ensures.asked;
+      asked = g.met.D.Oracle.reaches_then c.args.decider.now c.loop-binder.decider c.fixed_level.new.decider c.loop-binder.invariant.asked c.fixed_level.ensures.asked;
     }
 
 pub returns-clause-none : goal.returns-clause-none

@@ -5,5 +5,5 @@ use Rattle.lois_simplify.proofs.fixing.fixed_level.Given as goal
 abbrev pub invariant-loop-level : goal.invariant-loop-level
 invariant-loop-level g l = record {
   apart : (a : ℕ) → a < l.level → CanBeApart l.size l.here l.binder a;
-  asked : g.D.Answers.reaches l.fn.decider l.decider;
+  asked : g.D.Oracle.reaches l.fn.decider l.decider;
 }

@@ -6,9 +6,9 @@ use Rattle.lois_base.specs.Tree.{tree, comp_of}
 use Rattle.lois_base.specs.Truth.{holds}
 use Rattle.lois_base.proofs.Both.{holds_both}
 use Rattle.lois_base.proofs.Validity.{fits_longer}
-use Rattle.lois_deciders.specs.Asked.{Meets}
-use Rattle.lois_deciders.specs.Met.{AreMet}
-use Rattle.lois_deciders.proofs.Asking.{some_is, none_is, is_met}
+use Rattle.lois_deciders.specs.Satisfaction.{IsConstraintSample}
+use Rattle.lois_deciders.specs.Conjunction.{IsSampledConjunction}
+use Rattle.lois_deciders.proofs.Oracle.{some_is, none_is, is_met}
 use Rattle.lois_simplify.specs.Fixed.{IsFixed}
 use Rattle.lois_simplify.specs.Kept.{set_of}
 use Rattle.lois_simplify.specs.Rounds.{only}
@@ -45,7 +45,7 @@ fixed_binder-requires-clause-here g c =
     let n = c.args.size in
     let k = c.args.comp in
     let h = c.in_ok-normalise.field-0 in
-    let met = some_is (λ m. AreMet (n + k.binders) u h m.constraint m.sample) c.in_ok-met.field-0 c.in-Some.met c.in-Some.is c.in_ok-met.ensures.met in
+    let met = some_is (λ m. IsSampledConjunction (n + k.binders) u h m.constraint m.sample) c.in_ok-met.field-0 c.in-Some.met c.in-Some.is c.in_ok-met.ensures.met in
     met.levels
 
 pub fixed_binder-requires-clause-sample : goal.fixed_binder-requires-clause-sample
@@ -54,8 +54,8 @@ fixed_binder-requires-clause-sample g c =
     let n = c.args.size in
     let k = c.args.comp in
     let h = c.in_ok-normalise.field-0 in
-    let met = some_is (λ m. AreMet (n + k.binders) u h m.constraint m.sample) c.in_ok-met.field-0 c.in-Some.met c.in-Some.is c.in_ok-met.ensures.met in
-    subst (Meets (n + k.binders) c.in-Some.met.constraint) (sym c.as_slice-sample.ensures) met.sample
+    let met = some_is (λ m. IsSampledConjunction (n + k.binders) u h m.constraint m.sample) c.in_ok-met.field-0 c.in-Some.met c.in-Some.is c.in_ok-met.ensures.met in
+    subst (IsConstraintSample (n + k.binders) c.in-Some.met.constraint) (sym c.as_slice-sample.ensures) met.sample
 
 pub returns-in_default-2-clause-opening : goal.returns-in_default-2-clause-opening
 returns-in_default-2-clause-opening g c =
@@ -63,7 +63,7 @@ returns-in_default-2-clause-opening g c =
     let n = c.args.size in
     let k = c.args.comp in
     let h = c.in_ok-normalise.field-0 in
-    let met = some_is (λ m. AreMet (n + k.binders) u h m.constraint m.sample) c.in_ok-met.field-0 c.in-Some.met c.in-Some.is c.in_ok-met.ensures.met in (
+    let met = some_is (λ m. IsSampledConjunction (n + k.binders) u h m.constraint m.sample) c.in_ok-met.field-0 c.in-Some.met c.in-Some.is c.in_ok-met.ensures.met in (
       guard_kept u n k.binders k.guard h (tree k.item) c.requires.under_levels (λ d o. c.in_ok-normalise.ensures.truth d ∙ equally_true u k.guard c.in_ok-guard.guard c.in_ok-guard.ensures d o) (λ j f. c.in_ok-normalise.ensures.fits j (c.in_ok-guard.ensures.levels j f)) (λ o f. c.in_ok-normalise.ensures.operators o (c.in_ok-guard.ensures.operators o f)),
       omega arith,
       record {
@@ -92,7 +92,7 @@ returns-clause-opening g c =
     let k = c.args.comp in
     let h = c.in_ok-normalise.field-0 in
     let inner = n + k.binders in
-    let met = some_is (λ m. AreMet inner u h m.constraint m.sample) c.in_ok-met.field-0 c.in-Some.met c.in-Some.is c.in_ok-met.ensures.met in
+    let met = some_is (λ m. IsSampledConjunction inner u h m.constraint m.sample) c.in_ok-met.field-0 c.in-Some.met c.in-Some.is c.in_ok-met.ensures.met in
     let r = c.in_ok-shorter.shorter in
     let e = c.in_ok-shorter.ensures in
     let b = c.in-Some-2.fixed.binder in
@@ -109,12 +109,12 @@ returns-clause-opening g c =
 
 pub returns-clause-asked : goal.returns-clause-asked
 returns-clause-asked g c =
-    g.met.D.Answers.reaches_then c.args.decider.now c.both.new.self c.fixed_binder.new.decider c.both.ensures.asked c.fixed_binder.ensures.asked
+    g.met.D.Oracle.reaches_then c.args.decider.now c.both.new.self c.fixed_binder.new.decider c.both.ensures.asked c.fixed_binder.ensures.asked
 
 pub returns-in_err-fixed-clause-asked : goal.returns-in_err-fixed-clause-asked
 returns-in_err-fixed-clause-asked g c =
-    g.met.D.Answers.reaches_then c.args.decider.now c.both.new.self c.fixed_binder.new.decider c.both.ensures.asked c.fixed_binder.ensures.asked
+    g.met.D.Oracle.reaches_then c.args.decider.now c.both.new.self c.fixed_binder.new.decider c.both.ensures.asked c.fixed_binder.ensures.asked
 
 pub returns-in_err-shorter-clause-asked : goal.returns-in_err-shorter-clause-asked
 returns-in_err-shorter-clause-asked g c =
-    g.met.D.Answers.reaches_then c.args.decider.now c.both.new.self c.fixed_binder.new.decider c.both.ensures.asked c.fixed_binder.ensures.asked
+    g.met.D.Oracle.reaches_then c.args.decider.now c.both.new.self c.fixed_binder.new.decider c.both.ensures.asked c.fixed_binder.ensures.asked

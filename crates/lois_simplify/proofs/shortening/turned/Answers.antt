@@ -12,7 +12,7 @@ returns-then-branch c =
     let q = c.in_ok-others.others in
     let items = c.into_vec-cubes.result.items in
     let whole : xs ≡ k ∷ q = sym c.into_vec-cubes.ensures ∙ first_and_rest items q k (omega arith) c.remove-first.ensures.value (c.in_ok-others.ensures ∙ c.remove-first.ensures.items) in
-    first_left_out c.args.under.now xs q k whole (c.in_ok-has_cube.ensures.yes c.if-branch.true)
+    first_left_out c.args.under.now xs q k whole (c.in_ok-covers_cube.ensures.yes c.if-branch.true)
 
 pub returns : goal.returns
 returns c =

@@ -8,7 +8,7 @@ use Rattle.std.proofs.lemmas.Result.{IfOk-weaker}
 use Rattle.lois_base.specs.Data.{TermD, CompD}
 use Rattle.lois_base.specs.Tree.{tree, comp_of}
 use Rattle.lois_base.specs.declared.values.Comp.{Comp}
-use Rattle.lois_deciders.proofs.Asking.{some_is}
+use Rattle.lois_deciders.proofs.Oracle.{some_is}
 use Rattle.lois_relate.proofs.Parts.{is_part_of}
 use Rattle.lois_simplify.specs.Kept.{IsKept, set_of}
 use Rattle.lois_simplify.specs.Lean.{IsLeanComp}
@@ -28,7 +28,7 @@ lean_comp-rounds-init g t c =
     let whole : TermD = set_of (only (comp_of c.args.comp)) in
     record {
       kept = kept_refl c.args.under.now c.args.size whole;
-      asked = g.met.D.Answers.reaches_itself c.args.decider.now;
+      asked = g.met.D.Oracle.reaches_itself c.args.decider.now;
     }
 
 pub lean_comp-returns-in-Lean-clause-kept : goal.lean_comp-returns-in-Lean-clause-kept
@@ -45,7 +45,7 @@ lean_comp-rounds-preserved g t c =
     let round = subst (IsRoundOf u n c.rounds.current) c.in-Shorter.is c.in_ok-simple.ensures.round in
     record {
       kept = kept_trans u n (set_of (only (comp_of c.args.comp))) (set_of (only (comp_of c.rounds.current))) (set_of (only (comp_of c.in-Shorter.shorter))) c.rounds.invariant.kept round.0;
-      asked = g.met.D.Answers.reaches_then c.args.decider.now c.rounds.decider c.one_round.new.decider c.rounds.invariant.asked c.one_round.ensures.asked;
+      asked = g.met.D.Oracle.reaches_then c.args.decider.now c.rounds.decider c.one_round.new.decider c.rounds.invariant.asked c.one_round.ensures.asked;
     }
 
 pub lean_comps-loop-comp-init : goal.lean_comps-loop-comp-init
@@ -54,7 +54,7 @@ lean_comps-loop-comp-init g t c =
       can_next = tt;
       is_finite = tt;
       lean = subst (LeanSoFar c.args.under.now c.args.size []) (sym c.new-found.ensures) (lean_begin c.args.under.now c.args.size);
-      asked = g.met.D.Answers.reaches_itself c.args.decider.now;
+      asked = g.met.D.Oracle.reaches_itself c.args.decider.now;
     }
 
 pub lean_comps-lean_comp-requires : goal.lean_comps-lean_comp-requires
@@ -82,7 +82,7 @@ lean_comps-loop-comp-preserved-in-Continue-branch-4 g t c =
       lean =
           subst (λ z. LeanSoFar u n z c.push.new.self) (sym (map-append comp_of seen (c.in-Some.comp ∷ [])))
           (lean_found u n done c.loop-comp.found c.push.new.self c.push.new.self k (comp_of c.in-Some-2.simple) c.in_ok-push.ensures.ok refl c.loop-comp.invariant.lean kept lean);
-      asked = g.met.D.Answers.reaches_then c.args.decider.now c.loop-comp.decider c.lean_comp.new.decider c.loop-comp.invariant.asked c.lean_comp.ensures.asked;
+      asked = g.met.D.Oracle.reaches_then c.args.decider.now c.loop-comp.decider c.lean_comp.new.decider c.loop-comp.invariant.asked c.lean_comp.ensures.asked;
     }
 
 pub lean_comps-loop-comp-preserved : goal.lean_comps-loop-comp-preserved
@@ -98,7 +98,7 @@ lean_comps-loop-comp-preserved g t c =
       lean =
           subst (λ z. LeanSoFar u n z c.loop-comp.found) (sym (map-append comp_of seen (c.in-Some.comp ∷ [])))
           (lean_none u n (map comp_of seen) c.loop-comp.found k c.loop-comp.invariant.lean kept);
-      asked = g.met.D.Answers.reaches_then c.args.decider.now c.loop-comp.decider c.lean_comp.new.decider c.loop-comp.invariant.asked c.lean_comp.ensures.asked;
+      asked = g.met.D.Oracle.reaches_then c.args.decider.now c.loop-comp.decider c.lean_comp.new.decider c.loop-comp.invariant.asked c.lean_comp.ensures.asked;
     }
 
 pub lean_comps-returns-clause-kept : goal.lean_comps-returns-clause-kept
@@ -162,7 +162,7 @@ simplified_parts-loop-part-init g t c =
       can_next = tt;
       is_finite = tt;
       simplified = subst (PartsSimplified c.args.under.now c.args.size []) (sym c.new-simple.ensures) tt;
-      asked = g.met.D.Answers.reaches_itself c.args.decider.now;
+      asked = g.met.D.Oracle.reaches_itself c.args.decider.now;
     }
 
 pub simplified_parts-simplified-requires : goal.simplified_parts-simplified-requires
@@ -188,7 +188,7 @@ simplified_parts-loop-part-preserved g t c =
       simplified =
           subst (λ z. PartsSimplified u n z c.push.new.self) (sym (map-append tree seen (p ∷ [])))
           (subst (PartsSimplified u n (done ++ tree p ∷ [])) (sym c.in_ok-push.ensures.ok) (part_behind u n done c.loop-part.simple (tree p) (tree s) c.loop-part.invariant.simplified one));
-      asked = g.met.D.Answers.reaches_then c.args.decider.now c.loop-part.decider c.simplified.new.decider c.loop-part.invariant.asked c.simplified.ensures.asked;
+      asked = g.met.D.Oracle.reaches_then c.args.decider.now c.loop-part.decider c.simplified.new.decider c.loop-part.invariant.asked c.simplified.ensures.asked;
     }
 
 pub simplified_parts-returns-clause-kept : goal.simplified_parts-returns-clause-kept

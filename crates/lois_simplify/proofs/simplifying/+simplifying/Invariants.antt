@@ -29,7 +29,7 @@ invariant-simplified_parts-loop-part g l =
       can_next : (goal.iterator-simplified_parts-loop-part g).can_next l.part-iterator;
       is_finite : (goal.iterator-simplified_parts-loop-part g).is_finite l.part-iterator;
       simplified : PartsSimplified l.under l.size (map tree l.yielded) l.simple;
-      asked : g.D.Answers.reaches l.fn.decider l.decider;
+      asked : g.D.Oracle.reaches l.fn.decider l.decider;
     }
 
 abbrev pub invariant-lean_comps-loop-comp : goal.invariant-lean_comps-loop-comp
@@ -38,14 +38,14 @@ invariant-lean_comps-loop-comp g l =
       can_next : (goal.iterator-lean_comps-loop-comp g).can_next l.comp-iterator;
       is_finite : (goal.iterator-lean_comps-loop-comp g).is_finite l.comp-iterator;
       lean : LeanSoFar l.under l.size (map comp_of l.yielded) l.found;
-      asked : g.D.Answers.reaches l.fn.decider l.decider;
+      asked : g.D.Oracle.reaches l.fn.decider l.decider;
     }
 
 abbrev pub invariant-lean_comp-rounds : goal.invariant-lean_comp-rounds
 invariant-lean_comp-rounds g l =
     record {
       kept : IsKept l.under l.size (set_of (only (comp_of l.fn.comp))) (set_of (only (comp_of l.current)));
-      asked : g.D.Answers.reaches l.fn.decider l.decider;
+      asked : g.D.Oracle.reaches l.fn.decider l.decider;
     }
 
 abbrev pub decreases-lean_comp-rounds : goal.decreases-lean_comp-rounds

@@ -12,8 +12,8 @@ returns-in-Err-clause-refused c = rw c.error_of.ensures (refuses c.args.text.now
 pub returns-in-Err-clause-accepts : goal.returns-in-Err-clause-accepts
 returns-in-Err-clause-accepts c = rw c.error_of.ensures (accepts c.args.text.now c.args.tokens.now c.requires.cut c.in-Err.halt c.in-Err.ensures.read)
 
-pub returns-in-Ok-clause-those : goal.returns-in-Ok-clause-those
-returns-in-Ok-clause-those c = those c.args.text.now c.args.tokens.now c.requires.cut (script_tree c.in-Ok.script) c.in-Ok.ensures.read
+pub returns-in-Ok-clause-exact : goal.returns-in-Ok-clause-exact
+returns-in-Ok-clause-exact c = those c.args.text.now c.args.tokens.now c.requires.cut (script_tree c.in-Ok.script) c.in-Ok.ensures.read
 
 pub returns-in-Ok-clause-refuses : goal.returns-in-Ok-clause-refuses
 returns-in-Ok-clause-refuses c = λ error refused.

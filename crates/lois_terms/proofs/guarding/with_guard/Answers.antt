@@ -3,7 +3,7 @@ use Rattle.std.proofs.lemmas.Result.{IfOk-weaker}
 use Rattle.lois_base.specs.Data.{depth}
 use Rattle.lois_base.specs.Fits.{Fits}
 use Rattle.lois_base.specs.Tree.{tree}
-use Rattle.lois_base.specs.Validity.{AdmitsTerm, HasUsualWidths}
+use Rattle.lois_base.specs.Validity.{AdmitsTerm, HasBoundedWidths}
 use Rattle.lois_terms.specs.Guarded.{IsSet, KeepsWhere, IsEmptyElsewhere}
 use Rattle.lois_terms.proofs.UnderGuard.{keeps_where, is_empty_elsewhere, is_set_guarded, fits_guarded, admits_guarded, widths_guarded, depth_guarded}
 use Rattle.lois_terms.proofs.guarding.with_guard.Goals as goal
@@ -30,7 +30,7 @@ returns-clause-operators c =
 
 pub returns-clause-widths : goal.returns-clause-widths
 returns-clause-widths c =
-    IfOk-weaker c.guarded_set.result _ _ (λ r e f. subst HasUsualWidths (sym e) (widths_guarded c.args.c.now (tree c.args.t.now) f)) c.guarded_set.ensures
+    IfOk-weaker c.guarded_set.result _ _ (λ r e f. subst HasBoundedWidths (sym e) (widths_guarded c.args.c.now (tree c.args.t.now) f)) c.guarded_set.ensures
 
 pub returns-clause-height : goal.returns-clause-height
 returns-clause-height c =

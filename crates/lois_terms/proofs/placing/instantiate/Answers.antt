@@ -2,9 +2,9 @@ use Rattle.std.proofs.Common.{◌≡◌, ◌+◌, ◌-◌, ◌≤◌, sym, subst
 use Rattle.lois_base.specs.Fits.{ConstraintFits, Fits}
 use Rattle.lois_base.specs.Shift.{shift_level}
 use Rattle.lois_base.specs.Tree.{tree, comp_of}
-use Rattle.lois_base.specs.Validity.{AdmitsConstraint, AdmitsTerm, HasUsualWidths}
+use Rattle.lois_base.specs.Validity.{AdmitsConstraint, AdmitsTerm, HasBoundedWidths}
 use Rattle.lois_base.proofs.RenamedForm.{constraint_admits_renamed, admits_renamed, widths_renamed}
-use Rattle.lois_terms.specs.Raised.{IsPlacedGuard, IsPlacedItem}
+use Rattle.lois_terms.specs.Shifted.{IsPlacedGuard, IsPlacedItem}
 use Rattle.lois_terms.proofs.MoreAtoms.{is_placed_guard, is_placed_item}
 use Rattle.lois_terms.proofs.ShiftedFits.{constraint_fits, item_fits}
 use Rattle.lois_terms.proofs.Tops.{top_of_comp_raised}
@@ -52,4 +52,4 @@ returns-clause-item_operators c = λ o f.
 
 pub returns-clause-widths : goal.returns-clause-widths
 returns-clause-widths c = λ f.
-    subst HasUsualWidths (sym c.in_ok-shifted_term.ensures) (widths_renamed (shift_level c.args.size (c.args.at - c.args.size)) (tree c.args.comp.now.item) f)
+    subst HasBoundedWidths (sym c.in_ok-shifted_term.ensures) (widths_renamed (shift_level c.args.size (c.args.at - c.args.size)) (tree c.args.comp.now.item) f)

@@ -3,9 +3,9 @@ use Rattle.std.proofs.lemmas.Result.{IfOk-weaker}
 use Rattle.lois_base.specs.Fits.{Fits}
 use Rattle.lois_base.specs.Shift.{shift_level}
 use Rattle.lois_base.specs.Tree.{tree}
-use Rattle.lois_base.specs.Validity.{AdmitsTerm, HasUsualWidths}
+use Rattle.lois_base.specs.Validity.{AdmitsTerm, HasBoundedWidths}
 use Rattle.lois_base.proofs.RenamedForm.{admits_renamed, widths_renamed}
-use Rattle.lois_terms.specs.Raised.{IsRaised}
+use Rattle.lois_terms.specs.Shifted.{IsShifted}
 use Rattle.lois_terms.proofs.MoreAtoms.{is_raised}
 use Rattle.lois_terms.proofs.ShiftedFits.{shifted_fits}
 use Rattle.lois_terms.proofs.Tops.{can_shift-top}
@@ -16,7 +16,7 @@ shifted_term-requires c = can_shift-top c.args.from c.args.by (tree c.args.t.now
 
 pub returns-clause-value : goal.returns-clause-value
 returns-clause-value c =
-    IfOk-weaker c.shifted_term.result _ _ (λ r e. subst (IsRaised c.args.from c.args.by (tree c.args.t.now)) (sym e) (is_raised c.args.from c.args.by (tree c.args.t.now))) c.shifted_term.ensures
+    IfOk-weaker c.shifted_term.result _ _ (λ r e. subst (IsShifted c.args.from c.args.by (tree c.args.t.now)) (sym e) (is_raised c.args.from c.args.by (tree c.args.t.now))) c.shifted_term.ensures
 
 pub returns-clause-levels : goal.returns-clause-levels
 returns-clause-levels c =
@@ -28,4 +28,4 @@ returns-clause-operators c =
 
 pub returns-clause-widths : goal.returns-clause-widths
 returns-clause-widths c =
-    IfOk-weaker c.shifted_term.result _ _ (λ r e f. subst HasUsualWidths (sym e) (widths_renamed (shift_level c.args.from c.args.by) (tree c.args.t.now) f)) c.shifted_term.ensures
+    IfOk-weaker c.shifted_term.result _ _ (λ r e f. subst HasBoundedWidths (sym e) (widths_renamed (shift_level c.args.from c.args.by) (tree c.args.t.now) f)) c.shifted_term.ensures

@@ -1,7 +1,7 @@
 use Rattle.std.proofs.Common.{◌++◌, ◌∷◌, [], map, take, sym, ap, subst, ◌∙◌, arith}
 use Rattle.std.proofs.lemmas.Option.{IfSome_then}
 use Rattle.lois_base.proofs.Viewed.{one_more}
-use Rattle.lois_eval.specs.Standing.{AllStand, AllCondsStand}
+use Rattle.lois_eval.specs.WellFormed.{AreWellFormed, CondsAreWellFormed}
 use Rattle.lois_script.specs.View.{tree, cond_tree, binding_tree, exprs_of, exprs_list, conds_of}
 use Rattle.lois_script.proofs.Views.{tree_Tuple, tree_Apply, binding_is}
 use Rattle.lois_vectors_expressions.proofs.Placed.{LeadTo, all_one_more, conds_one_more, leads_further, counted}
@@ -26,7 +26,7 @@ all_stand-loop-e-preserved t c =
     let items = c.as_slice-e-items.result.now in
     let i = c.loop-e.e-index in
     let e = c.e-item.result in
-    subst (λ z. AllStand (exprs_of z) o xs) (sym (one_more tree items i e c.loop-e-test.true c.e-item.is))
+    subst (λ z. AreWellFormed (exprs_of z) o xs) (sym (one_more tree items i e c.loop-e-test.true c.e-item.is))
     (all_one_more o xs (map tree (take i items)) (tree e) c.loop-e.invariant c.in_ok-stands.ensures)
 
 pub conditions_stand-loop-c-preserved : goal.conditions_stand-loop-c-preserved
@@ -36,7 +36,7 @@ conditions_stand-loop-c-preserved t c =
     let items = c.as_slice-c-items.result.now in
     let i = c.loop-c.c-index in
     let d = c.c-item.result in
-    subst (λ z. AllCondsStand (conds_of z) o xs) (sym (one_more cond_tree items i d c.loop-c-test.true c.c-item.is))
+    subst (λ z. CondsAreWellFormed (conds_of z) o xs) (sym (one_more cond_tree items i d c.loop-c-test.true c.c-item.is))
     (conds_one_more o xs (map cond_tree (take i items)) (cond_tree d) c.loop-c.invariant c.in_ok-condition_stands.ensures)
 
 pub behind-loop-binding-preserved : goal.behind-loop-binding-preserved

@@ -3,7 +3,7 @@ use Rattle.std.specs.Prelude.{bytes_eq}
 use Rattle.std.specs.Bool.{IsFalse}
 use Rattle.std.proofs.lemmas.List.{take_more, take_all}
 use Rattle.std.proofs.lemmas.List.Elements.{All-push}
-use Rattle.lois_eval.specs.Standing.{IsNamed, IsUnnamed}
+use Rattle.lois_eval.specs.WellFormed.{IsNamed, IsUnnamed}
 use Rattle.lois_vectors_expressions.proofs.Placed.{named_at}
 use Rattle.lois_vectors_expressions.proofs.standing.named.Goals as goal
 

@@ -1,5 +1,5 @@
 use Rattle.std.proofs.Common.{take}
-use Rattle.lois_eval.specs.Standing.{IsUnnamed}
+use Rattle.lois_eval.specs.WellFormed.{IsUnnamed}
 use Rattle.lois_vectors_expressions.proofs.standing.named.Given as goal
 
 abbrev pub invariant-loop-other : goal.invariant-loop-other

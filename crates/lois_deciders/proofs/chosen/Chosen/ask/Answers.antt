@@ -1,5 +1,5 @@
 use Rattle.std.proofs.Common.{rules, refl}
-use Rattle.lois_deciders.proofs.Asking.{on_ok, asked_at}
+use Rattle.lois_deciders.proofs.Oracle.{on_ok, asked_at}
 use Rattle.lois_deciders.proofs.OnlyAsked.{only_asked_one}
 use Rattle.lois_deciders.proofs.chosen.Chosen.ask.Goals as goal
 

@@ -1,5 +1,5 @@
 use Rattle.std.proofs.Common.{sym, ◌∙◌}
-use Rattle.lois_deciders.proofs.Asking.{sample_alike, none_alike}
+use Rattle.lois_deciders.proofs.Oracle.{sample_alike, none_alike}
 use Rattle.lois_deciders.proofs.chosen.Chosen.ask_both.Goals as goal
 
 pub ask-requires-2 : goal.ask-requires-2

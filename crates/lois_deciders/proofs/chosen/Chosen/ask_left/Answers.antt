@@ -2,7 +2,7 @@ use Rattle.std.proofs.Common.{◌&&◌, not, List, [], ◌∷◌, sym, ap, ◌�
 use Rattle.lois_base.specs.Fits.{ConstraintFits}
 use Rattle.lois_base.specs.Truth.{holds}
 use Rattle.lois_base.specs.declared.guards.Lit.{Lit}
-use Rattle.lois_deciders.proofs.Asking.{one_fits, sample_parts, none_parts}
+use Rattle.lois_deciders.proofs.Oracle.{one_fits, sample_parts, none_parts}
 use Rattle.lois_deciders.proofs.chosen.Chosen.ask_left.Goals as goal
 
 pub ask-requires : goal.ask-requires

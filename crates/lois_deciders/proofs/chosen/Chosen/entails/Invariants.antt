@@ -1,5 +1,5 @@
 use Rattle.std.proofs.Common.{take}
-use Rattle.lois_deciders.specs.Asked.{IsEntailed}
+use Rattle.lois_deciders.specs.Satisfaction.{IsEntailed}
 use Rattle.lois_deciders.specs.OnlyAsked.{HasOnlyAsked}
 use Rattle.lois_deciders.proofs.chosen.Chosen.entails.Given as goal
 

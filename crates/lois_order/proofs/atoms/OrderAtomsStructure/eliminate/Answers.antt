@@ -16,16 +16,16 @@ returns-then-contradicts-clause-equivalent c =
 -- src/atoms.rt:23:5
 pub returns-clause-equivalent : goal.returns-clause-equivalent
 returns-clause-equivalent c =
-    let p : Projects c.args.size c.args.cube.now c.match-equated.rest =
-    elim c.match-equated.branch [
+    let p : Projects c.args.size c.args.cube.now c.match-equal_level.rest =
+    elim c.match-equal_level.branch [
       | in-Some+in_ok-rest-in-Some w ↦ subst (Projects c.args.size c.args.cube.now) (sym w.rest-is)
           (substituted_projects c.args.cube.now c.args.size w.in-Some.other c.requires.levels w.in-Some.ensures.found w.in_ok-rest-in-Some.rest w.in_ok-rest-in-Some.ensures.holds)
       | in-None+in_ok-rest-in-None w ↦ subst (Projects c.args.size c.args.cube.now) (sym w.rest-is)
           (joined_projects c.args.size c.args.cube.now w.in_ok-rest-in-None.rest c.requires.levels (sym c.contradicts.ensures ∙ c.if-contradicts.false) w.in-None.ensures.none w.in_ok-rest-in-None.ensures.holds)
     ] in
     elim c.if-not-contradicts.branch [
-      | then-not-contradicts+in_ok-push w ↦ let e : c.if-not-contradicts.answer ≡ c.match-equated.rest ∷ [] = search rules in
-          subst (Eliminates c.args.size c.args.cube.now) (sym e) (one_eliminates c.args.size c.args.cube.now c.match-equated.rest p)
+      | then-not-contradicts+in_ok-push w ↦ let e : c.if-not-contradicts.answer ≡ c.match-equal_level.rest ∷ [] = search rules in
+          subst (Eliminates c.args.size c.args.cube.now) (sym e) (one_eliminates c.args.size c.args.cube.now c.match-equal_level.rest p)
       | else-not-contradicts w ↦ let e : c.if-not-contradicts.answer ≡ [] = search rules in
-          subst (Eliminates c.args.size c.args.cube.now) (sym e) (none_eliminates c.args.size c.args.cube.now c.match-equated.rest p (search rules))
+          subst (Eliminates c.args.size c.args.cube.now) (sym e) (none_eliminates c.args.size c.args.cube.now c.match-equal_level.rest p (search rules))
     ]

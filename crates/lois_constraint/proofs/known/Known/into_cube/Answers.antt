@@ -1,7 +1,0 @@
-use Rattle.std.proofs.Common.{subst}
-use Rattle.lois_constraint.specs.Met.{CanBeMet}
-use Rattle.lois_constraint.proofs.Ranked.{order_met}
-use Rattle.lois_constraint.proofs.known.Known.into_cube.Goals as goal
-
-pub returns-clause-met : goal.returns-clause-met
-returns-clause-met c = subst CanBeMet c.self.view_is (order_met _ _ c.self.invariant)

@@ -1,5 +1,0 @@
-use Rattle.lois_constraint.proofs.Shown.{meets_both}
-use Rattle.lois_constraint.proofs.prints.Demands.and.Goals as goal
-
-pub returns : goal.returns
-returns c = λ order one two. meets_both order _ _ _ _ one two

@@ -1,0 +1,59 @@
+-- Operands that are unfit for an operation.
+use Rattle.std.proofs.Common.{◌≡◌, ℕ, ◌⊎◌, inl, inr, List, [], ◌∷◌, sym, subst, ◌∙◌}
+use Rattle.lois_base.specs.Data.{TermD, terms_of}
+use Rattle.lois_base.specs.Truth.{sampled}
+use Rattle.lois_base.specs.Values.{point}
+use Rattle.lois_meaning.specs.Faults.{IsNoSet, IsInvalidOperand}
+use Rattle.lois_meaning.specs.declared.faults.Fault.{Fault}
+use Rattle.lois_answers.specs.declared.faults.FaultKind.{FaultKind}
+use Rattle.lois_script.specs.Tree.{ExprD, pos}
+use Rattle.lois_script.specs.View.{exprs_of}
+use Rattle.lois_script.specs.declared.syntax.Operation.{Operation}
+use Rattle.lois_script.specs.declared.syntax.Operation.TheVariants.{Union, Inter, Minus, Flatten, Reach, Product, Complement, Minimise}
+use Rattle.lois_context.specs.declared.contexts.Context.{Context}
+use Rattle.lois_eval.specs.Checks.{IsSetFault}
+use Rattle.lois_eval.specs.Operands.{IsOfTwoSets, IsUnfitFault, IsMemberFault}
+use Rattle.lois_eval.proofs.TermKinds.{no_set_at}
+
+unfit_set : (op : Operation) → IsOfTwoSets op → (v : _) (kind : FaultKind) → IsNoSet v kind → IsInvalidOperand op v kind
+unfit_set Union o v kind h = h
+unfit_set Inter o v kind h = h
+unfit_set Minus o v kind h = h
+unfit_set Flatten o v kind h = absurd o
+unfit_set Reach o v kind h = absurd o
+unfit_set Product o v kind h = absurd o
+unfit_set Complement o v kind h = absurd o
+unfit_set Minimise o v kind h = absurd o
+
+module _ (k : Context) (x : Fault) where
+  no_set : (t : TermD) (at : ℕ) → IsSetFault k t at x → IsNoSet (point t (sampled x.sample.items)) x.kind
+  no_set t at h = (h.kind, no_set_at t (sampled x.sample.items) h.no_set)
+
+  pub left_unfit : (op : Operation) → IsOfTwoSets op → (e f : ExprD) (s t : TermD) (es : List ExprD) (ts : List TermD) (at : ℕ) → es ≡ e ∷ f ∷ [] → ts ≡ s ∷ t ∷ [] → at ≡ pos e → IsSetFault k s at x → IsUnfitFault k op (exprs_of es) (terms_of ts) x
+  left_unfit op o e f s t es ts at operands values place h = subst (λ z. IsUnfitFault k op (exprs_of es) (terms_of z) x) (sym values) (subst (λ z. IsUnfitFault k op (exprs_of z) (terms_of (s ∷ t ∷ [])) x) (sym operands) (record {
+    admitted = h.fault.admitted;
+    unfit = inl (h.fault.place ∙ place, unfit_set op o (point s (sampled x.sample.items)) x.kind (no_set s at h));
+    elements = h.fault.elements;
+  }))
+
+  pub right_unfit : (op : Operation) → IsOfTwoSets op → (e f : ExprD) (s t : TermD) (es : List ExprD) (ts : List TermD) (at : ℕ) → es ≡ e ∷ f ∷ [] → ts ≡ s ∷ t ∷ [] → at ≡ pos f → IsSetFault k t at x → IsUnfitFault k op (exprs_of es) (terms_of ts) x
+  right_unfit op o e f s t es ts at operands values place h = subst (λ z. IsUnfitFault k op (exprs_of es) (terms_of z) x) (sym values) (subst (λ z. IsUnfitFault k op (exprs_of z) (terms_of (s ∷ t ∷ [])) x) (sym operands) (record {
+    admitted = h.fault.admitted;
+    unfit = inr (inl (h.fault.place ∙ place, unfit_set op o (point t (sampled x.sample.items)) x.kind (no_set t at h)));
+    elements = h.fault.elements;
+  }))
+
+  pub flatten_unfit : (e : ExprD) (s : TermD) (op : Operation) (es : List ExprD) (ts : List TermD) (at : ℕ) → op ≡ Flatten → es ≡ e ∷ [] → ts ≡ s ∷ [] → at ≡ pos e → IsSetFault k s at x ⊎ IsMemberFault k s at x → IsUnfitFault k op (exprs_of es) (terms_of ts) x
+  flatten_unfit e s op es ts at is operands values place h = subst (λ z. IsUnfitFault k z (exprs_of es) (terms_of ts) x) (sym is) (subst (λ z. IsUnfitFault k Flatten (exprs_of es) (terms_of z) x) (sym values) (subst (λ z. IsUnfitFault k Flatten (exprs_of z) (terms_of (s ∷ [])) x) (sym operands) (of h)))
+    where
+      of : IsSetFault k s at x ⊎ IsMemberFault k s at x → IsUnfitFault k Flatten (exprs_of (e ∷ [])) (terms_of (s ∷ [])) x
+      of (inl h) = record {
+        admitted = h.fault.admitted;
+        unfit = inl (h.fault.place ∙ place, inl (no_set s at h));
+        elements = h.fault.elements;
+      }
+      of (inr h) = record {
+        admitted = h.fault.admitted;
+        unfit = let (u, m, none) = h.no_set in inl (h.fault.place ∙ place, inr (h.kind, u, m, none));
+        elements = h.fault.elements;
+      }

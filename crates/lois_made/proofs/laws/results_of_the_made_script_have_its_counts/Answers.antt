@@ -1,5 +1,0 @@
-use Rattle.lois_made.proofs.MadeResults.{results_have_made_counts}
-use Rattle.lois_made.proofs.laws.results_of_the_made_script_have_its_counts.Goals as goal
-
-pub returns : goal.returns
-returns c = record { counts = results_have_made_counts }

@@ -1,0 +1,16 @@
+use Rattle.std.proofs.Common.{◌≤◌, length}
+use Rattle.lois_script.specs.View.{exprs_list, tree}
+use Rattle.lois_parser.specs.Ahead.{ahead}
+use Rattle.lois_descent.specs.Descent.{begins, next, listed, inner_expr}
+use Rattle.lois_descent.specs.declared.lexemes.Terminal.TheVariants as terminals
+use Rattle.lois_parser.proofs.Gathering.{Gathers}
+use Rattle.lois_parser.proofs.grammar.Grammar.more_expressions.Given as goal
+
+abbrev pub invariant-loop-rest : goal.invariant-loop-rest
+invariant-loop-rest g l = record {
+  read : Gathers (begins terminals.Comma) (next (inner_expr l.self.depth_left)) (exprs_list l.items) (ahead l.rest) (listed (inner_expr l.self.depth_left) (tree l.fn.first) (ahead l.fn.at));
+  shorter : length (ahead l.rest) ≤ length (ahead l.fn.at);
+}
+
+abbrev pub decreases-loop-rest : goal.decreases-loop-rest
+decreases-loop-rest g l = length (ahead l.rest)

@@ -1,0 +1,18 @@
+use Rattle.lois_base.specs.FormulaView.{view}
+use Rattle.lois_relate.proofs.Forms.{both_never_left, both_never_right, both_always_left, both_always_right}
+use Rattle.lois_relate.proofs.building.conjunction.Goals as goal
+
+pub returns-then-is_false_formula : goal.returns-then-is_false_formula
+returns-then-is_false_formula c = both_never_left (view c.args.f) (view c.args.g) (c.is_false_formula.ensures.0 c.if-is_false_formula.true)
+
+pub returns-then-is_false_formula-2 : goal.returns-then-is_false_formula-2
+returns-then-is_false_formula-2 c =
+    both_never_right (view c.args.f) (view c.args.g) (c.is_false_formula-2.ensures.0 c.if-is_false_formula-2.true)
+
+pub returns-then-is_true_formula : goal.returns-then-is_true_formula
+returns-then-is_true_formula c =
+    both_always_left (view c.args.f) (view c.args.g) (c.is_true_formula.ensures.0 c.if-is_true_formula.true)
+
+pub returns-then-is_true_formula-2 : goal.returns-then-is_true_formula-2
+returns-then-is_true_formula-2 c =
+    both_always_right (view c.args.f) (view c.args.g) (c.is_true_formula-2.ensures.0 c.if-is_true_formula-2.true)

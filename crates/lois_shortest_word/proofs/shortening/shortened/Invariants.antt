@@ -1,0 +1,15 @@
+use Rattle.std.proofs.Common.{◌≤◌, length}
+use Rattle.lois_shortest_word.specs.Shortened.{IsShortened}
+use Rattle.lois_shortest_word.specs.Words.{AreUsedBetween}
+use Rattle.lois_shortest_word.proofs.shortening.shortened.Given as goal
+
+abbrev pub invariant-dropping : goal.invariant-dropping
+invariant-dropping l = record {
+  short : IsShortened l.size l.fn.word l.shorter;
+  least : l.size ≤ l.left;
+  most : l.left ≤ length l.shorter.sample;
+  used : AreUsedBetween l.left (length l.shorter.sample) l.shorter.letters;
+}
+
+abbrev pub decreases-dropping : goal.decreases-dropping
+decreases-dropping l = l.left

@@ -1,7 +1,0 @@
-use Rattle.std.proofs.Common.{◌≡◌, take}
-use Rattle.lois_base.specs.Rename.{rename_cube}
-use Rattle.lois_words.specs.Shortened.{lowered}
-use Rattle.lois_words.proofs.lowering.lowered_cube.Given as goal
-
-abbrev pub invariant-loop-lit : goal.invariant-loop-lit
-invariant-loop-lit l = l.low ≡ rename_cube (lowered l.gone) (take l.lit-index l.lit-items)

@@ -1,7 +1,0 @@
-use Rattle.std.proofs.Common.{take, map}
-use Rattle.lois_base.specs.Tree.{tree}
-use Rattle.lois_words.specs.Walks.{AreMoved}
-use Rattle.lois_words.proofs.walking.moved.Given as goal
-
-abbrev pub invariant-loop-letter : goal.invariant-loop-letter
-invariant-loop-letter l = AreMoved l.size l.by (map tree (take l.letter-index l.letter-items)) l.among
