@@ -1,6 +1,6 @@
 use Rattle.std.proofs.Common.{inl, inr, refl}
 use Rattle.lois_deciders.specs.Reached.{at_once, after}
-use Rattle.lois_eval.proofs.oracle.AskingAsks.keep.Goals as goal
+use Rattle.lois_eval.proofs.oracle.QueriesOracle.keep.Goals as goal
 
 pub returns-clause-asked : goal.returns-clause-asked
 returns-clause-asked g c = (

@@ -1,6 +1,6 @@
 use Rattle.std.proofs.Common.{inr, refl}
 use Rattle.lois_deciders.specs.Reached.{at_once, after}
-use Rattle.lois_interp.proofs.oracle.AskingSteps.join.Goals as goal
+use Rattle.lois_interp.proofs.oracle.QueriesOracle.join.Goals as goal
 
 pub returns-clause-asked : goal.returns-clause-asked
 returns-clause-asked g c = (
