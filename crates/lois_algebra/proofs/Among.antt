@@ -8,7 +8,7 @@ use Rattle.lois_base.specs.Validity.{AdmitsItems, ItemsHaveBoundedWidths}
 use Rattle.lois_base.specs.Values.{PointValue, point, IsIn}
 use Rattle.lois_base.specs.declared.guards.Lit.{Lit}
 use Rattle.lois_relate.proofs.Sets.{some_is_member}
-use Rattle.lois_algebra.specs.Gathered.{IsAmong, IsMadeBy, IsPut}
+use Rattle.lois_algebra.specs.Gathered.{IsAmong, IsCompMember, IsPut}
 
 pub among_in : (ks : CompsD) (c : List Atom) (w : PointValue) → IsAmong ks c w ↔ IsIn w (point (coll ks) c)
 among_in ks c w = some_is_member w.term_of w.choice ks c
@@ -23,10 +23,10 @@ module _ (c : List Atom) (w : PointValue) where
         λ h. elim h [ inl p ↦ elim p [ inl q ↦ inl q | inr q ↦ inr (rest.1 (inl q)) ] | inr p ↦ inr (rest.1 (inr p)) ],
       )
 
-  among_one : (k : CompD) → IsAmong (comps_of (k ∷ [])) c w ↔ IsMadeBy k c w
+  among_one : (k : CompD) → IsAmong (comps_of (k ∷ [])) c w ↔ IsCompMember k c w
   among_one k = (λ h. elim h [ inl p ↦ p | inr p ↦ absurd p ], λ h. inl h)
 
-  pub among_pushed : (ks : List CompD) (k : CompD) → IsAmong (comps_of (ks ++ k ∷ [])) c w ↔ (IsAmong (comps_of ks) c w ⊎ IsMadeBy k c w)
+  pub among_pushed : (ks : List CompD) (k : CompD) → IsAmong (comps_of (ks ++ k ∷ [])) c w ↔ (IsAmong (comps_of ks) c w ⊎ IsCompMember k c w)
   among_pushed ks k =
       let both = among_append ks (k ∷ []) in
       let one = among_one k in (
@@ -55,7 +55,7 @@ is_put_pushed k ks after e = subst (λ z. IsPut k (comps_of ks) (comps_of z)) (s
   widths = λ h g. widths-append ks (k ∷ []) h (g, tt);
 })
 
-makes_nothing : (m : ℕ) (g : List (List Lit)) (t : TermD) (c : List Atom) (w : PointValue) → length g ≡ 0 → IsMadeBy (comp m g t) c w → ⊥
+makes_nothing : (m : ℕ) (g : List (List Lit)) (t : TermD) (c : List Atom) (w : PointValue) → length g ≡ 0 → IsCompMember (comp m g t) c w → ⊥
 makes_nothing m [] t c w l (e, x, s) = false≢true x.guard
 makes_nothing m (k ∷ g) t c w l h = absurd (omega arith)
 

@@ -15,9 +15,9 @@ use Rattle.lois_base.proofs.Members.{same_in, same_refl}
 use Rattle.lois_base.proofs.Truths.{holds_longer}
 use Rattle.lois_base.proofs.Connectives.{both_true}
 use Rattle.lois_relate.proofs.Parts.{comp_has}
-use Rattle.lois_terms.specs.Guarded.{IsSet}
+use Rattle.lois_terms.specs.Guarded.{IsColl}
 use Rattle.lois_base.proofs.Validity.{fits_longer}
-use Rattle.lois_algebra.specs.Gathered.{IsAmong, IsMadeBy, IsWithin, IsInMember, IsInSome, IsPut, Gathers, GathersItems}
+use Rattle.lois_algebra.specs.Gathered.{IsAmong, IsCompMember, IsAmongExtended, IsInMember, IsInSome, IsPut, Gathers, GathersItems}
 use Rattle.lois_algebra.specs.Sets.{IsUnionOfMembers, ItemsAreSets, IsSetOfSets}
 use Rattle.lois_algebra.proofs.Among.{among_in}
 
@@ -28,20 +28,20 @@ module _ (n m : ℕ) (g : List (List Lit)) (guard_fits : ConstraintFits (n + m) 
       let l : length (c ++ e) ≡ n + m = omega (arith, length-append c e) in
       holds_longer (c ++ e) x g (subst (λ j. ConstraintFits j g) (sym l) guard_fits)
 
-  joined_back : (c : List Atom) → length c ≡ n → (w : PointValue) → ((e : List Atom) × IsExtension c m g e × IsMadeBy (comp k q t) (c ++ e) w) → IsMadeBy (comp (m + k) h t) c w
+  joined_back : (c : List Atom) → length c ≡ n → (w : PointValue) → ((e : List Atom) × IsExtension c m g e × IsCompMember (comp k q t) (c ++ e) w) → IsCompMember (comp (m + k) h t) c w
   joined_back c a w (e, y, (x, z, s)) =
       let regroup : (c ++ e) ++ x ≡ c ++ (e ++ x) = append_assoc c e x in
       let both : IsTrue (holds ((c ++ e) ++ x) h) = met ((c ++ e) ++ x) ∙ (both_true (holds ((c ++ e) ++ x) g) (holds ((c ++ e) ++ x) q)).1 (outer_holds c e x a y.count ∙ y.guard, z.guard) in
       (e ++ x, record { count = omega (arith, length-append e x, y.count, z.count); guard = subst (λ d. IsTrue (holds d h)) regroup both }, subst (λ d. SameAt t d w.term_of w.choice) regroup s)
 
-  joined_parts : (c e x : List Atom) → length c ≡ n → (w : PointValue) → length e ≡ m → length x ≡ k → IsTrue (holds (c ++ (e ++ x)) h) → SameAt t (c ++ (e ++ x)) w.term_of w.choice → (e : List Atom) × IsExtension c m g e × IsMadeBy (comp k q t) (c ++ e) w
+  joined_parts : (c e x : List Atom) → length c ≡ n → (w : PointValue) → length e ≡ m → length x ≡ k → IsTrue (holds (c ++ (e ++ x)) h) → SameAt t (c ++ (e ++ x)) w.term_of w.choice → (e : List Atom) × IsExtension c m g e × IsCompMember (comp k q t) (c ++ e) w
   joined_parts c e x a w l j y s =
       let regroup : (c ++ e) ++ x ≡ c ++ (e ++ x) = append_assoc c e x in
       let here : IsTrue (holds ((c ++ e) ++ x) h) = subst (λ d. IsTrue (holds d h)) (sym regroup) y in
       let both = (both_true (holds ((c ++ e) ++ x) g) (holds ((c ++ e) ++ x) q)).0 (sym (met ((c ++ e) ++ x)) ∙ here) in
       (e, record { count = l; guard = sym (outer_holds c e x a l) ∙ both.0 }, (x, record { count = j; guard = both.1 }, subst (λ d. SameAt t d w.term_of w.choice) (sym regroup) s))
 
-  joined_there : (c : List Atom) → length c ≡ n → (w : PointValue) → IsMadeBy (comp (m + k) h t) c w → (e : List Atom) × IsExtension c m g e × IsMadeBy (comp k q t) (c ++ e) w
+  joined_there : (c : List Atom) → length c ≡ n → (w : PointValue) → IsCompMember (comp (m + k) h t) c w → (e : List Atom) × IsExtension c m g e × IsCompMember (comp k q t) (c ++ e) w
   joined_there c a w (e, y, s) =
       let whole_is : take m e ++ drop m e ≡ e = take_and_drop e in
       let l : length (take m e) ≡ m = take_length e (omega (arith, y.count)) in
@@ -67,7 +67,7 @@ joined_fits n m k g q h t guard fits met =
 -- ---- from one inner comprehension to the next
 -- `after` has the members of `before` and those of the inner comprehensions before the rest
 pub record ItemsSoFar (n m : ℕ) (g : List (List Lit)) (rest whole before after : CompsD) : Type 0 where
-  pub members : (c : List Atom) → length c ≡ n → (w : PointValue) → (IsAmong after c w ⊎ IsWithin m g rest c w) ↔ (IsAmong before c w ⊎ IsWithin m g whole c w)
+  pub members : (c : List Atom) → length c ≡ n → (w : PointValue) → (IsAmong after c w ⊎ IsAmongExtended m g rest c w) ↔ (IsAmong before c w ⊎ IsAmongExtended m g whole c w)
   pub levels : ItemsFit n before → ItemsFit n after
   pub operators : (o : Bool) → AdmitsConstraint o g → AdmitsItems o whole → AdmitsItems o before → AdmitsItems o after
   pub widths : ItemsHaveBoundedWidths whole → ItemsHaveBoundedWidths before → ItemsHaveBoundedWidths after
@@ -81,8 +81,8 @@ module _ (n m : ℕ) (g : List (List Lit)) where
     widths = λ h i. i;
   }
 
-  within_split : (rest rest' : CompsD) (q : CompD) → rest ≡ more q rest' → (c : List Atom) (w : PointValue) → IsWithin m g rest c w ↔ (((e : List Atom) × IsExtension c m g e × IsMadeBy q (c ++ e) w) ⊎ IsWithin m g rest' c w)
-  within_split rest rest' q e c w = subst (λ z. IsWithin m g z c w ↔ (((x : List Atom) × IsExtension c m g x × IsMadeBy q (c ++ x) w) ⊎ IsWithin m g rest' c w)) (sym e) (
+  within_split : (rest rest' : CompsD) (q : CompD) → rest ≡ more q rest' → (c : List Atom) (w : PointValue) → IsAmongExtended m g rest c w ↔ (((e : List Atom) × IsExtension c m g e × IsCompMember q (c ++ e) w) ⊎ IsAmongExtended m g rest' c w)
+  within_split rest rest' q e c w = subst (λ z. IsAmongExtended m g z c w ↔ (((x : List Atom) × IsExtension c m g x × IsCompMember q (c ++ x) w) ⊎ IsAmongExtended m g rest' c w)) (sym e) (
     λ h. elim h.2 [ inl p ↦ inl (h.0, h.1, p) | inr p ↦ inr (h.0, h.1, p) ],
     λ h. elim h [ inl p ↦ (p.0, p.1, inl p.2) | inr p ↦ (p.0, p.1, inr p.2) ],
   )
@@ -95,21 +95,21 @@ module _ (n m : ℕ) (g : List (List Lit)) where
     widths = λ x y. put.widths (so_far.widths x y) (widths x);
   }
     where
-      there : (c : List Atom) → length c ≡ n → (w : PointValue) → IsAmong after' c w ⊎ IsWithin m g rest' c w → IsAmong before c w ⊎ IsWithin m g whole c w
+      there : (c : List Atom) → length c ≡ n → (w : PointValue) → IsAmong after' c w ⊎ IsAmongExtended m g rest' c w → IsAmong before c w ⊎ IsAmongExtended m g whole c w
       there c a w (inl x) = elim ((put.members c w).0 x) [
         | inl p ↦ (so_far.members c a w).0 (inl p)
         | inr p ↦ (so_far.members c a w).0 (inr ((within_split rest rest' (comp k q t) e c w).1 (inl (joined_there n m g guard_fits k q h t met c a w p))))
       ]
       there c a w (inr x) = (so_far.members c a w).0 (inr ((within_split rest rest' (comp k q t) e c w).1 (inr x)))
 
-      back : (c : List Atom) → length c ≡ n → (w : PointValue) → IsAmong after c w ⊎ IsWithin m g rest c w → IsAmong after' c w ⊎ IsWithin m g rest' c w
+      back : (c : List Atom) → length c ≡ n → (w : PointValue) → IsAmong after c w ⊎ IsAmongExtended m g rest c w → IsAmong after' c w ⊎ IsAmongExtended m g rest' c w
       back c a w (inl x) = inl ((put.members c w).1 (inl x))
       back c a w (inr x) = elim ((within_split rest rest' (comp k q t) e c w).0 x) [
         | inl p ↦ inl ((put.members c w).1 (inr (joined_back n m g guard_fits k q h t met c a w p)))
         | inr p ↦ inr p
       ]
 
-  no_more_within : (rest : CompsD) → rest ≡ no_comps → (c : List Atom) (w : PointValue) → IsWithin m g rest c w → ⊥
+  no_more_within : (rest : CompsD) → rest ≡ no_comps → (c : List Atom) (w : PointValue) → IsAmongExtended m g rest c w → ⊥
   no_more_within rest e c w h = subst (λ z. IsAmong z (c ++ h.0) w) e h.2
 
   pub items_end : (rest whole before after : CompsD) → rest ≡ no_comps → ItemsSoFar n m g rest whole before after → GathersItems n m g whole before after
@@ -214,7 +214,7 @@ gathered_end n rest whole after e so_far c a w =
 
 -- ---- sets of sets
 abbrev IsSetItem : CompD → Type 0
-IsSetItem (comp m g t) = IsSet t
+IsSetItem (comp m g t) = IsColl t
 
 pub set_items : (t : TermD) (ks : CompsD) → t ≡ coll ks → IsSetOfSets t → ItemsAreSets ks
 set_items t ks e (qs, d, h) =
@@ -222,7 +222,7 @@ set_items t ks e (qs, d, h) =
     let own : ks ≡ qs = cc in
     subst ItemsAreSets (sym own) h
 
-pub item_is_set : (ks : List Comp) (vs : List CompD) (i : ℕ) (k : Comp) → map comp_of ks ≡ vs → i < length ks → k ≡ get_or ks i k → ItemsAreSets (comps_of vs) → IsSet (tree k.item)
+pub item_is_set : (ks : List Comp) (vs : List CompD) (i : ℕ) (k : Comp) → map comp_of ks ≡ vs → i < length ks → k ≡ get_or ks i k → ItemsAreSets (comps_of vs) → IsColl (tree k.item)
 item_is_set ks vs i k m l e h = comp_has IsSetItem ItemsAreSets split ks vs i k m l e h
   where
     split : (q : CompD) (qs : CompsD) → ItemsAreSets (more q qs) → IsSetItem q × ItemsAreSets qs

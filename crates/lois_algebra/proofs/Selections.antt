@@ -13,26 +13,26 @@ use Rattle.lois_base.proofs.Members.{same_sym, in_same}
 use Rattle.lois_elim.specs.Bound.{AgreesWith}
 use Rattle.lois_base.proofs.Connectives.{both_true, not_true}
 use Rattle.lois_relate.specs.Relations.{HoldsWhereItemIn}
-use Rattle.lois_algebra.specs.Gathered.{IsAmong, IsMadeBy, IsPut}
-use Rattle.lois_algebra.specs.Selected.{IsWanted, IsSelection, IsSelectedGuard, IsNarrowed}
+use Rattle.lois_algebra.specs.Gathered.{IsAmong, IsCompMember, IsPut}
+use Rattle.lois_algebra.specs.Selected.{HasTruthValue, IsSelection, IsSelectedGuard, IsSelectedPart}
 use Rattle.lois_algebra.proofs.Among.{among_in}
 
 -- ---- the guard
-wanted_there : (b : Bool) (P Q : Type 0) → P ↔ Q → IsWanted b P → IsWanted b Q
+wanted_there : (b : Bool) (P Q : Type 0) → P ↔ Q → HasTruthValue b P → HasTruthValue b Q
 wanted_there true P Q h p = h.0 p
 wanted_there false P Q h p = λ q. p (h.1 q)
 
-wanted_back : (b : Bool) (P Q : Type 0) → P ↔ Q → IsWanted b Q → IsWanted b P
+wanted_back : (b : Bool) (P Q : Type 0) → P ↔ Q → HasTruthValue b Q → HasTruthValue b P
 wanted_back true P Q h p = h.1 p
 wanted_back false P Q h p = λ q. p (h.0 q)
 
-pub narrowed_found : (wanted : Bool) (g q r : List (List Lit)) → wanted ≡ true → ((d : List Atom) → holds d r ≡ (holds d g && holds d q)) → IsNarrowed wanted g q r
-narrowed_found wanted g q r e met = subst (λ b. IsNarrowed b g q r) (sym e) (λ d.
+pub narrowed_found : (wanted : Bool) (g q r : List (List Lit)) → wanted ≡ true → ((d : List Atom) → holds d r ≡ (holds d g && holds d q)) → IsSelectedPart wanted g q r
+narrowed_found wanted g q r e met = subst (λ b. IsSelectedPart b g q r) (sym e) (λ d.
     let both = both_true (holds d g) (holds d q) in
     (λ p. both.0 (sym (met d) ∙ p), λ p. met d ∙ both.1 p))
 
-pub narrowed_others : (wanted : Bool) (g q r : List (List Lit)) → wanted ≡ false → ((d : List Atom) → holds d r ≡ (holds d g && not (holds d q))) → IsNarrowed wanted g q r
-narrowed_others wanted g q r e met = subst (λ b. IsNarrowed b g q r) (sym e) (λ d.
+pub narrowed_others : (wanted : Bool) (g q r : List (List Lit)) → wanted ≡ false → ((d : List Atom) → holds d r ≡ (holds d g && not (holds d q))) → IsSelectedPart wanted g q r
+narrowed_others wanted g q r e met = subst (λ b. IsSelectedPart b g q r) (sym e) (λ d.
     let both = both_true (holds d g) (not (holds d q)) in
     let absent = not_true (holds d q) in (
       λ p. let x = both.0 (sym (met d) ∙ p) in (x.0, absent.0 x.1),
@@ -49,7 +49,7 @@ module _ (n m : ℕ) (ks : CompsD) (item : TermD) (f : FormulaD) (q : List (List
         λ h. one.1 (two.1 ((h.0).term_of, (h.0).choice, h.1, h.2)),
       )
 
-  pub selects : (wanted : Bool) (g h : List (List Lit)) → IsNarrowed wanted g q h → IsSelectedGuard n m wanted g item (coll ks) h
+  pub selects : (wanted : Bool) (g h : List (List Lit)) → IsSelectedPart wanted g q h → IsSelectedGuard n m wanted g item (coll ks) h
   selects wanted g h narrowed c e k l =
       let here = narrowed (c ++ e) in
       let found = found_is c e k l in (
@@ -58,12 +58,12 @@ module _ (n m : ℕ) (ks : CompsD) (item : TermD) (f : FormulaD) (q : List (List
       )
 
 -- ---- the members
-wanted_same : (b : Bool) (u w v : PointValue) → IsSame u w → IsWanted b (IsIn u v) → IsWanted b (IsIn w v)
+wanted_same : (b : Bool) (u w v : PointValue) → IsSame u w → HasTruthValue b (IsIn u v) → HasTruthValue b (IsIn w v)
 wanted_same true u w v s h = in_same u w v s h
 wanted_same false u w v s h = λ p. h (in_same w u v (same_sym u w s) p)
 
 module _ (n : ℕ) (wanted : Bool) (t : TermD) where
-  one_selected : (m : ℕ) (g h : List (List Lit)) (item : TermD) → IsSelectedGuard n m wanted g item t h → (c : List Atom) → length c ≡ n → (w : PointValue) → IsMadeBy (comp m h item) c w ↔ (IsMadeBy (comp m g item) c w × IsWanted wanted (IsIn w (point t c)))
+  one_selected : (m : ℕ) (g h : List (List Lit)) (item : TermD) → IsSelectedGuard n m wanted g item t h → (c : List Atom) → length c ≡ n → (w : PointValue) → IsCompMember (comp m h item) c w ↔ (IsCompMember (comp m g item) c w × HasTruthValue wanted (IsIn w (point t c)))
   one_selected m g h item selects c k w = (
     λ x. let p = (selects c x.0 k (x.1).count).0 (x.1).guard in
         ((x.0, record { count = (x.1).count; guard = p.0 }, x.2), wanted_same wanted (point item (c ++ x.0)) w (point t c) x.2 p.1),
@@ -75,7 +75,7 @@ module _ (n : ℕ) (wanted : Bool) (t : TermD) where
 
   -- `kept` has what is wanted of the members before the rest
   pub record SelectedSoFar (rest whole kept : CompsD) : Type 0 where
-    pub members : (c : List Atom) → length c ≡ n → (w : PointValue) → (IsAmong kept c w ⊎ (IsAmong rest c w × IsWanted wanted (IsIn w (point t c)))) ↔ (IsAmong whole c w × IsWanted wanted (IsIn w (point t c)))
+    pub members : (c : List Atom) → length c ≡ n → (w : PointValue) → (IsAmong kept c w ⊎ (IsAmong rest c w × HasTruthValue wanted (IsIn w (point t c)))) ↔ (IsAmong whole c w × HasTruthValue wanted (IsIn w (point t c)))
     pub levels : ItemsFit n kept
     pub operators : (o : Bool) → AdmitsItems o whole → AdmitsTerm o t → AdmitsItems o kept
     pub widths : ItemsHaveBoundedWidths whole → ItemsHaveBoundedWidths kept
@@ -96,23 +96,23 @@ module _ (n : ℕ) (wanted : Bool) (t : TermD) where
     widths = λ x. put.widths (so_far.widths x) (widths x);
   }
     where
-      one : (c : List Atom) → length c ≡ n → (w : PointValue) → IsMadeBy (comp m h item) c w ↔ (IsMadeBy (comp m g item) c w × IsWanted wanted (IsIn w (point t c)))
+      one : (c : List Atom) → length c ≡ n → (w : PointValue) → IsCompMember (comp m h item) c w ↔ (IsCompMember (comp m g item) c w × HasTruthValue wanted (IsIn w (point t c)))
       one c k w = one_selected m g h item selects c k w
 
-      in_rest : (c : List Atom) (w : PointValue) → (IsMadeBy (comp m g item) c w ⊎ IsAmong rest' c w) → IsAmong rest c w
+      in_rest : (c : List Atom) (w : PointValue) → (IsCompMember (comp m g item) c w ⊎ IsAmong rest' c w) → IsAmong rest c w
       in_rest c w x = subst (λ z. IsAmong z c w) (sym e) x
 
-      of_rest : (c : List Atom) (w : PointValue) → IsAmong rest c w → IsMadeBy (comp m g item) c w ⊎ IsAmong rest' c w
+      of_rest : (c : List Atom) (w : PointValue) → IsAmong rest c w → IsCompMember (comp m g item) c w ⊎ IsAmong rest' c w
       of_rest c w x = subst (λ z. IsAmong z c w) e x
 
-      there : (c : List Atom) → length c ≡ n → (w : PointValue) → IsAmong kept' c w ⊎ (IsAmong rest' c w × IsWanted wanted (IsIn w (point t c))) → IsAmong whole c w × IsWanted wanted (IsIn w (point t c))
+      there : (c : List Atom) → length c ≡ n → (w : PointValue) → IsAmong kept' c w ⊎ (IsAmong rest' c w × HasTruthValue wanted (IsIn w (point t c))) → IsAmong whole c w × HasTruthValue wanted (IsIn w (point t c))
       there c k w (inl x) = elim ((put.members c w).0 x) [
         | inl p ↦ (so_far.members c k w).0 (inl p)
         | inr p ↦ let q = (one c k w).0 p in (so_far.members c k w).0 (inr (in_rest c w (inl q.0), q.1))
       ]
       there c k w (inr x) = (so_far.members c k w).0 (inr (in_rest c w (inr x.0), x.1))
 
-      back : (c : List Atom) → length c ≡ n → (w : PointValue) → IsAmong kept c w ⊎ (IsAmong rest c w × IsWanted wanted (IsIn w (point t c))) → IsAmong kept' c w ⊎ (IsAmong rest' c w × IsWanted wanted (IsIn w (point t c)))
+      back : (c : List Atom) → length c ≡ n → (w : PointValue) → IsAmong kept c w ⊎ (IsAmong rest c w × HasTruthValue wanted (IsIn w (point t c))) → IsAmong kept' c w ⊎ (IsAmong rest' c w × HasTruthValue wanted (IsIn w (point t c)))
       back c k w (inl x) = inl ((put.members c w).1 (inl x))
       back c k w (inr x) = elim (of_rest c w x.0) [
         | inl p ↦ inl ((put.members c w).1 (inr ((one c k w).1 (p, x.1))))

@@ -12,15 +12,15 @@ abbrev pub IsAmong : CompsD → List Atom → PointValue → Type 0
 IsAmong ks c w = SomeIsAt ks c w.term_of w.choice
 
 -- w is in the set with this comprehension alone
-abbrev pub IsMadeBy : CompD → List Atom → PointValue → Type 0
-IsMadeBy k c w = OneIsAt k c w.term_of w.choice
+abbrev pub IsCompMember : CompD → List Atom → PointValue → Type 0
+IsCompMember k c w = OneIsAt k c w.term_of w.choice
 
 -- w is in some member that a comprehension makes whose item is the set with the comprehensions qs
-abbrev pub IsWithin : ℕ → List (List Lit) → CompsD → List Atom → PointValue → Type 0
-IsWithin m g qs c w = (e : List Atom) × IsExtension c m g e × IsAmong qs (c ++ e) w
+abbrev pub IsAmongExtended : ℕ → List (List Lit) → CompsD → List Atom → PointValue → Type 0
+IsAmongExtended m g qs c w = (e : List Atom) × IsExtension c m g e × IsAmong qs (c ++ e) w
 
 abbrev pub IsInMember : CompD → List Atom → PointValue → Type 0
-IsInMember (comp m g (coll qs)) c w = IsWithin m g qs c w
+IsInMember (comp m g (coll qs)) c w = IsAmongExtended m g qs c w
 IsInMember _ c w = ⊥
 
 -- w is in some member of a set of sets
@@ -30,7 +30,7 @@ IsInSome (more k ks) c w = IsInMember k c w ⊎ IsInSome ks c w
 
 -- the list `after` has the members of `before` and those of k
 pub record IsPut (k : CompD) (before after : CompsD) : Type 0 where
-  pub members : (c : List Atom) (w : PointValue) → IsAmong after c w ↔ (IsAmong before c w ⊎ IsMadeBy k c w)
+  pub members : (c : List Atom) (w : PointValue) → IsAmong after c w ↔ (IsAmong before c w ⊎ IsCompMember k c w)
   pub levels : (n : ℕ) → ItemsFit n before → CompFits n k → ItemsFit n after
   pub operators : (o : Bool) → AdmitsItems o before → AdmitsComp o k → AdmitsItems o after
   pub widths : ItemsHaveBoundedWidths before → CompHasBoundedWidths k → ItemsHaveBoundedWidths after
@@ -44,7 +44,7 @@ pub record Gathers (n : ℕ) (k : CompD) (before after : CompsD) : Type 0 where
 
 -- the same, of a comprehension whose item is the set with the comprehensions qs
 pub record GathersItems (n m : ℕ) (g : List (List Lit)) (qs before after : CompsD) : Type 0 where
-  pub members : (c : List Atom) → length c ≡ n → (w : PointValue) → IsAmong after c w ↔ (IsAmong before c w ⊎ IsWithin m g qs c w)
+  pub members : (c : List Atom) → length c ≡ n → (w : PointValue) → IsAmong after c w ↔ (IsAmong before c w ⊎ IsAmongExtended m g qs c w)
   pub levels : ItemsFit n before → ItemsFit n after
   pub operators : (o : Bool) → AdmitsConstraint o g → AdmitsItems o qs → AdmitsItems o before → AdmitsItems o after
   pub widths : ItemsHaveBoundedWidths qs → ItemsHaveBoundedWidths before → ItemsHaveBoundedWidths after

@@ -5,7 +5,7 @@ use Rattle.lois_base.specs.Data.{TermD, var, coll, comp, CompsD, no_comps, more}
 use Rattle.lois_base.specs.FormulaData.{FormulaD}
 use Rattle.lois_base.specs.FormulaTruth.{FormulaHolds}
 use Rattle.lois_base.specs.Values.{PointValue, point, IsIn, IsDeeper}
-use Rattle.lois_terms.specs.Guarded.{IsSet}
+use Rattle.lois_terms.specs.Guarded.{IsColl}
 
 -- at each choice r has exactly the members of s and those of t
 abbrev pub IsUnion : TermD → TermD → TermD → Type 0
@@ -37,7 +37,7 @@ IsUnionOfMembers n s r =
 -- each item of a set is a set
 abbrev pub ItemsAreSets : CompsD → Type 0
 ItemsAreSets no_comps = Unit {0}
-ItemsAreSets (more (comp m g t) ks) = IsSet t × ItemsAreSets ks
+ItemsAreSets (more (comp m g t) ks) = IsColl t × ItemsAreSets ks
 
 abbrev pub IsSetOfSets : TermD → Type 0
 IsSetOfSets t = (ks : CompsD) × (t ≡ coll ks) × ItemsAreSets ks

@@ -5,7 +5,7 @@ ghost use Rattle.lois_base.specs.Data.{coll, comps_of};
 ghost use Rattle.lois_base.specs.Fits.{ConstraintFits, Fits, CompFits, ItemsFit};
 ghost use Rattle.lois_base.specs.Tree.{tree, comp_of};
 ghost use Rattle.lois_base.specs.Validity.{AdmitsTerm, AdmitsItems, HasBoundedWidths, ItemsHaveBoundedWidths};
-ghost use Rattle.lois_terms.specs.Guarded.{IsSet};
+ghost use Rattle.lois_terms.specs.Guarded.{IsColl};
 ghost use Rattle.lois_algebra.specs.Gathered.{Gathers, GathersItems};
 ghost use Rattle.lois_algebra.specs.Sets.{IsUnionOfMembers, ItemsAreSets, IsSetOfSets};
 
@@ -19,7 +19,7 @@ pub fn collect_over(alloc: Global, s: &Term, size: usize) -> Result<Term, NoMemo
     requires fits { Fits size (tree s.now) }
     requires sets { IsSetOfSets (tree s.now) }
     ensures members { IfOk result (λ r. IsUnionOfMembers size (tree s.now) (tree r)) }
-    ensures set { IfOk result (λ r. IsSet (tree r)) }
+    ensures set { IfOk result (λ r. IsColl (tree r)) }
     ensures levels { IfOk result (λ r. Fits size (tree r)) }
     ensures operators { IfOk result (λ r. (ordered : Bool) → AdmitsTerm ordered (tree s.now) → AdmitsTerm ordered (tree r)) }
     ensures widths { IfOk result (λ r. HasBoundedWidths (tree s.now) → HasBoundedWidths (tree r)) }
@@ -48,7 +48,7 @@ fn collected(alloc: Global, comps: &Comps, size: usize) -> Result<Comps, NoMemor
 // One more comprehension for each of those inside of the item, for the binders of both.
 fn gather(alloc: Global, gathered: &mut Comps, comp: &Comp, size: usize) -> Result<(), NoMemory>
     requires fits { CompFits size (comp_of comp.now) }
-    requires set { IsSet (tree comp.now.item) }
+    requires set { IsColl (tree comp.now.item) }
     ensures { OnOk result (Gathers size (comp_of comp.now) (comps_of gathered.old) (comps_of gathered.new)) }
 {
     match &comp.item {

@@ -5,8 +5,8 @@ ghost use Rattle.lois_base.specs.Data.{coll, comps_of};
 ghost use Rattle.lois_base.specs.Fits.{ConstraintFits, Fits, CompFits, ItemsFit};
 ghost use Rattle.lois_base.specs.Tree.{tree, comp_of};
 ghost use Rattle.lois_base.specs.Validity.{AdmitsConstraint, AdmitsTerm, AdmitsComp, AdmitsItems, HasBoundedWidths, ItemsHaveBoundedWidths};
-ghost use Rattle.lois_terms.specs.Guarded.{IsSet};
-ghost use Rattle.lois_algebra.specs.Selected.{IsSelection, IsSelectedGuard, IsNarrowed};
+ghost use Rattle.lois_terms.specs.Guarded.{IsColl};
+ghost use Rattle.lois_algebra.specs.Selected.{IsSelection, IsSelectedGuard, IsSelectedPart};
 ghost use Rattle.lois_algebra.specs.Sets.{IsIntersection, IsDifference};
 
 use crate::putting::push_comp;
@@ -19,13 +19,13 @@ use std::alloc::Global;
 /// The set that has the members that both sets have. Errors: `NoMemory`, also where a level would pass the greatest usize.
 pub fn inter<T: Structure>(alloc: Global, s: &Term, t: &Term, size: usize) -> Result<Term, NoMemory>
     requires left { Fits size (tree s.now) }
-    requires left_set { IsSet (tree s.now) }
+    requires left_set { IsColl (tree s.now) }
     requires left_operators { AdmitsTerm T.ordered (tree s.now) }
     requires right { Fits size (tree t.now) }
-    requires right_set { IsSet (tree t.now) }
+    requires right_set { IsColl (tree t.now) }
     requires right_operators { AdmitsTerm T.ordered (tree t.now) }
     ensures members { IfOk result (λ r. IsIntersection size (tree s.now) (tree t.now) (tree r)) }
-    ensures set { IfOk result (λ r. IsSet (tree r)) }
+    ensures set { IfOk result (λ r. IsColl (tree r)) }
     ensures levels { IfOk result (λ r. Fits size (tree r)) }
     ensures operators { IfOk result (λ r. (ordered : Bool) → AdmitsTerm ordered (tree s.now) → AdmitsTerm ordered (tree t.now) → AdmitsTerm ordered (tree r)) }
     ensures widths { IfOk result (λ r. HasBoundedWidths (tree s.now) → HasBoundedWidths (tree r)) }
@@ -41,13 +41,13 @@ pub fn inter<T: Structure>(alloc: Global, s: &Term, t: &Term, size: usize) -> Re
 /// The set that has the members of `s` that aren't in `t`. Errors: `NoMemory`, also where a level would pass the greatest usize.
 pub fn minus<T: Structure>(alloc: Global, s: &Term, t: &Term, size: usize) -> Result<Term, NoMemory>
     requires left { Fits size (tree s.now) }
-    requires left_set { IsSet (tree s.now) }
+    requires left_set { IsColl (tree s.now) }
     requires left_operators { AdmitsTerm T.ordered (tree s.now) }
     requires right { Fits size (tree t.now) }
-    requires right_set { IsSet (tree t.now) }
+    requires right_set { IsColl (tree t.now) }
     requires right_operators { AdmitsTerm T.ordered (tree t.now) }
     ensures members { IfOk result (λ r. IsDifference size (tree s.now) (tree t.now) (tree r)) }
-    ensures set { IfOk result (λ r. IsSet (tree r)) }
+    ensures set { IfOk result (λ r. IsColl (tree r)) }
     ensures levels { IfOk result (λ r. Fits size (tree r)) }
     ensures operators { IfOk result (λ r. (ordered : Bool) → AdmitsTerm ordered (tree s.now) → AdmitsTerm ordered (tree t.now) → AdmitsTerm ordered (tree r)) }
     ensures widths { IfOk result (λ r. HasBoundedWidths (tree s.now) → HasBoundedWidths (tree r)) }
@@ -122,7 +122,7 @@ fn narrowed(
     found: &Constraint,
     wanted: bool,
 ) -> Result<Constraint, NoMemory>
-    ensures truth { IfOk result (IsNarrowed wanted guard.now found.now) }
+    ensures truth { IfOk result (IsSelectedPart wanted guard.now found.now) }
     ensures fits { IfOk result (λ r. (n : ℕ) → ConstraintFits n guard.now → ConstraintFits n found.now → ConstraintFits n r) }
     ensures operators { IfOk result (λ r. (ordered : Bool) → AdmitsConstraint ordered guard.now → AdmitsConstraint ordered found.now → AdmitsConstraint ordered r) }
 {

@@ -4,7 +4,7 @@ ghost use Rattle.std.specs.Prelude.{◌≡◌, ℕ, ◌+◌, ◌<◌, ◌^◌, �
 ghost use Rattle.lois_base.specs.Fits.{Fits};
 ghost use Rattle.lois_base.specs.Tree.{tree, comp_of};
 ghost use Rattle.lois_base.specs.Validity.{AdmitsTerm, HasBoundedWidths};
-ghost use Rattle.lois_terms.specs.Guarded.{IsSet};
+ghost use Rattle.lois_terms.specs.Guarded.{IsColl};
 ghost use Rattle.lois_algebra.specs.Sets.{IsUnion, HasAllAtoms};
 
 use lois_base::{Comp, Comps, Constraint, NoMemory, Term};
@@ -12,10 +12,10 @@ use std::alloc::Global;
 
 /// The set that has the members of either of the two sets.
 pub fn union(alloc: Global, s: &Term, t: &Term) -> Result<Term, NoMemory>
-    requires left { IsSet (tree s.now) }
-    requires right { IsSet (tree t.now) }
+    requires left { IsColl (tree s.now) }
+    requires right { IsColl (tree t.now) }
     ensures members { IfOk result (λ r. IsUnion (tree s.now) (tree t.now) (tree r)) }
-    ensures set { IfOk result (λ r. IsSet (tree r)) }
+    ensures set { IfOk result (λ r. IsColl (tree r)) }
     ensures levels { IfOk result (λ r. (n : ℕ) → Fits n (tree s.now) → Fits n (tree t.now) → Fits n (tree r)) }
     ensures operators { IfOk result (λ r. (ordered : Bool) → AdmitsTerm ordered (tree s.now) → AdmitsTerm ordered (tree t.now) → AdmitsTerm ordered (tree r)) }
     ensures widths { IfOk result (λ r. HasBoundedWidths (tree s.now) → HasBoundedWidths (tree t.now) → HasBoundedWidths (tree r)) }
@@ -43,7 +43,7 @@ fn add_all(alloc: Global, comps: &mut Comps, others: &Comps) -> Result<(), NoMem
 pub fn all_atoms(alloc: Global, size: usize) -> Result<Term, NoMemory>
     requires { size + 1 < 2 ^ 64 }
     ensures members { IfOk result (λ r. HasAllAtoms size (tree r)) }
-    ensures set { IfOk result (λ r. IsSet (tree r)) }
+    ensures set { IfOk result (λ r. IsColl (tree r)) }
     ensures levels { IfOk result (λ r. Fits size (tree r)) }
     ensures operators { IfOk result (λ r. (ordered : Bool) → AdmitsTerm ordered (tree r)) }
     ensures widths { IfOk result (λ r. HasBoundedWidths (tree r)) }

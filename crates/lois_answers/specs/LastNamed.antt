@@ -8,9 +8,9 @@ last_line (l ∷ []) = Some l
 last_line (l ∷ next ∷ lines) = last_line (next ∷ lines)
 
 -- the lines that have the name
-abbrev pub named : List ℕ → List LineD → List LineD
-named name lines = filter (λ l. bytes_eq l.name name) lines
+abbrev pub lines_named : List ℕ → List LineD → List LineD
+lines_named name lines = filter (λ l. bytes_eq l.name name) lines
 
 -- the last of them, if there is one
 abbrev pub last_named : List ℕ → List LineD → Option LineD
-last_named name lines = last_line (named name lines)
+last_named name lines = last_line (lines_named name lines)

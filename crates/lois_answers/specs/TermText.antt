@@ -16,8 +16,8 @@ abbrev pub level_text : ℕ → List ℕ
 level_text i = codes "$" ++ decimal i
 
 -- A level of a parameter is spelled by the parameter's name.
-abbrev pub operand_text : List (List ℕ) → ℕ → List ℕ
-operand_text parameters i = slice_index_or parameters i (level_text i)
+abbrev pub level_or_name_text : List (List ℕ) → ℕ → List ℕ
+level_or_name_text parameters i = slice_index_or parameters i (level_text i)
 
 abbrev pub op_text : Op → List ℕ
 op_text Eq = codes "="
@@ -25,7 +25,7 @@ op_text Ne = codes "!="
 op_text Lt = codes "<"
 
 abbrev pub literal_text : List (List ℕ) → Lit → List ℕ
-literal_text parameters l = operand_text parameters l.left ++ op_text l.op ++ operand_text parameters l.right
+literal_text parameters l = level_or_name_text parameters l.left ++ op_text l.op ++ level_or_name_text parameters l.right
 
 abbrev pub cube_text : List (List ℕ) → List Lit → List ℕ
 cube_text parameters [] = codes "true"
@@ -53,7 +53,7 @@ guard_text parameters g = codes " if " ++ constraint_text parameters g
 -- a term inside n levels
 abbrev mutual
   pub term_text : List (List ℕ) → ℕ → TermD → List ℕ
-  term_text parameters n (var i) = operand_text parameters i
+  term_text parameters n (var i) = level_or_name_text parameters i
   term_text parameters n (tag t) = codes "'" ++ t
   term_text parameters n (tup ts) = codes "(" ++ joined (codes ", ") (part_texts parameters n ts) ++ codes ")"
   term_text parameters n (coll cs) = codes "{" ++ joined (codes ", ") (item_texts parameters n cs) ++ codes "}"

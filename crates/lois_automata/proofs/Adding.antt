@@ -5,7 +5,7 @@ use Rattle.lois_base.specs.Data.{CompD, CompsD, no_comps, more, coll}
 use Rattle.lois_base.specs.Fits.{CompFits, ItemsFit}
 use Rattle.lois_base.specs.Validity.{AdmitsComp, AdmitsItems, CompHasBoundedWidths, ItemsHaveBoundedWidths}
 use Rattle.lois_base.specs.Values.{PointValue, point, IsIn}
-use Rattle.lois_algebra.specs.Gathered.{IsAmong, IsMadeBy, IsPut}
+use Rattle.lois_algebra.specs.Gathered.{IsAmong, IsCompMember, IsPut}
 use Rattle.lois_algebra.proofs.Among.{among_in}
 use Rattle.lois_automata.specs.Adding.{Adds, IsMadeOfOne, IsMadeOfTwo}
 
@@ -20,7 +20,7 @@ adds_nothing n W F A U before never = record {
 
 -- one comprehension is put into the list
 pub added_put : (n : ℕ) (k : CompD) (W : List Atom → PointValue → Type 0) (F : Type 0) (A : Bool → Type 0) (U : Type 0) (before after : CompsD) → IsPut k before after →
-    ((c : List Atom) → length c ≡ n → (w : PointValue) → IsMadeBy k c w ↔ W c w) → (F → CompFits n k) → ((o : Bool) → A o → AdmitsComp o k) → (U → CompHasBoundedWidths k) → Adds n W F A U before after
+    ((c : List Atom) → length c ≡ n → (w : PointValue) → IsCompMember k c w ↔ W c w) → (F → CompFits n k) → ((o : Bool) → A o → AdmitsComp o k) → (U → CompHasBoundedWidths k) → Adds n W F A U before after
 added_put n k W F A U before after put same fits admits usual = record {
   members = λ c l w.
       let pushed = put.members c w in
@@ -101,8 +101,8 @@ added_members n W F A U made h c l w =
 -- ---- what is made of one value
 module _ (R : List Atom → PointValue → PointValue → Type 0) where
   pub one_split : (rest next : CompsD) (k : CompD) → rest ≡ more k next → (c : List Atom) (w : PointValue) →
-      IsMadeOfOne (R c) (IsAmong rest c) w ↔ (IsMadeOfOne (R c) (IsMadeBy k c) w ⊎ IsMadeOfOne (R c) (IsAmong next c) w)
-  one_split rest next k e c w = subst (λ z. IsMadeOfOne (R c) (IsAmong z c) w ↔ (IsMadeOfOne (R c) (IsMadeBy k c) w ⊎ IsMadeOfOne (R c) (IsAmong next c) w)) (sym e) (
+      IsMadeOfOne (R c) (IsAmong rest c) w ↔ (IsMadeOfOne (R c) (IsCompMember k c) w ⊎ IsMadeOfOne (R c) (IsAmong next c) w)
+  one_split rest next k e c w = subst (λ z. IsMadeOfOne (R c) (IsAmong z c) w ↔ (IsMadeOfOne (R c) (IsCompMember k c) w ⊎ IsMadeOfOne (R c) (IsAmong next c) w)) (sym e) (
     λ h. elim h.1 [
       | inl q ↦ inl (h.0, q, h.2)
       | inr q ↦ inr (h.0, q, h.2)
@@ -125,8 +125,8 @@ module _ (R : List Atom → PointValue → PointValue → Type 0) where
 -- ---- what is made of two values
 module _ (R : PointValue → PointValue → PointValue → Type 0) where
   pub second_split : (P : PointValue → Type 0) (rest next : CompsD) (k : CompD) → rest ≡ more k next → (c : List Atom) (w : PointValue) →
-      IsMadeOfTwo R P (IsAmong rest c) w ↔ (IsMadeOfTwo R P (IsMadeBy k c) w ⊎ IsMadeOfTwo R P (IsAmong next c) w)
-  second_split P rest next k e c w = subst (λ z. IsMadeOfTwo R P (IsAmong z c) w ↔ (IsMadeOfTwo R P (IsMadeBy k c) w ⊎ IsMadeOfTwo R P (IsAmong next c) w)) (sym e) (
+      IsMadeOfTwo R P (IsAmong rest c) w ↔ (IsMadeOfTwo R P (IsCompMember k c) w ⊎ IsMadeOfTwo R P (IsAmong next c) w)
+  second_split P rest next k e c w = subst (λ z. IsMadeOfTwo R P (IsAmong z c) w ↔ (IsMadeOfTwo R P (IsCompMember k c) w ⊎ IsMadeOfTwo R P (IsAmong next c) w)) (sym e) (
     λ h. elim h.3 [
       | inl q ↦ inl (h.0, h.1, h.2, q, h.4)
       | inr q ↦ inr (h.0, h.1, h.2, q, h.4)
@@ -138,8 +138,8 @@ module _ (R : PointValue → PointValue → PointValue → Type 0) where
   )
 
   pub first_split : (Q : List Atom → PointValue → Type 0) (rest next : CompsD) (k : CompD) → rest ≡ more k next → (c : List Atom) (w : PointValue) →
-      IsMadeOfTwo R (IsAmong rest c) (Q c) w ↔ (IsMadeOfTwo R (IsMadeBy k c) (Q c) w ⊎ IsMadeOfTwo R (IsAmong next c) (Q c) w)
-  first_split Q rest next k e c w = subst (λ z. IsMadeOfTwo R (IsAmong z c) (Q c) w ↔ (IsMadeOfTwo R (IsMadeBy k c) (Q c) w ⊎ IsMadeOfTwo R (IsAmong next c) (Q c) w)) (sym e) (
+      IsMadeOfTwo R (IsAmong rest c) (Q c) w ↔ (IsMadeOfTwo R (IsCompMember k c) (Q c) w ⊎ IsMadeOfTwo R (IsAmong next c) (Q c) w)
+  first_split Q rest next k e c w = subst (λ z. IsMadeOfTwo R (IsAmong z c) (Q c) w ↔ (IsMadeOfTwo R (IsCompMember k c) (Q c) w ⊎ IsMadeOfTwo R (IsAmong next c) (Q c) w)) (sym e) (
     λ h. elim h.2 [
       | inl q ↦ inl (h.0, h.1, q, h.3, h.4)
       | inr q ↦ inr (h.0, h.1, q, h.3, h.4)

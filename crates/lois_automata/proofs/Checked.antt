@@ -13,14 +13,14 @@ use Rattle.lois_deciders.specs.Satisfaction.{IsCounterexample}
 use Rattle.lois_meaning.specs.Automata.{IsPair, IsTriple, HasStep, IsDeterministic, IsComplete}
 use Rattle.lois_meaning.proofs.Operations.{pair_exists, pair_both, triple_both, step_move}
 use Rattle.lois_automata.specs.Built.{ArePairs}
-use Rattle.lois_automata.specs.Projections.{five_of, automaton_at, IsStep, IsProjected, AreProjected, AreNonTriples, AreTriples, ArePartsIn, HasOneAtMost, HasUniqueTargets, IsFunction, StepsJoin}
+use Rattle.lois_automata.specs.Projections.{five_of, automaton_at, HasStepIn, IsProjected, AreProjected, AreNonTriples, AreTriples, ArePartsIn, HasOneAtMost, HasUniqueTargets, IsFunction, StepsJoin}
 use Rattle.lois_automata.specs.declared.projections.Projection.{Projection}
 use Rattle.lois_automata.specs.declared.projections.Projection.TheVariants.{Source, Label, Target, Outgoing, Keyed}
 use Rattle.lois_automata.specs.declared.verdicts.Verdict.{Verdict}
 use Rattle.lois_automata.specs.declared.verdicts.Verdict.TheVariants.{Holds, Fails}
 use Rattle.lois_automata.specs.Machines.{IsAutomatonAt, IsDeterministicAt, IsCompleteAt}
 use Rattle.lois_automata.specs.Throughout.{HoldsThroughout, HoldsWhere, IsBreak, IsVerdictOn}
-use Rattle.lois_automata.proofs.Telling.{both_where}
+use Rattle.lois_automata.proofs.Tests.{both_where}
 use Rattle.lois_automata.proofs.FiveMachine.{five_equal, five_machine}
 use Rattle.lois_automata.proofs.Written.{triple_is}
 
@@ -86,7 +86,7 @@ steps_join states letters steps = (there, back)
     there : AreTriples steps × ((ArePartsIn Source steps states × ArePartsIn Target steps states) × ArePartsIn Label steps letters) → StepsJoin states letters steps
     there (triples, ((from, to), by)) x i =
         let h = triples x i in
-        let step : IsStep steps h.0 h.1 h.2 = (x, i, h.3) in
+        let step : HasStepIn steps h.0 h.1 h.2 = (x, i, h.3) in
         (h.0, h.1, h.2, h.3, from h.0 h.0 h.1 h.2 step (same_refl h.0), by h.1 h.0 h.1 h.2 step (same_refl h.1), to h.2 h.0 h.1 h.2 step (same_refl h.2))
 
     back : StepsJoin states letters steps → AreTriples steps × ((ArePartsIn Source steps states × ArePartsIn Target steps states) × ArePartsIn Label steps letters)
@@ -124,12 +124,12 @@ led_once n t keyed are c len = (there, back)
     back : HasUniqueTargets (point (coll t) c) → IsFunction (point keyed c)
     back single x y k v v' in_x in_y h h' = go ((are c len x).0 in_x) ((are c len y).0 in_y)
       where
-        go : ((p a q : PointValue) × IsStep (point (coll t) c) p a q × IsProjected Keyed x p a q) → ((p a q : PointValue) × IsStep (point (coll t) c) p a q × IsProjected Keyed y p a q) → IsSame v v'
+        go : ((p a q : PointValue) × HasStepIn (point (coll t) c) p a q × IsProjected Keyed x p a q) → ((p a q : PointValue) × HasStepIn (point (coll t) c) p a q × IsProjected Keyed y p a q) → IsSame v v'
         go (p, a, q, one, (k1, m1, w1)) (p', a', q', two, (k2, m2, w2)) =
             let first : IsSame k1 k × IsSame q v = pair_both x x k1 q k v (same_refl x) w1 h in
             let second : IsSame k2 k × IsSame q' v' = pair_both y y k2 q' k v' (same_refl y) w2 h' in
             let keys : IsSame p' p × IsSame a' a = pair_both k2 k1 p' a' p a (same_trans k2 k k1 second.0 (same_sym k1 k first.0)) m2 m1 in
-            let moved : IsStep (point (coll t) c) p a q' = step_move (automaton_at t t t t t c) p' a' q' p a q' keys.0 keys.1 (same_refl q') two in
+            let moved : HasStepIn (point (coll t) c) p a q' = step_move (automaton_at t t t t t c) p' a' q' p a q' keys.0 keys.1 (same_refl q') two in
             same_trans v q v' (same_sym q v first.1) (same_trans q q' v' (single p a q q' one moved) second.1)
 
 -- the pairs of members are a function where there is at most one
@@ -198,7 +198,7 @@ module _ (s l t i f : CompsD) (c : List Atom) where
               let x = pair_exists p a in
               go x.0 x.1 ((are c len x.0).0 (in_included x.0 (point wanted c) (point outgoing c) inside ((pairs c len x.0).1 (p, a, j, k, x.1))))
             where
-              go : (x : PointValue) → IsPair x p a → ((p' a' q : PointValue) × IsStep (point (coll t) c) p' a' q × IsPair x p' a') → (q : PointValue) × HasStep (automaton_at s l t i f c) p a q
+              go : (x : PointValue) → IsPair x p a → ((p' a' q : PointValue) × HasStepIn (point (coll t) c) p' a' q × IsPair x p' a') → (q : PointValue) × HasStep (automaton_at s l t i f c) p a q
               go x pair (p', a', q, step, pair') =
                   let both : IsSame p' p × IsSame a' a = pair_both x x p' a' p a (same_refl x) pair' pair in
                   (q, step_move (automaton_at s l t i f c) p' a' q p a q both.0 both.1 (same_refl q) step)

@@ -8,7 +8,7 @@ use Rattle.lois_base.specs.Truth.{holds}
 use Rattle.lois_base.specs.Values.{point, IsSame}
 use Rattle.lois_base.specs.declared.guards.Lit.{Lit}
 use Rattle.lois_base.proofs.Members.{same_refl, same_sym, same_trans}
-use Rattle.lois_algebra.specs.Gathered.{IsMadeBy}
+use Rattle.lois_algebra.specs.Gathered.{IsCompMember}
 use Rattle.lois_elim.specs.Bound.{HoldsForSomeMore}
 use Rattle.lois_base.proofs.Connectives.{both_true}
 use Rattle.lois_base.proofs.Order.{test}
@@ -22,8 +22,8 @@ use Rattle.lois_automata.proofs.Written.{pair_is, pair_here, pair_term}
 
 -- where one of the two makes no pairs, all pairs agree
 module _ (n : ℕ) (k q : CompD) (m : ℕ) (g : List (List Lit)) (one two : TermD) (beside : AreBeside n k q m g one two) where
-  pub first_is_no_pair : (r : List (List Lit)) → r ≡ [] → ((a b : TermD) → one ≡ pair_of a b → ⊥) → HoldsUnless n (λ c. AllAgree (IsMadeBy k c) (IsMadeBy q c)) r
-  first_is_no_pair r empty never = subst (λ z. HoldsUnless n (λ c. AllAgree (IsMadeBy k c) (IsMadeBy q c)) z) (sym empty) (λ c l. (
+  pub first_is_no_pair : (r : List (List Lit)) → r ≡ [] → ((a b : TermD) → one ≡ pair_of a b → ⊥) → HoldsUnless n (λ c. AllAgree (IsCompMember k c) (IsCompMember q c)) r
+  first_is_no_pair r empty never = subst (λ z. HoldsUnless n (λ c. AllAgree (IsCompMember k c) (IsCompMember q c)) z) (sym empty) (λ c l. (
     λ h. absurd (false≢true h),
     λ h x y a v v' i j p p'.
         let f = (beside.made c l x y).0 (i, j) in
@@ -31,8 +31,8 @@ module _ (n : ℕ) (k q : CompD) (m : ℕ) (g : List (List Lit)) (one two : Term
         absurd (never t.0 t.1 t.2),
   ))
 
-  pub second_is_no_pair : (r : List (List Lit)) → r ≡ [] → ((a b : TermD) → two ≡ pair_of a b → ⊥) → HoldsUnless n (λ c. AllAgree (IsMadeBy k c) (IsMadeBy q c)) r
-  second_is_no_pair r empty never = subst (λ z. HoldsUnless n (λ c. AllAgree (IsMadeBy k c) (IsMadeBy q c)) z) (sym empty) (λ c l. (
+  pub second_is_no_pair : (r : List (List Lit)) → r ≡ [] → ((a b : TermD) → two ≡ pair_of a b → ⊥) → HoldsUnless n (λ c. AllAgree (IsCompMember k c) (IsCompMember q c)) r
+  second_is_no_pair r empty never = subst (λ z. HoldsUnless n (λ c. AllAgree (IsCompMember k c) (IsCompMember q c)) z) (sym empty) (λ c l. (
     λ h. absurd (false≢true h),
     λ h x y a v v' i j p p'.
         let f = (beside.made c l x y).0 (i, j) in
@@ -51,7 +51,7 @@ module _ (n : ℕ) (k q : CompD) (m : ℕ) (g : List (List Lit)) (a b a' b' : Te
   false_not true h = absurd (false≢true (sym h))
   false_not false h = refl
 
-  met : (c : List Atom) → length c ≡ n → IsTrue (holds c r) → AllAgree (IsMadeBy k c) (IsMadeBy q c) → ⊥
+  met : (c : List Atom) → length c ≡ n → IsTrue (holds c r) → AllAgree (IsCompMember k c) (IsCompMember q c) → ⊥
   met c l h all =
       let found = (some c l).0 h in
       let e = found.0 in
@@ -67,7 +67,7 @@ module _ (n : ℕ) (k q : CompD) (m : ℕ) (g : List (List Lit)) (a b a' b' : Te
       let agree : IsSame (point b d) (point b' d) = all x y (point a d) (point b d) (point b' d) made.0 made.1 (pair_is a b d) other in
       false≢true (sym (not_false (holds d value) outer.1) ∙ (value_is d len).1 agree)
 
-  unmet : (c : List Atom) → length c ≡ n → IsFalse (holds c r) → AllAgree (IsMadeBy k c) (IsMadeBy q c)
+  unmet : (c : List Atom) → length c ≡ n → IsFalse (holds c r) → AllAgree (IsCompMember k c) (IsCompMember q c)
   unmet c l h x y w v v' i j p p' =
       let f = (beside.made c l x y).0 (i, j) in
       let e = f.0 in
@@ -84,5 +84,5 @@ module _ (n : ℕ) (k q : CompD) (m : ℕ) (g : List (List Lit)) (a b a' b' : Te
             absurd (false≢true (sym h ∙ (some c l).1 (e, f.1.count, held)))
       ]
 
-  pub differing : HoldsUnless n (λ c. AllAgree (IsMadeBy k c) (IsMadeBy q c)) r
+  pub differing : HoldsUnless n (λ c. AllAgree (IsCompMember k c) (IsCompMember q c)) r
   differing c l = (met c l, unmet c l)

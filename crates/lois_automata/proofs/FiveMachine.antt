@@ -7,7 +7,7 @@ use Rattle.lois_base.specs.Truth.{holds}
 use Rattle.lois_base.specs.Values.{PointValue, point, IsIn}
 use Rattle.lois_base.specs.declared.guards.Lit.{Lit}
 use Rattle.lois_algebra.specs.Sets.{IsIntersection, IsDifference}
-use Rattle.lois_terms.specs.Guarded.{IsSet}
+use Rattle.lois_terms.specs.Guarded.{IsColl}
 use Rattle.lois_meaning.specs.Automata.{Automaton, IsAutomatonOf, Accepts, IsDeterministic, IsComplete, IsProductOf}
 use Rattle.lois_meaning.specs.Kinds.{IsSetOf}
 use Rattle.lois_meaning.proofs.Operations.{products_accept_both, complements_accept_others}
@@ -121,7 +121,7 @@ module _ (s l t i f s' l' t' i' f' rs rl rt ri rf : CompsD) (n : ℕ) (c : List 
 -- ---- throughout the choices that a constraint admits
 module _ (n : ℕ) (u : List (List Lit)) (a r : TermD) (s l t i f : CompsD) (is : a ≡ five_of s l t i f) where
   -- the states, the letters, the steps and the initial states stay, and others are final
-  pub complement_throughout : (s2 l2 t2 i2 f2 : CompsD) (others : TermD) → HoldsThroughout n u (IsCompleteDeterministicAt a) → IsSet others → IsDifference n (coll s2) (coll f2) others → s2 ≡ s → l2 ≡ l → t2 ≡ t → i2 ≡ i → f2 ≡ f →
+  pub complement_throughout : (s2 l2 t2 i2 f2 : CompsD) (others : TermD) → HoldsThroughout n u (IsCompleteDeterministicAt a) → IsColl others → IsDifference n (coll s2) (coll f2) others → s2 ≡ s → l2 ≡ l → t2 ≡ t → i2 ≡ i → f2 ≡ f →
       r ≡ five_terms (coll s2) (coll l2) (coll t2) (coll i2) others → HoldsThroughout n u (IsComplementAt a r) × HoldsThroughout n u (AcceptsOthersAt a r)
   complement_throughout s2 l2 t2 i2 f2 others whole set difference es el et ei ef made =
       let final : CompsD = set.0 in
@@ -134,7 +134,7 @@ module _ (n : ℕ) (u : List (List Lit)) (a r : TermD) (s l t i f : CompsD) (is 
       (λ c k h. (both c k h).0, λ c k h. (both c k h).1)
 
   pub product_throughout : (b : TermD) (s' l' t' i' f' : CompsD) (states letters steps initial final : TermD) → b ≡ five_of s' l' t' i' f' → HoldsThroughout n u (IsAutomatonAt a) → HoldsThroughout n u (IsAutomatonAt b) →
-      IsSet states → IsSet letters → IsSet steps → IsSet initial → IsSet final →
+      IsColl states → IsColl letters → IsColl steps → IsColl initial → IsColl final →
       ArePairs n (coll s) (coll s') states → IsIntersection n (coll l) (coll l') letters → AreSideBySide n (coll t) (coll t') steps → ArePairs n (coll i) (coll i') initial → ArePairs n (coll f) (coll f') final →
       r ≡ five_terms states letters steps initial final → HoldsThroughout n u (IsProductAt a b r) × HoldsThroughout n u (AcceptsBothAt a b r)
   product_throughout b s' l' t' i' f' states letters steps initial final is' first second set1 set2 set3 set4 set5 pairs common along starts ends made =

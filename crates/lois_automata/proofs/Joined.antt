@@ -9,16 +9,16 @@ use Rattle.lois_base.specs.Validity.{AdmitsConstraint, AdmitsTerm, AdmitsComp, H
 use Rattle.lois_base.specs.Values.{PointValue, point, IsSame, IsIn, IsExtension}
 use Rattle.lois_base.specs.declared.guards.Lit.{Lit}
 use Rattle.lois_base.proofs.Members.{same_refl, same_sym, same_trans}
-use Rattle.lois_algebra.specs.Gathered.{IsAmong, IsMadeBy, IsPut}
+use Rattle.lois_algebra.specs.Gathered.{IsAmong, IsCompMember, IsPut}
 use Rattle.lois_base.proofs.Connectives.{both_true}
 use Rattle.lois_meaning.specs.Automata.{IsPair, IsTriple}
 use Rattle.lois_meaning.proofs.Automata.{triple_same}
 use Rattle.lois_meaning.proofs.Operations.{pair_same, pair_to}
 use Rattle.lois_automata.specs.Adding.{IsMadeOfTwo, IsPairOf, IsStepOf, AddsOfTwo}
 use Rattle.lois_automata.specs.Built.{AreBeside, ArePairs}
-use Rattle.lois_automata.specs.Projections.{IsStep, AreSideBySide, pair_of, triple_of}
+use Rattle.lois_automata.specs.Projections.{HasStepIn, AreSideBySide, pair_of, triple_of}
 use Rattle.lois_automata.proofs.Adding.{added_put, adds_nothing, two_among}
-use Rattle.lois_automata.proofs.Joints.{made_of_two}
+use Rattle.lois_automata.proofs.PairedComps.{made_of_two}
 use Rattle.lois_automata.proofs.Written.{pair_is, triple_is, triple_here, triple_term}
 use Rattle.lois_automata.proofs.Tuples.{pair_parts, triple_to, triples_same}
 
@@ -57,7 +57,7 @@ module _ (n : ℕ) (k q : CompD) (m : ℕ) (g : List (List Lit)) (one two : Term
   pub first_is_no_step : (before : CompsD) → ((a b e : TermD) → one ≡ triple_of a b e → ⊥) → AddsOfTwo IsStepOf n k q before before
   first_is_no_step before never = adds_nothing n _ _ _ _ before none
     where
-      none : (c : List Atom) → length c ≡ n → (w : PointValue) → IsMadeOfTwo IsStepOf (IsMadeBy k c) (IsMadeBy q c) w → ⊥
+      none : (c : List Atom) → length c ≡ n → (w : PointValue) → IsMadeOfTwo IsStepOf (IsCompMember k c) (IsCompMember q c) w → ⊥
       none c l w (x, y, i, j, (p, a, p', r, r', s, s', t, u, h, h', made)) =
           let f = (beside.made c l x y).0 (i, j) in
           no_triple one (c ++ f.0) x p a p' never f.2 t
@@ -65,7 +65,7 @@ module _ (n : ℕ) (k q : CompD) (m : ℕ) (g : List (List Lit)) (one two : Term
   pub second_is_no_step : (before : CompsD) → ((a b e : TermD) → two ≡ triple_of a b e → ⊥) → AddsOfTwo IsStepOf n k q before before
   second_is_no_step before never = adds_nothing n _ _ _ _ before none
     where
-      none : (c : List Atom) → length c ≡ n → (w : PointValue) → IsMadeOfTwo IsStepOf (IsMadeBy k c) (IsMadeBy q c) w → ⊥
+      none : (c : List Atom) → length c ≡ n → (w : PointValue) → IsMadeOfTwo IsStepOf (IsCompMember k c) (IsCompMember q c) w → ⊥
       none c l w (x, y, i, j, (p, a, p', r, r', s, s', t, u, h, h', made)) =
           let f = (beside.made c l x y).0 (i, j) in
           no_triple two (c ++ f.0) y r a r' never f.3 u
@@ -147,8 +147,8 @@ are_side_by_side n ks qs made same c l w = (
   λ h. (same c l w).1 ((two_among IsStepOf ks qs c w).1 (back h)),
 )
   where
-    there : IsMadeOfTwo IsStepOf (λ x. IsIn x (point (coll ks) c)) (λ y. IsIn y (point (coll qs) c)) w → (p a p' q q' x x' : PointValue) × IsStep (point (coll ks) c) p a p' × IsStep (point (coll qs) c) q a q' × IsPair x p q × IsPair x' p' q' × IsTriple w x a x'
+    there : IsMadeOfTwo IsStepOf (λ x. IsIn x (point (coll ks) c)) (λ y. IsIn y (point (coll qs) c)) w → (p a p' q q' x x' : PointValue) × HasStepIn (point (coll ks) c) p a p' × HasStepIn (point (coll qs) c) q a q' × IsPair x p q × IsPair x' p' q' × IsTriple w x a x'
     there (x, y, i, j, (p, a, p', q, q', s, s', t, u, h, h', r)) = (p, a, p', q, q', s, s', (x, i, t), (y, j, u), h, h', r)
 
-    back : ((p a p' q q' x x' : PointValue) × IsStep (point (coll ks) c) p a p' × IsStep (point (coll qs) c) q a q' × IsPair x p q × IsPair x' p' q' × IsTriple w x a x') → IsMadeOfTwo IsStepOf (λ x. IsIn x (point (coll ks) c)) (λ y. IsIn y (point (coll qs) c)) w
+    back : ((p a p' q q' x x' : PointValue) × HasStepIn (point (coll ks) c) p a p' × HasStepIn (point (coll qs) c) q a q' × IsPair x p q × IsPair x' p' q' × IsTriple w x a x') → IsMadeOfTwo IsStepOf (λ x. IsIn x (point (coll ks) c)) (λ y. IsIn y (point (coll qs) c)) w
     back (p, a, p', q, q', s, s', (x, i, t), (y, j, u), h, h', r) = (x, y, i, j, (p, a, p', q, q', s, s', t, u, h, h', r))

@@ -2,8 +2,8 @@ pub mod Tuples
 pub mod Written
 pub mod Adding
 pub mod Members
-pub mod Joints
-pub mod SpreadAfter
+pub mod PairedComps
+pub mod Propagated
 pub mod Loops
 pub mod Lists
 pub mod Families
@@ -16,7 +16,7 @@ pub mod Machines
 pub mod Shaping
 pub mod Joined
 pub mod FiveMachine
-pub mod Telling
+pub mod Tests
 pub mod Clashes
 pub mod Checked
 pub mod Apart

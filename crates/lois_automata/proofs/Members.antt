@@ -15,14 +15,14 @@ use Rattle.lois_base.proofs.Connectives.{both_true, either_true, not_true}
 use Rattle.lois_relate.specs.Relations.{HoldsWhereItemIn}
 use Rattle.lois_rounds.specs.Families.{MemberD}
 use Rattle.lois_terms.specs.Shifted.{IsShifted}
-use Rattle.lois_automata.specs.Built.{HoldsWhereIn, HoldsWhereAdmittedIn, IsFreshMember, IsJoinedMember}
+use Rattle.lois_automata.specs.Built.{HoldsWhereMember, HoldsWhereAdmittedIn, IsFreshMember, IsJoinedMember}
 
 pub raised_same : (n m : ℕ) (t raised : TermD) → IsShifted n m t raised → (c e : List Atom) → length c ≡ n → length e ≡ m → IsSame (point raised (c ++ e)) (point t c)
 raised_same n m t raised is_raised c e k l =
     let here : SameAt raised (c ++ (e ++ [])) t (c ++ []) = is_raised c e [] k l in
     subst (λ z. SameAt raised (c ++ z) t c) (append-nil e) (subst (λ z. SameAt raised (c ++ (e ++ [])) t z) (append-nil c) here)
 
-pub found_is : (n m : ℕ) (ks : CompsD) (item : TermD) (f : FormulaD) (q : List (List Lit)) → HoldsWhereItemIn n m item ks f → AgreesWith (n + m) f q → HoldsWhereIn n m item (coll ks) q
+pub found_is : (n m : ℕ) (ks : CompsD) (item : TermD) (f : FormulaD) (q : List (List Lit)) → HoldsWhereItemIn n m item ks f → AgreesWith (n + m) f q → HoldsWhereMember n m item (coll ks) q
 found_is n m ks item f q member agrees c e k l =
     let longer : length (c ++ e) ≡ n + m = omega (arith, length-append c e) in
     let one = agrees (c ++ e) longer in
@@ -35,7 +35,7 @@ found_is n m ks item f q member agrees c e k l =
 pub longer_is : (n : ℕ) (u : List (List Lit)) (c e : List Atom) → ConstraintFits n u → length c ≡ n → holds (c ++ e) u ≡ holds c u
 longer_is n u c e fits k = holds_longer c e u (subst (λ z. ConstraintFits z u) (sym k) fits)
 
-pub admitted_is : (n m : ℕ) (u g : List (List Lit)) (item t : TermD) (found admitted r : List (List Lit)) → ConstraintFits n u → HoldsWhereIn n m item t found →
+pub admitted_is : (n m : ℕ) (u g : List (List Lit)) (item t : TermD) (found admitted r : List (List Lit)) → ConstraintFits n u → HoldsWhereMember n m item t found →
     ((d : List Atom) → holds d admitted ≡ (holds d u && holds d g)) → ((d : List Atom) → holds d r ≡ (holds d admitted && holds d found)) → HoldsWhereAdmittedIn n m u g item t r
 admitted_is n m u g item t found admitted r fits is two one c e k l =
     let d = c ++ e in
@@ -50,7 +50,7 @@ admitted_is n m u g item t found admitted r fits is two one c e k l =
     )
 
 -- what is in the set nowhere is admitted in it nowhere
-pub admitted_nowhere : (n m : ℕ) (u g : List (List Lit)) (item t : TermD) (found : List (List Lit)) → length found ≡ 0 → HoldsWhereIn n m item t found → HoldsWhereAdmittedIn n m u g item t found
+pub admitted_nowhere : (n m : ℕ) (u g : List (List Lit)) (item t : TermD) (found : List (List Lit)) → length found ≡ 0 → HoldsWhereMember n m item t found → HoldsWhereAdmittedIn n m u g item t found
 admitted_nowhere n m u g item t [] none is c e k l = (λ h. absurd (false≢true h), λ h. (is c e k l).1 h.2)
 admitted_nowhere n m u g item t (cube ∷ found) none is c e k l = absurd (cc)
 

@@ -18,7 +18,7 @@ use Rattle.lois_automata.specs.Rounds.{RoundParameters, is_over, held, IsPropaga
 use Rattle.lois_automata.specs.RoundsLaw.{IsOver, is_over_true, equal_weakened}
 use Rattle.lois_automata.specs.Reachability.{graph_at, IsReachedBy, IsReached}
 use Rattle.lois_automata.specs.Throughout.{HoldsThroughout}
-use Rattle.lois_automata.proofs.SpreadAfter.{holds_reached}
+use Rattle.lois_automata.proofs.Propagated.{holds_reached}
 use Rattle.std.proofs.lemmas.List.{take-append-drop, length-take, length-drop}
 use Rattle.std.proofs.Common.{take, drop, arith}
 

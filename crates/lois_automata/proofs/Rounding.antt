@@ -22,7 +22,7 @@ use Rattle.lois_automata.specs.Built.{AreTargets, IsFreshMember, AreFreshMembers
 use Rattle.lois_automata.specs.Rounds.{RoundParameters, is_over, held, IsLedTo, IsPropagatedMember, ArePropagated, PropagatesIf, Propagates, IsSettledMember, AreSettled, IsSettled}
 use Rattle.lois_automata.specs.RoundsLaw.{IsOver, is_over_true, held_weaker, equal_weakened}
 use Rattle.lois_automata.specs.Reachability.{LeadsTo}
-use Rattle.lois_automata.proofs.SpreadAfter.{spreads_where, where_spreads}
+use Rattle.lois_automata.proofs.Propagated.{spreads_where, where_spreads}
 
 -- true or not
 decide : (a : Bool) → IsTrue a ⊎ (IsTrue a → ⊥)

@@ -7,10 +7,10 @@ use Rattle.lois_base.specs.Validity.{AdmitsTerm, HasBoundedWidths}
 use Rattle.lois_base.specs.Values.{PointValue, point, IsSame, IsIn}
 use Rattle.lois_base.specs.declared.guards.Lit.{Lit}
 use Rattle.lois_base.proofs.Members.{same_refl, same_sym, same_trans, in_same}
-use Rattle.lois_algebra.specs.Gathered.{IsAmong, IsMadeBy, IsPut}
+use Rattle.lois_algebra.specs.Gathered.{IsAmong, IsCompMember, IsPut}
 use Rattle.lois_meaning.specs.Automata.{IsTriple}
 use Rattle.lois_automata.specs.Adding.{IsMadeOfOne}
-use Rattle.lois_automata.specs.Projections.{IsProjected, IsStep, AreProjected, AreNonTriples, AddsOfOne, IsProjectionOf, IsNonTriple, pair_of, triple_of, projected_term}
+use Rattle.lois_automata.specs.Projections.{IsProjected, HasStepIn, AreProjected, AreNonTriples, AddsOfOne, IsProjectionOf, IsNonTriple, pair_of, triple_of, projected_term}
 use Rattle.lois_automata.specs.declared.projections.Projection.{Projection}
 use Rattle.lois_automata.specs.declared.projections.Projection.TheVariants.{Source, Label, Target, Outgoing, Move, Back, Keyed}
 use Rattle.lois_automata.proofs.Adding.{added_put, adds_nothing, one_among}
@@ -38,10 +38,10 @@ is_shaped Keyed p l q d w P L Q a b e (k, h, i) =
     let key : IsSame (point (pair_of p l) d) k = pair_same (point (pair_of p l) d) k (point p d) (point l d) P L (same_sym P (point p d) a) (same_sym L (point l d) b) (pair_is p l d) h in
     pair_same (point (pair_of (pair_of p l) q) d) w (point (pair_of p l) d) (point q d) k Q key (same_sym Q (point q d) e) (pair_is (pair_of p l) q d) i
 
-made_shaped : (shape : Projection) (m : ℕ) (g : List (List Lit)) (p l q : TermD) (c : List Atom) (w : PointValue) → IsMadeBy (comp m g (projected_term shape p l q)) c w ↔ IsMadeOfOne (IsProjectionOf shape) (IsMadeBy (comp m g (triple_of p l q)) c) w
+made_shaped : (shape : Projection) (m : ℕ) (g : List (List Lit)) (p l q : TermD) (c : List Atom) (w : PointValue) → IsCompMember (comp m g (projected_term shape p l q)) c w ↔ IsMadeOfOne (IsProjectionOf shape) (IsCompMember (comp m g (triple_of p l q)) c) w
 made_shaped shape m g p l q c w = (there, back)
   where
-    there : IsMadeBy (comp m g (projected_term shape p l q)) c w → IsMadeOfOne (IsProjectionOf shape) (IsMadeBy (comp m g (triple_of p l q)) c) w
+    there : IsCompMember (comp m g (projected_term shape p l q)) c w → IsMadeOfOne (IsProjectionOf shape) (IsCompMember (comp m g (triple_of p l q)) c) w
     there (e, ext, s) =
         let d = c ++ e in (
           point (triple_of p l q) d,
@@ -49,7 +49,7 @@ made_shaped shape m g p l q c w = (there, back)
           (point p d, point l d, point q d, triple_is p l q d, shaped_is shape p l q d w s),
         )
 
-    back : IsMadeOfOne (IsProjectionOf shape) (IsMadeBy (comp m g (triple_of p l q)) c) w → IsMadeBy (comp m g (projected_term shape p l q)) c w
+    back : IsMadeOfOne (IsProjectionOf shape) (IsCompMember (comp m g (triple_of p l q)) c) w → IsCompMember (comp m g (projected_term shape p l q)) c w
     back (x, (e, ext, s), (P, L, Q, t, h)) =
         let d = c ++ e in
         let parts = triple_here p l q d P L Q (triple_to x (point (triple_of p l q) d) P L Q (same_sym (point (triple_of p l q) d) x s) t) in
@@ -90,7 +90,7 @@ adds_shaped shape n m g p l q before after put = added_put n (comp m g (projecte
 pub shapes_nothing : (shape : Projection) (n m : ℕ) (g : List (List Lit)) (t : TermD) (before : CompsD) → ((p l q : TermD) → t ≡ triple_of p l q → ⊥) → AddsOfOne (IsProjectionOf shape) n (comp m g t) before before
 shapes_nothing shape n m g t before never = adds_nothing n _ _ _ _ before none
   where
-    none : (c : List Atom) → length c ≡ n → (w : PointValue) → IsMadeOfOne (IsProjectionOf shape) (IsMadeBy (comp m g t) c) w → ⊥
+    none : (c : List Atom) → length c ≡ n → (w : PointValue) → IsMadeOfOne (IsProjectionOf shape) (IsCompMember (comp m g t) c) w → ⊥
     none c l w (x, (e, ext, s), (P, L, Q, triple, h)) =
         let f = triple_term t (c ++ e) P L Q (triple_to x (point t (c ++ e)) P L Q (same_sym (point t (c ++ e)) x s) triple) in
         never f.0 f.1 f.2 f.3
@@ -98,13 +98,13 @@ shapes_nothing shape n m g t before never = adds_nothing n _ _ _ _ before none
 pub are_shaped : (shape : Projection) (n : ℕ) (whole made : CompsD) → ((c : List Atom) → length c ≡ n → (w : PointValue) → IsIn w (point (coll made) c) ↔ IsMadeOfOne (IsProjectionOf shape) (IsAmong whole c) w) → AreProjected n shape (coll whole) (coll made)
 are_shaped shape n whole made same c l w = (there, back)
   where
-    there : IsIn w (point (coll made) c) → (p l q : PointValue) × IsStep (point (coll whole) c) p l q × IsProjected shape w p l q
+    there : IsIn w (point (coll made) c) → (p l q : PointValue) × HasStepIn (point (coll whole) c) p l q × IsProjected shape w p l q
     there i = turned ((one_among (λ _. IsProjectionOf shape) whole c w).0 ((same c l w).0 i))
       where
-        turned : IsMadeOfOne (IsProjectionOf shape) (λ x. IsIn x (point (coll whole) c)) w → (p l q : PointValue) × IsStep (point (coll whole) c) p l q × IsProjected shape w p l q
+        turned : IsMadeOfOne (IsProjectionOf shape) (λ x. IsIn x (point (coll whole) c)) w → (p l q : PointValue) × HasStepIn (point (coll whole) c) p l q × IsProjected shape w p l q
         turned (x, k, (p, l, q, t, h)) = (p, l, q, (x, k, t), h)
 
-    back : ((p l q : PointValue) × IsStep (point (coll whole) c) p l q × IsProjected shape w p l q) → IsIn w (point (coll made) c)
+    back : ((p l q : PointValue) × HasStepIn (point (coll whole) c) p l q × IsProjected shape w p l q) → IsIn w (point (coll made) c)
     back (p, l', q, (x, k, t), h) = (same c l w).1 ((one_among (λ _. IsProjectionOf shape) whole c w).1 (x, k, (p, l', q, t, h)))
 
 -- ---- the steps that are no triples
@@ -116,16 +116,16 @@ adds_misfit n m g t before after never put = added_put n (comp m g t) _ _ _ _ be
         let f = triple_term t d P L Q h in
         never f.0 f.1 f.2 f.3
 
-    there : (c : List Atom) (w : PointValue) → IsMadeBy (comp m g t) c w → IsMadeOfOne IsNonTriple (IsMadeBy (comp m g t) c) w
+    there : (c : List Atom) (w : PointValue) → IsCompMember (comp m g t) c w → IsMadeOfOne IsNonTriple (IsCompMember (comp m g t) c) w
     there c w (e, ext, s) = (point t (c ++ e), (e, ext, same_refl (point t (c ++ e))), (s, no_triple (c ++ e)))
 
-    back : (c : List Atom) (w : PointValue) → IsMadeOfOne IsNonTriple (IsMadeBy (comp m g t) c) w → IsMadeBy (comp m g t) c w
+    back : (c : List Atom) (w : PointValue) → IsMadeOfOne IsNonTriple (IsCompMember (comp m g t) c) w → IsCompMember (comp m g t) c w
     back c w (x, (e, ext, s), (s', none)) = (e, ext, same_trans (point t (c ++ e)) x w s s')
 
 pub fits_well : (n : ℕ) (m : ℕ) (g : List (List Lit)) (p l q : TermD) (before : CompsD) → AddsOfOne IsNonTriple n (comp m g (triple_of p l q)) before before
 fits_well n m g p l q before = adds_nothing n _ _ _ _ before none
   where
-    none : (c : List Atom) → length c ≡ n → (w : PointValue) → IsMadeOfOne IsNonTriple (IsMadeBy (comp m g (triple_of p l q)) c) w → ⊥
+    none : (c : List Atom) → length c ≡ n → (w : PointValue) → IsMadeOfOne IsNonTriple (IsCompMember (comp m g (triple_of p l q)) c) w → ⊥
     none c k w (x, (e, ext, s), (s', never)) =
         let d = c ++ e in
         never (point p d) (point l d) (point q d) (triple_to (point (triple_of p l q) d) x (point p d) (point l d) (point q d) s (triple_is p l q d))

@@ -10,11 +10,11 @@ use Rattle.lois_base.specs.Validity.{AdmitsConstraint, AdmitsTerm}
 use Rattle.lois_base.specs.Values.{PointValue, point, IsIn}
 use Rattle.lois_base.specs.declared.guards.Lit.{Lit}
 use Rattle.lois_base.proofs.Members.{same_refl, same_sym, in_same}
-use Rattle.lois_algebra.specs.Gathered.{IsAmong, IsMadeBy, IsPut}
+use Rattle.lois_algebra.specs.Gathered.{IsAmong, IsCompMember, IsPut}
 use Rattle.lois_base.proofs.Connectives.{both_true}
 use Rattle.lois_meaning.proofs.Operations.{pair_to}
 use Rattle.lois_automata.specs.Adding.{IsMadeOfOne}
-use Rattle.lois_automata.specs.Built.{HoldsWhereIn, AreTargets, IsLedFrom, AddsTarget}
+use Rattle.lois_automata.specs.Built.{HoldsWhereMember, AreTargets, IsLedFrom, AddsTarget}
 use Rattle.lois_automata.specs.Projections.{pair_of}
 use Rattle.lois_automata.specs.Reachability.{LeadsTo}
 use Rattle.lois_automata.proofs.Adding.{added_put, adds_nothing, one_among}
@@ -24,16 +24,16 @@ use Rattle.lois_automata.proofs.Written.{pair_here, pair_at, pair_term}
 pub no_targets : (n m : ℕ) (g : List (List Lit)) (t s : TermD) (before : CompsD) → ((a b : TermD) → t ≡ pair_of a b → ⊥) → AddsTarget n (comp m g t) s before before
 no_targets n m g t s before never = adds_nothing n _ _ _ _ before none
   where
-    none : (c : List Atom) → length c ≡ n → (w : PointValue) → IsMadeOfOne (IsLedFrom s c) (IsMadeBy (comp m g t) c) w → ⊥
+    none : (c : List Atom) → length c ≡ n → (w : PointValue) → IsMadeOfOne (IsLedFrom s c) (IsCompMember (comp m g t) c) w → ⊥
     none c l w (x, (e, ext, same), (p, pair, i)) =
         let found = pair_term t (c ++ e) p w (pair_to x (point t (c ++ e)) p w (same_sym (point t (c ++ e)) x same) pair) in
         never found.0 found.1 found.2
 
-module _ (n m : ℕ) (g found guard : List (List Lit)) (a b s : TermD) (is : HoldsWhereIn n m a s found) (met : (d : List Atom) → holds d guard ≡ (holds d g && holds d found)) where
-  target_is : (c : List Atom) → length c ≡ n → (w : PointValue) → IsMadeBy (comp m guard b) c w ↔ IsMadeOfOne (IsLedFrom s c) (IsMadeBy (comp m g (pair_of a b)) c) w
+module _ (n m : ℕ) (g found guard : List (List Lit)) (a b s : TermD) (is : HoldsWhereMember n m a s found) (met : (d : List Atom) → holds d guard ≡ (holds d g && holds d found)) where
+  target_is : (c : List Atom) → length c ≡ n → (w : PointValue) → IsCompMember (comp m guard b) c w ↔ IsMadeOfOne (IsLedFrom s c) (IsCompMember (comp m g (pair_of a b)) c) w
   target_is c l w = (there, back)
     where
-      there : IsMadeBy (comp m guard b) c w → IsMadeOfOne (IsLedFrom s c) (IsMadeBy (comp m g (pair_of a b)) c) w
+      there : IsCompMember (comp m guard b) c w → IsMadeOfOne (IsLedFrom s c) (IsCompMember (comp m g (pair_of a b)) c) w
       there (e, ext, same) =
           let d = c ++ e in
           let both = (both_true (holds d g) (holds d found)).0 (sym (met d) ∙ ext.guard) in (
@@ -42,7 +42,7 @@ module _ (n m : ℕ) (g found guard : List (List Lit)) (a b s : TermD) (is : Hol
             (point a d, pair_at a b d w same, (is c e l ext.count).0 both.1),
           )
 
-      back : IsMadeOfOne (IsLedFrom s c) (IsMadeBy (comp m g (pair_of a b)) c) w → IsMadeBy (comp m guard b) c w
+      back : IsMadeOfOne (IsLedFrom s c) (IsCompMember (comp m g (pair_of a b)) c) w → IsCompMember (comp m guard b) c w
       back (x, (e, ext, same), (p, pair, i)) =
           let d = c ++ e in
           let t = pair_of a b in
@@ -56,10 +56,10 @@ module _ (n m : ℕ) (g found guard : List (List Lit)) (a b s : TermD) (is : Hol
       (λ f. (f.0, fits f.1, f.2.1.0)) (λ o k. (admits o k.0.0 k.0.1.0 k.1, k.0.1.1.0)) (λ u. u.2.1.0)
 
 -- moves whose first part is in the set nowhere lead to nothing
-pub no_sources : (n m : ℕ) (g found : List (List Lit)) (a b s : TermD) → HoldsWhereIn n m a s found → length found ≡ 0 → (before : CompsD) → AddsTarget n (comp m g (pair_of a b)) s before before
+pub no_sources : (n m : ℕ) (g found : List (List Lit)) (a b s : TermD) → HoldsWhereMember n m a s found → length found ≡ 0 → (before : CompsD) → AddsTarget n (comp m g (pair_of a b)) s before before
 no_sources n m g [] a b s is none before = adds_nothing n _ _ _ _ before never
   where
-    never : (c : List Atom) → length c ≡ n → (w : PointValue) → IsMadeOfOne (IsLedFrom s c) (IsMadeBy (comp m g (pair_of a b)) c) w → ⊥
+    never : (c : List Atom) → length c ≡ n → (w : PointValue) → IsMadeOfOne (IsLedFrom s c) (IsCompMember (comp m g (pair_of a b)) c) w → ⊥
     never c l w (x, (e, ext, same), (p, pair, i)) =
         let d = c ++ e in
         let t = pair_of a b in

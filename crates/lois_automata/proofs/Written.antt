@@ -9,7 +9,7 @@ use Rattle.lois_base.specs.Values.{PointValue, point, IsSame}
 use Rattle.lois_base.specs.declared.values.Term.{Term}
 use Rattle.lois_base.proofs.Members.{same_refl, same_sym}
 use Rattle.lois_meaning.specs.Automata.{IsPair, IsTriple}
-use Rattle.lois_meaning.specs.Kinds.{parts_at}
+use Rattle.lois_meaning.specs.Kinds.{part_values}
 use Rattle.lois_automata.specs.Projections.{pair_of, triple_of}
 use Rattle.lois_automata.specs.Machines.{IsAutomatonAt}
 
@@ -51,10 +51,10 @@ three_parts ts vs a b e m l is is' is2 = ap tup (ap terms_of (sym m) ∙ go ts l
     go (x ∷ y ∷ z ∷ u ∷ zs) l is is' is2 = absurd (omega arith)
 
 -- the term of an automaton is a tuple of five
-count_at : (ts : TermsD) (c : List Atom) (us : List PointValue) → us ≡ parts_at ts c → count_of_parts ts ≡ length us
+count_at : (ts : TermsD) (c : List Atom) (us : List PointValue) → us ≡ part_values ts c → count_of_parts ts ≡ length us
 count_at ts c us e = count ts ∙ sym (ap length e)
   where
-    count : (ts : TermsD) → count_of_parts ts ≡ length (parts_at ts c)
+    count : (ts : TermsD) → count_of_parts ts ≡ length (part_values ts c)
     count no_terms = refl
     count (term t ts) = ap suc (count ts)
 

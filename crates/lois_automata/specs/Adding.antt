@@ -5,7 +5,7 @@ use Rattle.lois_base.specs.Data.{CompD, CompsD}
 use Rattle.lois_base.specs.Fits.{CompFits, ItemsFit}
 use Rattle.lois_base.specs.Validity.{AdmitsComp, AdmitsItems, CompHasBoundedWidths, ItemsHaveBoundedWidths}
 use Rattle.lois_base.specs.Values.{PointValue}
-use Rattle.lois_algebra.specs.Gathered.{IsAmong, IsMadeBy}
+use Rattle.lois_algebra.specs.Gathered.{IsAmong, IsCompMember}
 use Rattle.lois_meaning.specs.Automata.{IsPair, IsTriple}
 
 -- At choices of n atoms the list `after` has the members of `before` and those that W names. Its levels fit where F says, its
@@ -36,9 +36,9 @@ IsStepOf x y w =
 -- what R makes of a member of the one comprehension and a member of the other is added
 abbrev pub AddsOfTwo : (PointValue → PointValue → PointValue → Type 0) → ℕ → CompD → CompD → CompsD → CompsD → Type 0
 AddsOfTwo R n k q =
-    Adds n (λ c. IsMadeOfTwo R (IsMadeBy k c) (IsMadeBy q c)) (CompFits n k × CompFits n q) (λ o. AdmitsComp o k × AdmitsComp o q) (CompHasBoundedWidths k × CompHasBoundedWidths q)
+    Adds n (λ c. IsMadeOfTwo R (IsCompMember k c) (IsCompMember q c)) (CompFits n k × CompFits n q) (λ o. AdmitsComp o k × AdmitsComp o q) (CompHasBoundedWidths k × CompHasBoundedWidths q)
 
 -- what R makes of a member of the comprehension and a member of the list is added
 abbrev pub AddsWithEach : (PointValue → PointValue → PointValue → Type 0) → ℕ → CompD → CompsD → CompsD → CompsD → Type 0
 AddsWithEach R n k qs =
-    Adds n (λ c. IsMadeOfTwo R (IsMadeBy k c) (IsAmong qs c)) (CompFits n k × ItemsFit n qs) (λ o. AdmitsComp o k × AdmitsItems o qs) (CompHasBoundedWidths k × ItemsHaveBoundedWidths qs)
+    Adds n (λ c. IsMadeOfTwo R (IsCompMember k c) (IsAmong qs c)) (CompFits n k × ItemsFit n qs) (λ o. AdmitsComp o k × AdmitsItems o qs) (CompHasBoundedWidths k × ItemsHaveBoundedWidths qs)

@@ -7,7 +7,7 @@ use Rattle.lois_base.specs.Validity.{AdmitsTerm, AdmitsComp, CompHasBoundedWidth
 use Rattle.lois_base.specs.Truth.{holds}
 use Rattle.lois_base.specs.Values.{PointValue, point, IsIn, IsSame, IsExtension}
 use Rattle.lois_base.specs.declared.guards.Lit.{Lit}
-use Rattle.lois_algebra.specs.Gathered.{IsMadeBy}
+use Rattle.lois_algebra.specs.Gathered.{IsCompMember}
 use Rattle.lois_constraint.specs.Entailment.{IsPruned}
 use Rattle.lois_meaning.specs.Automata.{IsPair}
 use Rattle.lois_rounds.specs.Families.{MemberD, FamilyD}
@@ -15,8 +15,8 @@ use Rattle.lois_automata.specs.Adding.{Adds, IsMadeOfOne}
 use Rattle.lois_automata.specs.Reachability.{LeadsTo}
 
 -- with m further atoms, r holds exactly where the item is in the set t, whose levels are the first n
-abbrev pub HoldsWhereIn : ℕ → ℕ → TermD → TermD → List (List Lit) → Type 0
-HoldsWhereIn n m item t r =
+abbrev pub HoldsWhereMember : ℕ → ℕ → TermD → TermD → List (List Lit) → Type 0
+HoldsWhereMember n m item t r =
     (c e : List Atom) → length c ≡ n → length e ≡ m → IsTrue (holds (c ++ e) r) ↔ IsIn (point item (c ++ e)) (point t c)
 
 -- r holds exactly where u and g do and the item is in the set t; the levels of u and t are the first n
@@ -69,7 +69,7 @@ IsEmptyFamily (r ∷ f) = (r.1 ≡ []) × IsEmptyFamily f
 -- two comprehensions one behind the other: guard g of m binders and then those of the second, and the two items at the same choices
 pub record AreBeside (n : ℕ) (k q : CompD) (m : ℕ) (g : List (List Lit)) (one two : TermD) : Type 0 where
   pub made : (c : List Atom) → length c ≡ n → (v w : PointValue) →
-      (IsMadeBy k c v × IsMadeBy q c w) ↔ ((e : List Atom) × IsExtension c m g e × IsSame (point one (c ++ e)) v × IsSame (point two (c ++ e)) w)
+      (IsCompMember k c v × IsCompMember q c w) ↔ ((e : List Atom) × IsExtension c m g e × IsSame (point one (c ++ e)) v × IsSame (point two (c ++ e)) w)
 
 -- r has exactly the pairs of a member of s and one of t
 abbrev pub ArePairs : ℕ → TermD → TermD → TermD → Type 0
@@ -82,4 +82,4 @@ IsLedFrom s c x w = (p : PointValue) × IsPair x p w × IsIn p (point s c)
 
 -- what the moves of k lead to from members of s is added
 abbrev pub AddsTarget : ℕ → CompD → TermD → CompsD → CompsD → Type 0
-AddsTarget n k s = Adds n (λ c. IsMadeOfOne (IsLedFrom s c) (IsMadeBy k c)) (CompFits n k) (λ o. AdmitsComp o k × AdmitsTerm o s) (CompHasBoundedWidths k)
+AddsTarget n k s = Adds n (λ c. IsMadeOfOne (IsLedFrom s c) (IsCompMember k c)) (CompFits n k) (λ o. AdmitsComp o k × AdmitsTerm o s) (CompHasBoundedWidths k)

@@ -4,7 +4,7 @@ use Rattle.lois_base.specs.Atom.{Atom}
 use Rattle.lois_base.specs.Data.{TermD, tup, no_terms, term, coll, CompD, CompsD}
 use Rattle.lois_base.specs.Fits.{CompFits}
 use Rattle.lois_base.specs.Validity.{AdmitsComp, CompHasBoundedWidths}
-use Rattle.lois_algebra.specs.Gathered.{IsMadeBy}
+use Rattle.lois_algebra.specs.Gathered.{IsCompMember}
 use Rattle.lois_base.specs.Values.{PointValue, point, IsIn, IsSame}
 use Rattle.lois_meaning.specs.Automata.{Automaton, IsPair, IsTriple}
 use Rattle.lois_automata.specs.Adding.{Adds, IsMadeOfOne}
@@ -40,13 +40,13 @@ IsProjected Back w p l q = IsPair w q p
 IsProjected Keyed w p l q = (k : PointValue) × IsPair k p l × IsPair w k q
 
 -- a triple of these values is among the steps
-abbrev pub IsStep : PointValue → PointValue → PointValue → PointValue → Type 0
-IsStep steps p l q = (x : PointValue) × IsIn x steps × IsTriple x p l q
+abbrev pub HasStepIn : PointValue → PointValue → PointValue → PointValue → Type 0
+HasStepIn steps p l q = (x : PointValue) × IsIn x steps × IsTriple x p l q
 
 -- r has exactly what the shape makes of the triples among the steps
 abbrev pub AreProjected : ℕ → Projection → TermD → TermD → Type 0
 AreProjected n shape steps r =
-    (c : List Atom) → length c ≡ n → (w : PointValue) → IsIn w (point r c) ↔ ((p l q : PointValue) × IsStep (point steps c) p l q × IsProjected shape w p l q)
+    (c : List Atom) → length c ≡ n → (w : PointValue) → IsIn w (point r c) ↔ ((p l q : PointValue) × HasStepIn (point steps c) p l q × IsProjected shape w p l q)
 
 -- r has exactly the members of the steps that are no triples
 abbrev pub AreNonTriples : ℕ → TermD → TermD → Type 0
@@ -67,7 +67,7 @@ HasOneAtMost s = (p q : PointValue) → IsIn p s → IsIn q s → IsSame p q
 
 -- steps with the same source and letter have the same target
 abbrev pub HasUniqueTargets : PointValue → Type 0
-HasUniqueTargets steps = (p a q r : PointValue) → IsStep steps p a q → IsStep steps p a r → IsSame q r
+HasUniqueTargets steps = (p a q r : PointValue) → HasStepIn steps p a q → HasStepIn steps p a r → IsSame q r
 
 -- each member is a triple
 abbrev pub AreTriples : PointValue → Type 0
@@ -75,7 +75,7 @@ AreTriples steps = (x : PointValue) → IsIn x steps → (p l q : PointValue) ×
 
 -- all that the shape makes of the triples among the steps is in the set
 abbrev pub ArePartsIn : Projection → PointValue → PointValue → Type 0
-ArePartsIn shape steps set = (w p l q : PointValue) → IsStep steps p l q → IsProjected shape w p l q → IsIn w set
+ArePartsIn shape steps set = (w p l q : PointValue) → HasStepIn steps p l q → IsProjected shape w p l q → IsIn w set
 
 -- each step is a triple of a state, a letter and a state
 abbrev pub StepsJoin : PointValue → PointValue → PointValue → Type 0
@@ -85,7 +85,7 @@ StepsJoin states letters steps =
 -- r has a step for each two steps of s and t with the same letter, from the pair of the sources to the pair of the targets
 abbrev pub AreSideBySide : ℕ → TermD → TermD → TermD → Type 0
 AreSideBySide n s t r =
-    (c : List Atom) → length c ≡ n → (w : PointValue) → IsIn w (point r c) ↔ ((p l p' q q' x x' : PointValue) × IsStep (point s c) p l p' × IsStep (point t c) q l q' × IsPair x p q × IsPair x' p' q' × IsTriple w x l x')
+    (c : List Atom) → length c ≡ n → (w : PointValue) → IsIn w (point r c) ↔ ((p l p' q q' x x' : PointValue) × HasStepIn (point s c) p l p' × HasStepIn (point t c) q l q' × IsPair x p q × IsPair x' p' q' × IsTriple w x l x')
 
 abbrev pub pair_of : TermD → TermD → TermD
 pair_of s t = tup (term s (term t no_terms))
@@ -112,4 +112,4 @@ IsNonTriple x w = IsSame x w × ((p l q : PointValue) → IsTriple x p l q → �
 
 -- what R makes of the members of a comprehension is added
 abbrev pub AddsOfOne : (PointValue → PointValue → Type 0) → ℕ → CompD → CompsD → CompsD → Type 0
-AddsOfOne R n k = Adds n (λ c. IsMadeOfOne R (IsMadeBy k c)) (CompFits n k) (λ o. AdmitsComp o k) (CompHasBoundedWidths k)
+AddsOfOne R n k = Adds n (λ c. IsMadeOfOne R (IsCompMember k c)) (CompFits n k) (λ o. AdmitsComp o k) (CompHasBoundedWidths k)

@@ -13,7 +13,7 @@ use Rattle.lois_base.specs.Data.{TermD, comp, CompsD, no_comps, more}
 use Rattle.lois_base.specs.Truth.{holds}
 use Rattle.lois_base.specs.Values.{PointValue}
 use Rattle.lois_base.specs.declared.guards.Lit.{Lit}
-use Rattle.lois_algebra.specs.Gathered.{IsAmong, IsMadeBy}
+use Rattle.lois_algebra.specs.Gathered.{IsAmong, IsCompMember}
 use Rattle.lois_rounds.specs.Equivalences.{equivalent_sym, equivalent_trans}
 use Rattle.lois_rounds.specs.Families.{MemberD, FamilyD, AdmitsFamily, IsEquivalent, AreEquivalent, IsWeakened, AreWeakened}
 use Rattle.lois_rounds.specs.Rounds.{RespectsEquivalence}
@@ -51,7 +51,7 @@ held_weaker n (more (comp m q t) ks) (a ∷ f) [] c w l over weaker h = absurd w
 held_weaker n (more (comp m q t) ks) (a ∷ f) (b ∷ g) c w l over weaker h =
     elim h [ inl p ↦ inl (one p) | inr p ↦ inr (held_weaker n ks f g c w l over.1 weaker.1 p) ]
   where
-    one : IsMadeBy (comp m a.1 t) c w → IsMadeBy (comp m b.1 t) c w
+    one : IsCompMember (comp m a.1 t) c w → IsCompMember (comp m b.1 t) c w
     one (e, x, s) =
         let k : length (c ++ e) ≡ a.0 = length-append c e ∙ (rw (l, x.count, over.0)) in
         (e, record { count = x.count; guard = weaker.0.truth (c ++ e) k x.guard }, s)

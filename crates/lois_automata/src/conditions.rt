@@ -7,12 +7,12 @@ ghost use Rattle.lois_base.specs.Fits.{ConstraintFits, Fits, CompFits, ItemsFit}
 ghost use Rattle.lois_base.specs.Tree.{tree, comp_of};
 ghost use Rattle.lois_base.specs.Validity.{AdmitsConstraint, AdmitsTerm, AdmitsComp, AdmitsItems};
 ghost use Rattle.lois_base.specs.Values.{PointValue, point, IsIn, IsIncluded, IsSame};
-ghost use Rattle.lois_algebra.specs.Gathered.{IsAmong, IsMadeBy};
-ghost use Rattle.lois_terms.specs.Guarded.{IsSet};
+ghost use Rattle.lois_algebra.specs.Gathered.{IsAmong, IsCompMember};
+ghost use Rattle.lois_terms.specs.Guarded.{IsColl};
 ghost use Rattle.lois_automata.specs.Projections.{AllAgree, IsFunction, HasOneAtMost, HasUniqueTargets, AreTriples, ArePartsIn, StepsJoin};
 ghost use Rattle.lois_automata.specs.Throughout.{HoldsWhere, HoldsUnless};
 
-use crate::pairing::{beside, pairs};
+use crate::pairing::{pair_comps, pairs};
 use crate::parts::{FiveSets, pair_parts};
 use crate::projections::{Projection, non_triples, project_steps};
 use crate::unmatched::keys_clash;
@@ -30,10 +30,10 @@ pub fn where_included<T: Structure>(
     size: usize,
 ) -> Result<Constraint, NoMemory>
     requires levels { Fits size (tree s.now) }
-    requires set { IsSet (tree s.now) }
+    requires set { IsColl (tree s.now) }
     requires operators { AdmitsTerm T.ordered (tree s.now) }
     requires other_levels { Fits size (tree t.now) }
-    requires other_set { IsSet (tree t.now) }
+    requires other_set { IsColl (tree t.now) }
     requires other_operators { AdmitsTerm T.ordered (tree t.now) }
     ensures truth { IfOk result (HoldsWhere size (λ c. IsIncluded (point (tree s.now) c) (point (tree t.now) c))) }
     ensures levels { IfOk result (ConstraintFits size) }
@@ -69,7 +69,7 @@ fn where_making<T: Structure>(
 ) -> Result<Constraint, NoMemory>
     requires levels { CompFits size (comp_of comp.now) }
     requires operators { AdmitsComp T.ordered (comp_of comp.now) }
-    ensures truth { IfOk result (HoldsWhere size (λ c. (w : PointValue) × IsMadeBy (comp_of comp.now) c w)) }
+    ensures truth { IfOk result (HoldsWhere size (λ c. (w : PointValue) × IsCompMember (comp_of comp.now) c w)) }
     ensures levels { IfOk result (ConstraintFits size) }
     ensures operators { IfOk result (λ r. (o : Bool) → AdmitsComp o (comp_of comp.now) → AdmitsConstraint o r) }
 {
@@ -141,7 +141,7 @@ fn where_clashing<T: Structure>(
     requires first_operators { AdmitsComp T.ordered (comp_of first.now) }
     requires second { ItemsFit size (comps_of others.now) }
     requires second_operators { AdmitsItems T.ordered (comps_of others.now) }
-    ensures truth { IfOk result (HoldsUnless size (λ c. AllAgree (IsMadeBy (comp_of first.now) c) (IsAmong (comps_of others.now) c))) }
+    ensures truth { IfOk result (HoldsUnless size (λ c. AllAgree (IsCompMember (comp_of first.now) c) (IsAmong (comps_of others.now) c))) }
     ensures levels { IfOk result (ConstraintFits size) }
 {
     let mut found = Constraint::new(alloc);
@@ -162,13 +162,13 @@ fn where_differing<T: Structure>(
     requires first_operators { AdmitsComp T.ordered (comp_of first.now) }
     requires second { CompFits size (comp_of second.now) }
     requires second_operators { AdmitsComp T.ordered (comp_of second.now) }
-    ensures truth { IfOk result (HoldsUnless size (λ c. AllAgree (IsMadeBy (comp_of first.now) c) (IsMadeBy (comp_of second.now) c))) }
+    ensures truth { IfOk result (HoldsUnless size (λ c. AllAgree (IsCompMember (comp_of first.now) c) (IsCompMember (comp_of second.now) c))) }
     ensures levels { IfOk result (ConstraintFits size) }
 {
     if keys_clash(first, second) {
         return Ok(Constraint::new(alloc));
     }
-    let both = beside(alloc, first, second, size)?;
+    let both = pair_comps(alloc, first, second, size)?;
     let Some((key, value)) = pair_parts(&both.first) else {
         return Ok(Constraint::new(alloc));
     };

@@ -5,15 +5,15 @@ ghost use Rattle.lois_base.specs.Data.{coll, comps_of};
 ghost use Rattle.lois_base.specs.Fits.{ConstraintFits, Fits, CompFits, ItemsFit};
 ghost use Rattle.lois_base.specs.Tree.{tree, comp_of};
 ghost use Rattle.lois_base.specs.Validity.{AdmitsConstraint, AdmitsTerm, AdmitsComp, AdmitsItems, HasBoundedWidths, ItemsHaveBoundedWidths};
-ghost use Rattle.lois_terms.specs.Guarded.{IsSet};
+ghost use Rattle.lois_terms.specs.Guarded.{IsColl};
 ghost use Rattle.lois_automata.specs.Built.{AreTargets, AddsTarget};
 ghost use Rattle.lois_base.specs.OneProof.{items_prop};
 ghost use Rattle.lois_automata.specs.Rounds.{RoundParameters, IsSettled};
 ghost use Rattle.lois_automata.specs.RoundsLaw.{settled_prop};
 
 use crate::joining::{
-    copied_family, fresh_family, held_set, is_empty_family, is_over_nodes, is_same_family,
-    joined_family,
+    copy_family, fresh_family, is_empty_family, is_over_nodes, is_same_family, join_family,
+    set_of_family,
 };
 use crate::memberships::membership;
 use crate::parts::pair_parts;
@@ -62,7 +62,7 @@ impl Round for FrontierRound {
         let _members = family.as_slice();
         let frontier = frontier_of(&self.known, &self.frontier, family);
         let _news = frontier.as_slice();
-        let held = held_set(alloc, &self.nodes, frontier)?;
+        let held = set_of_family(alloc, &self.nodes, frontier)?;
         let targets = targets_from::<OrderAtoms>(alloc, &self.moves, &held, self.size)?;
         let fresh = fresh_family::<OrderAtoms>(
             alloc,
@@ -76,8 +76,8 @@ impl Round for FrontierRound {
         if is_empty_family(&fresh) {
             return Ok(None);
         }
-        let joined = joined_family(alloc, family, &fresh)?;
-        let known = copied_family(alloc, &joined)?;
+        let joined = join_family(alloc, family, &fresh)?;
+        let known = copy_family(alloc, &joined)?;
         self.known = known;
         self.frontier = fresh;
         Ok(Some(joined))
@@ -105,10 +105,10 @@ pub fn targets_from<T: Structure>(
     requires levels { ItemsFit size (comps_of moves.now) }
     requires operators { AdmitsItems T.ordered (comps_of moves.now) }
     requires held_levels { Fits size (tree held.now) }
-    requires held_set { IsSet (tree held.now) }
+    requires held_set { IsColl (tree held.now) }
     requires held_operators { AdmitsTerm T.ordered (tree held.now) }
     ensures members { IfOk result (λ r. AreTargets size (coll (comps_of moves.now)) (tree held.now) (tree r)) }
-    ensures set { IfOk result (λ r. IsSet (tree r)) }
+    ensures set { IfOk result (λ r. IsColl (tree r)) }
     ensures levels { IfOk result (λ r. Fits size (tree r)) }
     ensures operators { IfOk result (λ r. (o : Bool) → AdmitsItems o (comps_of moves.now) → AdmitsTerm o (tree held.now) → AdmitsTerm o (tree r)) }
     ensures widths { IfOk result (λ r. ItemsHaveBoundedWidths (comps_of moves.now) → HasBoundedWidths (tree r)) }
@@ -130,7 +130,7 @@ fn add_target<T: Structure>(
     requires levels { CompFits size (comp_of comp.now) }
     requires operators { AdmitsComp T.ordered (comp_of comp.now) }
     requires held_levels { Fits size (tree held.now) }
-    requires held_set { IsSet (tree held.now) }
+    requires held_set { IsColl (tree held.now) }
     requires held_operators { AdmitsTerm T.ordered (tree held.now) }
     ensures { OnOk result (AddsTarget size (comp_of comp.now) (tree held.now) (comps_of targets.old) (comps_of targets.new)) }
 {

@@ -6,9 +6,9 @@ ghost use Rattle.lois_base.specs.Fits.{ConstraintFits, Fits, CompFits};
 ghost use Rattle.lois_base.specs.Shift.{shift};
 ghost use Rattle.lois_base.specs.Tree.{tree, comp_of};
 ghost use Rattle.lois_base.specs.Validity.{AdmitsConstraint, AdmitsTerm, AdmitsComp, HasBoundedWidths};
-ghost use Rattle.lois_terms.specs.Guarded.{IsSet};
+ghost use Rattle.lois_terms.specs.Guarded.{IsColl};
 ghost use Rattle.lois_terms.specs.Shifted.{IsShifted};
-ghost use Rattle.lois_automata.specs.Built.{HoldsWhereIn, HoldsWhereAdmittedIn};
+ghost use Rattle.lois_automata.specs.Built.{HoldsWhereMember, HoldsWhereAdmittedIn};
 
 use lois_base::{Comp, Constraint, NoMemory, Structure, Term};
 use lois_constraint::meet;
@@ -18,7 +18,7 @@ use lois_terms::shift_term;
 use std::alloc::Global;
 
 /// The term with `by` levels put in after the first `size`. Binders inside of it may come to lie above the greatest usize.
-pub fn among_more(alloc: Global, t: &Term, size: usize, by: usize) -> Result<Term, NoMemory>
+pub fn insert_levels(alloc: Global, t: &Term, size: usize, by: usize) -> Result<Term, NoMemory>
     requires fits { Fits size (tree t.now) }
     requires levels { size + by < 2 ^ 64 }
     ensures raised { IfOk result (λ r. tree r ≡ shift size by (tree t.now)) }
@@ -45,9 +45,9 @@ pub fn membership<T: Structure>(
     requires item { Fits (size + by) (tree item.now) }
     requires item_operators { AdmitsTerm T.ordered (tree item.now) }
     requires set_levels { Fits size (tree t.now) }
-    requires set { IsSet (tree t.now) }
+    requires set { IsColl (tree t.now) }
     requires set_operators { AdmitsTerm T.ordered (tree t.now) }
-    ensures truth { IfOk result (HoldsWhereIn size by (tree item.now) (tree t.now)) }
+    ensures truth { IfOk result (HoldsWhereMember size by (tree item.now) (tree t.now)) }
     ensures fits { IfOk result (ConstraintFits (size + by)) }
     ensures operators { IfOk result (λ r. (o : Bool) → AdmitsTerm o (tree item.now) → AdmitsTerm o (tree t.now) → AdmitsConstraint o r) }
 {
@@ -59,7 +59,7 @@ pub fn membership<T: Structure>(
 }
 
 /// Where `under` and the guard of the comprehension hold and its item is in the set `t`.
-pub fn admitted_in<T: Structure>(
+pub fn membership_under<T: Structure>(
     alloc: Global,
     comp: &Comp,
     t: &Term,
@@ -69,7 +69,7 @@ pub fn admitted_in<T: Structure>(
     requires levels { CompFits size (comp_of comp.now) }
     requires operators { AdmitsComp T.ordered (comp_of comp.now) }
     requires set_levels { Fits size (tree t.now) }
-    requires set { IsSet (tree t.now) }
+    requires set { IsColl (tree t.now) }
     requires set_operators { AdmitsTerm T.ordered (tree t.now) }
     requires under { ConstraintFits size under.now }
     ensures truth { IfOk result (HoldsWhereAdmittedIn size comp.now.binders under.now comp.now.guard (tree comp.now.item) (tree t.now)) }

@@ -9,12 +9,12 @@ ghost use Rattle.lois_base.specs.Truth.{holds};
 ghost use Rattle.lois_algebra.specs.Sets.{IsIntersection};
 ghost use Rattle.lois_base.specs.Validity.{AdmitsConstraint, AdmitsTerm, AdmitsItems, HasBoundedWidths, ItemsHaveBoundedWidths};
 ghost use Rattle.lois_deciders.specs.OnlyAsked.{HasOnlyAsked};
-ghost use Rattle.lois_terms.specs.Guarded.{IsSet};
+ghost use Rattle.lois_terms.specs.Guarded.{IsColl};
 ghost use Rattle.lois_automata.specs.Machines.{IsAutomatonAt, IsCompleteDeterministicAt, IsReachAt, IsEmptyAt, AcceptsSomeAt, IsProductAt, IsComplementAt, AcceptsBothAt, AcceptsOthersAt};
 ghost use Rattle.lois_automata.specs.Throughout.{HoldsThroughout};
 
 use crate::conditions::where_inhabited;
-use crate::pairing::{pairs, side_by_side};
+use crate::pairing::{pair_steps, pairs};
 use crate::parts::{five, of_five};
 use crate::projections::{Projection, project_steps};
 use crate::reaching::reachable_set;
@@ -38,7 +38,7 @@ pub fn reach<T: Structure>(
     requires under { ConstraintFits size under.now }
     requires automaton { HoldsThroughout size under.now (IsAutomatonAt (tree a.now)) }
     ensures reached { IfOk result (λ r. HoldsThroughout size under.now (IsReachAt (tree a.now) (tree r))) }
-    ensures set { IfOk result (λ r. IsSet (tree r)) }
+    ensures set { IfOk result (λ r. IsColl (tree r)) }
     ensures levels { IfOk result (λ r. Fits size (tree r)) }
     ensures operators { IfOk result (λ r. (o : Bool) → AdmitsTerm o (tree a.now) → AdmitsConstraint o under.now → AdmitsTerm o (tree r)) }
     ensures widths { IfOk result (λ r. HasBoundedWidths (tree a.now) → HasBoundedWidths (tree r)) }
@@ -116,7 +116,7 @@ pub fn product<T: Structure>(
     };
     let states = pairs(alloc, one.states, other.states, size)?;
     let common = in_both::<T>(alloc, one.letters, other.letters, size)?;
-    let steps = side_by_side::<T>(alloc, one.steps, other.steps, size)?;
+    let steps = pair_steps::<T>(alloc, one.steps, other.steps, size)?;
     let initial = pairs(alloc, one.initial, other.initial, size)?;
     let accepting = pairs(alloc, one.accepting, other.accepting, size)?;
     of_five(alloc, states, common, steps, initial, accepting)
@@ -134,7 +134,7 @@ fn in_both<T: Structure>(
     requires second { ItemsFit size (comps_of other.now) }
     requires second_operators { AdmitsItems T.ordered (comps_of other.now) }
     ensures members { IfOk result (λ r. IsIntersection size (coll (comps_of one.now)) (coll (comps_of other.now)) (tree r)) }
-    ensures set { IfOk result (λ r. IsSet (tree r)) }
+    ensures set { IfOk result (λ r. IsColl (tree r)) }
     ensures levels { IfOk result (λ r. Fits size (tree r)) }
     ensures operators { IfOk result (λ r. (o : Bool) → AdmitsItems o (comps_of one.now) → AdmitsItems o (comps_of other.now) → AdmitsTerm o (tree r)) }
     ensures widths { IfOk result (λ r. ItemsHaveBoundedWidths (comps_of one.now) → HasBoundedWidths (tree r)) }

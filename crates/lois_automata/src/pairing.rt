@@ -5,12 +5,12 @@ ghost use Rattle.lois_base.specs.Data.{coll, comps_of};
 ghost use Rattle.lois_base.specs.Fits.{ConstraintFits, Fits, CompFits, ItemsFit};
 ghost use Rattle.lois_base.specs.Tree.{tree, comp_of};
 ghost use Rattle.lois_base.specs.Validity.{AdmitsConstraint, AdmitsTerm, AdmitsComp, AdmitsItems, HasBoundedWidths, CompHasBoundedWidths, ItemsHaveBoundedWidths};
-ghost use Rattle.lois_terms.specs.Guarded.{IsSet};
+ghost use Rattle.lois_terms.specs.Guarded.{IsColl};
 ghost use Rattle.lois_automata.specs.Adding.{AddsOfTwo, AddsWithEach, IsPairOf, IsStepOf};
 ghost use Rattle.lois_automata.specs.Built.{AreBeside, ArePairs};
 ghost use Rattle.lois_automata.specs.Projections.{AreSideBySide, pair_of, triple_of};
 
-use crate::memberships::among_more;
+use crate::memberships::insert_levels;
 use crate::parts::{Step, pair, step_parts, triple};
 use crate::unmatched::letters_clash;
 use lois_algebra::push_comp;
@@ -32,7 +32,12 @@ pub struct PairedComp {
 
 /// The comprehensions one behind the other: the guards together, and both items among the binders of both. Errors: `NoMemory`,
 /// also where a level would pass the greatest usize.
-pub fn beside(alloc: Global, one: &Comp, other: &Comp, size: usize) -> Result<PairedComp, NoMemory>
+pub fn pair_comps(
+    alloc: Global,
+    one: &Comp,
+    other: &Comp,
+    size: usize,
+) -> Result<PairedComp, NoMemory>
     requires first { CompFits size (comp_of one.now) }
     requires second { CompFits size (comp_of other.now) }
     ensures made { IfOk result (λ r. AreBeside size (comp_of one.now) (comp_of other.now) r.binders r.guard (tree r.first) (tree r.second)) }
@@ -52,7 +57,7 @@ pub fn beside(alloc: Global, one: &Comp, other: &Comp, size: usize) -> Result<Pa
     Ok(PairedComp {
         binders: one.binders + other.binders,
         guard: meet(alloc, &one.guard, &placed.guard)?,
-        first: among_more(alloc, &one.item, at, other.binders)?,
+        first: insert_levels(alloc, &one.item, at, other.binders)?,
         second: placed.item,
     })
 }
@@ -62,7 +67,7 @@ pub fn pairs(alloc: Global, one: &Comps, other: &Comps, size: usize) -> Result<T
     requires first { ItemsFit size (comps_of one.now) }
     requires second { ItemsFit size (comps_of other.now) }
     ensures members { IfOk result (λ r. ArePairs size (coll (comps_of one.now)) (coll (comps_of other.now)) (tree r)) }
-    ensures set { IfOk result (λ r. IsSet (tree r)) }
+    ensures set { IfOk result (λ r. IsColl (tree r)) }
     ensures levels { IfOk result (λ r. Fits size (tree r)) }
     ensures operators { IfOk result (λ r. (o : Bool) → AdmitsItems o (comps_of one.now) → AdmitsItems o (comps_of other.now) → AdmitsTerm o (tree r)) }
     ensures widths { IfOk result (λ r. ItemsHaveBoundedWidths (comps_of one.now) → ItemsHaveBoundedWidths (comps_of other.now) → HasBoundedWidths (tree r)) }
@@ -102,7 +107,7 @@ fn add_pair(
     requires second { CompFits size (comp_of second.now) }
     ensures { OnOk result (AddsOfTwo IsPairOf size (comp_of first.now) (comp_of second.now) (comps_of made.old) (comps_of made.new)) }
 {
-    let both = beside(alloc, first, second, size)?;
+    let both = pair_comps(alloc, first, second, size)?;
     let item = pair(alloc, &both.first, &both.second)?;
     push_comp(
         made,
@@ -115,7 +120,7 @@ fn add_pair(
 }
 
 /// A step for each two steps with the same letter: from the pair of the sources to the pair of the targets.
-pub fn side_by_side<T: Structure>(
+pub fn pair_steps<T: Structure>(
     alloc: Global,
     one: &Comps,
     other: &Comps,
@@ -126,7 +131,7 @@ pub fn side_by_side<T: Structure>(
     requires second { ItemsFit size (comps_of other.now) }
     requires second_operators { AdmitsItems T.ordered (comps_of other.now) }
     ensures members { IfOk result (λ r. AreSideBySide size (coll (comps_of one.now)) (coll (comps_of other.now)) (tree r)) }
-    ensures set { IfOk result (λ r. IsSet (tree r)) }
+    ensures set { IfOk result (λ r. IsColl (tree r)) }
     ensures levels { IfOk result (λ r. Fits size (tree r)) }
     ensures operators { IfOk result (λ r. (o : Bool) → AdmitsItems o (comps_of one.now) → AdmitsItems o (comps_of other.now) → AdmitsTerm o (tree r)) }
     ensures widths { IfOk result (λ r. ItemsHaveBoundedWidths (comps_of one.now) → ItemsHaveBoundedWidths (comps_of other.now) → HasBoundedWidths (tree r)) }
@@ -173,7 +178,7 @@ fn add_step<T: Structure>(
     if letters_clash(first, second) {
         return Ok(());
     }
-    let both = beside(alloc, first, second, size)?;
+    let both = pair_comps(alloc, first, second, size)?;
     let Some(one) = step_parts(&both.first) else {
         return Ok(());
     };

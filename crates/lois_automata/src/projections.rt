@@ -5,7 +5,7 @@ ghost use Rattle.lois_base.specs.Data.{coll, comps_of};
 ghost use Rattle.lois_base.specs.Fits.{Fits, ItemsFit};
 ghost use Rattle.lois_base.specs.Tree.{tree, comp_of};
 ghost use Rattle.lois_base.specs.Validity.{AdmitsTerm, AdmitsItems};
-ghost use Rattle.lois_terms.specs.Guarded.{IsSet};
+ghost use Rattle.lois_terms.specs.Guarded.{IsColl};
 ghost use Rattle.lois_automata.specs.Projections.{AreProjected, AreNonTriples, AddsOfOne, IsProjectionOf, IsNonTriple, projected_term};
 
 use crate::parts::{Step, pair, step_parts};
@@ -31,7 +31,7 @@ pub enum Projection {
 
 /// What the shape makes of the steps that are triples. The others are left out.
 pub fn project_steps(alloc: Global, steps: &Comps, shape: Projection) -> Result<Term, NoMemory>
-    ensures set { IfOk result (λ r. IsSet (tree r)) }
+    ensures set { IfOk result (λ r. IsColl (tree r)) }
     ensures members { IfOk result (λ r. (n : ℕ) → AreProjected n shape (coll (comps_of steps.now)) (tree r)) }
     ensures levels { IfOk result (λ r. (n : ℕ) → ItemsFit n (comps_of steps.now) → Fits n (tree r)) }
     ensures operators { IfOk result (λ r. (o : Bool) → AdmitsItems o (comps_of steps.now) → AdmitsTerm o (tree r)) }
@@ -85,7 +85,7 @@ fn shaped(alloc: Global, shape: Projection, step: Step<'_>) -> Result<Term, NoMe
 
 /// The steps that are no triples.
 pub fn non_triples(alloc: Global, steps: &Comps) -> Result<Term, NoMemory>
-    ensures set { IfOk result (λ r. IsSet (tree r)) }
+    ensures set { IfOk result (λ r. IsColl (tree r)) }
     ensures members { IfOk result (λ r. (n : ℕ) → AreNonTriples n (coll (comps_of steps.now)) (tree r)) }
     ensures levels { IfOk result (λ r. (n : ℕ) → ItemsFit n (comps_of steps.now) → Fits n (tree r)) }
     ensures operators { IfOk result (λ r. (o : Bool) → AdmitsItems o (comps_of steps.now) → AdmitsTerm o (tree r)) }

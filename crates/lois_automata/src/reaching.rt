@@ -8,12 +8,12 @@ ghost use Rattle.lois_base.specs.Tree.{tree};
 ghost use Rattle.lois_base.specs.Validity.{AdmitsConstraint, AdmitsTerm, AdmitsItems, HasBoundedWidths};
 ghost use Rattle.lois_base.specs.Values.{point};
 ghost use Rattle.lois_meaning.specs.Kinds.{IsSetOf};
-ghost use Rattle.lois_terms.specs.Guarded.{IsSet};
+ghost use Rattle.lois_terms.specs.Guarded.{IsColl};
 ghost use Rattle.lois_automata.specs.Reachability.{graph_at, IsReached};
 ghost use Rattle.lois_automata.specs.Throughout.{HoldsThroughout};
 
 use crate::frontier::FrontierRound;
-use crate::joining::{first_family, held_set};
+use crate::joining::{first_family, set_of_family};
 use lois_base::{Comps, Constraint, NoMemory, Term};
 use lois_order::OrderAtoms;
 use lois_rounds::{Family, grow};
@@ -31,11 +31,11 @@ pub fn reachable_set(
 ) -> Result<Term, NoMemory>
     requires nodes { ItemsFit size (comps_of nodes.now) }
     requires start { Fits size (tree start.now) }
-    requires start_set { IsSet (tree start.now) }
+    requires start_set { IsColl (tree start.now) }
     requires moves { ItemsFit size (comps_of moves.now) }
     requires under { ConstraintFits size under.now }
     ensures members { IfOk result (λ r. HoldsThroughout size under.now (λ c. IsSetOf (point (tree r) c) (IsReached (graph_at (coll (comps_of nodes.now)) (tree start.now) (coll (comps_of moves.now)) c)))) }
-    ensures set { IfOk result (λ r. IsSet (tree r)) }
+    ensures set { IfOk result (λ r. IsColl (tree r)) }
     ensures levels { IfOk result (λ r. Fits size (tree r)) }
     ensures operators { IfOk result (λ r. (o : Bool) → AdmitsItems o (comps_of nodes.now) → AdmitsTerm o (tree start.now) → AdmitsItems o (comps_of moves.now) → AdmitsConstraint o under.now → AdmitsTerm o (tree r)) }
     ensures widths { IfOk result (λ r. HasBoundedWidths (coll (comps_of nodes.now)) → HasBoundedWidths (tree r)) }
@@ -50,5 +50,5 @@ pub fn reachable_set(
         frontier: Family::new(alloc),
     };
     let family = grow(alloc, &mut round, first)?;
-    held_set(alloc, nodes, &family)
+    set_of_family(alloc, nodes, &family)
 }

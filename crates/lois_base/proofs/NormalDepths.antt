@@ -7,7 +7,7 @@ use Rattle.lois_base.specs.Atom.{Atom}
 use Rattle.lois_base.specs.Data.{TermD, var, tag, tup, coll, TermsD, no_terms, term, comp, CompsD, no_comps, more, depth, depth_of_parts, depth_of_items}
 use Rattle.lois_base.specs.Fits.{LitFits, ConstraintFits, Fits, PartsFit, ItemsFit}
 use Rattle.lois_base.specs.Laws.{NormalIsAsDeep}
-use Rattle.lois_base.specs.Normal.{both, joined, Satisfies, IsNormal, PartsAreNormal, EachIsNormal}
+use Rattle.lois_base.specs.Normal.{both, concatenated, Satisfies, IsNormal, PartsAreNormal, EachIsNormal}
 use Rattle.lois_base.specs.Truth.{holds}
 use Rattle.lois_base.specs.Values.{IsExtension, DeeperAt, SomePartDeeperAt, SomeMemberDeeperAt, OneDeeperAt}
 use Rattle.lois_base.specs.declared.guards.Lit.{Lit}
@@ -74,7 +74,7 @@ mutual
         let met = normal.0.0.met in
         let x = one_deeper n m d u g t fits (deep_at t (both u g) (n + m) d inner own.0.2 normal.0.1 met.0 met.1 h) in
         (x.0, x.1, inl x.2)
-    | inr h ↦ let x = member_deep_at ks (joined before (more (comp m g t) no_comps)) u n d fits own.1 normal.1 h in (x.0, x.1, inr x.2)
+    | inr h ↦ let x = member_deep_at ks (concatenated before (more (comp m g t) no_comps)) u n d fits own.1 normal.1 h in (x.0, x.1, inr x.2)
   ]
 
 pub normal_depth : NormalIsAsDeep

@@ -6,7 +6,7 @@ use Rattle.lois_base.specs.Atom.{Atom, equal, below}
 use Rattle.lois_base.specs.Data.{coll}
 use Rattle.lois_base.specs.FormulaData.{FormulaD, FormulaFits}
 use Rattle.lois_base.specs.FormulaTruth.{FormulaHolds}
-use Rattle.lois_base.specs.Laws.{EqualIsEquivalence, IsDenseOrder, TruthRespectsEqual, SameIsEquivalence, SameIsRespected, SetsAreTheirMembers, OnlyItsLevelsCount, OnlyThePatternCounts, moved, MapsKeepMeaning, SmallNumbersSuffice}
+use Rattle.lois_base.specs.Laws.{EqualIsEquivalence, IsDenseOrder, TruthRespectsEqual, SameIsEquivalence, SameIsRespected, SetsAreTheirMembers, OnlyItsLevelsCount, OnlyThePatternCounts, mapped, MapsKeepMeaning, SmallNumbersSuffice}
 use Rattle.lois_base.specs.Patterns.{AreAlike, IsEmbedding}
 use Rattle.lois_base.specs.Fits.{Fits}
 use Rattle.lois_base.specs.Truth.{sampled}
@@ -78,7 +78,7 @@ formulas_kept ordered f keeps g c p a =
       (λ h. formula_alike ordered g (map f c) c (alike_sym ordered c (map f c) there) q a h),
     )
 
-values_kept : (ordered : Bool) (f : Atom → Atom) → IsEmbedding ordered f → (v w : PointValue) → IsProper v → IsProper w → AdmitsTerm ordered v.term_of → AdmitsTerm ordered w.term_of → IsSame v w ↔ IsSame (moved f v) (moved f w)
+values_kept : (ordered : Bool) (f : Atom → Atom) → IsEmbedding ordered f → (v w : PointValue) → IsProper v → IsProper w → AdmitsTerm ordered v.term_of → AdmitsTerm ordered w.term_of → IsSame v w ↔ IsSame (mapped f v) (mapped f w)
 values_kept ordered f keeps v w p q a b =
     let there : AreAlike ordered (v.choice ++ w.choice) (map f v.choice ++ map f w.choice) = alike_maps ordered f keeps v.choice w.choice in
     let home = alike_sym ordered (v.choice ++ w.choice) (map f v.choice ++ map f w.choice) there in

@@ -64,14 +64,14 @@ pub record OnlyThePatternCounts : Type 0 where
   pub values : (ordered : Bool) (t s : TermD) (c d c' d' : List Atom) → length c ≡ length c' → AreAlike ordered (c ++ d) (c' ++ d') → Fits (length c) t → Fits (length d) s → AdmitsTerm ordered t → AdmitsTerm ordered s → IsSame (point t c) (point s d) → IsSame (point t c') (point s d')
 
 -- the value of the same term where a map has moved the atoms
-abbrev pub moved : (Atom → Atom) → PointValue → PointValue
-moved f v = point v.term_of (map f v.choice)
+abbrev pub mapped : (Atom → Atom) → PointValue → PointValue
+mapped f v = point v.term_of (map f v.choice)
 
 -- so every map of atoms that keeps equality, and order where `<` occurs, keeps truth and sameness
 pub record MapsKeepMeaning : Type 0 where
   pub constraints : (ordered : Bool) (f : Atom → Atom) → IsEmbedding ordered f → (g : List (List Lit)) (c : List Atom) → ConstraintFits (length c) g → AdmitsConstraint ordered g → holds c g ≡ holds (map f c) g
   pub formulas : (ordered : Bool) (f : Atom → Atom) → IsEmbedding ordered f → (g : FormulaD) (c : List Atom) → FormulaFits (length c) g → AdmitsFormula ordered g → FormulaHolds c g ↔ FormulaHolds (map f c) g
-  pub values : (ordered : Bool) (f : Atom → Atom) → IsEmbedding ordered f → (v w : PointValue) → IsProper v → IsProper w → AdmitsTerm ordered v.term_of → AdmitsTerm ordered w.term_of → IsSame v w ↔ IsSame (moved f v) (moved f w)
+  pub values : (ordered : Bool) (f : Atom → Atom) → IsEmbedding ordered f → (v w : PointValue) → IsProper v → IsProper w → AdmitsTerm ordered v.term_of → AdmitsTerm ordered w.term_of → IsSame v w ↔ IsSame (mapped f v) (mapped f w)
 
 -- each choice of k atoms has k numbers below k that stand alike, at which each constraint over k levels has the same truth
 pub record SmallNumbersSuffice : Type 0 where

@@ -38,9 +38,9 @@ abbrev mutual
   OccursInItem b (more c cs) = OccursInComp b c ⊎ OccursInItem b cs
 
 -- one list of comprehensions after the other
-abbrev pub joined : CompsD → CompsD → CompsD
-joined no_comps cs = cs
-joined (more k ks) cs = more k (joined ks cs)
+abbrev pub concatenated : CompsD → CompsD → CompsD
+concatenated no_comps cs = cs
+concatenated (more k ks) cs = more k (concatenated ks cs)
 
 -- a choice of n atoms at which a guard holds
 pub record Satisfies (n : ℕ) (u : List (List Lit)) (c : List Atom) : Type 0 where
@@ -70,7 +70,7 @@ abbrev mutual
   pub EachIsNormal : CompsD → CompsD → List (List Lit) → ℕ → Type 0
   EachIsNormal no_comps before u n = Unit {0}
   EachIsNormal (more k ks) before u n =
-      IsNormalComp k (joined before ks) u n × EachIsNormal ks (joined before (more k no_comps)) u n
+      IsNormalComp k (concatenated before ks) u n × EachIsNormal ks (concatenated before (more k no_comps)) u n
 
   pub IsNormalComp : CompD → CompsD → List (List Lit) → ℕ → Type 0
   IsNormalComp (comp m g t) others u n = IsIrredundant m g t others u n × IsNormal t (both u g) (n + m)

@@ -17,7 +17,7 @@ use Rattle.lois_base.specs.Validity.{AdmitsConstraint}
 use Rattle.lois_base.specs.Values.{point, IsSame}
 use Rattle.lois_base.specs.declared.guards.Lit.{Lit}
 use Rattle.lois_deciders.specs.Satisfaction.{IsConstraintSample, ConstraintIsSatisfiable}
-use Rattle.lois_census.specs.Left.{HoldsWhereInOrbit, IsWithout, IsLeft, IsCovered}
+use Rattle.lois_census.specs.Left.{HoldsWhereInOrbit, IsWithoutOrbit, IsRemainder, IsCoveredByOrbits}
 use Rattle.lois_census.specs.OrbitData.{OrbitD}
 use Rattle.lois_census.specs.Orbits.{IsInOrbit, IsOutside, AreDisjointOrbits}
 use Rattle.lois_census.proofs.Lists.{Any-kept}
@@ -34,7 +34,7 @@ other_out p false b is h f = absurd (cc)
 
 module _ (ordered : Bool) (n : ℕ) (t : TermD) where
   -- what holds where the constraint does and the other one, which holds in the orbit, doesn't
-  pub taken_off : (o : OrbitD) (u q r : List (List Lit)) → HoldsWhereInOrbit ordered n t o q → ((e : List Atom) → holds e r ≡ (holds e u && not (holds e q))) → IsWithout ordered n t o u r
+  pub taken_off : (o : OrbitD) (u q r : List (List Lit)) → HoldsWhereInOrbit ordered n t o q → ((e : List Atom) → holds e r ≡ (holds e u && not (holds e q))) → IsWithoutOrbit ordered n t o u r
   taken_off o u q r inside is = record {
     within = λ e le h. (both_in (holds e r) (holds e u) (holds e q) (is e) h).0;
     outside = λ e le h k.
@@ -45,7 +45,7 @@ module _ (ordered : Bool) (n : ℕ) (t : TermD) where
   }
 
   module _ (g : List (List Lit)) where
-    pub left_begin : (u : List (List Lit)) → u ≡ g → IsLeft ordered n g t [] u
+    pub left_begin : (u : List (List Lit)) → u ≡ g → IsRemainder ordered n g t [] u
     left_begin u is = record {
       within = λ e le h. subst (λ z. IsTrue (holds e z)) is h;
       outside = λ e le h. All-nil (IsOutside ordered (point t e));
@@ -54,7 +54,7 @@ module _ (ordered : Bool) (n : ℕ) (t : TermD) where
           absurd (cc);
     }
 
-    pub left_more : (os : List OrbitD) (o : OrbitD) (u r : List (List Lit)) → IsLeft ordered n g t os u → IsWithout ordered n t o u r → IsLeft ordered n g t (os ++ o ∷ []) r
+    pub left_more : (os : List OrbitD) (o : OrbitD) (u r : List (List Lit)) → IsRemainder ordered n g t os u → IsWithoutOrbit ordered n t o u r → IsRemainder ordered n g t (os ++ o ∷ []) r
     left_more os o u r left less = record {
       within = λ e le h. left.within e le (less.within e le h);
       outside = λ e le h.
@@ -66,9 +66,9 @@ module _ (ordered : Bool) (n : ℕ) (t : TermD) where
           ];
     }
 
-    module _ (os : List OrbitD) (u : List (List Lit)) (left : IsLeft ordered n g t os u) where
+    module _ (os : List OrbitD) (u : List (List Lit)) (left : IsRemainder ordered n g t os u) where
       -- nothing is left
-      pub covered : (ConstraintIsSatisfiable n u → ⊥) → IsCovered ordered os (comp n g t)
+      pub covered : (ConstraintIsSatisfiable n u → ⊥) → IsCoveredByOrbits ordered os (comp n g t)
       covered unmet e extension =
           elim (test (holds e u)) [
             | inl h ↦ absurd (unmet (e, extension.count, h))

@@ -9,7 +9,7 @@ use Rattle.lois_base.specs.Values.{point}
 use Rattle.lois_base.specs.declared.guards.Lit.{Lit}
 use Rattle.lois_deciders.specs.Satisfaction.{IsConstraintSample}
 use Rattle.lois_rounds.proofs.Counts.{count_lists, Within, count_equal}
-use Rattle.lois_census.specs.Left.{IsWithout}
+use Rattle.lois_census.specs.Left.{IsWithoutOrbit}
 use Rattle.lois_census.specs.OrbitData.{OrbitD}
 use Rattle.lois_census.specs.Orbits.{IsInOrbit}
 use Rattle.lois_census.proofs.Standing.{alike_itself}
@@ -24,7 +24,7 @@ pub in_own_orbit : (ordered : Bool) (o : OrbitD) → IsInOrbit ordered (point o.
 in_own_orbit ordered o =
     (sampled o.sample, alike_itself ordered (sampled o.sample), same_refl (point o.item (sampled o.sample)))
 
-pub fewer : (ordered : Bool) (n : ℕ) (o : OrbitD) (u r : List (List Lit)) → IsWithout ordered n o.item o u r → IsConstraintSample n u o.sample → sample_count n r < sample_count n u
+pub fewer : (ordered : Bool) (n : ℕ) (o : OrbitD) (u r : List (List Lit)) → IsWithoutOrbit ordered n o.item o u r → IsConstraintSample n u o.sample → sample_count n r < sample_count n u
 fewer ordered n o u r less meets =
     elim (cases_lt (sample_count n r) (sample_count n u)) [ inl lt ↦ lt | inr ge ↦ absurd (gone ge) ]
   where

@@ -9,9 +9,9 @@ use Rattle.lois_base.specs.Fits.{Fits, CompFits, ItemsFit}
 use Rattle.lois_base.specs.Truth.{sampled}
 use Rattle.lois_base.specs.Validity.{AdmitsTerm, AdmitsComp, AdmitsItems, HasBoundedWidths, CompHasBoundedWidths, ItemsHaveBoundedWidths}
 use Rattle.lois_base.specs.Values.{PointValue, point, MakesAt, MemberAt, IsMember, IsIn}
-use Rattle.lois_census.specs.Left.{IsTakenFrom, IsTakenFromSome, IsCovered, AddsOnly, IsUsable}
+use Rattle.lois_census.specs.Left.{IsTakenFrom, IsTakenFromSome, IsCoveredByOrbits, AddsOnly, IsUsable}
 use Rattle.lois_census.specs.OrbitData.{OrbitD}
-use Rattle.lois_census.specs.Orbits.{value_of, IsInOrbit, IsListed, FitsSample}
+use Rattle.lois_census.specs.Orbits.{value_of, IsInOrbit, IsInListedOrbit, FitsSample}
 use Rattle.lois_census.proofs.Lists.{Any-kept, Any-weaker}
 use Rattle.std.proofs.lemmas.List.{length-map}
 use Rattle.lois_base.specs.Atom.{whole}
@@ -80,25 +80,25 @@ all_members ks os h =
     All-weaker (IsTakenFromSome ks) (λ o. IsMember (value_of o) (point (coll (comps_of ks)) [])) (λ o p. made_member ks p.0 p.1 o.item (sampled o.sample) p.2 (subst (λ k. MakesAt o.item (sampled o.sample) k []) (sym p.3) (taken_made p.1 o p.4))) os h
 
 module _ (ordered : Bool) (os : List OrbitD) where
-  covers_made : (k : CompD) (w : TermD) (x : List Atom) → IsCovered ordered os k → MakesAt w x k [] → IsListed ordered os (point w x)
+  covers_made : (k : CompD) (w : TermD) (x : List Atom) → IsCoveredByOrbits ordered os k → MakesAt w x k [] → IsInListedOrbit ordered os (point w x)
   covers_made (comp m g t) w x covered h =
-      subst (λ z. IsListed ordered os (point w z)) (sym h.3) (subst (λ z. IsListed ordered os (point z h.0)) (sym h.2) (covered h.0 h.1))
+      subst (λ z. IsInListedOrbit ordered os (point w z)) (sym h.3) (subst (λ z. IsInListedOrbit ordered os (point z h.0)) (sym h.2) (covered h.0 h.1))
 
-  covers_member : (ks : List CompD) (w : TermD) (x : List Atom) → All (IsCovered ordered os) ks → MemberAt w x (comps_of ks) [] → IsListed ordered os (point w x)
+  covers_member : (ks : List CompD) (w : TermD) (x : List Atom) → All (IsCoveredByOrbits ordered os) ks → MemberAt w x (comps_of ks) [] → IsInListedOrbit ordered os (point w x)
   covers_member [] w x covered h = absurd h
-  covers_member (k ∷ ks) w x covered (inl h) = covers_made k w x (All-head (IsCovered ordered os) k ks covered) h
-  covers_member (k ∷ ks) w x covered (inr h) = covers_member ks w x (All-tail (IsCovered ordered os) k ks covered) h
+  covers_member (k ∷ ks) w x covered (inl h) = covers_made k w x (All-head (IsCoveredByOrbits ordered os) k ks covered) h
+  covers_member (k ∷ ks) w x covered (inr h) = covers_member ks w x (All-tail (IsCoveredByOrbits ordered os) k ks covered) h
 
-  pub each_listed : (ks : List CompD) → All (IsCovered ordered os) ks → (v : PointValue) → IsIn v (point (coll (comps_of ks)) []) → IsListed ordered os v
+  pub each_listed : (ks : List CompD) → All (IsCoveredByOrbits ordered os) ks → (v : PointValue) → IsIn v (point (coll (comps_of ks)) []) → IsInListedOrbit ordered os v
   each_listed ks covered v h =
       let u = h.0 in
       Any-weaker (IsInOrbit ordered u) (IsInOrbit ordered v) (λ o k. (k.0, k.1, same_trans v u (point o.item k.0) h.2 k.2)) os (covers_member ks u.term_of u.choice covered h.1)
 
 -- ---- one more comprehension
 module _ (ordered : Bool) (k : CompD) (xs ys : List OrbitD) (added : AddsOnly (IsTakenFrom k) xs ys) where
-  pub still_covered : (q : CompD) → IsCovered ordered xs q → IsCovered ordered ys q
+  pub still_covered : (q : CompD) → IsCoveredByOrbits ordered xs q → IsCoveredByOrbits ordered ys q
   still_covered (comp m g t) h = λ e extension.
-      subst (λ os. IsListed ordered os (point t e)) (sym added.1) (Any-kept (IsInOrbit ordered (point t e)) xs added.0 (h e extension))
+      subst (λ os. IsInListedOrbit ordered os (point t e)) (sym added.1) (Any-kept (IsInOrbit ordered (point t e)) xs added.0 (h e extension))
 
   pub still_taken : (ks : List CompD) → Contains ks k → All (IsTakenFromSome ks) xs → All (IsTakenFromSome ks) ys
   still_taken ks there h =

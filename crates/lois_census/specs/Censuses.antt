@@ -7,27 +7,27 @@ use Rattle.lois_base.specs.Validity.{AdmitsTerm, HasBoundedWidths}
 use Rattle.lois_base.specs.Values.{PointValue, point, IsMember, IsIn}
 use Rattle.lois_answers.specs.LastNamed.{last_named}
 use Rattle.lois_answers.specs.ResultsData.{LineD, CaseD}
-use Rattle.lois_terms.specs.Guarded.{IsSet}
+use Rattle.lois_terms.specs.Guarded.{IsColl}
 use Rattle.lois_census.specs.CensusData.{CensusD}
 use Rattle.lois_census.specs.OrbitData.{OrbitD}
-use Rattle.lois_census.specs.Orbits.{value_of, IsListed, AreDisjointOrbits, FitsSample}
+use Rattle.lois_census.specs.Orbits.{value_of, IsInListedOrbit, AreDisjointOrbits, FitsSample}
 
 -- each orbit is that of a member of the set t, and each member of it is in exactly one
 pub record AreOrbitsOf (ordered : Bool) (t : TermD) (os : List OrbitD) : Type 0 where
   pub levels : All FitsSample os
   pub members : All (λ o. IsMember (value_of o) (point t [])) os
-  pub each : (v : PointValue) → IsIn v (point t []) → IsListed ordered os v
+  pub each : (v : PointValue) → IsIn v (point t []) → IsInListedOrbit ordered os v
   pub once : AllPairs (AreDisjointOrbits ordered) os
   pub operators : (o : Bool) → AdmitsTerm o t → All (λ k. AdmitsTerm o k.item) os
   pub widths : HasBoundedWidths t → All (λ k. HasBoundedWidths k.item) os
 
 -- a line of the name, of which the last counts
-abbrev pub HasLine : List ℕ → CaseD → Type 0
-HasLine name c = (l : LineD) × (last_named name c.lines ≡ Some l)
+abbrev pub HasNamedLine : List ℕ → CaseD → Type 0
+HasNamedLine name c = (l : LineD) × (last_named name c.lines ≡ Some l)
 
 -- and its term is a set
 abbrev pub HasSet : List ℕ → CaseD → Type 0
-HasSet name c = (l : LineD) × (last_named name c.lines ≡ Some l) × IsSet l.term
+HasSet name c = (l : LineD) × (last_named name c.lines ≡ Some l) × IsColl l.term
 
 -- a case with its number
 pub record NumberedD : Type 0 where

@@ -9,7 +9,7 @@ use Rattle.lois_base.specs.Values.{point, IsExtension}
 use Rattle.lois_base.specs.declared.guards.Lit.{Lit}
 use Rattle.lois_deciders.specs.Satisfaction.{IsConstraintSample}
 use Rattle.lois_census.specs.OrbitData.{OrbitD}
-use Rattle.lois_census.specs.Orbits.{IsInOrbit, IsOutside, IsListed, FitsSample}
+use Rattle.lois_census.specs.Orbits.{IsInOrbit, IsOutside, IsInListedOrbit, FitsSample}
 
 -- the orbit of an item of the comprehension, at numbers at which its guard holds
 abbrev pub IsTakenFrom : CompD → OrbitD → Type 0
@@ -20,9 +20,9 @@ abbrev pub IsTakenFromSome : List CompD → OrbitD → Type 0
 IsTakenFromSome ks o = Any (λ k. IsTakenFrom k o) ks
 
 -- each item of the comprehension, at each choice of its binders that its guard admits, is in one of the orbits
-abbrev pub IsCovered : Bool → List OrbitD → CompD → Type 0
-IsCovered ordered os (comp m g t) =
-    (e : List Atom) → IsExtension [] m g e → IsListed ordered os (point t e)
+abbrev pub IsCoveredByOrbits : Bool → List OrbitD → CompD → Type 0
+IsCoveredByOrbits ordered os (comp m g t) =
+    (e : List Atom) → IsExtension [] m g e → IsInListedOrbit ordered os (point t e)
 
 -- ys are xs and more of which P holds
 abbrev pub AddsOnly : (OrbitD → Type 0) → List OrbitD → List OrbitD → Type 0
@@ -39,13 +39,13 @@ HoldsWhereInOrbit ordered n t o r =
     (e : List Atom) → length e ≡ n → IsTrue (holds e r) ↔ IsInOrbit ordered (point t e) o
 
 -- at each choice of n atoms r holds exactly where the constraint u does and the term's value is outside of the orbit
-pub record IsWithout (ordered : Bool) (n : ℕ) (t : TermD) (o : OrbitD) (u r : List (List Lit)) : Type 0 where
+pub record IsWithoutOrbit (ordered : Bool) (n : ℕ) (t : TermD) (o : OrbitD) (u r : List (List Lit)) : Type 0 where
   pub within : (e : List Atom) → length e ≡ n → IsTrue (holds e r) → IsTrue (holds e u)
   pub outside : (e : List Atom) → length e ≡ n → IsTrue (holds e r) → IsOutside ordered (point t e) o
   pub taken : (e : List Atom) → length e ≡ n → IsTrue (holds e u) → IsFalse (holds e r) → IsInOrbit ordered (point t e) o
 
 -- at each choice of n atoms r holds exactly where the guard does and the term's value is outside of all the orbits
-pub record IsLeft (ordered : Bool) (n : ℕ) (g : List (List Lit)) (t : TermD) (os : List OrbitD) (r : List (List Lit)) : Type 0 where
+pub record IsRemainder (ordered : Bool) (n : ℕ) (g : List (List Lit)) (t : TermD) (os : List OrbitD) (r : List (List Lit)) : Type 0 where
   pub within : (e : List Atom) → length e ≡ n → IsTrue (holds e r) → IsTrue (holds e g)
   pub outside : (e : List Atom) → length e ≡ n → IsTrue (holds e r) → All (IsOutside ordered (point t e)) os
-  pub taken : (e : List Atom) → length e ≡ n → IsTrue (holds e g) → IsFalse (holds e r) → IsListed ordered os (point t e)
+  pub taken : (e : List Atom) → length e ≡ n → IsTrue (holds e g) → IsFalse (holds e r) → IsInListedOrbit ordered os (point t e)

@@ -24,8 +24,8 @@ abbrev pub IsOutside : Bool → PointValue → OrbitD → Type 0
 IsOutside ordered v o = IsInOrbit ordered v o → ⊥
 
 -- the value is in one of the orbits
-abbrev pub IsListed : Bool → List OrbitD → PointValue → Type 0
-IsListed ordered os v = Any (IsInOrbit ordered v) os
+abbrev pub IsInListedOrbit : Bool → List OrbitD → PointValue → Type 0
+IsInListedOrbit ordered os v = Any (IsInOrbit ordered v) os
 
 -- no value is in both
 abbrev pub AreDisjointOrbits : Bool → OrbitD → OrbitD → Type 0

@@ -4,7 +4,7 @@ use Rattle.std.specs.List.{All}
 use Rattle.lois_answers.specs.ResultsData.{CaseD}
 use Rattle.lois_answers.specs.declared.results.Results.{Results}
 use Rattle.lois_census.specs.CensusData.{CensusD}
-use Rattle.lois_census.specs.Censuses.{HasLine, HasSet, numbered, AreCensusesOf, HaveText}
+use Rattle.lois_census.specs.Censuses.{HasNamedLine, HasSet, numbered, AreCensusesOf, HaveText}
 use Rattle.lois_census.specs.declared.counting.Answer.{Answer}
 use Rattle.lois_census.specs.declared.counting.Answer.TheVariants.{Listed, Refused}
 use Rattle.lois_census.specs.declared.counting.Refusal.{Refusal}
@@ -22,12 +22,12 @@ pub record IsFirstWithout (Has : CaseD → Type 0) (cases : List CaseD) (number 
 
 -- The causes exclude each other: there are parameters; there are none, and a case has no line of the name; there are none, each
 -- case has one, and that of some case is no set.
-abbrev pub IsRefusedAs : Results → List ℕ → Refusal → Type 0
-IsRefusedAs r name HasParameters = 0 < length r.parameters
-IsRefusedAs r name (NoLine n number) =
-    (r.parameters ≡ []) × (n ≡ name) × IsFirstWithout (HasLine name) r.cases number
-IsRefusedAs r name (NotASet n number) =
-    (r.parameters ≡ []) × (n ≡ name) × All (HasLine name) r.cases × IsFirstWithout (HasSet name) r.cases number
+abbrev pub IsCensusRefusal : Results → List ℕ → Refusal → Type 0
+IsCensusRefusal r name HasParameters = 0 < length r.parameters
+IsCensusRefusal r name (NoLine n number) =
+    (r.parameters ≡ []) × (n ≡ name) × IsFirstWithout (HasNamedLine name) r.cases number
+IsCensusRefusal r name (NotASet n number) =
+    (r.parameters ≡ []) × (n ≡ name) × All (HasNamedLine name) r.cases × IsFirstWithout (HasSet name) r.cases number
 
 -- there are no parameters, each case has a set of the name, and these are the orbits in those whose constraint holds; cases count
 -- from 1
@@ -39,4 +39,4 @@ pub record AreCensusesIn (ordered : Bool) (r : Results) (name : List ℕ) (es : 
 
 abbrev pub IsCensusAnswer : Bool → Results → List ℕ → Answer → Type 0
 IsCensusAnswer ordered r name (Listed es) = AreCensusesIn ordered r name es
-IsCensusAnswer ordered r name (Refused cause) = IsRefusedAs r name cause
+IsCensusAnswer ordered r name (Refused cause) = IsCensusRefusal r name cause

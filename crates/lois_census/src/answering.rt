@@ -5,7 +5,7 @@ ghost use Rattle.std.specs.List.{All};
 ghost use Rattle.lois_answers.specs.CaseView.{case_of};
 ghost use Rattle.lois_answers.specs.Sound.{IsSound, IsSoundCase};
 ghost use Rattle.lois_deciders.specs.OnlyAsked.{HasOnlyAsked};
-ghost use Rattle.lois_census.specs.Censuses.{HasLine, HasSet, AreOrbitsIn, AreCensusesOf, IsCensusAdded, numbered};
+ghost use Rattle.lois_census.specs.Censuses.{HasNamedLine, HasSet, AreOrbitsIn, AreCensusesOf, IsCensusAdded, numbered};
 ghost use Rattle.lois_census.specs.Refusals.{IsFirstWithout, IsCensusAnswer};
 
 use crate::counting::{Answer, Census, Censuses, Refusal};
@@ -45,7 +45,7 @@ pub fn census_of<T: Structure>(
 }
 
 fn has_line(case: &Case, name: &Name) -> bool
-    ensures { IsTrue result ↔ HasLine name.now (case_of case.now) }
+    ensures { IsTrue result ↔ HasNamedLine name.now (case_of case.now) }
 {
     case.lines.last_named(name).is_some()
 }
@@ -61,8 +61,8 @@ fn has_set(case: &Case, name: &Name) -> bool
 
 // The number of the first case that has no line of the name.
 fn first_without_line(cases: &Cases, name: &Name) -> Option<usize>
-    ensures some { IfSome result (IsFirstWithout (HasLine name.now) cases.now) }
-    ensures none { IfNone result (All (HasLine name.now) cases.now) }
+    ensures some { IfSome result (IsFirstWithout (HasNamedLine name.now) cases.now) }
+    ensures none { IfNone result (All (HasNamedLine name.now) cases.now) }
 {
     for (index, case) in cases.as_slice().iter().enumerate() {
         if !has_line(case, name) {

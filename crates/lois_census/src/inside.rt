@@ -5,7 +5,7 @@ ghost use Rattle.lois_base.specs.Fits.{ConstraintFits, Fits, CompFits};
 ghost use Rattle.lois_base.specs.Tree.{tree, comp_of};
 ghost use Rattle.lois_base.specs.Validity.{AdmitsConstraint, AdmitsTerm, AdmitsComp};
 ghost use Rattle.lois_terms.specs.Shifted.{IsShifted};
-ghost use Rattle.lois_census.specs.Left.{HoldsWhereInOrbit, IsUsable, IsWithout};
+ghost use Rattle.lois_census.specs.Left.{HoldsWhereInOrbit, IsUsable, IsWithoutOrbit};
 ghost use Rattle.lois_census.specs.OrbitView.{orbit_of};
 
 use crate::alike::alike;
@@ -26,7 +26,7 @@ fn joint_size(size: usize, more: usize) -> Result<usize, NoMemory>
 }
 
 // The term with `by` levels put in after the first `from`. Binders inside of it may come to lie above the greatest usize.
-fn among_more(
+fn insert_levels(
     alloc: Global,
     t: &Term,
     size: usize,
@@ -64,8 +64,8 @@ fn in_orbit<T: Structure>(
     let sample = orbit.sample.as_slice();
     let count = sample.len();
     let all = joint_size(size, count)?;
-    let listed = among_more(alloc, &orbit.item, count, 0, size)?;
-    let own = among_more(alloc, item, size, size, count)?;
+    let listed = insert_levels(alloc, &orbit.item, count, 0, size)?;
+    let own = insert_levels(alloc, item, size, size, count)?;
     let standing = alike::<T>(alloc, sample, size)?;
     let same = equal_formula(alloc, &listed, &own, all)?;
     let somewhere = for_some(alloc, conjunction(alloc, standing, same)?, count)?;
@@ -85,7 +85,7 @@ pub(crate) fn without<T: Structure>(
     requires levels { CompFits 0 (comp_of comp.now) }
     requires operators { AdmitsComp T.ordered (comp_of comp.now) }
     requires orbit { IsUsable T.ordered (orbit_of orbit.now) }
-    ensures truth { IfOk result (IsWithout T.ordered comp.now.binders (tree comp.now.item) (orbit_of orbit.now) left.now) }
+    ensures truth { IfOk result (IsWithoutOrbit T.ordered comp.now.binders (tree comp.now.item) (orbit_of orbit.now) left.now) }
     ensures fits { IfOk result (ConstraintFits comp.now.binders) }
     ensures operators { IfOk result (AdmitsConstraint T.ordered) }
 {

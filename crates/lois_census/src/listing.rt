@@ -7,10 +7,10 @@ ghost use Rattle.lois_base.specs.Fits.{ConstraintFits, Fits, CompFits, ItemsFit}
 ghost use Rattle.lois_base.specs.Tree.{tree, comp_of};
 ghost use Rattle.lois_base.specs.Validity.{AdmitsConstraint, AdmitsTerm, AdmitsComp, AdmitsItems, HasBoundedWidths};
 ghost use Rattle.lois_base.specs.Values.{PointValue, point, IsMember, IsIn};
-ghost use Rattle.lois_terms.specs.Guarded.{IsSet};
+ghost use Rattle.lois_terms.specs.Guarded.{IsColl};
 ghost use Rattle.lois_deciders.specs.OnlyAsked.{HasOnlyAsked};
-ghost use Rattle.lois_census.specs.Left.{IsTakenFrom, IsTakenFromSome, IsCovered, AddsOnly, IsUsable, IsLeft};
-ghost use Rattle.lois_census.specs.Orbits.{value_of, IsListed, AreDisjointOrbits, FitsSample};
+ghost use Rattle.lois_census.specs.Left.{IsTakenFrom, IsTakenFromSome, IsCoveredByOrbits, AddsOnly, IsUsable, IsRemainder};
+ghost use Rattle.lois_census.specs.Orbits.{value_of, IsInListedOrbit, AreDisjointOrbits, FitsSample};
 
 use crate::inside::without;
 use crate::orbits::{Orbit, Orbits};
@@ -25,7 +25,7 @@ pub fn census<T: Structure>(
     set: &Term,
     chosen: &mut Chosen,
 ) -> Result<Orbits, NoMemory>
-    requires set { IsSet (tree set.now) }
+    requires set { IsColl (tree set.now) }
     requires levels { Fits 0 (tree set.now) }
     requires operators { AdmitsTerm T.ordered (tree set.now) }
 
@@ -34,7 +34,7 @@ pub fn census<T: Structure>(
     ensures members { IfOk result (All (λ o. IsMember (value_of o) (point (tree set.now) []))) }
 
     // each member is in one of them, and no value is in two
-    ensures each { IfOk result (λ r. (v : PointValue) → IsIn v (point (tree set.now) []) → IsListed T.ordered r v) }
+    ensures each { IfOk result (λ r. (v : PointValue) → IsIn v (point (tree set.now) []) → IsInListedOrbit T.ordered r v) }
     ensures once { IfOk result (AllPairs (AreDisjointOrbits T.ordered)) }
 
     ensures operators { IfOk result (λ r. (o : Bool) → AdmitsTerm o (tree set.now) → All (λ k. AdmitsTerm o k.item) r) }
@@ -57,7 +57,7 @@ fn all_orbits<T: Structure>(
     requires levels { ItemsFit 0 (comps_of comps.now) }
     requires operators { AdmitsItems T.ordered (comps_of comps.now) }
     ensures taken { IfOk result (All (IsTakenFromSome comps.now)) }
-    ensures covered { IfOk result (λ r. All (IsCovered T.ordered r) comps.now) }
+    ensures covered { IfOk result (λ r. All (IsCoveredByOrbits T.ordered r) comps.now) }
     ensures apart { IfOk result (AllPairs (AreDisjointOrbits T.ordered)) }
     ensures only_asked { HasOnlyAsked (λ b. (⟦<dyn Decider as Decider>⟧ b.vtable).kind_of b.value) (λ b. (⟦<dyn Decider as Decider>⟧ b.vtable).questions b.value) chosen.old chosen.new }
 {
@@ -80,7 +80,7 @@ fn add_orbits<T: Structure>(
     requires usable { All (IsUsable T.ordered) orbits.old }
     requires apart { AllPairs (AreDisjointOrbits T.ordered) orbits.old }
     ensures added { OnOk result (AddsOnly (IsTakenFrom (comp_of comp.now)) orbits.old orbits.new) }
-    ensures covered { OnOk result (IsCovered T.ordered orbits.new (comp_of comp.now)) }
+    ensures covered { OnOk result (IsCoveredByOrbits T.ordered orbits.new (comp_of comp.now)) }
     ensures apart { OnOk result (AllPairs (AreDisjointOrbits T.ordered) orbits.new) }
     ensures only_asked { HasOnlyAsked (λ b. (⟦<dyn Decider as Decider>⟧ b.vtable).kind_of b.value) (λ b. (⟦<dyn Decider as Decider>⟧ b.vtable).questions b.value) chosen.old chosen.new }
 {
@@ -105,7 +105,7 @@ fn not_listed<T: Structure>(
     requires levels { CompFits 0 (comp_of comp.now) }
     requires operators { AdmitsComp T.ordered (comp_of comp.now) }
     requires usable { All (IsUsable T.ordered) orbits.now }
-    ensures truth { IfOk result (IsLeft T.ordered comp.now.binders comp.now.guard (tree comp.now.item) orbits.now) }
+    ensures truth { IfOk result (IsRemainder T.ordered comp.now.binders comp.now.guard (tree comp.now.item) orbits.now) }
     ensures fits { IfOk result (ConstraintFits comp.now.binders) }
     ensures operators { IfOk result (AdmitsConstraint T.ordered) }
 {

@@ -27,10 +27,10 @@ cube_before (x ∷ xs) [] = false
 cube_before (x ∷ xs) (y ∷ ys) = lit_before x y || (lit_same x y && cube_before xs ys)
 
 -- `=` and `!=` have the lower level on the left
-abbrev pub IsTurned : Op → ℕ → ℕ → Type 0
-IsTurned Eq x y = x ≤ y
-IsTurned Ne x y = x ≤ y
-IsTurned Lt x y = Unit {0}
+abbrev pub IsOriented : Op → ℕ → ℕ → Type 0
+IsOriented Eq x y = x ≤ y
+IsOriented Ne x y = x ≤ y
+IsOriented Lt x y = Unit {0}
 
 -- each literal of the one cube stands in the other
 abbrev pub is_part : List Lit → List Lit → Bool
@@ -38,7 +38,7 @@ is_part a b = list_all (λ l. list_any (λ m. lit_same m l) b) a
 
 pub record IsNormalCube (k : List Lit) : Type 0 where
   pub apart : All (λ l. l.left ≢ l.right) k
-  pub turned : All (λ l. IsTurned l.op l.left l.right) k
+  pub turned : All (λ l. IsOriented l.op l.left l.right) k
   pub increasing : AllPairs (λ l m. IsTrue (lit_before l m)) k
 
 pub record IsNormalised (g : List (List Lit)) : Type 0 where

@@ -7,7 +7,7 @@ ghost use Rattle.lois_base.specs.Fits.{ConstraintFits};
 ghost use Rattle.lois_base.specs.Truth.{lit_holds, cube_holds, holds};
 ghost use Rattle.lois_base.specs.Validity.{AdmitsConstraint, UsesOnly};
 ghost use Rattle.lois_constraint.specs.Entailment.{CubeIsSatisfiable, IsPruned};
-ghost use Rattle.lois_constraint.specs.Normalised.{IsTurned, IsNormalCube, IsNormalised};
+ghost use Rattle.lois_constraint.specs.Normalised.{IsOriented, IsNormalCube, IsNormalised};
 ghost use Rattle.lois_constraint.specs.Rules.{Rule, Obeys, CubeObeys, ConstraintObeys};
 ghost use Rattle.lois_constraint.specs.Steps.{is_step};
 
@@ -29,7 +29,7 @@ fn is_step(op: Op) -> bool
 // An equation or its opposite with the lower level on the left.
 fn turned(lit: Lit) -> Lit
     ensures truth { (c : List Atom) → lit_holds c result ≡ lit_holds c lit }
-    ensures turned { IsTurned result.op result.left result.right }
+    ensures turned { IsOriented result.op result.left result.right }
     ensures apart { (result.left ≡ result.right) → (lit.left ≡ lit.right) }
     ensures rules { (rule : Rule) → Obeys rule lit → Obeys rule result }
 {
@@ -49,7 +49,7 @@ fn turned_literals(alloc: Global, literals: &[Lit]) -> Result<Vec<Lit>, NoMemory
     requires { CubeIsSatisfiable literals.now }
     ensures truth { IfOk result (λ r. (c : List Atom) → cube_holds c r.items ≡ cube_holds c literals.now) }
     ensures apart { IfOk result (λ r. All (λ l. l.left ≢ l.right) r.items) }
-    ensures turned { IfOk result (λ r. All (λ l. IsTurned l.op l.left l.right) r.items) }
+    ensures turned { IfOk result (λ r. All (λ l. IsOriented l.op l.left l.right) r.items) }
     ensures rules { IfOk result (λ r. (rule : Rule) → CubeObeys rule literals.now → CubeObeys rule r.items) }
 {
     let mut turned_ones = Vec::with_capacity(alloc, literals.len())?;

@@ -14,9 +14,9 @@ use Rattle.lois_base.proofs.RenamedForm.{admits_renamed, widths_renamed}
 use Rattle.lois_answers.specs.ResultsData.{LineD}
 use Rattle.lois_meaning.specs.Store.{named, looked_up, stored, AreSameNamed}
 use Rattle.lois_terms.proofs.MoreAtoms.{is_raised}
-use Rattle.lois_context.specs.Entered.{carried, carried_line, bound}
+use Rattle.lois_context.specs.Entered.{carried, carried_line, element_slot}
 use Rattle.lois_context.specs.Kept.{HasDistinctNames}
-use Rattle.lois_context.specs.Slots.{IsNew, SlotD, slot_name, count_of_items, comps_in, store_at, lines_at}
+use Rattle.lois_context.specs.Slots.{IsNew, SlotD, slot_name, count_of_items, comps_in, store_at, line_values}
 
 -- ---- the number of comprehensions
 pub count_of : (ks : List CompD) → count_of_items (comps_of ks) ≡ length ks
@@ -42,19 +42,19 @@ raised_same n by t c e l m =
     subst (λ z. SameAt (shift n by t) (c ++ e) t z) (append-nil c) (subst (λ z. SameAt (shift n by t) (c ++ z) t (c ++ [])) (append-nil e) own)
 
 module _ (n by : ℕ) (c e : List Atom) (l : length c ≡ n) (m : length e ≡ by) where
-  pub lines_same : (ls : List LineD) → AreSameNamed (lines_at (c ++ e) (map (carried_line n by) ls)) (lines_at c ls)
+  pub lines_same : (ls : List LineD) → AreSameNamed (line_values (c ++ e) (map (carried_line n by) ls)) (line_values c ls)
   lines_same [] = tt
   lines_same (line ∷ ls) = (refl, raised_same n by line.term c e l m, lines_same ls)
 
   -- the store with a new name at its end
-  pub store_same : (x : List ℕ) (t : TermD) (ss : List SlotD) → IsNew x ss → AreSameNamed (store_at (c ++ e) (map (carried n by) ss ++ bound x t ∷ [])) (stored x (point t (c ++ e)) (store_at c ss))
+  pub store_same : (x : List ℕ) (t : TermD) (ss : List SlotD) → IsNew x ss → AreSameNamed (store_at (c ++ e) (map (carried n by) ss ++ element_slot x t ∷ [])) (stored x (point t (c ++ e)) (store_at c ss))
   store_same x t [] h = (refl, same_refl (point t (c ++ e)), tt)
   store_same x t (s ∷ ss) h =
       go (bytes_eq s.name x) (All-head (λ s. IsFalse (bytes_eq s.name x)) s ss h) (store_same x t ss (All-tail (λ s. IsFalse (bytes_eq s.name x)) s ss h))
     where
       go : (p : Bool) → IsFalse p →
-          AreSameNamed (store_at (c ++ e) (map (carried n by) ss ++ bound x t ∷ [])) (stored x (point t (c ++ e)) (store_at c ss)) →
-          AreSameNamed (store_at (c ++ e) (carried n by s ∷ (map (carried n by) ss ++ bound x t ∷ []))) (if p then (named x (point t (c ++ e)) ∷ store_at c ss) else (named s.name (point s.term c) ∷ stored x (point t (c ++ e)) (store_at c ss)))
+          AreSameNamed (store_at (c ++ e) (map (carried n by) ss ++ element_slot x t ∷ [])) (stored x (point t (c ++ e)) (store_at c ss)) →
+          AreSameNamed (store_at (c ++ e) (carried n by s ∷ (map (carried n by) ss ++ element_slot x t ∷ []))) (if p then (named x (point t (c ++ e)) ∷ store_at c ss) else (named s.name (point s.term c) ∷ stored x (point t (c ++ e)) (store_at c ss)))
       go false f rest = (refl, raised_same n by s.term c e l m, rest)
       go true f rest = absurd (cc)
 
@@ -67,19 +67,19 @@ pub carried_new : (n by : ℕ) (x : List ℕ) (ss : List SlotD) → IsNew x ss �
 carried_new n by x ss h = All-map (λ s. IsFalse (bytes_eq s.name x)) (carried n by) ss h
 
 -- what a new name at the end holds
-pub held_last : (x : List ℕ) (t : TermD) (c : List Atom) (ss : List SlotD) → IsNew x ss → looked_up x (store_at c (ss ++ bound x t ∷ [])) ≡ Some (point t c)
+pub held_last : (x : List ℕ) (t : TermD) (c : List Atom) (ss : List SlotD) → IsNew x ss → looked_up x (store_at c (ss ++ element_slot x t ∷ [])) ≡ Some (point t c)
 held_last x t c [] h =
     ap (λ p. if p then Some (point t c) else looked_up x []) ((bytes_eq-Decides x x).1 refl)
 held_last x t c (s ∷ ss) h =
-    ap (λ p. if p then Some (point s.term c) else looked_up x (store_at c (ss ++ bound x t ∷ []))) (All-head (λ s. IsFalse (bytes_eq s.name x)) s ss h)
+    ap (λ p. if p then Some (point s.term c) else looked_up x (store_at c (ss ++ element_slot x t ∷ []))) (All-head (λ s. IsFalse (bytes_eq s.name x)) s ss h)
     ∙ held_last x t c ss (All-tail (λ s. IsFalse (bytes_eq s.name x)) s ss h)
 
 module _ (n by : ℕ) (x : List ℕ) (t : TermD) where
-  apart_more : (y : List ℕ) (ss : List SlotD) → AllByRecursion (λ z. bytes_eq y z ≡ false) (map slot_name ss) → bytes_eq y x ≡ false → AllByRecursion (λ z. bytes_eq y z ≡ false) (map slot_name (map (carried n by) ss ++ bound x t ∷ []))
+  apart_more : (y : List ℕ) (ss : List SlotD) → AllByRecursion (λ z. bytes_eq y z ≡ false) (map slot_name ss) → bytes_eq y x ≡ false → AllByRecursion (λ z. bytes_eq y z ≡ false) (map slot_name (map (carried n by) ss ++ element_slot x t ∷ []))
   apart_more y [] h f = (f, tt)
   apart_more y (s ∷ ss) h f = (h.0, apart_more y ss h.1 f)
 
-  pub distinct_more : (ss : List SlotD) → HasDistinctNames ss → IsNew x ss → HasDistinctNames (map (carried n by) ss ++ bound x t ∷ [])
+  pub distinct_more : (ss : List SlotD) → HasDistinctNames ss → IsNew x ss → HasDistinctNames (map (carried n by) ss ++ element_slot x t ∷ [])
   unfolding IsDistinct
   distinct_more [] h f = (tt, tt)
   distinct_more (s ∷ ss) h f =

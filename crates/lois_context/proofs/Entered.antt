@@ -12,8 +12,8 @@ use Rattle.lois_base.specs.Validity.{AdmitsConstraint, AdmitsTerm, AdmitsComp, A
 use Rattle.lois_base.specs.Values.{PointValue, point, MemberAt, MakesAt, IsMember}
 use Rattle.lois_meaning.specs.Store.{looked_up, stored, AreSameNamed}
 use Rattle.lois_context.specs.Choices.{IsAdmitted, AdmitsContext, ContextHasBoundedWidths}
-use Rattle.lois_context.specs.Entered.{binders_of, guard_of, item_of, items_listed, comps_listed, carried, carried_line, bound, IsEntry, HasNoMembers, AreEntries, IsHeldInside, GoesOn, IsLoopContext, AreEntered}
-use Rattle.lois_context.specs.Slots.{IsNew, SlotD, slot_name, store_at, lines_at}
+use Rattle.lois_context.specs.Entered.{binders_of, guard_of, item_of, items_listed, comps_listed, carried, carried_line, element_slot, IsMemberContext, HasNoMembers, AreMemberContexts, IsHeldInside, ExtendsContext, IsLoopContext, AreEntered}
+use Rattle.lois_context.specs.Slots.{IsNew, SlotD, slot_name, store_at, line_values}
 use Rattle.lois_context.specs.declared.contexts.Context.{Context}
 use Rattle.lois_context.proofs.Carried.{lines_same, store_same, carried_new, held_last, carried_admits, carried_widths, lines_admit, lines_widths}
 use Rattle.lois_context.proofs.Longer.{holds_at_start}
@@ -35,14 +35,14 @@ items_all Q Each split (k ∷ ks) h =
 
 -- ---- one comprehension after another
 module _ (before : Context) (x : List ℕ) where
-  pub entries_skip : (ks : List CompD) (ds : List Context) (k : CompD) → AreEntries before x ks ds → HasNoMembers before k → AreEntries before x (ks ++ k ∷ []) ds
+  pub entries_skip : (ks : List CompD) (ds : List Context) (k : CompD) → AreMemberContexts before x ks ds → HasNoMembers before k → AreMemberContexts before x (ks ++ k ∷ []) ds
   entries_skip [] [] k h n = (n, tt)
   entries_skip [] (d ∷ ds) k h n = absurd h
   entries_skip (q ∷ ks) [] k h n = (h.0, entries_skip ks [] k h.1 n)
   entries_skip (q ∷ ks) (d ∷ ds) k (inl h) n = inl (h.0, entries_skip ks (d ∷ ds) k h.1 n)
   entries_skip (q ∷ ks) (d ∷ ds) k (inr h) n = inr (h.0, entries_skip ks ds k h.1 n)
 
-  pub entries_put : (ks : List CompD) (ds : List Context) (k : CompD) (d : Context) → AreEntries before x ks ds → IsEntry before x k d → AreEntries before x (ks ++ k ∷ []) (ds ++ d ∷ [])
+  pub entries_put : (ks : List CompD) (ds : List Context) (k : CompD) (d : Context) → AreMemberContexts before x ks ds → IsMemberContext before x k d → AreMemberContexts before x (ks ++ k ∷ []) (ds ++ d ∷ [])
   entries_put [] [] k d h e = inr (e, tt)
   entries_put [] (b ∷ ds) k d h e = absurd h
   entries_put (q ∷ ks) [] k d h e = inl (h.0, entries_put ks [] k d h.1 e)
@@ -50,7 +50,7 @@ module _ (before : Context) (x : List ℕ) where
   entries_put (q ∷ ks) (b ∷ ds) k d (inr h) e = inr (h.0, entries_put ks ds k d h.1 e)
 
   -- what each entry has
-  pub all_entries : (Q : CompD → Type 0) (P : Context → Type 0) → ((k : CompD) (d : Context) → Q k → IsEntry before x k d → P d) → (ks : List CompD) (ds : List Context) → All Q ks → AreEntries before x ks ds → All P ds
+  pub all_entries : (Q : CompD → Type 0) (P : Context → Type 0) → ((k : CompD) (d : Context) → Q k → IsMemberContext before x k d → P d) → (ks : List CompD) (ds : List Context) → All Q ks → AreMemberContexts before x ks ds → All P ds
   all_entries Q P f [] [] q h = All-nil P
   all_entries Q P f [] (d ∷ ds) q h = absurd h
   all_entries Q P f (k ∷ ks) [] q h = All-nil P
@@ -59,7 +59,7 @@ module _ (before : Context) (x : List ℕ) where
       All-cons P d ds (f k d (All-head Q k ks q) h.0) (all_entries Q P f ks ds (All-tail Q k ks q) h.1)
 
   -- ---- one entry
-  module _ (new : IsNew x before.store) (k : CompD) (d : Context) (entry : IsEntry before x k d) where
+  module _ (new : IsNew x before.store) (k : CompD) (d : Context) (entry : IsMemberContext before x k d) where
     entry_holds : (c : List Atom) → looked_up x (store_at c d.store) ≡ Some (point (item_of k) c)
     entry_holds c =
         ap (λ s. looked_up x (store_at c s)) entry.store ∙ held_last x (item_of k) c (map (carried before.size (binders_of k)) before.store) (carried_new before.size (binders_of k) x before.store new)
@@ -73,7 +73,7 @@ module _ (before : Context) (x : List ℕ) where
           both.1,
         )
 
-    pub goes_on : GoesOn before x d
+    pub goes_on : ExtendsContext before x d
     goes_on = record {
       outside = λ c e l a. (l, (entry_parts c e l a).1);
       store = λ c e l a u held.
@@ -83,7 +83,7 @@ module _ (before : Context) (x : List ℕ) where
           (subst (λ s. AreSameNamed (store_at (c ++ e) s) (stored x (point (item_of k) (c ++ e)) (store_at c before.store))) (sym entry.store)
           (store_same before.size (binders_of k) c e l (entry_parts c e l a).0 x (item_of k) before.store new));
       lines = λ c e l a.
-          subst (λ s. AreSameNamed (lines_at (c ++ e) s) (lines_at c before.lines)) (sym entry.lines) (lines_same before.size (binders_of k) c e l (entry_parts c e l a).0 before.lines);
+          subst (λ s. AreSameNamed (line_values (c ++ e) s) (line_values c before.lines)) (sym entry.lines) (lines_same before.size (binders_of k) c e l (entry_parts c e l a).0 before.lines);
     }
 
     pub admitted_inside : (c e : List Atom) → IsAdmitted c before → length e ≡ binders_of k → IsTrue (holds (c ++ e) (guard_of k)) → IsAdmitted (c ++ e) d
@@ -112,7 +112,7 @@ module _ (before : Context) (x : List ℕ) where
 
   -- ---- members
   module _ (new : IsNew x before.store) (c : List Atom) (a : IsAdmitted c before) (u : PointValue) where
-    pub held_inside : (ks : CompsD) (ds : List Context) → AreEntries before x (items_listed ks) ds → MemberAt u.term_of u.choice ks c → IsHeldInside ds x c u
+    pub held_inside : (ks : CompsD) (ds : List Context) → AreMemberContexts before x (items_listed ks) ds → MemberAt u.term_of u.choice ks c → IsHeldInside ds x c u
     held_inside no_comps ds h m = absurd m
     held_inside (more k ks) [] h (inl m) = absurd (no_member k h.0 c a u m)
     held_inside (more k ks) [] h (inr m) = held_inside ks [] h.1 m
@@ -125,7 +125,7 @@ module _ (before : Context) (x : List ℕ) where
         let rest = held_inside ks ds h.1 m in
         (rest.0, Contains-append_right (d ∷ []) ds rest.0 rest.1, rest.2, rest.3, rest.4)
 
-    pub member_outside : (ks : CompsD) (ds : List Context) → AreEntries before x (items_listed ks) ds → IsHeldInside ds x c u → MemberAt u.term_of u.choice ks c
+    pub member_outside : (ks : CompsD) (ds : List Context) → AreMemberContexts before x (items_listed ks) ds → IsHeldInside ds x c u → MemberAt u.term_of u.choice ks c
     member_outside no_comps [] h (d, there, e, adm, held) = absurd (omega (arith, there.1))
     member_outside no_comps (b ∷ ds) h m = absurd h
     member_outside (more k ks) [] h m = inr (member_outside ks [] h.1 m)
@@ -135,11 +135,11 @@ module _ (before : Context) (x : List ℕ) where
       | inr later ↦ inr (member_outside ks ds h.1 (d, later, e, adm, held))
     ]
 
-  names_carried : (n by : ℕ) (t : TermD) (ss : List SlotD) → map slot_name (map (carried n by) ss ++ bound x t ∷ []) ≡ map slot_name ss ++ x ∷ []
+  names_carried : (n by : ℕ) (t : TermD) (ss : List SlotD) → map slot_name (map (carried n by) ss ++ element_slot x t ∷ []) ≡ map slot_name ss ++ x ∷ []
   names_carried n by t [] = refl
   names_carried n by t (s ∷ ss) = ap (λ ns. s.name ∷ ns) (names_carried n by t ss)
 
-  is_inside : IsNew x before.store → (k : CompD) (d : Context) → IsEntry before x k d → IsLoopContext before x d
+  is_inside : IsNew x before.store → (k : CompD) (d : Context) → IsMemberContext before x k d → IsLoopContext before x d
   is_inside new k d entry = record {
     longer = omega (arith, entry.size);
     names = ap (map slot_name) entry.store ∙ names_carried before.size (binders_of k) (item_of k) before.store;
@@ -147,17 +147,17 @@ module _ (before : Context) (x : List ℕ) where
   }
 
   -- ---- what is promised of the contexts inside
-  module _ (t : TermD) (ks : List CompD) (is : t ≡ coll (comps_of ks)) (ds : List Context) (entries : AreEntries before x ks ds) where
+  module _ (t : TermD) (ks : List CompD) (is : t ≡ coll (comps_of ks)) (ds : List Context) (entries : AreMemberContexts before x ks ds) where
     members_are : IsNew x before.store → (c : List Atom) → IsAdmitted c before → (u : PointValue) → IsMember u (point t c) ↔ IsHeldInside ds x c u
     members_are new c a u =
-        let own = subst (λ z. AreEntries before x z ds) (sym (listed_of ks)) entries in (
+        let own = subst (λ z. AreMemberContexts before x z ds) (sym (listed_of ks)) entries in (
           λ m. held_inside new c a u (comps_of ks) ds own (subst (λ z. IsMember u (point z c)) is m),
           λ m. subst (λ z. IsMember u (point z c)) (sym is) (member_outside new c a u (comps_of ks) ds own m),
         )
 
-    all_go_on : IsNew x before.store → All (GoesOn before x) ds
+    all_go_on : IsNew x before.store → All (ExtendsContext before x) ds
     all_go_on new =
-        all_entries (λ k. Unit {0}) (GoesOn before x) (λ k d q e. goes_on new k d e) ks ds (λ i d l. tt) entries
+        all_entries (λ k. Unit {0}) (ExtendsContext before x) (λ k d q e. goes_on new k d e) ks ds (λ i d l. tt) entries
 
     all_admit : (ordered : Bool) → AdmitsContext ordered before → AdmitsTerm ordered t → All (AdmitsContext ordered) ds
     all_admit ordered h g =
@@ -171,7 +171,7 @@ module _ (before : Context) (x : List ℕ) where
 
     pub are_entered : IsNew x before.store → AreEntered before x t ds
     are_entered new = record {
-      entries = subst (λ z. AreEntries before x z ds) (sym (listed_coll t ks is)) entries;
+      entries = subst (λ z. AreMemberContexts before x z ds) (sym (listed_coll t ks is)) entries;
       members = members_are new;
       inside = all_entries (λ k. Unit {0}) (IsLoopContext before x) (λ k d q e. is_inside new k d e) ks ds (λ i d l. tt) entries;
       outside = all_go_on new;
@@ -183,8 +183,8 @@ module _ (before : Context) (x : List ℕ) where
 pub is_entry : (before : Context) (x : List ℕ) (m : ℕ) (g : List (List Lit)) (t : TermD) (inner : Context) → inner.size ≡ before.size + m →
     ((c : List Atom) → holds c inner.«when» ≡ (holds c before.«when» && holds c g)) →
     ((ordered : Bool) → AdmitsConstraint ordered before.«when» → AdmitsConstraint ordered g → AdmitsConstraint ordered inner.«when») →
-    inner.store ≡ map (carried before.size m) before.store ++ bound x t ∷ [] →
-    inner.lines ≡ map (carried_line before.size m) before.lines → IsEntry before x (comp m g t) inner
+    inner.store ≡ map (carried before.size m) before.store ++ element_slot x t ∷ [] →
+    inner.lines ≡ map (carried_line before.size m) before.lines → IsMemberContext before x (comp m g t) inner
 is_entry before x m g t inner size truth operators store lines = record {
   size = size;
   «when» = truth;
@@ -192,11 +192,11 @@ is_entry before x m g t inner size truth operators store lines = record {
   lines = lines;
   operators = λ ordered h k. record {
     «when» = operators ordered h.«when» k.0;
-    store = subst (All (λ s. AdmitsTerm ordered s.term)) (sym store) (All-push (λ s. AdmitsTerm ordered s.term) (map (carried before.size m) before.store) (bound x t) (carried_admits before.size m ordered before.store h.store) k.1);
+    store = subst (All (λ s. AdmitsTerm ordered s.term)) (sym store) (All-push (λ s. AdmitsTerm ordered s.term) (map (carried before.size m) before.store) (element_slot x t) (carried_admits before.size m ordered before.store h.store) k.1);
     lines = subst (All (λ l. AdmitsTerm ordered l.term)) (sym lines) (lines_admit before.size m ordered before.lines h.lines);
   };
   widths = λ h k. record {
-    store = subst (All (λ s. HasBoundedWidths s.term)) (sym store) (All-push (λ s. HasBoundedWidths s.term) (map (carried before.size m) before.store) (bound x t) (carried_widths before.size m before.store h.store) k);
+    store = subst (All (λ s. HasBoundedWidths s.term)) (sym store) (All-push (λ s. HasBoundedWidths s.term) (map (carried before.size m) before.store) (element_slot x t) (carried_widths before.size m before.store h.store) k);
     lines = subst (All (λ l. HasBoundedWidths l.term)) (sym lines) (lines_widths before.size m before.lines h.lines);
   };
 }

@@ -20,8 +20,8 @@ use Rattle.lois_meaning.specs.Store.{looked_up}
 use Rattle.lois_relate.proofs.Sets.{some_is_member}
 use Rattle.lois_base.proofs.Validity.{fits_longer}
 use Rattle.lois_context.specs.Choices.{IsAdmitted, AdmitsContext, ContextHasBoundedWidths}
-use Rattle.lois_context.specs.Entered.{binders_of, item_of, items_listed, comps_listed, carried, bound, AreEntries}
-use Rattle.lois_context.specs.Joined.{IsGoneOn, IsEndSlot, AreEndSlots, IsEnd, IsMoved, AreMoved, added_to, IsJoinedTerm, IsGrownTerm, IsJoinedSlot, AreJoinedSlots, AreJoined, IsAddedInside, HasJoined, IsWithMoved}
+use Rattle.lois_context.specs.Entered.{binders_of, item_of, items_listed, comps_listed, carried, element_slot, AreMemberContexts}
+use Rattle.lois_context.specs.Joined.{IsGoneOn, IsEndSlot, AreEndSlots, IsEnd, IsMovedOutOfLoop, AreMovedOutOfLoop, added_to, IsJoinedTerm, IsGrownTerm, IsJoinedSlot, AreJoinedSlots, AreJoined, IsAddedInside, HasJoined, IsWithMoved}
 use Rattle.lois_context.specs.Slots.{IsNew, SlotD, slot_name, count_of_items, comps_in, store_at}
 use Rattle.lois_context.specs.declared.contexts.Context.{Context}
 use Rattle.lois_context.proofs.Carried.{raised_same, count_of}
@@ -58,20 +58,20 @@ module _ (n by : ℕ) (g : List (List Lit)) (fits : ConstraintFits (n + by) g) (
   outer_holds : (e y : List Atom) → length e ≡ by → holds ((c ++ e) ++ y) g ≡ holds (c ++ e) g
   outer_holds e y m = holds_at_start (n + by) (c ++ e) y g fits (omega (arith, length-append c e))
 
-  one_back : (k r : CompD) → IsMoved g by k r → ForSome c by g (λ d. OneIsAt k d w.term_of w.choice) → OneIsAt r c w.term_of w.choice
+  one_back : (k r : CompD) → IsMovedOutOfLoop g by k r → ForSome c by g (λ d. OneIsAt k d w.term_of w.choice) → OneIsAt r c w.term_of w.choice
   one_back (comp m q t) (comp p h s) moved (e, count, own, (y, ext, same)) =
       let regroup : (c ++ e) ++ y ≡ c ++ (e ++ y) = append_assoc c e y in
       let both : IsTrue (holds ((c ++ e) ++ y) h) = moved.guard ((c ++ e) ++ y) ∙ and_true (holds ((c ++ e) ++ y) g) (holds ((c ++ e) ++ y) q) (outer_holds e y count ∙ own) ext.guard in
       (e ++ y, record { count = omega (arith, length-append e y, ext.count, moved.binders); guard = subst (λ d. IsTrue (holds d h)) regroup both }, subst (λ d. SameAt s d w.term_of w.choice) regroup (subst (λ z. SameAt z ((c ++ e) ++ y) w.term_of w.choice) (sym moved.item) same))
 
-  one_parts : (m p : ℕ) (q h : List (List Lit)) (t s : TermD) → IsMoved g by (comp m q t) (comp p h s) → (e y : List Atom) → length e ≡ by → length y ≡ m → IsTrue (holds (c ++ (e ++ y)) h) → SameAt s (c ++ (e ++ y)) w.term_of w.choice → ForSome c by g (λ d. OneIsAt (comp m q t) d w.term_of w.choice)
+  one_parts : (m p : ℕ) (q h : List (List Lit)) (t s : TermD) → IsMovedOutOfLoop g by (comp m q t) (comp p h s) → (e y : List Atom) → length e ≡ by → length y ≡ m → IsTrue (holds (c ++ (e ++ y)) h) → SameAt s (c ++ (e ++ y)) w.term_of w.choice → ForSome c by g (λ d. OneIsAt (comp m q t) d w.term_of w.choice)
   one_parts m p q h t s moved e y count left guard same =
       let regroup : (c ++ e) ++ y ≡ c ++ (e ++ y) = append_assoc c e y in
       let here : IsTrue (holds ((c ++ e) ++ y) h) = subst (λ d. IsTrue (holds d h)) (sym regroup) guard in
       let both = and_parts (holds ((c ++ e) ++ y) g) (holds ((c ++ e) ++ y) q) (sym (moved.guard ((c ++ e) ++ y)) ∙ here) in
       (e, count, sym (outer_holds e y count) ∙ both.0, (y, record { count = left; guard = both.1 }, subst (λ d. SameAt t d w.term_of w.choice) (sym regroup) (subst (λ z. SameAt z (c ++ (e ++ y)) w.term_of w.choice) moved.item same)))
 
-  one_there : (k r : CompD) → IsMoved g by k r → OneIsAt r c w.term_of w.choice → ForSome c by g (λ d. OneIsAt k d w.term_of w.choice)
+  one_there : (k r : CompD) → IsMovedOutOfLoop g by k r → OneIsAt r c w.term_of w.choice → ForSome c by g (λ d. OneIsAt k d w.term_of w.choice)
   one_there (comp m q t) (comp p h s) moved (e, ext, same) =
       let whole_is : take by e ++ drop by e ≡ e = take-append-drop by e in
       let enough : by ≤ length e = omega (arith, ext.count, moved.binders) in
@@ -79,14 +79,14 @@ module _ (n by : ℕ) (g : List (List Lit)) (fits : ConstraintFits (n + by) g) (
       let left : length (drop by e) ≡ m = omega (arith, length-append (take by e) (drop by e), ap length whole_is, ext.count, moved.binders, count) in
       one_parts m p q h t s moved (take by e) (drop by e) count left (subst (λ z. IsTrue (holds (c ++ z) h)) (sym whole_is) ext.guard) (subst (λ z. SameAt s (c ++ z) w.term_of w.choice) (sym whole_is) same)
 
-  pub moved_back : (ks rs : List CompD) → AreMoved g by ks rs → ForSome c by g (λ d. IsAmong ks d w) → IsAmong rs c w
+  pub moved_back : (ks rs : List CompD) → AreMovedOutOfLoop g by ks rs → ForSome c by g (λ d. IsAmong ks d w) → IsAmong rs c w
   moved_back [] [] moved (e, count, own, h) = absurd h
   moved_back (k ∷ ks) (r ∷ rs) moved (e, count, own, inl h) = inl (one_back k r moved.0 (e, count, own, h))
   moved_back (k ∷ ks) (r ∷ rs) moved (e, count, own, inr h) = inr (moved_back ks rs moved.1 (e, count, own, h))
   moved_back [] (r ∷ rs) moved h = absurd moved
   moved_back (k ∷ ks) [] moved h = absurd moved
 
-  pub moved_there : (ks rs : List CompD) → AreMoved g by ks rs → IsAmong rs c w → ForSome c by g (λ d. IsAmong ks d w)
+  pub moved_there : (ks rs : List CompD) → AreMovedOutOfLoop g by ks rs → IsAmong rs c w → ForSome c by g (λ d. IsAmong ks d w)
   moved_there [] [] moved h = absurd h
   moved_there (k ∷ ks) (r ∷ rs) moved (inl h) =
       let p = one_there k r moved.0 h in (p.0, p.1, p.2, inl p.3)
@@ -146,7 +146,7 @@ gone_on_other n by (var i) t not_set h ks e = absurd (cc)
 gone_on_other n by (tag x) t not_set h ks e = absurd (cc)
 gone_on_other n by (tup ts) t not_set h ks e = absurd (cc)
 
-joined_set : (g : List (List Lit)) (by : ℕ) (added : List CompD) (s t : TermD) (ks : CompsD) → s ≡ coll ks → IsJoinedTerm g by added s t → (moved : List CompD) × AreMoved g by added moved × (t ≡ coll (comps_of (items_listed ks ++ moved)))
+joined_set : (g : List (List Lit)) (by : ℕ) (added : List CompD) (s t : TermD) (ks : CompsD) → s ≡ coll ks → IsJoinedTerm g by added s t → (moved : List CompD) × AreMovedOutOfLoop g by added moved × (t ≡ coll (comps_of (items_listed ks ++ moved)))
 joined_set g by added s t ks is h = subst (λ z. IsJoinedTerm g by added z t) is h
 
 joined_other : (g : List (List Lit)) (by : ℕ) (added : List CompD) (s t : TermD) → ((ks : CompsD) → s ≡ coll ks → ⊥) → IsJoinedTerm g by added s t → t ≡ s
@@ -170,7 +170,7 @@ module _ (n by : ℕ) (g : List (List Lit)) (fits : ConstraintFits (n + by) g) (
       let now = grows.set ks is in
       let added : added_to e ≡ gone.0 = added_of n by ks gone.0 e.term e.from gone.1 (end.from ∙ ap comps_in is) in
       let more = joined_set g by (added_to e) s.term r.term now.0 now.1 joined.term in
-      let moved : AreMoved g by gone.0 more.0 = subst (λ z. AreMoved g by z more.0) added more.1 in
+      let moved : AreMovedOutOfLoop g by gone.0 more.0 = subst (λ z. AreMovedOutOfLoop g by z more.0) added more.1 in
       let term : r.term ≡ coll (comps_of (items_listed now.0 ++ more.0)) = more.2 in
       let here : s.term ≡ coll (comps_of (items_listed now.0)) = now.1 ∙ ap coll (sym (of_listed now.0)) in
       let all = among_in (items_listed now.0 ++ more.0) c w in
@@ -375,7 +375,7 @@ slots_more g by (q ∷ es) (p ∷ ss) [] e s t h at l j = absurd h
 slots_more g by (q ∷ es) (p ∷ ss) (u ∷ ts) e s t h at l j = (h.0, slots_more g by es ss ts e s t h.1 at (omega arith) j)
 
 -- one comprehension more
-pub with_more : (n : ℕ) (g : List (List Lit)) (by : ℕ) (added ks rs : List CompD) (k r : CompD) → IsWithMoved n g by added ks rs → IsMoved g by k r → CompFits n r → IsWithMoved n g by (added ++ k ∷ []) ks (rs ++ r ∷ [])
+pub with_more : (n : ℕ) (g : List (List Lit)) (by : ℕ) (added ks rs : List CompD) (k r : CompD) → IsWithMoved n g by added ks rs → IsMovedOutOfLoop g by k r → CompFits n r → IsWithMoved n g by (added ++ k ∷ []) ks (rs ++ r ∷ [])
 with_more n g by added ks rs k r h moved fits = record {
   behind = h.behind ++ r ∷ [];
   moved = moved_append added h.behind h.moved;
@@ -383,7 +383,7 @@ with_more n g by added ks rs k r h moved fits = record {
   levels = fits_append h.behind h.levels;
 }
   where
-    moved_append : (ks rs : List CompD) → AreMoved g by ks rs → AreMoved g by (ks ++ k ∷ []) (rs ++ r ∷ [])
+    moved_append : (ks rs : List CompD) → AreMovedOutOfLoop g by ks rs → AreMovedOutOfLoop g by (ks ++ k ∷ []) (rs ++ r ∷ [])
     moved_append [] [] h = (moved, tt)
     moved_append [] (p ∷ rs) h = absurd h
     moved_append (q ∷ ks) [] h = absurd h
@@ -450,8 +450,8 @@ module _ (OfTerm : TermD → Type 0) (OfComp : CompD → Type 0) (of_set : (ks :
   of_added i (tag x) h = All-drop OfComp i [] (All-nil OfComp)
   of_added i (tup ts) h = All-drop OfComp i [] (All-nil OfComp)
 
-  module _ (g : List (List Lit)) (by : ℕ) (keeps : (k r : CompD) → IsMoved g by k r → OfComp k → OfComp r) where
-    of_moved : (ks rs : List CompD) → AreMoved g by ks rs → All OfComp ks → All OfComp rs
+  module _ (g : List (List Lit)) (by : ℕ) (keeps : (k r : CompD) → IsMovedOutOfLoop g by k r → OfComp k → OfComp r) where
+    of_moved : (ks rs : List CompD) → AreMovedOutOfLoop g by ks rs → All OfComp ks → All OfComp rs
     of_moved [] [] h a = a
     of_moved (k ∷ ks) (r ∷ rs) h a = All-cons OfComp r rs (keeps k r h.0 (All-head OfComp k ks a)) (of_moved ks rs h.1 (All-tail OfComp k ks a))
     of_moved [] (r ∷ rs) h a = absurd h
@@ -475,7 +475,7 @@ module _ (OfTerm : TermD → Type 0) (OfComp : CompD → Type 0) (of_set : (ks :
         (of_slots es ss ts h.1 (All-tail (λ s. OfTerm s.term) e es a) (All-tail (λ s. OfTerm s.term) s ss b))
 
   -- the contexts of the ends have it
-  module _ (OfContext : Context → Type 0) (keeps : (d : Context) (by : ℕ) → OfContext d → (k r : CompD) → IsMoved d.«when» by k r → OfComp k → OfComp r) (store : (d : Context) → OfContext d → All (λ s. OfTerm s.term) d.store) where
+  module _ (OfContext : Context → Type 0) (keeps : (d : Context) (by : ℕ) → OfContext d → (k r : CompD) → IsMovedOutOfLoop d.«when» by k r → OfComp k → OfComp r) (store : (d : Context) → OfContext d → All (λ s. OfTerm s.term) d.store) where
     pub of_store : (n : ℕ) (ds : List Context) (ss rs : List SlotD) → AreJoined n ds ss rs → All OfContext ds → All (λ s. OfTerm s.term) ss → All (λ s. OfTerm s.term) rs
     of_store n [] ss rs h a b = subst (All (λ s. OfTerm s.term)) (sym h) b
     of_store n (d ∷ ds) ss rs (ts, j, rest) a b =
@@ -506,13 +506,13 @@ items_with_widths (k ∷ ks) =
 pub joined_admits : (ordered : Bool) (n : ℕ) (ds : List Context) (ss rs : List SlotD) → AreJoined n ds ss rs → All (AdmitsContext ordered) ds → All (λ s. AdmitsTerm ordered s.term) ss → All (λ s. AdmitsTerm ordered s.term) rs
 joined_admits ordered = of_store (AdmitsTerm ordered) (AdmitsComp ordered) (admitted_items ordered) (AdmitsContext ordered) keeps (λ d h. h.store)
   where
-    keeps : (d : Context) (by : ℕ) → AdmitsContext ordered d → (k r : CompD) → IsMoved d.«when» by k r → AdmitsComp ordered k → AdmitsComp ordered r
+    keeps : (d : Context) (by : ℕ) → AdmitsContext ordered d → (k r : CompD) → IsMovedOutOfLoop d.«when» by k r → AdmitsComp ordered k → AdmitsComp ordered r
     keeps d by h (comp m q t) (comp p g s) moved a = (moved.operators ordered h.«when» a.0, subst (AdmitsTerm ordered) (sym moved.item) a.1)
 
 pub joined_widths : (n : ℕ) (ds : List Context) (ss rs : List SlotD) → AreJoined n ds ss rs → All ContextHasBoundedWidths ds → All (λ s. HasBoundedWidths s.term) ss → All (λ s. HasBoundedWidths s.term) rs
 joined_widths = of_store HasBoundedWidths CompHasBoundedWidths items_with_widths ContextHasBoundedWidths keeps (λ d h. h.store)
   where
-    keeps : (d : Context) (by : ℕ) → ContextHasBoundedWidths d → (k r : CompD) → IsMoved d.«when» by k r → CompHasBoundedWidths k → CompHasBoundedWidths r
+    keeps : (d : Context) (by : ℕ) → ContextHasBoundedWidths d → (k r : CompD) → IsMovedOutOfLoop d.«when» by k r → CompHasBoundedWidths k → CompHasBoundedWidths r
     keeps d by h (comp m q t) (comp p g s) moved a = subst HasBoundedWidths (sym moved.item) a
 
 -- ---- a body that changes nothing
@@ -528,7 +528,7 @@ carried_end_slots n by [] later = tt
 carried_end_slots n by (s ∷ ss) later = (record { name = refl; term = carried_gone_on n by s.term; from = refl }, carried_end_slots n by ss later)
 
 -- the contexts inside of a loop, as they are when it is entered, can be joined again
-pub entries_are_ends : (before : Context) (x : List ℕ) (ks : List CompD) (ds : List Context) → IsNew x before.store → AreEntries before x ks ds → All (IsEnd before) ds
+pub entries_are_ends : (before : Context) (x : List ℕ) (ks : List CompD) (ds : List Context) → IsNew x before.store → AreMemberContexts before x ks ds → All (IsEnd before) ds
 entries_are_ends before x ks ds new h =
     all_entries before x (λ k. Unit {0}) (IsEnd before) (λ k d q entry. record {
       size = omega (arith, entry.size);
@@ -536,5 +536,5 @@ entries_are_ends before x ks ds new h =
       slots =
           let by : binders_of k ≡ d.size - before.size = omega (arith, entry.size) in
           subst (λ z. AreEndSlots before.size (d.size - before.size) before.store z) (sym entry.store)
-          (subst (λ m. AreEndSlots before.size m before.store (map (carried before.size (binders_of k)) before.store ++ bound x (item_of k) ∷ [])) by (carried_end_slots before.size (binders_of k) before.store (bound x (item_of k) ∷ [])));
+          (subst (λ m. AreEndSlots before.size m before.store (map (carried before.size (binders_of k)) before.store ++ element_slot x (item_of k) ∷ [])) by (carried_end_slots before.size (binders_of k) before.store (element_slot x (item_of k) ∷ [])));
     }) ks ds (λ i d l. tt) h

@@ -11,7 +11,7 @@ use Rattle.lois_base.specs.declared.guards.Lit.{Lit}
 use Rattle.lois_deciders.specs.Conjunction.{IsSampledConjunction, AreInconsistent}
 use Rattle.lois_deciders.specs.declared.chosen.SampledConstraint.{SampledConstraint}
 use Rattle.lois_context.specs.Choices.{IsAdmitted, IsAdmittedBy, AdmitsContext}
-use Rattle.lois_context.specs.Sides.{IsSide, IsNarrowedBy, CanNarrow}
+use Rattle.lois_context.specs.Sides.{IsSide, HasSamplePathCondition, CanHavePathCondition}
 use Rattle.lois_context.specs.declared.contexts.Context.{Context}
 
 pub and_true : (a b : Bool) → IsTrue a → IsTrue b → IsTrue (a && b)
@@ -40,7 +40,7 @@ side_choices before g r truth c = (
 )
 
 -- ---- a side, from what was met
-pub side_met : (before : Context) (g : List (List Lit)) (o : Option SampledConstraint) (r : Option Context) → IfSome o (λ m. IsSampledConjunction before.size before.«when» g m.constraint m.sample) → IsNarrowedBy before o r → IfSome r (IsSide before (λ c. holds c g))
+pub side_met : (before : Context) (g : List (List Lit)) (o : Option SampledConstraint) (r : Option Context) → IfSome o (λ m. IsSampledConjunction before.size before.«when» g m.constraint m.sample) → HasSamplePathCondition before o r → IfSome r (IsSide before (λ c. holds c g))
 side_met before g None None h by = tt
 side_met before g (Some m) (Some side) h by = record {
   size = by.size;
@@ -51,7 +51,7 @@ side_met before g (Some m) (Some side) h by = record {
 side_met before g None (Some side) h by = absurd by
 side_met before g (Some m) None h by = absurd by
 
-pub operators_met : (before : Context) (g : List (List Lit)) (o : Option SampledConstraint) (r : Option Context) → IfSome o (λ m. IsSampledConjunction before.size before.«when» g m.constraint m.sample) → IsNarrowedBy before o r → (ordered : Bool) → AdmitsContext ordered before → AdmitsConstraint ordered g → IfSome r (AdmitsContext ordered)
+pub operators_met : (before : Context) (g : List (List Lit)) (o : Option SampledConstraint) (r : Option Context) → IfSome o (λ m. IsSampledConjunction before.size before.«when» g m.constraint m.sample) → HasSamplePathCondition before o r → (ordered : Bool) → AdmitsContext ordered before → AdmitsConstraint ordered g → IfSome r (AdmitsContext ordered)
 operators_met before g None None h by ordered a b = tt
 operators_met before g (Some m) (Some side) h by ordered a b = record {
   «when» = subst (AdmitsConstraint ordered) (sym by.«when») (h.operators ordered a.«when» b);
@@ -61,7 +61,7 @@ operators_met before g (Some m) (Some side) h by ordered a b = record {
 operators_met before g None (Some side) h by ordered a b = absurd by
 operators_met before g (Some m) None h by ordered a b = absurd by
 
-pub choices_met : (before : Context) (g : List (List Lit)) (o : Option SampledConstraint) (r : Option Context) → IfSome o (λ m. IsSampledConjunction before.size before.«when» g m.constraint m.sample) → (IsNone o → AreInconsistent before.size before.«when» g) → IsNarrowedBy before o r → (c : List Atom) → IsAdmittedBy c r ↔ (IsAdmitted c before × IsTrue (holds c g))
+pub choices_met : (before : Context) (g : List (List Lit)) (o : Option SampledConstraint) (r : Option Context) → IfSome o (λ m. IsSampledConjunction before.size before.«when» g m.constraint m.sample) → (IsNone o → AreInconsistent before.size before.«when» g) → HasSamplePathCondition before o r → (c : List Atom) → IsAdmittedBy c r ↔ (IsAdmitted c before × IsTrue (holds c g))
 choices_met before g None None h none by c = (λ a. absurd a, λ a. none refl c a.0.0 a.0.1 a.1)
 choices_met before g (Some m) (Some side) h none by c =
     let own = side_choices before g m.constraint h.truth c in (
@@ -71,7 +71,7 @@ choices_met before g (Some m) (Some side) h none by c =
 choices_met before g None (Some side) h none by c = absurd by
 choices_met before g (Some m) None h none by c = absurd by
 
-pub can_narrow : (before : Context) (g : List (List Lit)) (o : Option SampledConstraint) → IfSome o (λ m. IsSampledConjunction before.size before.«when» g m.constraint m.sample) → IfSome o (CanNarrow before)
+pub can_narrow : (before : Context) (g : List (List Lit)) (o : Option SampledConstraint) → IfSome o (λ m. IsSampledConjunction before.size before.«when» g m.constraint m.sample) → IfSome o (CanHavePathCondition before)
 can_narrow before g None h = h
 can_narrow before g (Some m) h = (h.levels, h.sample)
 

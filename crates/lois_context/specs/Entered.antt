@@ -13,7 +13,7 @@ use Rattle.lois_answers.specs.ResultsData.{LineD}
 use Rattle.lois_meaning.specs.Store.{looked_up, stored, AreSameNamed}
 use Rattle.lois_deciders.specs.Conjunction.{AreInconsistent}
 use Rattle.lois_context.specs.Choices.{IsAdmitted, AdmitsContext, ContextHasBoundedWidths}
-use Rattle.lois_context.specs.Slots.{SlotD, slot_name, comps_in, store_at, lines_at}
+use Rattle.lois_context.specs.Slots.{SlotD, slot_name, comps_in, store_at, line_values}
 use Rattle.lois_context.specs.declared.contexts.Context.{Context}
 
 abbrev pub binders_of : CompD → ℕ
@@ -41,14 +41,14 @@ carried n by s = record { name = s.name; term = shift n by s.term; from = comps_
 abbrev pub carried_line : ℕ → ℕ → LineD → LineD
 carried_line n by l = record { name = l.name; term = shift n by l.term }
 
-abbrev pub bound : List ℕ → TermD → SlotD
-bound x t = record { name = x; term = t; from = 0 }
+abbrev pub element_slot : List ℕ → TermD → SlotD
+element_slot x t = record { name = x; term = t; from = 0 }
 
 -- The context that stands for the members of one comprehension, which x names: its binders are new levels, its guard holds.
-pub record IsEntry (before : Context) (x : List ℕ) (k : CompD) (inner : Context) : Type 0 where
+pub record IsMemberContext (before : Context) (x : List ℕ) (k : CompD) (inner : Context) : Type 0 where
   pub size : inner.size ≡ before.size + binders_of k
   pub «when» : (c : List Atom) → holds c inner.«when» ≡ (holds c before.«when» && holds c (guard_of k))
-  pub store : inner.store ≡ map (carried before.size (binders_of k)) before.store ++ bound x (item_of k) ∷ []
+  pub store : inner.store ≡ map (carried before.size (binders_of k)) before.store ++ element_slot x (item_of k) ∷ []
   pub lines : inner.lines ≡ map (carried_line before.size (binders_of k)) before.lines
   pub operators : (ordered : Bool) → AdmitsContext ordered before → AdmitsComp ordered k → AdmitsContext ordered inner
   pub widths : ContextHasBoundedWidths before → CompHasBoundedWidths k → ContextHasBoundedWidths inner
@@ -58,12 +58,12 @@ abbrev pub HasNoMembers : Context → CompD → Type 0
 HasNoMembers before k = AreInconsistent (before.size + binders_of k) before.«when» (guard_of k)
 
 -- one context for each comprehension that has members, in order
-abbrev pub AreEntries : Context → List ℕ → List CompD → List Context → Type 0
-AreEntries before x [] [] = Unit {0}
-AreEntries before x [] (d ∷ ds) = ⊥
-AreEntries before x (k ∷ ks) [] = HasNoMembers before k × AreEntries before x ks []
-AreEntries before x (k ∷ ks) (d ∷ ds) =
-    (HasNoMembers before k × AreEntries before x ks (d ∷ ds)) ⊎ (IsEntry before x k d × AreEntries before x ks ds)
+abbrev pub AreMemberContexts : Context → List ℕ → List CompD → List Context → Type 0
+AreMemberContexts before x [] [] = Unit {0}
+AreMemberContexts before x [] (d ∷ ds) = ⊥
+AreMemberContexts before x (k ∷ ks) [] = HasNoMembers before k × AreMemberContexts before x ks []
+AreMemberContexts before x (k ∷ ks) (d ∷ ds) =
+    (HasNoMembers before k × AreMemberContexts before x ks (d ∷ ds)) ⊎ (IsMemberContext before x k d × AreMemberContexts before x ks ds)
 
 -- at some longer choice one of the contexts has u under the name
 abbrev pub IsHeldInside : List Context → List ℕ → List Atom → PointValue → Type 0
@@ -71,10 +71,10 @@ IsHeldInside inner x c u =
     (d : Context) × Contains inner d × (e : List Atom) × IsAdmitted (c ++ e) d × (looked_up x (store_at (c ++ e) d.store) ≡ Some u)
 
 -- Inside, at each choice that goes on from one outside, the lines and every other name have the values that they have there.
-pub record GoesOn (before : Context) (x : List ℕ) (inner : Context) : Type 0 where
+pub record ExtendsContext (before : Context) (x : List ℕ) (inner : Context) : Type 0 where
   pub outside : (c e : List Atom) → length c ≡ before.size → IsAdmitted (c ++ e) inner → IsAdmitted c before
   pub store : (c e : List Atom) → length c ≡ before.size → IsAdmitted (c ++ e) inner → (u : PointValue) → looked_up x (store_at (c ++ e) inner.store) ≡ Some u → AreSameNamed (store_at (c ++ e) inner.store) (stored x u (store_at c before.store))
-  pub lines : (c e : List Atom) → length c ≡ before.size → IsAdmitted (c ++ e) inner → AreSameNamed (lines_at (c ++ e) inner.lines) (lines_at c before.lines)
+  pub lines : (c e : List Atom) → length c ≡ before.size → IsAdmitted (c ++ e) inner → AreSameNamed (line_values (c ++ e) inner.lines) (line_values c before.lines)
 
 -- Inside there are no fewer levels, the name stands behind those from outside, and it holds a value.
 pub record IsLoopContext (before : Context) (x : List ℕ) (inner : Context) : Type 0 where
@@ -85,9 +85,9 @@ pub record IsLoopContext (before : Context) (x : List ℕ) (inner : Context) : T
 -- The contexts inside of a loop over the set t, in which x names its members: one for each comprehension that has some. Together
 -- they stand for exactly the members.
 pub record AreEntered (before : Context) (x : List ℕ) (t : TermD) (inner : List Context) : Type 0 where
-  pub entries : AreEntries before x (comps_listed t) inner
+  pub entries : AreMemberContexts before x (comps_listed t) inner
   pub members : (c : List Atom) → IsAdmitted c before → (u : PointValue) → IsMember u (point t c) ↔ IsHeldInside inner x c u
   pub inside : All (IsLoopContext before x) inner
-  pub outside : All (GoesOn before x) inner
+  pub outside : All (ExtendsContext before x) inner
   pub operators : (ordered : Bool) → AdmitsContext ordered before → AdmitsTerm ordered t → All (AdmitsContext ordered) inner
   pub widths : ContextHasBoundedWidths before → HasBoundedWidths t → All ContextHasBoundedWidths inner

@@ -44,21 +44,21 @@ pub record IsEnd (before end : Context) : Type 0 where
 -- ---- what is joined
 
 -- a comprehension with the `by` new levels of an end as further binders, where the end's constraint g holds too
-pub record IsMoved (g : List (List Lit)) (by : ℕ) (k r : CompD) : Type 0 where
+pub record IsMovedOutOfLoop (g : List (List Lit)) (by : ℕ) (k r : CompD) : Type 0 where
   pub binders : binders_of r ≡ by + binders_of k
   pub guard : (c : List Atom) → holds c (guard_of r) ≡ (holds c g && holds c (guard_of k))
   pub item : item_of r ≡ item_of k
   pub operators : (ordered : Bool) → AdmitsConstraint ordered g → AdmitsConstraint ordered (guard_of k) → AdmitsConstraint ordered (guard_of r)
 
-abbrev pub AreMoved : List (List Lit) → ℕ → List CompD → List CompD → Type 0
-AreMoved g by [] [] = Unit {0}
-AreMoved g by (k ∷ ks) (r ∷ rs) = IsMoved g by k r × AreMoved g by ks rs
-AreMoved g by _ _ = ⊥
+abbrev pub AreMovedOutOfLoop : List (List Lit) → ℕ → List CompD → List CompD → Type 0
+AreMovedOutOfLoop g by [] [] = Unit {0}
+AreMovedOutOfLoop g by (k ∷ ks) (r ∷ rs) = IsMovedOutOfLoop g by k r × AreMovedOutOfLoop g by ks rs
+AreMovedOutOfLoop g by _ _ = ⊥
 
 -- the comprehensions with those that an end has added behind them, which fit n levels
 pub record IsWithMoved (n : ℕ) (g : List (List Lit)) (by : ℕ) (added ks rs : List CompD) : Type 0 where
   pub behind : List CompD
-  pub moved : AreMoved g by added behind
+  pub moved : AreMovedOutOfLoop g by added behind
   pub comps : rs ≡ ks ++ behind
   pub levels : ItemsFit n (comps_of behind)
 
@@ -69,7 +69,7 @@ added_to e = drop e.from (comps_listed e.term)
 -- a term after one end more: a set has exactly one comprehension more for each of those that were added
 abbrev pub IsJoinedTerm : List (List Lit) → ℕ → List CompD → TermD → TermD → Type 0
 IsJoinedTerm g by added (coll ks) t =
-    (moved : List CompD) × AreMoved g by added moved × (t ≡ coll (comps_of (items_listed ks ++ moved)))
+    (moved : List CompD) × AreMovedOutOfLoop g by added moved × (t ≡ coll (comps_of (items_listed ks ++ moved)))
 IsJoinedTerm g by added s t = t ≡ s
 
 -- and it fits n levels, with no fewer comprehensions

@@ -18,18 +18,18 @@ pub record IsSide (before : Context) (test : List Atom → Bool) (side : Context
   pub lines : side.lines ≡ before.lines
 
 -- the context where g holds
-pub record IsNarrowed (before : Context) (g : List (List Lit)) (side : Context) : Type 0 where
+pub record HasPathCondition (before : Context) (g : List (List Lit)) (side : Context) : Type 0 where
   pub size : side.size ≡ before.size
   pub «when» : side.«when» ≡ g
   pub store : side.store ≡ before.store
   pub lines : side.lines ≡ before.lines
 
 -- what was met over the context's levels
-abbrev pub CanNarrow : Context → SampledConstraint → Type 0
-CanNarrow before m = ConstraintFits before.size m.constraint × IsConstraintSample before.size m.constraint m.sample
+abbrev pub CanHavePathCondition : Context → SampledConstraint → Type 0
+CanHavePathCondition before m = ConstraintFits before.size m.constraint × IsConstraintSample before.size m.constraint m.sample
 
 -- there is a side where there is something that was met
-abbrev pub IsNarrowedBy : Context → Option SampledConstraint → Option Context → Type 0
-IsNarrowedBy before None None = Unit {0}
-IsNarrowedBy before (Some m) (Some side) = IsNarrowed before m.constraint side
-IsNarrowedBy before _ _ = ⊥
+abbrev pub HasSamplePathCondition : Context → Option SampledConstraint → Option Context → Type 0
+HasSamplePathCondition before None None = Unit {0}
+HasSamplePathCondition before (Some m) (Some side) = HasPathCondition before m.constraint side
+HasSamplePathCondition before _ _ = ⊥

@@ -48,8 +48,8 @@ abbrev pub store_at : List Atom → List SlotD → NamedValues
 store_at c = map (slot_at c)
 
 -- the values of lines at a choice
-abbrev pub line_at : List Atom → LineD → NamedValue
-line_at c l = named l.name (point l.term c)
+abbrev pub line_value : List Atom → LineD → NamedValue
+line_value c l = named l.name (point l.term c)
 
-abbrev pub lines_at : List Atom → List LineD → NamedValues
-lines_at c = map (line_at c)
+abbrev pub line_values : List Atom → List LineD → NamedValues
+line_values c = map (line_value c)

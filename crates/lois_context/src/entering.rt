@@ -6,8 +6,8 @@ ghost use Rattle.lois_base.specs.Fits.{Fits, CompFits, ItemsFit};
 ghost use Rattle.lois_base.specs.Shift.{shift};
 ghost use Rattle.lois_base.specs.Tree.{tree, comp_of};
 ghost use Rattle.lois_deciders.specs.OnlyAsked.{HasOnlyAsked};
-ghost use Rattle.lois_terms.specs.Guarded.{IsSet};
-ghost use Rattle.lois_context.specs.Entered.{carried, carried_line, bound, IsEntry, HasNoMembers, AreEntries, AreEntered};
+ghost use Rattle.lois_terms.specs.Guarded.{IsColl};
+ghost use Rattle.lois_context.specs.Entered.{carried, carried_line, element_slot, IsMemberContext, HasNoMembers, AreMemberContexts, AreEntered};
 ghost use Rattle.lois_context.specs.Kept.{IsSlot, AreSlots, LinesFit, HasDistinctNames};
 ghost use Rattle.lois_context.specs.Slots.{IsNew, comps_in};
 ghost use Rattle.lois_context.specs.SlotView.{slot_of};
@@ -30,7 +30,7 @@ pub fn enter_loop(
     chosen: &mut Chosen,
 ) -> Result<Vec<Context>, NoMemory>
     requires levels { Fits context.now.size (tree elements.now) }
-    requires set { IsSet (tree elements.now) }
+    requires set { IsColl (tree elements.now) }
     requires new_name { IsNew name.now context.now.store }
     ensures entered { IfOk result (λ r. AreEntered context.now name.now (tree elements.now) r.items) }
 
@@ -52,7 +52,7 @@ fn entries(
 ) -> Result<Vec<Context>, NoMemory>
     requires levels { ItemsFit context.now.size (comps_of comps.now) }
     requires new_name { IsNew name.now context.now.store }
-    ensures entries { IfOk result (λ r. AreEntries context.now name.now comps.now r.items) }
+    ensures entries { IfOk result (λ r. AreMemberContexts context.now name.now comps.now r.items) }
     ensures only_asked { HasOnlyAsked (λ b. (⟦<dyn Decider as Decider>⟧ b.vtable).kind_of b.value) (λ b. (⟦<dyn Decider as Decider>⟧ b.vtable).questions b.value) chosen.old chosen.new }
 {
     let mut inner = Vec::new(alloc);
@@ -74,7 +74,7 @@ fn entry_of(
 ) -> Result<Option<Context>, NoMemory>
     requires levels { CompFits context.now.size (comp_of comp.now) }
     requires new_name { IsNew name.now context.now.store }
-    ensures entry { IfOk result (λ o. IfSome o (IsEntry context.now name.now (comp_of comp.now))) }
+    ensures entry { IfOk result (λ o. IfSome o (IsMemberContext context.now name.now (comp_of comp.now))) }
     ensures none { IfOk result (λ o. IsNone o → HasNoMembers context.now (comp_of comp.now)) }
     ensures only_asked { HasOnlyAsked (λ b. (⟦<dyn Decider as Decider>⟧ b.vtable).kind_of b.value) (λ b. (⟦<dyn Decider as Decider>⟧ b.vtable).questions b.value) chosen.old chosen.new }
 {
@@ -102,7 +102,7 @@ fn inner_store(
 ) -> Result<Store, NoMemory>
     requires levels { CompFits context.now.size (comp_of comp.now) }
     requires new_name { IsNew name.now context.now.store }
-    ensures store { IfOk result (λ r. r ≡ map (carried context.now.size comp.now.binders) context.now.store ++ bound name.now (tree comp.now.item) ∷ []) }
+    ensures store { IfOk result (λ r. r ≡ map (carried context.now.size comp.now.binders) context.now.store ++ element_slot name.now (tree comp.now.item) ∷ []) }
     ensures slots { IfOk result (AreSlots (context.now.size + comp.now.binders)) }
     ensures names { IfOk result HasDistinctNames }
 {
@@ -112,7 +112,7 @@ fn inner_store(
 }
 
 fn bound_slot(alloc: Global, name: &Name, item: &Term) -> Result<Slot, NoMemory>
-    ensures { IfOk result (λ r. slot_of r ≡ bound name.now (tree item.now)) }
+    ensures { IfOk result (λ r. slot_of r ≡ element_slot name.now (tree item.now)) }
 {
     Slot::new(alloc, name.copy(alloc)?, item.copy(alloc)?, 0)
 }

@@ -9,7 +9,7 @@ ghost use Rattle.lois_base.specs.Tree.{tree, comp_of};
 ghost use Rattle.lois_base.specs.Values.{PointValue};
 ghost use Rattle.lois_meaning.specs.Store.{looked_up};
 ghost use Rattle.lois_context.specs.Choices.{IsAdmitted, AdmitsContext, ContextHasBoundedWidths};
-ghost use Rattle.lois_context.specs.Joined.{IsEnd, AreEndSlots, IsMoved, IsJoinedSlot, AreJoinedSlots, AreJoined, HasJoined, IsWithMoved, IsGrownTerm, added_to};
+ghost use Rattle.lois_context.specs.Joined.{IsEnd, AreEndSlots, IsMovedOutOfLoop, IsJoinedSlot, AreJoinedSlots, AreJoined, HasJoined, IsWithMoved, IsGrownTerm, added_to};
 ghost use Rattle.lois_context.specs.Kept.{IsSlot, AreSlots, HasDistinctNames};
 ghost use Rattle.lois_context.specs.Slots.{comps_in, store_at};
 ghost use Rattle.lois_context.specs.SlotView.{slot_of};
@@ -178,7 +178,7 @@ fn moved(
 ) -> Result<Comp, NoMemory>
     requires fits { CompFits (size + by) (comp_of comp.now) }
     requires when { ConstraintFits (size + by) when.now }
-    ensures moved { IfOk result (λ r. IsMoved when.now by (comp_of comp.now) (comp_of r)) }
+    ensures moved { IfOk result (λ r. IsMovedOutOfLoop when.now by (comp_of comp.now) (comp_of r)) }
     ensures fits { IfOk result (λ r. CompFits size (comp_of r)) }
 {
     Ok(Comp {

@@ -7,7 +7,7 @@ ghost use Rattle.lois_base.specs.Truth.{holds};
 ghost use Rattle.lois_base.specs.Validity.{AdmitsConstraint};
 ghost use Rattle.lois_deciders.specs.OnlyAsked.{HasOnlyAsked};
 ghost use Rattle.lois_context.specs.Choices.{IsAdmitted, IsAdmittedBy, AdmitsContext};
-ghost use Rattle.lois_context.specs.Sides.{IsSide, IsNarrowed, IsNarrowedBy, CanNarrow};
+ghost use Rattle.lois_context.specs.Sides.{IsSide, HasPathCondition, HasSamplePathCondition, CanHavePathCondition};
 
 use crate::{Context, Split};
 use lois_base::{Constraint, Decider, NoMemory};
@@ -70,10 +70,10 @@ fn sides(
     yes: Option<SampledConstraint>,
     no: Option<SampledConstraint>,
 ) -> Result<Split, NoMemory>
-    requires yes { IfSome yes (CanNarrow context) }
-    requires no { IfSome no (CanNarrow context) }
-    ensures yes { IfOk result (λ s. IsNarrowedBy context yes s.yes) }
-    ensures no { IfOk result (λ s. IsNarrowedBy context no s.no) }
+    requires yes { IfSome yes (CanHavePathCondition context) }
+    requires no { IfSome no (CanHavePathCondition context) }
+    ensures yes { IfOk result (λ s. HasSamplePathCondition context yes s.yes) }
+    ensures no { IfOk result (λ s. HasSamplePathCondition context no s.no) }
 {
     let Some(no) = no else {
         return Ok(Split {
@@ -92,8 +92,8 @@ fn sides(
 }
 
 fn narrowed_if(context: Context, met: Option<SampledConstraint>) -> Option<Context>
-    requires { IfSome met (CanNarrow context) }
-    ensures { IsNarrowedBy context met result }
+    requires { IfSome met (CanHavePathCondition context) }
+    ensures { HasSamplePathCondition context met result }
 {
     match met {
         Some(met) => Some(narrowed(context, met)),
@@ -103,8 +103,8 @@ fn narrowed_if(context: Context, met: Option<SampledConstraint>) -> Option<Conte
 
 // The context where what was met holds.
 fn narrowed(context: Context, met: SampledConstraint) -> Context
-    requires { CanNarrow context met }
-    ensures { IsNarrowed context met.constraint result }
+    requires { CanHavePathCondition context met }
+    ensures { HasPathCondition context met.constraint result }
 {
     Context {
         size: context.size,
@@ -120,8 +120,8 @@ fn narrowed_copy(
     context: &Context,
     met: SampledConstraint,
 ) -> Result<Context, NoMemory>
-    requires { CanNarrow context.now met }
-    ensures { IfOk result (IsNarrowed context.now met.constraint) }
+    requires { CanHavePathCondition context.now met }
+    ensures { IfOk result (HasPathCondition context.now met.constraint) }
 {
     Ok(Context {
         size: context.size,

@@ -21,7 +21,7 @@ use Rattle.lois_base.proofs.Samples.{satisfied_by}
 use Rattle.lois_constraint.proofs.Alike.{lit_eq, lits_same}
 use Rattle.lru.specs.LruCache.{LruCache, lru_cache, promoted, put_entries}
 use Rattle.lru.proofs.CallerLemmas.{Contains-lookup, Contains-promoted, Contains-put_entries, IsPut}
-use Rattle.lois_deciders.specs.Kept.{Answers, IsRight}
+use Rattle.lois_deciders.specs.Kept.{Answers, IsRightEntry}
 use Rattle.lois_deciders.specs.Labels.{IsUnmet}
 use Rattle.lois_deciders.specs.Remembering.{Kept, HasPut, IsAbout, KeepsAnswers}
 use Rattle.lois_deciders.specs.contracts.questions.QuestionPartialEq.TheImpl.{eq-value}
@@ -110,33 +110,33 @@ module _ (test : Question → Bool) (q : Question) (same : (k : Question) → te
   from_same k o t h =
       subst (λ n. AnswersAt n k.literals.items o) (same k t).1 (subst (λ ls. AnswersAt q.size ls o) (same k t).0 h)
 
-  pub found_right : (es : List (Question × Option (Vec ℕ))) (o : Option (Vec ℕ)) → All IsRight es → Some o ≡ lookup test es → Answers q o
+  pub found_right : (es : List (Question × Option (Vec ℕ))) (o : Option (Vec ℕ)) → All IsRightEntry es → Some o ≡ lookup test es → Answers q o
   found_right es o h e =
       let m = Contains-lookup test es o (sym e) in
-      for_same m.0 o m.2 (All-contains IsRight es (m.0, o) h m.1)
+      for_same m.0 o m.2 (All-contains IsRightEntry es (m.0, o) h m.1)
 
-pub promoted_right : (test : Question → Bool) (es : List (Question × Option (Vec ℕ))) → All IsRight es → All IsRight (promoted test es)
+pub promoted_right : (test : Question → Bool) (es : List (Question × Option (Vec ℕ))) → All IsRightEntry es → All IsRightEntry (promoted test es)
 promoted_right test es h = λ k d l.
-    All-contains IsRight es (get_or (promoted test es) k d) h (Contains-promoted test es (get_or (promoted test es) k d) (Contains-get_or (promoted test es) k d l))
+    All-contains IsRightEntry es (get_or (promoted test es) k d) h (Contains-promoted test es (get_or (promoted test es) k d) (Contains-get_or (promoted test es) k d l))
 
-module _ (eq : Question → Question → Bool) (c : LruCache Question (Option (Vec ℕ))) (q : Question) (o : Option (Vec ℕ)) (same : (k : Question) → eq q k ≡ true → (q.literals.items ≡ k.literals.items) × (q.size ≡ k.size)) (h : All IsRight c.entries) (right : Answers q o) where
-  put_right : (e : Question × Option (Vec ℕ)) → Contains c.entries e ⊎ IsPut eq c q o e → IsRight e
-  put_right e (inl was) = All-contains IsRight c.entries e h was
+module _ (eq : Question → Question → Bool) (c : LruCache Question (Option (Vec ℕ))) (q : Question) (o : Option (Vec ℕ)) (same : (k : Question) → eq q k ≡ true → (q.literals.items ≡ k.literals.items) × (q.size ≡ k.size)) (h : All IsRightEntry c.entries) (right : Answers q o) where
+  put_right : (e : Question × Option (Vec ℕ)) → Contains c.entries e ⊎ IsPut eq c q o e → IsRightEntry e
+  put_right e (inl was) = All-contains IsRightEntry c.entries e h was
   put_right e (inr (v, inl k)) =
       subst (λ x. Answers x e.1) (sym k) (subst (Answers q) (sym v) right)
   put_right e (inr (v, inr k)) =
       subst (Answers e.0) (sym v) (from_same (eq q) q same e.0 o k.2 right)
 
-  all_put_right : All IsRight (put_entries eq c q o)
+  all_put_right : All IsRightEntry (put_entries eq c q o)
   all_put_right = λ k d l.
       put_right (get_or (put_entries eq c q o) k d) (Contains-put_entries eq c q o (get_or (put_entries eq c q o) k d) (Contains-get_or (put_entries eq c q o) k d l))
 
   -- where there was memory for it, and where not
-  pub kept_right : {T E : Type 0} (new : LruCache Question (Option (Vec ℕ))) (r : Result T E) → OnOk r (new ≡ lru_cache (put_entries eq c q o) c.cap) → OnErr r (new ≡ c) → All IsRight new.entries
+  pub kept_right : {T E : Type 0} (new : LruCache Question (Option (Vec ℕ))) (r : Result T E) → OnOk r (new ≡ lru_cache (put_entries eq c q o) c.cap) → OnErr r (new ≡ c) → All IsRightEntry new.entries
   kept_right new (Ok x) put err =
-      subst (λ (d : LruCache Question (Option (Vec ℕ))). All IsRight d.entries) (sym put) all_put_right
+      subst (λ (d : LruCache Question (Option (Vec ℕ))). All IsRightEntry d.entries) (sym put) all_put_right
   kept_right new (Err x) put err =
-      subst (λ (d : LruCache Question (Option (Vec ℕ))). All IsRight d.entries) (sym err) h
+      subst (λ (d : LruCache Question (Option (Vec ℕ))). All IsRightEntry d.entries) (sym err) h
 
 pub copy_answers : (q : Question) (o p : Option (Vec ℕ)) → items_of o ≡ items_of p → Answers q p → Answers q o
 copy_answers q o p e h = answers_copied q.size q.literals.items o p e h

@@ -11,5 +11,5 @@ abbrev pub Answers : Question → Option (Vec ℕ) → Type 0
 Answers q o =
     ForSome o (λ s. IsSampleOf q.size q.literals.items s.items) × ForNone o (IsUnmet q.size q.literals.items)
 
-abbrev pub IsRight : Question × Option (Vec ℕ) → Type 0
-IsRight e = Answers e.0 e.1
+abbrev pub IsRightEntry : Question × Option (Vec ℕ) → Type 0
+IsRightEntry e = Answers e.0 e.1

@@ -6,7 +6,7 @@ ghost use Rattle.std.specs.Option.{option_map};
 ghost use Rattle.lois_base.specs.Fits.{CubeFits};
 ghost use Rattle.lois_base.specs.Theory.{IsSampleOf, risen};
 ghost use Rattle.lois_base.specs.declared.deciding.Kind.{Kind};
-ghost use Rattle.lois_deciders.specs.Kept.{IsRight, Answers};
+ghost use Rattle.lois_deciders.specs.Kept.{IsRightEntry, Answers};
 ghost use Rattle.lois_deciders.specs.Labels.{IsUnmet};
 ghost use Rattle.lois_deciders.specs.Remembering.{HasPut, KeepsAnswers};
 
@@ -23,7 +23,7 @@ pub struct MemoDecider {
     answers: LruCache<Question, Option<Vec<u64>>>,
     graph: GraphDecider,
     asked: u64,
-    ghost right: { All IsRight answers.entries },
+    ghost right: { All IsRightEntry answers.entries },
 }
 
 impl MemoDecider {
@@ -58,9 +58,9 @@ fn keep(
     question: Question,
     answer: &Option<Vec<u64>>,
 )
-    requires kept { All IsRight answers.old.entries }
+    requires kept { All IsRightEntry answers.old.entries }
     requires answer { Answers question answer.now }
-    ensures right { All IsRight answers.new.entries }
+    ensures right { All IsRightEntry answers.new.entries }
     ensures entries { (answers.new ≡ answers.old) ⊎ HasPut question answer.now answers.old answers.new }
 {
     if let Ok(copy) = copied(alloc, answer) {

@@ -4,7 +4,7 @@ use Rattle.lois_script.specs.Grammar.{PlacedToken}
 use Rattle.lois_descent.specs.declared.lexemes.Terminal.{Terminal}
 use Rattle.lois_descent.specs.declared.lexemes.Terminal.TheVariants.{Atoms as the_atoms, Structure as structure, Semicolon as semicolon, Comma as comma, CloseRound as close_round, CloseSquare as close_square, CloseCurly as close_curly, Colon as colon, Equal as equal, Becomes as becomes, In as within, To as to, Relation as relation, Name as name, Number as number}
 use Rattle.lois_descent.specs.Lexemes.{accepts}
-use Rattle.lois_descent.specs.Machine.{terminal, chosen}
+use Rattle.lois_descent.specs.Machine.{terminal, accepted_if}
 use Rattle.lois_descent.specs.declared.lexemes.Lexeme.{Lexeme}
 use Rattle.lois_descent.specs.declared.lexemes.Lexeme.TheVariants.{End, Name, Number, Word, Symbol}
 use Rattle.lois_descent.specs.declared.lexemes.Keyword.TheVariants as words
@@ -62,15 +62,15 @@ module _ (ts : List PlacedToken) (at : ℕ) (x : Terminal) (e : accepts x (lexem
   pub pass_moves : is_plain x ≡ true → (n : ℕ) → Moves ts at n (terminal x ∷ []) (at + 1) n []
   pass_moves plain n =
       let facts = plain_facts x (lexeme_at ts at) plain e in
-      plain_moves ts at n (terminal x) [] (lexeme_at ts at) there facts.0 facts.1 facts.2 (ap chosen e) (λ rest t. refl)
+      plain_moves ts at n (terminal x) [] (lexeme_at ts at) there facts.0 facts.1 facts.2 (ap accepted_if e) (λ rest t. refl)
 
   pub close_moves_on : is_closer x ≡ true → (n : ℕ) → Moves ts at (n + 1) (terminal x ∷ []) (at + 1) n []
   close_moves_on closer n =
       let facts = closer_facts x (lexeme_at ts at) closer e in
-      close_moves ts at n (terminal x) [] (lexeme_at ts at) there facts.0 facts.1 facts.2 (ap chosen e) (λ rest t. refl)
+      close_moves ts at n (terminal x) [] (lexeme_at ts at) there facts.0 facts.1 facts.2 (ap accepted_if e) (λ rest t. refl)
 
 pub pass_stuck : (ts : List PlacedToken) (at : ℕ) (x : Terminal) → accepts x (lexeme_at ts at) ≡ false → (n : ℕ) → Stuck ts at n (terminal x ∷ []) (NoScript at)
-pass_stuck ts at x e n = missed ts at n (terminal x) (ap chosen e)
+pass_stuck ts at x e n = missed ts at n (terminal x) (ap accepted_if e)
 
 pub name_accepted : (l : Lexeme) → accepts name l ≡ true → l ≡ Name
 name_accepted Name e = refl

@@ -13,7 +13,7 @@ use Rattle.lois_descent.specs.Lexemes.{lexeme_of}
 use Rattle.lois_descent.specs.declared.lexemes.Terminal.{Terminal}
 use Rattle.lois_descent.specs.declared.lexemes.Terminal.TheVariants.{Atoms as the_atoms, Structure as structure, Semicolon as semicolon, Comma as comma, CloseRound as close_round, CloseSquare as close_square, OpenCurly as open_curly, CloseCurly as close_curly, Colon as colon, Equal as equal, Becomes as becomes, In as within, To as to, Relation as relation, Name as name, Number as number}
 use Rattle.lois_descent.specs.Lexemes.{accepts}
-use Rattle.lois_descent.specs.Machine.{Ending, token, turns_block, Arguments, one, two, part_number, Item, terminal, expression, arguments, more_parts, more_items, after_brace, after_item, more_bindings, where_clause, condition, more_condition, unit, base, turns_number, statements, after_if, more_names, Bottom, body, outermost, after_outer_if, State, behind, chosen, arity, operands, expression_start, base_start, unit_start, ending, where_start, statement_start, statements_start, after_if_start, more_parts_start, more_items_start, brace_start, after_item_start, more_bindings_start, more_condition_start, more_names_start, arguments_start, turns_start, item_start, at_bottom, outermost_start, bottom_start, step_from, step}
+use Rattle.lois_descent.specs.Machine.{ItemEnd, token, turns_block, Arguments, one, two, part_number, Item, terminal, expression, arguments, more_parts, more_items, after_brace, after_item, more_bindings, where_clause, condition, more_condition, unit, base, turns_number, statements, after_if, more_names, Bottom, body, outermost, after_outer_if, State, behind, accepted_if, arguments_of, operands, expression_start, base_start, unit_start, ending, where_start, statement_start, statements_start, after_if_start, more_parts_start, more_items_start, brace_start, after_item_start, more_bindings_start, more_condition_start, more_names_start, arguments_start, turns_start, item_start, at_bottom, outermost_start, bottom_start, step_from, step}
 use Rattle.lois_descent.specs.declared.lexemes.Lexeme.{Lexeme}
 use Rattle.lois_descent.specs.declared.lexemes.Lexeme.TheVariants.{Word, Symbol}
 use Rattle.lois_descent.specs.declared.lexemes.Keyword.TheVariants as words
@@ -56,28 +56,28 @@ module _ (limits : Type 0) where
   begun_as f g k [] after h = h
   begun_as f g k (t ∷ r) after h = k (lexeme_of t) r after h
 
-  complete_terminal : (x : Terminal) (before after : List PlacedToken) → One x before after → Begun limits (λ l. chosen (accepts x l)) before after
-  complete_terminal the_atoms before after (p, e) = begin (λ l. chosen (accepts the_atoms l)) _ after before after e refl
-  complete_terminal structure before after (false, (p, e)) = begin (λ l. chosen (accepts structure l)) _ after before after e refl
-  complete_terminal structure before after (true, (p, e)) = begin (λ l. chosen (accepts structure l)) _ after before after e refl
-  complete_terminal semicolon before after (p, e) = begin (λ l. chosen (accepts semicolon l)) _ after before after e refl
-  complete_terminal comma before after (p, e) = begin (λ l. chosen (accepts comma l)) _ after before after e refl
-  complete_terminal close_round before after (p, e) = begin (λ l. chosen (accepts close_round l)) _ after before after e refl
-  complete_terminal close_square before after (p, e) = begin (λ l. chosen (accepts close_square l)) _ after before after e refl
-  complete_terminal open_curly before after (p, e) = begin (λ l. chosen (accepts open_curly l)) _ after before after e refl
-  complete_terminal close_curly before after (p, e) = begin (λ l. chosen (accepts close_curly l)) _ after before after e refl
-  complete_terminal colon before after (p, e) = begin (λ l. chosen (accepts colon l)) _ after before after e refl
-  complete_terminal equal before after (p, e) = begin (λ l. chosen (accepts equal l)) _ after before after e refl
-  complete_terminal becomes before after (p, e) = begin (λ l. chosen (accepts becomes l)) _ after before after e refl
-  complete_terminal within before after (p, e) = begin (λ l. chosen (accepts within l)) _ after before after e refl
-  complete_terminal to before after (p, e) = begin (λ l. chosen (accepts to l)) _ after before after e refl
-  complete_terminal relation before after (inl (p, e)) = begin (λ l. chosen (accepts relation l)) _ after before after e refl
-  complete_terminal relation before after (inr (inl (p, e))) = begin (λ l. chosen (accepts relation l)) _ after before after e refl
-  complete_terminal relation before after (inr (inr (inl (p, e)))) = begin (λ l. chosen (accepts relation l)) _ after before after e refl
-  complete_terminal relation before after (inr (inr (inr (inl (p, e))))) = begin (λ l. chosen (accepts relation l)) _ after before after e refl
-  complete_terminal relation before after (inr (inr (inr (inr (p, e))))) = begin (λ l. chosen (accepts relation l)) _ after before after e refl
-  complete_terminal name before after (p, x, e) = begin (λ l. chosen (accepts name l)) _ after before after e refl
-  complete_terminal number before after (n, (p, digits, e, d)) = begin (λ l. chosen (accepts number l)) _ after before after e refl
+  complete_terminal : (x : Terminal) (before after : List PlacedToken) → One x before after → Begun limits (λ l. accepted_if (accepts x l)) before after
+  complete_terminal the_atoms before after (p, e) = begin (λ l. accepted_if (accepts the_atoms l)) _ after before after e refl
+  complete_terminal structure before after (false, (p, e)) = begin (λ l. accepted_if (accepts structure l)) _ after before after e refl
+  complete_terminal structure before after (true, (p, e)) = begin (λ l. accepted_if (accepts structure l)) _ after before after e refl
+  complete_terminal semicolon before after (p, e) = begin (λ l. accepted_if (accepts semicolon l)) _ after before after e refl
+  complete_terminal comma before after (p, e) = begin (λ l. accepted_if (accepts comma l)) _ after before after e refl
+  complete_terminal close_round before after (p, e) = begin (λ l. accepted_if (accepts close_round l)) _ after before after e refl
+  complete_terminal close_square before after (p, e) = begin (λ l. accepted_if (accepts close_square l)) _ after before after e refl
+  complete_terminal open_curly before after (p, e) = begin (λ l. accepted_if (accepts open_curly l)) _ after before after e refl
+  complete_terminal close_curly before after (p, e) = begin (λ l. accepted_if (accepts close_curly l)) _ after before after e refl
+  complete_terminal colon before after (p, e) = begin (λ l. accepted_if (accepts colon l)) _ after before after e refl
+  complete_terminal equal before after (p, e) = begin (λ l. accepted_if (accepts equal l)) _ after before after e refl
+  complete_terminal becomes before after (p, e) = begin (λ l. accepted_if (accepts becomes l)) _ after before after e refl
+  complete_terminal within before after (p, e) = begin (λ l. accepted_if (accepts within l)) _ after before after e refl
+  complete_terminal to before after (p, e) = begin (λ l. accepted_if (accepts to l)) _ after before after e refl
+  complete_terminal relation before after (inl (p, e)) = begin (λ l. accepted_if (accepts relation l)) _ after before after e refl
+  complete_terminal relation before after (inr (inl (p, e))) = begin (λ l. accepted_if (accepts relation l)) _ after before after e refl
+  complete_terminal relation before after (inr (inr (inl (p, e)))) = begin (λ l. accepted_if (accepts relation l)) _ after before after e refl
+  complete_terminal relation before after (inr (inr (inr (inl (p, e))))) = begin (λ l. accepted_if (accepts relation l)) _ after before after e refl
+  complete_terminal relation before after (inr (inr (inr (inr (p, e))))) = begin (λ l. accepted_if (accepts relation l)) _ after before after e refl
+  complete_terminal name before after (p, x, e) = begin (λ l. accepted_if (accepts name l)) _ after before after e refl
+  complete_terminal number before after (n, (p, digits, e, d)) = begin (λ l. accepted_if (accepts number l)) _ after before after e refl
 
   two_operands : (x y : ExprD) (before after : List PlacedToken) → (limits → IsNarrow x × IsNarrow y) →
       (SpellsExprs (expr x (expr y no_exprs)) ▹ TakesSymbol (codes ")")) before after → Operands limits two before after
@@ -90,7 +90,7 @@ module _ (limits : Type 0) where
       (m1, (x, n, s), subst (λ (b : List PlacedToken). TakesSymbol (codes ")") b after) (sym e) close)
 
   operands_of : (op : Operation) (es : ExprsD) (before after : List PlacedToken) → HasArity op es → (limits → AreNarrow es) →
-      (SpellsExprs es ▹ TakesSymbol (codes ")")) before after → Operands limits (arity op) before after
+      (SpellsExprs es ▹ TakesSymbol (codes ")")) before after → Operands limits (arguments_of op) before after
   operands_of Union (expr x (expr y no_exprs)) before after fits n h = two_operands x y before after (λ k. ((n k).0, (n k).1.0)) h
   operands_of Inter (expr x (expr y no_exprs)) before after fits n h = two_operands x y before after (λ k. ((n k).0, (n k).1.0)) h
   operands_of Minus (expr x (expr y no_exprs)) before after fits n h = two_operands x y before after (λ k. ((n k).0, (n k).1.0)) h
@@ -254,36 +254,36 @@ module _ (limits : Type 0) where
   condition_of f before after n (zero, form, s) = bare_condition f before after n s
   condition_of f before after n (suc i, form, s) = lone_conjunction before after (lone_unit f before after n (suc i, inr (omega arith), s))
 
-  complete_condition : (x : Ending) (before after : List PlacedToken) → ACondition limits x before after → Begun limits (λ l. behind (more_condition x ∷ []) (unit_start l)) before after
+  complete_condition : (x : ItemEnd) (before after : List PlacedToken) → ACondition limits x before after → Begun limits (λ l. behind (more_condition x ∷ []) (unit_start l)) before after
   complete_condition x before after (f, n, (m, h, end)) =
       let c = condition_of f before m n h in
       begun_behind unit_start (more_condition x ∷ []) before c.first after (complete_unit before c.first c.head)
       (after, (c.more, c.others, c.narrow, (c.rest.0, c.rest.1, (m, c.rest.2, end))), refl)
 
-  complete_ending : (x : Ending) (before after : List PlacedToken) → Ends limits x before after → Begun limits (ending x) before after
+  complete_ending : (x : ItemEnd) (before after : List PlacedToken) → Ends limits x before after → Begun limits (ending x) before after
   complete_ending (token x) before after h = complete_terminal x before after h
   complete_ending turns_block before after (m, (p, e), (m1, n, (m2, bracket, l))) = begin (ending turns_block) _ m before after e (m1, n, (m2, bracket, (after, l, refl)))
 
-  no_word : (x : Terminal) (r after : List PlacedToken) → GoesOn limits (chosen (accepts x (Word words.Where))) r after → ⊥
+  no_word : (x : Terminal) (r after : List PlacedToken) → GoesOn limits (accepted_if (accepts x (Word words.Where))) r after → ⊥
   no_word the_atoms r after h = h
   no_word _ r after h = h
 
-  no_and : (x : Ending) (r after : List PlacedToken) → GoesOn limits (ending x (Word words.And)) r after → ⊥
+  no_and : (x : ItemEnd) (r after : List PlacedToken) → GoesOn limits (ending x (Word words.And)) r after → ⊥
   no_and (token the_atoms) r after h = h
   no_and (token _) r after h = h
   no_and turns_block r after h = h
 
-  no_or : (x : Ending) (r after : List PlacedToken) → GoesOn limits (ending x (Word words.Or)) r after → ⊥
+  no_or : (x : ItemEnd) (r after : List PlacedToken) → GoesOn limits (ending x (Word words.Or)) r after → ⊥
   no_or (token the_atoms) r after h = h
   no_or (token _) r after h = h
   no_or turns_block r after h = h
 
-  as_more_condition : (x : Ending) (l : Lexeme) (r after : List PlacedToken) → GoesOn limits (ending x l) r after → GoesOn limits (more_condition_start x l) r after
+  as_more_condition : (x : ItemEnd) (l : Lexeme) (r after : List PlacedToken) → GoesOn limits (ending x l) r after → GoesOn limits (more_condition_start x l) r after
   as_more_condition x (Word words.And) r after h = absurd (no_and x r after h)
   as_more_condition x (Word words.Or) r after h = absurd (no_or x r after h)
   as_more_condition x _ r after h = h
 
-  complete_more_condition : (x : Ending) (before after : List PlacedToken) → MoreCondition limits x before after → Begun limits (more_condition_start x) before after
+  complete_more_condition : (x : ItemEnd) (before after : List PlacedToken) → MoreCondition limits x before after → Begun limits (more_condition_start x) before after
   complete_more_condition x before after (cond c us, cs, n, (m1, (m, (p, e), (m0, u, more)), rest)) =
       begin (more_condition_start x) _ m before after e (m0, (c, λ k. (n k).0.0, u), (after, (us, cs, λ k. ((n k).0.1, (n k).1), (m1, more, rest)), refl))
   complete_more_condition x before after (no_conds, cond d cs, n, (m1, e1, (m2, (m, (p, e), (m0, h, more)), end))) =
@@ -292,13 +292,13 @@ module _ (limits : Type 0) where
   complete_more_condition x before after (no_conds, no_conds, n, (m1, e1, (m2, e2, end))) =
       from_same (more_condition_start x) before m2 after (e1 ∙ e2) (begun_as (ending x) (more_condition_start x) (as_more_condition x) m2 after (complete_ending x m2 after end))
 
-  as_where : (x : Terminal) (l : Lexeme) (r after : List PlacedToken) → GoesOn limits (chosen (accepts x l)) r after → GoesOn limits (where_start x l) r after
+  as_where : (x : Terminal) (l : Lexeme) (r after : List PlacedToken) → GoesOn limits (accepted_if (accepts x l)) r after → GoesOn limits (where_start x l) r after
   as_where x (Word words.Where) r after h = absurd (no_word x r after h)
   as_where x _ r after h = h
 
   complete_where : (x : Terminal) (before after : List PlacedToken) → AWhere limits x before after → Begun limits (where_start x) before after
   complete_where x before after (c, n, (m, inl (holds, e), end)) =
-      from_same (where_start x) before m after e (begun_as (λ l. chosen (accepts x l)) (where_start x) (as_where x) m after (complete_terminal x m after end))
+      from_same (where_start x) before m after e (begun_as (λ l. accepted_if (accepts x l)) (where_start x) (as_where x) m after (complete_terminal x m after end))
   complete_where x before after (c, n, (m, inr (m1, (p, e), h), end)) = begin (where_start x) _ m1 before after e (after, (c, n, (m, h, end)), refl)
 
   abbrev IsPlain : StmtD → Type 0
@@ -360,7 +360,7 @@ module _ (limits : Type 0) where
   complete_more_parts : (i : ℕ) (before after : List PlacedToken) → MoreParts limits i before after → Begun limits (more_parts_start i) before after
   complete_more_parts i before after (no_exprs, wide, n, (m, e, (p, close))) =
       let enough : 2 ≤ i = omega arith in
-      begin (more_parts_start i) _ after before after (e ∙ close) (subst (λ (b : Bool). GoesOn limits (chosen b) after after) (sym (le-leb 2 i enough)) refl)
+      begin (more_parts_start i) _ after before after (e ∙ close) (subst (λ (b : Bool). GoesOn limits (accepted_if b) after after) (sym (le-leb 2 i enough)) refl)
   complete_more_parts i before after (expr y es, wide, n, (m, (m1, (q, e), (m2, s, more)), close)) =
       let narrow : limits → AreNarrow es × (suc i + width es ≤ 8) = λ k. ((n k).0.1, let bound = (n k).1 in omega arith) in
       begin (more_parts_start i) _ m1 before after e (m2, (y, λ k. (n k).0.0, s), (after, (es, omega arith, narrow, (m, more, close)), refl))

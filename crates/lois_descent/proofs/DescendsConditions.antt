@@ -24,7 +24,7 @@ use Rattle.lois_descent.specs.declared.lexemes.UnitForm.TheVariants as units
 use Rattle.lois_descent.specs.Descent as descent
 use Rattle.lois_descent.specs.Descent.{Tokens, Read, ◌>>=◌, expr_of, cond_of}
 use Rattle.lois_descent.specs.Lexemes.{relation_of, base_form, unit_form, connective}
-use Rattle.lois_descent.specs.Machine.{Ending, token, one, Item, terminal, expression, arguments, condition, more_condition, unit, base, item_start, in_set, State, push}
+use Rattle.lois_descent.specs.Machine.{ItemEnd, token, one, Item, terminal, expression, arguments, condition, more_condition, unit, base, item_start, in_set, State, push}
 use Rattle.lois_descent.specs.Steps.{lexeme_at, place_at}
 use Rattle.lois_descent.proofs.Descends.{Comes, done, alike, and_then, led, told, taken, behind_word, passing, closing, entering, entering_call, relation_reads, separated_reads}
 use Rattle.lois_descent.proofs.DescendsExpressions.{ReadsExpr, ReadsCond, AnExpr, ACond, binding_reads, test_reads, expression_reads}
@@ -224,7 +224,7 @@ record MoreConjunctions (ts : Tokens) (cs : List CondD) (at end : ℕ) : Type 0 
 
 -- what gives a part of a condition behind a unit, whatever ends the condition
 abbrev GivesMore : {A : Type 0} → Tokens → ℕ → ℕ → (A → ℕ → Type 0) → Result (A × Tokens) ParseError → Type 0
-GivesMore ts n at P read = Comes {X = Ending × State} ts at n (λ i. push (more_condition i.0 ∷ []) i.1) n (λ x i. push (more_condition i.0 ∷ []) i.1) P read
+GivesMore ts n at P read = Comes {X = ItemEnd × State} ts at n (λ i. push (more_condition i.0 ∷ []) i.1) n (λ x i. push (more_condition i.0 ∷ []) i.1) P read
 
 -- u reads a unit; on the stack is a condition behind it, with whatever ends it
 module _ (ts : Tokens) (n : ℕ) (u : Read CondD) (units_read : ReadsForm is_unit unit ts n u) where
@@ -248,7 +248,7 @@ module _ (ts : Tokens) (n : ℕ) (u : Read CondD) (units_read : ReadsForm is_uni
       (omega arith, (0, inl refl, (are_many first rest (held.some follows), (drop at ts, begun.1, held.spelled))), (begun.2, held.narrow), held.ended))
 
   -- one of them or several
-  conjunction_reads : (at : ℕ) → Comes {X = Ending × State} ts at n (λ i. push (unit ∷ more_condition i.0 ∷ []) i.1) n (λ c i. push (more_condition i.0 ∷ []) i.1) (AConjunction ts at) (descent.conjunction u (drop at ts))
+  conjunction_reads : (at : ℕ) → Comes {X = ItemEnd × State} ts at n (λ i. push (unit ∷ more_condition i.0 ∷ []) i.1) n (λ c i. push (more_condition i.0 ∷ []) i.1) (AConjunction ts at) (descent.conjunction u (drop at ts))
   unfolding descent.conjunction
   conjunction_reads at = and_then _ (λ i. push (more_condition i.0 ∷ []) i.1) (units_read at) (λ first b forward begun. go first b begun (descent.begins_and (drop b ts)) refl)
     where

@@ -27,7 +27,7 @@ use Rattle.lois_descent.specs.declared.lexemes.Terminal.TheVariants as terminals
 use Rattle.lois_descent.specs.Descent as descent
 use Rattle.lois_descent.specs.Descent.{Tokens, Read, ◌>>=◌, stop, pass}
 use Rattle.lois_descent.specs.Lexemes.{lexeme_of, accepts, expr_form, connective, optional_start, has_two_operands}
-use Rattle.lois_descent.specs.Machine.{Ending, token, one, two, part_number, terminal, expression, arguments, more_parts, more_items, after_brace, after_item, more_bindings, where_clause, condition, more_condition, behind, chosen, arity, expression_start, brace_start, after_item_start, more_parts_start, more_items_start, more_bindings_start, where_start, in_set, is_comma, over_if, State, push, verdict, refused, over}
+use Rattle.lois_descent.specs.Machine.{ItemEnd, token, one, two, part_number, terminal, expression, arguments, more_parts, more_items, after_brace, after_item, more_bindings, where_clause, condition, more_condition, behind, accepted_if, arguments_of, expression_start, brace_start, after_item_start, more_parts_start, more_items_start, more_bindings_start, where_start, in_set, is_comma, over_if, State, push, verdict, refused, over}
 use Rattle.lois_descent.specs.Refusals.{GoesOver}
 use Rattle.lois_descent.specs.Refusals as limits
 use Rattle.lois_descent.specs.Steps.{first_lexeme, lexeme_at, place_at, bytes_at, Moves}
@@ -64,7 +64,7 @@ ReadsExpr ts n read = (at : ℕ) → GivesExpr ts n at (read (drop at ts))
 
 -- reads conditions, whatever may stand behind them
 abbrev pub ReadsCond : Tokens → ℕ → Read CondD → Type 0
-ReadsCond ts n read = (at : ℕ) → Comes {X = Ending × State} ts at n (λ i. push (condition i.0 ∷ []) i.1) n (λ c i. push (more_condition i.0 ∷ []) i.1) (ACond ts at) (read (drop at ts))
+ReadsCond ts n read = (at : ℕ) → Comes {X = ItemEnd × State} ts at n (λ i. push (condition i.0 ∷ []) i.1) n (λ c i. push (more_condition i.0 ∷ []) i.1) (ACond ts at) (read (drop at ts))
 
 abbrev pub GivesGuard : Tokens → ℕ → ℕ → Result (CondD × Tokens) ParseError → Type 0
 GivesGuard ts n at read = Comes {X = Terminal × State} ts at n (λ i. push (where_clause i.0 ∷ []) i.1) n (λ c i. push (terminal i.0 ∷ []) i.1) (AGuard ts at) read
@@ -111,14 +111,14 @@ guard_reads ts n c tests at = go (optional_start (lexeme_at ts at)) refl
 -- ---- calls
 
 -- how many operands an operation has
-two_operands : (op : Operation) → has_two_operands op ≡ true → (arity op ≡ two) × ((x y : ExprD) → HasArity op (expr x (expr y no_exprs)))
+two_operands : (op : Operation) → has_two_operands op ≡ true → (arguments_of op ≡ two) × ((x y : ExprD) → HasArity op (expr x (expr y no_exprs)))
 two_operands operations.Union h = (refl, λ x y. tt)
 two_operands operations.Inter h = (refl, λ x y. tt)
 two_operands operations.Minus h = (refl, λ x y. tt)
 two_operands operations.Product h = (refl, λ x y. tt)
 two_operands _ h = absurd (cc)
 
-one_operand : (op : Operation) → has_two_operands op ≡ false → (arity op ≡ one) × ((x : ExprD) → HasArity op (expr x no_exprs))
+one_operand : (op : Operation) → has_two_operands op ≡ false → (arguments_of op ≡ one) × ((x : ExprD) → HasArity op (expr x no_exprs))
 one_operand operations.Flatten h = (refl, λ x. tt)
 one_operand operations.Reach h = (refl, λ x. tt)
 one_operand operations.Complement h = (refl, λ x. tt)
@@ -235,7 +235,7 @@ module _ (ts : Tokens) (at n count : ℕ) where
   close_parts : accepts terminals.CloseRound (lexeme_at ts at) ≡ true → 2 ≤ count → Moves ts at (n + 1) (more_parts count ∷ []) (at + 1) n []
   close_parts shut many =
       let k = token_at ts at (Symbol punctuators.CloseRound) (closes_round (lexeme_at ts at) shut) (λ g. cc) in
-      close_moves_at ts at n (more_parts count) [] (Symbol punctuators.CloseRound) k refl refl refl (ap chosen (le-leb 2 count many)) (
+      close_moves_at ts at n (more_parts count) [] (Symbol punctuators.CloseRound) k refl refl refl (ap accepted_if (le-leb 2 count many)) (
       λ rest. ap (λ l. over_if (nat_eq count 8 && is_comma l) limits.parts) k.lexeme ∙ ap (λ b. over_if b limits.parts) (and_false (nat_eq count 8) false refl))
 
 -- n brackets are open before the `(` at token number `start`, and e reads what stands in one more
@@ -353,7 +353,7 @@ no_for : (l : Lexeme) → (optional_start l ≡ leads.For → ⊥) → after_ite
 no_for (Word words.For) h = absurd (h refl)
 no_for _ h = refl
 
-no_more_items : (l : Lexeme) → accepts terminals.Comma l ≡ false → more_items_start l ≡ chosen (accepts terminals.CloseCurly l)
+no_more_items : (l : Lexeme) → accepts terminals.Comma l ≡ false → more_items_start l ≡ accepted_if (accepts terminals.CloseCurly l)
 no_more_items (Symbol punctuators.Comma) h = absurd (cc)
 no_more_items (Symbol punctuators.CloseCurly) h = refl
 no_more_items _ h = refl
@@ -478,7 +478,7 @@ module _ (ts : Tokens) (n depth_left : ℕ) (all : n + depth_left ≡ 64) (e : R
   -- a name, or a tag, as an expression
   name_alone : (at : ℕ) → lexeme_at ts at ≡ Name → GivesExpr ts n at (descent.name (drop at ts) >>= λ x. Ok (var x.0.place x.0.name, x.1))
   name_alone at here =
-      alike (λ s. (same_alone ts at n expression (terminal terminals.Name) (λ rest t. refl) (λ rest t. refl) (ap expression_start here ∙ sym (ap (λ l. chosen (accepts terminals.Name l)) here))).run s) (
+      alike (λ s. (same_alone ts at n expression (terminal terminals.Name) (λ rest t. refl) (λ rest t. refl) (ap expression_start here ∙ sym (ap (λ l. accepted_if (accepts terminals.Name l)) here))).run s) (
       and_then _ (λ s. s) (name_reads ts at n) (λ x b forward named. done (omega arith, named.1, tt)))
 
   tag_alone : (at : ℕ) → lexeme_at ts at ≡ Tag → GivesExpr ts n at (descent.tag (drop at ts) >>= λ x. Ok (trees.tag (place_at ts at) x.0, x.1))

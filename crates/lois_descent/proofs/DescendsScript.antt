@@ -21,7 +21,7 @@ use Rattle.lois_descent.specs.Descent as descent
 use Rattle.lois_descent.specs.Descent.{Tokens, Read, ◌>>=◌}
 use Rattle.lois_descent.specs.Lexemes.{accepts, optional_start, stmt_form}
 use Rattle.lois_descent.specs.Laws.{IsCorrectResult}
-use Rattle.lois_descent.specs.Machine.{terminal, more_names, more_names_start, chosen, State, push, body, outermost, at_bottom, refused, no_script, verdict, start}
+use Rattle.lois_descent.specs.Machine.{terminal, more_names, more_names_start, accepted_if, State, push, body, outermost, at_bottom, refused, no_script, verdict, start}
 use Rattle.lois_descent.specs.Refusals.{nesting, parts, turns, Refused}
 use Rattle.lois_descent.specs.Steps.{RefusalMatches, lexeme_at, place_at, One}
 use Rattle.lois_descent.specs.Reading.{refusal_of}
@@ -38,7 +38,7 @@ use Rattle.lois_descent.proofs.Refusing.{no_script_refused, limit_broken, nestin
 abbrev NamesRead : Tokens → List ParamD → ℕ → ℕ → Type 0
 NamesRead ts xs at end = SpellsMoreNames xs (drop at ts) (drop end ts) × (accepts terminals.Comma (lexeme_at ts end) ≡ false)
 
-names_ended : (l : Lexeme) → accepts terminals.Comma l ≡ false → more_names_start l ≡ chosen (accepts terminals.Semicolon l)
+names_ended : (l : Lexeme) → accepts terminals.Comma l ≡ false → more_names_start l ≡ accepted_if (accepts terminals.Semicolon l)
 names_ended (Symbol punctuators.Comma) e = absurd (cc)
 names_ended (Symbol punctuators.Semicolon) e = refl
 names_ended _ e = refl

@@ -24,7 +24,7 @@ use Rattle.lois_descent.specs.declared.lexemes.StmtForm.{StmtForm}
 use Rattle.lois_descent.specs.declared.lexemes.StmtForm.TheVariants as stmts
 use Rattle.lois_descent.proofs.AcceptedTokens.{one_at, pass_stuck, number_accepted}
 use Rattle.lois_descent.specs.Lexemes.{accepts, stmt_form, connective, optional_start}
-use Rattle.lois_descent.specs.Machine.{statements_start, at_bottom, turns_start, turns_number, ending, chosen, item_breach, over_if, Item, token, turns_block, terminal, expression, condition, more_condition, where_clause, statements, State, push, verdict, refused, over, no_script, statement_start}
+use Rattle.lois_descent.specs.Machine.{statements_start, at_bottom, turns_start, turns_number, ending, accepted_if, item_breach, over_if, Item, token, turns_block, terminal, expression, condition, more_condition, where_clause, statements, State, push, verdict, refused, over, no_script, statement_start}
 use Rattle.lois_descent.specs.Steps.{first_place, first_bytes, lexeme_at, place_at, bytes_at, One}
 use Rattle.lois_descent.specs.Descent as descent
 use Rattle.lois_descent.specs.Descent.{Tokens, Read, ◌>>=◌, let_statement, assignment, addition, enter, block, for_statement, else_block, if_statement, turns, while_statement, assertion, printing, statement, expr_of, cond_of}
@@ -80,7 +80,7 @@ curly_accepted _ e = absurd (cc)
 abbrev pub TurnsRead : Tokens → ℕ → ℕ → ℕ → Type 0
 TurnsRead ts at k end = (k ≤ 1000000) × (TakesWord (codes "turns") ▹ TakesNumber k) (drop at ts) (drop end ts)
 
-turns_as_number : (l : Lexeme) → turns_start l ≡ chosen (accepts terminals.Number l)
+turns_as_number : (l : Lexeme) → turns_start l ≡ accepted_if (accepts terminals.Number l)
 turns_as_number Number = refl
 turns_as_number _ = refl
 
@@ -129,7 +129,7 @@ turns_number_read ts at n j place word = go (accepts terminals.Number (lexeme_at
     go : (t : Bool) → accepts terminals.Number (lexeme_at ts at) ≡ t →
         Comes ts at n (λ s. push (turns_number ∷ []) s) n (λ k s. s) (TurnsNumber ts at)
         ((if t then Ok (decimal (first_bytes (drop at ts)), drop 1 (drop at ts)) else descent.stop (drop at ts)) >>= (λ k. if nat_lt 1000000 k.0 then Err (parse_errors.TurnsTooMany (length (drop at ts))) else Ok k))
-    go false e = stops (λ s. (missed ts at n turns_number (turns_as_number (lexeme_at ts at) ∙ ap chosen e)).run s)
+    go false e = stops (λ s. (missed ts at n turns_number (turns_as_number (lexeme_at ts at) ∙ ap accepted_if e)).run s)
     go true e = turns_counted ts at n (number_accepted (lexeme_at ts at) e) j place word (nat_lt 1000000 (decimal (bytes_at ts at))) refl
 
 turns_read : (ts : Tokens) (at n : ℕ) → connective (lexeme_at ts at) ≡ NoConnective →
@@ -298,7 +298,7 @@ many_statements ts depth_left n all b reads host test stray at =
     (λ at e. told (λ a c later read. (read.0, read)) (statement_reads ts depth_left n all (expr_reads ts depth_left n all) (cond_reads ts depth_left n all) b reads at host (stray at e)))
     (suc (length (drop at ts))) at (let l = length-drop at ts in omega arith)
 
-closer_ends : (l : Lexeme) → accepts terminals.CloseCurly l ≡ true → statements_start l ≡ chosen (accepts terminals.CloseCurly l)
+closer_ends : (l : Lexeme) → accepts terminals.CloseCurly l ≡ true → statements_start l ≡ accepted_if (accepts terminals.CloseCurly l)
 closer_ends (Symbol punctuators.CloseCurly) e = refl
 closer_ends _ e = absurd (cc)
 

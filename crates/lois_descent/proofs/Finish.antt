@@ -5,7 +5,7 @@ use Rattle.lois_script.specs.Grammar.{PlacedToken}
 use Rattle.lois_script.specs.Tree.{atoms, no_exprs, expr, no_bindings, truth, no_conds, no_stmts}
 use Rattle.lois_descent.specs.declared.lexemes.Terminal.{Terminal}
 use Rattle.lois_descent.specs.declared.lexemes.Terminal.TheVariants.{Atoms as the_atoms, Structure as structure, Semicolon as semicolon, Comma as comma, CloseRound as close_round, CloseSquare as close_square, OpenCurly as open_curly, CloseCurly as close_curly, Colon as colon, Equal as equal, Becomes as becomes, In as within, To as to, Relation as relation, Name as name, Number as number}
-use Rattle.lois_descent.specs.Machine.{Ending, token, turns_block, Arguments, one, two, part_number, Item, terminal, expression, arguments, more_parts, more_items, after_brace, after_item, more_bindings, where_clause, condition, more_condition, unit, base, turns_number, statements, after_if, more_names, Bottom, body, outermost, after_outer_if, State}
+use Rattle.lois_descent.specs.Machine.{ItemEnd, token, turns_block, Arguments, one, two, part_number, Item, terminal, expression, arguments, more_parts, more_items, after_brace, after_item, more_bindings, where_clause, condition, more_condition, unit, base, turns_number, statements, after_if, more_names, Bottom, body, outermost, after_outer_if, State}
 use Rattle.lois_descent.specs.Steps.{One}
 use Rattle.lois_descent.proofs.Language.{AnExpr, ABase, Operands, AStatements, Ends, Means, AllMean, BottomMeans, Completes}
 use Rattle.lois_descent.proofs.Sound.{NoLimits, never}
@@ -60,7 +60,7 @@ operands_to_come part_number r =
 no_statements : (r : List PlacedToken) → (before : List PlacedToken) × AStatements NoLimits before r
 no_statements r = let close = finish_terminal close_curly r in (close.0, (no_stmts, never, (close.0, refl, close.1)))
 
-an_ending : (x : Ending) (r : List PlacedToken) → (before : List PlacedToken) × Ends NoLimits x before r
+an_ending : (x : ItemEnd) (r : List PlacedToken) → (before : List PlacedToken) × Ends NoLimits x before r
 unfolding word symbol
 an_ending (token x) r = finish_terminal x r
 an_ending turns_block r =

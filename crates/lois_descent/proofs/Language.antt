@@ -6,7 +6,7 @@ use Rattle.lois_script.specs.Limits.{width, IsNarrow, AreNarrow, BindingIsNarrow
 use Rattle.lois_descent.specs.declared.lexemes.Terminal.{Terminal}
 use Rattle.lois_descent.specs.declared.lexemes.Terminal.TheVariants.{Comma as comma, CloseRound as close_round, Number as number}
 use Rattle.lois_descent.specs.Steps.{One}
-use Rattle.lois_descent.specs.Machine.{Ending, token, turns_block, Arguments, one, two, part_number, Item, terminal, expression, arguments, more_parts, more_items, after_brace, after_item, more_bindings, where_clause, condition, more_condition, unit, base, turns_number, statements, after_if, more_names, Bottom, body, outermost, after_outer_if, State}
+use Rattle.lois_descent.specs.Machine.{ItemEnd, token, turns_block, Arguments, one, two, part_number, Item, terminal, expression, arguments, more_parts, more_items, after_brace, after_item, more_bindings, where_clause, condition, more_condition, unit, base, turns_number, statements, after_if, more_names, Bottom, body, outermost, after_outer_if, State}
 
 abbrev pub AnExpr : Type 0 → Spelling
 AnExpr limits before after = (e : ExprD) × (limits → IsNarrow e) × SpellsExpr e before after
@@ -46,11 +46,11 @@ AStatements limits before after = (l : StmtsD) × (limits → StmtsAreWithin l) 
 abbrev pub Turns : Type 0 → Spelling
 Turns limits before after = (n : ℕ) × (limits → n ≤ 1000000) × TakesNumber n before after
 
-abbrev pub Ends : Type 0 → Ending → Spelling
+abbrev pub Ends : Type 0 → ItemEnd → Spelling
 Ends limits (token x) = One x
 Ends limits turns_block = TakesWord (codes "turns") ▹ Turns limits ▹ TakesSymbol (codes "{") ▹ AStatements limits
 
-abbrev pub MoreCondition : Type 0 → Ending → Spelling
+abbrev pub MoreCondition : Type 0 → ItemEnd → Spelling
 MoreCondition limits e before after =
     (us : CondsD) × (cs : CondsD) × (limits → CondsAreNarrow us × CondsAreNarrow cs) ×
     (SpellsMoreUnits us ▹ SpellsMoreConjunctions cs ▹ Ends limits e) before after
@@ -58,7 +58,7 @@ MoreCondition limits e before after =
 abbrev pub AWhere : Type 0 → Terminal → Spelling
 AWhere limits x before after = (c : CondD) × (limits → CondIsNarrow c) × (WhereClause c (SpellsCond c) ▹ One x) before after
 
-abbrev pub ACondition : Type 0 → Ending → Spelling
+abbrev pub ACondition : Type 0 → ItemEnd → Spelling
 ACondition limits e before after = (c : CondD) × (limits → CondIsNarrow c) × (Enclosed true (SpellsCond c) ▹ Ends limits e) before after
 
 abbrev pub AfterIf : Type 0 → Spelling

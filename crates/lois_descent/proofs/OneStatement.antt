@@ -4,7 +4,7 @@ use Rattle.std.specs.Prelude.{nat_le}
 use Rattle.std.proofs.lemmas.Bool.{false≢true}
 use Rattle.lois_lexer.specs.declared.TokenKind.TheVariants.{Word}
 use Rattle.lois_script.specs.Tree.{StmtD, «let», assign, add, for, if, while, assert, print, StmtsD, no_stmts, stmt, ParamD}
-use Rattle.lois_script.specs.Grammar.{PlacedToken, TakesWord, TakesNumber, WhereClause, Block, ElseClause, SpellsExpr, SpellsBinding, SpellsCond, SpellsStmt, SpellsStmts, SpellsMoreNames, SpellsParameters, structure_word, SpellsScript, placed}
+use Rattle.lois_script.specs.Grammar.{PlacedToken, TakesWord, TakesNumber, WhereClause, Block, ElseClause, SpellsExpr, SpellsBinding, SpellsCond, SpellsStmt, SpellsStmts, SpellsMoreNames, SpellsParameters, structure_word, SpellsScript, token_at_place}
 use Rattle.lois_lexer.specs.declared.Token.{Token}
 use Rattle.lois_lexer.proofs.OneReading.{one_list}
 use Rattle.lois_descent.specs.Laws.{OneScript, OneScriptOfText}
@@ -201,4 +201,4 @@ one_script b s t (u, (p, s0), (v, (p1, s1), (w, (p2, s2), (x, params, body)))) (
 pub one_script_of_text : OneScriptOfText
 one_script_of_text text s t h k =
     let tokens : k.tokens ≡ h.tokens = one_list text k.tokens h.tokens k.cut h.cut in
-    one_script (map (placed text) h.tokens) s t h.script (subst (λ (ts : List Token). SpellsScript t (map (placed text) ts)) tokens k.script)
+    one_script (map (token_at_place text) h.tokens) s t h.script (subst (λ (ts : List Token). SpellsScript t (map (token_at_place text) ts)) tokens k.script)

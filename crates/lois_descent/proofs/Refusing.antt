@@ -10,7 +10,7 @@ use Rattle.lois_script.specs.Tree.{ScriptD}
 use Rattle.lois_script.specs.Grammar.{PlacedToken, SpellsScript, SpellsParameters, Begins}
 use Rattle.lois_script.specs.Limits.{opens, IsNestedWithin, StmtsAreWithin, Spells}
 use Rattle.lois_descent.specs.Machine.{no_script, over, accepted, refused, verdict, start}
-use Rattle.lois_descent.specs.Refusals.{Fails, Limit, nesting, parts, turns, GoesOver, Breaks, Refused, tokens_in}
+use Rattle.lois_descent.specs.Refusals.{IsNoScriptAt, Limit, nesting, parts, turns, GoesOver, BreaksLimit, Refused, tokens_in}
 use Rattle.lois_descent.specs.Refusals.{Refusal}
 use Rattle.lois_descent.specs.Refusals.{NoScript, TooNested, WideTuple, TurnsTooMany, NoMemory}
 use Rattle.lois_descent.proofs.Language.{Completes}
@@ -58,7 +58,7 @@ no_script_refused ts k v = (go (stops 0 0 start ts no_script k v), λ limit j be
     late : {j : ℕ} → StopsBy (verdict 0 0 start ts) j → j < k → ⊥
     late (c, m, w, bound) below = let both : refused no_script k ≡ refused c m = sym v ∙ w in let same_place : k ≡ m = cc in omega arith
 
-    go : Stops 0 start ts no_script k → Fails ts k
+    go : Stops 0 start ts no_script k → IsNoScriptAt ts k
     go h =
         let place : h.taken ≡ k = let p = h.place in omega arith in
         let begun : Begins (take k ts) = subst (λ d. Begins (take d ts)) place (begins_with (take h.taken ts) h.more h.begun) in (
@@ -67,13 +67,13 @@ no_script_refused ts k v = (go (stops 0 0 start ts no_script k v), λ limit j be
               (⊎_elim (λ x. inl (x.0, λ b. let c = begun_completes (take (suc h.taken) ts) b in x.1 c.0 c.1)) (λ x. inr (x.0, λ s g. x.1 (script_completes NoLimits s ts never g))) h.cause),
         )
 
-pub limit_broken : (limit : Limit) (ts : List PlacedToken) (k : ℕ) → verdict 0 0 start ts ≡ refused (over limit) k → GoesOver limit ts k → Breaks limit ts k
+pub limit_broken : (limit : Limit) (ts : List PlacedToken) (k : ℕ) → verdict 0 0 start ts ≡ refused (over limit) k → GoesOver limit ts k → BreaksLimit limit ts k
 limit_broken limit ts k v goes_over = go (stops 0 0 start ts (over limit) k v)
   where
     late : {j : ℕ} → StopsBy (verdict 0 0 start ts) j → j < k → ⊥
     late (c, m, w, bound) below = let both : refused (over limit) k ≡ refused c m = sym v ∙ w in let same_place : k ≡ m = cc in omega arith
 
-    go : Stops 0 start ts (over limit) k → Breaks limit ts k
+    go : Stops 0 start ts (over limit) k → BreaksLimit limit ts k
     go h =
         let place : h.taken ≡ k = let p = h.place in omega arith in
         record {
@@ -159,25 +159,25 @@ over_inside parts ts k g = some_token ts k 1 (over_sort parts ts k g)
 over_inside turns ts k g = some_token ts k 2 (over_sort turns ts k g)
 
 -- where the tokens fail, no script goes on
-fails_before : (ts : List PlacedToken) (k m : ℕ) → Fails ts k → k < m → m ≤ length ts → Begins (take m ts) → ⊥
+fails_before : (ts : List PlacedToken) (k m : ℕ) → IsNoScriptAt ts k → k < m → m ≤ length ts → Begins (take m ts) → ⊥
 fails_before ts k m (begun, inl (inside, stuck)) less bound b = stuck (begins_prefix (suc k) m ts (omega arith) b)
 fails_before ts k m (begun, inr (end, none)) less bound b = omega arith
 
-fails_inside : (ts : List PlacedToken) (k : ℕ) → Fails ts k → k ≤ length ts
+fails_inside : (ts : List PlacedToken) (k : ℕ) → IsNoScriptAt ts k → k ≤ length ts
 fails_inside ts k (begun, inl (inside, stuck)) = omega arith
 fails_inside ts k (begun, inr (end, none)) = omega arith
 
-one_place : (ts : List PlacedToken) (k m : ℕ) → Fails ts k → Fails ts m → k ≡ m
+one_place : (ts : List PlacedToken) (k m : ℕ) → IsNoScriptAt ts k → IsNoScriptAt ts m → k ≡ m
 one_place ts k m f g =
     ⊎_elim (λ less. absurd (fails_before ts k m f less (fails_inside ts m g) g.0))
     (λ most. ⊎_elim (λ less. absurd (fails_before ts m k g less (fails_inside ts k f) f.0)) (λ least. omega arith) (cases_lt m k)) (cases_lt k m)
 
-fails_or_breaks : (ts : List PlacedToken) (k m : ℕ) (limit : Limit) → Refused ts (NoScript k) → Breaks limit ts m → ⊥
+fails_or_breaks : (ts : List PlacedToken) (k m : ℕ) (limit : Limit) → Refused ts (NoScript k) → BreaksLimit limit ts m → ⊥
 fails_or_breaks ts k m limit (f, unbroken) b =
     ⊎_elim (λ less. unbroken limit m less b.over)
     (λ most. fails_before ts k (suc m) f (omega arith) (let inside = over_inside limit ts m b.over in omega arith) b.begun) (cases_lt m k)
 
-one_breach : (ts : List PlacedToken) (k m : ℕ) (a b : Limit) → Breaks a ts k → Breaks b ts m → (a ≡ b) × (k ≡ m)
+one_breach : (ts : List PlacedToken) (k m : ℕ) (a b : Limit) → BreaksLimit a ts k → BreaksLimit b ts m → (a ≡ b) × (k ≡ m)
 one_breach ts k m a b f g =
     let place : k ≡ m =
     ⊎_elim (λ less. absurd (g.first a k less f.over)) (λ most. ⊎_elim (λ less. absurd (f.first b m less g.over)) (λ least. omega arith) (cases_lt m k)) (cases_lt k m) in

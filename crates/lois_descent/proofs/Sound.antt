@@ -11,7 +11,7 @@ use Rattle.lois_descent.specs.Lexemes.{lexeme_of}
 use Rattle.lois_descent.specs.declared.lexemes.Terminal.{Terminal}
 use Rattle.lois_descent.specs.declared.lexemes.Terminal.TheVariants.{Atoms as the_atoms, Structure as structure, Semicolon as semicolon, Comma as comma, CloseRound as close_round, CloseSquare as close_square, OpenCurly as open_curly, CloseCurly as close_curly, Colon as colon, Equal as equal, Becomes as becomes, In as within, To as to, Relation as relation, Name as name, Number as number}
 use Rattle.lois_descent.specs.Lexemes.{accepts}
-use Rattle.lois_descent.specs.Machine.{Ending, token, turns_block, Arguments, one, two, part_number, Item, terminal, expression, arguments, more_parts, more_items, after_brace, after_item, more_bindings, where_clause, condition, more_condition, unit, base, turns_number, statements, after_if, more_names, Bottom, body, outermost, after_outer_if, State, behind, chosen, arity, operands, expression_start, base_start, unit_start, ending, where_start, statement_start, statements_start, after_if_start, more_parts_start, more_items_start, brace_start, after_item_start, more_bindings_start, more_condition_start, more_names_start, arguments_start, turns_start, item_start, at_bottom, outermost_start, bottom_start, step_from, step}
+use Rattle.lois_descent.specs.Machine.{ItemEnd, token, turns_block, Arguments, one, two, part_number, Item, terminal, expression, arguments, more_parts, more_items, after_brace, after_item, more_bindings, where_clause, condition, more_condition, unit, base, turns_number, statements, after_if, more_names, Bottom, body, outermost, after_outer_if, State, behind, accepted_if, arguments_of, operands, expression_start, base_start, unit_start, ending, where_start, statement_start, statements_start, after_if_start, more_parts_start, more_items_start, brace_start, after_item_start, more_bindings_start, more_condition_start, more_names_start, arguments_start, turns_start, item_start, at_bottom, outermost_start, bottom_start, step_from, step}
 use Rattle.lois_descent.specs.declared.lexemes.Lexeme.{Lexeme}
 use Rattle.lois_descent.specs.declared.lexemes.Lexeme.TheVariants.{Name, Tag, Number, Word, Symbol}
 use Rattle.lois_descent.specs.declared.lexemes.Keyword.TheVariants as words
@@ -43,7 +43,7 @@ allows_behind : (P Q : Spelling) (v : List Item) (t : PlacedToken) (o : Option (
 allows_behind P Q v t None f h = tt
 allows_behind P Q v t (Some w) f h = λ r after g. let s = split NoLimits w v r after g in f (t ∷ r) s.0 after (h r s.0 s.1) s.2
 
-sound_terminal : (x : Terminal) (t : PlacedToken) (l : Lexeme) → lexeme_of t ≡ l → Allows (One x) t (chosen (accepts x l))
+sound_terminal : (x : Terminal) (t : PlacedToken) (l : Lexeme) → lexeme_of t ≡ l → Allows (One x) t (accepted_if (accepts x l))
 sound_terminal the_atoms t (Word words.Atoms) e = at_once (One the_atoms) t (λ r. (t.place, taken_word t words.Atoms e r))
 sound_terminal structure t (Word words.Equality) e = at_once (One structure) t (λ r. (false, (t.place, taken_word t words.Equality e r)))
 sound_terminal structure t (Word words.Order) e = at_once (One structure) t (λ r. (true, (t.place, taken_word t words.Order e r)))
@@ -94,7 +94,7 @@ one_of : (op : Operation) → ((x : ExprD) → HasArity op (expr x no_exprs)) �
 one_of op fits t r after e (m, bracket, (m1, (x, k, s), close)) =
     (apply t.place op (expr x no_exprs), never, (fits x, (r, taken_word t (words.Apply op) e r, (m, bracket, (m1, (m1, s, refl), close)))))
 
-sound_apply : (op : Operation) (t : PlacedToken) → lexeme_of t ≡ Word (words.Apply op) → Allows (AnExpr NoLimits) t (Some (arguments (arity op) ∷ []))
+sound_apply : (op : Operation) (t : PlacedToken) → lexeme_of t ≡ Word (words.Apply op) → Allows (AnExpr NoLimits) t (Some (arguments (arguments_of op) ∷ []))
 sound_apply Union t e = λ r after h. two_of Union (λ x y. tt) t r after e (only NoLimits (arguments two) r after h)
 sound_apply Inter t e = λ r after h. two_of Inter (λ x y. tt) t r after e (only NoLimits (arguments two) r after h)
 sound_apply Minus t e = λ r after h. two_of Minus (λ x y. tt) t r after e (only NoLimits (arguments two) r after h)
@@ -191,13 +191,13 @@ condition_of d no_conds before m after h e =
     (d, subst (λ (b : List PlacedToken). Enclosed true (SpellsCond d) before b) e (enclosed_as d (is_conjunction d) true before m (λ k. refl) h))
 condition_of d (cond f cs) before m after h more = (any (cond d (cond f cs)), (0, inl refl, (tt, (m, h, more))))
 
-whole_condition : (e : Ending) (before m after : List PlacedToken) → AUnit NoLimits before m → MoreCondition NoLimits e m after → ACondition NoLimits e before after
+whole_condition : (e : ItemEnd) (before m after : List PlacedToken) → AUnit NoLimits before m → MoreCondition NoLimits e m after → ACondition NoLimits e before after
 whole_condition e before m after (c, k, h) (us, cs, j, (m1, units, (m2, conjunctions, end))) =
     let d = conjunction_of c us before m m1 h units in
     let f = condition_of d.0 cs before m1 m2 d.1 conjunctions in
     (f.0, never, (m2, f.1, end))
 
-sound_condition : (x : Ending) (t : PlacedToken) (l : Lexeme) → lexeme_of t ≡ l → Allows (ACondition NoLimits x) t (behind (more_condition x ∷ []) (unit_start l))
+sound_condition : (x : ItemEnd) (t : PlacedToken) (l : Lexeme) → lexeme_of t ≡ l → Allows (ACondition NoLimits x) t (behind (more_condition x ∷ []) (unit_start l))
 sound_condition x t l e =
     allows_behind (AUnit NoLimits) (ACondition NoLimits x) (more_condition x ∷ []) t (unit_start l)
     (λ before m after u h. whole_condition x before m after u (only NoLimits (more_condition x) m after h)) (sound_unit t l e)
@@ -205,21 +205,21 @@ sound_condition x t l e =
 turns_of : (t : PlacedToken) (r after : List PlacedToken) → lexeme_of t ≡ Word words.Turns → AllMean NoLimits (turns_number ∷ terminal open_curly ∷ statements ∷ []) r after → Ends NoLimits turns_block (t ∷ r) after
 turns_of t r after e (m, turns, (m1, bracket, rest)) = (r, (t.place, taken_word t words.Turns e r), (m, turns, (m1, bracket, only NoLimits statements m1 after rest)))
 
-sound_ending : (x : Ending) (t : PlacedToken) (l : Lexeme) → lexeme_of t ≡ l → Allows (Ends NoLimits x) t (ending x l)
+sound_ending : (x : ItemEnd) (t : PlacedToken) (l : Lexeme) → lexeme_of t ≡ l → Allows (Ends NoLimits x) t (ending x l)
 sound_ending (token x) t l e = sound_terminal x t l e
 sound_ending turns_block t (Word words.Turns) e = λ r after h. turns_of t r after e h
 sound_ending turns_block t _ e = tt
 
-and_of : (x : Ending) (t : PlacedToken) (r m after : List PlacedToken) → lexeme_of t ≡ Word words.And → AUnit NoLimits r m → MoreCondition NoLimits x m after → MoreCondition NoLimits x (t ∷ r) after
+and_of : (x : ItemEnd) (t : PlacedToken) (r m after : List PlacedToken) → lexeme_of t ≡ Word words.And → AUnit NoLimits r m → MoreCondition NoLimits x m after → MoreCondition NoLimits x (t ∷ r) after
 and_of x t r m after e (c, k, h) (us, cs, j, (m1, units, rest)) =
     (cond c us, cs, never, (m1, (r, (t.place, taken_word t words.And e r), (m, h, units)), rest))
 
-or_of : (x : Ending) (t : PlacedToken) (r m after : List PlacedToken) → lexeme_of t ≡ Word words.Or → AUnit NoLimits r m → MoreCondition NoLimits x m after → MoreCondition NoLimits x (t ∷ r) after
+or_of : (x : ItemEnd) (t : PlacedToken) (r m after : List PlacedToken) → lexeme_of t ≡ Word words.Or → AUnit NoLimits r m → MoreCondition NoLimits x m after → MoreCondition NoLimits x (t ∷ r) after
 or_of x t r m after e (c, k, h) (us, cs, j, (m1, units, (m2, conjunctions, end))) =
     let d = conjunction_of c us r m m1 h units in
     (no_conds, cond d.0 cs, never, (t ∷ r, refl, (m2, (r, (t.place, taken_word t words.Or e r), (m1, d.1, conjunctions)), end)))
 
-sound_more_condition : (x : Ending) (t : PlacedToken) (l : Lexeme) → lexeme_of t ≡ l → Allows (MoreCondition NoLimits x) t (more_condition_start x l)
+sound_more_condition : (x : ItemEnd) (t : PlacedToken) (l : Lexeme) → lexeme_of t ≡ l → Allows (MoreCondition NoLimits x) t (more_condition_start x l)
 sound_more_condition x t (Word words.And) e = λ r after h. and_of x t r h.0 after e h.1 (only NoLimits (more_condition x) h.0 after h.2)
 sound_more_condition x t (Word words.Or) e = λ r after h. or_of x t r h.0 after e h.1 (only NoLimits (more_condition x) h.0 after h.2)
 sound_more_condition x t l e =
@@ -231,7 +231,7 @@ where_of x t r after e (c, k, (m, h, end)) = (c, never, (m, inr (r, (t.place, ta
 sound_where : (x : Terminal) (t : PlacedToken) (l : Lexeme) → lexeme_of t ≡ l → Allows (AWhere NoLimits x) t (where_start x l)
 sound_where x t (Word words.Where) e = λ r after h. where_of x t r after e (only NoLimits (condition (token x)) r after h)
 sound_where x t l e =
-    allows_as (One x) (AWhere NoLimits x) t (chosen (accepts x l)) (λ before after end. (truth, never, (before, inl (refl, refl), end))) (sound_terminal x t l e)
+    allows_as (One x) (AWhere NoLimits x) t (accepted_if (accepts x l)) (λ before after end. (truth, never, (before, inl (refl, refl), end))) (sound_terminal x t l e)
 
 abbrev pub AStatement : Spelling
 AStatement before after = (s : StmtD) × SpellsStmt s before after
@@ -309,7 +309,7 @@ one_more_part : (n : ℕ) (t : PlacedToken) (r m after : List PlacedToken) → l
 one_more_part n t r m after e (x, k, s) (es, wide, j, (m2, more, close)) =
     (expr x es, omega arith, never, (m2, (r, (t.place, taken_sign t punctuators.Comma e r), (m, s, more)), close))
 
-last_part : (n : ℕ) (t : PlacedToken) (b : Bool) → nat_le 2 n ≡ b → lexeme_of t ≡ Symbol punctuators.CloseRound → Allows (MoreParts NoLimits n) t (chosen b)
+last_part : (n : ℕ) (t : PlacedToken) (b : Bool) → nat_le 2 n ≡ b → lexeme_of t ≡ Symbol punctuators.CloseRound → Allows (MoreParts NoLimits n) t (accepted_if b)
 last_part n t true wide e = at_once (MoreParts NoLimits n) t (λ r. (no_exprs, omega (arith, leb-true 2 n wide), never, (t ∷ r, refl, (t.place, taken_sign t punctuators.CloseRound e r))))
 last_part n t false wide e = tt
 
@@ -452,4 +452,4 @@ sound_step s next t e r h =
     let allowed = subst (BottomAllows (Completes NoLimits s) t) e (sound_step_from s.stack s.bottom t (lexeme_of t) refl) in allowed r h
 
 pub one_token : (x : Terminal) (t : PlacedToken) → accepts x (lexeme_of t) ≡ true → (r : List PlacedToken) → One x (t ∷ r) r
-one_token x t e r = let allowed = subst (λ b. Allows (One x) t (chosen b)) e (sound_terminal x t (lexeme_of t) refl) in allowed r r refl
+one_token x t e r = let allowed = subst (λ b. Allows (One x) t (accepted_if b)) e (sound_terminal x t (lexeme_of t) refl) in allowed r r refl

@@ -5,7 +5,7 @@ use Rattle.lois_descent.specs.Lexemes.{word_of, punctuator_text}
 use Rattle.lois_descent.specs.declared.lexemes.Terminal.{Terminal}
 use Rattle.lois_descent.specs.declared.lexemes.Terminal.TheVariants.{Relation as relation}
 use Rattle.lois_descent.specs.Lexemes.{accepts}
-use Rattle.lois_descent.specs.Machine.{Ending, Arguments, Item, terminal, expression, body, behind, chosen, expression_start, base_start, unit_start, ending, where_start, statement_start, statements_start, after_if_start, more_condition_start, arguments_start, item_start, outermost_start, bottom_start}
+use Rattle.lois_descent.specs.Machine.{ItemEnd, Arguments, Item, terminal, expression, body, behind, accepted_if, expression_start, base_start, unit_start, ending, where_start, statement_start, statements_start, after_if_start, more_condition_start, arguments_start, item_start, outermost_start, bottom_start}
 use Rattle.lois_descent.specs.declared.lexemes.Lexeme.{Lexeme}
 use Rattle.lois_descent.specs.declared.lexemes.Lexeme.TheVariants.{End, Name, Tag, Number, Word, Symbol}
 use Rattle.lois_descent.specs.declared.lexemes.Keyword.TheVariants as words
@@ -112,7 +112,7 @@ stmt_is l f e = subst (StmtFits l) (sym e) (stmt_fits l)
 abbrev pub JointFits : Lexeme → Connective → Type 0
 JointFits l joints.And = l ≡ Word words.And
 JointFits l joints.Or = l ≡ Word words.Or
-JointFits l joints.NoConnective = (e : Ending) → more_condition_start e l ≡ ending e l
+JointFits l joints.NoConnective = (e : ItemEnd) → more_condition_start e l ≡ ending e l
 
 joint_fits : (l : Lexeme) → JointFits l (connective l)
 joint_fits (Word words.And) = refl
@@ -145,7 +145,7 @@ pub no_round : (l : Lexeme) → (optional_start l ≡ leads.OpenRound → ⊥) �
 no_round (Symbol punctuators.OpenRound) h a = absurd (h refl)
 no_round _ h a = refl
 
-pub no_where : (l : Lexeme) → (optional_start l ≡ leads.Where → ⊥) → (x : Terminal) → where_start x l ≡ chosen (accepts x l)
+pub no_where : (l : Lexeme) → (optional_start l ≡ leads.Where → ⊥) → (x : Terminal) → where_start x l ≡ accepted_if (accepts x l)
 no_where (Word words.Where) h x = absurd (h refl)
 no_where _ h x = refl
 

@@ -10,7 +10,7 @@ use Rattle.lois_descent.specs.Lexemes.{lexeme_of}
 use Rattle.lois_descent.specs.declared.lexemes.Terminal.{Terminal}
 use Rattle.lois_descent.specs.declared.lexemes.Terminal.TheVariants.{Atoms as the_atoms, Comma as comma, CloseRound as close_round, OpenCurly as open_curly, Relation as relation, Number as number}
 use Rattle.lois_descent.specs.Lexemes.{accepts}
-use Rattle.lois_descent.specs.Machine.{token, turns_block, Arguments, one, two, part_number, Item, terminal, expression, arguments, more_parts, after_brace, after_item, where_clause, condition, more_condition, unit, base, turns_number, statements, Bottom, body, outermost, after_outer_if, State, chosen, operands, expression_start, item_start, at_bottom, step_from, step}
+use Rattle.lois_descent.specs.Machine.{token, turns_block, Arguments, one, two, part_number, Item, terminal, expression, arguments, more_parts, after_brace, after_item, where_clause, condition, more_condition, unit, base, turns_number, statements, Bottom, body, outermost, after_outer_if, State, accepted_if, operands, expression_start, item_start, at_bottom, step_from, step}
 use Rattle.lois_descent.specs.declared.lexemes.Lexeme.{Lexeme}
 use Rattle.lois_descent.specs.declared.lexemes.Lexeme.TheVariants.{Number, Word, Symbol}
 use Rattle.lois_descent.specs.declared.lexemes.Keyword.TheVariants as words
@@ -79,7 +79,7 @@ abbrev WantsTurns : Option State → Type 0
 WantsTurns None = Unit {0}
 WantsTurns (Some next) = (rest : List Item) × (next.stack ≡ turns_number ∷ rest)
 
-no_terminal_turns : (x : Terminal) (b : Bottom) (rest : List Item) → WantsTurns (option_map (λ w. at_bottom b (w ++ rest)) (chosen (accepts x (Word words.Turns))))
+no_terminal_turns : (x : Terminal) (b : Bottom) (rest : List Item) → WantsTurns (option_map (λ w. at_bottom b (w ++ rest)) (accepted_if (accepts x (Word words.Turns))))
 no_terminal_turns the_atoms b rest = tt
 no_terminal_turns _ b rest = tt
 
@@ -181,7 +181,7 @@ abbrev pub RoundForm : Option State → Type 0
 RoundForm None = Unit {0}
 RoundForm (Some next) = ((s : State) × (next ≡ push (expression ∷ more_parts 1 ∷ []) s)) ⊎ ((a : Arguments) × (s : State) × (next ≡ push (operands a) s))
 
-no_terminal_round : (x : Terminal) (b : Bottom) (rest : List Item) → RoundForm (option_map (λ w. at_bottom b (w ++ rest)) (chosen (accepts x (Symbol punctuators.OpenRound))))
+no_terminal_round : (x : Terminal) (b : Bottom) (rest : List Item) → RoundForm (option_map (λ w. at_bottom b (w ++ rest)) (accepted_if (accepts x (Symbol punctuators.OpenRound))))
 no_terminal_round the_atoms b rest = tt
 no_terminal_round _ b rest = tt
 
@@ -206,7 +206,7 @@ abbrev pub comma_token : ℕ → PlacedToken
 comma_token p = record { kind = kinds.Symbol; bytes = codes ","; place = p }
 
 -- a number begins no expression
-pub no_number : (l : Lexeme) (w : List Item) → expression_start l ≡ Some w → chosen (accepts number l) ≡ None
+pub no_number : (l : Lexeme) (w : List Item) → expression_start l ≡ Some w → accepted_if (accepts number l) ≡ None
 no_number Number w e = absurd (cc)
 no_number _ w e = refl
 
@@ -257,7 +257,7 @@ tail_stops part_number (expr y (expr z es)) r m after p seven (m1, (q, sep), (m2
     let is_tail : tail ≡ terminal comma ∷ terminal number ∷ terminal close_round ∷ [] = cc in
     go m1 (complete_item NoLimits expression m1 m2 (y, never, g)) is_tail sep (parts_run (expr z es) m2 after more 0 s) (spans (expression ∷ []) m1 m2 (one_expression y m1 m2 g) (suc i) 0 s)
   where
-    after_comma : (t : PlacedToken) (u : List PlacedToken) → chosen (accepts number (lexeme_of t)) ≡ None →
+    after_comma : (t : PlacedToken) (u : List PlacedToken) → accepted_if (accepts number (lexeme_of t)) ≡ None →
         StopsBy (verdict i n (push (terminal comma ∷ terminal number ∷ terminal close_round ∷ []) s) (comma_token q ∷ t ∷ u)) (suc i)
     after_comma t u none =
         ⊎_elim (λ stop. stop_along _ (verdict i n (push (terminal comma ∷ terminal number ∷ terminal close_round ∷ []) s) (comma_token q ∷ t ∷ u)) i (suc i) refl (omega arith) stop)

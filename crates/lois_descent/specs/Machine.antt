@@ -15,9 +15,9 @@ use Rattle.lois_descent.specs.declared.lexemes.Keyword.TheVariants as words
 use Rattle.lois_descent.specs.declared.lexemes.Punctuator.TheVariants as punctuators
 
 -- what stands behind a condition: one token, or `turns` with its number and block
-pub data Ending : Type 0 where
-  token : Terminal → Ending
-  turns_block : Ending
+pub data ItemEnd : Type 0 where
+  token : Terminal → ItemEnd
+  turns_block : ItemEnd
 
 -- what brackets of a call hold
 pub data Arguments : Type 0 where
@@ -44,9 +44,9 @@ pub data Item : Type 0 where
   -- `where` and a condition, or neither; and then the token
   where_clause : Terminal → Item
   -- a condition, and what stands behind it
-  condition : Ending → Item
+  condition : ItemEnd → Item
   -- what follows a unit of a condition
-  more_condition : Ending → Item
+  more_condition : ItemEnd → Item
   unit : Item
   base : Item
   turns_number : Item
@@ -75,19 +75,19 @@ push w s = record { stack = w ++ s.stack; bottom = s.bottom }
 abbrev pub behind : List Item → Option (List Item) → Option (List Item)
 behind v = option_map (λ w. w ++ v)
 
-abbrev pub chosen : Bool → Option (List Item)
-chosen true = Some []
-chosen false = None
+abbrev pub accepted_if : Bool → Option (List Item)
+accepted_if true = Some []
+accepted_if false = None
 
-abbrev pub arity : Operation → Arguments
-arity Union = two
-arity Inter = two
-arity Minus = two
-arity Product = two
-arity Flatten = one
-arity Reach = one
-arity Complement = one
-arity Minimise = one
+abbrev pub arguments_of : Operation → Arguments
+arguments_of Union = two
+arguments_of Inter = two
+arguments_of Minus = two
+arguments_of Product = two
+arguments_of Flatten = one
+arguments_of Reach = one
+arguments_of Complement = one
+arguments_of Minimise = one
 
 abbrev pub operands : Arguments → List Item
 operands one = expression ∷ terminal close_round ∷ []
@@ -101,7 +101,7 @@ expression_start Tag = Some []
 expression_start (Symbol punctuators.OpenRound) = Some (expression ∷ more_parts 1 ∷ [])
 expression_start (Symbol punctuators.OpenCurly) = Some (after_brace ∷ [])
 expression_start (Word words.Part) = Some (arguments part_number ∷ [])
-expression_start (Word (words.Apply op)) = Some (arguments (arity op) ∷ [])
+expression_start (Word (words.Apply op)) = Some (arguments (arguments_of op) ∷ [])
 expression_start _ = None
 
 abbrev pub in_set : List Item
@@ -120,14 +120,14 @@ unit_start (Word words.Exists) = Some (terminal name ∷ terminal within ∷ exp
 unit_start (Word words.Forall) = Some (terminal name ∷ terminal within ∷ expression ∷ terminal colon ∷ base ∷ [])
 unit_start l = base_start l
 
-abbrev pub ending : Ending → Lexeme → Option (List Item)
-ending (token x) l = chosen (accepts x l)
+abbrev pub ending : ItemEnd → Lexeme → Option (List Item)
+ending (token x) l = accepted_if (accepts x l)
 ending turns_block (Word words.Turns) = Some (turns_number ∷ terminal open_curly ∷ statements ∷ [])
 ending turns_block _ = None
 
 abbrev pub where_start : Terminal → Lexeme → Option (List Item)
 where_start x (Word words.Where) = Some (condition (token x) ∷ [])
-where_start x l = chosen (accepts x l)
+where_start x l = accepted_if (accepts x l)
 
 abbrev pub statement_start : Lexeme → Option (List Item)
 statement_start (Word words.Let) = Some (terminal name ∷ terminal equal ∷ expression ∷ terminal semicolon ∷ [])
@@ -150,7 +150,7 @@ after_if_start l = statements_start l
 
 abbrev pub more_parts_start : ℕ → Lexeme → Option (List Item)
 more_parts_start n (Symbol punctuators.Comma) = Some (expression ∷ more_parts (suc n) ∷ [])
-more_parts_start n (Symbol punctuators.CloseRound) = chosen (nat_le 2 n)
+more_parts_start n (Symbol punctuators.CloseRound) = accepted_if (nat_le 2 n)
 more_parts_start n _ = None
 
 abbrev pub more_items_start : Lexeme → Option (List Item)
@@ -172,7 +172,7 @@ abbrev pub more_bindings_start : Lexeme → Option (List Item)
 more_bindings_start (Symbol punctuators.Comma) = Some (terminal name ∷ terminal within ∷ expression ∷ more_bindings ∷ [])
 more_bindings_start l = where_start close_curly l
 
-abbrev pub more_condition_start : Ending → Lexeme → Option (List Item)
+abbrev pub more_condition_start : ItemEnd → Lexeme → Option (List Item)
 more_condition_start e (Word words.And) = Some (unit ∷ more_condition e ∷ [])
 more_condition_start e (Word words.Or) = Some (unit ∷ more_condition e ∷ [])
 more_condition_start e l = ending e l
@@ -192,7 +192,7 @@ turns_start _ = None
 
 -- what has to come behind the token, where it begins the item
 abbrev pub item_start : Item → Lexeme → Option (List Item)
-item_start (terminal x) l = chosen (accepts x l)
+item_start (terminal x) l = accepted_if (accepts x l)
 item_start expression l = expression_start l
 item_start (arguments a) l = arguments_start a l
 item_start (more_parts n) l = more_parts_start n l

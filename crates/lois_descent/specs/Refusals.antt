@@ -2,12 +2,12 @@
 use Rattle.std.specs.Prelude.{◌≡◌, ℕ, suc, ◌<◌, ◌⊎◌, List, [], ◌∷◌, length, take, drop, map, codes, IsTrue}
 use Rattle.lois_lexer.specs.declared.Token.{Token}
 use Rattle.lois_script.specs.Tree.{ExprsD, ScriptD}
-use Rattle.lois_script.specs.Grammar.{PlacedToken, placed, ◌▹◌, TakesWord, TakesSymbol, TakesNumber, SpellsExprs, SpellsScript, Begins}
+use Rattle.lois_script.specs.Grammar.{PlacedToken, token_at_place, ◌▹◌, TakesWord, TakesSymbol, TakesNumber, SpellsExprs, SpellsScript, Begins}
 use Rattle.lois_script.specs.Limits.{opens, open_after, width}
 
 -- Some script begins with the first k tokens, and none with one more; or there is no more, and they are none.
-abbrev pub Fails : List PlacedToken → ℕ → Type 0
-Fails tokens k =
+abbrev pub IsNoScriptAt : List PlacedToken → ℕ → Type 0
+IsNoScriptAt tokens k =
     Begins (take k tokens) ×
     (((k < length tokens) × (Begins (take (suc k) tokens) → ⊥)) ⊎ ((k ≡ length tokens) × ((s : ScriptD) → SpellsScript s tokens → ⊥)))
 
@@ -33,7 +33,7 @@ GoesOver turns tokens k =
 
 -- Token k is the first that goes over a limit, and some script of the grammar without limits begins with the tokens
 -- up to it.
-pub record Breaks (limit : Limit) (tokens : List PlacedToken) (k : ℕ) : Type 0 where
+pub record BreaksLimit (limit : Limit) (tokens : List PlacedToken) (k : ℕ) : Type 0 where
   pub begun : Begins (take (suc k) tokens)
   pub over : GoesOver limit tokens k
   pub first : (other : Limit) (j : ℕ) → j < k → GoesOver other tokens j → ⊥
@@ -48,12 +48,12 @@ pub data Refusal : Type 0 where
 
 -- The tokens are refused so.
 abbrev pub Refused : List PlacedToken → Refusal → Type 0
-Refused tokens (NoScript k) = Fails tokens k × ((limit : Limit) (j : ℕ) → j < k → GoesOver limit tokens j → ⊥)
-Refused tokens (TooNested k) = Breaks nesting tokens k
-Refused tokens (WideTuple k) = Breaks parts tokens k
-Refused tokens (TurnsTooMany k) = Breaks turns tokens k
+Refused tokens (NoScript k) = IsNoScriptAt tokens k × ((limit : Limit) (j : ℕ) → j < k → GoesOver limit tokens j → ⊥)
+Refused tokens (TooNested k) = BreaksLimit nesting tokens k
+Refused tokens (WideTuple k) = BreaksLimit parts tokens k
+Refused tokens (TurnsTooMany k) = BreaksLimit turns tokens k
 Refused tokens NoMemory = ⊥
 
 -- the tokens of a text, with their bytes
 abbrev pub tokens_in : List ℕ → List Token → List PlacedToken
-tokens_in text tokens = map (placed text) tokens
+tokens_in text tokens = map (token_at_place text) tokens

@@ -12,7 +12,7 @@ use Rattle.lois_base.specs.declared.guards.Lit.{Lit}
 use Rattle.lois_base.proofs.Choices.{length_same}
 use Rattle.lois_base.proofs.Order.{equal_refl}
 use Rattle.lois_base.proofs.Truths.{formula_equal}
-use Rattle.lois_elim.specs.Names.{named, AreNames, AgreesUnder, Forces}
+use Rattle.lois_elim.specs.Names.{named_atoms, AreNames, AgreesUnder, Forces}
 use Rattle.lois_elim.proofs.Naming.{named_length, named_push}
 
 -- equal atoms behind
@@ -39,11 +39,11 @@ one_point f u n m k l forces = (
   λ h. (atom_at u m, h),
 )
 
-pub point_agrees : (n free lower level x : ℕ) (bound longer : List ℕ) (f : FormulaD) (r : List (List Lit)) → AreNames n free bound → level ≡ free + length bound → lower < level → Forces f level lower → ((c : List Atom) → free ≤ length c → atom_at (named free bound c) lower ≡ atom_at c x) → longer ≡ bound ++ x ∷ [] → AgreesUnder n free longer f r → AgreesUnder n free bound (exists f) r
+pub point_agrees : (n free lower level x : ℕ) (bound longer : List ℕ) (f : FormulaD) (r : List (List Lit)) → AreNames n free bound → level ≡ free + length bound → lower < level → Forces f level lower → ((c : List Atom) → free ≤ length c → atom_at (named_atoms free bound c) lower ≡ atom_at c x) → longer ≡ bound ++ x ∷ [] → AgreesUnder n free longer f r → AgreesUnder n free bound (exists f) r
 point_agrees n free lower level x bound longer f r names e l forces atom is agrees c k =
-    let u = named free bound c in
+    let u = named_atoms free bound c in
     let deep : length u ≡ level = named_length n free bound c names k ∙ sym e in
-    let under : named free longer c ≡ u ++ atom_at u lower ∷ [] = ap (λ b. named free b c) is ∙ (named_push free x bound c ∙ ap (λ a. u ++ a ∷ []) (sym (atom c (omega (arith, names.0))))) in
+    let under : named_atoms free longer c ≡ u ++ atom_at u lower ∷ [] = ap (λ b. named_atoms free b c) is ∙ (named_push free x bound c ∙ ap (λ a. u ++ a ∷ []) (sym (atom c (omega (arith, names.0))))) in
     let point = one_point f u level lower deep l forces in (
       λ p. point.1 (subst (λ v. FormulaHolds v f) under ((agrees c k).0 p)),
       λ h. (agrees c k).1 (subst (λ v. FormulaHolds v f) (sym under) (point.0 h)),

@@ -20,7 +20,7 @@ use Rattle.lois_base.proofs.Connectives.{either_true}
 use Rattle.lois_base.proofs.Validity.{constraint_admitted}
 use Rattle.lois_base.proofs.Viewed.{rest_is}
 use Rattle.lois_elim.specs.Bound.{HoldsForSome}
-use Rattle.lois_elim.specs.Names.{named, AgreesUnder}
+use Rattle.lois_elim.specs.Names.{named_atoms, AgreesUnder}
 
 appended : (c : List Atom) (found part r : List (List Lit)) → r ≡ found ++ part → holds c r ≡ (holds c found || holds c part)
 appended c found part r e = ap (holds c) e ∙ list_any-append (cube_holds c) found part
@@ -125,7 +125,7 @@ pub record PartsSoFar (n m : ℕ) (whole rest : FormulasD) (r : List (List Lit))
 -- one of the parts before `rest` holds exactly where r does
 abbrev pub AnySoFar : ℕ → ℕ → List ℕ → FormulasD → FormulasD → List (List Lit) → Type 0
 AnySoFar n free bound whole rest r =
-    (c : List Atom) → length c ≡ n → (IsTrue (holds c r) ⊎ AnyHolds (named free bound c) rest) ↔ AnyHolds (named free bound c) whole
+    (c : List Atom) → length c ≡ n → (IsTrue (holds c r) ⊎ AnyHolds (named_atoms free bound c) rest) ↔ AnyHolds (named_atoms free bound c) whole
 
 -- the parts of a list from an index on
 abbrev pub parts_from : List Formula → ℕ → FormulasD
@@ -155,7 +155,7 @@ pub any_begin : (n free : ℕ) (bound : List ℕ) (whole : FormulasD) → AnySoF
 any_begin n free bound whole c k = (λ h. elim h [ inl e ↦ absurd (false≢true e) | inr s ↦ s ], λ s. inr s)
 
 module _ (n free : ℕ) (bound : List ℕ) (whole rest : FormulasD) (f : FormulaD) (before part r : List (List Lit)) where
-  any_holds : AnySoFar n free bound whole (formula f rest) before → AgreesUnder n free bound f part → r ≡ before ++ part → (c : List Atom) → length c ≡ n → IsTrue (holds c r) ⊎ AnyHolds (named free bound c) rest → AnyHolds (named free bound c) whole
+  any_holds : AnySoFar n free bound whole (formula f rest) before → AgreesUnder n free bound f part → r ≡ before ++ part → (c : List Atom) → length c ≡ n → IsTrue (holds c r) ⊎ AnyHolds (named_atoms free bound c) rest → AnyHolds (named_atoms free bound c) whole
   any_holds so_far agrees e c k (inl p) =
       elim ((either_true (holds c before) (holds c part)).0 (sym (appended c before part r e) ∙ p)) [
         | inl q ↦ (so_far c k).0 (inl q)
@@ -163,7 +163,7 @@ module _ (n free : ℕ) (bound : List ℕ) (whole rest : FormulasD) (f : Formula
       ]
   any_holds so_far agrees e c k (inr s) = (so_far c k).0 (inr (inr s))
 
-  any_now : AgreesUnder n free bound f part → r ≡ before ++ part → (c : List Atom) → length c ≡ n → IsTrue (holds c before) ⊎ AnyHolds (named free bound c) (formula f rest) → IsTrue (holds c r) ⊎ AnyHolds (named free bound c) rest
+  any_now : AgreesUnder n free bound f part → r ≡ before ++ part → (c : List Atom) → length c ≡ n → IsTrue (holds c before) ⊎ AnyHolds (named_atoms free bound c) (formula f rest) → IsTrue (holds c r) ⊎ AnyHolds (named_atoms free bound c) rest
   any_now agrees e c k (inl p) =
       inl (appended c before part r e ∙ (either_true (holds c before) (holds c part)).1 (inl p))
   any_now agrees e c k (inr (inl s)) =
@@ -180,7 +180,7 @@ no_more c u r (inr s) = absurd s
 
 pub any_end : (n free : ℕ) (bound : List ℕ) (whole : FormulasD) (before r : List (List Lit)) → AnySoFar n free bound whole no_formulas before → ((c : List Atom) → holds c r ≡ holds c before) → AgreesUnder n free bound (any whole) r
 any_end n free bound whole before r so_far same c k =
-    (λ p. (so_far c k).0 (inl (sym (same c) ∙ p)), λ h. same c ∙ no_more c (named free bound c) before ((so_far c k).1 h))
+    (λ p. (so_far c k).0 (inl (sym (same c) ∙ p)), λ h. same c ∙ no_more c (named_atoms free bound c) before ((so_far c k).1 h))
 
 -- ---- from one part of a list to the next
 module _ (n free : ℕ) (bound : List ℕ) (whole : FormulasD) (items : List Formula) (i : ℕ) (f : Formula) (l : i < length items) (is : f ≡ get_or items i f) (before : List (List Lit)) where

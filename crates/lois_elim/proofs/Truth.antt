@@ -10,7 +10,7 @@ use Rattle.lois_base.specs.Truth.{holds}
 use Rattle.lois_base.specs.declared.guards.Lit.{Lit}
 use Rattle.lois_base.proofs.Connectives.{both_true, not_true}
 use Rattle.lois_elim.specs.Bound.{HoldsForSome, HoldsForEach}
-use Rattle.lois_elim.specs.Names.{named, AreNames, AgreesUnder, AgreesUnderWithBoth}
+use Rattle.lois_elim.specs.Names.{named_atoms, AreNames, AgreesUnder, AgreesUnderWithBoth}
 use Rattle.lois_elim.proofs.Naming.{named_new}
 
 not_refuted : (a : Bool) → (IsTrue (not a) → ⊥) → IsTrue a
@@ -42,9 +42,9 @@ module _ (n free : ℕ) (bound : List ℕ) where
 
   -- a quantifier that binds a new level
   module _ (m : ℕ) (more : List ℕ) (f : FormulaD) (g r : List (List Lit)) (names : AreNames n free bound) (e : m ≡ suc n) (is : more ≡ bound ++ n ∷ []) (agrees : AgreesUnder m free more f g) where
-    agrees_there : (c : List Atom) (a : Atom) → length c ≡ n → IsTrue (holds (c ++ a ∷ []) g) ↔ FormulaHolds (named free bound c ++ a ∷ []) f
+    agrees_there : (c : List Atom) (a : Atom) → length c ≡ n → IsTrue (holds (c ++ a ∷ []) g) ↔ FormulaHolds (named_atoms free bound c ++ a ∷ []) f
     agrees_there c a k =
-        subst (λ u. IsTrue (holds (c ++ a ∷ []) g) ↔ FormulaHolds u f) (ap (λ b. named free b (c ++ a ∷ [])) is ∙ named_new n free bound c a names k) (agrees (c ++ a ∷ []) (longer n m c a e k))
+        subst (λ u. IsTrue (holds (c ++ a ∷ []) g) ↔ FormulaHolds u f) (ap (λ b. named_atoms free b (c ++ a ∷ [])) is ∙ named_new n free bound c a names k) (agrees (c ++ a ∷ []) (longer n m c a e k))
 
     pub exists_agrees : HoldsForSome n g r → AgreesUnder n free bound (exists f) r
     exists_agrees some c k = (

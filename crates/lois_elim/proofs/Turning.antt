@@ -14,7 +14,7 @@ use Rattle.lois_base.specs.Validity.{is_admitted, AdmitsLit, AdmitsCube, AdmitsC
 use Rattle.lois_base.specs.declared.guards.Lit.{Lit}
 use Rattle.lois_base.specs.declared.logic.Formula.{Formula}
 use Rattle.lois_base.proofs.Connectives.{both_true}
-use Rattle.lois_elim.specs.Names.{named, AreNames, AgreesUnder, AgreesUnderWithBoth}
+use Rattle.lois_elim.specs.Names.{named_atoms, AreNames, AgreesUnder, AgreesUnderWithBoth}
 use Rattle.lois_elim.specs.Turns.{is_literal, in_turn, HoldWhere, AgreesInTurn}
 use Rattle.lois_elim.proofs.Steps.{parts_from, parts_are}
 
@@ -36,9 +36,9 @@ hold_where : (test : FormulaD → Bool) (u : List Atom) (fs : FormulasD) → All
 hold_where test u no_formulas h = tt
 hold_where test u (formula f fs) h = (λ _. h.0, hold_where test u fs h.1)
 
-pub turns_agree : (n free : ℕ) (bound : List ℕ) (fs : FormulasD) (literals met r : List (List Lit)) (k : List Lit) → AreNames n free bound → ((c : List Atom) → free ≤ length c → IsTrue (cube_holds c k) ↔ HoldWhere is_literal (named free bound c) fs) → ((c : List Atom) → holds c literals ≡ cube_holds c k) → AgreesInTurn n free bound (in_turn false) literals fs met → AgreesInTurn n free bound (in_turn true) met fs r → AgreesUnder n free bound (all fs) r
+pub turns_agree : (n free : ℕ) (bound : List ℕ) (fs : FormulasD) (literals met r : List (List Lit)) (k : List Lit) → AreNames n free bound → ((c : List Atom) → free ≤ length c → IsTrue (cube_holds c k) ↔ HoldWhere is_literal (named_atoms free bound c) fs) → ((c : List Atom) → holds c literals ≡ cube_holds c k) → AgreesInTurn n free bound (in_turn false) literals fs met → AgreesInTurn n free bound (in_turn true) met fs r → AgreesUnder n free bound (all fs) r
 turns_agree n free bound fs literals met r k names cube only first second c e =
-    let u = named free bound c in
+    let u = named_atoms free bound c in
     let at = cube c (omega (arith, names.0)) in (
       λ p. let last = (second c e).0 p in
           let before = (first c e).0 last.0 in
@@ -50,7 +50,7 @@ turns_agree n free bound fs literals met r k names cube only first second c e =
 
 -- `rest` are the parts that are left of `whole`, and `met` stands for `start` with those before whose turn it is
 pub record MetSoFar (test : FormulaD → Bool) (n free : ℕ) (bound : List ℕ) (whole rest : FormulasD) (start met : List (List Lit)) : Type 0 where
-  pub truth : (c : List Atom) → length c ≡ n → (IsTrue (holds c met) × HoldWhere test (named free bound c) rest) ↔ (IsTrue (holds c start) × HoldWhere test (named free bound c) whole)
+  pub truth : (c : List Atom) → length c ≡ n → (IsTrue (holds c met) × HoldWhere test (named_atoms free bound c) rest) ↔ (IsTrue (holds c start) × HoldWhere test (named_atoms free bound c) whole)
   pub rest_fits : FormulasFit (free + length bound) rest
   pub levels : ConstraintFits n start → ConstraintFits n met
   pub operators : (o : Bool) → AdmitsConstraint o start → AdmitsFormulas o whole → AdmitsConstraint o met
@@ -118,7 +118,7 @@ module _ (test : FormulaD → Bool) (n free : ℕ) (bound : List ℕ) (whole : F
 
 -- ---- the literals among the parts, as a cube
 pub record LiteralsSoFar (free : ℕ) (bound : List ℕ) (whole rest : FormulasD) (cube : List Lit) : Type 0 where
-  pub truth : (c : List Atom) → free ≤ length c → (IsTrue (cube_holds c cube) × HoldWhere is_literal (named free bound c) rest) ↔ HoldWhere is_literal (named free bound c) whole
+  pub truth : (c : List Atom) → free ≤ length c → (IsTrue (cube_holds c cube) × HoldWhere is_literal (named_atoms free bound c) rest) ↔ HoldWhere is_literal (named_atoms free bound c) whole
   pub rest_fits : FormulasFit (free + length bound) rest
   pub levels : (n : ℕ) → AreNames n free bound → CubeFits n cube
   pub operators : (o : Bool) → AdmitsFormulas o whole → AdmitsCube o cube × AdmitsFormulas o rest
@@ -139,7 +139,7 @@ module _ (free : ℕ) (bound : List ℕ) (whole : FormulasD) where
     operators = λ o a. (All-nil (AdmitsLit o), a);
   }
 
-  pub literals_end : (cube : List Lit) → LiteralsSoFar free bound whole no_formulas cube → (c : List Atom) → free ≤ length c → IsTrue (cube_holds c cube) ↔ HoldWhere is_literal (named free bound c) whole
+  pub literals_end : (cube : List Lit) → LiteralsSoFar free bound whole no_formulas cube → (c : List Atom) → free ≤ length c → IsTrue (cube_holds c cube) ↔ HoldWhere is_literal (named_atoms free bound c) whole
   literals_end cube so_far c k =
       (λ h. (so_far.truth c k).0 (h, tt), λ h. ((so_far.truth c k).1 h).0)
 
@@ -161,7 +161,7 @@ module _ (free : ℕ) (bound : List ℕ) (whole : FormulasD) where
       operators = λ o a. let both = here_literal.operators o a in (both.0, both.1.1);
     }
 
-    pub one_literal : (m m' : Lit) (r : List Lit) → view f ≡ lit m → r ≡ cube ++ m' ∷ [] → ((c : List Atom) → free ≤ length c → lit_holds c m' ≡ lit_holds (named free bound c) m) → ((n : ℕ) → AreNames n free bound → LitFits n m') → m'.op ≡ m.op → LiteralsSoFar free bound whole (parts_from items (i + 1)) r
+    pub one_literal : (m m' : Lit) (r : List Lit) → view f ≡ lit m → r ≡ cube ++ m' ∷ [] → ((c : List Atom) → free ≤ length c → lit_holds c m' ≡ lit_holds (named_atoms free bound c) m) → ((n : ℕ) → AreNames n free bound → LitFits n m') → m'.op ≡ m.op → LiteralsSoFar free bound whole (parts_from items (i + 1)) r
     one_literal m m' r e pushed same levels op =
         let at : LiteralsSoFar free bound whole (formula (lit m) (parts_from items (i + 1))) cube = subst (λ g. LiteralsSoFar free bound whole (formula g (parts_from items (i + 1))) cube) e here_literal in
         record {

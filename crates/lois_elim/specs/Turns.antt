@@ -5,7 +5,7 @@ use Rattle.lois_base.specs.FormulaData.{FormulaD, lit, all, any, neg, exists, fo
 use Rattle.lois_base.specs.FormulaTruth.{FormulaHolds}
 use Rattle.lois_base.specs.Truth.{holds}
 use Rattle.lois_base.specs.declared.guards.Lit.{Lit}
-use Rattle.lois_elim.specs.Names.{named}
+use Rattle.lois_elim.specs.Names.{named_atoms}
 
 abbrev pub is_literal : FormulaD → Bool
 is_literal (lit l) = true
@@ -32,4 +32,4 @@ HoldWhere test u (formula f fs) = (IsTrue (test f) → FormulaHolds u f) × Hold
 -- at each choice of n atoms, r holds exactly where g does and, under their names, those of the formulas of which the test is true
 abbrev pub AgreesInTurn : ℕ → ℕ → List ℕ → (FormulaD → Bool) → List (List Lit) → FormulasD → List (List Lit) → Type 0
 AgreesInTurn n free bound test g fs r =
-    (c : List Atom) → length c ≡ n → IsTrue (holds c r) ↔ (IsTrue (holds c g) × HoldWhere test (named free bound c) fs)
+    (c : List Atom) → length c ≡ n → IsTrue (holds c r) ↔ (IsTrue (holds c g) × HoldWhere test (named_atoms free bound c) fs)

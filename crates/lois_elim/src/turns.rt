@@ -7,7 +7,7 @@ ghost use Rattle.lois_base.specs.FormulaData.{FormulasFit, formulas_of, lit};
 ghost use Rattle.lois_base.specs.FormulaView.{view, views};
 ghost use Rattle.lois_base.specs.Truth.{cube_holds};
 ghost use Rattle.lois_base.specs.Validity.{AdmitsCube, AdmitsFormulas};
-ghost use Rattle.lois_elim.specs.Names.{named, AreNames};
+ghost use Rattle.lois_elim.specs.Names.{named_atoms, AreNames};
 ghost use Rattle.lois_elim.specs.Turns.{is_literal, in_turn, HoldWhere};
 
 use crate::names::literal_named;
@@ -47,7 +47,7 @@ pub(crate) fn literals_of(
     bound: &[usize],
 ) -> Result<Cube, NoMemory>
     requires { FormulasFit (free + length bound.now) (formulas_of (views parts.now)) }
-    ensures truth { IfOk result (λ r. (c : List Atom) → free ≤ length c → IsTrue (cube_holds c r) ↔ HoldWhere is_literal (named free bound.now c) (formulas_of (views parts.now))) }
+    ensures truth { IfOk result (λ r. (c : List Atom) → free ≤ length c → IsTrue (cube_holds c r) ↔ HoldWhere is_literal (named_atoms free bound.now c) (formulas_of (views parts.now))) }
     ensures levels { IfOk result (λ r. (n : ℕ) → AreNames n free bound.now → CubeFits n r) }
     ensures operators { IfOk result (λ r. (o : Bool) → AdmitsFormulas o (formulas_of (views parts.now)) → AdmitsCube o r) }
 {

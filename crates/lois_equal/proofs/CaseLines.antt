@@ -9,15 +9,15 @@ use Rattle.lois_base.specs.Data.{TermD}
 use Rattle.lois_base.specs.Truth.{sampled}
 use Rattle.lois_base.specs.Validity.{AdmitsTerm, HasBoundedWidths}
 use Rattle.lois_base.specs.declared.guards.Lit.{Lit}
-use Rattle.lois_answers.specs.LastNamed.{last_line, last_named, named}
+use Rattle.lois_answers.specs.LastNamed.{last_line, last_named, lines_named}
 use Rattle.lois_answers.specs.ResultsData.{LineD, CaseD}
 use Rattle.lois_answers.specs.Sound.{IsSoundTerm, IsSoundLine, IsSoundCase}
 use Rattle.lois_automata.specs.Machines.{IsAutomatonAt, IsDeterministicAt}
 use Rattle.lois_automata.specs.Throughout.{HoldsThroughout, IsBreak}
-use Rattle.lois_equal.specs.Differing.{HaveSameLanguage, IsDifference, IfDiffers, IsSameAnswer, AreBounded}
+use Rattle.lois_equal.specs.Differing.{HaveSameLanguage, IsDistinguishingWord, IfDiffers, IsSameAnswer, AreBounded}
 use Rattle.lois_equal.specs.declared.differing.Equality.{Equality}
 use Rattle.lois_equal.specs.declared.differing.Equality.TheVariants.{Same, Differs}
-use Rattle.lois_equal.specs.Comparing.{HasTerm, HasLine, IsComparable, IsSomewhereNotDeterministic, AreComparable, LinesHaveSameLanguage, LinesDiffer, IsReason, number_of, IsFirst, IsReasonOrNone, HasNumber, IsFirstReason, IsFirstDifference, IsComparison, LinesAgreeOrDiffer, side_name}
+use Rattle.lois_equal.specs.Comparing.{HasTerm, HasLine, IsComparable, IsSomewhereNotDeterministic, AreComparable, LinesHaveSameLanguage, LinesDiffer, IsReason, number_of, IsFirst, IsReasonOrNone, HasFaultNumber, IsFirstReason, IsFirstDifference, IsComparison, LinesAgreeOrDiffer, side_name}
 use Rattle.lois_equal.specs.declared.comparing.Comparison.{Comparison}
 use Rattle.lois_equal.specs.declared.comparing.Comparison.TheVariants.{Alike, Differ, Refused}
 use Rattle.lois_equal.specs.declared.comparing.ComparisonFault.{ComparisonFault}
@@ -30,7 +30,7 @@ last_has P (l ∷ []) h = All-head P l [] h
 last_has P (l ∷ next ∷ lines) h = last_has P (next ∷ lines) (All-tail P l (next ∷ lines) h)
 
 named_has : (P : LineD → Type 0) (name : List ℕ) (lines : List LineD) → All P lines → IfSome (last_named name lines) P
-named_has P name lines h = last_has P (named name lines) (All-filter _ P lines h)
+named_has P name lines h = last_has P (lines_named name lines) (All-filter _ P lines h)
 
 -- what is found of a name: a line that is sound, or that there is none
 pub found_term : (name : List ℕ) (c : CaseD) (l : LineD) → Some l ≡ last_named name c.lines → HasTerm name c l.term
@@ -58,7 +58,7 @@ pub unfit_deterministic : (n : ℕ) (u : List (List Lit)) (t : TermD) (s : List 
 unfit_deterministic n u t s h = (sampled s, length-map s whole ∙ h.count, h.admitted, h.broken)
 
 -- ---- the lines of one case
-pub lines_equal : (n : ℕ) (a b : List ℕ) (c : CaseD) (t s : TermD) (r : Equality) → HasTerm a c t → HasTerm b c s → IfDiffers (IsDifference n c.«when» t s) r → (IsSameAnswer r → HaveSameLanguage n c.«when» t s) → LinesAgreeOrDiffer n a b c r
+pub lines_equal : (n : ℕ) (a b : List ℕ) (c : CaseD) (t s : TermD) (r : Equality) → HasTerm a c t → HasTerm b c s → IfDiffers (IsDistinguishingWord n c.«when» t s) r → (IsSameAnswer r → HaveSameLanguage n c.«when» t s) → LinesAgreeOrDiffer n a b c r
 lines_equal n a b c t s Same first second is never = (t, s, first, second, never tt)
 lines_equal n a b c t s (Differs d) first second is never = record { first = t; second = s; first_line = first; second_line = second; difference = is; accepts = refl }
 
@@ -89,8 +89,8 @@ module _ {X : Type 0} (P : CaseD → Type 0) (f : X → CaseD) where
       map_both (y ∷ ys) zs = ap (λ z. f y ∷ z) (map_both ys zs)
 
 -- ---- answers of a case, where they are known
-pub number_at : (i : ℕ) (found : Option ComparisonFault) (r : ComparisonFault) → found ≡ Some r → HasNumber (i + 1) found → number_of r ≡ i + 1
-number_at i found r e h = subst (HasNumber (i + 1)) e h
+pub number_at : (i : ℕ) (found : Option ComparisonFault) (r : ComparisonFault) → found ≡ Some r → HasFaultNumber (i + 1) found → number_of r ≡ i + 1
+number_at i found r e h = subst (HasFaultNumber (i + 1)) e h
 
 pub reason_at : (n : ℕ) (a b : List ℕ) (c : CaseD) (found : Option ComparisonFault) (r : ComparisonFault) → found ≡ Some r → IsReasonOrNone n a b c found → IsReason n a b r c
 reason_at n a b c found r e h = subst (IsReasonOrNone n a b c) e h
@@ -108,7 +108,7 @@ alike_at n a b c found e h = subst (LinesAgreeOrDiffer n a b c) e h
 pub fit_term : (n : ℕ) (name : List ℕ) (c : CaseD) (t : TermD) → IsComparable n name c → HasTerm name c t → HoldsThroughout n c.«when» (IsDeterministicAt t)
 fit_term n name c t (s, has, only) h = subst (λ z. HoldsThroughout n c.«when» (IsDeterministicAt z)) (one_term name c s t has h) only
 
-pub lines_ok : {E : Type 0} (n : ℕ) (a b : List ℕ) (c : CaseD) (t s : TermD) (r : Result Equality E) → HasTerm a c t → HasTerm b c s → IfOk r (λ e. IsSameAnswer e ↔ HaveSameLanguage n c.«when» t s) → IfOk r (IfDiffers (IsDifference n c.«when» t s)) → IfOk r (LinesAgreeOrDiffer n a b c)
+pub lines_ok : {E : Type 0} (n : ℕ) (a b : List ℕ) (c : CaseD) (t s : TermD) (r : Result Equality E) → HasTerm a c t → HasTerm b c s → IfOk r (λ e. IsSameAnswer e ↔ HaveSameLanguage n c.«when» t s) → IfOk r (IfDiffers (IsDistinguishingWord n c.«when» t s)) → IfOk r (LinesAgreeOrDiffer n a b c)
 lines_ok n a b c t s (Ok e) first second same is = lines_equal n a b c t s e first second is same.0
 lines_ok n a b c t s (Err e) first second same is = is
 

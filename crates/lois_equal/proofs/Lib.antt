@@ -1,7 +1,7 @@
 pub mod Itself
-pub mod LedOut
+pub mod SinkSteps
 pub mod Total
 pub mod Sinks
-pub mod Alone
+pub mod Differences
 pub mod Shorter
 pub mod CaseLines

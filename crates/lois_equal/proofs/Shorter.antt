@@ -14,9 +14,9 @@ use Rattle.lois_shortest_word.specs.declared.words.Word.{Word}
 use Rattle.lois_equal.specs.declared.differing.Difference.{Difference}
 use Rattle.lois_equal.specs.declared.differing.Equality.{Equality}
 use Rattle.lois_equal.specs.declared.differing.Equality.TheVariants.{Differs}
-use Rattle.lois_equal.specs.Differing.{IsSameAnswer, IfDiffers, HaveSameLanguage, IsAcceptedByOne, IsDifference, IsLanguageIncluded, IsShortestDifference, IsShorterOf}
-use Rattle.lois_equal.specs.Telling.{AcceptsOnlyFirst, TellsApart, HasLetterAt}
-use Rattle.lois_equal.proofs.Alone.{accepts_of, all_letters}
+use Rattle.lois_equal.specs.Differing.{IsSameAnswer, IfDiffers, HaveSameLanguage, IsAcceptedByOne, IsDistinguishingWord, IsLanguageIncluded, IsShortestDifference, IsShorterOf}
+use Rattle.lois_equal.specs.Distinguishing.{AcceptsOnlyFirst, TellsApart, HasLetterAt}
+use Rattle.lois_equal.proofs.Differences.{accepts_of, all_letters}
 
 first_length : (n : ℕ) (s : List ℕ) → n ≤ length s → length (first_sampled n s) ≡ n
 first_length n s h = length-map (take n s) whole ∙ (length-take n s ∙ omega arith)
@@ -47,7 +47,7 @@ module _ (n : ℕ) (u : List (List Lit)) (t s : TermD) where
   abbrev HaveAtLeast : TermD → TermD → ℕ → Type 0
   HaveAtLeast t s k = HoldsThroughout n u (λ c. (word : List PointValue) → AcceptsOnlyFirst t s c word → k ≤ length word)
 
-  left_difference : (w : Word) → IsShortestDifference n u t s w → HaveAtLeast s t (length w.letters) → IsDifference n u t s (record { sample = w.sample; word = w.letters; left = true })
+  left_difference : (w : Word) → IsShortestDifference n u t s w → HaveAtLeast s t (length w.letters) → IsDistinguishingWord n u t s (record { sample = w.sample; word = w.letters; left = true })
   left_difference w is bound = record {
     count = is.count;
     admitted = is.admitted;
@@ -58,7 +58,7 @@ module _ (n : ℕ) (u : List (List Lit)) (t s : TermD) where
     used = is.used;
   }
 
-  right_difference : (w : Word) → IsShortestDifference n u s t w → HaveAtLeast t s (length w.letters) → IsDifference n u t s (record { sample = w.sample; word = w.letters; left = false })
+  right_difference : (w : Word) → IsShortestDifference n u s t w → HaveAtLeast t s (length w.letters) → IsDistinguishingWord n u t s (record { sample = w.sample; word = w.letters; left = false })
   right_difference w is bound = record {
     count = is.count;
     admitted = is.admitted;
@@ -75,9 +75,9 @@ module _ (n : ℕ) (u : List (List Lit)) (t s : TermD) where
 
   -- what is promised of an answer
   abbrev pub IsFound : Equality → Type 0
-  IsFound r = (IsSameAnswer r ↔ HaveSameLanguage n u t s) × IfDiffers (IsDifference n u t s) r
+  IsFound r = (IsSameAnswer r ↔ HaveSameLanguage n u t s) × IfDiffers (IsDistinguishingWord n u t s) r
 
-  differs_found : (d : Difference) → IsDifference n u t s d → IsFound (Differs d)
+  differs_found : (d : Difference) → IsDistinguishingWord n u t s d → IsFound (Differs d)
   differs_found d is = (
     (λ h. absurd h, λ never. never (first_sampled n d.sample) (first_length n d.sample is.count) is.admitted (values_at (sampled d.sample) d.word) (told_of d.left (first_sampled n d.sample) (values_at (sampled d.sample) d.word) is.apart)),
     is,

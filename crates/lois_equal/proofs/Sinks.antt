@@ -5,10 +5,10 @@ use Rattle.lois_base.specs.Data.{TermD, coll, comp, CompsD}
 use Rattle.lois_base.specs.Values.{PointValue, point, IsIn, IsSame}
 use Rattle.lois_base.specs.declared.guards.Lit.{Lit}
 use Rattle.lois_base.proofs.Members.{same_refl, same_sym, same_trans, in_same}
-use Rattle.lois_algebra.specs.Gathered.{IsMadeBy, IsPut}
+use Rattle.lois_algebra.specs.Gathered.{IsCompMember, IsPut}
 use Rattle.lois_algebra.specs.Sets.{IsUnion}
 use Rattle.lois_algebra.proofs.Among.{among_in}
-use Rattle.lois_terms.specs.Guarded.{IsSet}
+use Rattle.lois_terms.specs.Guarded.{IsColl}
 use Rattle.lois_meaning.specs.Automata.{Automaton, JoinsStates, IsAutomatonOf, HasStep, Reads, Accepts, IsDeterministic, IsComplete}
 use Rattle.lois_meaning.specs.Kinds.{HasParts}
 use Rattle.lois_meaning.proofs.Operations.{triple_both, step_move}
@@ -18,7 +18,7 @@ use Rattle.lois_automata.proofs.FiveMachine.{five_equal, five_machine}
 use Rattle.lois_automata.proofs.Paths.{source_in}
 use Rattle.lois_shortest_word.specs.Words.{AcceptsAt}
 use Rattle.lois_equal.specs.Completed.{IsCompletionAt, HasOneMore, AreTotal, IsCompletedOf, IsSinkStep}
-use Rattle.lois_equal.specs.Telling.{HasLetterAt}
+use Rattle.lois_equal.specs.Distinguishing.{HasLetterAt}
 use Rattle.lois_equal.proofs.Itself.{not_in_itself}
 
 module _ (v : PointValue) (a m : Automaton) (more sink : PointValue) (is : IsAutomatonOf v a) (one : IsDeterministic a) (made : IsCompletedOf m a more sink) where
@@ -153,10 +153,10 @@ module _ (s l t i f : CompsD) (rs rl rt : CompsD) (more sink : TermD) (c : List 
 
 -- the set with one more member
 module _ (ks : CompsD) (t : TermD) where
-  made_alone : (c : List Atom) (w : PointValue) → IsMadeBy (comp 0 ([] ∷ []) t) c w ↔ IsSame w (point t c)
+  made_alone : (c : List Atom) (w : PointValue) → IsCompMember (comp 0 ([] ∷ []) t) c w ↔ IsSame w (point t c)
   made_alone c w = (there, λ s. ([], record { count = refl; guard = refl }, subst (λ z. IsSame (point t z) w) (sym (append-nil c)) (same_sym w (point t c) s)))
     where
-      there : IsMadeBy (comp 0 ([] ∷ []) t) c w → IsSame w (point t c)
+      there : IsCompMember (comp 0 ([] ∷ []) t) c w → IsSame w (point t c)
       there ([], ext, s) = same_sym (point t c) w (subst (λ z. IsSame (point t z) w) (append-nil c) s)
       there (a ∷ e, ext, s) = absurd (omega (arith, ext.count))
 
@@ -177,7 +177,7 @@ module _ (ks : CompsD) (t : TermD) where
 
 -- a term of five sets that is so made of another one
 module _ (n : ℕ) (t r : TermD) (s l st i f : CompsD) (is : t ≡ five_of s l st i f) where
-  pub completed_at : (more : CompsD) (sink steps : TermD) (rs rl i2 f2 : CompsD) → sink ≡ coll s → IsSet steps → i2 ≡ i → f2 ≡ f →
+  pub completed_at : (more : CompsD) (sink steps : TermD) (rs rl i2 f2 : CompsD) → sink ≡ coll s → IsColl steps → i2 ≡ i → f2 ≡ f →
       ((c : List Atom) → HasOneMore (point (coll s) c) (point sink c) (point (coll rs) c)) → IsUnion (coll l) (coll more) (coll rl) →
       ((c : List Atom) → length c ≡ n → AreTotal (point (coll rs) c) (point (coll rl) c) (point (coll st) c) (point sink c) (point steps c)) →
       r ≡ five_terms (coll rs) (coll rl) steps (coll i2) (coll f2) → (c : List Atom) → length c ≡ n → IsDeterministicAt t c → IsCompletionAt t (coll more) r c

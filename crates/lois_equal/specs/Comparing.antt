@@ -9,7 +9,7 @@ use Rattle.lois_answers.specs.LastNamed.{last_named}
 use Rattle.lois_answers.specs.ResultsData.{CaseD}
 use Rattle.lois_automata.specs.Machines.{IsDeterministicAt}
 use Rattle.lois_automata.specs.Throughout.{HoldsThroughout}
-use Rattle.lois_equal.specs.Differing.{HaveSameLanguage, IsDifference}
+use Rattle.lois_equal.specs.Differing.{HaveSameLanguage, IsDistinguishingWord}
 use Rattle.lois_equal.specs.declared.differing.Difference.{Difference}
 use Rattle.lois_equal.specs.declared.differing.Equality.{Equality}
 use Rattle.lois_equal.specs.declared.differing.Equality.TheVariants.{Same, Differs}
@@ -57,7 +57,7 @@ pub record LinesDiffer (n : ℕ) (a b : List ℕ) (d : Difference) (name : List 
   pub second : TermD
   pub first_line : HasTerm a c first
   pub second_line : HasTerm b c second
-  pub difference : IsDifference n c.«when» first second d
+  pub difference : IsDistinguishingWord n c.«when» first second d
   pub accepts : name ≡ side_name d.left a b
 
 -- why a case can't be compared: the first name's line is looked for first, then the second's; then the first one is looked at, then
@@ -97,9 +97,9 @@ abbrev pub IsReasonOrNone : ℕ → List ℕ → List ℕ → CaseD → Option C
 IsReasonOrNone n a b c None = AreComparable n a b c
 IsReasonOrNone n a b c (Some r) = IsReason n a b r c
 
-abbrev pub HasNumber : ℕ → Option ComparisonFault → Type 0
-HasNumber k None = Unit {0}
-HasNumber k (Some r) = number_of r ≡ k
+abbrev pub HasFaultNumber : ℕ → Option ComparisonFault → Type 0
+HasFaultNumber k None = Unit {0}
+HasFaultNumber k (Some r) = number_of r ≡ k
 
 -- so of all cases: of the first that can't be compared
 abbrev pub IsFirstReason : ℕ → List ℕ → List ℕ → List CaseD → Option ComparisonFault → Type 0
@@ -107,9 +107,9 @@ IsFirstReason n a b cases None = All (AreComparable n a b) cases
 IsFirstReason n a b cases (Some r) = IsFirst (AreComparable n a b) (IsReason n a b r) (number_of r) cases
 
 -- the answer says whether the value is a deterministic automaton at each choice that u admits
-abbrev pub IsAnswerOf : ℕ → List (List Lit) → TermD → Bool → Type 0
-IsAnswerOf n u t true = HoldsThroughout n u (IsDeterministicAt t)
-IsAnswerOf n u t false = IsSomewhereNotDeterministic n u t
+abbrev pub DecidesDeterminism : ℕ → List (List Lit) → TermD → Bool → Type 0
+DecidesDeterminism n u t true = HoldsThroughout n u (IsDeterministicAt t)
+DecidesDeterminism n u t false = IsSomewhereNotDeterministic n u t
 
 -- of cases that can all be compared: the first in which the lines differ
 abbrev pub IsFirstDifference : ℕ → List ℕ → List ℕ → List CaseD → Comparison → Type 0

@@ -5,14 +5,14 @@ use Rattle.lois_base.specs.Data.{TermD, CompD, CompsD}
 use Rattle.lois_base.specs.Fits.{CompFits}
 use Rattle.lois_base.specs.Validity.{AdmitsTerm, AdmitsComp, HasBoundedWidths, CompHasBoundedWidths}
 use Rattle.lois_base.specs.Values.{PointValue, point, IsIn, IsSame}
-use Rattle.lois_algebra.specs.Gathered.{IsAmong, IsMadeBy}
+use Rattle.lois_algebra.specs.Gathered.{IsAmong, IsCompMember}
 use Rattle.lois_meaning.specs.Automata.{Automaton, IsPair, IsTriple}
 use Rattle.lois_meaning.specs.Kinds.{IsSet, IsSetOf}
 use Rattle.lois_automata.specs.Adding.{Adds, IsMadeOfOne}
-use Rattle.lois_automata.specs.Projections.{IsStep}
+use Rattle.lois_automata.specs.Projections.{HasStepIn}
 use Rattle.lois_automata.specs.Machines.{IsCompleteDeterministicAt}
 use Rattle.lois_shortest_word.specs.Words.{AcceptsAt}
-use Rattle.lois_equal.specs.Telling.{HasLetterAt}
+use Rattle.lois_equal.specs.Distinguishing.{HasLetterAt}
 
 -- a complete deterministic automaton that accepts the words that t accepts; its letters are those of t and the members of a set
 pub record IsCompletionAt (t more r : TermD) (c : List Atom) : Type 0 where
@@ -28,12 +28,12 @@ HasOneMore s x r = (w : PointValue) → IsIn w r ↔ (IsIn w s ⊎ IsSame w x)
 -- w leads from a state by a letter to the sink, and no step leads from the state by the letter
 abbrev pub IsSinkStep : PointValue → PointValue → PointValue → PointValue → PointValue → Type 0
 IsSinkStep states letters steps sink w =
-    (p l : PointValue) × IsIn p states × IsIn l letters × ((q : PointValue) → IsStep steps p l q → ⊥) × IsTriple w p l sink
+    (p l : PointValue) × IsIn p states × IsIn l letters × ((q : PointValue) → HasStepIn steps p l q → ⊥) × IsTriple w p l sink
 
 -- v has the steps and such ways out, so that some step leads from each state by each letter
 pub record AreTotal (states letters steps sink v : PointValue) : Type 0 where
   pub members : (w : PointValue) → IsIn w v ↔ (IsIn w steps ⊎ IsSinkStep states letters steps sink w)
-  pub each : (p l : PointValue) → IsIn p states → IsIn l letters → (q : PointValue) × IsStep v p l q
+  pub each : (p l : PointValue) → IsIn p states → IsIn l letters → (q : PointValue) × HasStepIn v p l q
 
 -- x is a pair that isn't in the set `there`, and w leads by it to the sink
 abbrev pub LeadsToSink : TermD → TermD → List Atom → PointValue → PointValue → Type 0
@@ -47,8 +47,8 @@ IsProvided there sink made c x =
 
 -- what leads by the pairs of a comprehension to the sink is added, but for the pairs in the set `there`
 pub record AddsSinkSteps (n : ℕ) (k : CompD) (there sink : TermD) (before after : CompsD) : Type 0 where
-  pub adds : Adds n (λ c. IsMadeOfOne (LeadsToSink there sink c) (IsMadeBy k c)) (CompFits n k) (λ o. AdmitsComp o k × (AdmitsTerm o there × AdmitsTerm o sink)) (CompHasBoundedWidths k × HasBoundedWidths sink) before after
-  pub each : (c : List Atom) → length c ≡ n → (x : PointValue) → IsMadeBy k c x → IsProvided there sink after c x
+  pub adds : Adds n (λ c. IsMadeOfOne (LeadsToSink there sink c) (IsCompMember k c)) (CompFits n k) (λ o. AdmitsComp o k × (AdmitsTerm o there × AdmitsTerm o sink)) (CompHasBoundedWidths k × HasBoundedWidths sink) before after
+  pub each : (c : List Atom) → length c ≡ n → (x : PointValue) → IsCompMember k c x → IsProvided there sink after c x
 
 -- v has what leads by the pairs of a set to the sink, but for those that are in the set `there`
 pub record LeadToSink (pairs there sink v : PointValue) : Type 0 where

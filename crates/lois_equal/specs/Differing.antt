@@ -11,7 +11,7 @@ use Rattle.lois_base.specs.declared.guards.Lit.{Lit}
 use Rattle.lois_automata.specs.Throughout.{HoldsThroughout}
 use Rattle.lois_shortest_word.specs.Words.{values_at, first_sampled, AreUsedBetween}
 use Rattle.lois_shortest_word.specs.declared.words.Word.{Word}
-use Rattle.lois_equal.specs.Telling.{AcceptsOnlyFirst, TellsApart, HasLetterAt}
+use Rattle.lois_equal.specs.Distinguishing.{AcceptsOnlyFirst, TellsApart, HasLetterAt}
 use Rattle.lois_equal.specs.declared.differing.Difference.{Difference}
 use Rattle.lois_equal.specs.declared.differing.Equality.{Equality}
 use Rattle.lois_equal.specs.declared.differing.Equality.TheVariants.{Same, Differs}
@@ -35,7 +35,7 @@ IsAcceptedByOne false t s c word = AcceptsOnlyFirst s t c word
 
 -- A word that tells the two apart at the choice of the first n numbers, which u admits; its terms are read at the whole sample,
 -- and the further numbers are for levels that stand in them. No shorter word tells the two apart, at any choice that u admits.
-pub record IsDifference (n : ℕ) (u : List (List Lit)) (t s : TermD) (d : Difference) : Type 0 where
+pub record IsDistinguishingWord (n : ℕ) (u : List (List Lit)) (t s : TermD) (d : Difference) : Type 0 where
   pub count : n ≤ length d.sample
   pub admitted : IsTrue (holds (first_sampled n d.sample) u)
   pub levels : All (Fits (length d.sample)) d.word

@@ -1,4 +1,4 @@
-pub mod Telling
+pub mod Distinguishing
 pub mod Completed
 pub mod Differing
 pub mod Comparing

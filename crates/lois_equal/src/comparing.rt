@@ -8,7 +8,7 @@ ghost use Rattle.lois_base.specs.Validity.{AdmitsConstraint, AdmitsTerm};
 ghost use Rattle.lois_answers.specs.CaseView.{case_of};
 ghost use Rattle.lois_answers.specs.Sound.{IsSound, IsSoundCase};
 ghost use Rattle.lois_deciders.specs.OnlyAsked.{HasOnlyAsked};
-ghost use Rattle.lois_equal.specs.Comparing.{AreComparable, IsReasonOrNone, HasNumber, IsFirstReason, IsFirstDifference, IsAnswerOf, IsComparison, LinesAgreeOrDiffer, IfDiffer, side_name};
+ghost use Rattle.lois_equal.specs.Comparing.{AreComparable, IsReasonOrNone, HasFaultNumber, IsFirstReason, IsFirstDifference, DecidesDeterminism, IsComparison, LinesAgreeOrDiffer, IfDiffer, side_name};
 ghost use Rattle.lois_equal.specs.Differing.{IfDiffers, AreBounded};
 
 use crate::differing::{Difference, Equality, equal};
@@ -55,7 +55,7 @@ pub fn compare<T: Structure>(
     ensures only_asked { HasOnlyAsked (λ b. (⟦<dyn Decider as Decider>⟧ b.vtable).kind_of b.value) (λ b. (⟦<dyn Decider as Decider>⟧ b.vtable).questions b.value) chosen.old chosen.new }
 {
     let size = results.parameters.len();
-    let refused = first_unfit::<T>(alloc, &results.cases, size, first, second, chosen)?;
+    let refused = first_incomparable::<T>(alloc, &results.cases, size, first, second, chosen)?;
     if let Some(unfit) = refused {
         return Ok(Comparison::Refused(unfit));
     }
@@ -63,7 +63,7 @@ pub fn compare<T: Structure>(
 }
 
 // Why the first case can't be compared that can't.
-fn first_unfit<T: Structure>(
+fn first_incomparable<T: Structure>(
     alloc: Global,
     cases: &Cases,
     size: usize,
@@ -76,7 +76,7 @@ fn first_unfit<T: Structure>(
     ensures only_asked { HasOnlyAsked (λ b. (⟦<dyn Decider as Decider>⟧ b.vtable).kind_of b.value) (λ b. (⟦<dyn Decider as Decider>⟧ b.vtable).questions b.value) chosen.old chosen.new }
 {
     for (index, case) in cases.as_slice().iter().enumerate() {
-        let found = unfit_in::<T>(alloc, case, index + 1, size, first, second, chosen)?;
+        let found = incomparable_in::<T>(alloc, case, index + 1, size, first, second, chosen)?;
         if let Some(unfit) = found {
             return Ok(Some(unfit));
         }
@@ -85,7 +85,7 @@ fn first_unfit<T: Structure>(
 }
 
 // Why the case can't be compared, if it can't.
-fn unfit_in<T: Structure>(
+fn incomparable_in<T: Structure>(
     alloc: Global,
     case: &Case,
     number: usize,
@@ -96,7 +96,7 @@ fn unfit_in<T: Structure>(
 ) -> Result<Option<ComparisonFault>, NoMemory>
     requires { IsSoundCase T.ordered size (case_of case.now) }
     ensures reason { IfOk result (IsReasonOrNone size first.now second.now (case_of case.now)) }
-    ensures number { IfOk result (HasNumber number) }
+    ensures number { IfOk result (HasFaultNumber number) }
     ensures only_asked { HasOnlyAsked (λ b. (⟦<dyn Decider as Decider>⟧ b.vtable).kind_of b.value) (λ b. (⟦<dyn Decider as Decider>⟧ b.vtable).questions b.value) chosen.old chosen.new }
 {
     let Some(one) = case.lines.last_named(first) else {
@@ -129,7 +129,7 @@ fn is_deterministic<T: Structure>(
     requires levels { Fits size (tree t.now) }
     requires operators { AdmitsTerm T.ordered (tree t.now) }
     requires under { ConstraintFits size under.now }
-    ensures answer { IfOk result (IsAnswerOf size under.now (tree t.now)) }
+    ensures answer { IfOk result (DecidesDeterminism size under.now (tree t.now)) }
     ensures only_asked { HasOnlyAsked (λ b. (⟦<dyn Decider as Decider>⟧ b.vtable).kind_of b.value) (λ b. (⟦<dyn Decider as Decider>⟧ b.vtable).questions b.value) chosen.old chosen.new }
 {
     match check_automaton::<T>(alloc, t, under, size, chosen)? {

@@ -8,9 +8,9 @@ ghost use Rattle.lois_base.specs.Validity.{AdmitsConstraint, AdmitsTerm, HasBoun
 ghost use Rattle.lois_deciders.specs.OnlyAsked.{HasOnlyAsked};
 ghost use Rattle.lois_automata.specs.Machines.{IsDeterministicAt};
 ghost use Rattle.lois_automata.specs.Throughout.{HoldsThroughout};
-ghost use Rattle.lois_equal.specs.Differing.{IsSameAnswer, IfDiffers, HaveSameLanguage, IsDifference, IsShorterOf, sided};
+ghost use Rattle.lois_equal.specs.Differing.{IsSameAnswer, IfDiffers, HaveSameLanguage, IsDistinguishingWord, IsShorterOf, sided};
 
-use crate::excluding::shortest_difference;
+use crate::difference::shortest_difference;
 use lois_base::{Constraint, Decider, NoMemory, Numbers, Structure, Term, Terms};
 use lois_deciders::Chosen;
 use lois_shortest_word::Word;
@@ -52,7 +52,7 @@ pub fn equal<T: Structure>(
     requires deterministic { HoldsThroughout size under.now (IsDeterministicAt (tree a.now)) }
     requires other_deterministic { HoldsThroughout size under.now (IsDeterministicAt (tree b.now)) }
     ensures same { IfOk result (λ r. IsSameAnswer r ↔ HaveSameLanguage size under.now (tree a.now) (tree b.now)) }
-    ensures differs { IfOk result (IfDiffers (IsDifference size under.now (tree a.now) (tree b.now))) }
+    ensures differs { IfOk result (IfDiffers (IsDistinguishingWord size under.now (tree a.now) (tree b.now))) }
     ensures operators { IfOk result (IfDiffers (λ d. (o : Bool) → AdmitsTerm o (tree a.now) → AdmitsTerm o (tree b.now) → All (AdmitsTerm o) d.word)) }
     ensures widths { IfOk result (IfDiffers (λ d. HasBoundedWidths (tree a.now) → HasBoundedWidths (tree b.now) → All HasBoundedWidths d.word)) }
 

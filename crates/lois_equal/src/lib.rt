@@ -2,10 +2,10 @@
 #![tactic(auto)]
 
 mod comparing;
-mod completing;
+mod completion;
+mod difference;
 mod differing;
-mod excluding;
-mod leading;
+mod sink_steps;
 mod texts;
 
 pub use comparing::{Comparison, ComparisonFault, compare};

@@ -33,7 +33,7 @@ pub fn print_difference(
         difference.sample.len(),
         &difference.word,
     )?;
-    append_acceptor(&mut text, name)?;
+    append_acceptor_name(&mut text, name)?;
     Ok(text)
 }
 
@@ -54,7 +54,7 @@ fn append_letters(
     Ok(())
 }
 
-fn append_acceptor(text: &mut Vec<u8>, name: &Name) -> Result<(), NoMemory>
+fn append_acceptor_name(text: &mut Vec<u8>, name: &Name) -> Result<(), NoMemory>
     ensures { OnOk result (text.new.items ≡ text.old.items ++ lined (codes "accepted by " ++ name.now)) }
 {
     append(text, b"accepted by ")?;

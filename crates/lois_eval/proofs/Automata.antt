@@ -25,7 +25,7 @@ use Rattle.lois_script.specs.declared.syntax.Operation.TheVariants.{Union, Inter
 use Rattle.lois_script.specs.declared.syntax.Pos.{Pos}
 use Rattle.lois_context.specs.Choices.{IsAdmitted}
 use Rattle.lois_context.specs.declared.contexts.Context.{Context}
-use Rattle.lois_eval.specs.Automata.{IsOfOneAutomaton, IsOfAutomata, IsMadeOf, IsValueFault, IsFailed}
+use Rattle.lois_eval.specs.Automata.{IsOfOneAutomaton, IsOfAutomata, IsOperationResult, IsValueFault, IsFailureOfVerdict}
 use Rattle.lois_eval.specs.Operands.{IsAppliedThroughout, IsUnfitFault}
 use Rattle.lois_eval.specs.WellFormed.{arity}
 use Rattle.lois_eval.proofs.FaultsAt.{fault_at}
@@ -71,7 +71,7 @@ module _ (n : ℕ) (u : List (List Lit)) (t : TermD) where
 
 module _ (k : Context) (t : TermD) where
   -- the fault at a sample at which a property fails
-  pub failed_value : (P : List Atom → Type 0) (row : PointValue → FaultKind → Type 0) (at : Pos) (kind : FaultKind) → ((c : List Atom) → IsAdmitted c k → (P c → ⊥) → row (point t c) kind) → (v : Verdict) → IsVerdictOn k.size k.«when» P v → (f : Fault) → IsFailed v at kind f → IsValueFault k row t at.offset f
+  pub failed_value : (P : List Atom → Type 0) (row : PointValue → FaultKind → Type 0) (at : Pos) (kind : FaultKind) → ((c : List Atom) → IsAdmitted c k → (P c → ⊥) → row (point t c) kind) → (v : Verdict) → IsVerdictOn k.size k.«when» P v → (f : Fault) → IsFailureOfVerdict v at kind f → IsValueFault k row t at.offset f
   failed_value P row at kind to Holds verdict f h = absurd h
   failed_value P row at kind to (Fails s) verdict f h =
       let a : IsAdmitted (sampled s.items) k = (length-map s.items whole ∙ verdict.count, verdict.admitted) in
@@ -80,15 +80,15 @@ module _ (k : Context) (t : TermD) where
         unfit = subst (λ z. row (point t (sampled z)) f.kind) (sym h.sample) (subst (row (point t (sampled s.items))) (sym h.kind) (to (sampled s.items) a verdict.broken));
       }
 
-  pub no_automaton : (at : Pos) (v : Verdict) → IsVerdictOn k.size k.«when» (IsAutomatonAt t) v → (f : Fault) → IsFailed v at NotAutomaton f → IsValueFault k IsNoAutomaton t at.offset f
+  pub no_automaton : (at : Pos) (v : Verdict) → IsVerdictOn k.size k.«when» (IsAutomatonAt t) v → (f : Fault) → IsFailureOfVerdict v at NotAutomaton f → IsValueFault k IsNoAutomaton t at.offset f
   no_automaton at = failed_value (IsAutomatonAt t) IsNoAutomaton at NotAutomaton (λ c a none. (refl, none))
 
-  pub not_deterministic : HoldsThroughout k.size k.«when» (IsAutomatonAt t) → (at : Pos) (v : Verdict) → IsVerdictOn k.size k.«when» (IsDeterministicAt t) v → (f : Fault) → IsFailed v at NotDeterministic f → IsValueFault k (IsInvalidOperand Minimise) t at.offset f
+  pub not_deterministic : HoldsThroughout k.size k.«when» (IsAutomatonAt t) → (at : Pos) (v : Verdict) → IsVerdictOn k.size k.«when» (IsDeterministicAt t) v → (f : Fault) → IsFailureOfVerdict v at NotDeterministic f → IsValueFault k (IsInvalidOperand Minimise) t at.offset f
   not_deterministic automaton at = failed_value (IsDeterministicAt t) (IsInvalidOperand Minimise) at NotDeterministic (λ c a none.
       let (m, is) = automaton c a.0 a.1 in
       inr (inl (refl, m, is, λ one. none (m, is, one))))
 
-  pub not_complete : HoldsThroughout k.size k.«when» (IsDeterministicAt t) → (at : Pos) (v : Verdict) → IsVerdictOn k.size k.«when» (IsCompleteAt t) v → (f : Fault) → IsFailed v at NotComplete f → IsValueFault k (IsInvalidOperand Minimise) t at.offset f
+  pub not_complete : HoldsThroughout k.size k.«when» (IsDeterministicAt t) → (at : Pos) (v : Verdict) → IsVerdictOn k.size k.«when» (IsCompleteAt t) v → (f : Fault) → IsFailureOfVerdict v at NotComplete f → IsValueFault k (IsInvalidOperand Minimise) t at.offset f
   not_complete single at = failed_value (IsCompleteAt t) (IsInvalidOperand Minimise) at NotComplete (λ c a none.
       let (m, is, one) = single c a.0 a.1 in
       inr (inr (refl, m, is, one, λ all. none (m, is, all))))
@@ -106,8 +106,8 @@ module _ (k : Context) (t : TermD) where
 
 -- ---- the operands
 
-pub made_of : (k : Context) (op own : Operation) (ts us : List TermD) (r : TermD) → op ≡ own → ts ≡ us → IsMadeOf k own us r → IsMadeOf k op ts r
-made_of k op own ts us r is are h = subst (λ z. IsMadeOf k z ts r) (sym is) (subst (λ z. IsMadeOf k own z r) (sym are) h)
+pub made_of : (k : Context) (op own : Operation) (ts us : List TermD) (r : TermD) → op ≡ own → ts ≡ us → IsOperationResult k own us r → IsOperationResult k op ts r
+made_of k op own ts us r is are h = subst (λ z. IsOperationResult k z ts r) (sym is) (subst (λ z. IsOperationResult k own z r) (sym are) h)
 
 pub of_automata : (op : Operation) → (op ≡ Union → ⊥) → (op ≡ Inter → ⊥) → (op ≡ Minus → ⊥) → (op ≡ Flatten → ⊥) → IsOfAutomata op
 of_automata Reach a b c d = tt

@@ -10,7 +10,7 @@ use Rattle.lois_base.specs.Fits.{ConstraintFits}
 use Rattle.lois_base.specs.Truth.{holds, sampled}
 use Rattle.lois_base.specs.Validity.{AdmitsConstraint}
 use Rattle.lois_base.specs.declared.guards.Lit.{Lit}
-use Rattle.lois_terms.specs.Guarded.{IsSet as IsSetTerm}
+use Rattle.lois_terms.specs.Guarded.{IsColl as IsSetTerm}
 use Rattle.lois_base.proofs.Viewed.{rest_is}
 use Rattle.lois_script.specs.Tree.{each, BindingsD, no_bindings, bind, binding, pos}
 use Rattle.lois_script.specs.View.{tree, cond_tree, binding_tree, bindings_of}
@@ -27,8 +27,8 @@ use Rattle.lois_context.specs.Sides.{IsSide}
 use Rattle.lois_context.specs.Slots.{IsNew, store_at}
 use Rattle.lois_context.specs.declared.contexts.Context.{Context}
 use Rattle.lois_eval.specs.Checks.{IsSetFault, IsTruncatedFrom}
-use Rattle.lois_eval.specs.Evaluated.{IsTermOf, IsConstraintOf, IsWithin}
-use Rattle.lois_eval.specs.Folded.{IsGathered, IsFoundInside, IsFaultInside}
+use Rattle.lois_eval.specs.Evaluated.{IsTermOf, IsConstraintOf, HasMembersOnlyWhereAdmitted}
+use Rattle.lois_eval.specs.Folded.{IsGatheredInside, IsFoundInside, IsFaultInside}
 use Rattle.lois_eval.specs.Forms.{each_from, quantifier}
 use Rattle.lois_eval.specs.WellFormed.{IsWellFormedIn, IsUnnamed, IsWellFormed, CondIsWellFormed, names_of}
 use Rattle.lois_eval.specs.Throughout.{IsFaultOf}
@@ -78,11 +78,11 @@ module _ (k : Context) (item : Expr) (bs : List Binding) (i : ℕ) (b : Binding)
           let n = (unfolded o h).names in
           placed_inside k b.name t ds set entered o (IsWellFormed (each_from item bs (i + 1) c)) (entered.operators o h.operators (elements.operators o (first_placed o h))) (n.0.2, n.1, n.2)
 
-      pub first_loop : (ks : CompsD) → IsGathered k.size (Makes (each_from item bs (i + 1) c)) (IsWellFormed (each_from item bs (i + 1) c)) ds ks → IsTermOf k (Makes (each_from item bs i c)) (IsWellFormed (each_from item bs i c)) (coll ks)
+      pub first_loop : (ks : CompsD) → IsGatheredInside k.size (Makes (each_from item bs (i + 1) c)) (IsWellFormed (each_from item bs (i + 1) c)) ds ks → IsTermOf k (Makes (each_from item bs i c)) (IsWellFormed (each_from item bs i c)) (coll ks)
       first_loop ks gathered =
           subst (λ z. IsTermOf k (Makes z) (IsWellFormed z) (coll ks)) (sym first_is) (each_loop k b.name t ds set entered b.pos.offset (tree b.from) elements 0 (tree item) (bindings_of (map binding_tree (drop (i + 1) bs))) (cond_tree c) ks gathered)
 
-      pub first_within : (ks : CompsD) → IsGathered k.size (Makes (each_from item bs (i + 1) c)) (IsWellFormed (each_from item bs (i + 1) c)) ds ks → IsWithin k (coll ks)
+      pub first_within : (ks : CompsD) → IsGatheredInside k.size (Makes (each_from item bs (i + 1) c)) (IsWellFormed (each_from item bs (i + 1) c)) ds ks → HasMembersOnlyWhereAdmitted k (coll ks)
       first_within ks gathered = each_loop_within k b.name t ds set entered b.pos.offset (tree b.from) elements (tree item) (bindings_of (map binding_tree (drop (i + 1) bs))) (cond_tree c) ks gathered
 
       pub first_fails : (f g : Fault) → IsFaultInside ds (Breaks (each_from item bs (i + 1) c)) g → IsTruncatedFrom k.size f g → IsFaultOf k (Breaks (each_from item bs i c)) f
@@ -117,8 +117,8 @@ module _ (k : Context) (item : Expr) (bs : List Binding) (c : Cond) where
           subst (λ z. IsTermOf k (Makes (each_from item bs (length bs) c)) (IsWellFormed (each_from item bs (length bs) c)) (coll z)) (sym is)
           (subst (λ z. IsTermOf k (Makes z) (IsWellFormed z) (coll (comps_of (comp 0 d.«when» t ∷ [])))) (sym last_is) (here_one k (tree item) (cond_tree c) g held d t side value room kept))
 
-      pub last_within : (t : TermD) (ks : CompsD) → IsTermOf d (Gives (tree item)) (IsWellFormed (tree item)) t → ks ≡ comps_of (comp 0 d.«when» t ∷ []) → IsWithin k (coll ks)
-      last_within t ks value is = subst (λ z. IsWithin k (coll z)) (sym is) (here_within k (tree item) (cond_tree c) g held d t side value)
+      pub last_within : (t : TermD) (ks : CompsD) → IsTermOf d (Gives (tree item)) (IsWellFormed (tree item)) t → ks ≡ comps_of (comp 0 d.«when» t ∷ []) → HasMembersOnlyWhereAdmitted k (coll ks)
+      last_within t ks value is = subst (λ z. HasMembersOnlyWhereAdmitted k (coll z)) (sym is) (here_within k (tree item) (cond_tree c) g held d t side value)
 
       pub last_item_fails : (f : Fault) → IsFaultOf d (Fails (tree item)) f → IsFaultOf k (Breaks (each_from item bs (length bs) c)) f
       last_item_fails f h =

@@ -14,14 +14,14 @@ use Rattle.lois_context.specs.declared.contexts.Context.{Context}
 use Rattle.lois_eval.specs.Checks.{IsSetFault, IsAtomFault}
 use Rattle.lois_eval.specs.Compared.{IsBelowFault}
 use Rattle.lois_eval.specs.Evaluated.{AreTermsOf}
-use Rattle.lois_eval.specs.Forms.{two, sides_of, IsComparison}
+use Rattle.lois_eval.specs.Forms.{two, sides_of, IsComparisonCond}
 use Rattle.lois_eval.specs.WellFormed.{IsWellFormed, AreWellFormed, CondIsWellFormed, count_of, names_of}
 use Rattle.lois_eval.specs.Throughout.{IsFaultOf}
 use Rattle.lois_eval.proofs.Conditions.{sides, no_set_fails}
 use Rattle.lois_eval.proofs.FaultsAt.{fault_weaker}
 use Rattle.lois_eval.proofs.TermKinds.{atom_term}
 
-pub two_sides : (c : CondD) → IsComparison c → count_of (sides_of c) ≡ 2
+pub two_sides : (c : CondD) → IsComparisonCond c → count_of (sides_of c) ≡ 2
 two_sides (same e f) h = refl
 two_sides (differ e f) h = refl
 two_sides (below p e f) h = refl

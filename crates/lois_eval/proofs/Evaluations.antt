@@ -5,7 +5,7 @@ use Rattle.lois_base.specs.Truth.{holds}
 use Rattle.lois_base.specs.Values.{point}
 use Rattle.lois_meaning.specs.Expressions.{Gives, GiveAll}
 use Rattle.lois_meaning.specs.Faults.{Fails, SomeFails, CondFails}
-use Rattle.lois_meaning.specs.Kinds.{parts_at}
+use Rattle.lois_meaning.specs.Kinds.{part_values}
 use Rattle.lois_script.specs.Tree.{ExprD, ExprsD, CondD, CondsD}
 use Rattle.lois_script.specs.View.{exprs_of}
 use Rattle.lois_meaning.specs.declared.faults.Fault.{Fault}
@@ -38,7 +38,7 @@ module _ (k : Context) (S : Bool → List (List ℕ) → Type 0) where
   pub terms_more : (es : List ExprD) (e : ExprD) (ts after : List TermD) (t : TermD) → AreTermsOf k (exprs_of es) S ts → IsTermOf k (Gives e) (IsWellFormed e) t → ((o : Bool) → IsWellFormedIn S o k → IsWellFormedIn (IsWellFormed e) o k) → after ≡ ts ++ t ∷ [] → AreTermsOf k (exprs_of (es ++ e ∷ [])) S after
   terms_more es e ts after t so_far own placed is = subst (AreTermsOf k (exprs_of (es ++ e ∷ [])) S) (sym is) (record {
     count = omega (arith, count_of-more (es ++ e ∷ []), count_of-more es, so_far.count, length-append es (e ∷ []), length-append ts (t ∷ []));
-    values = λ c a. subst (GiveAll (exprs_of (es ++ e ∷ [])) (store_at c k.store)) (sym (parts_at-append ts t c)) (give_all_more es e (store_at c k.store) (parts_at (terms_of ts) c) (point t c) (so_far.values c a) (own.value c a));
+    values = λ c a. subst (GiveAll (exprs_of (es ++ e ∷ [])) (store_at c k.store)) (sym (parts_at-append ts t c)) (give_all_more es e (store_at c k.store) (part_values (terms_of ts) c) (point t c) (so_far.values c a) (own.value c a));
     levels = parts_fit-more k.size ts t so_far.levels own.levels;
     operators = λ o h. parts_admit-more o ts t (so_far.operators o h) (own.operators o (placed o h));
     widths = λ h. parts_widths-more ts t (so_far.widths h) (own.widths h);

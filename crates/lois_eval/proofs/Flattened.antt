@@ -20,12 +20,12 @@ use Rattle.lois_context.specs.Choices.{IsAdmitted}
 use Rattle.lois_context.specs.Entered.{HasNoMembers, binders_of, item_of, guard_of}
 use Rattle.lois_context.specs.declared.contexts.Context.{Context}
 use Rattle.lois_context.proofs.Longer.{holds_at_start}
-use Rattle.lois_terms.specs.Guarded.{IsSet as IsSetTerm}
+use Rattle.lois_terms.specs.Guarded.{IsColl as IsSetTerm}
 use Rattle.lois_answers.specs.declared.faults.FaultKind.TheVariants.{NotASet}
 use Rattle.lois_meaning.specs.declared.faults.Fault.{Fault}
 use Rattle.lois_script.specs.declared.syntax.Pos.{Pos}
 use Rattle.lois_eval.specs.Checks.{IsFaultWith, MeetsBoth}
-use Rattle.lois_eval.specs.Operands.{HasSetsOf, IsKept, IsMemberFault}
+use Rattle.lois_eval.specs.Operands.{HasSetsOf, IsKeptIfSet, IsMemberFault}
 use Rattle.lois_eval.proofs.TermKinds.{no_set_at}
 use Rattle.lois_eval.proofs.FaultsAt.{fault_at, sampled_parts, sampled_start}
 use Rattle.lois_eval.proofs.Outward.{member_append}
@@ -86,7 +86,7 @@ module _ (k : Context) where
           none (c ++ e) (omega (arith, length-append c e, a.0, is.count)) (holds_at_start k.size c e k.«when» k.levels a.0 ∙ a.1) is.guard
       empty c a u (comp b g t) none (inr m) = absurd m
 
-  pub sets_more : (ks so_far after : List CompD) (l : CompD) → HasSetsOf k (set_of ks) (set_of so_far) → CompFits k.size l → IsKept k l so_far after → HasSetsOf k (set_of (ks ++ l ∷ [])) (set_of after)
+  pub sets_more : (ks so_far after : List CompD) (l : CompD) → HasSetsOf k (set_of ks) (set_of so_far) → CompFits k.size l → IsKeptIfSet k l so_far after → HasSetsOf k (set_of (ks ++ l ∷ [])) (set_of after)
   sets_more ks so_far after l h fits (inl (set, is)) = sets_kept ks so_far after l h set fits is
   sets_more ks so_far after l h fits (inr (none, is)) = subst (λ z. HasSetsOf k (set_of (ks ++ l ∷ [])) (set_of z)) (sym is) (sets_dropped ks so_far l h none)
 

@@ -19,9 +19,9 @@ use Rattle.lois_context.proofs.Sides.{and_true}
 use Rattle.lois_context.specs.Choices.{IsAdmitted, ContextHasBoundedWidths}
 use Rattle.lois_context.specs.Slots.{store_at}
 use Rattle.lois_context.specs.declared.contexts.Context.{Context}
-use Rattle.lois_eval.specs.Evaluated.{IsTermOf, IsConstraintOf, IsWithin}
+use Rattle.lois_eval.specs.Evaluated.{IsTermOf, IsConstraintOf, HasMembersOnlyWhereAdmitted}
 use Rattle.lois_elim.specs.Bound.{HoldsForSomeMore}
-use Rattle.lois_eval.specs.Folded.{outward, IsSomewhereInside, IsGathered, IsFoundInside}
+use Rattle.lois_eval.specs.Folded.{outward, IsSomewhereInside, IsGatheredInside, IsFoundInside}
 use Rattle.lois_eval.specs.WellFormed.{IsWellFormedIn}
 use Rattle.lois_eval.proofs.Outward.{in_outward, in_append, fits_outward, admits_outward, widths_outward}
 
@@ -31,9 +31,9 @@ before_last Q ds d h = All-pop Q (ds ++ d ∷ []) ds (Some d) refl h
 
 module _ (n : ℕ) (P : NamedValues → PointValue → Type 0) (stands : Bool → List (List ℕ) → Type 0) (one : (s : NamedValues) (v w : PointValue) → P s v → P s w → IsSame v w) where
   -- one context more
-  pub gathered_more : (ds : List Context) (ks : List CompD) (d : Context) (ls after : List CompD) → IsGathered n P stands ds (comps_of ks) → n ≤ d.size →
-      IsTermOf d P stands (coll (comps_of ls)) → IsWithin d (coll (comps_of ls)) → after ≡ ks ++ map (outward (d.size - n)) ls → IsGathered n P stands (ds ++ d ∷ []) (comps_of after)
-  gathered_more ds ks d ls after so_far longer own within is = subst (λ z. IsGathered n P stands (ds ++ d ∷ []) (comps_of z)) (sym is) (record {
+  pub gathered_more : (ds : List Context) (ks : List CompD) (d : Context) (ls after : List CompD) → IsGatheredInside n P stands ds (comps_of ks) → n ≤ d.size →
+      IsTermOf d P stands (coll (comps_of ls)) → HasMembersOnlyWhereAdmitted d (coll (comps_of ls)) → after ≡ ks ++ map (outward (d.size - n)) ls → IsGatheredInside n P stands (ds ++ d ∷ []) (comps_of after)
+  gathered_more ds ks d ls after so_far longer own within is = subst (λ z. IsGatheredInside n P stands (ds ++ d ∷ []) (comps_of z)) (sym is) (record {
     made = λ b there c a. elim (Contains-push_cases ds d b there) [
       | inl before ↦ so_far.made b before c a
       | inr same ↦ subst (λ z. IsAdmitted c z → (v : PointValue) × P (store_at c z.store) v) same (λ h. (point (coll (comps_of ls)) c, own.value c h)) a

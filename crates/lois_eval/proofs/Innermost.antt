@@ -19,7 +19,7 @@ use Rattle.lois_context.specs.Choices.{IsAdmitted, AdmitsContext}
 use Rattle.lois_context.specs.Slots.{store_at}
 use Rattle.lois_context.specs.Sides.{IsSide}
 use Rattle.lois_context.specs.declared.contexts.Context.{Context}
-use Rattle.lois_eval.specs.Evaluated.{IsTermOf, IsConstraintOf, IsWithin}
+use Rattle.lois_eval.specs.Evaluated.{IsTermOf, IsConstraintOf, HasMembersOnlyWhereAdmitted}
 use Rattle.lois_eval.specs.WellFormed.{IsWellFormed, CondIsWellFormed, names_of}
 use Rattle.lois_eval.proofs.Binders.{each_true, each_false}
 
@@ -68,5 +68,5 @@ module _ (k : Context) (item : ExprD) (c : CondD) (g : List (List Lit)) (held : 
             each_false 0 item c (store_at a k.store) (point (coll (comps_of (comp 0 d.«when» t ∷ []))) a) (subst (HasTruth c (store_at a k.store)) h (held.truth a adm)) tt
             (λ w y. false≢true (sym h ∙ ((side_holds a).0 ((in_one a w).0 y).0).1))
 
-    pub here_within : IsWithin k (coll (comps_of (comp 0 d.«when» t ∷ [])))
+    pub here_within : HasMembersOnlyWhereAdmitted k (coll (comps_of (comp 0 d.«when» t ∷ [])))
     here_within a l w m = (l, ((side_holds a).0 ((in_one a w).0 (member_in w (point (coll (comps_of (comp 0 d.«when» t ∷ []))) a) m)).0).0)

@@ -8,7 +8,7 @@ use Rattle.lois_base.specs.Truth.{sampled}
 use Rattle.lois_base.specs.Values.{PointValue, point, IsMember}
 use Rattle.lois_meaning.specs.Store.{NamedValues, stored, AreSameNamed}
 use Rattle.lois_context.specs.Choices.{IsAdmitted}
-use Rattle.lois_context.specs.Entered.{AreEntered, IsLoopContext, GoesOn}
+use Rattle.lois_context.specs.Entered.{AreEntered, IsLoopContext, ExtendsContext}
 use Rattle.lois_context.specs.Slots.{store_at}
 use Rattle.lois_context.specs.declared.contexts.Context.{Context}
 use Rattle.lois_eval.specs.Folded.{IsSomewhereInside, IsFaultInside}
@@ -20,19 +20,19 @@ module _ (before : Context) (x : List ℕ) (t : TermD) (ds : List Context) (ente
   pub to_inside : (c : List Atom) → IsAdmitted c before → (m : PointValue) → IsMember m (point t c) → IsSomewhereInside ds c (λ s. AreSameNamed s (stored x m (store_at c before.store)))
   to_inside c a m is =
       let (d, there, e, adm, held) = (entered.members c a m).0 is in
-      let on : GoesOn before x d = All-contains (GoesOn before x) ds d entered.outside there in
+      let on : ExtendsContext before x d = All-contains (ExtendsContext before x) ds d entered.outside there in
       (d, there, e, adm, on.store c e a.0 adm m held)
 
   -- what holds inside of the stores that are the same holds outside for some member
   pub from_inside : (R : NamedValues → Type 0) → ((s t : NamedValues) → AreSameNamed s t → R s → R t) → (c : List Atom) → IsAdmitted c before → IsSomewhereInside ds c R → (m : PointValue) × IsMember m (point t c) × R (stored x m (store_at c before.store))
   from_inside R move c a (d, there, e, adm, r) =
-      let on : GoesOn before x d = All-contains (GoesOn before x) ds d entered.outside there in
+      let on : ExtendsContext before x d = All-contains (ExtendsContext before x) ds d entered.outside there in
       let (u, held) = (All-contains (IsLoopContext before x) ds d entered.inside there).held (c ++ e) in
       (u, (entered.members c a u).1 (d, there, e, adm, held), move (store_at (c ++ e) d.store) (stored x u (store_at c before.store)) (on.store c e a.0 adm u held) r)
 
   pub admitted_outside : (c : List Atom) → length c ≡ before.size → (R : NamedValues → Type 0) → IsSomewhereInside ds c R → IsAdmitted c before
   admitted_outside c l R (d, there, e, adm, r) =
-      let on : GoesOn before x d = All-contains (GoesOn before x) ds d entered.outside there in
+      let on : ExtendsContext before x d = All-contains (ExtendsContext before x) ds d entered.outside there in
       on.outside c e l adm
 
   -- a failure inside, under the first numbers of its sample

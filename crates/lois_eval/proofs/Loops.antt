@@ -19,8 +19,8 @@ use Rattle.lois_context.specs.Choices.{IsAdmitted}
 use Rattle.lois_context.specs.Entered.{AreEntered}
 use Rattle.lois_context.specs.Slots.{store_at}
 use Rattle.lois_context.specs.declared.contexts.Context.{Context}
-use Rattle.lois_eval.specs.Evaluated.{IsWithin}
-use Rattle.lois_eval.specs.Folded.{IsGathered, IsFoundInside}
+use Rattle.lois_eval.specs.Evaluated.{HasMembersOnlyWhereAdmitted}
+use Rattle.lois_eval.specs.Folded.{IsGatheredInside, IsFoundInside}
 use Rattle.lois_eval.proofs.Binders.{each_binder, exists_true, exists_false, every_true, every_false}
 use Rattle.lois_eval.proofs.Inside.{to_inside, from_inside, admitted_outside}
 
@@ -34,7 +34,7 @@ module _ (k : Context) (x : List ℕ) (t : TermD) (ds : List Context) (entered :
 
   module _ (q : ℕ) (e : ExprD) (gives : (c : List Atom) → IsAdmitted c k → Gives e (store_at c k.store) (point t c)) (set : (c : List Atom) → IsSet (point t c)) where
     pub loop_makes : (p : ℕ) (item : ExprD) (rest : BindingsD) (cond : CondD) (stands : Bool → List (List ℕ) → Type 0) (ks : CompsD) →
-        IsGathered k.size (Makes (each 0 item rest cond)) stands ds ks → (c : List Atom) → IsAdmitted c k →
+        IsGatheredInside k.size (Makes (each 0 item rest cond)) stands ds ks → (c : List Atom) → IsAdmitted c k →
         Makes (each p item (bind (binding q x e) rest) cond) (store_at c k.store) (point (coll ks) c)
     loop_makes p item rest cond stands ks gathered c a =
         each_binder q x e (store_at c k.store) (point t c) (gives c a) (set c) p item rest cond (point (coll ks) c) tt
@@ -82,6 +82,6 @@ module _ (k : Context) (x : List ℕ) (t : TermD) (ds : List Context) (entered :
             every_true q x e (store_at c k.store) (point t c) (gives c a) (set c) cond (decided_member cond false stands g found c a) (none_found cond false stands g found c a h)
 
   -- the set outside has members only where the context admits
-  pub loop_within : (P : NamedValues → PointValue → Type 0) (stands : Bool → List (List ℕ) → Type 0) (ks : CompsD) → IsGathered k.size P stands ds ks → IsWithin k (coll ks)
+  pub loop_within : (P : NamedValues → PointValue → Type 0) (stands : Bool → List (List ℕ) → Type 0) (ks : CompsD) → IsGatheredInside k.size P stands ds ks → HasMembersOnlyWhereAdmitted k (coll ks)
   loop_within P stands ks gathered c l w is =
       admitted_outside k x t ds entered c l (λ s. (v : PointValue) × P s v × IsIn w v) ((gathered.members c l w).0 (member_in w (point (coll ks) c) is))

@@ -16,14 +16,14 @@ use Rattle.lois_meaning.specs.declared.faults.Fault.{Fault}
 use Rattle.lois_answers.specs.declared.faults.FaultKind.{FaultKind}
 use Rattle.lois_script.specs.declared.syntax.Operation.{Operation}
 use Rattle.lois_algebra.specs.Parts.{part_at, part_of}
-use Rattle.lois_meaning.specs.Kinds.{IsAtomAt, IsAtomValue, IsOneOf, parts_at}
+use Rattle.lois_meaning.specs.Kinds.{IsAtomAt, IsAtomValue, IsOneOf, part_values}
 use Rattle.lois_meaning.specs.Store.{NamedValues}
 use Rattle.lois_script.specs.Tree.{ExprD, atoms, var, tuple, listed, part, apply, ExprsD, no_exprs, expr, pos}
 use Rattle.lois_meaning.proofs.Alike.{are_same_refl}
 use Rattle.lois_context.specs.Slots.{store_at, comps_in}
 use Rattle.lois_context.specs.Choices.{AdmitsContext}
 use Rattle.lois_context.specs.declared.contexts.Context.{Context}
-use Rattle.lois_terms.specs.Guarded.{IsSet as IsSetTerm}
+use Rattle.lois_terms.specs.Guarded.{IsColl as IsSetTerm}
 use Rattle.lois_eval.specs.Evaluated.{IsTermOf, AreTermsOf}
 use Rattle.lois_eval.specs.Checks.{IsDepthFault}
 use Rattle.lois_eval.specs.Operands.{IsAppliedThroughout, IsUnfitAmong, IsUnfitFault}
@@ -60,25 +60,25 @@ module _ (k : Context) where
 
   pub tuple_made : (p : ℕ) (es : ExprsD) (o : Bool) (ts : List TermD) → IsWellFormedIn (IsWellFormed (tuple p es)) o k → AreTermsOf k es (IsWellFormed (tuple p es)) ts → IsTermOf k (Makes (tuple p es)) (IsWellFormed (tuple p es)) (tup (terms_of ts))
   tuple_made p es o ts placed all = record {
-    value = λ c a. (parts_at (terms_of ts) c, parts_at (terms_of ts) c, all.values c a, refl, are_same_refl (parts_at (terms_of ts) c));
+    value = λ c a. (part_values (terms_of ts) c, part_values (terms_of ts) c, all.values c a, refl, are_same_refl (part_values (terms_of ts) c));
     levels = all.levels;
     operators = all.operators;
     widths = λ h. (omega (arith, placed.names.0, parts_count ts, all.count), omega (arith, placed.names.1, parts_count ts, all.count), all.widths h);
   }
 
-  bare_member : (ts : List TermD) (c : List Atom) (w : PointValue) → IsIn w (point (coll (comps_of (map bare ts))) c) ↔ IsOneOf w (parts_at (terms_of ts) c)
+  bare_member : (ts : List TermD) (c : List Atom) (w : PointValue) → IsIn w (point (coll (comps_of (map bare ts))) c) ↔ IsOneOf w (part_values (terms_of ts) c)
   bare_member ts c w = (λ (u, m, same). to ts u m same, λ h. from ts h)
     where
       plain : (t : TermD) (u : PointValue) (e : List Atom) → length e ≡ 0 → u.term_of ≡ t → u.choice ≡ c ++ e → IsSame w u → IsSame w (point t c)
       plain t u [] l p q same = subst (λ z. IsSame w z) (ap (λ y. point y u.choice) p ∙ ap (point t) (q ∙ append-nil c)) same
       plain t u (a ∷ e) l p q same = absurd (omega (arith, l))
 
-      to : (ts : List TermD) (u : PointValue) → MemberAt u.term_of u.choice (comps_of (map bare ts)) c → IsSame w u → IsOneOf w (parts_at (terms_of ts) c)
+      to : (ts : List TermD) (u : PointValue) → MemberAt u.term_of u.choice (comps_of (map bare ts)) c → IsSame w u → IsOneOf w (part_values (terms_of ts) c)
       to [] u m same = absurd m
       to (t ∷ ts) u (inl (e, is, p, q)) same = inl (plain t u e is.count p q same)
       to (t ∷ ts) u (inr m) same = inr (to ts u m same)
 
-      from : (ts : List TermD) → IsOneOf w (parts_at (terms_of ts) c) → IsIn w (point (coll (comps_of (map bare ts))) c)
+      from : (ts : List TermD) → IsOneOf w (part_values (terms_of ts) c) → IsIn w (point (coll (comps_of (map bare ts))) c)
       from [] h = absurd h
       from (t ∷ ts) (inl same) = (point t c, inl ([], record { count = refl; guard = refl }, refl, sym (append-nil c)), same)
       from (t ∷ ts) (inr h) = let r = from ts h in (r.0, inr r.1, r.2)
@@ -99,7 +99,7 @@ module _ (k : Context) where
 
   pub listed_made : (p : ℕ) (es : ExprsD) (ts : List TermD) (t : TermD) → k.size < 2 ^ 64 → AreTermsOf k es (IsWellFormed (listed p es)) ts → t ≡ coll (comps_of (map bare ts)) → IsTermOf k (Makes (listed p es)) (IsWellFormed (listed p es)) t
   listed_made p es ts t room all is = subst (IsTermOf k (Makes (listed p es)) (IsWellFormed (listed p es))) (sym is) (record {
-    value = λ c a. (parts_at (terms_of ts) c, all.values c a, (tt, λ w. bare_member ts c w));
+    value = λ c a. (part_values (terms_of ts) c, all.values c a, (tt, λ w. bare_member ts c w));
     levels = bare_fits k.size ts all.levels room;
     operators = λ o h. bare_admits o ts (all.operators o h);
     widths = λ h. bare_widths ts (all.widths h);
@@ -111,7 +111,7 @@ module _ (k : Context) where
   part_kept P Each split (term s ts) zero t h e = let is : s ≡ t = cc in subst P is (split s ts h).0
   part_kept P Each split (term s ts) (suc i) t h e = part_kept P Each split ts i t (split s ts h).1 e
 
-  is_part : (ts : TermsD) (i : ℕ) (t : TermD) (c : List Atom) → part_at ts i ≡ Some t → IsPartOf (point t c) (parts_at ts c) (suc i)
+  is_part : (ts : TermsD) (i : ℕ) (t : TermD) (c : List Atom) → part_at ts i ≡ Some t → IsPartOf (point t c) (part_values ts c) (suc i)
   is_part no_terms i t c e = absurd (cc)
   is_part (term s ts) zero t c e = let is : s ≡ t = cc in subst (λ z. IsSame (point t c) (point z c)) (sym is) (same_refl (point t c))
   is_part (term s ts) (suc i) t c e = is_part ts i t c e
@@ -122,7 +122,7 @@ module _ (k : Context) where
       of_tuple : (n : ℕ) → part_of (tup ts) n ≡ Some t → IsTermOf k (Makes (part p e n)) (IsWellFormed (part p e n)) t
       of_tuple zero is = absurd (cc)
       of_tuple (suc i) is = record {
-        value = λ c a. (point (tup ts) c, parts_at ts c, whole.value c a, refl, is_part ts i t c is);
+        value = λ c a. (point (tup ts) c, part_values ts c, whole.value c a, refl, is_part ts i t c is);
         levels = part_kept (Fits k.size) (PartsFit k.size) (λ t ts h. h) ts i t whole.levels is;
         operators = λ o h. part_kept (AdmitsTerm o) (AdmitsParts o) (λ t ts h. h) ts i t (whole.operators o (record { names = h.names; operators = h.operators })) is;
         widths = λ h. part_kept HasBoundedWidths PartsHaveBoundedWidths (λ t ts h. h) ts i t (whole.widths h).2 is;
@@ -143,18 +143,18 @@ module _ (k : Context) where
   pub apply_made : (p : ℕ) (op : Operation) (es : ExprsD) (ts : List TermD) (t : TermD) → AreTermsOf k es (IsWellFormed (apply p op es)) ts → IsAppliedThroughout k op ts t → Fits k.size t →
       ((o : Bool) → AdmitsContext o k → AdmitsParts o (terms_of ts) → AdmitsTerm o t) → (PartsHaveBoundedWidths (terms_of ts) → HasBoundedWidths t) → IsTermOf k (Makes (apply p op es)) (IsWellFormed (apply p op es)) t
   apply_made p op es ts t all applied fits admits widths = record {
-    value = λ c a. (parts_at (terms_of ts) c, all.values c a, (applied c a).0, (applied c a).1);
+    value = λ c a. (part_values (terms_of ts) c, all.values c a, (applied c a).0, (applied c a).1);
     levels = fits;
     operators = λ o h. admits o h.operators (all.operators o h);
     widths = λ h. widths (all.widths h);
   }
 
-  unfit_fails : (op : Operation) (es : ExprsD) (ts : TermsD) (s : NamedValues) (c : List Atom) (at : ℕ) (kind : FaultKind) → GiveAll es s (parts_at ts c) → IsUnfitAmong op es ts c at kind → SomeOperandFails (IsInvalidOperand op) es s at kind
+  unfit_fails : (op : Operation) (es : ExprsD) (ts : TermsD) (s : NamedValues) (c : List Atom) (at : ℕ) (kind : FaultKind) → GiveAll es s (part_values ts c) → IsUnfitAmong op es ts c at kind → SomeOperandFails (IsInvalidOperand op) es s at kind
   unfit_fails op no_exprs ts s c at kind g h = h
   unfit_fails op (expr e es) no_terms s c at kind g h = absurd h
   unfit_fails op (expr e es) (term t ts) s c at kind (v, more, is, own, rest) h =
       let first : point t c ≡ v = cc in
-      let others : parts_at ts c ≡ more = cc in
+      let others : part_values ts c ≡ more = cc in
       elim h [
         | inl u ↦ inl (u.0, point t c, subst (Gives e s) (sym first) own, u.1)
         | inr u ↦ inr (unfit_fails op es ts s c at kind (subst (GiveAll es s) (sym others) rest) u)
@@ -179,10 +179,10 @@ no_part_at : (t : TermD) (n : ℕ) (c : List Atom) (kind : FaultKind) → kind �
 no_part_at (t_var i) n c kind e h = inl (e, λ us p. p)
 no_part_at (t_tag x) n c kind e h = inl (e, λ us p. p)
 no_part_at (coll ks) n c kind e h = inl (e, λ us p. p)
-no_part_at (tup ts) zero c kind e h = inr (e, parts_at ts c, refl, inl refl)
-no_part_at (tup ts) (suc i) c kind e h = inr (e, parts_at ts c, refl, inr (beyond ts i h))
+no_part_at (tup ts) zero c kind e h = inr (e, part_values ts c, refl, inl refl)
+no_part_at (tup ts) (suc i) c kind e h = inr (e, part_values ts c, refl, inr (beyond ts i h))
   where
-    beyond : (ts : TermsD) (i : ℕ) → part_at ts i ≡ None → length (parts_at ts c) < suc i
+    beyond : (ts : TermsD) (i : ℕ) → part_at ts i ≡ None → length (part_values ts c) < suc i
     beyond no_terms i h = omega arith
     beyond (term t ts) zero h = absurd (cc)
     beyond (term t ts) (suc i) h = omega (arith, beyond ts i h)

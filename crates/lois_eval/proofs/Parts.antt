@@ -9,7 +9,7 @@ use Rattle.lois_base.specs.Validity.{AdmitsTerm, AdmitsParts, HasBoundedWidths, 
 use Rattle.lois_base.specs.Values.{PointValue, point}
 use Rattle.lois_meaning.specs.Expressions.{Gives, GiveAll, HasTruth, HaveTruths}
 use Rattle.lois_meaning.specs.Faults.{Fails, SomeFails, CondFails, SomeCondFails}
-use Rattle.lois_meaning.specs.Kinds.{parts_at}
+use Rattle.lois_meaning.specs.Kinds.{part_values}
 use Rattle.lois_meaning.specs.Store.{NamedValues}
 use Rattle.lois_script.specs.Tree.{ExprD, ExprsD, CondD, CondsD}
 use Rattle.lois_script.specs.View.{tree, cond_tree, exprs_of, conds_of}
@@ -51,7 +51,7 @@ give_all_more [] e s vs v h g = (v, [], ap (λ z. z ++ v ∷ []) h, g, refl)
 give_all_more (d ∷ es) e s vs v (w, more, is, own, rest) g =
     (w, more ++ v ∷ [], ap (λ z. z ++ v ∷ []) is, own, give_all_more es e s more v rest g)
 
-pub parts_at-append : (ts : List TermD) (t : TermD) (c : List Atom) → parts_at (terms_of (ts ++ t ∷ [])) c ≡ parts_at (terms_of ts) c ++ point t c ∷ []
+pub parts_at-append : (ts : List TermD) (t : TermD) (c : List Atom) → part_values (terms_of (ts ++ t ∷ [])) c ≡ part_values (terms_of ts) c ++ point t c ∷ []
 parts_at-append [] t c = refl
 parts_at-append (s ∷ ts) t c = ap (λ z. point s c ∷ z) (parts_at-append ts t c)
 

@@ -22,10 +22,10 @@ use Rattle.lois_context.specs.Choices.{IsAdmitted, AdmitsContext}
 use Rattle.lois_context.specs.Entered.{AreEntered, IsLoopContext}
 use Rattle.lois_context.specs.Slots.{SlotD, IsNew, slot_name, store_at}
 use Rattle.lois_context.specs.declared.contexts.Context.{Context}
-use Rattle.lois_terms.specs.Guarded.{IsSet as IsSetTerm}
+use Rattle.lois_terms.specs.Guarded.{IsColl as IsSetTerm}
 use Rattle.lois_eval.specs.Checks.{IsTruncatedFrom}
-use Rattle.lois_eval.specs.Evaluated.{IsTermOf, IsConstraintOf, IsWithin}
-use Rattle.lois_eval.specs.Folded.{IsGathered, IsFoundInside, IsFaultInside}
+use Rattle.lois_eval.specs.Evaluated.{IsTermOf, IsConstraintOf, HasMembersOnlyWhereAdmitted}
+use Rattle.lois_eval.specs.Folded.{IsGatheredInside, IsFoundInside, IsFaultInside}
 use Rattle.lois_eval.specs.Forms.{quantifier}
 use Rattle.lois_eval.specs.WellFormed.{IsWellFormedIn, IsUnnamed, IsWellFormed, CondIsWellFormed, names_of}
 use Rattle.lois_eval.specs.Throughout.{Failure, IsFaultOf}
@@ -69,7 +69,7 @@ module _ (k : Context) (x : List ℕ) (t : TermD) (ds : List Context) (is_set : 
   set_value c = set_at t c is_set
 
   module _ (q : ℕ) (e : ExprD) (elements : IsTermOf k (Gives e) (IsWellFormed e) t) where
-    pub each_loop : (p : ℕ) (item : ExprD) (rest : BindingsD) (cond : CondD) (ks : CompsD) → IsGathered k.size (Makes (each 0 item rest cond)) (IsWellFormed (each 0 item rest cond)) ds ks →
+    pub each_loop : (p : ℕ) (item : ExprD) (rest : BindingsD) (cond : CondD) (ks : CompsD) → IsGatheredInside k.size (Makes (each 0 item rest cond)) (IsWellFormed (each 0 item rest cond)) ds ks →
         IsTermOf k (Makes (each p item (bind (binding q x e) rest) cond)) (IsWellFormed (each p item (bind (binding q x e) rest) cond)) (coll ks)
     each_loop p item rest cond ks gathered = record {
       value = loop_makes k x t ds entered q e elements.value set_value p item rest cond (IsWellFormed (each 0 item rest cond)) ks gathered;
@@ -78,7 +78,7 @@ module _ (k : Context) (x : List ℕ) (t : TermD) (ds : List Context) (is_set : 
       widths = λ h. gathered.widths (entered.widths h (elements.widths h));
     }
 
-    pub each_loop_within : (item : ExprD) (rest : BindingsD) (cond : CondD) (ks : CompsD) → IsGathered k.size (Makes (each 0 item rest cond)) (IsWellFormed (each 0 item rest cond)) ds ks → IsWithin k (coll ks)
+    pub each_loop_within : (item : ExprD) (rest : BindingsD) (cond : CondD) (ks : CompsD) → IsGatheredInside k.size (Makes (each 0 item rest cond)) (IsWellFormed (each 0 item rest cond)) ds ks → HasMembersOnlyWhereAdmitted k (coll ks)
     each_loop_within item rest cond ks gathered =
         loop_within k x t ds entered (Makes (each 0 item rest cond)) (IsWellFormed (each 0 item rest cond)) ks gathered
 

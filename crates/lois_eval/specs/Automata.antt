@@ -45,7 +45,7 @@ pub record AreOperands (o : Bool) (k : Context) (op : Operation) (es : List Expr
 
 -- The term is what the operation makes of these values. It fits the context, and has only operators that the context and the
 -- values have.
-pub record IsMadeOf (k : Context) (op : Operation) (ts : List TermD) (t : TermD) : Type 0 where
+pub record IsOperationResult (k : Context) (op : Operation) (ts : List TermD) (t : TermD) : Type 0 where
   pub applied : IsAppliedThroughout k op ts t
   pub levels : Fits k.size t
   pub operators : (o : Bool) → AdmitsContext o k → AdmitsParts o (terms_of ts) → AdmitsTerm o t
@@ -63,6 +63,6 @@ pub record IsValueFault (k : Context) (row : PointValue → FaultKind → Type 0
   pub unfit : row (point t (sampled f.sample.items)) f.kind
 
 -- the fault of a verdict that something fails, with its sample
-abbrev pub IsFailed : Verdict → Pos → FaultKind → Fault → Type 0
-IsFailed Holds at kind f = ⊥
-IsFailed (Fails s) at kind f = IsFaultWith at kind s.items f
+abbrev pub IsFailureOfVerdict : Verdict → Pos → FaultKind → Fault → Type 0
+IsFailureOfVerdict Holds at kind f = ⊥
+IsFailureOfVerdict (Fails s) at kind f = IsFaultWith at kind s.items f

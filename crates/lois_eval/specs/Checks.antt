@@ -5,7 +5,7 @@ use Rattle.lois_base.specs.Truth.{holds, sampled}
 use Rattle.lois_base.specs.declared.guards.Lit.{Lit}
 use Rattle.lois_deciders.specs.Satisfaction.{IsSmall}
 use Rattle.lois_base.specs.Values.{point, IsDeeper}
-use Rattle.lois_terms.specs.Guarded.{IsSet}
+use Rattle.lois_terms.specs.Guarded.{IsColl}
 use Rattle.lois_meaning.specs.Store.{depth_limit}
 use Rattle.lois_meaning.specs.declared.faults.Fault.{Fault}
 use Rattle.lois_answers.specs.declared.faults.FaultKind.TheVariants.{NotASet, NotAtoms, DepthLimit}
@@ -43,7 +43,7 @@ pub record IsFaultAt (k : Context) (at : ℕ) (f : Fault) : Type 0 where
 pub record IsSetFault (k : Context) (t : TermD) (at : ℕ) (f : Fault) : Type 0 where
   pub fault : IsFaultAt k at f
   pub kind : f.kind ≡ NotASet
-  pub no_set : IsSet t → ⊥
+  pub no_set : IsColl t → ⊥
 
 pub record IsAtomFault (k : Context) (t : TermD) (at : ℕ) (f : Fault) : Type 0 where
   pub fault : IsFaultAt k at f

@@ -8,7 +8,7 @@ use Rattle.lois_base.specs.Validity.{AdmitsConstraint, AdmitsTerm, AdmitsParts, 
 use Rattle.lois_base.specs.Values.{PointValue, point, IsMember}
 use Rattle.lois_base.specs.declared.guards.Lit.{Lit}
 use Rattle.lois_meaning.specs.Expressions.{GiveAll}
-use Rattle.lois_meaning.specs.Kinds.{parts_at}
+use Rattle.lois_meaning.specs.Kinds.{part_values}
 use Rattle.lois_meaning.specs.Store.{NamedValues}
 use Rattle.lois_script.specs.Tree.{ExprsD}
 use Rattle.lois_context.specs.Choices.{IsAdmitted, ContextHasBoundedWidths}
@@ -27,7 +27,7 @@ pub record IsTermOf (k : Context) (P : NamedValues → PointValue → Type 0) (s
 -- the same of terms for a list of expressions
 pub record AreTermsOf (k : Context) (es : ExprsD) (stands : Bool → List (List ℕ) → Type 0) (ts : List TermD) : Type 0 where
   pub count : length ts ≡ count_of es
-  pub values : (c : List Atom) → IsAdmitted c k → GiveAll es (store_at c k.store) (parts_at (terms_of ts) c)
+  pub values : (c : List Atom) → IsAdmitted c k → GiveAll es (store_at c k.store) (part_values (terms_of ts) c)
   pub levels : PartsFit k.size (terms_of ts)
   pub operators : (o : Bool) → IsWellFormedIn stands o k → AdmitsParts o (terms_of ts)
   pub widths : ContextHasBoundedWidths k → PartsHaveBoundedWidths (terms_of ts)
@@ -39,5 +39,5 @@ pub record IsConstraintOf (k : Context) (P : NamedValues → Bool → Type 0) (s
   pub operators : (o : Bool) → IsWellFormedIn stands o k → AdmitsConstraint o g
 
 -- The set has members only where the context admits the choice.
-abbrev pub IsWithin : Context → TermD → Type 0
-IsWithin k t = (c : List Atom) → length c ≡ k.size → (w : PointValue) → IsMember w (point t c) → IsAdmitted c k
+abbrev pub HasMembersOnlyWhereAdmitted : Context → TermD → Type 0
+HasMembersOnlyWhereAdmitted k t = (c : List Atom) → length c ≡ k.size → (w : PointValue) → IsMember w (point t c) → IsAdmitted c k

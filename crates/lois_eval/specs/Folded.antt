@@ -32,7 +32,7 @@ abbrev pub IsEverywhereInside : List Context → (NamedValues → Type 0) → Ty
 IsEverywhereInside ds P = (d : Context) → Contains ds d → (c : List Atom) → IsAdmitted c d → P (store_at c d.store)
 
 -- The set outside, over n levels, of all that is in the values of which P holds inside.
-pub record IsGathered (n : ℕ) (P : NamedValues → PointValue → Type 0) (stands : Bool → List (List ℕ) → Type 0) (ds : List Context) (ks : CompsD) : Type 0 where
+pub record IsGatheredInside (n : ℕ) (P : NamedValues → PointValue → Type 0) (stands : Bool → List (List ℕ) → Type 0) (ds : List Context) (ks : CompsD) : Type 0 where
   pub made : IsEverywhereInside ds (λ s. (v : PointValue) × P s v)
   pub members : (c : List Atom) → length c ≡ n → (w : PointValue) → IsIn w (point (coll ks) c) ↔ IsSomewhereInside ds c (λ s. (v : PointValue) × P s v × IsIn w v)
   pub levels : ItemsFit n ks

@@ -52,10 +52,10 @@ IsComposed (listed p es) = Unit {0}
 IsComposed (apply p op es) = Unit {0}
 IsComposed _ = ⊥
 
-abbrev pub IsComparison : CondD → Type 0
-IsComparison (same e f) = Unit {0}
-IsComparison (differ e f) = Unit {0}
-IsComparison (below p e f) = Unit {0}
-IsComparison (member e f) = Unit {0}
-IsComparison (included e f) = Unit {0}
-IsComparison _ = ⊥
+abbrev pub IsComparisonCond : CondD → Type 0
+IsComparisonCond (same e f) = Unit {0}
+IsComparisonCond (differ e f) = Unit {0}
+IsComparisonCond (below p e f) = Unit {0}
+IsComparisonCond (member e f) = Unit {0}
+IsComparisonCond (included e f) = Unit {0}
+IsComparisonCond _ = ⊥

@@ -7,7 +7,7 @@ use Rattle.lois_base.specs.Validity.{AdmitsTerm, HasBoundedWidths}
 use Rattle.lois_base.specs.Values.{PointValue, point, IsMember}
 use Rattle.lois_meaning.specs.Expressions.{AreValidOperands, IsResultOf}
 use Rattle.lois_meaning.specs.Faults.{IsInvalidOperand}
-use Rattle.lois_meaning.specs.Kinds.{parts_at, IsSet}
+use Rattle.lois_meaning.specs.Kinds.{part_values, IsSet}
 use Rattle.lois_script.specs.Tree.{ExprsD, expr, pos}
 use Rattle.lois_algebra.specs.Sets.{IsSetOfSets}
 use Rattle.lois_answers.specs.declared.faults.FaultKind.{FaultKind}
@@ -18,7 +18,7 @@ use Rattle.lois_script.specs.declared.syntax.Operation.TheVariants.{Union, Inter
 use Rattle.lois_base.specs.Truth.{sampled}
 use Rattle.lois_context.specs.Choices.{IsAdmitted}
 use Rattle.lois_context.specs.Entered.{HasNoMembers, item_of}
-use Rattle.lois_terms.specs.Guarded.{IsSet as IsSetTerm}
+use Rattle.lois_terms.specs.Guarded.{IsColl as IsSetTerm}
 use Rattle.lois_context.specs.declared.contexts.Context.{Context}
 use Rattle.lois_eval.specs.Checks.{IsFaultAt}
 
@@ -32,7 +32,7 @@ IsOfTwoSets _ = ⊥
 -- at each choice that the context admits the operands fit the operation, and t is what it makes of them
 abbrev pub IsAppliedThroughout : Context → Operation → List TermD → TermD → Type 0
 IsAppliedThroughout k op ts t =
-    (c : List Atom) → IsAdmitted c k → AreValidOperands (parts_at (terms_of ts) c) op × IsResultOf (point t c) op (parts_at (terms_of ts) c)
+    (c : List Atom) → IsAdmitted c k → AreValidOperands (part_values (terms_of ts) c) op × IsResultOf (point t c) op (part_values (terms_of ts) c)
 
 -- one of the terms has a value that is unfit for the operation, and the place of its expression is this one
 abbrev pub IsUnfitAmong : Operation → ExprsD → TermsD → List Atom → ℕ → FaultKind → Type 0
@@ -55,8 +55,8 @@ pub record HasSetsOf (k : Context) (t r : TermD) : Type 0 where
   pub widths : HasBoundedWidths t → HasBoundedWidths r
 
 -- The comprehension is put behind the others if its item is a set, and else left out, since it has no members.
-abbrev pub IsKept : Context → CompD → List CompD → List CompD → Type 0
-IsKept k l before after = (IsSetTerm (item_of l) × (after ≡ before ++ l ∷ [])) ⊎ (HasNoMembers k l × (after ≡ before))
+abbrev pub IsKeptIfSet : Context → CompD → List CompD → List CompD → Type 0
+IsKeptIfSet k l before after = (IsSetTerm (item_of l) × (after ≡ before ++ l ∷ [])) ⊎ (HasNoMembers k l × (after ≡ before))
 
 -- some member of t is no set at the fault's sample, which the context admits
 pub record IsMemberFault (k : Context) (t : TermD) (at : ℕ) (f : Fault) : Type 0 where

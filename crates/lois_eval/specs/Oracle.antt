@@ -19,13 +19,13 @@ use Rattle.lois_script.specs.View.{exprs_of, exprs_list}
 use Rattle.lois_script.specs.declared.syntax.Exprs.{Exprs}
 use Rattle.lois_script.specs.declared.syntax.Operation.{Operation}
 use Rattle.lois_script.specs.declared.syntax.Pos.{Pos}
-use Rattle.lois_terms.specs.Guarded.{IsSet}
+use Rattle.lois_terms.specs.Guarded.{IsColl}
 use Rattle.lois_context.specs.Choices.{IsAdmitted, IsAdmittedBy, AdmitsContext}
 use Rattle.lois_context.specs.Entered.{AreEntered}
 use Rattle.lois_context.specs.Sides.{IsSide}
 use Rattle.lois_context.specs.Slots.{IsNew}
 use Rattle.lois_context.specs.declared.contexts.Context.{Context}
-use Rattle.lois_eval.specs.Automata.{AreOperands, IsEmptiness, IsMadeOf, IsValueFault}
+use Rattle.lois_eval.specs.Automata.{AreOperands, IsEmptiness, IsOperationResult, IsValueFault}
 use Rattle.lois_eval.specs.Operands.{IsUnfitFault}
 use Rattle.lois_eval.specs.Throughout.{IfFault}
 
@@ -49,8 +49,8 @@ EmptyCalls F D =
 
 -- it may be called for a set of the context's levels and a new name, and answers with the contexts for its members
 pub record EntersLoops {F D : Type 0} (pre : F → MutBor D → Global → Bor Context → Bor Term → Bor (List ℕ) → Type 0) (post : LoopCalls F D) : Type 0 where
-  pub callable : (f : F) (d : MutBor D) (m : Global) (k : Bor Context) (t : Bor Term) (x : Bor (List ℕ)) → Fits k.now.size (tree t.now) → IsSet (tree t.now) → IsNew x.now k.now.store → pre f d m k t x
-  pub entered : (f : F) (d e : MutBor D) (m : Global) (k : Bor Context) (t : Bor Term) (x : Bor (List ℕ)) (r : Result (Vec Context) NoMemory) → Fits k.now.size (tree t.now) → IsSet (tree t.now) → IsNew x.now k.now.store → post f d m k t x r e → IfOk r (λ inner. AreEntered k.now x.now (tree t.now) inner.items)
+  pub callable : (f : F) (d : MutBor D) (m : Global) (k : Bor Context) (t : Bor Term) (x : Bor (List ℕ)) → Fits k.now.size (tree t.now) → IsColl (tree t.now) → IsNew x.now k.now.store → pre f d m k t x
+  pub entered : (f : F) (d e : MutBor D) (m : Global) (k : Bor Context) (t : Bor Term) (x : Bor (List ℕ)) (r : Result (Vec Context) NoMemory) → Fits k.now.size (tree t.now) → IsColl (tree t.now) → IsNew x.now k.now.store → post f d m k t x r e → IfOk r (λ inner. AreEntered k.now x.now (tree t.now) inner.items)
 
 -- it may be called for a condition over the context's levels, and answers with the side where that holds
 pub record KeepsSides {F D : Type 0} (pre : F → MutBor D → Global → Bor Context → Bor Constraint → Type 0) (post : SideCalls F D) : Type 0 where
@@ -62,7 +62,7 @@ pub record KeepsSides {F D : Type 0} (pre : F → MutBor D → Global → Bor Co
 -- it may be called for operands of an operation on automata, and answers with what the operation makes of them
 pub record AppliesToAutomata {F D : Type 0} (o : Bool) (pre : F → MutBor D → Global → Operation → Bor Exprs → Bor (List TermD) → Bor Context → Type 0) (post : ApplyCalls F D) : Type 0 where
   pub callable : (f : F) (d : MutBor D) (m : Global) (op : Operation) (es : Bor Exprs) (ts : Bor (List TermD)) (k : Bor Context) → AreOperands o k.now op (exprs_list es.now) ts.now → pre f d m op es ts k
-  pub made : (f : F) (d e : MutBor D) (m : Global) (op : Operation) (es : Bor Exprs) (ts : Bor (List TermD)) (k : Bor Context) (r : Result Term Stop) → AreOperands o k.now op (exprs_list es.now) ts.now → post f d m op es ts k r e → IfOk r (λ t. IsMadeOf k.now op ts.now (tree t))
+  pub made : (f : F) (d e : MutBor D) (m : Global) (op : Operation) (es : Bor Exprs) (ts : Bor (List TermD)) (k : Bor Context) (r : Result Term Stop) → AreOperands o k.now op (exprs_list es.now) ts.now → post f d m op es ts k r e → IfOk r (λ t. IsOperationResult k.now op ts.now (tree t))
   pub fault : (f : F) (d e : MutBor D) (m : Global) (op : Operation) (es : Bor Exprs) (ts : Bor (List TermD)) (k : Bor Context) (r : Result Term Stop) → AreOperands o k.now op (exprs_list es.now) ts.now → post f d m op es ts k r e → IfErr r (λ s. IfFault s (IsUnfitFault k.now op (exprs_of (exprs_list es.now)) (terms_of ts.now)))
 
 -- it may be called for a value of the context's levels, and answers where that accepts no word

@@ -37,9 +37,9 @@ arity Complement = 1
 arity Minimise = 1
 
 -- the names in scope behind the binders
-abbrev pub names_behind : BindingsD → List (List ℕ) → List (List ℕ)
-names_behind no_bindings xs = xs
-names_behind (bind (binding p x e) bs) xs = names_behind bs (xs ++ x ∷ [])
+abbrev pub names_behind_bindings : BindingsD → List (List ℕ) → List (List ℕ)
+names_behind_bindings no_bindings xs = xs
+names_behind_bindings (bind (binding p x e) bs) xs = names_behind_bindings bs (xs ++ x ∷ [])
 
 -- An expression stands where exactly the names xs are in scope, over atoms with an order or without one: each name that it
 -- uses is one of them, each name that it binds is new there, `<` needs an order, a tuple has 2 to 8 parts, and an operation
@@ -52,7 +52,7 @@ abbrev mutual
   IsWellFormed (tuple p es) o xs = (2 ≤ count_of es) × (count_of es ≤ 8) × AreWellFormed es o xs
   IsWellFormed (listed p es) o xs = AreWellFormed es o xs
   IsWellFormed (each p item bs c) o xs =
-      BindersAreWellFormed bs o xs × IsWellFormed item o (names_behind bs xs) × CondIsWellFormed c o (names_behind bs xs)
+      BindersAreWellFormed bs o xs × IsWellFormed item o (names_behind_bindings bs xs) × CondIsWellFormed c o (names_behind_bindings bs xs)
   IsWellFormed (part p e n) o xs = IsWellFormed e o xs
   IsWellFormed (apply p op es) o xs = (count_of es ≡ arity op) × AreWellFormed es o xs
 

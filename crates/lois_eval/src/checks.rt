@@ -8,7 +8,7 @@ ghost use Rattle.lois_base.specs.Truth.{holds};
 ghost use Rattle.lois_base.specs.Validity.{AdmitsTerm};
 ghost use Rattle.lois_base.specs.Values.{point, IsDeeper};
 ghost use Rattle.lois_meaning.specs.Store.{depth_limit, IsShallow};
-ghost use Rattle.lois_terms.specs.Guarded.{IsSet};
+ghost use Rattle.lois_terms.specs.Guarded.{IsColl};
 ghost use Rattle.lois_context.specs.Choices.{IsAdmitted};
 ghost use Rattle.lois_eval.specs.Checks.{IsSetFault, IsDepthFault};
 ghost use Rattle.lois_eval.specs.Throughout.{IfFault};
@@ -28,7 +28,7 @@ use std::alloc::Global;
 
 /// Errors: a fault at the place where the term is no set.
 pub(crate) fn check_set(alloc: Global, pos: Pos, term: &Term, context: &Context) -> Result<(), Stop>
-    ensures set { OnOk result (IsSet (tree term.now)) }
+    ensures set { OnOk result (IsColl (tree term.now)) }
     ensures fault { IfErr result (λ s. IfFault s (IsSetFault context.now (tree term.now) pos.offset)) }
 {
     match term {

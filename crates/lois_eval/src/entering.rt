@@ -8,7 +8,7 @@ ghost use Rattle.lois_base.specs.Truth.{holds};
 ghost use Rattle.lois_base.specs.Validity.{AdmitsConstraint};
 ghost use Rattle.lois_context.specs.Entered.{AreEntered};
 ghost use Rattle.lois_context.specs.Slots.{IsNew};
-ghost use Rattle.lois_terms.specs.Guarded.{IsSet};
+ghost use Rattle.lois_terms.specs.Guarded.{IsColl};
 ghost use Rattle.lois_eval.specs.Checks.{IsSetFault, IsTruncated};
 ghost use Rattle.lois_eval.specs.Throughout.{IfFault};
 
@@ -34,7 +34,7 @@ pub(crate) fn entered<T: Structure, D: Oracle<T>>(
     requires sound { D.sound }
     requires levels { Fits context.now.size (tree elements) }
     requires new_name { IsNew name.now context.now.store }
-    ensures set { IfOk result (λ r. IsSet (tree elements)) }
+    ensures set { IfOk result (λ r. IsColl (tree elements)) }
     ensures entered { IfOk result (λ r. AreEntered context.now name.now (tree elements) r.items) }
     ensures fault { IfErr result (λ s. IfFault s (IsSetFault context.now (tree elements) pos.offset)) }
     ensures asked { D.reaches decider.old decider.new }

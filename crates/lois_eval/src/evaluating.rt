@@ -14,15 +14,15 @@ ghost use Rattle.lois_meaning.specs.Expressions.{Gives, Makes, HasTruth};
 ghost use Rattle.lois_meaning.specs.Faults.{Fails, Breaks, SomeFails, CondFails, IsNoAutomaton};
 ghost use Rattle.lois_script.specs.Tree.{each};
 ghost use Rattle.lois_script.specs.View.{tree, cond_tree, binding_tree, exprs_of, exprs_list, bindings_of, conds_of, conds_list};
-ghost use Rattle.lois_terms.specs.Guarded.{IsSet};
+ghost use Rattle.lois_terms.specs.Guarded.{IsColl};
 ghost use Rattle.lois_context.specs.Choices.{IsAdmitted, IsAdmittedBy, AdmitsContext, ContextHasBoundedWidths};
 ghost use Rattle.lois_context.specs.Entered.{AreEntered};
 ghost use Rattle.lois_context.specs.Sides.{IsSide};
 ghost use Rattle.lois_context.specs.Slots.{IsNew};
-ghost use Rattle.lois_eval.specs.Automata.{AreOperands, IsEmptiness, IsMadeOf, IsValueFault};
+ghost use Rattle.lois_eval.specs.Automata.{AreOperands, IsEmptiness, IsOperationResult, IsValueFault};
 ghost use Rattle.lois_eval.specs.Checks.{MeetsBoth};
-ghost use Rattle.lois_eval.specs.Evaluated.{IsTermOf, AreTermsOf, IsConstraintOf, IsWithin};
-ghost use Rattle.lois_eval.specs.Folded.{IsGathered, IsFoundInside, IsFaultInside};
+ghost use Rattle.lois_eval.specs.Evaluated.{IsTermOf, AreTermsOf, IsConstraintOf, HasMembersOnlyWhereAdmitted};
+ghost use Rattle.lois_eval.specs.Folded.{IsGatheredInside, IsFoundInside, IsFaultInside};
 ghost use Rattle.lois_eval.specs.Forms.{each_from, joint, quantifier, two};
 ghost use Rattle.lois_eval.specs.Operands.{IsUnfitFault};
 ghost use Rattle.lois_eval.specs.WellFormed.{IsWellFormedIn, IsWellFormed, AreWellFormed, CondIsWellFormed};
@@ -74,7 +74,7 @@ pub fn eval<T: Structure>(
         { sample(asked, alloc, a, b, size) },
         enter: |asked: &mut Chosen, alloc: Global, context: &Context, elements: &Term, name: &Name|
             requires levels { Fits context.now.size (term_tree elements.now) }
-            requires set { IsSet (term_tree elements.now) }
+            requires set { IsColl (term_tree elements.now) }
             requires new_name { IsNew name.now context.now.store }
             ensures entered { IfOk result (λ r. AreEntered context.now name.now (term_tree elements.now) r.items) }
             ensures only_asked { HasOnlyAsked (λ b. kind_of (b.vtable, b.value)) (λ b. questions (b.vtable, b.value)) asked.old asked.new }
@@ -88,7 +88,7 @@ pub fn eval<T: Structure>(
         { side(alloc, context, condition, asked) },
         apply: |asked: &mut Chosen, alloc: Global, operation: Operation, operands: &Exprs, values: &Terms, context: &Context|
             requires operands { AreOperands T.ordered context.now operation (exprs_list operands.now) values.now }
-            ensures made { IfOk result (λ r. IsMadeOf context.now operation values.now (term_tree r)) }
+            ensures made { IfOk result (λ r. IsOperationResult context.now operation values.now (term_tree r)) }
             ensures fault { IfErr result (λ s. IfFault s (IsUnfitFault context.now operation (exprs_of (exprs_list operands.now)) (terms_of values.now))) }
             ensures only_asked { HasOnlyAsked (λ b. kind_of (b.vtable, b.value)) (λ b. questions (b.vtable, b.value)) asked.old asked.new }
         { applied_to_automata::<T>(alloc, operation, operands, values, context, asked) },
@@ -133,7 +133,7 @@ pub fn decide<T: Structure>(
         { sample(asked, alloc, a, b, size) },
         enter: |asked: &mut Chosen, alloc: Global, context: &Context, elements: &Term, name: &Name|
             requires levels { Fits context.now.size (term_tree elements.now) }
-            requires set { IsSet (term_tree elements.now) }
+            requires set { IsColl (term_tree elements.now) }
             requires new_name { IsNew name.now context.now.store }
             ensures entered { IfOk result (λ r. AreEntered context.now name.now (term_tree elements.now) r.items) }
             ensures only_asked { HasOnlyAsked (λ b. kind_of (b.vtable, b.value)) (λ b. questions (b.vtable, b.value)) asked.old asked.new }
@@ -147,7 +147,7 @@ pub fn decide<T: Structure>(
         { side(alloc, context, condition, asked) },
         apply: |asked: &mut Chosen, alloc: Global, operation: Operation, operands: &Exprs, values: &Terms, context: &Context|
             requires operands { AreOperands T.ordered context.now operation (exprs_list operands.now) values.now }
-            ensures made { IfOk result (λ r. IsMadeOf context.now operation values.now (term_tree r)) }
+            ensures made { IfOk result (λ r. IsOperationResult context.now operation values.now (term_tree r)) }
             ensures fault { IfErr result (λ s. IfFault s (IsUnfitFault context.now operation (exprs_of (exprs_list operands.now)) (terms_of values.now))) }
             ensures only_asked { HasOnlyAsked (λ b. kind_of (b.vtable, b.value)) (λ b. questions (b.vtable, b.value)) asked.old asked.new }
         { applied_to_automata::<T>(alloc, operation, operands, values, context, asked) },
@@ -294,7 +294,7 @@ fn gathered<T: Structure, D: Oracle<T>>(
     requires index { from ≤ length bindings.now }
     requires placed { IsWellFormedIn (IsWellFormed (each_from item.now bindings.now from condition.now)) T.ordered context.now }
     ensures term { IfOk result (λ r. IsTermOf context.now (Makes (each_from item.now bindings.now from condition.now)) (IsWellFormed (each_from item.now bindings.now from condition.now)) (coll (comps_of r))) }
-    ensures within { IfOk result (λ r. IsWithin context.now (coll (comps_of r))) }
+    ensures within { IfOk result (λ r. HasMembersOnlyWhereAdmitted context.now (coll (comps_of r))) }
     ensures fault { IfErr result (λ s. IfFault s (IsFaultOf context.now (Breaks (each_from item.now bindings.now from condition.now)))) }
     ensures asked { D.reaches decider.old decider.new }
 {
@@ -339,7 +339,7 @@ fn gathered_here<T: Structure, D: Oracle<T>>(
     requires sound { D.sound }
     requires placed { IsWellFormedIn (IsWellFormed (each_from item.now bindings.now (length bindings.now) condition.now)) T.ordered context.now }
     ensures term { IfOk result (λ r. IsTermOf context.now (Makes (each_from item.now bindings.now (length bindings.now) condition.now)) (IsWellFormed (each_from item.now bindings.now (length bindings.now) condition.now)) (coll (comps_of r))) }
-    ensures within { IfOk result (λ r. IsWithin context.now (coll (comps_of r))) }
+    ensures within { IfOk result (λ r. HasMembersOnlyWhereAdmitted context.now (coll (comps_of r))) }
     ensures fault { IfErr result (λ s. IfFault s (IsFaultOf context.now (Breaks (each_from item.now bindings.now (length bindings.now) condition.now)))) }
     ensures asked { D.reaches decider.old decider.new }
 {
@@ -373,7 +373,7 @@ fn gathered_inside<T: Structure, D: Oracle<T>>(
     requires index { from ≤ length bindings.now }
     requires sizes { All (λ d. size ≤ d.size) inner.now }
     requires placed { All (IsWellFormedIn (IsWellFormed (each_from item.now bindings.now from condition.now)) T.ordered) inner.now }
-    ensures comps { IfOk result (λ r. IsGathered size (Makes (each_from item.now bindings.now from condition.now)) (IsWellFormed (each_from item.now bindings.now from condition.now)) inner.now (comps_of r)) }
+    ensures comps { IfOk result (λ r. IsGatheredInside size (Makes (each_from item.now bindings.now from condition.now)) (IsWellFormed (each_from item.now bindings.now from condition.now)) inner.now (comps_of r)) }
     ensures fault { IfErr result (λ s. IfFault s (IsFaultInside inner.now (Breaks (each_from item.now bindings.now from condition.now)))) }
     ensures asked { D.reaches decider.old decider.new }
 {

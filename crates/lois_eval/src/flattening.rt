@@ -4,9 +4,9 @@ ghost use Rattle.std.specs.Prelude.{◌↔◌, [], ◌∷◌, IfOk, IfErr, OnOk,
 ghost use Rattle.lois_base.specs.Data.{comps_of, coll};
 ghost use Rattle.lois_base.specs.Fits.{Fits, CompFits, ItemsFit};
 ghost use Rattle.lois_base.specs.Tree.{tree, comp_of};
-ghost use Rattle.lois_terms.specs.Guarded.{IsSet};
+ghost use Rattle.lois_terms.specs.Guarded.{IsColl};
 ghost use Rattle.lois_context.specs.Entered.{HasNoMembers};
-ghost use Rattle.lois_eval.specs.Operands.{HasSetsOf, IsKept, IsMemberFault};
+ghost use Rattle.lois_eval.specs.Operands.{HasSetsOf, IsKeptIfSet, IsMemberFault};
 ghost use Rattle.lois_eval.specs.Throughout.{IfFault};
 
 use crate::faults::fault;
@@ -29,7 +29,7 @@ pub(crate) fn sets_in<T: Structure, D: Oracle<T>>(
 ) -> Result<Term, Stop>
     requires sound { D.sound }
     requires levels { Fits context.now.size (tree set.now) }
-    requires set { IsSet (tree set.now) }
+    requires set { IsColl (tree set.now) }
     ensures sets { IfOk result (λ r. HasSetsOf context.now (tree set.now) (tree r)) }
     ensures fault { IfErr result (λ s. IfFault s (IsMemberFault context.now (tree set.now) pos.offset)) }
     ensures asked { D.reaches decider.old decider.new }
@@ -71,7 +71,7 @@ fn put_set<T: Structure, D: Oracle<T>>(
 ) -> Result<(), Stop>
     requires sound { D.sound }
     requires levels { CompFits context.now.size (comp_of comp.now) }
-    ensures kept { OnOk result (IsKept context.now (comp_of comp.now) kept.old kept.new) }
+    ensures kept { OnOk result (IsKeptIfSet context.now (comp_of comp.now) kept.old kept.new) }
     ensures fault { IfErr result (λ s. IfFault s (IsMemberFault context.now (coll (comps_of (comp_of comp.now ∷ []))) pos.offset)) }
     ensures asked { D.reaches decider.old decider.new }
 {
@@ -83,7 +83,7 @@ fn put_set<T: Structure, D: Oracle<T>>(
 }
 
 fn is_set(term: &Term) -> bool
-    ensures { IsTrue result ↔ IsSet (tree term.now) }
+    ensures { IsTrue result ↔ IsColl (tree term.now) }
 {
     matches!(term, Term::Coll(_))
 }
@@ -98,7 +98,7 @@ fn check_empty<T: Structure, D: Oracle<T>>(
 ) -> Result<(), Stop>
     requires sound { D.sound }
     requires levels { CompFits context.now.size (comp_of comp.now) }
-    requires item { IsSet (tree comp.now.item) → ⊥ }
+    requires item { IsColl (tree comp.now.item) → ⊥ }
     ensures empty { OnOk result (HasNoMembers context.now (comp_of comp.now)) }
     ensures fault { IfErr result (λ s. IfFault s (IsMemberFault context.now (coll (comps_of (comp_of comp.now ∷ []))) pos.offset)) }
     ensures asked { D.reaches decider.old decider.new }

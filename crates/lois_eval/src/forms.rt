@@ -5,14 +5,14 @@ ghost use Rattle.lois_base.specs.Fits.{Fits};
 ghost use Rattle.lois_base.specs.Tree.{tree as term_tree};
 ghost use Rattle.lois_base.specs.Validity.{AdmitsTerm, HasBoundedWidths};
 ghost use Rattle.lois_algebra.specs.Sets.{HasAllAtoms};
-ghost use Rattle.lois_terms.specs.Guarded.{IsSet};
+ghost use Rattle.lois_terms.specs.Guarded.{IsColl};
 ghost use Rattle.lois_meaning.specs.Expressions.{Makes, HasTruth};
 ghost use Rattle.lois_meaning.specs.Faults.{Breaks, CondFails, IsNoAutomaton};
 ghost use Rattle.lois_script.specs.View.{tree, cond_tree};
 ghost use Rattle.lois_context.specs.Choices.{AdmitsContext};
 ghost use Rattle.lois_eval.specs.Automata.{IsEmptiness, IsValueFault};
 ghost use Rattle.lois_eval.specs.Evaluated.{IsTermOf, AreTermsOf, IsConstraintOf};
-ghost use Rattle.lois_eval.specs.Forms.{parts_of, sides_of, IsSimple, IsComposed, IsComparison};
+ghost use Rattle.lois_eval.specs.Forms.{parts_of, sides_of, IsSimple, IsComposed, IsComparisonCond};
 ghost use Rattle.lois_eval.specs.WellFormed.{IsWellFormedIn, IsWellFormed, CondIsWellFormed};
 ghost use Rattle.lois_eval.specs.Throughout.{IsFaultOf, IfFault};
 
@@ -32,7 +32,7 @@ use std::alloc::Global;
 // The greatest usize can't be a binder's level.
 fn atoms(alloc: Global, size: usize) -> Result<Term, NoMemory>
     ensures members { IfOk result (λ r. HasAllAtoms size (term_tree r)) }
-    ensures set { IfOk result (λ r. IsSet (term_tree r)) }
+    ensures set { IfOk result (λ r. IsColl (term_tree r)) }
     ensures levels { IfOk result (λ r. Fits size (term_tree r)) }
     ensures operators { IfOk result (λ r. (ordered : Bool) → AdmitsTerm ordered (term_tree r)) }
     ensures widths { IfOk result (λ r. HasBoundedWidths (term_tree r)) }
@@ -95,7 +95,7 @@ pub(crate) fn compared<T: Structure>(
     values: &Terms,
     context: &Context,
 ) -> Result<Constraint, Stop>
-    requires form { IsComparison (cond_tree c.now) }
+    requires form { IsComparisonCond (cond_tree c.now) }
     requires placed { IsWellFormedIn (CondIsWellFormed (cond_tree c.now)) T.ordered context.now }
     requires values { AreTermsOf context.now (sides_of (cond_tree c.now)) (CondIsWellFormed (cond_tree c.now)) values.now }
     ensures constraint { IfOk result (IsConstraintOf context.now (HasTruth (cond_tree c.now)) (CondIsWellFormed (cond_tree c.now))) }
@@ -113,7 +113,7 @@ fn compared_with<T: Structure>(
     t: &Term,
     context: &Context,
 ) -> Result<Constraint, Stop>
-    requires form { IsComparison (cond_tree c.now) }
+    requires form { IsComparisonCond (cond_tree c.now) }
     requires values { AreTermsOf context.now (sides_of (cond_tree c.now)) (CondIsWellFormed (cond_tree c.now)) (term_tree s.now ∷ term_tree t.now ∷ []) }
     requires left { Fits context.now.size (term_tree s.now) }
     requires left_operators { AdmitsTerm T.ordered (term_tree s.now) }

@@ -10,7 +10,7 @@ ghost use Rattle.lois_automata.specs.Throughout.{HoldsThroughout};
 ghost use Rattle.lois_automata.specs.declared.verdicts.Verdict.TheVariants.{Holds};
 ghost use Rattle.lois_meaning.specs.Faults.{IsNoAutomaton, IsInvalidOperand};
 ghost use Rattle.lois_script.specs.declared.syntax.Operation.TheVariants.{Minimise};
-ghost use Rattle.lois_eval.specs.Automata.{IsFailed, IsValueFault};
+ghost use Rattle.lois_eval.specs.Automata.{IsFailureOfVerdict, IsValueFault};
 ghost use Rattle.lois_eval.specs.Throughout.{IfFault};
 
 use crate::faults::fault;
@@ -65,7 +65,7 @@ pub(crate) fn check_whole<T: Structure>(
 // Errors: a fault of this kind where the verdict is that the property fails.
 fn passed(alloc: Global, pos: Pos, kind: FaultKind, verdict: Verdict) -> Result<(), Stop>
     ensures holds { OnOk result (verdict ≡ Holds) }
-    ensures fault { IfErr result (λ s. IfFault s (IsFailed verdict pos kind)) }
+    ensures fault { IfErr result (λ s. IfFault s (IsFailureOfVerdict verdict pos kind)) }
 {
     match verdict {
         Verdict::Holds => Ok(()),

@@ -10,7 +10,7 @@ ghost use Rattle.lois_meaning.specs.Faults.{IsNoAutomaton, IsInvalidOperand};
 ghost use Rattle.lois_script.specs.View.{exprs_of, exprs_list};
 ghost use Rattle.lois_script.specs.declared.syntax.Operation.TheVariants.{Reach, Product, Complement, Minimise};
 ghost use Rattle.lois_context.specs.Choices.{AdmitsContext};
-ghost use Rattle.lois_eval.specs.Automata.{AreOperands, IsEmptiness, IsMadeOf, IsOfOneAutomaton, IsValueFault};
+ghost use Rattle.lois_eval.specs.Automata.{AreOperands, IsEmptiness, IsOperationResult, IsOfOneAutomaton, IsValueFault};
 ghost use Rattle.lois_eval.specs.Operands.{IsUnfitFault};
 ghost use Rattle.lois_eval.specs.Throughout.{IfFault};
 
@@ -35,7 +35,7 @@ pub(crate) fn applied_to_automata<T: Structure>(
     chosen: &mut Chosen,
 ) -> Result<Term, Stop>
     requires operands { AreOperands T.ordered context.now operation (exprs_list operands.now) values.now }
-    ensures made { IfOk result (λ r. IsMadeOf context.now operation values.now (tree r)) }
+    ensures made { IfOk result (λ r. IsOperationResult context.now operation values.now (tree r)) }
     ensures fault { IfErr result (λ s. IfFault s (IsUnfitFault context.now operation (exprs_of (exprs_list operands.now)) (terms_of values.now))) }
     ensures only_asked { HasOnlyAsked (λ b. (⟦<dyn Decider as Decider>⟧ b.vtable).kind_of b.value) (λ b. (⟦<dyn Decider as Decider>⟧ b.vtable).questions b.value) chosen.old chosen.new }
 {
@@ -64,7 +64,7 @@ fn of_one<T: Structure>(
     requires levels { Fits context.now.size (tree automaton.now) }
     requires operators { AdmitsTerm T.ordered (tree automaton.now) }
     requires context_operators { AdmitsContext T.ordered context.now }
-    ensures made { IfOk result (λ r. IsMadeOf context.now operation (tree automaton.now ∷ []) (tree r)) }
+    ensures made { IfOk result (λ r. IsOperationResult context.now operation (tree automaton.now ∷ []) (tree r)) }
     ensures fault { IfErr result (λ s. IfFault s (IsValueFault context.now (IsInvalidOperand operation) (tree automaton.now) pos.offset)) }
     ensures only_asked { HasOnlyAsked (λ b. (⟦<dyn Decider as Decider>⟧ b.vtable).kind_of b.value) (λ b. (⟦<dyn Decider as Decider>⟧ b.vtable).questions b.value) chosen.old chosen.new }
 {
@@ -85,7 +85,7 @@ fn reach_of<T: Structure>(
 ) -> Result<Term, Stop>
     requires levels { Fits context.now.size (tree automaton.now) }
     requires operators { AdmitsTerm T.ordered (tree automaton.now) }
-    ensures made { IfOk result (λ r. IsMadeOf context.now Reach (tree automaton.now ∷ []) (tree r)) }
+    ensures made { IfOk result (λ r. IsOperationResult context.now Reach (tree automaton.now ∷ []) (tree r)) }
     ensures fault { IfErr result (λ s. IfFault s (IsValueFault context.now (IsInvalidOperand Reach) (tree automaton.now) pos.offset)) }
     ensures only_asked { HasOnlyAsked (λ b. (⟦<dyn Decider as Decider>⟧ b.vtable).kind_of b.value) (λ b. (⟦<dyn Decider as Decider>⟧ b.vtable).questions b.value) chosen.old chosen.new }
 {
@@ -106,7 +106,7 @@ fn product_of<T: Structure>(
     requires operators { AdmitsTerm T.ordered (tree a.now) }
     requires other_levels { Fits context.now.size (tree b.now) }
     requires other_operators { AdmitsTerm T.ordered (tree b.now) }
-    ensures made { IfOk result (λ r. IsMadeOf context.now Product (tree a.now ∷ tree b.now ∷ []) (tree r)) }
+    ensures made { IfOk result (λ r. IsOperationResult context.now Product (tree a.now ∷ tree b.now ∷ []) (tree r)) }
     ensures fault { IfErr result (λ s. IfFault s (λ f. IsValueFault context.now (IsInvalidOperand Product) (tree a.now) a_pos.offset f ⊎ IsValueFault context.now (IsInvalidOperand Product) (tree b.now) b_pos.offset f)) }
     ensures only_asked { HasOnlyAsked (λ b. (⟦<dyn Decider as Decider>⟧ b.vtable).kind_of b.value) (λ b. (⟦<dyn Decider as Decider>⟧ b.vtable).questions b.value) chosen.old chosen.new }
 {
@@ -124,7 +124,7 @@ fn complement_of<T: Structure>(
 ) -> Result<Term, Stop>
     requires levels { Fits context.now.size (tree automaton.now) }
     requires operators { AdmitsTerm T.ordered (tree automaton.now) }
-    ensures made { IfOk result (λ r. IsMadeOf context.now Complement (tree automaton.now ∷ []) (tree r)) }
+    ensures made { IfOk result (λ r. IsOperationResult context.now Complement (tree automaton.now ∷ []) (tree r)) }
     ensures fault { IfErr result (λ s. IfFault s (IsValueFault context.now (IsInvalidOperand Complement) (tree automaton.now) pos.offset)) }
     ensures only_asked { HasOnlyAsked (λ b. (⟦<dyn Decider as Decider>⟧ b.vtable).kind_of b.value) (λ b. (⟦<dyn Decider as Decider>⟧ b.vtable).questions b.value) chosen.old chosen.new }
 {
@@ -142,7 +142,7 @@ fn minimal_of<T: Structure>(
     requires levels { Fits context.now.size (tree automaton.now) }
     requires operators { AdmitsTerm T.ordered (tree automaton.now) }
     requires context_operators { AdmitsContext T.ordered context.now }
-    ensures made { IfOk result (λ r. IsMadeOf context.now Minimise (tree automaton.now ∷ []) (tree r)) }
+    ensures made { IfOk result (λ r. IsOperationResult context.now Minimise (tree automaton.now ∷ []) (tree r)) }
     ensures fault { IfErr result (λ s. IfFault s (IsValueFault context.now (IsInvalidOperand Minimise) (tree automaton.now) pos.offset)) }
     ensures only_asked { HasOnlyAsked (λ b. (⟦<dyn Decider as Decider>⟧ b.vtable).kind_of b.value) (λ b. (⟦<dyn Decider as Decider>⟧ b.vtable).questions b.value) chosen.old chosen.new }
 {

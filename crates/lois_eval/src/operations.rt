@@ -7,7 +7,7 @@ ghost use Rattle.lois_base.specs.Tree.{tree};
 ghost use Rattle.lois_base.specs.Validity.{AdmitsTerm, AdmitsParts, HasBoundedWidths, PartsHaveBoundedWidths};
 ghost use Rattle.lois_script.specs.View.{exprs_of, exprs_list};
 ghost use Rattle.lois_script.specs.declared.syntax.Operation.TheVariants.{Flatten};
-ghost use Rattle.lois_terms.specs.Guarded.{IsSet};
+ghost use Rattle.lois_terms.specs.Guarded.{IsColl};
 ghost use Rattle.lois_context.specs.Choices.{AdmitsContext};
 ghost use Rattle.lois_eval.specs.Checks.{IsSetFault};
 ghost use Rattle.lois_eval.specs.Operands.{IsOfTwoSets, IsAppliedThroughout, IsUnfitFault, IsMemberFault};
@@ -96,10 +96,10 @@ fn combination<T: Structure>(
 ) -> Result<Term, NoMemory>
     requires operation { IsOfTwoSets operation }
     requires left { Fits context.now.size (tree s.now) }
-    requires left_set { IsSet (tree s.now) }
+    requires left_set { IsColl (tree s.now) }
     requires left_operators { AdmitsTerm T.ordered (tree s.now) }
     requires right { Fits context.now.size (tree t.now) }
-    requires right_set { IsSet (tree t.now) }
+    requires right_set { IsColl (tree t.now) }
     requires right_operators { AdmitsTerm T.ordered (tree t.now) }
     ensures applied { IfOk result (λ r. IsAppliedThroughout context.now operation (tree s.now ∷ tree t.now ∷ []) (tree r)) }
     ensures levels { IfOk result (λ r. Fits context.now.size (tree r)) }

@@ -12,12 +12,12 @@ ghost use Rattle.lois_deciders.specs.Conjunction.{AreInconsistent};
 ghost use Rattle.lois_deciders.specs.OnlyAsked.{HasOnlyAsked};
 ghost use Rattle.lois_meaning.specs.Faults.{IsNoAutomaton};
 ghost use Rattle.lois_script.specs.View.{exprs_of, exprs_list};
-ghost use Rattle.lois_terms.specs.Guarded.{IsSet};
+ghost use Rattle.lois_terms.specs.Guarded.{IsColl};
 ghost use Rattle.lois_context.specs.Choices.{IsAdmitted, IsAdmittedBy, AdmitsContext};
 ghost use Rattle.lois_context.specs.Entered.{AreEntered};
 ghost use Rattle.lois_context.specs.Sides.{IsSide};
 ghost use Rattle.lois_context.specs.Slots.{IsNew};
-ghost use Rattle.lois_eval.specs.Automata.{AreOperands, IsEmptiness, IsMadeOf, IsValueFault};
+ghost use Rattle.lois_eval.specs.Automata.{AreOperands, IsEmptiness, IsOperationResult, IsValueFault};
 ghost use Rattle.lois_eval.specs.Checks.{MeetsBoth};
 ghost use Rattle.lois_eval.specs.Operands.{IsUnfitFault};
 ghost use Rattle.lois_eval.specs.Throughout.{IfFault};
@@ -61,7 +61,7 @@ pub(crate) trait Oracle<T: Structure> {
     ) -> Result<Vec<Context>, NoMemory>
         requires sound { sound }
         requires levels { Fits context.now.size (tree elements.now) }
-        requires set { IsSet (tree elements.now) }
+        requires set { IsColl (tree elements.now) }
         requires new_name { IsNew name.now context.now.store }
         ensures entered { IfOk result (λ r. AreEntered context.now name.now (tree elements.now) r.items) }
         ensures asked { reaches self.old self.new };
@@ -91,7 +91,7 @@ pub(crate) trait Oracle<T: Structure> {
     ) -> Result<Term, Stop>
         requires sound { sound }
         requires operands { AreOperands T.ordered context.now operation (exprs_list operands.now) values.now }
-        ensures made { IfOk result (λ r. IsMadeOf context.now operation values.now (tree r)) }
+        ensures made { IfOk result (λ r. IsOperationResult context.now operation values.now (tree r)) }
         ensures fault { IfErr result (λ s. IfFault s (IsUnfitFault context.now operation (exprs_of (exprs_list operands.now)) (terms_of values.now))) }
         ensures asked { reaches self.old self.new };
 

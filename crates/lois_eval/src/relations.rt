@@ -7,7 +7,7 @@ ghost use Rattle.lois_base.specs.Tree.{tree};
 ghost use Rattle.lois_base.specs.Truth.{holds};
 ghost use Rattle.lois_base.specs.Validity.{AdmitsTerm, AdmitsConstraint};
 ghost use Rattle.lois_base.specs.Values.{point, IsSame, IsIn, IsIncluded};
-ghost use Rattle.lois_terms.specs.Guarded.{IsSet};
+ghost use Rattle.lois_terms.specs.Guarded.{IsColl};
 ghost use Rattle.lois_eval.specs.Compared.{IsBelowFault, AreAtomsBelow};
 ghost use Rattle.lois_eval.specs.Throughout.{IfFault};
 
@@ -70,7 +70,7 @@ pub(crate) fn within<T: Structure>(
     requires left { Fits size (tree s.now) }
     requires left_operators { AdmitsTerm T.ordered (tree s.now) }
     requires right { Fits size (tree t.now) }
-    requires right_set { IsSet (tree t.now) }
+    requires right_set { IsColl (tree t.now) }
     requires right_operators { AdmitsTerm T.ordered (tree t.now) }
     ensures truth { IfOk result (λ r. (c : List Atom) → length c ≡ size → IsTrue (holds c r) ↔ IsIn (point (tree s.now) c) (point (tree t.now) c)) }
     ensures levels { IfOk result (λ r. ConstraintFits size r) }
@@ -88,10 +88,10 @@ pub(crate) fn included<T: Structure>(
     size: usize,
 ) -> Result<Constraint, NoMemory>
     requires left { Fits size (tree s.now) }
-    requires left_set { IsSet (tree s.now) }
+    requires left_set { IsColl (tree s.now) }
     requires left_operators { AdmitsTerm T.ordered (tree s.now) }
     requires right { Fits size (tree t.now) }
-    requires right_set { IsSet (tree t.now) }
+    requires right_set { IsColl (tree t.now) }
     requires right_operators { AdmitsTerm T.ordered (tree t.now) }
     ensures truth { IfOk result (λ r. (c : List Atom) → length c ≡ size → IsTrue (holds c r) ↔ IsIncluded (point (tree s.now) c) (point (tree t.now) c)) }
     ensures levels { IfOk result (λ r. ConstraintFits size r) }

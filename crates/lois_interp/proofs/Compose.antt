@@ -11,7 +11,7 @@ use Rattle.lois_base.specs.Values.{point}
 use Rattle.lois_base.proofs.Members.{included_trans}
 use Rattle.lois_base.proofs.Validity.{all_that_are}
 use Rattle.lois_context.specs.Choices.{IsAdmitted, AdmitsContext, ContextHasBoundedWidths}
-use Rattle.lois_context.specs.Slots.{SlotD, slot_name, store_at, lines_at}
+use Rattle.lois_context.specs.Slots.{SlotD, slot_name, store_at, line_values}
 use Rattle.lois_context.specs.declared.contexts.Context.{Context}
 use Rattle.lois_context.specs.Counted.{admits}
 use Rattle.lois_simplify.proofs.Members.{contains_none}
@@ -73,7 +73,7 @@ module _ (run : Run) where
           ends_there = record {
             printed = at.ends_there.printed;
             run = subst (λ z. run.ends (store_at c k.store) (store_at c z) at.ends_there.printed) (sym store) at.ends_there.run;
-            lines = ap (lines_at c) lines ∙ at.ends_there.lines;
+            lines = ap (line_values c) lines ∙ at.ends_there.lines;
           };
         },
       )
@@ -143,7 +143,7 @@ module _ (one two both : Run)
           ends_there = record {
             printed = before.ends_there.printed ++ later.ends_there.printed;
             run = ends (store_at c q.0.store) (store_at c r.0.store) (store_at c e.store) before.ends_there.printed later.ends_there.printed before.ends_there.run later.ends_there.run;
-            lines = later.ends_there.lines ∙ (ap (λ z. z ++ later.ends_there.printed) before.ends_there.lines ∙ append_assoc (lines_at c q.0.lines) before.ends_there.printed later.ends_there.printed);
+            lines = later.ends_there.lines ∙ (ap (λ z. z ++ later.ends_there.printed) before.ends_there.lines ∙ append_assoc (line_values c q.0.lines) before.ends_there.printed later.ends_there.printed);
           };
         },
       )

@@ -15,7 +15,7 @@ use Rattle.lois_context.specs.declared.contexts.Context.{Context}
 use Rattle.lois_context.proofs.Carried.{count_of}
 use Rattle.lois_context.proofs.Entered.{listed_of}
 use Rattle.lois_context.proofs.Joined.{of_listed}
-use Rattle.lois_interp.specs.Reached.{IsReached}
+use Rattle.lois_interp.specs.Reached.{IsReachedContext}
 use Rattle.lois_interp.specs.Slots.{IsKeptTerm, IsKeptSlot, AreKept}
 use Rattle.lois_meaning.specs.Runs.{Ending}
 
@@ -64,7 +64,7 @@ none_assigned Assigned (s ∷ ss) f = (
 )
 
 -- a run that assigns none of the outer names leads from an end of a loop's body to an end
-pub end_further : (ends : Ending) (Assigned : List ℕ → Type 0) (before d f : Context) → NoneAssigned Assigned before.store → IsEnd before d → IsReached ends Assigned d f → IsEnd before f
+pub end_further : (ends : Ending) (Assigned : List ℕ → Type 0) (before d f : Context) → NoneAssigned Assigned before.store → IsEnd before d → IsReachedContext ends Assigned d f → IsEnd before f
 end_further ends Assigned before d f none end reached = record {
   size = subst (λ z. before.size ≤ z) (sym reached.size) end.size;
   outside = λ c e l adm. end.outside c e l (reached.within (c ++ e) adm);

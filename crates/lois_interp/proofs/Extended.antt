@@ -12,7 +12,7 @@ use Rattle.lois_base.specs.Values.{point}
 use Rattle.lois_algebra.proofs.Among.{items_fit-append, admits_items-append, widths-append}
 use Rattle.lois_meaning.specs.Runs.{IsSetWith}
 use Rattle.lois_meaning.specs.declared.faults.Fault.{Fault}
-use Rattle.lois_terms.specs.Guarded.{IsSet}
+use Rattle.lois_terms.specs.Guarded.{IsColl}
 use Rattle.lois_context.specs.Choices.{IsAdmitted, AdmitsContext, ContextHasBoundedWidths}
 use Rattle.lois_context.specs.Entered.{items_listed}
 use Rattle.lois_context.specs.Kept.{IsSlot}
@@ -34,7 +34,7 @@ module _ (k : Context) (x : List ℕ) (i : ℕ) (slot : SlotD) (found : (i < len
   old_slot : IsSlot k.size slot
   old_slot = subst (IsSlot k.size) (sym there) (k.slots i slot found.0)
 
-  module _ (item set : TermD) (more : IsSet slot.term × IsWithItem slot.term item set) where
+  module _ (item set : TermD) (more : IsColl slot.term × IsWithItem slot.term item set) where
     pub set_fits : k.size < 2 ^ 64 → Fits k.size item → Fits k.size set
     set_fits room h = with_fits slot.term item set more.0.0 more.0.1 more.1 k.size room old_slot.0 h
 

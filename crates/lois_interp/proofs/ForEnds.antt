@@ -7,7 +7,7 @@ use Rattle.lois_base.specs.Data.{TermD, var, tag, tup, coll}
 use Rattle.lois_base.specs.Values.{PointValue, point, IsSame, IsIn, IsMember}
 use Rattle.lois_base.proofs.Members.{same_refl, same_in}
 use Rattle.lois_context.specs.Choices.{IsAdmitted}
-use Rattle.lois_context.specs.Entered.{IsHeldInside, GoesOn}
+use Rattle.lois_context.specs.Entered.{IsHeldInside, ExtendsContext}
 use Rattle.lois_context.specs.Joined.{IsAddedInside, HasJoined}
 use Rattle.lois_context.specs.Kept.{HasDistinctNames}
 use Rattle.lois_context.specs.Slots.{SlotD, slot_at, store_at}
@@ -33,7 +33,7 @@ pub record IsLoop (e : ExprD) (x : List ℕ) (c : CondD) (body : StmtsD) (before
   pub gives : (d : List Atom) → IsAdmitted d before → Gives e (store_at d before.store) (point t d)
   pub set : IsSetTerm t
   pub members : (d : List Atom) → IsAdmitted d before → (u : PointValue) → IsMember u (point t d) ↔ IsHeldInside inside x d u
-  pub goes_on : All (GoesOn before x) inside
+  pub goes_on : All (ExtendsContext before x) inside
   pub named : (d : Context) → Contains inside d → (y : List Atom) → (u : PointValue) × (looked_up x (store_at y d.store) ≡ Some u)
   pub runs : LoopRuns c body inside ends
 
@@ -56,7 +56,7 @@ module _ (e : ExprD) (x : List ℕ) (c : CondD) (body : StmtsD) (before : Contex
   found_inside : (m : PointValue) → IsMember m (point t a) → IsInside x before inside a m
   found_inside m h =
       let there : IsHeldInside inside x a m = (loop.members a adm m).0 h in
-      let goes : GoesOn before x there.0 = All-contains (GoesOn before x) inside there.0 loop.goes_on there.1 in
+      let goes : ExtendsContext before x there.0 = All-contains (ExtendsContext before x) inside there.0 loop.goes_on there.1 in
       record { at = there.0; in_list = there.1; further = there.2; admitted = there.3; same = goes.store a there.2 adm.0 there.3 m there.4 }
 
   decided : (m : PointValue) → IsMember m (point t a) → (b : Bool) × HasTruth c (stored x m outer) b
@@ -107,7 +107,7 @@ module _ (e : ExprD) (x : List ℕ) (c : CondD) (body : StmtsD) (before : Contex
       let at_d : IsAdmitted z d = passed.reached.within z at_f in
       let m = loop.named d start.1 z in
       let member : IsMember m.0 (point t a) = (loop.members a adm m.0).1 (d, start.1, further, at_d, m.1) in
-      let goes : GoesOn before x d = All-contains (GoesOn before x) inside d loop.goes_on start.1 in
+      let goes : ExtendsContext before x d = All-contains (ExtendsContext before x) inside d loop.goes_on start.1 in
       let same : AreSameNamed (store_at z d.store) (stored x m.0 outer) = goes.store a further adm.0 at_d m.0 m.1 in
       let there : EndsAt (BlockEnds (ListEnds body)) d f z = passed.reached.ends_there z at_f in
       let whole = there.run.0 in

@@ -11,8 +11,8 @@ use Rattle.lois_base.specs.Validity.{AdmitsTerm, HasBoundedWidths}
 use Rattle.lois_base.specs.Truth.{sampled}
 use Rattle.lois_base.specs.Values.{PointValue, point, IsMember}
 use Rattle.lois_context.specs.Choices.{IsAdmitted, ContextHasBoundedWidths}
-use Rattle.lois_context.specs.Entered.{IsHeldInside, GoesOn}
-use Rattle.lois_context.specs.Slots.{store_at, lines_at}
+use Rattle.lois_context.specs.Entered.{IsHeldInside, ExtendsContext}
+use Rattle.lois_context.specs.Slots.{store_at, line_values}
 use Rattle.lois_context.specs.declared.contexts.Context.{Context}
 use Rattle.lois_eval.specs.WellFormed.{IsWellFormedIn}
 use Rattle.lois_eval.specs.Throughout.{Failure, IsFaultOf}
@@ -70,14 +70,14 @@ bare_within fails more k f to h =
       admitted = subst (λ z. IsAdmitted (sampled z) k) (sym all) h.admitted;
       path = [];
       failed = subst (λ z. more.fails (store_at (sampled z) k.store) f.pos.offset f.kind []) (sym all) (to (store_at (sampled f.sample.items) k.store) f.pos.offset f.kind h.failure);
-      named = subst (λ z. AreSameNamed [] (lines_at (sampled f.sample.items) z)) (sym h.elements) tt;
+      named = subst (λ z. AreSameNamed [] (line_values (sampled f.sample.items) z)) (sym h.elements) tt;
       elements = subst (AreElements more.stands k (length f.sample.items)) (sym h.elements) (no_elements more.stands k (length f.sample.items));
     }
 
 module _ (e : ExprD) (x : List ℕ) (c : CondD) (body : StmtsD) (p : ℕ) (before : Context) (t : TermD) (inside : List Context)
     (gives : (a : List Atom) → IsAdmitted a before → Gives e (store_at a before.store) (point t a))
     (members : (a : List Atom) → IsAdmitted a before → (u : PointValue) → IsMember u (point t a) ↔ IsHeldInside inside x a u)
-    (goes_on : All (GoesOn before x) inside) where
+    (goes_on : All (ExtendsContext before x) inside) where
   pub loop_fails : (d : Context) (f : Fault) → Contains inside d → before.size ≤ d.size →
       ((o : Bool) → IsWellFormedIn (StmtIsWellScoped (for (binding p x e) c body)) o before → IsWellFormedIn (TurnIsWellScoped c body) o d) → (ContextHasBoundedWidths before → ContextHasBoundedWidths d) →
       FailsInside x c body d f → FailsWithin (stmt_run (for (binding p x e) c body)) before f
@@ -87,7 +87,7 @@ module _ (e : ExprD) (x : List ℕ) (c : CondD) (body : StmtsD) (p : ℕ) (befor
       let parts : sampled (take d.size f.sample.items) ≡ a ++ further = sample_parts before.size d.size f.sample.items le in
       let count : length a ≡ before.size = length_first before.size d.size f.sample.items le h.admitted.0 in
       let adm_d : IsAdmitted (a ++ further) d = subst (λ z. IsAdmitted z d) parts h.admitted in
-      let goes : GoesOn before x d = All-contains (GoesOn before x) inside d goes_on there in
+      let goes : ExtendsContext before x d = All-contains (ExtendsContext before x) inside d goes_on there in
       let adm : IsAdmitted a before = goes.outside a further count adm_d in
       let held = subst (λ z. looked_up x (store_at z d.store) ≡ Some h.member) parts h.held in
       let member : IsMember h.member (point t a) = (members a adm h.member).1 (d, there, further, adm_d, held) in

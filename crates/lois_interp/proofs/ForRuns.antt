@@ -13,14 +13,14 @@ use Rattle.lois_context.specs.Choices.{IsAdmitted, AdmitsContext, ContextHasBoun
 use Rattle.lois_context.specs.Entered.{items_listed}
 use Rattle.lois_context.specs.Joined.{AreJoined, IsEnd, HasJoined}
 use Rattle.lois_context.specs.Kept.{IsSlot, AreSlots}
-use Rattle.lois_context.specs.Slots.{SlotD, slot_name, comps_in, count_of_items, store_at, lines_at}
+use Rattle.lois_context.specs.Slots.{SlotD, slot_name, comps_in, count_of_items, store_at, line_values}
 use Rattle.lois_context.specs.declared.contexts.Context.{Context}
 use Rattle.lois_context.proofs.Carried.{count_of}
 use Rattle.lois_context.proofs.Entered.{listed_of}
 use Rattle.lois_context.proofs.Joined.{of_listed}
 use Rattle.lois_interp.specs.Assigned.{StmtAssigns, ListAssigns}
 use Rattle.lois_interp.specs.Looped.{LoopRuns}
-use Rattle.lois_interp.specs.Reached.{IsReached, IsReachedAt, RunsAs}
+use Rattle.lois_interp.specs.Reached.{IsReachedContext, IsReachedAt, RunsAs}
 use Rattle.lois_interp.specs.Run.{stmt_run}
 use Rattle.lois_interp.specs.Slots.{IsKeptTerm, AreKept}
 use Rattle.lois_context.proofs.Counts.{times_like, admits_like}
@@ -153,7 +153,7 @@ module _ (e : ExprD) (x : List ℕ) (c : CondD) (body : StmtsD) (p : ℕ) (befor
           outside : (a : List Atom) → IsAdmitted a r → IsAdmitted a before
           outside a h = (h.0 ∙ size, subst (λ g. IsTrue (holds a g)) is h.1)
 
-          reached : IsReached (StmtEnds (for (binding p x e) c body)) (StmtAssigns (for (binding p x e) c body)) before r
+          reached : IsReachedContext (StmtEnds (for (binding p x e) c body)) (StmtAssigns (for (binding p x e) c body)) before r
           reached = record {
             size = size;
             within = outside;
@@ -166,6 +166,6 @@ module _ (e : ExprD) (x : List ℕ) (c : CondD) (body : StmtsD) (p : ℕ) (befor
               run = stmt_to (for (binding p x e) c body) (store_at a before.store) (store_at a js) (store_at a r.store) [] []
                   (tidied_same before.size before.«when» (counts_in before.store) js r.store tidied a (outside a adm)) tt
                   (loop_ends e x c body before t inside ends loop a (outside a adm) js (members a (outside a adm)) p longer before.names);
-              lines = ap (lines_at a) lines ∙ sym (append-nil (lines_at a before.lines));
+              lines = ap (line_values a) lines ∙ sym (append-nil (line_values a before.lines));
             };
           }

@@ -14,7 +14,7 @@ use Rattle.lois_context.specs.SlotView.{slot_of}
 use Rattle.lois_context.specs.declared.contexts.Context.{Context}
 use Rattle.lois_context.specs.declared.slots.Slot.{Slot}
 use Rattle.lois_interp.specs.Looped.{Holds}
-use Rattle.lois_interp.specs.Merged.{IsCut, AreCut}
+use Rattle.lois_interp.specs.Merged.{IsTruncatedContext, AreTruncatedContexts}
 use Rattle.lois_meaning.specs.Kinds.{IsSetTerm}
 use Rattle.lois_meaning.specs.Store.{looked_up}
 
@@ -75,7 +75,7 @@ distinct_front (suc n) (s ∷ ss) h = (apart n ss h.0, distinct_front n ss h.1)
     apart (suc n) [] h = h
     apart (suc n) (q ∷ ss) h = (h.0, apart n ss h.1)
 
-pub cut_more : (n : ℕ) (ks ds : List Context) (k d : Context) → AreCut n ks ds → IsCut n k d → AreCut n (ks ++ k ∷ []) (ds ++ d ∷ [])
+pub cut_more : (n : ℕ) (ks ds : List Context) (k d : Context) → AreTruncatedContexts n ks ds → IsTruncatedContext n k d → AreTruncatedContexts n (ks ++ k ∷ []) (ds ++ d ∷ [])
 cut_more n [] [] k d h one = (one, tt)
 cut_more n (q ∷ ks) (r ∷ ds) k d h one = (h.0, cut_more n ks ds k d h.1 one)
 cut_more n [] (r ∷ ds) k d h one = absurd h

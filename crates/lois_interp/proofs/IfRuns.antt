@@ -11,7 +11,7 @@ use Rattle.lois_context.specs.declared.contexts.Split.{Split}
 use Rattle.lois_context.proofs.Counts.{times_append}
 use Rattle.lois_eval.specs.WellFormed.{names_of, IsWellFormedIn, CondIsWellFormed}
 use Rattle.lois_eval.specs.Throughout.{IsFaultOf}
-use Rattle.lois_interp.specs.Decided.{listed, IsTrueSide, IsDecided}
+use Rattle.lois_interp.specs.Decided.{listed_context, IsTrueSide, IsDecided}
 use Rattle.lois_interp.specs.Failed.{FailsWithin, FailsFrom}
 use Rattle.lois_interp.specs.Reached.{RunsFrom, RunsAs}
 use Rattle.lois_interp.specs.Run.{stmt_run, block_run}
@@ -21,7 +21,7 @@ use Rattle.lois_interp.proofs.Lists.{all_one, of_one}
 use Rattle.lois_interp.proofs.Parted.{cond_placed, listed_side, side_placed, from_side, side_fails}
 
 -- what is true of each side that there is
-pub all_sides : (P : Context → Type 0) (o : Option Context) → IfSome o P → All P (listed o)
+pub all_sides : (P : Context → Type 0) (o : Option Context) → IfSome o P → All P (listed_context o)
 all_sides P None h = All-nil P
 all_sides P (Some y) h = all_one P y h
 
@@ -55,9 +55,9 @@ module _ (c : CondD) (first second : StmtsD) where
     pub if_may_no : (o : Bool) (side : Option Context) → IsWellFormedIn (StmtIsWellScoped ((if) c first second)) o k → IfSome side (IsTrueSide c false k) → IfSome side (IsWellFormedIn (BlockIsWellScoped second) o)
     if_may_no o side h s = some_side (IsTrueSide c false k) (IsWellFormedIn (BlockIsWellScoped second) o) side (λ y. no_placed o y h) s
 
-    pub if_runs : (s : Split) (es fs : List Context) → IsDecided c k s → RunsFrom (block_run first) (listed s.yes) es → RunsFrom (block_run second) (listed s.no) fs → RunsAs (stmt_run ((if) c first second)) k (es ++ fs)
+    pub if_runs : (s : Split) (es fs : List Context) → IsDecided c k s → RunsFrom (block_run first) (listed_context s.yes) es → RunsFrom (block_run second) (listed_context s.no) fs → RunsAs (stmt_run ((if) c first second)) k (es ++ fs)
     if_runs s es fs decided h q = record {
-      choices = λ x. omega (arith, times_append x es fs, h.choices x, q.choices x, times_append x (listed s.yes) (listed s.no), decided.choices x);
+      choices = λ x. omega (arith, times_append x es fs, h.choices x, q.choices x, times_append x (listed_context s.yes) (listed_context s.no), decided.choices x);
       reached = λ d there x adm. (
         k,
         Contains-push [] k,
@@ -83,12 +83,12 @@ module _ (c : CondD) (first second : StmtsD) where
     pub if_cond_fails : (f : Fault) → IsFaultOf k (CondFails c) f → FailsWithin (stmt_run ((if) c first second)) k f
     if_cond_fails f h = bare_within (CondFails c) (stmt_run ((if) c first second)) k f (λ s at kind bad. inl (bad, refl)) h
 
-    pub if_yes_fails : (s : Split) (f : Fault) → IsDecided c k s → FailsFrom (block_run first) (listed s.yes) f → FailsWithin (stmt_run ((if) c first second)) k f
+    pub if_yes_fails : (s : Split) (f : Fault) → IsDecided c k s → FailsFrom (block_run first) (listed_context s.yes) f → FailsWithin (stmt_run ((if) c first second)) k f
     if_yes_fails s f decided (y, there, h) =
         let side = listed_side c true k s.yes y decided.yes there in
         side_fails c true k (block_run first) (stmt_run ((if) c first second)) y f side (λ a at kind path truth bad. inr (inl (truth, bad))) (λ o p. yes_placed o y p side) h
 
-    pub if_no_fails : (s : Split) (f : Fault) → IsDecided c k s → FailsFrom (block_run second) (listed s.no) f → FailsWithin (stmt_run ((if) c first second)) k f
+    pub if_no_fails : (s : Split) (f : Fault) → IsDecided c k s → FailsFrom (block_run second) (listed_context s.no) f → FailsWithin (stmt_run ((if) c first second)) k f
     if_no_fails s f decided (y, there, h) =
         let side = listed_side c false k s.no y decided.no there in
         side_fails c false k (block_run second) (stmt_run ((if) c first second)) y f side (λ a at kind path truth bad. inr (inr (truth, bad))) (λ o p. no_placed o y p side) h

@@ -22,7 +22,7 @@ use Rattle.lois_meaning.specs.Store.{NamedValues, named, looked_up, AreSameNamed
 use Rattle.lois_meaning.specs.declared.faults.Fault.{Fault}
 use Rattle.lois_meaning.proofs.Determined.{truth_same}
 use Rattle.lois_context.specs.Choices.{IsAdmitted, AdmitsContext, ContextHasBoundedWidths}
-use Rattle.lois_context.specs.Slots.{SlotD, store_at, lines_at}
+use Rattle.lois_context.specs.Slots.{SlotD, store_at, line_values}
 use Rattle.lois_context.specs.declared.contexts.Context.{Context}
 use Rattle.lois_context.specs.declared.contexts.Split.{Split}
 use Rattle.lois_context.proofs.Carried.{raised_same}
@@ -31,11 +31,11 @@ use Rattle.lois_simplify.proofs.Members.{contains_none}
 use Rattle.lois_eval.specs.WellFormed.{IsWellFormedIn}
 use Rattle.lois_eval.specs.Throughout.{IsFaultOf}
 use Rattle.lois_interp.specs.Assigned.{ListAssigns}
-use Rattle.lois_interp.specs.Decided.{listed, IsTrueSide, IsDecided}
+use Rattle.lois_interp.specs.Decided.{listed_context, IsTrueSide, IsDecided}
 use Rattle.lois_interp.specs.Elements.{NamesElement}
 use Rattle.lois_interp.specs.Failed.{AreElements, FailsWithin}
 use Rattle.lois_interp.specs.Looped.{IsPassed, LoopRuns, FailsInside, Holds}
-use Rattle.lois_interp.specs.Reached.{IsReached, RunsAs}
+use Rattle.lois_interp.specs.Reached.{IsReachedContext, RunsAs}
 use Rattle.lois_interp.specs.Run.{block_run, turn_run}
 use Rattle.lois_interp.specs.Slots.{AreKept}
 use Rattle.lois_interp.specs.WellScoped.{BlockIsWellScoped, TurnIsWellScoped}
@@ -72,7 +72,7 @@ module _ (c : CondD) (body : StmtsD) where
 
   -- ---- the side on which the condition holds
   -- what is reached from a side is reached from the context itself
-  pub side_reached : (b : Bool) (d y f : Context) → IsTrueSide c b d y → IsReached (BlockEnds (ListEnds body)) (ListAssigns body) y f → IsReached (BlockEnds (ListEnds body)) (ListAssigns body) d f
+  pub side_reached : (b : Bool) (d y f : Context) → IsTrueSide c b d y → IsReachedContext (BlockEnds (ListEnds body)) (ListAssigns body) y f → IsReachedContext (BlockEnds (ListEnds body)) (ListAssigns body) d f
   side_reached b d y f side h = record {
     size = h.size ∙ side.like.size;
     within = λ x adm. side.within x (h.within x adm);
@@ -82,7 +82,7 @@ module _ (c : CondD) (body : StmtsD) where
         record {
           printed = e.printed;
           run = subst (λ z. BlockEnds (ListEnds body) (store_at x z) (store_at x f.store) e.printed) side.like.store e.run;
-          lines = e.lines ∙ ap (λ z. lines_at x z ++ e.printed) side.like.lines;
+          lines = e.lines ∙ ap (λ z. line_values x z ++ e.printed) side.like.lines;
         };
   }
 
@@ -93,7 +93,7 @@ module _ (c : CondD) (body : StmtsD) where
   passing_runs d s y fs h is runs =
       let side : IsTrueSide c true d y = subst (λ z. IfSome z (IsTrueSide c true d)) is h.yes in
       let from_side : (f : Context) → Contains fs f → IsPassed c body d f = λ f there.
-      let own : IsReached (BlockEnds (ListEnds body)) (ListAssigns body) y f = as_reached (block_run body) y fs runs f there in
+      let own : IsReachedContext (BlockEnds (ListEnds body)) (ListAssigns body) y f = as_reached (block_run body) y fs runs f there in
       record { reached = side_reached true d y f side own; passes = λ x adm. side.truth x (own.within x adm) } in
       record {
         decided = λ q there x adm. let e = only_one d q there in
@@ -111,16 +111,16 @@ module _ (c : CondD) (body : StmtsD) where
         widths = λ q. runs.widths (all_one ContextHasBoundedWidths y (side.widths (of_one ContextHasBoundedWidths d q)));
       }
     where
-      other_side : (d : Context) (o : Option Context) (q : Context) (x : List Atom) → IfSome o (IsTrueSide c false d) → Contains (listed o) q → IsAdmitted x q → HasTruth c (store_at x d.store) false
+      other_side : (d : Context) (o : Option Context) (q : Context) (x : List Atom) → IfSome o (IsTrueSide c false d) → Contains (listed_context o) q → IsAdmitted x q → HasTruth c (store_at x d.store) false
       other_side d None q x h there adm = absurd (contains_none q there)
       other_side d (Some k) q x h there adm = h.truth x (subst (λ z. IsAdmitted x z) (sym (only_one k q there)) adm)
 
       admitted_side : (d : Context) (s : Split) (y : Context) (x : List Atom) → IsDecided c d s → s.yes ≡ Some y → IsTrueSide c true d y → IsAdmitted x d → HasTruth c (store_at x d.store) true → IsAdmitted x y
       admitted_side d s y x h is side adm truth =
           let some = times_of x (d ∷ []) d (Contains-push [] d) adm in
-          let found = times_some x (listed s.yes ++ listed s.no) (omega (arith, h.choices x)) in
-          elim (Contains-append_cases (listed s.yes) (listed s.no) found.0 found.1) [
-            | inl p ↦ subst (λ z. IsAdmitted x z) (sym (only_one y found.0 (subst (λ z. Contains (listed z) found.0) is p))) found.2
+          let found = times_some x (listed_context s.yes ++ listed_context s.no) (omega (arith, h.choices x)) in
+          elim (Contains-append_cases (listed_context s.yes) (listed_context s.no) found.0 found.1) [
+            | inl p ↦ subst (λ z. IsAdmitted x z) (sym (only_one y found.0 (subst (λ z. Contains (listed_context z) found.0) is p))) found.2
             | inr p ↦ absurd (truths_apart (store_at x d.store) truth (other_side d s.no found.0 x h.no p found.2))
           ]
 
@@ -134,9 +134,9 @@ module _ (c : CondD) (body : StmtsD) where
         let adm_d : IsAdmitted x d = subst (λ z. IsAdmitted x z) (sym e) adm in
         let truth : HasTruth c (store_at x d.store) true = subst (λ z. HasTruth c (store_at x z.store) true) (sym e) true_there in
         let some = times_of x (d ∷ []) d (Contains-push [] d) adm_d in
-        let found = times_some x (listed s.yes ++ listed s.no) (omega (arith, h.choices x)) in
-        absurd (elim (Contains-append_cases (listed s.yes) (listed s.no) found.0 found.1) [
-          | inl p ↦ contains_none found.0 (subst (λ z. Contains (listed z) found.0) is p)
+        let found = times_some x (listed_context s.yes ++ listed_context s.no) (omega (arith, h.choices x)) in
+        absurd (elim (Contains-append_cases (listed_context s.yes) (listed_context s.no) found.0 found.1) [
+          | inl p ↦ contains_none found.0 (subst (λ z. Contains (listed_context z) found.0) is p)
           | inr p ↦ truths_apart (store_at x d.store) truth (no_side d s.no found.0 x h.no p found.2)
         ]);
     started = λ f there. absurd (contains_none f there);
@@ -144,7 +144,7 @@ module _ (c : CondD) (body : StmtsD) where
     widths = λ q. All-nil ContextHasBoundedWidths;
   }
     where
-      no_side : (d : Context) (o : Option Context) (q : Context) (x : List Atom) → IfSome o (IsTrueSide c false d) → Contains (listed o) q → IsAdmitted x q → HasTruth c (store_at x d.store) false
+      no_side : (d : Context) (o : Option Context) (q : Context) (x : List Atom) → IfSome o (IsTrueSide c false d) → Contains (listed_context o) q → IsAdmitted x q → HasTruth c (store_at x d.store) false
       no_side d None q x h there adm = absurd (contains_none q there)
       no_side d (Some k) q x h there adm = h.truth x (subst (λ z. IsAdmitted x z) (sym (only_one k q there)) adm)
 
@@ -186,8 +186,8 @@ module _ (c : CondD) (body : StmtsD) where
         failed = subst (λ z. (turn_run c body).fails (store_at (sampled (take n z)) d.store) g.pos.offset g.kind h.path) (sym so.sample)
             (subst (λ (z : Pos). (turn_run c body).fails (store_at a d.store) z.offset g.kind h.path) (sym so.pos)
             (subst (λ z. (turn_run c body).fails (store_at a d.store) f.pos.offset z h.path) (sym so.kind) h.failed));
-        path = subst (λ z. AreSameNamed (named x (point item a) ∷ h.path) (lines_at (sampled z) g.elements)) (sym so.sample)
-            (subst (λ z. AreSameNamed (named x (point item a) ∷ h.path) (lines_at (sampled s) z)) (sym so.elements) (refl, same, h.named));
+        path = subst (λ z. AreSameNamed (named x (point item a) ∷ h.path) (line_values (sampled z) g.elements)) (sym so.sample)
+            (subst (λ z. AreSameNamed (named x (point item a) ∷ h.path) (line_values (sampled s) z)) (sym so.elements) (refl, same, h.named));
         elements = subst (λ z. AreElements (TurnIsWellScoped c body) d (length z) g.elements) (sym so.sample)
             (subst (AreElements (TurnIsWellScoped c body) d (length s)) (sym so.elements) elements);
       }

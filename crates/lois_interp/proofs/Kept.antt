@@ -7,7 +7,7 @@ use Rattle.lois_context.specs.Choices.{IsAdmitted}
 use Rattle.lois_context.specs.Slots.{SlotD, slot_name}
 use Rattle.lois_context.specs.declared.contexts.Context.{Context}
 use Rattle.lois_eval.proofs.FaultsAt.{own_sample}
-use Rattle.lois_interp.specs.Reached.{IsReached, IsReachedAt, RunsAs}
+use Rattle.lois_interp.specs.Reached.{IsReachedContext, IsReachedAt, RunsAs}
 use Rattle.lois_interp.specs.Run.{Run}
 use Rattle.lois_interp.specs.Slots.{AreKept}
 use Rattle.lois_interp.proofs.Lists.{only_one}
@@ -32,7 +32,7 @@ kept_each Assigned P (s ∷ ss) (e ∷ es) a pa f = (
   kept_each Assigned P ss es a pa (λ c q. (f c q).2),
 )
 
-pub reached_at : (run : Run) (k d : Context) (c : List Atom) → IsReached run.ends run.assigns k d → map slot_name d.store ≡ run.behind (map slot_name k.store) → IsAdmitted c d → IsReachedAt run k d c
+pub reached_at : (run : Run) (k d : Context) (c : List Atom) → IsReachedContext run.ends run.assigns k d → map slot_name d.store ≡ run.behind (map slot_name k.store) → IsAdmitted c d → IsReachedAt run k d c
 reached_at run k d c h names adm = record {
   size = h.size;
   admitted = h.within c adm;
@@ -48,7 +48,7 @@ module _ (run : Run) (k : Context) (ds : List Context) (runs : RunsAs run k ds) 
       let r = runs.reached d there c adm in
       subst (λ z. IsReachedAt run z d c) (sym (only_one k r.0 r.1)) r.2
 
-  pub as_reached : IsReached run.ends run.assigns k d
+  pub as_reached : IsReachedContext run.ends run.assigns k d
   as_reached = record {
     size = (at_choice (sampled d.sample) (own_sample d)).size;
     within = λ c adm. (at_choice c adm).admitted;

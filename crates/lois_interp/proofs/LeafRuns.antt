@@ -18,9 +18,9 @@ use Rattle.lois_meaning.specs.Runs.{IsSetWith}
 use Rattle.lois_meaning.specs.Store.{named, stored, AreSameNamed, IsShallow}
 use Rattle.lois_meaning.proofs.Stores.{named_refl}
 use Rattle.lois_context.specs.Choices.{IsAdmitted, AdmitsContext, ContextHasBoundedWidths}
-use Rattle.lois_context.specs.Entered.{items_listed, carried, bound}
+use Rattle.lois_context.specs.Entered.{items_listed, carried, element_slot}
 use Rattle.lois_context.specs.Kept.{IsSlot, HasDistinctNames}
-use Rattle.lois_context.specs.Slots.{SlotD, IsNew, slot_name, slot_at, store_at, lines_at, comps_in, count_of_items}
+use Rattle.lois_context.specs.Slots.{SlotD, IsNew, slot_name, slot_at, store_at, line_values, comps_in, count_of_items}
 use Rattle.lois_context.specs.declared.contexts.Context.{Context}
 use Rattle.lois_context.proofs.Carried.{count_of, distinct_more}
 use Rattle.lois_context.proofs.Counts.{times_like, admits_like}
@@ -67,7 +67,7 @@ module _ (run : Run) (k d : Context) (size : d.size ≡ k.size) (is : d.«when»
   pub with_store : d.lines ≡ k.lines → ((a : List Atom) → IsAdmitted a k → run.ends (store_at a k.store) (store_at a d.store) []) → AreKept run.assigns (λ a. IsAdmitted a k) k.store d.store → map slot_name d.store ≡ run.behind (map slot_name k.store) →
       ((o : Bool) → IsWellFormedIn run.stands o k → All (λ (s : SlotD). AdmitsTerm o s.term) d.store) → (ContextHasBoundedWidths k → All (λ (s : SlotD). HasBoundedWidths s.term) d.store) → RunsAs run k (d ∷ [])
   with_store lines ends kept names operators widths =
-      one_runs (λ a adm. record { printed = []; run = ends a adm; lines = ap (lines_at a) lines ∙ sym (append-nil (lines_at a k.lines)) }) kept names
+      one_runs (λ a adm. record { printed = []; run = ends a adm; lines = ap (line_values a) lines ∙ sym (append-nil (line_values a k.lines)) }) kept names
       (λ o h. record {
         «when» = subst (AdmitsConstraint o) (sym is) h.operators.«when»;
         store = operators o h;
@@ -89,7 +89,7 @@ stored_last s a (q ∷ ss) h =
 pub distinct_last : (s : SlotD) (ss : List SlotD) → HasDistinctNames ss → IsNew s.name ss → HasDistinctNames (ss ++ s ∷ [])
 distinct_last s ss h new = subst (IsDistinct bytes_eq) (names ss) (distinct_more 0 0 s.name s.term ss h new)
   where
-    names : (qs : List SlotD) → map slot_name (map (carried 0 0) qs ++ bound s.name s.term ∷ []) ≡ map slot_name (qs ++ s ∷ [])
+    names : (qs : List SlotD) → map slot_name (map (carried 0 0) qs ++ element_slot s.name s.term ∷ []) ≡ map slot_name (qs ++ s ∷ [])
     names [] = refl
     names (q ∷ qs) = ap (λ z. q.name ∷ z) (names qs)
 
@@ -162,7 +162,7 @@ module _ (s : SlotD) (i : ℕ) (k d : Context) (is : IsWithStore (set k.store i 
 pub assert_runs : (p : ℕ) (c : CondD) (k : Context) → ((a : List Atom) → IsAdmitted a k → HasTruth c (store_at a k.store) true) → RunsAs (stmt_run (assert p c)) k (k ∷ [])
 assert_runs p c k truth =
     one_runs (stmt_run (assert p c)) k k refl refl
-    (λ a adm. record { printed = []; run = (truth a adm, named_refl (store_at a k.store), refl); lines = sym (append-nil (lines_at a k.lines)) })
+    (λ a adm. record { printed = []; run = (truth a adm, named_refl (store_at a k.store), refl); lines = sym (append-nil (line_values a k.lines)) })
     (kept_refl (StmtAssigns (assert p c)) (λ a. IsAdmitted a k) k.store) refl (λ o h. h.operators) (λ w. w)
 
 pub print_runs : (p q : ℕ) (l : LineD) (k d : Context) → d.size ≡ k.size → d.«when» ≡ k.«when» → d.store ≡ k.store → d.lines ≡ k.lines ++ l ∷ [] → Holds l.name k.store l.term → RunsAs (stmt_run (print p q l.name)) k (d ∷ [])
@@ -171,7 +171,7 @@ print_runs p q l k d size is store lines held =
     (λ a adm. record {
       printed = named l.name (point l.term a) ∷ [];
       run = (point l.term a, point l.term a, held.value a, same_refl (point l.term a), subst (λ z. AreSameNamed (store_at a z) (store_at a k.store)) (sym store) (named_refl (store_at a k.store)), refl);
-      lines = ap (lines_at a) lines ∙ map-append _ k.lines _;
+      lines = ap (line_values a) lines ∙ map-append _ k.lines _;
     })
     (subst (λ z. AreKept (StmtAssigns (print p q l.name)) (λ a. IsAdmitted a k) k.store z) (sym store) (kept_refl (StmtAssigns (print p q l.name)) (λ a. IsAdmitted a k) k.store))
     (ap (map slot_name) store)

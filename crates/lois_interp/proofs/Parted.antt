@@ -9,11 +9,11 @@ use Rattle.lois_meaning.specs.Expressions.{HasTruth}
 use Rattle.lois_meaning.specs.Store.{NamedValues}
 use Rattle.lois_meaning.specs.declared.faults.Fault.{Fault}
 use Rattle.lois_context.specs.Choices.{IsAdmitted}
-use Rattle.lois_context.specs.Slots.{slot_name, store_at, lines_at}
+use Rattle.lois_context.specs.Slots.{slot_name, store_at, line_values}
 use Rattle.lois_context.specs.declared.contexts.Context.{Context}
 use Rattle.lois_simplify.proofs.Members.{contains_none}
 use Rattle.lois_eval.specs.WellFormed.{names_of, IsWellFormedIn, CondIsWellFormed}
-use Rattle.lois_interp.specs.Decided.{listed, IsTrueSide}
+use Rattle.lois_interp.specs.Decided.{listed_context, IsTrueSide}
 use Rattle.lois_interp.specs.Failed.{FailsWithin}
 use Rattle.lois_interp.specs.Reached.{IsReachedAt}
 use Rattle.lois_interp.specs.Run.{Run}
@@ -35,7 +35,7 @@ pub cond_placed : (c : CondD) (stands : Bool → List (List ℕ) → Type 0) (o 
 cond_placed c stands o k to h = record { names = cond_may c o (names_of k.store) (to h.names); operators = h.operators }
 
 module _ (c : CondD) (b : Bool) (k : Context) where
-  pub listed_side : (o : Option Context) (y : Context) → IfSome o (IsTrueSide c b k) → Contains (listed o) y → IsTrueSide c b k y
+  pub listed_side : (o : Option Context) (y : Context) → IfSome o (IsTrueSide c b k) → Contains (listed_context o) y → IsTrueSide c b k y
   listed_side None y h there = absurd (contains_none y there)
   listed_side (Some q) y h there = subst (IsTrueSide c b k) (only_one q y there) h
 
@@ -62,7 +62,7 @@ module _ (c : CondD) (b : Bool) (k : Context) where
         ends_there = record {
           printed = at.ends_there.printed;
           run = ends (store_at x k.store) (store_at x d.store) at.ends_there.printed (side.truth x at.admitted) run;
-          lines = at.ends_there.lines ∙ ap (λ z. lines_at x z ++ at.ends_there.printed) side.like.lines;
+          lines = at.ends_there.lines ∙ ap (λ z. line_values x z ++ at.ends_there.printed) side.like.lines;
         };
       }
 

@@ -12,7 +12,7 @@ use Rattle.lois_base.specs.declared.guards.Lit.{Lit}
 use Rattle.lois_base.proofs.Members.{same_sym, same_in, same_included, included_trans}
 use Rattle.lois_algebra.proofs.Among.{items_fit-append, admits_items-append, widths-append}
 use Rattle.lois_meaning.specs.Runs.{IsSetWith}
-use Rattle.lois_simplify.specs.Kept.{IsKept, set_of}
+use Rattle.lois_simplify.specs.Simplification.{IsSimplification, set_of}
 use Rattle.lois_simplify.proofs.Kept.{alike_kept}
 use Rattle.lois_simplify.proofs.Members.{contains_none}
 use Rattle.lois_context.specs.Entered.{items_listed, comps_listed}
@@ -52,8 +52,8 @@ module _ (t item r : TermD) (ks : CompsD) (set : t ≡ coll ks) (more : IsWithIt
   once : IsPutOnce (items_listed ks) (bare item) more.0
   once = subst (λ z. IsPutOnce z (bare item) more.0) (ap comps_listed set) more.1
 
-  kept : (u : List (List Lit)) (n : ℕ) → IsKept u n (set_of (items_listed ks ++ bare item ∷ [])) r
-  kept u n = subst (IsKept u n (set_of (items_listed ks ++ bare item ∷ []))) (sym more.2) (alike_kept u n (items_listed ks ++ bare item ∷ []) more.0 (put_all (items_listed ks) (bare item) more.0 once) (put_only (items_listed ks) (bare item) more.0 once))
+  kept : (u : List (List Lit)) (n : ℕ) → IsSimplification u n (set_of (items_listed ks ++ bare item ∷ [])) r
+  kept u n = subst (IsSimplification u n (set_of (items_listed ks ++ bare item ∷ []))) (sym more.2) (alike_kept u n (items_listed ks ++ bare item ∷ []) more.0 (put_all (items_listed ks) (bare item) more.0 once) (put_only (items_listed ks) (bare item) more.0 once))
 
   was : t ≡ set_of (items_listed ks)
   was = set ∙ ap coll (sym (of_listed ks))

@@ -22,12 +22,12 @@ use Rattle.lois_script.specs.Tree.{ParamD, ScriptD}
 use Rattle.lois_meaning.specs.Runs.{ListEnds, ListFails}
 use Rattle.lois_meaning.specs.Store.{NamedValues, AreSameNamed, IsShallow, opening_from, opening}
 use Rattle.lois_meaning.specs.declared.faults.Fault.{Fault}
-use Rattle.lois_simplify.specs.Lean.{HasNormalGuards}
+use Rattle.lois_simplify.specs.Irredundant.{HasNormalGuards}
 use Rattle.lois_context.specs.Choices.{IsAdmitted, AdmitsContext, ContextHasBoundedWidths}
 use Rattle.lois_context.specs.Counted.{times}
 use Rattle.lois_context.specs.Merged.{AreDisjoint, HasSameContents, HasSameContentsAsOne, AreMerged}
 use Rattle.lois_context.specs.Kept.{LinesFit}
-use Rattle.lois_context.specs.Slots.{SlotD, lines_at}
+use Rattle.lois_context.specs.Slots.{SlotD, line_values}
 use Rattle.lois_context.specs.declared.contexts.Context.{Context}
 use Rattle.lois_eval.specs.WellFormed.{IsWellFormedIn}
 use Rattle.lois_interp.specs.Failed.{FailsWithin}
@@ -55,19 +55,19 @@ printed_fit n u [] (m ∷ ms) h = absurd h
 printed_fit n u (l ∷ ls) [] h = absurd h
 printed_fit n u (l ∷ ls) (m ∷ ms) h = All-cons (λ l. Fits n l.term) m ms h.0.levels (printed_fit n u ls ms h.1)
 
-lines_same : (n : ℕ) (u : List (List Lit)) (c : List Atom) → length c ≡ n → IsTrue (holds c u) → (ls ms : List LineD) → AllZip (IsPrintedLine n u) ls ms → AreSameNamed (lines_at c ms) (lines_at c ls)
+lines_same : (n : ℕ) (u : List (List Lit)) (c : List Atom) → length c ≡ n → IsTrue (holds c u) → (ls ms : List LineD) → AllZip (IsPrintedLine n u) ls ms → AreSameNamed (line_values c ms) (line_values c ls)
 lines_same n u c count met [] [] h = tt
 lines_same n u c count met [] (m ∷ ms) h = absurd h
 lines_same n u c count met (l ∷ ls) [] h = absurd h
 lines_same n u c count met (l ∷ ls) (m ∷ ms) h = (h.0.name, same_sym (point l.term c) (point m.term c) (h.0.value c count met), lines_same n u c count met ls ms h.1)
 
-lines_shallow : (c : List Atom) (ls : List LineD) (printed : NamedValues) → AreSameNamed (lines_at c ls) printed → AreShallow printed → All (λ l. IsShallow (point l.term c)) ls
+lines_shallow : (c : List Atom) (ls : List LineD) (printed : NamedValues) → AreSameNamed (line_values c ls) printed → AreShallow printed → All (λ l. IsShallow (point l.term c)) ls
 lines_shallow c [] printed same h = All-nil (λ l. IsShallow (point l.term c))
 lines_shallow c (l ∷ ls) [] same h = absurd same
 lines_shallow c (l ∷ ls) (b ∷ printed) same h =
     All-cons (λ l. IsShallow (point l.term c)) l ls (same_shallow b.holds (point l.term c) (same_sym (point l.term c) b.holds same.1) h.0) (lines_shallow c ls printed same.2 h.1)
 
-lines_free : (c : List Atom) (ls : List LineD) (printed : NamedValues) → AreSameNamed (lines_at c ls) printed → AreFree printed → All (λ l. IsFreeName l.name) ls
+lines_free : (c : List Atom) (ls : List LineD) (printed : NamedValues) → AreSameNamed (line_values c ls) printed → AreFree printed → All (λ l. IsFreeName l.name) ls
 lines_free c [] printed same h = All-nil (λ l. IsFreeName l.name)
 lines_free c (l ∷ ls) [] same h = absurd same
 lines_free c (l ∷ ls) (b ∷ printed) same h = All-cons (λ l. IsFreeName l.name) l ls (subst IsFreeName (sym same.0) h.0) (lines_free c ls printed same.2 h.1)
@@ -100,11 +100,11 @@ module _ (text : List ℕ) (s : ScriptD) (spelled : Spells text s) (scoped : IsW
           let own = same_admitted c adm in
           let at = (end_at e there c own).ends_there in
           let block = at.run in
-          let lines : lines_at c e.lines ≡ at.printed = at.lines ∙ ap (λ ls. lines_at c ls ++ at.printed) opened.lines in
+          let lines : line_values c e.lines ≡ at.printed = at.lines ∙ ap (λ ls. line_values c ls ++ at.printed) opened.lines in
           record {
             printed = at.printed;
             ends = (block.0, subst (λ st. ListEnds s.body st block.0 at.printed) (opens_at s.parameters o opened c) block.1);
-            values = subst (AreSameNamed (lines_at c d.lines)) lines (lines_same e.size e.«when» c own.0 own.1 e.lines d.lines p.lines);
+            values = subst (AreSameNamed (line_values c d.lines)) lines (lines_same e.size e.«when» c own.0 own.1 e.lines d.lines p.lines);
           }
 
       shallow_there : (c : List Atom) → IsAdmitted c d → All (λ l. IsShallow (point l.term c)) d.lines

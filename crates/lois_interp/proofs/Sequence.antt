@@ -23,7 +23,7 @@ use Rattle.lois_meaning.proofs.Runs.{stmt_fails_move}
 use Rattle.lois_meaning.proofs.Stores.{named_refl}
 use Rattle.lois_context.specs.Choices.{IsAdmitted, AdmitsContext, ContextHasBoundedWidths}
 use Rattle.lois_context.specs.Counted.{times}
-use Rattle.lois_context.specs.Slots.{SlotD, slot_name, slot_at, store_at, lines_at}
+use Rattle.lois_context.specs.Slots.{SlotD, slot_name, slot_at, store_at, line_values}
 use Rattle.lois_context.specs.declared.contexts.Context.{Context}
 use Rattle.lois_context.proofs.Counts.{times_cons, admits_like}
 use Rattle.lois_context.specs.Counted.{admits}
@@ -33,7 +33,7 @@ use Rattle.lois_eval.specs.WellFormed.{names_of, IsWellFormedIn}
 use Rattle.lois_interp.specs.Assigned.{StmtAssigns, ListAssigns}
 use Rattle.lois_interp.specs.Failed.{FailsWithin, FailsFrom}
 use Rattle.lois_interp.specs.WithinLimits.{StmtIsWithinLimits, StmtsAreWithinLimits}
-use Rattle.lois_interp.specs.Merged.{IsCut, AreCut}
+use Rattle.lois_interp.specs.Merged.{IsTruncatedContext, AreTruncatedContexts}
 use Rattle.lois_interp.specs.Reached.{IsReachedAt, RunsFrom, RunsAs}
 use Rattle.lois_interp.specs.Run.{Run, names_behind, names_behind_all, stmt_run, list_run, block_run}
 use Rattle.lois_interp.specs.Slots.{IsKeptTerm, AreKept}
@@ -178,7 +178,7 @@ stays_at run k ends behind c adm = record {
   admitted = adm;
   slots = kept_refl run.assigns (λ x. x ≡ c) k.store;
   named = sym (behind (map slot_name k.store));
-  ends_there = record { printed = []; run = ends (store_at c k.store); lines = sym (append-nil (lines_at c k.lines)) };
+  ends_there = record { printed = []; run = ends (store_at c k.store); lines = sym (append-nil (line_values c k.lines)) };
 }
 
 pub stays : (run : Run) (k : Context) → ((s : NamedValues) → run.ends s s []) → ((names : List (List ℕ)) → run.behind names ≡ names) → RunsAs run k (k ∷ [])
@@ -212,17 +212,17 @@ all_front P zero xs h = All-nil P
 all_front P (suc n) [] h = h
 all_front P (suc n) (x ∷ xs) h = All-cons P x (take n xs) (All-head P x xs h) (all_front P n xs (All-tail P x xs h))
 
-cut_from : (n : ℕ) (ds cs : List Context) → AreCut n ds cs → (c : Context) → Contains cs c → (d : Context) × Contains ds d × IsCut n d c
+cut_from : (n : ℕ) (ds cs : List Context) → AreTruncatedContexts n ds cs → (c : Context) → Contains cs c → (d : Context) × Contains ds d × IsTruncatedContext n d c
 cut_from n [] [] h c there = absurd (contains_none c there)
 cut_from n (d ∷ ds) (q ∷ cs) h c there = go (first_or_later q cs c there) (cut_from n ds cs h.1 c)
   where
-    go : (q ≡ c) ⊎ Contains cs c → (Contains cs c → (d : Context) × Contains ds d × IsCut n d c) → (z : Context) × Contains (d ∷ ds) z × IsCut n z c
-    go (inl is) later = (d, Contains-append_left (d ∷ []) ds d (Contains-push [] d), subst (λ z. IsCut n d z) is h.0)
+    go : (q ≡ c) ⊎ Contains cs c → (Contains cs c → (d : Context) × Contains ds d × IsTruncatedContext n d c) → (z : Context) × Contains (d ∷ ds) z × IsTruncatedContext n z c
+    go (inl is) later = (d, Contains-append_left (d ∷ []) ds d (Contains-push [] d), subst (λ z. IsTruncatedContext n d z) is h.0)
     go (inr l) later = let r = later l in (r.0, Contains-append_right (d ∷ []) ds r.0 r.1, r.2)
 cut_from n [] (q ∷ cs) h c there = absurd h
 cut_from n (d ∷ ds) [] h c there = absurd h
 
-cut_times : (n : ℕ) (ds cs : List Context) → AreCut n ds cs → (x : List Atom) → times x cs ≡ times x ds
+cut_times : (n : ℕ) (ds cs : List Context) → AreTruncatedContexts n ds cs → (x : List Atom) → times x cs ≡ times x ds
 cut_times n [] [] h x = refl
 cut_times n (d ∷ ds) (q ∷ cs) h x =
     times_cons x q cs ∙ (ap (λ b. cond b 1 0 + times x cs) (admits_like x d q h.0.size h.0.«when») ∙ (ap (λ m. cond (admits x d) 1 0 + m) (cut_times n ds cs h.1 x) ∙ sym (times_cons x d ds)))
@@ -230,30 +230,30 @@ cut_times n [] (q ∷ cs) h x = absurd h
 cut_times n (d ∷ ds) [] h x = absurd h
 
 -- what is true of each context is true of those that are cut from them
-cut_all_have : (P : Context → Type 0) → ((n : ℕ) (k d : Context) → IsCut n k d → P k → P d) → (n : ℕ) (ds cs : List Context) → AreCut n ds cs → All P ds → All P cs
+cut_all_have : (P : Context → Type 0) → ((n : ℕ) (k d : Context) → IsTruncatedContext n k d → P k → P d) → (n : ℕ) (ds cs : List Context) → AreTruncatedContexts n ds cs → All P ds → All P cs
 cut_all_have P keeps n ds cs cut h =
     all_that_are P cs (λ q there. let from = cut_from n ds cs cut q there in keeps n from.0 q from.2 (All-contains P ds from.0 h from.1))
 
-cut_admits : (o : Bool) (n : ℕ) (k d : Context) → IsCut n k d → AdmitsContext o k → AdmitsContext o d
+cut_admits : (o : Bool) (n : ℕ) (k d : Context) → IsTruncatedContext n k d → AdmitsContext o k → AdmitsContext o d
 cut_admits o n k d cut own = record {
   «when» = subst (AdmitsConstraint o) (sym cut.«when») own.«when»;
   store = subst (λ z. All (λ (s : SlotD). AdmitsTerm o s.term) z) (sym cut.store) (all_front (λ (s : SlotD). AdmitsTerm o s.term) n k.store own.store);
   lines = subst (λ z. All (λ (s : LineD). AdmitsTerm o s.term) z) (sym cut.lines) own.lines;
 }
 
-cut_widths : (n : ℕ) (k d : Context) → IsCut n k d → ContextHasBoundedWidths k → ContextHasBoundedWidths d
+cut_widths : (n : ℕ) (k d : Context) → IsTruncatedContext n k d → ContextHasBoundedWidths k → ContextHasBoundedWidths d
 cut_widths n k d cut own = record {
   store = subst (λ z. All (λ (s : SlotD). HasBoundedWidths s.term) z) (sym cut.store) (all_front (λ (s : SlotD). HasBoundedWidths s.term) n k.store own.store);
   lines = subst (λ z. All (λ (s : LineD). HasBoundedWidths s.term) z) (sym cut.lines) own.lines;
 }
 
-pub block_cut : (l : List StmtD) (k : Context) (n : ℕ) (ds cs : List Context) → n ≡ length k.store → RunsAs (list_run l) k ds → AreCut n ds cs → RunsAs (block_run (stmts_of l)) k cs
+pub block_cut : (l : List StmtD) (k : Context) (n : ℕ) (ds cs : List Context) → n ≡ length k.store → RunsAs (list_run l) k ds → AreTruncatedContexts n ds cs → RunsAs (block_run (stmts_of l)) k cs
 block_cut l k n ds cs e h cut = record {
   choices = λ x. cut_times n ds cs cut x ∙ h.choices x;
   reached = λ q there x adm.
       let from = cut_from n ds cs cut q there in
       let d = from.0 in
-      let is : IsCut n d q = from.2 in
+      let is : IsTruncatedContext n d q = from.2 in
       let adm_d : IsAdmitted x d = (adm.0 ∙ is.size, subst (λ g. IsTrue (holds x g)) is.«when» adm.1) in
       let r = h.reached d from.1 x adm_d in
       let at : IsReachedAt (list_run l) k d x = subst (λ z. IsReachedAt (list_run l) z d x) (sym (only_one k r.0 r.1)) r.2 in
@@ -270,7 +270,7 @@ block_cut l k n ds cs e h cut = record {
           ends_there = record {
             printed = at.ends_there.printed;
             run = (store_at x d.store, at.ends_there.run, subst (λ z. AreSameNamed (store_at x q.store) z) (sym values) (named_refl (store_at x q.store)));
-            lines = ap (lines_at x) is.lines ∙ at.ends_there.lines;
+            lines = ap (line_values x) is.lines ∙ at.ends_there.lines;
           };
         },
       );

@@ -1,7 +1,7 @@
 -- A script that some text spells is formed as statements have to be.
 use Rattle.std.proofs.Common.{◌≡◌, ℕ, suc, ◌≤◌, Bool, true, false, List, length, map, refl, ap, subst, arith}
 use Rattle.lois_lexer.proofs.OneReading.{tokens_of_cut}
-use Rattle.lois_script.specs.Grammar.{placed, IsWide, HasArity, is_base, is_unit, is_conjunction}
+use Rattle.lois_script.specs.Grammar.{token_at_place, IsWide, HasArity, is_base, is_unit, is_conjunction}
 use Rattle.lois_script.specs.Limits.{Spells, width, IsNarrow, AreNarrow, BindingIsNarrow, BindingsAreNarrow, CondIsNarrow, CondsAreNarrow, StmtIsWithin, StmtsAreWithin}
 use Rattle.lois_script.specs.Tree.{ExprD, atoms, var, tag, tuple, listed, each, part, apply, ExprsD, no_exprs, expr, BindingD, binding, BindingsD, no_bindings, bind, CondD, truth, falsity, same, differ, below, member, included, empty, not, all, any, exists, every, CondsD, no_conds, cond, StmtD, «let», assign, add, for, if, while, assert, print, StmtsD, no_stmts, stmt, ScriptD}
 use Rattle.lois_script.specs.declared.syntax.Operation.{Operation}
@@ -106,7 +106,7 @@ mutual
 pub spelled_prints : (text : List ℕ) (s : ScriptD) → Spells text s → ScriptPrints s
 spelled_prints text s h =
     let tokens = are_tokens text h.tokens (tokens_of_cut text (length text) h.tokens h.cut) in
-    script_prints s (map (placed text) h.tokens) h.script (record { nested = h.nesting; tokens = tokens })
+    script_prints s (map (token_at_place text) h.tokens) h.script (record { nested = h.nesting; tokens = tokens })
 
 pub spelled_formed : (text : List ℕ) (s : ScriptD) → Spells text s → StmtsAreWithinLimits s.body
 spelled_formed text s h = stmts_formed s.body 0 (spelled_prints text s h).body h.forms

@@ -16,7 +16,7 @@ use Rattle.lois_algebra.proofs.Among.{items_fit-append, admits_items-append, wid
 use Rattle.lois_deciders.specs.Satisfaction.{ConstraintIsSatisfiable}
 use Rattle.lois_simplify.proofs.Kept.{alike_kept}
 use Rattle.lois_simplify.proofs.Members.{items_fit_each, each_fits_items, items_admit_each, each_admits_items, items_wide_each, each_wide_items}
-use Rattle.lois_terms.specs.Guarded.{IsSet}
+use Rattle.lois_terms.specs.Guarded.{IsColl}
 use Rattle.lois_context.specs.Entered.{items_listed, comps_listed}
 use Rattle.lois_context.specs.Kept.{IsSlot, AreSlots}
 use Rattle.lois_context.specs.Slots.{SlotD, comps_in, count_of_items}
@@ -48,7 +48,7 @@ tidied_same n g first t fits = record {
     kept (coll ks) = (ks, refl, refl)
 
 -- a simplified set is one
-pub still_set : (n : ℕ) (g : List (List Lit)) (ks : CompsD) (r : TermD) → ConstraintIsSatisfiable n g → ((c : List Atom) → length c ≡ n → IsTrue (holds c g) → IsSame (point (coll ks) c) (point r c)) → IsSet r
+pub still_set : (n : ℕ) (g : List (List Lit)) (ks : CompsD) (r : TermD) → ConstraintIsSatisfiable n g → ((c : List Atom) → length c ≡ n → IsTrue (holds c g) → IsSame (point (coll ks) c) (point r c)) → IsColl r
 still_set n g ks r (c, l, o) same = same_as_set (point (coll ks) c) (point r c) ks refl (same c l o)
 
 pub items_fit_first : (n : ℕ) (xs ys : List CompD) → ItemsFit n (comps_of (xs ++ ys)) → ItemsFit n (comps_of xs)
@@ -100,7 +100,7 @@ behind_same first added more c only whole = (alike_kept ([] ∷ []) (length c) (
     (λ k h. elim (Contains-append_cases first added k h) [ inl a ↦ Contains-append_left first more k a | inr a ↦ whole k a ])
     (λ k h. elim (Contains-append_cases first more k h) [ inl a ↦ Contains-append_left first added k a | inr a ↦ Contains-append_right first added k (only k a) ])).value c refl refl
 
-pub set_tidied : (n : ℕ) (g : List (List Lit)) (first : ℕ) (ks : List CompD) (lean r : TermD) → first ≤ length ks → ItemsFit n (comps_of ks) → IsSet lean → ArePutBehind (take first ks) (comps_listed lean) r →
+pub set_tidied : (n : ℕ) (g : List (List Lit)) (first : ℕ) (ks : List CompD) (lean r : TermD) → first ≤ length ks → ItemsFit n (comps_of ks) → IsColl lean → ArePutBehind (take first ks) (comps_listed lean) r →
     Fits n lean → ((c : List Atom) → length c ≡ n → IsTrue (holds c g) → IsSame (point (coll (comps_of (drop first ks))) c) (point lean c)) →
     ((o : Bool) → AdmitsTerm o (coll (comps_of (drop first ks))) → AdmitsTerm o lean) → (HasBoundedWidths (coll (comps_of (drop first ks))) → HasBoundedWidths lean) → IsTidied n g first (coll (comps_of ks)) r
 set_tidied n g first ks lean r le fits (ls, set) (all, (more, together, only, rest), is) levels same operators widths =

@@ -5,7 +5,7 @@ use Rattle.std.proofs.lemmas.List.{take-append-drop, length-take-le}
 use Rattle.lois_base.specs.Atom.{Atom}
 use Rattle.lois_base.specs.Data.{TermD, var, tag, tup, coll, TermsD, no_terms, term, CompD, comp, CompsD, no_comps, more}
 use Rattle.lois_base.specs.Fits.{LitFits, ConstraintFits, Fits, PartsFit, CompFits, ItemsFit}
-use Rattle.lois_base.specs.Normal.{both, joined, Satisfies, IsIrredundant, IsNormal, PartsAreNormal, IsNormalComp, EachIsNormal}
+use Rattle.lois_base.specs.Normal.{both, concatenated, Satisfies, IsIrredundant, IsNormal, PartsAreNormal, IsNormalComp, EachIsNormal}
 use Rattle.lois_base.specs.Truth.{holds}
 use Rattle.lois_base.specs.declared.guards.Lit.{Lit}
 use Rattle.lois_base.proofs.Both.{holds_both, all_both}
@@ -63,7 +63,7 @@ mutual
   each_weaker : (cs before : CompsD) (u v : List (List Lit)) (n : ℕ) → IsWeaker n u v → ItemsFit n cs → EachIsNormal cs before u n → EachIsNormal cs before v n
   each_weaker no_comps before u v n w f h = tt
   each_weaker (more k ks) before u v n w f h =
-      (comp_weaker k (joined before ks) u v n w f.0 h.0, each_weaker ks (joined before (more k no_comps)) u v n w f.1 h.1)
+      (comp_weaker k (concatenated before ks) u v n w f.0 h.0, each_weaker ks (concatenated before (more k no_comps)) u v n w f.1 h.1)
 
   comp_weaker : (k : CompD) (others : CompsD) (u v : List (List Lit)) (n : ℕ) → IsWeaker n u v → CompFits n k → IsNormalComp k others u n → IsNormalComp k others v n
   comp_weaker (comp m g t) others u v n w f h =

@@ -5,7 +5,7 @@ use Rattle.std.proofs.lemmas.List.{map-append}
 use Rattle.std.proofs.lemmas.List.Elements.{All-cons, All-nil}
 use Rattle.lois_script.specs.Scope.{RuleD, unknown, again, order_in_equality, RoleD, DeclaredD, ScopeD, role_of, bound, with_binder, ExprBreaks, ExprsBreak, BindingsBreak, CondBreaks, CondsBreak}
 use Rattle.lois_script.specs.Tree.{ExprD, atoms, var, tag, tuple, listed, each, part, apply, ExprsD, no_exprs, expr, binding, BindingsD, no_bindings, bind, CondD, truth, falsity, same, differ, below, member, included, empty, not, all, any, exists, every, CondsD, no_conds, cond}
-use Rattle.lois_eval.specs.WellFormed.{IsNamed, IsUnnamed, names_behind, IsWellFormed, AreWellFormed, BindersAreWellFormed, CondIsWellFormed, CondsAreWellFormed}
+use Rattle.lois_eval.specs.WellFormed.{IsNamed, IsUnnamed, names_behind_bindings, IsWellFormed, AreWellFormed, BindersAreWellFormed, CondIsWellFormed, CondsAreWellFormed}
 use Rattle.lois_interp.specs.WithinLimits.{IsWithinLimits, AreWithinLimits, BindingsAreWithinLimits, CondIsWithinLimits, CondsAreWithinLimits}
 use Rattle.lois_interp.specs.WellScoped.{declared_name, ExprIsWellScoped, CondIsWellScoped}
 
@@ -31,9 +31,9 @@ unnamed_in x (d ∷ ds) h = go (bytes_eq d.name x) refl (unnamed_in x ds) h
 binder_names : (p : ℕ) (x : List ℕ) (e : ExprD) (s : ScopeD) → names_in (with_binder (binding p x e) s) ≡ names_in s ++ x ∷ []
 binder_names p x e s = map-append declared_name s.names _
 
-bound_names : (bs : BindingsD) (s : ScopeD) → names_in (bound bs s) ≡ names_behind bs (names_in s)
+bound_names : (bs : BindingsD) (s : ScopeD) → names_in (bound bs s) ≡ names_behind_bindings bs (names_in s)
 bound_names no_bindings s = refl
-bound_names (bind (binding p x e) bs) s = bound_names bs (with_binder (binding p x e) s) ∙ ap (names_behind bs) (binder_names p x e s)
+bound_names (bind (binding p x e) bs) s = bound_names bs (with_binder (binding p x e) s) ∙ ap (names_behind_bindings bs) (binder_names p x e s)
 
 bound_order : (bs : BindingsD) (s : ScopeD) → (bound bs s).ordered ≡ s.ordered
 bound_order no_bindings s = refl
@@ -56,8 +56,8 @@ mutual
   expr_stands (listed p es) s h form = all_stand es s h form
   expr_stands (each p item bs c) s h form = (
     binders_stand bs s (λ rule at bad. h rule at (inl bad)) form.1,
-    subst (λ o. IsWellFormed item o (names_behind bs (names_in s))) (bound_order bs s) (subst (IsWellFormed item (bound bs s).ordered) (bound_names bs s) (expr_stands item (bound bs s) (λ rule at bad. h rule at (inr (inl bad))) form.0)),
-    subst (λ o. CondIsWellFormed c o (names_behind bs (names_in s))) (bound_order bs s) (subst (CondIsWellFormed c (bound bs s).ordered) (bound_names bs s) (cond_stands c (bound bs s) (λ rule at bad. h rule at (inr (inr bad))) form.2)),
+    subst (λ o. IsWellFormed item o (names_behind_bindings bs (names_in s))) (bound_order bs s) (subst (IsWellFormed item (bound bs s).ordered) (bound_names bs s) (expr_stands item (bound bs s) (λ rule at bad. h rule at (inr (inl bad))) form.0)),
+    subst (λ o. CondIsWellFormed c o (names_behind_bindings bs (names_in s))) (bound_order bs s) (subst (CondIsWellFormed c (bound bs s).ordered) (bound_names bs s) (cond_stands c (bound bs s) (λ rule at bad. h rule at (inr (inr bad))) form.2)),
   )
   expr_stands (part p e n) s h form = expr_stands e s h form
   expr_stands (apply p op es) s h form = (form.0, all_stand es s h form.1)

@@ -29,7 +29,7 @@ use Rattle.lois_eval.specs.Throughout.{IsFaultOf}
 use Rattle.lois_eval.specs.Checks.{IsFaultWith}
 use Rattle.lois_eval.proofs.FaultsAt.{own_sample}
 use Rattle.lois_eval.specs.Checks.{IsFaultWith}
-use Rattle.lois_interp.specs.Decided.{listed, IsTrueSide, IsDecided}
+use Rattle.lois_interp.specs.Decided.{listed_context, IsTrueSide, IsDecided}
 use Rattle.lois_interp.specs.Failed.{FailsWithin, FailsFrom}
 use Rattle.lois_interp.specs.Reached.{IsReachedAt, ComesFrom, RunsFrom, RunsAs}
 use Rattle.lois_interp.specs.Run.{Run, stmt_run, block_run, turn_run, turns_run, leave_run}
@@ -98,9 +98,9 @@ module _ (c : CondD) (body : StmtsD) where
       from_side c false k (still_run p c) (leave_run p c) y y x side (λ s t l truth e. (truth, e.0, e.1)) (λ z w. w) (λ names. refl) (stays_at (still_run p c) y (λ s. (named_refl s, refl)) (λ names. refl) x adm),
     )
 
-    pub turn_parts : (s : Split) (es : List Context) → IsDecided c k s → RunsFrom (block_run body) (listed s.yes) es → Parts (leave_run 0 c) (turn_run c body) (TurnIsWellScoped c body) (k ∷ []) (listed s.no) es
+    pub turn_parts : (s : Split) (es : List Context) → IsDecided c k s → RunsFrom (block_run body) (listed_context s.yes) es → Parts (leave_run 0 c) (turn_run c body) (TurnIsWellScoped c body) (k ∷ []) (listed_context s.no) es
     turn_parts s es decided h = record {
-      choices = λ x. omega (arith, times_append x (listed s.no) es, h.choices x, times_append x (listed s.yes) (listed s.no), decided.choices x);
+      choices = λ x. omega (arith, times_append x (listed_context s.no) es, h.choices x, times_append x (listed_context s.yes) (listed_context s.no), decided.choices x);
       left = λ d there. left_from 0 d (listed_side c false k s.no d decided.no there);
       going = λ d there x adm.
           let r = h.reached d there x adm in (
@@ -110,12 +110,12 @@ module _ (c : CondD) (body : StmtsD) where
           );
       operators = λ o placed.
           let own = of_one (IsWellFormedIn (TurnIsWellScoped c body) o) k placed in
-          All-append (AdmitsContext o) (listed s.no) es
+          All-append (AdmitsContext o) (listed_context s.no) es
           (all_sides (AdmitsContext o) s.no (some_side (IsTrueSide c false k) (AdmitsContext o) s.no (λ y side. side.operators o (turn_placed o own)) decided.no))
           (h.operators o (all_sides (IsWellFormedIn (BlockIsWellScoped body) o) s.yes (turn_may o s.yes own decided.yes)));
       widths = λ w.
           let own = of_one ContextHasBoundedWidths k w in
-          All-append ContextHasBoundedWidths (listed s.no) es
+          All-append ContextHasBoundedWidths (listed_context s.no) es
           (all_sides ContextHasBoundedWidths s.no (some_side (IsTrueSide c false k) ContextHasBoundedWidths s.no (λ y side. side.widths own) decided.no))
           (h.widths (all_sides ContextHasBoundedWidths s.yes (some_side (IsTrueSide c true k) ContextHasBoundedWidths s.yes (λ y side. side.widths own) decided.yes)));
     }
@@ -123,7 +123,7 @@ module _ (c : CondD) (body : StmtsD) where
     pub turn_cond_fails : (f : Fault) → IsFaultOf k (CondFails c) f → FailsWithin (turn_run c body) k f
     turn_cond_fails f h = bare_within (CondFails c) (turn_run c body) k f (λ s at kind bad. inl (bad, refl)) h
 
-    pub turn_body_fails : (s : Split) (f : Fault) → IsDecided c k s → FailsFrom (block_run body) (listed s.yes) f → FailsWithin (turn_run c body) k f
+    pub turn_body_fails : (s : Split) (f : Fault) → IsDecided c k s → FailsFrom (block_run body) (listed_context s.yes) f → FailsWithin (turn_run c body) k f
     turn_body_fails s f decided (y, there, h) =
         let side = listed_side c true k s.yes y decided.yes there in
         side_fails c true k (block_run body) (turn_run c body) y f side (λ a at kind path truth bad. inr (truth, bad)) (λ o p. body_placed o y p side) h
@@ -132,9 +132,9 @@ module _ (c : CondD) (body : StmtsD) where
     pub leave_placed : (o : Bool) → IsWellFormedIn (CondIsWellScoped c) o k → IsWellFormedIn (CondIsWellFormed c) o k
     leave_placed o h = cond_placed c (CondIsWellScoped c) o k (λ q. q) h
 
-    pub leave_runs : (p : ℕ) (s : Split) → IsDecided c k s → s.yes ≡ None → RunsAs (leave_run p c) k (listed s.no)
+    pub leave_runs : (p : ℕ) (s : Split) → IsDecided c k s → s.yes ≡ None → RunsAs (leave_run p c) k (listed_context s.no)
     leave_runs p s decided none = record {
-      choices = λ x. omega (arith, times_append x (listed s.yes) (listed s.no), decided.choices x, ap (λ o. times x (listed o)) none);
+      choices = λ x. omega (arith, times_append x (listed_context s.yes) (listed_context s.no), decided.choices x, ap (λ o. times x (listed_context o)) none);
       reached = λ d there. left_from p d (listed_side c false k s.no d decided.no there);
       operators = λ o placed. all_sides (AdmitsContext o) s.no (some_side (IsTrueSide c false k) (AdmitsContext o) s.no (λ y side. side.operators o (leave_placed o (of_one (IsWellFormedIn (CondIsWellScoped c) o) k placed))) decided.no);
       widths = λ w. all_sides ContextHasBoundedWidths s.no (some_side (IsTrueSide c false k) ContextHasBoundedWidths s.no (λ y side. side.widths (of_one ContextHasBoundedWidths k w)) decided.no);

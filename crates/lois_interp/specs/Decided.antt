@@ -12,9 +12,9 @@ use Rattle.lois_eval.specs.WellFormed.{IsWellFormedIn, CondIsWellFormed}
 use Rattle.lois_interp.specs.Merged.{HoldsTheSame}
 
 -- a context that may be missing, as a list
-abbrev pub listed : Option Context → List Context
-listed None = []
-listed (Some k) = k ∷ []
+abbrev pub listed_context : Option Context → List Context
+listed_context None = []
+listed_context (Some k) = k ∷ []
 
 -- the part of the context at whose choices the condition has the truth b
 pub record IsTrueSide (c : CondD) (b : Bool) (before d : Context) : Type 0 where
@@ -29,4 +29,4 @@ pub record IsDecided (c : CondD) (before : Context) (s : Split) : Type 0 where
   pub decided : (x : List Atom) → IsAdmitted x before → (b : Bool) × HasTruth c (store_at x before.store) b
   pub yes : IfSome s.yes (IsTrueSide c true before)
   pub no : IfSome s.no (IsTrueSide c false before)
-  pub choices : AdmitAlike (before ∷ []) (listed s.yes ++ listed s.no)
+  pub choices : AdmitAlike (before ∷ []) (listed_context s.yes ++ listed_context s.no)

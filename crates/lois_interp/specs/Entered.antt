@@ -8,7 +8,7 @@ use Rattle.lois_script.specs.Tree.{ExprD}
 use Rattle.lois_meaning.specs.Expressions.{Gives}
 use Rattle.lois_meaning.specs.Kinds.{IsSetTerm}
 use Rattle.lois_context.specs.Choices.{IsAdmitted, AdmitsContext, ContextHasBoundedWidths}
-use Rattle.lois_context.specs.Entered.{IsHeldInside, GoesOn}
+use Rattle.lois_context.specs.Entered.{IsHeldInside, ExtendsContext}
 use Rattle.lois_context.specs.Joined.{IsEnd}
 use Rattle.lois_context.specs.Slots.{slot_name, store_at}
 use Rattle.lois_context.specs.declared.contexts.Context.{Context}
@@ -17,7 +17,7 @@ use Rattle.lois_interp.specs.Looped.{HoldsElement}
 
 -- Each of them goes on from the context before, and its last slot is the loop's name.
 pub record StandsInside (e : ExprD) (x : List ℕ) (before d : Context) : Type 0 where
-  pub goes_on : GoesOn before x d
+  pub goes_on : ExtendsContext before x d
   pub end : IsEnd before d
   pub named : map slot_name d.store ≡ map slot_name before.store ++ x ∷ []
   pub element : HoldsElement x d.store

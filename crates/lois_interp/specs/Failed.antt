@@ -9,7 +9,7 @@ use Rattle.lois_meaning.specs.Store.{NamedValues, AreSameNamed}
 use Rattle.lois_meaning.specs.declared.faults.Fault.{Fault}
 use Rattle.lois_context.specs.Choices.{IsAdmitted, ContextHasBoundedWidths}
 use Rattle.lois_context.specs.Kept.{LinesFit}
-use Rattle.lois_context.specs.Slots.{store_at, lines_at}
+use Rattle.lois_context.specs.Slots.{store_at, line_values}
 use Rattle.lois_context.specs.declared.contexts.Context.{Context}
 use Rattle.lois_eval.specs.WellFormed.{IsWellFormedIn}
 use Rattle.lois_interp.specs.Run.{Run}
@@ -28,7 +28,7 @@ pub record FailsWithin (run : Run) (k : Context) (f : Fault) : Type 0 where
   pub admitted : IsAdmitted (sampled (take k.size f.sample.items)) k
   pub path : NamedValues
   pub failed : run.fails (store_at (sampled (take k.size f.sample.items)) k.store) f.pos.offset f.kind path
-  pub named : AreSameNamed path (lines_at (sampled f.sample.items) f.elements)
+  pub named : AreSameNamed path (line_values (sampled f.sample.items) f.elements)
   pub elements : AreElements run.stands k (length f.sample.items) f.elements
 
 -- the fault is one of a run from one of the contexts

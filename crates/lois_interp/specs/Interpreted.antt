@@ -8,7 +8,7 @@ use Rattle.lois_base.specs.Truth.{holds, sampled}
 use Rattle.lois_base.specs.Validity.{AdmitsTerm, HasBoundedWidths}
 use Rattle.lois_base.specs.declared.guards.Lit.{Lit}
 use Rattle.lois_constraint.specs.Normalised.{IsNormalised}
-use Rattle.lois_simplify.specs.Lean.{HasNormalGuards}
+use Rattle.lois_simplify.specs.Irredundant.{HasNormalGuards}
 use Rattle.lois_answers.specs.ResultsData.{LineD, CaseD}
 use Rattle.lois_answers.specs.Sound.{IsSound}
 use Rattle.lois_answers.specs.declared.results.Results.{Results}
@@ -17,7 +17,7 @@ use Rattle.lois_meaning.specs.Runs.{ScriptEnds, ScriptFails}
 use Rattle.lois_meaning.specs.Store.{NamedValues, AreSameNamed}
 use Rattle.lois_meaning.specs.declared.faults.Fault.{Fault}
 use Rattle.lois_context.specs.Kept.{LinesFit}
-use Rattle.lois_context.specs.Slots.{lines_at}
+use Rattle.lois_context.specs.Slots.{line_values}
 
 abbrev pub parameter_name : ParamD → List ℕ
 parameter_name x = x.name
@@ -33,7 +33,7 @@ HoldsAt choice c = IsTrue (holds choice c.«when»)
 pub record PrintsAt (s : ScriptD) (choice : List Atom) (lines : List LineD) : Type 0 where
   pub printed : NamedValues
   pub ends : ScriptEnds s choice printed
-  pub values : AreSameNamed (lines_at choice lines) printed
+  pub values : AreSameNamed (line_values choice lines) printed
 
 -- Exactly one case holds at the choice, and its lines are those that the script prints there.
 pub record IsRightAt (s : ScriptD) (cases : List CaseD) (choice : List Atom) : Type 0 where
@@ -76,7 +76,7 @@ pub record IsFailureOf (s : ScriptD) (f : Fault) : Type 0 where
   pub enough : length s.parameters ≤ length f.sample.items
   pub path : NamedValues
   pub failed : ScriptFails s (sampled (take (length s.parameters) f.sample.items)) f.pos.offset f.kind path
-  pub named : AreSameNamed path (lines_at (sampled f.sample.items) f.elements)
+  pub named : AreSameNamed path (line_values (sampled f.sample.items) f.elements)
   pub levels : LinesFit (length f.sample.items) f.elements
   pub brackets : All (λ l. depth l.term ≤ 64) f.elements
   pub operators : All (λ l. AdmitsTerm s.ordered l.term) f.elements

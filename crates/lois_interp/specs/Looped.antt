@@ -11,18 +11,18 @@ use Rattle.lois_meaning.specs.Runs.{BlockEnds, ListEnds}
 use Rattle.lois_meaning.specs.Store.{NamedValues, named, looked_up, AreSameNamed}
 use Rattle.lois_meaning.specs.declared.faults.Fault.{Fault}
 use Rattle.lois_context.specs.Choices.{IsAdmitted, AdmitsContext, ContextHasBoundedWidths}
-use Rattle.lois_context.specs.Slots.{SlotD, store_at, lines_at}
+use Rattle.lois_context.specs.Slots.{SlotD, store_at, line_values}
 use Rattle.lois_context.specs.declared.contexts.Context.{Context}
 use Rattle.lois_eval.specs.WellFormed.{IsWellFormedIn}
 use Rattle.lois_interp.specs.Assigned.{ListAssigns}
 use Rattle.lois_interp.specs.Failed.{AreElements}
-use Rattle.lois_interp.specs.Reached.{IsReached}
+use Rattle.lois_interp.specs.Reached.{IsReachedContext}
 use Rattle.lois_interp.specs.Run.{turn_run}
 use Rattle.lois_interp.specs.WellScoped.{TurnIsWellScoped}
 
 -- Where the condition holds at a choice of the context d, and what the body comes to from there.
 pub record IsPassed (c : CondD) (body : StmtsD) (d f : Context) : Type 0 where
-  pub reached : IsReached (BlockEnds (ListEnds body)) (ListAssigns body) d f
+  pub reached : IsReachedContext (BlockEnds (ListEnds body)) (ListAssigns body) d f
   pub passes : (x : List Atom) → IsAdmitted x f → HasTruth c (store_at x d.store) true
 
 -- some end is what the body comes to from d, and admits the choice
@@ -45,7 +45,7 @@ pub record FailsInside (x : List ℕ) (c : CondD) (body : StmtsD) (d : Context) 
   pub rest : NamedValues
   pub held : looked_up x (store_at (sampled (take d.size f.sample.items)) d.store) ≡ Some member
   pub failed : (turn_run c body).fails (store_at (sampled (take d.size f.sample.items)) d.store) f.pos.offset f.kind rest
-  pub path : AreSameNamed (named x member ∷ rest) (lines_at (sampled f.sample.items) f.elements)
+  pub path : AreSameNamed (named x member ∷ rest) (line_values (sampled f.sample.items) f.elements)
   pub elements : AreElements (TurnIsWellScoped c body) d (length f.sample.items) f.elements
 
 -- at each choice the name holds the term

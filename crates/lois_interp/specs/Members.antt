@@ -4,7 +4,7 @@ use Rattle.std.specs.List.{Contains}
 use Rattle.lois_base.specs.Data.{TermD, coll, CompD, comps_of}
 use Rattle.lois_base.specs.Tree.{tree}
 use Rattle.lois_base.specs.declared.values.Term.{Term}
-use Rattle.lois_terms.specs.Guarded.{IsSet}
+use Rattle.lois_terms.specs.Guarded.{IsColl}
 use Rattle.lois_context.specs.Entered.{comps_listed}
 use Rattle.lois_eval.specs.Made.{bare}
 
@@ -18,8 +18,8 @@ IsWithItem set item t = (ls : List CompD) × IsPutOnce (comps_listed set) (bare 
 
 -- the set with the item, or nothing where the term is no set
 abbrev pub IsExtended : TermD → TermD → Option Term → Type 0
-IsExtended set item None = IsSet set → ⊥
-IsExtended set item (Some t) = IsSet set × IsWithItem set item (tree t)
+IsExtended set item None = IsColl set → ⊥
+IsExtended set item (Some t) = IsColl set × IsWithItem set item (tree t)
 
 -- the first ones, and behind them those of the added ones that aren't there already
 abbrev pub AreBehind : List CompD → List CompD → List CompD → Type 0

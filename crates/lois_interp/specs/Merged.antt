@@ -9,13 +9,13 @@ pub record HoldsTheSame (k d : Context) : Type 0 where
   pub lines : d.lines ≡ k.lines
 
 -- The first n slots of a context alone.
-pub record IsCut (n : ℕ) (k d : Context) : Type 0 where
+pub record IsTruncatedContext (n : ℕ) (k d : Context) : Type 0 where
   pub size : d.size ≡ k.size
   pub «when» : d.«when» ≡ k.«when»
   pub store : d.store ≡ take n k.store
   pub lines : d.lines ≡ k.lines
 
-abbrev pub AreCut : ℕ → List Context → List Context → Type 0
-AreCut n [] [] = Unit {0}
-AreCut n (k ∷ ks) (d ∷ ds) = IsCut n k d × AreCut n ks ds
-AreCut n _ _ = ⊥
+abbrev pub AreTruncatedContexts : ℕ → List Context → List Context → Type 0
+AreTruncatedContexts n [] [] = Unit {0}
+AreTruncatedContexts n (k ∷ ks) (d ∷ ds) = IsTruncatedContext n k d × AreTruncatedContexts n ks ds
+AreTruncatedContexts n _ _ = ⊥

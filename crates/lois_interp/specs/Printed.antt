@@ -10,8 +10,8 @@ use Rattle.lois_base.specs.declared.guards.Lit.{Lit}
 use Rattle.lois_constraint.specs.Normalised.{IsNormalised}
 use Rattle.lois_answers.specs.ResultsData.{LineD, CaseD}
 use Rattle.lois_answers.specs.Sound.{HasTags}
-use Rattle.lois_simplify.specs.Kept.{IsSameWhere}
-use Rattle.lois_simplify.specs.Lean.{HasNormalGuards}
+use Rattle.lois_simplify.specs.Simplification.{IsSameWhere}
+use Rattle.lois_simplify.specs.Irredundant.{HasNormalGuards}
 use Rattle.lois_context.specs.declared.contexts.Context.{Context}
 
 -- r has the value of l at each choice of n atoms at which u holds, and is normal there, with normalised guards

@@ -7,7 +7,7 @@ use Rattle.lois_meaning.specs.Runs.{Ending}
 use Rattle.lois_meaning.specs.Store.{NamedValues}
 use Rattle.lois_context.specs.Choices.{IsAdmitted, AdmitsContext, ContextHasBoundedWidths}
 use Rattle.lois_context.specs.Counted.{AdmitAlike}
-use Rattle.lois_context.specs.Slots.{SlotD, slot_name, store_at, lines_at}
+use Rattle.lois_context.specs.Slots.{SlotD, slot_name, store_at, line_values}
 use Rattle.lois_context.specs.declared.contexts.Context.{Context}
 use Rattle.lois_eval.specs.WellFormed.{IsWellFormedIn}
 use Rattle.lois_interp.specs.Run.{Run}
@@ -17,10 +17,10 @@ use Rattle.lois_interp.specs.Slots.{AreKept}
 pub record EndsAt (ends : Ending) (before d : Context) (c : List Atom) : Type 0 where
   pub printed : NamedValues
   pub run : ends (store_at c before.store) (store_at c d.store) printed
-  pub lines : lines_at c d.lines ≡ lines_at c before.lines ++ printed
+  pub lines : line_values c d.lines ≡ line_values c before.lines ++ printed
 
 -- One context that a run from k comes to, at all its choices.
-pub record IsReached (ends : Ending) (Assigned : List ℕ → Type 0) (k d : Context) : Type 0 where
+pub record IsReachedContext (ends : Ending) (Assigned : List ℕ → Type 0) (k d : Context) : Type 0 where
   pub size : d.size ≡ k.size
   pub within : (c : List Atom) → IsAdmitted c d → IsAdmitted c k
   pub slots : AreKept Assigned (λ c. IsAdmitted c d) k.store d.store

@@ -12,13 +12,13 @@ use Rattle.lois_interp.specs.Assigned.{StmtAssigns, ListAssigns}
 use Rattle.lois_interp.specs.WellScoped.{CondIsWellScoped, StmtIsWellScoped, BlockIsWellScoped, TurnIsWellScoped}
 
 -- How a run fails from a store: place, kind and path.
-abbrev pub Failing : Type 1
-Failing = NamedValues → ℕ → FaultKind → NamedValues → Type 0
+abbrev pub FailureRelation : Type 1
+FailureRelation = NamedValues → ℕ → FaultKind → NamedValues → Type 0
 
 -- How it ends and fails from one store, which names it assigns, where it may stand, and the names of the store behind it.
 pub record Run : Type 1 where
   pub ends : Ending
-  pub fails : Failing
+  pub fails : FailureRelation
   pub assigns : List ℕ → Type 0
   pub stands : Bool → List (List ℕ) → Type 0
   pub behind : List (List ℕ) → List (List ℕ)

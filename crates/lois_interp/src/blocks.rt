@@ -1,8 +1,8 @@
 //! Lists of contexts, and the ends of blocks.
 
 ghost use Rattle.std.specs.Prelude.{◌≡◌, [], ◌∷◌, ◌++◌, IfOk, OnOk};
-ghost use Rattle.lois_interp.specs.Decided.{listed};
-ghost use Rattle.lois_interp.specs.Merged.{AreCut, IsCut};
+ghost use Rattle.lois_interp.specs.Decided.{listed_context};
+ghost use Rattle.lois_interp.specs.Merged.{AreTruncatedContexts, IsTruncatedContext};
 
 use lois_base::NoMemory;
 use lois_context::Context;
@@ -19,7 +19,7 @@ pub(crate) fn one(alloc: Global, context: Context) -> Result<Vec<Context>, NoMem
 
 /// Puts a context that may be missing behind others.
 pub(crate) fn put(contexts: &mut Vec<Context>, context: Option<Context>) -> Result<(), NoMemory>
-    ensures { OnOk result (contexts.new.items ≡ contexts.old.items ++ listed context) }
+    ensures { OnOk result (contexts.new.items ≡ contexts.old.items ++ listed_context context) }
 {
     if let Some(context) = context {
         contexts.push(context)?;
@@ -43,7 +43,7 @@ pub(crate) fn cut_all(
     contexts: Vec<Context>,
     outside: usize,
 ) -> Result<Vec<Context>, NoMemory>
-    ensures { IfOk result (λ r. AreCut outside contexts.items r.items) }
+    ensures { IfOk result (λ r. AreTruncatedContexts outside contexts.items r.items) }
 {
     let mut cut = Vec::new(alloc);
     for context in contexts {
@@ -53,7 +53,7 @@ pub(crate) fn cut_all(
 }
 
 fn cut_one(context: Context, outside: usize) -> Context
-    ensures { IsCut outside context result }
+    ensures { IsTruncatedContext outside context result }
 {
     let Context {
         size,

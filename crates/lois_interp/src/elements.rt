@@ -7,7 +7,7 @@ ghost use Rattle.lois_base.specs.Tree.{tree as term_tree};
 ghost use Rattle.lois_base.specs.Validity.{AdmitsTerm, HasBoundedWidths};
 ghost use Rattle.lois_deciders.specs.OnlyAsked.{HasOnlyAsked};
 ghost use Rattle.lois_script.specs.View.{tree};
-ghost use Rattle.lois_terms.specs.Guarded.{IsSet};
+ghost use Rattle.lois_terms.specs.Guarded.{IsColl};
 ghost use Rattle.lois_context.specs.Choices.{ContextHasBoundedWidths};
 ghost use Rattle.lois_context.specs.Slots.{IsNew};
 ghost use Rattle.lois_eval.specs.WellFormed.{IsWellFormedIn, IsWellFormed};
@@ -57,7 +57,7 @@ fn elements_of<T: Structure>(
 ) -> Result<Term, Stop>
     requires { IsWellFormedIn (IsWellFormed (tree e.now)) T.ordered context.now }
     ensures value { IfOk result (λ t. IsValueThroughout context.now (tree e.now) (term_tree t)) }
-    ensures set { IfOk result (λ t. IsSet (term_tree t)) }
+    ensures set { IfOk result (λ t. IsColl (term_tree t)) }
     ensures brackets { IfOk result (λ t. depth (term_tree t) ≤ 64) }
     ensures levels { IfOk result (λ t. Fits context.now.size (term_tree t)) }
     ensures operators { IfOk result (λ t. (ordered : Bool) → IsWellFormedIn (IsWellFormed (tree e.now)) ordered context.now → AdmitsTerm ordered (term_tree t)) }

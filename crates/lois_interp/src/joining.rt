@@ -8,7 +8,7 @@ ghost use Rattle.lois_base.specs.Tree.{tree, comp_of};
 ghost use Rattle.lois_base.specs.Validity.{AdmitsConstraint, AdmitsTerm, AdmitsItems};
 ghost use Rattle.lois_deciders.specs.Satisfaction.{ConstraintIsSatisfiable};
 ghost use Rattle.lois_deciders.specs.OnlyAsked.{HasOnlyAsked};
-ghost use Rattle.lois_terms.specs.Guarded.{IsSet};
+ghost use Rattle.lois_terms.specs.Guarded.{IsColl};
 ghost use Rattle.lois_context.specs.Choices.{AdmitsContext};
 ghost use Rattle.lois_context.specs.Joined.{IsEnd};
 ghost use Rattle.lois_context.specs.Entered.{comps_listed};
@@ -228,7 +228,7 @@ fn put_part(old: &mut Comps, added: &mut Comps, first: usize, comp: Comp) -> Res
 
 // The comprehensions of a set behind others, without those that are written there already.
 fn with_items(first: Comps, set: Term) -> Result<Term, NoMemory>
-    requires { IsSet (tree set) }
+    requires { IsColl (tree set) }
     ensures { IfOk result (λ r. ArePutBehind first (comps_listed (tree set)) (tree r)) }
 {
     let Term::Coll(more) = set else {

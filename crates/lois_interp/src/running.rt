@@ -13,7 +13,7 @@ ghost use Rattle.lois_context.specs.Slots.{IsNew};
 ghost use Rattle.lois_context.specs.declared.contexts.Context.{Context};
 ghost use Rattle.lois_eval.specs.WellFormed.{IsWellFormedIn, IsWellFormed, CondIsWellFormed};
 ghost use Rattle.lois_eval.specs.Throughout.{IsFaultOf, IfFault};
-ghost use Rattle.lois_interp.specs.Decided.{IsDecided, listed};
+ghost use Rattle.lois_interp.specs.Decided.{IsDecided, listed_context};
 ghost use Rattle.lois_interp.specs.Elements.{SetFails};
 ghost use Rattle.lois_interp.specs.Entered.{IsEntered};
 ghost use Rattle.lois_interp.specs.Failed.{FailsWithin, FailsFrom};
@@ -317,8 +317,8 @@ fn run_side<T: Structure, S: Oracle<T>>(
 ) -> Result<Vec<Context>, Stop>
     requires sound { S.sound }
     requires placed { IfSome side (IsWellFormedIn (BlockIsWellScoped (stmts_of (stmts_list body.now))) T.ordered) }
-    ensures runs { IfOk result (λ r. RunsFrom (block_run (stmts_of (stmts_list body.now))) (listed side) r.items) }
-    ensures fault { IfErr result (λ s. IfFault s (FailsFrom (block_run (stmts_of (stmts_list body.now))) (listed side))) }
+    ensures runs { IfOk result (λ r. RunsFrom (block_run (stmts_of (stmts_list body.now))) (listed_context side) r.items) }
+    ensures fault { IfErr result (λ s. IfFault s (FailsFrom (block_run (stmts_of (stmts_list body.now))) (listed_context side))) }
     ensures asked { S.reaches steps.old steps.new }
 {
     match side {

@@ -8,7 +8,7 @@ use Rattle.std.proofs.lemmas.Map.Steps.{length-le_from_distinct_below, le-length
 use Rattle.lois_base.specs.Atom.{Atom, equal, whole}
 use Rattle.lois_base.specs.Data.{var, tag, tup, coll, CompD, comp, CompsD, no_comps, more}
 use Rattle.lois_base.specs.Fits.{ItemsFit}
-use Rattle.lois_base.specs.Normal.{joined, EachIsNormal}
+use Rattle.lois_base.specs.Normal.{concatenated, EachIsNormal}
 use Rattle.lois_base.specs.Validity.{AdmitsItems}
 use Rattle.lois_base.specs.Values.{PointValue, point, MakesAt, IsSame, IsIn}
 use Rattle.lois_base.specs.declared.guards.Lit.{Lit}
@@ -35,9 +35,9 @@ one_rank : (q r : ℕ) → q < 7 → r < 7 → made_tag q ≡ made_tag r → q �
 unfolding last_digit
 one_rank q r q_low r_low e = let same : 48 + q % 7 ≡ 48 + r % 7 = ap last_digit e in omega (arith, same)
 
-in_joined : (bs ks : CompsD) (w : PointValue) → IsIn w (point (coll ks) []) → IsIn w (point (coll (joined bs ks)) [])
+in_joined : (bs ks : CompsD) (w : PointValue) → IsIn w (point (coll ks) []) → IsIn w (point (coll (concatenated bs ks)) [])
 in_joined no_comps ks w h = h
-in_joined (more b bs) ks w h = in_rest b (joined bs ks) [] w (in_joined bs ks w h)
+in_joined (more b bs) ks w h = in_rest b (concatenated bs ks) [] w (in_joined bs ks w h)
 
 -- a pair whose tag is that of an orbit is in it
 in_orbit : (name : List ℕ) (k : CompD) (ks : CompsD) (w : PointValue) → IsOrbit name k → IsTagged name w → IsIn w (point (coll (more k ks)) [])
@@ -80,8 +80,8 @@ ranks_of : (n : ℕ) (ks before : CompsD) (u : List (List Lit)) → EachIsNormal
 unfolding IsDistinct
 ranks_of n no_comps before u normal fits admits made = record { ranks = []; orbits = tt; count = refl; early = λ q h. absurd (cc); distinct = tt }
 ranks_of n (more (comp m g t) ks) before u normal fits admits made =
-    let one = own_tag n m g t (joined before ks) u normal.0.0 fits.0 admits.0 (λ w makes. made w (w, inl makes, same_refl w)) in
-    let rest = ranks_of n ks (joined before (more (comp m g t) no_comps)) u normal.1 fits.1 admits.1 (λ w h. made w (in_rest (comp m g t) ks [] w h)) in
+    let one = own_tag n m g t (concatenated before ks) u normal.0.0 fits.0 admits.0 (λ w makes. made w (w, inl makes, same_refl w)) in
+    let rest = ranks_of n ks (concatenated before (more (comp m g t) no_comps)) u normal.1 fits.1 admits.1 (λ w h. made w (in_rest (comp m g t) ks [] w h)) in
     record {
       ranks = one.rank ∷ rest.ranks;
       orbits = (one.low, (one.orbit, rest.orbits));

@@ -9,7 +9,7 @@ use Rattle.lois_base.proofs.Members.{same_sym}
 use Rattle.lois_answers.specs.ResultsData.{LineD, CaseD}
 use Rattle.lois_answers.specs.Sound.{IsSoundTerm, IsSoundLine, IsSoundCase}
 use Rattle.lois_answers.specs.declared.results.Results.{Results}
-use Rattle.lois_context.specs.Slots.{lines_at}
+use Rattle.lois_context.specs.Slots.{line_values}
 use Rattle.lois_interp.specs.Interpreted.{HoldsAt, HoldsSomewhere, IsNormalLine, IsNormalCase, IsRightAt, AreResultsOf}
 use Rattle.lois_meaning.specs.Kinds.{IsSetOf}
 use Rattle.lois_meaning.specs.Store.{named, AreSameNamed}
@@ -41,7 +41,7 @@ pub record IsOneLine (name : List ℕ) (v : PointValue) (lines : List LineD) : T
   pub same_name : line.name ≡ name
   pub value : IsSame (point line.term []) v
 
-one_line : (name : List ℕ) (v : PointValue) (lines : List LineD) → AreSameNamed (lines_at [] lines) (named name v ∷ []) → IsOneLine name v lines
+one_line : (name : List ℕ) (v : PointValue) (lines : List LineD) → AreSameNamed (line_values [] lines) (named name v ∷ []) → IsOneLine name v lines
 one_line name v [] h = absurd h
 one_line name v (l ∷ []) h = record { line = l; is = refl; same_name = h.0; value = h.1 }
 one_line name v (l ∷ m ∷ ls) h = absurd h.2
@@ -64,7 +64,7 @@ results_have_made_counts n r results =
     let cases : r.cases ≡ right.one ∷ [] = right.among ∙ only_case n right.before right.one right.behind met right.none_before right.none_behind in
     let made = made_ends n [] in
     let same = (determined.scripts (made_tree n) [] right.lines.printed (named (codes "s") made.pairs ∷ []) right.lines.ends made.ends) in
-    let line = one_line (codes "s") made.pairs right.one.lines (named_trans (lines_at [] right.one.lines) right.lines.printed (named (codes "s") made.pairs ∷ []) right.lines.values same) in
+    let line = one_line (codes "s") made.pairs right.one.lines (named_trans (line_values [] right.one.lines) right.lines.printed (named (codes "s") made.pairs ∷ []) right.lines.values same) in
     let set : IsSetOf (point line.line.term []) (IsMade n) = set_of_to (IsMade n) made.pairs (point line.line.term []) (same_sym (point line.line.term []) made.pairs line.value) made.members in
     let sound = sound_line r n right.one line.line results cases line.is in
     let normal = normal_line r n right.one line.line results cases line.is in

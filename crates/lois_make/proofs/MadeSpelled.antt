@@ -8,7 +8,7 @@ use Rattle.lois_lexer.specs.declared.TokenKind.{TokenKind}
 use Rattle.lois_lexer.specs.declared.Token.{Token}
 use Rattle.lois_lexer.specs.Tokens.{IsCut}
 use Rattle.lois_lexer.specs.Tokens.IsCut.{at_start}
-use Rattle.lois_script.specs.Grammar.{PlacedToken, placed, SpellsStmt, SpellsStmts, SpellsScript}
+use Rattle.lois_script.specs.Grammar.{PlacedToken, token_at_place, SpellsStmt, SpellsStmts, SpellsScript}
 use Rattle.lois_script.specs.Limits.{open_after, IsNestedWithin, StmtIsWithin, StmtsAreWithin}
 use Rattle.lois_script.specs.Tree.{print, StmtsD, no_stmts, stmt}
 use Rattle.lois_make.specs.MadeScript.{made_loop, made_loops, made_script}
@@ -43,7 +43,7 @@ one_further n rest = ap (λ l. pieces_bytes head_pieces ++ l) (append_assoc (mad
 
 -- the text is cut up to the loop of number n
 abbrev AreCut : List ℕ → List ℕ → List PlacedToken → Type 0
-AreCut text before tokens = (ts : List Token) × IsCut text (length before) ts × (map (placed text) ts ≡ tokens)
+AreCut text before tokens = (ts : List Token) × IsCut text (length before) ts × (map (token_at_place text) ts ≡ tokens)
 
 cut_loops : (n : ℕ) (text rest : List ℕ) → text ≡ front n ++ rest → AreCut text (front n) (head_tokens ++ loops_tokens n)
 cut_loops zero text rest is_text = cut_pieces head_pieces text [] rest 0 0 [] is_text refl (head_before rest) at_start
@@ -54,7 +54,7 @@ cut_loops (suc n) text rest is_text =
     let all : front n ++ made_loop n ≡ front (suc n) = ap (λ l. pieces_bytes head_pieces ++ l) refl in (
       before.0 ++ here.0,
       subst (λ l. IsCut text (length l) (before.0 ++ here.0)) all here.1,
-      map-append (placed text) before.0 here.0 ∙ (ap (λ l. l ++ map (placed text) here.0) before.2 ∙ ap (λ l. (head_tokens ++ loops_tokens n) ++ l) here.2),
+      map-append (token_at_place text) before.0 here.0 ∙ (ap (λ l. l ++ map (token_at_place text) here.0) before.2 ∙ ap (λ l. (head_tokens ++ loops_tokens n) ++ l) here.2),
     )
 
 cut_script : (n : ℕ) → AreCut (made_script n) (made_script n) ((head_tokens ++ loops_tokens n) ++ tail_tokens n)
@@ -64,7 +64,7 @@ cut_script n =
     let here = cut_pieces tail_pieces (made_script n) (front n) [] (28 + 74 * n) 0 before.0 refl (omega (arith, front_length n)) (tail_before []) before.1 in (
       before.0 ++ here.0,
       here.1,
-      map-append (placed text) before.0 here.0 ∙ (ap (λ l. l ++ map (placed text) here.0) before.2 ∙ ap (λ l. (head_tokens ++ loops_tokens n) ++ l) here.2),
+      map-append (token_at_place text) before.0 here.0 ∙ (ap (λ l. l ++ map (token_at_place text) here.0) before.2 ∙ ap (λ l. (head_tokens ++ loops_tokens n) ++ l) here.2),
     )
 
 -- some tokens, and those behind them
@@ -137,7 +137,7 @@ loops_within (suc n) rest h = loops_within n (stmt (made_loop_tree (28 + 74 * n)
 pub made_is_spelled : MadeIsSpelled
 made_is_spelled n =
     let cut = cut_script n in
-    let is : map (placed (made_script n)) cut.0 ≡ head_tokens ++ (loops_tokens n ++ tail_tokens n) = cut.2 ∙ append_assoc head_tokens (loops_tokens n) (tail_tokens n) in
+    let is : map (token_at_place (made_script n)) cut.0 ≡ head_tokens ++ (loops_tokens n ++ tail_tokens n) = cut.2 ∙ append_assoc head_tokens (loops_tokens n) (tail_tokens n) in
     record {
       tokens = cut.0;
       cut = cut.1;

@@ -15,7 +15,7 @@ use Rattle.lois_lexer.specs.Tokens.IsTrivia.{one_blank}
 use Rattle.lois_lexer.specs.Tokens.IsCut.{past_gap, past_token}
 use Rattle.lois_lexer.proofs.Forms.{class_of, letter_first, word_bytes, pair_from}
 use Rattle.lois_lexer.proofs.Longest.{word_longest, tag_longest, pair_longest, single_longest}
-use Rattle.lois_script.specs.Grammar.{PlacedToken, placed}
+use Rattle.lois_script.specs.Grammar.{PlacedToken, token_at_place}
 
 pub data Piece : Type 0 where
   blank : ℕ → Piece
@@ -106,7 +106,7 @@ module _ (text front bytes rest : List ℕ) (kind : TokenKind) (is_text : text �
 
 -- up to behind the pieces the text is cut into the tokens before and those of the pieces
 pub cut_pieces : (ps : List Piece) (text front rest : List ℕ) (at k : ℕ) (tokens : List Token) → text ≡ front ++ (pieces_bytes ps ++ rest) → length front ≡ at + k → ArePiecesBefore rest ps → IsCut text (length front) tokens →
-    (more : List Token) × IsCut text (length (front ++ pieces_bytes ps)) (tokens ++ more) × (map (placed text) more ≡ placed_pieces at k ps)
+    (more : List Token) × IsCut text (length (front ++ pieces_bytes ps)) (tokens ++ more) × (map (token_at_place text) more ≡ placed_pieces at k ps)
 cut_pieces [] text front rest at k tokens is_text is_at are cut =
     ([], subst (λ l. IsCut text (length l) (tokens ++ [])) (sym (append-nil front)) (subst (λ ts. IsCut text (length front) ts) (sym (append-nil tokens)) cut), refl)
 cut_pieces (blank b ∷ ps) text front rest at k tokens is_text is_at are cut =

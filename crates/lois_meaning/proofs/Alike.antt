@@ -7,7 +7,7 @@ use Rattle.lois_base.specs.Truth.{atom_at}
 use Rattle.lois_base.specs.Values.{PointValue, IsSame, IsIncluded, SameAt, SamePartsAt}
 use Rattle.lois_base.proofs.Members.{same_refl, same_sym, same_trans, member_in, same_in, same_sets}
 use Rattle.lois_base.proofs.Order.{equal_sym, equal_trans}
-use Rattle.lois_meaning.specs.Kinds.{IsAtomAt, IsTagTerm, IsSetTerm, parts_at, HasPartsAt, IsAtomValue, IsTagValue, HasParts, IsSet, IsSetOf, AreSame}
+use Rattle.lois_meaning.specs.Kinds.{IsAtomAt, IsTagTerm, IsSetTerm, part_values, HasPartsAt, IsAtomValue, IsTagValue, HasParts, IsSet, IsSetOf, AreSame}
 
 set_at : (t : TermD) (c : List Atom) (s : TermD) (d : List Atom) → SameAt t c s d → IsSetTerm t → IsSetTerm s
 set_at (coll ks) c (coll ls) d h k = tt
@@ -103,19 +103,19 @@ are_same_trans [] [] [] h k = tt
 are_same_trans (u ∷ us) (v ∷ vs) (w ∷ ws) h k = (same_trans u v w h.0 k.0, are_same_trans us vs ws h.1 k.1)
 are_same_trans _ _ _ h k = absurd (assumption (h, k))
 
-pub parts_parts : (ts : TermsD) (c : List Atom) (ss : TermsD) (d : List Atom) → SamePartsAt ts c ss d → AreSame (parts_at ts c) (parts_at ss d)
+pub parts_parts : (ts : TermsD) (c : List Atom) (ss : TermsD) (d : List Atom) → SamePartsAt ts c ss d → AreSame (part_values ts c) (part_values ss d)
 parts_parts no_terms c no_terms d h = tt
 parts_parts (term t ts) c (term s ss) d h = (h.0, parts_parts ts c ss d h.1)
 parts_parts _ c _ d h = absurd h
 
-parts_make : (ts : TermsD) (c : List Atom) (ss : TermsD) (d : List Atom) → AreSame (parts_at ts c) (parts_at ss d) → SamePartsAt ts c ss d
+parts_make : (ts : TermsD) (c : List Atom) (ss : TermsD) (d : List Atom) → AreSame (part_values ts c) (part_values ss d) → SamePartsAt ts c ss d
 parts_make no_terms c no_terms d h = tt
 parts_make (term t ts) c (term s ss) d h = (h.0, parts_make ts c ss d h.1)
 parts_make _ c _ d h = absurd h
 
 parts_to : (t : TermD) (c : List Atom) (s : TermD) (d : List Atom) (us : List PointValue) → SameAt t c s d → HasPartsAt t c us → (ws : List PointValue) × HasPartsAt s d ws × AreSame us ws
 parts_to (tup ts) c (tup ss) d us h e =
-    (parts_at ss d, refl, subst (λ x. AreSame x (parts_at ss d)) (sym e) (parts_parts ts c ss d h))
+    (part_values ss d, refl, subst (λ x. AreSame x (part_values ss d)) (sym e) (parts_parts ts c ss d h))
 parts_to _ c _ d us h e = absurd (assumption (h, e))
 
 pub parts_same : (v w : PointValue) (us : List PointValue) → IsSame v w → HasParts v us → (ws : List PointValue) × HasParts w ws × AreSame us ws
@@ -132,7 +132,7 @@ parts_both v w us ws s e f =
 
 tuples_at : (t : TermD) (c : List Atom) (s : TermD) (d : List Atom) (vs ws : List PointValue) → HasPartsAt t c vs → HasPartsAt s d ws → AreSame vs ws → SameAt t c s d
 tuples_at (tup ts) c (tup ss) d vs ws e f h =
-    parts_make ts c ss d (subst (λ x. AreSame x (parts_at ss d)) e (subst (λ x. AreSame vs x) f h))
+    parts_make ts c ss d (subst (λ x. AreSame x (part_values ss d)) e (subst (λ x. AreSame vs x) f h))
 tuples_at _ c _ d vs ws e f h = absurd (assumption (e, f))
 
 -- tuples whose parts are the same one by one are the same

@@ -7,7 +7,7 @@ use Rattle.lois_base.specs.Values.{PointValue, point, IsSame, IsIn, SameAt}
 use Rattle.lois_base.proofs.Members.{same_refl, same_sym, same_trans, in_same, same_in}
 use Rattle.lois_base.proofs.Raised.{same_raised}
 use Rattle.lois_meaning.specs.Automata.{Automaton, IsPair, IsTriple, JoinsStates, IsAutomatonOf, HasStep, Reads, AcceptsFrom, Accepts, IsReachable, IsDeterministic, IsComplete, HaveSameWords, IsClassOf, IsMinimalOf, IsProductOf}
-use Rattle.lois_meaning.specs.Kinds.{parts_at, HasParts, AreSame}
+use Rattle.lois_meaning.specs.Kinds.{part_values, HasParts, AreSame}
 use Rattle.lois_meaning.specs.Operations.{TuplesExist, AcceptsByReach, ProductsAcceptBoth, AreLetters, ComplementsAcceptOthers, ClassesExist, MinimalIsMinimal}
 use Rattle.lois_meaning.proofs.Alike.{set_of_same, set_of_shift, set_of_to, parts_same, parts_both, tuples_same, parts_parts, are_same_sym, are_same_trans}
 
@@ -20,22 +20,22 @@ after v d =
     (subst (λ z. SameAt (shift (length v.choice) (length d) v.term_of) (v.choice ++ (d ++ [])) v.term_of z) (append-nil v.choice) h) in
     same_sym (point (shift (length v.choice) (length d) v.term_of) (v.choice ++ d)) v k
 
-tuple_of : (vs : List PointValue) → (ts : TermsD) × (c : List Atom) × AreSame vs (parts_at ts c)
+tuple_of : (vs : List PointValue) → (ts : TermsD) × (c : List Atom) × AreSame vs (part_values ts c)
 tuple_of [] = (no_terms, [], tt)
 tuple_of (v ∷ vs) =
-    let rest : (ts : TermsD) × (c : List Atom) × AreSame vs (parts_at ts c) = tuple_of vs in
+    let rest : (ts : TermsD) × (c : List Atom) × AreSame vs (part_values ts c) = tuple_of vs in
     let ts : TermsD = rest.0 in let c = rest.1 in
-    let raised : AreSame (parts_at (shift_parts 0 (length v.choice) ts) (v.choice ++ c)) (parts_at ts c) =
+    let raised : AreSame (part_values (shift_parts 0 (length v.choice) ts) (v.choice ++ c)) (part_values ts c) =
     parts_parts (shift_parts 0 (length v.choice) ts) (v.choice ++ c) ts c (same_raised [] v.choice (tup ts) c) in (
       term (shift (length v.choice) (length c) v.term_of) (shift_parts 0 (length v.choice) ts),
       v.choice ++ c,
-      (after v c, are_same_trans vs (parts_at ts c) (parts_at (shift_parts 0 (length v.choice) ts) (v.choice ++ c)) rest.2 (are_same_sym (parts_at (shift_parts 0 (length v.choice) ts) (v.choice ++ c)) (parts_at ts c) raised)),
+      (after v c, are_same_trans vs (part_values ts c) (part_values (shift_parts 0 (length v.choice) ts) (v.choice ++ c)) rest.2 (are_same_sym (part_values (shift_parts 0 (length v.choice) ts) (v.choice ++ c)) (part_values ts c) raised)),
     )
 
 pub tuples_exist : TuplesExist
 tuples_exist vs =
-    let t : (ts : TermsD) × (c : List Atom) × AreSame vs (parts_at ts c) = tuple_of vs in
-    (point (tup t.0) t.1, parts_at t.0 t.1, refl, t.2)
+    let t : (ts : TermsD) × (c : List Atom) × AreSame vs (part_values ts c) = tuple_of vs in
+    (point (tup t.0) t.1, part_values t.0 t.1, refl, t.2)
 
 pub pair_exists : (p q : PointValue) → (x : PointValue) × IsPair x p q
 pair_exists p q =

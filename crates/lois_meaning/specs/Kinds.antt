@@ -18,12 +18,12 @@ IsSetTerm (coll cs) = Unit {0}
 IsSetTerm _ = ⊥
 
 -- the parts of a tuple are its terms, each with the tuple's choice
-abbrev pub parts_at : TermsD → List Atom → List PointValue
-parts_at no_terms c = []
-parts_at (term t ts) c = point t c ∷ parts_at ts c
+abbrev pub part_values : TermsD → List Atom → List PointValue
+part_values no_terms c = []
+part_values (term t ts) c = point t c ∷ part_values ts c
 
 abbrev pub HasPartsAt : TermD → List Atom → List PointValue → Type 0
-HasPartsAt (tup ts) c us = us ≡ parts_at ts c
+HasPartsAt (tup ts) c us = us ≡ part_values ts c
 HasPartsAt _ c us = ⊥
 
 -- v is the atom a

@@ -7,10 +7,10 @@ use Rattle.lois_base.specs.Validity.{AdmitsTerm, AdmitsComp, AdmitsItems, HasBou
 use Rattle.lois_base.specs.Values.{PointValue, point, IsIn, IsSame}
 use Rattle.lois_base.specs.declared.guards.Lit.{Lit}
 use Rattle.lois_base.proofs.Members.{same_refl, same_sym, same_in}
-use Rattle.lois_algebra.specs.Gathered.{IsAmong, IsMadeBy, IsPut}
+use Rattle.lois_algebra.specs.Gathered.{IsAmong, IsCompMember, IsPut}
 use Rattle.lois_algebra.specs.Sets.{IsDifference}
 use Rattle.lois_algebra.proofs.Among.{among_in}
-use Rattle.lois_terms.specs.Guarded.{IsSet}
+use Rattle.lois_terms.specs.Guarded.{IsColl}
 use Rattle.lois_terms.specs.Shifted.{IsShifted}
 use Rattle.lois_meaning.specs.Kinds as kinds
 use Rattle.lois_meaning.proofs.Alike.{set_of_same, set_of_shift}
@@ -24,13 +24,13 @@ use Rattle.lois_automata.proofs.Members.{raised_same}
 use Rattle.lois_automata.proofs.Tuples.{pair_parts, leads_same}
 use Rattle.lois_automata.proofs.Written.{pair_is}
 use Rattle.lois_minimise.proofs.Covering.{CoversSoFar, covers_begin, covers_more, covers_end}
-use Rattle.lois_minimise.specs.Classes.{AreOthers, AreClassed, IsClassTerm, IsSingle, IsClassedAt, AddsClass}
+use Rattle.lois_minimise.specs.Classes.{AreOthers, AreClassed, IsClassTerm, IsSingletonOf, IsClassedAt, AddsClass}
 
 -- the set of one item
-is_single : (t : TermD) (ks : CompsD) → ks ≡ more (comp 0 ([] ∷ []) t) no_comps → IsSingle t (coll ks)
-is_single t ks e = subst (λ z. IsSingle t (coll z)) (sym e) one
+is_single : (t : TermD) (ks : CompsD) → ks ≡ more (comp 0 ([] ∷ []) t) no_comps → IsSingletonOf t (coll ks)
+is_single t ks e = subst (λ z. IsSingletonOf t (coll z)) (sym e) one
   where
-    one : IsSingle t (coll (more (comp 0 ([] ∷ []) t) no_comps))
+    one : IsSingletonOf t (coll (more (comp 0 ([] ∷ []) t) no_comps))
     one c w =
         let among = among_in (more (comp 0 ([] ∷ []) t) no_comps) c w in (
           λ i. there (among.1 i),
@@ -42,7 +42,7 @@ is_single t ks e = subst (λ z. IsSingle t (coll z)) (sym e) one
         there (inl (a ∷ e, ext, s)) = absurd (omega (arith, ext.count))
         there (inr h) = absurd h
 
-pub pushed_single : (t t' : TermD) (g : List (List Lit)) (before after : List CompD) → before ≡ [] → after ≡ before ++ comp 0 g t' ∷ [] → g ≡ [] ∷ [] → t' ≡ t → IsSingle t (coll (comps_of after))
+pub pushed_single : (t t' : TermD) (g : List (List Lit)) (before after : List CompD) → before ≡ [] → after ≡ before ++ comp 0 g t' ∷ [] → g ≡ [] ∷ [] → t' ≡ t → IsSingletonOf t (coll (comps_of after))
 pushed_single t t' g before after e1 e2 e3 e4 = is_single t (comps_of after) (rw (e2, e1, e3, e4))
 
 -- moves between values that are the same are between the same values in sets that are
@@ -55,11 +55,11 @@ others_same nodes apart p p' x s h = set_of_shift (λ q. IsIn q nodes × (LeadsT
     (λ q k. (k.0, λ lead. k.1 (leads_same apart p q p' q s (same_refl q) lead)))
     h
 
-is_set : (t : TermD) → IsSet t → (d : List Atom) → kinds.IsSet (point t d)
+is_set : (t : TermD) → IsColl t → (d : List Atom) → kinds.IsSet (point t d)
 is_set t (ks, e) d = subst (λ z. kinds.IsSet (point z d)) (sym e) tt
 
 -- the nodes without what pairs lead to from the item
-module _ (n m : ℕ) (nodes apart item all told own others r : TermD) (is_all : IsShifted n m nodes all) (is_told : IsShifted n m apart told) (is_own : IsSingle item own) (led : AreTargets (n + m) told own others) (without : IsDifference (n + m) all others r) where
+module _ (n m : ℕ) (nodes apart item all told own others r : TermD) (is_all : IsShifted n m nodes all) (is_told : IsShifted n m apart told) (is_own : IsSingletonOf item own) (led : AreTargets (n + m) told own others) (without : IsDifference (n + m) all others r) where
   pub class_term : IsClassTerm n m nodes apart item r
   class_term c e l k q = (there, back)
     where
@@ -90,19 +90,19 @@ module _ (n m : ℕ) (nodes apart item all told own others r : TermD) (is_all : 
       )
 
 -- members in pairs with their classes
-module _ (n m : ℕ) (g : List (List Lit)) (nodes apart item class : TermD) (set : IsSet class) (is : IsClassTerm n m nodes apart item class) where
+module _ (n m : ℕ) (g : List (List Lit)) (nodes apart item class : TermD) (set : IsColl class) (is : IsClassTerm n m nodes apart item class) where
   own_others : (c e : List Atom) → length c ≡ n → length e ≡ m → AreOthers (point nodes c) (point apart c) (point item (c ++ e)) (point class (c ++ e))
   own_others c e l k = (is_set class set (c ++ e), is c e l k)
 
-  classed_is : (c : List Atom) → length c ≡ n → (w : PointValue) → IsMadeBy (comp m g (pair_of item class)) c w ↔ IsMadeOfOne (IsClassedAt nodes apart c) (IsMadeBy (comp m g item) c) w
+  classed_is : (c : List Atom) → length c ≡ n → (w : PointValue) → IsCompMember (comp m g (pair_of item class)) c w ↔ IsMadeOfOne (IsClassedAt nodes apart c) (IsCompMember (comp m g item) c) w
   classed_is c l w = (there, back)
     where
-      there : IsMadeBy (comp m g (pair_of item class)) c w → IsMadeOfOne (IsClassedAt nodes apart c) (IsMadeBy (comp m g item) c) w
+      there : IsCompMember (comp m g (pair_of item class)) c w → IsMadeOfOne (IsClassedAt nodes apart c) (IsCompMember (comp m g item) c) w
       there (e, ext, s) =
           let d = c ++ e in
           (point item d, (e, ext, same_refl (point item d)), (point class d, pair_to (point (pair_of item class) d) w (point item d) (point class d) s (pair_is item class d), own_others c e l ext.count))
 
-      back : IsMadeOfOne (IsClassedAt nodes apart c) (IsMadeBy (comp m g item) c) w → IsMadeBy (comp m g (pair_of item class)) c w
+      back : IsMadeOfOne (IsClassedAt nodes apart c) (IsCompMember (comp m g item) c) w → IsCompMember (comp m g (pair_of item class)) c w
       back (p, (e, ext, s), (x, pair, others)) =
           let d = c ++ e in
           let own : AreOthers (point nodes c) (point apart c) p (point class d) = others_same (point nodes c) (point apart c) (point item d) p (point class d) s (own_others c e l ext.count) in

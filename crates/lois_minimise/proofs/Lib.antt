@@ -1,10 +1,10 @@
-pub mod ToldApart
+pub mod Distinguished
 pub mod TheGraph
 pub mod Classes
 pub mod TheMinimal
 pub mod Seconds
 pub mod Covering
-pub mod SharedSets
+pub mod Partitioned
 pub mod Splits
 pub mod ClassTerms
 pub mod StepMoves

@@ -4,13 +4,13 @@ use Rattle.lois_base.specs.Atom.{Atom}
 use Rattle.lois_base.specs.Data.{TermD, coll, CompsD}
 use Rattle.lois_base.specs.Values.{point, IsSame}
 use Rattle.lois_base.proofs.Members.{same_refl}
-use Rattle.lois_terms.specs.Guarded.{IsSet}
+use Rattle.lois_terms.specs.Guarded.{IsColl}
 use Rattle.lois_automata.specs.Built.{AreTargets}
 use Rattle.lois_automata.specs.Projections.{five_terms}
 use Rattle.lois_minimise.specs.Classes.{AreSeconds, AreClassSteps, IsQuotientTerm}
 
 pub quotient_term : (n : ℕ) (s l t i f classes l2 i2 f2 : CompsD) (states steps initial final r : TermD) → r ≡ five_terms states (coll l2) steps initial final →
-    l2 ≡ l → i2 ≡ i → f2 ≡ f → IsSet states → IsSet steps → IsSet initial → IsSet final → AreSeconds n (coll classes) states → ((c : List Atom) → length c ≡ n → AreClassSteps (point (coll classes) c) (point (coll l) c) (point (coll t) c) (point steps c)) →
+    l2 ≡ l → i2 ≡ i → f2 ≡ f → IsColl states → IsColl steps → IsColl initial → IsColl final → AreSeconds n (coll classes) states → ((c : List Atom) → length c ≡ n → AreClassSteps (point (coll classes) c) (point (coll l) c) (point (coll t) c) (point steps c)) →
     AreTargets n (coll classes) (coll i2) initial → AreTargets n (coll classes) (coll f2) final → IsQuotientTerm n s l t i f (coll classes) r
 quotient_term n s l t i f classes l2 i2 f2 states steps initial final r is el ei ef set1 set2 set3 set4 seconds between starts ends = record {
   states = set1.0;

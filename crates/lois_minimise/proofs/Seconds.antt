@@ -5,7 +5,7 @@ use Rattle.lois_base.specs.Data.{TermD, coll, comp, CompsD}
 use Rattle.lois_base.specs.Values.{PointValue, point, IsIn}
 use Rattle.lois_base.specs.declared.guards.Lit.{Lit}
 use Rattle.lois_base.proofs.Members.{same_refl, same_sym}
-use Rattle.lois_algebra.specs.Gathered.{IsAmong, IsMadeBy, IsPut}
+use Rattle.lois_algebra.specs.Gathered.{IsAmong, IsCompMember, IsPut}
 use Rattle.lois_meaning.proofs.Operations.{pair_to}
 use Rattle.lois_automata.specs.Adding.{IsMadeOfOne}
 use Rattle.lois_automata.specs.Projections.{AddsOfOne, pair_of}
@@ -14,15 +14,15 @@ use Rattle.lois_automata.proofs.Adding.{added_put, adds_nothing, one_among}
 use Rattle.lois_automata.proofs.Written.{pair_at, pair_here, pair_term}
 use Rattle.lois_minimise.specs.Classes.{AreSeconds, IsSecondOf}
 
-made_second : (m : ℕ) (g : List (List Lit)) (a b : TermD) (c : List Atom) (w : PointValue) → IsMadeBy (comp m g b) c w ↔ IsMadeOfOne IsSecondOf (IsMadeBy (comp m g (pair_of a b)) c) w
+made_second : (m : ℕ) (g : List (List Lit)) (a b : TermD) (c : List Atom) (w : PointValue) → IsCompMember (comp m g b) c w ↔ IsMadeOfOne IsSecondOf (IsCompMember (comp m g (pair_of a b)) c) w
 made_second m g a b c w = (there, back)
   where
-    there : IsMadeBy (comp m g b) c w → IsMadeOfOne IsSecondOf (IsMadeBy (comp m g (pair_of a b)) c) w
+    there : IsCompMember (comp m g b) c w → IsMadeOfOne IsSecondOf (IsCompMember (comp m g (pair_of a b)) c) w
     there (e, ext, s) =
         let d = c ++ e in
         (point (pair_of a b) d, (e, ext, same_refl (point (pair_of a b) d)), (point a d, pair_at a b d w s))
 
-    back : IsMadeOfOne IsSecondOf (IsMadeBy (comp m g (pair_of a b)) c) w → IsMadeBy (comp m g b) c w
+    back : IsMadeOfOne IsSecondOf (IsCompMember (comp m g (pair_of a b)) c) w → IsCompMember (comp m g b) c w
     back (x, (e, ext, s), (q, pair)) =
         let d = c ++ e in
         let t = pair_of a b in
@@ -36,7 +36,7 @@ adds_second n m g a b before after put = added_put n (comp m g b) _ _ _ _ before
 pub no_second : (n m : ℕ) (g : List (List Lit)) (t : TermD) (before : CompsD) → ((a b : TermD) → t ≡ pair_of a b → ⊥) → AddsOfOne IsSecondOf n (comp m g t) before before
 no_second n m g t before never = adds_nothing n _ _ _ _ before none
   where
-    none : (c : List Atom) → length c ≡ n → (w : PointValue) → IsMadeOfOne IsSecondOf (IsMadeBy (comp m g t) c) w → ⊥
+    none : (c : List Atom) → length c ≡ n → (w : PointValue) → IsMadeOfOne IsSecondOf (IsCompMember (comp m g t) c) w → ⊥
     none c l w (x, (e, ext, s), (q, pair)) =
         let f = pair_term t (c ++ e) q w (pair_to x (point t (c ++ e)) q w (same_sym (point t (c ++ e)) x s) pair) in
         never f.0 f.1 f.2

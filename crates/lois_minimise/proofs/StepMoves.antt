@@ -5,12 +5,12 @@ use Rattle.lois_base.specs.Data.{TermD, coll, comp, CompsD}
 use Rattle.lois_base.specs.Values.{PointValue, point, IsIn, IsSame}
 use Rattle.lois_base.specs.declared.guards.Lit.{Lit}
 use Rattle.lois_base.proofs.Members.{same_refl, same_sym, in_same}
-use Rattle.lois_algebra.specs.Gathered.{IsAmong, IsMadeBy, IsPut}
+use Rattle.lois_algebra.specs.Gathered.{IsAmong, IsCompMember, IsPut}
 use Rattle.lois_meaning.specs.Automata.{IsPair, IsTriple}
 use Rattle.lois_meaning.proofs.Operations.{pair_exists, pair_both, pair_same, pair_to}
 use Rattle.lois_automata.specs.Adding.{IsMadeOfOne}
 use Rattle.lois_automata.specs.Built.{ArePairs, AreTargets}
-use Rattle.lois_automata.specs.Projections.{AddsOfOne, IsStep, pair_of, triple_of}
+use Rattle.lois_automata.specs.Projections.{AddsOfOne, HasStepIn, pair_of, triple_of}
 use Rattle.lois_automata.specs.Reachability.{LeadsTo}
 use Rattle.lois_automata.proofs.Adding.{added_put, adds_nothing, one_among}
 use Rattle.lois_automata.proofs.Tuples.{triple_to, triples_same}
@@ -48,10 +48,10 @@ transition_to y y' q x l r z s (from, read, to, h1, h2, h3, h4) = (from, read, t
 abbrev pub move_of : TermD → TermD → TermD → TermD → TermD → TermD
 move_of q x l r z = pair_of (triple_of q l r) (triple_of x l z)
 
-made_move : (m : ℕ) (g : List (List Lit)) (q x l r z : TermD) (c : List Atom) (w : PointValue) → IsMadeBy (comp m g (move_of q x l r z)) c w ↔ IsMadeOfOne IsStepMove (IsMadeBy (comp m g (transition_of q x l r z)) c) w
+made_move : (m : ℕ) (g : List (List Lit)) (q x l r z : TermD) (c : List Atom) (w : PointValue) → IsCompMember (comp m g (move_of q x l r z)) c w ↔ IsMadeOfOne IsStepMove (IsCompMember (comp m g (transition_of q x l r z)) c) w
 made_move m g q x l r z c w = (there, back)
   where
-    there : IsMadeBy (comp m g (move_of q x l r z)) c w → IsMadeOfOne IsStepMove (IsMadeBy (comp m g (transition_of q x l r z)) c) w
+    there : IsCompMember (comp m g (move_of q x l r z)) c w → IsMadeOfOne IsStepMove (IsCompMember (comp m g (transition_of q x l r z)) c) w
     there (e, ext, s) =
         let d = c ++ e in (
           point (transition_of q x l r z) d,
@@ -71,7 +71,7 @@ made_move m g q x l r z c w = (there, back)
           ),
         )
 
-    back : IsMadeOfOne IsStepMove (IsMadeBy (comp m g (transition_of q x l r z)) c) w → IsMadeBy (comp m g (move_of q x l r z)) c w
+    back : IsMadeOfOne IsStepMove (IsCompMember (comp m g (transition_of q x l r z)) c) w → IsCompMember (comp m g (move_of q x l r z)) c w
     back (y, (e, ext, s), (Q, X, L, R, Z, S, T, h, hs, ht, pair)) =
         let d = c ++ e in
         let own = transition_to (point (transition_of q x l r z) d) y (point q d) (point x d) (point l d) (point r d) (point z d) s (transition_is q x l r z d) in
@@ -93,7 +93,7 @@ adds_move n m g q x l r z before after put = added_put n (comp m g (move_of q x 
 pub no_move : (n m : ℕ) (g : List (List Lit)) (t : TermD) (before : CompsD) → ((q x l r z : TermD) → t ≡ transition_of q x l r z → ⊥) → AddsOfOne IsStepMove n (comp m g t) before before
 no_move n m g t before never = adds_nothing n _ _ _ _ before none
   where
-    none : (c : List Atom) → length c ≡ n → (w : PointValue) → IsMadeOfOne IsStepMove (IsMadeBy (comp m g t) c) w → ⊥
+    none : (c : List Atom) → length c ≡ n → (w : PointValue) → IsMadeOfOne IsStepMove (IsCompMember (comp m g t) c) w → ⊥
     none c k w (y, (e, ext, s), (Q, X, L, R, Z, S, T, (from, read, to, h1, h2, h3, h4), hs, ht, pair)) =
         let d = c ++ e in
         let outer = pair_term t d read to (pair_to y (point t d) read to (same_sym (point t d) y s) h4) in
@@ -114,10 +114,10 @@ module _ (n : ℕ) (classes letters steps reads both moves r : TermD) (c : List 
   pub class_steps_are : AreClassSteps (point classes c) (point letters c) (point steps c) (point r c)
   class_steps_are w = (λ i. there ((led c k w).0 i), back)
     where
-      there : ((p : PointValue) × IsIn p (point steps c) × LeadsTo (point moves c) p w) → (q l r' x z : PointValue) × LeadsTo (point classes c) q x × IsIn l (point letters c) × LeadsTo (point classes c) r' z × IsStep (point steps c) q l r' × IsTriple w x l z
+      there : ((p : PointValue) × IsIn p (point steps c) × LeadsTo (point moves c) p w) → (q l r' x z : PointValue) × LeadsTo (point classes c) q x × IsIn l (point letters c) × LeadsTo (point classes c) r' z × HasStepIn (point steps c) q l r' × IsTriple w x l z
       there (p, i, (v, j, pair)) = moved ((are c k v).0 j)
         where
-          moved : ((y : PointValue) × IsIn y (point both c) × IsStepMove y v) → (q l r' x z : PointValue) × LeadsTo (point classes c) q x × IsIn l (point letters c) × LeadsTo (point classes c) r' z × IsStep (point steps c) q l r' × IsTriple w x l z
+          moved : ((y : PointValue) × IsIn y (point both c) × IsStepMove y v) → (q l r' x z : PointValue) × LeadsTo (point classes c) q x × IsIn l (point letters c) × LeadsTo (point classes c) r' z × HasStepIn (point steps c) q l r' × IsTriple w x l z
           moved (y, iy, (q, x, l, r', z, s, t, (from, read, to, h1, h2, h3, h4), hs, ht, hp)) =
               let f = (both_pairs c k y).0 iy in
               let outer : IsSame f.0 read × IsSame f.1 to = pair_both y y f.0 f.1 read to (same_refl y) f.4 h4 in
@@ -136,7 +136,7 @@ module _ (n : ℕ) (classes letters steps reads both moves r : TermD) (c : List 
                 triple_to t w x l z ends.1 ht,
               )
 
-      back : ((q l r' x z : PointValue) × LeadsTo (point classes c) q x × IsIn l (point letters c) × LeadsTo (point classes c) r' z × IsStep (point steps c) q l r' × IsTriple w x l z) → IsIn w (point r c)
+      back : ((q l r' x z : PointValue) × LeadsTo (point classes c) q x × IsIn l (point letters c) × LeadsTo (point classes c) r' z × HasStepIn (point steps c) q l r' × IsTriple w x l z) → IsIn w (point r c)
       back (q, l, r', x, z, (from, i, h1), il, (to, j, h3), (s, is, hs), ht) =
           let read : (v : PointValue) × IsPair v from l = pair_exists from l in
           let y : (v : PointValue) × IsPair v read.0 to = pair_exists read.0 to in

@@ -8,7 +8,7 @@ use Rattle.lois_meaning.proofs.Operations.{pair_exists, pair_both, pair_to}
 use Rattle.lois_automata.specs.Reachability.{Graph, LeadsTo, IsReachedBy, IsReached}
 use Rattle.lois_automata.proofs.Paths.{machine_refl}
 use Rattle.lois_minimise.specs.Classes.{IsCompleteDeterministicWithReach, IsDistinguishability, IsSplit, AreSplitPairs, AreBackward}
-use Rattle.lois_minimise.proofs.ToldApart.{IsToldApartBy, IsToldApart, alike_exactly}
+use Rattle.lois_minimise.proofs.Distinguished.{IsToldApartBy, IsToldApart, alike_exactly}
 
 -- what the three sets have to be, for the pairs of states of the automaton a
 pub record IsGraphOfPairs (g : Graph) (a : Automaton) : Type 0 where

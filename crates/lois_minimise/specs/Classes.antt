@@ -5,11 +5,11 @@ use Rattle.lois_base.specs.Data.{TermD, CompD, CompsD}
 use Rattle.lois_base.specs.Fits.{CompFits}
 use Rattle.lois_base.specs.Validity.{AdmitsTerm, AdmitsComp, HasBoundedWidths, CompHasBoundedWidths}
 use Rattle.lois_base.specs.Values.{PointValue, point, IsIn, IsSame}
-use Rattle.lois_algebra.specs.Gathered.{IsAmong, IsMadeBy}
+use Rattle.lois_algebra.specs.Gathered.{IsAmong, IsCompMember}
 use Rattle.lois_meaning.specs.Automata.{Automaton, IsPair, IsTriple, IsAutomatonOf, HasStep, IsReachable, IsDeterministic, IsComplete, HaveSameWords}
 use Rattle.lois_meaning.specs.Kinds.{IsSetOf}
 use Rattle.lois_automata.specs.Adding.{Adds, IsMadeOfOne}
-use Rattle.lois_automata.specs.Projections.{IsStep, five_of, automaton_at, pair_of}
+use Rattle.lois_automata.specs.Projections.{HasStepIn, five_of, automaton_at, pair_of}
 use Rattle.lois_automata.specs.Reachability.{LeadsTo}
 
 -- a complete deterministic automaton, and the set of its reachable states
@@ -45,9 +45,9 @@ IsInSecondPart t c x w = IsSame x w × (IsIn x (point t c) → ⊥)
 
 -- each member of the comprehension is added to the one list where it is in the set, and to the other where it isn't
 pub record AddsPartition (n : ℕ) (k : CompD) (t : TermD) (before after others_before others_after : CompsD) : Type 0 where
-  pub inside : Adds n (λ c. IsMadeOfOne (IsInFirstPart t c) (IsMadeBy k c)) (CompFits n k) (λ o. AdmitsComp o k × AdmitsTerm o t) (CompHasBoundedWidths k) before after
-  pub outside : Adds n (λ c. IsMadeOfOne (IsInSecondPart t c) (IsMadeBy k c)) (CompFits n k) (λ o. AdmitsComp o k × AdmitsTerm o t) (CompHasBoundedWidths k) others_before others_after
-  pub each : (c : List Atom) → length c ≡ n → (w : PointValue) → IsMadeBy k c w → IsAmong after c w ⊎ IsAmong others_after c w
+  pub inside : Adds n (λ c. IsMadeOfOne (IsInFirstPart t c) (IsCompMember k c)) (CompFits n k) (λ o. AdmitsComp o k × AdmitsTerm o t) (CompHasBoundedWidths k) before after
+  pub outside : Adds n (λ c. IsMadeOfOne (IsInSecondPart t c) (IsCompMember k c)) (CompFits n k) (λ o. AdmitsComp o k × AdmitsTerm o t) (CompHasBoundedWidths k) others_before others_after
+  pub each : (c : List Atom) → length c ≡ n → (w : PointValue) → IsCompMember k c w → IsAmong after c w ⊎ IsAmong others_after c w
 
 -- v has exactly the pairs of nodes of which one is in the set and the other isn't, and each node is in the set or isn't
 pub record AreSplitPairs (nodes final v : PointValue) : Type 0 where
@@ -57,7 +57,7 @@ pub record AreSplitPairs (nodes final v : PointValue) : Type 0 where
 -- v leads from the pair of the targets of two steps with the same letter back to the pair of their sources
 abbrev pub AreBackward : PointValue → PointValue → Type 0
 AreBackward steps v =
-    (y : PointValue) → IsIn y v ↔ ((x x' p l q p' q' : PointValue) × IsStep steps p l p' × IsStep steps q l q' × IsPair x' p' q' × IsPair x p q × IsPair y x' x)
+    (y : PointValue) → IsIn y v ↔ ((x x' p l q p' q' : PointValue) × HasStepIn steps p l p' × HasStepIn steps q l q' × IsPair x' p' q' × IsPair x p q × IsPair y x' x)
 
 -- ---- states with their classes
 -- x is the set of the nodes that p isn't led to
@@ -79,8 +79,8 @@ IsClassTerm n m nodes apart item r =
     (c e : List Atom) → length c ≡ n → length e ≡ m → (q : PointValue) → IsIn q (point r (c ++ e)) ↔ (IsIn q (point nodes c) × (LeadsTo (point apart c) (point item (c ++ e)) q → ⊥))
 
 -- r has the item as its only member
-abbrev pub IsSingle : TermD → TermD → Type 0
-IsSingle item r = (c : List Atom) (w : PointValue) → IsIn w (point r c) ↔ IsSame w (point item c)
+abbrev pub IsSingletonOf : TermD → TermD → Type 0
+IsSingletonOf item r = (c : List Atom) (w : PointValue) → IsIn w (point r c) ↔ IsSame w (point item c)
 
 -- members of pairs of a comprehension's members with their classes are added
 abbrev pub IsClassedAt : TermD → TermD → List Atom → PointValue → PointValue → Type 0
@@ -88,8 +88,8 @@ IsClassedAt nodes apart c = IsClassed (point nodes c) (point apart c)
 
 -- each member of the comprehension is added in a pair with its class
 pub record AddsClass (n : ℕ) (k : CompD) (nodes apart : TermD) (before after : CompsD) : Type 0 where
-  pub adds : Adds n (λ c. IsMadeOfOne (IsClassedAt nodes apart c) (IsMadeBy k c)) (CompFits n k) (λ o. AdmitsComp o k × (AdmitsTerm o nodes × AdmitsTerm o apart)) (CompHasBoundedWidths k × HasBoundedWidths nodes) before after
-  pub each : (c : List Atom) → length c ≡ n → (p : PointValue) → IsMadeBy k c p → (y : PointValue) × IsAmong after c y × IsClassedAt nodes apart c p y
+  pub adds : Adds n (λ c. IsMadeOfOne (IsClassedAt nodes apart c) (IsCompMember k c)) (CompFits n k) (λ o. AdmitsComp o k × (AdmitsTerm o nodes × AdmitsTerm o apart)) (CompHasBoundedWidths k × HasBoundedWidths nodes) before after
+  pub each : (c : List Atom) → length c ≡ n → (p : PointValue) → IsCompMember k c p → (y : PointValue) × IsAmong after c y × IsClassedAt nodes apart c p y
 
 -- ---- the automaton of classes
 -- r has exactly the second parts of the pairs
@@ -122,7 +122,7 @@ AreStepMoves n transitions r =
 -- v has a step between what the pairs have for the source and the target of each step
 abbrev pub AreClassSteps : PointValue → PointValue → PointValue → PointValue → Type 0
 AreClassSteps pairs letters steps v =
-    (w : PointValue) → IsIn w v ↔ ((q l r x z : PointValue) × LeadsTo pairs q x × IsIn l letters × LeadsTo pairs r z × IsStep steps q l r × IsTriple w x l z)
+    (w : PointValue) → IsIn w v ↔ ((q l r x z : PointValue) × LeadsTo pairs q x × IsIn l letters × LeadsTo pairs r z × HasStepIn steps q l r × IsTriple w x l z)
 
 -- the five sets of m are made of the pairs (state, class)
 pub record IsQuotient (m a : Automaton) (pairs : PointValue) : Type 0 where

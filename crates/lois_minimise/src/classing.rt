@@ -7,11 +7,11 @@ ghost use Rattle.lois_base.specs.Fits.{Fits, CompFits, ItemsFit};
 ghost use Rattle.lois_base.specs.Tree.{tree, comp_of};
 ghost use Rattle.lois_base.specs.Validity.{AdmitsTerm, AdmitsComp, AdmitsItems, HasBoundedWidths, ItemsHaveBoundedWidths};
 ghost use Rattle.lois_base.specs.Values.{point};
-ghost use Rattle.lois_terms.specs.Guarded.{IsSet};
-ghost use Rattle.lois_minimise.specs.Classes.{AreClassed, AddsClass, IsClassTerm, IsSingle};
+ghost use Rattle.lois_terms.specs.Guarded.{IsColl};
+ghost use Rattle.lois_minimise.specs.Classes.{AreClassed, AddsClass, IsClassTerm, IsSingletonOf};
 
 use lois_algebra::{minus, push_comp};
-use lois_automata::{among_more, pair, targets_from};
+use lois_automata::{insert_levels, pair, targets_from};
 use lois_base::{Comp, Comps, Constraint, NoMemory, Structure, Term};
 use std::alloc::Global;
 
@@ -25,7 +25,7 @@ pub fn with_classes<T: Structure>(
     requires nodes { ItemsFit size (comps_of nodes.now) }
     requires nodes_operators { AdmitsItems T.ordered (comps_of nodes.now) }
     requires apart { Fits size (tree apart.now) }
-    requires apart_set { IsSet (tree apart.now) }
+    requires apart_set { IsColl (tree apart.now) }
     requires apart_operators { AdmitsTerm T.ordered (tree apart.now) }
     ensures classed { IfOk result (λ r. (c : List Atom) → length c ≡ size → AreClassed (point (coll (comps_of nodes.now)) c) (point (tree apart.now) c) (point (coll (comps_of r)) c)) }
     ensures levels { IfOk result (λ r. ItemsFit size (comps_of r)) }
@@ -52,7 +52,7 @@ fn add_class<T: Structure>(
     requires nodes { ItemsFit size (comps_of nodes.now) }
     requires nodes_operators { AdmitsItems T.ordered (comps_of nodes.now) }
     requires apart { Fits size (tree apart.now) }
-    requires apart_set { IsSet (tree apart.now) }
+    requires apart_set { IsColl (tree apart.now) }
     requires apart_operators { AdmitsTerm T.ordered (tree apart.now) }
     ensures { OnOk result (AddsClass size (comp_of comp.now) (coll (comps_of nodes.now)) (tree apart.now) (comps_of classes.old) (comps_of classes.new)) }
 {
@@ -84,17 +84,17 @@ fn class_of<T: Structure>(
     requires nodes { ItemsFit size (comps_of nodes.now) }
     requires nodes_operators { AdmitsItems T.ordered (comps_of nodes.now) }
     requires apart { Fits size (tree apart.now) }
-    requires apart_set { IsSet (tree apart.now) }
+    requires apart_set { IsColl (tree apart.now) }
     requires apart_operators { AdmitsTerm T.ordered (tree apart.now) }
     ensures class { IfOk result (λ r. IsClassTerm size by (coll (comps_of nodes.now)) (tree apart.now) (tree item.now) (tree r)) }
-    ensures set { IfOk result (λ r. IsSet (tree r)) }
+    ensures set { IfOk result (λ r. IsColl (tree r)) }
     ensures levels { IfOk result (λ r. Fits (size + by) (tree r)) }
     ensures operators { IfOk result (λ r. (o : Bool) → AdmitsTerm o (tree item.now) → AdmitsItems o (comps_of nodes.now) → AdmitsTerm o (tree apart.now) → AdmitsTerm o (tree r)) }
     ensures widths { IfOk result (λ r. ItemsHaveBoundedWidths (comps_of nodes.now) → HasBoundedWidths (tree r)) }
 {
     let states = Term::Coll(nodes.copy(alloc)?);
-    let all = among_more(alloc, &states, size, by)?;
-    let Term::Coll(told) = among_more(alloc, apart, size, by)? else {
+    let all = insert_levels(alloc, &states, size, by)?;
+    let Term::Coll(told) = insert_levels(alloc, apart, size, by)? else {
         unreachable!()
     };
     let own = single(alloc, item)?;
@@ -104,8 +104,8 @@ fn class_of<T: Structure>(
 
 // The set of one item.
 fn single(alloc: Global, item: &Term) -> Result<Term, NoMemory>
-    ensures members { IfOk result (λ r. IsSingle (tree item.now) (tree r)) }
-    ensures set { IfOk result (λ r. IsSet (tree r)) }
+    ensures members { IfOk result (λ r. IsSingletonOf (tree item.now) (tree r)) }
+    ensures set { IfOk result (λ r. IsColl (tree r)) }
     ensures levels { IfOk result (λ r. (n : ℕ) → n < 2 ^ 64 → Fits n (tree item.now) → Fits n (tree r)) }
     ensures operators { IfOk result (λ r. (o : Bool) → AdmitsTerm o (tree item.now) → AdmitsTerm o (tree r)) }
 {

@@ -7,14 +7,14 @@ ghost use Rattle.lois_base.specs.Fits.{ConstraintFits, Fits, ItemsFit};
 ghost use Rattle.lois_base.specs.Tree.{tree};
 ghost use Rattle.lois_base.specs.Validity.{AdmitsConstraint, AdmitsTerm, AdmitsItems};
 ghost use Rattle.lois_base.specs.Values.{point};
-ghost use Rattle.lois_terms.specs.Guarded.{IsSet};
+ghost use Rattle.lois_terms.specs.Guarded.{IsColl};
 ghost use Rattle.lois_automata.specs.Projections.{automaton_at};
 ghost use Rattle.lois_automata.specs.Throughout.{HoldsThroughout};
 ghost use Rattle.lois_minimise.specs.Classes.{IsCompleteDeterministicWithReach, IsDistinguishability, AreSplitPairs, AreBackward};
 
 use crate::partitioning::partition_by;
 use lois_algebra::union;
-use lois_automata::{FiveSets, Projection, pairs, project_steps, reachable_set, side_by_side};
+use lois_automata::{FiveSets, Projection, pair_steps, pairs, project_steps, reachable_set};
 use lois_base::{Comps, Constraint, NoMemory, Structure, Term};
 use std::alloc::Global;
 
@@ -36,7 +36,7 @@ pub fn distinguishable_pairs<T: Structure>(
     requires under { ConstraintFits size under.now }
     requires whole { HoldsThroughout size under.now (λ c. IsCompleteDeterministicWithReach (automaton_at (comps_of sets.states.now) (comps_of sets.letters.now) (comps_of sets.steps.now) (comps_of sets.initial.now) (comps_of sets.accepting.now) c) (point (coll (comps_of nodes.now)) c)) }
     ensures apart { IfOk result (λ r. HoldsThroughout size under.now (λ c. IsDistinguishability (automaton_at (comps_of sets.entry.states.now) (comps_of sets.entry.letters.now) (comps_of sets.entry.steps.now) (comps_of sets.entry.initial.now) (comps_of sets.entry.accepting.now) c) (point (tree r) c))) }
-    ensures set { IfOk result (λ r. IsSet (tree r)) }
+    ensures set { IfOk result (λ r. IsColl (tree r)) }
     ensures levels { IfOk result (λ r. Fits size (tree r)) }
     ensures operators { IfOk result (λ r. (o : Bool) → AdmitsItems o (comps_of sets.entry.steps.now) → AdmitsItems o (comps_of sets.entry.accepting.now) → AdmitsItems o (comps_of nodes.now) → AdmitsConstraint o under.now → AdmitsTerm o (tree r)) }
 {
@@ -62,7 +62,7 @@ fn split_pairs<T: Structure>(
     requires set { ItemsFit size (comps_of set.now) }
     requires set_operators { AdmitsItems T.ordered (comps_of set.now) }
     ensures pairs { IfOk result (λ r. (c : List Atom) → length c ≡ size → AreSplitPairs (point (coll (comps_of nodes.now)) c) (point (coll (comps_of set.now)) c) (point (tree r) c)) }
-    ensures set { IfOk result (λ r. IsSet (tree r)) }
+    ensures set { IfOk result (λ r. IsColl (tree r)) }
     ensures levels { IfOk result (λ r. Fits size (tree r)) }
     ensures operators { IfOk result (λ r. (o : Bool) → AdmitsItems o (comps_of nodes.now) → AdmitsItems o (comps_of set.now) → AdmitsTerm o (tree r)) }
 {
@@ -78,11 +78,11 @@ fn backward<T: Structure>(alloc: Global, steps: &Comps, size: usize) -> Result<T
     requires steps { ItemsFit size (comps_of steps.now) }
     requires operators { AdmitsItems T.ordered (comps_of steps.now) }
     ensures moves { IfOk result (λ r. (c : List Atom) → length c ≡ size → AreBackward (point (coll (comps_of steps.now)) c) (point (tree r) c)) }
-    ensures set { IfOk result (λ r. IsSet (tree r)) }
+    ensures set { IfOk result (λ r. IsColl (tree r)) }
     ensures levels { IfOk result (λ r. Fits size (tree r)) }
     ensures operators { IfOk result (λ r. (o : Bool) → AdmitsItems o (comps_of steps.now) → AdmitsTerm o (tree r)) }
 {
-    let Term::Coll(both) = side_by_side::<T>(alloc, steps, steps, size)? else {
+    let Term::Coll(both) = pair_steps::<T>(alloc, steps, steps, size)? else {
         unreachable!()
     };
     project_steps(alloc, &both, Projection::Back)

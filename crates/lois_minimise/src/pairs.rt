@@ -5,7 +5,7 @@ ghost use Rattle.lois_base.specs.Data.{coll, comps_of};
 ghost use Rattle.lois_base.specs.Fits.{Fits, ItemsFit};
 ghost use Rattle.lois_base.specs.Tree.{tree, comp_of};
 ghost use Rattle.lois_base.specs.Validity.{AdmitsTerm, AdmitsItems, HasBoundedWidths, ItemsHaveBoundedWidths};
-ghost use Rattle.lois_terms.specs.Guarded.{IsSet};
+ghost use Rattle.lois_terms.specs.Guarded.{IsColl};
 ghost use Rattle.lois_automata.specs.Projections.{AddsOfOne};
 ghost use Rattle.lois_minimise.specs.Classes.{AreSeconds, IsSecondOf};
 
@@ -17,7 +17,7 @@ use std::alloc::Global;
 /// The second parts of the pairs.
 pub fn second_parts(alloc: Global, pairs: &Comps) -> Result<Term, NoMemory>
     ensures members { IfOk result (λ r. (n : ℕ) → AreSeconds n (coll (comps_of pairs.now)) (tree r)) }
-    ensures set { IfOk result (λ r. IsSet (tree r)) }
+    ensures set { IfOk result (λ r. IsColl (tree r)) }
     ensures levels { IfOk result (λ r. (n : ℕ) → ItemsFit n (comps_of pairs.now) → Fits n (tree r)) }
     ensures operators { IfOk result (λ r. (o : Bool) → AdmitsItems o (comps_of pairs.now) → AdmitsTerm o (tree r)) }
     ensures widths { IfOk result (λ r. ItemsHaveBoundedWidths (comps_of pairs.now) → HasBoundedWidths (tree r)) }

@@ -7,7 +7,7 @@ ghost use Rattle.lois_base.specs.Fits.{Fits, CompFits, ItemsFit};
 ghost use Rattle.lois_base.specs.Tree.{tree, comp_of};
 ghost use Rattle.lois_base.specs.Validity.{AdmitsTerm, AdmitsComp, AdmitsItems};
 ghost use Rattle.lois_base.specs.Values.{point};
-ghost use Rattle.lois_terms.specs.Guarded.{IsSet};
+ghost use Rattle.lois_terms.specs.Guarded.{IsColl};
 ghost use Rattle.lois_algebra.specs.Gathered.{IsPut};
 ghost use Rattle.lois_minimise.specs.Classes.{IsPartition, AddsPartition};
 
@@ -34,7 +34,7 @@ pub fn partition_by<T: Structure>(
     requires levels { ItemsFit size (comps_of items.now) }
     requires operators { AdmitsItems T.ordered (comps_of items.now) }
     requires other_levels { Fits size (tree t.now) }
-    requires other_set { IsSet (tree t.now) }
+    requires other_set { IsColl (tree t.now) }
     requires other_operators { AdmitsTerm T.ordered (tree t.now) }
     ensures shared { IfOk result (λ r. (c : List Atom) → length c ≡ size → IsPartition (point (coll (comps_of items.now)) c) (point (tree t.now) c) (point (coll (comps_of r.inside)) c) (point (coll (comps_of r.outside)) c)) }
     ensures levels { IfOk result (λ r. ItemsFit size (comps_of r.inside) × ItemsFit size (comps_of r.outside)) }
@@ -59,7 +59,7 @@ fn partition_comp<T: Structure>(
     requires levels { CompFits size (comp_of one.now) }
     requires operators { AdmitsComp T.ordered (comp_of one.now) }
     requires other_levels { Fits size (tree t.now) }
-    requires other_set { IsSet (tree t.now) }
+    requires other_set { IsColl (tree t.now) }
     requires other_operators { AdmitsTerm T.ordered (tree t.now) }
     ensures { OnOk result (AddsPartition size (comp_of one.now) (tree t.now) (comps_of inside.old) (comps_of inside.new) (comps_of outside.old) (comps_of outside.new)) }
 {

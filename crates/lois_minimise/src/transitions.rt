@@ -7,7 +7,7 @@ ghost use Rattle.lois_base.specs.Fits.{Fits, ItemsFit};
 ghost use Rattle.lois_base.specs.Tree.{tree, comp_of};
 ghost use Rattle.lois_base.specs.Validity.{AdmitsTerm, AdmitsItems, HasBoundedWidths, ItemsHaveBoundedWidths};
 ghost use Rattle.lois_base.specs.Values.{point};
-ghost use Rattle.lois_terms.specs.Guarded.{IsSet};
+ghost use Rattle.lois_terms.specs.Guarded.{IsColl};
 ghost use Rattle.lois_automata.specs.Projections.{AddsOfOne, pair_of, triple_of};
 ghost use Rattle.lois_minimise.specs.Classes.{AreClassSteps, AreStepMoves, IsStepMove, transition_of};
 
@@ -42,7 +42,7 @@ pub fn class_steps<T: Structure>(
     requires steps { ItemsFit size (comps_of steps.now) }
     requires steps_operators { AdmitsItems T.ordered (comps_of steps.now) }
     ensures steps { IfOk result (λ r. (c : List Atom) → length c ≡ size → AreClassSteps (point (coll (comps_of classes.now)) c) (point (coll (comps_of letters.now)) c) (point (coll (comps_of steps.now)) c) (point (tree r) c)) }
-    ensures set { IfOk result (λ r. IsSet (tree r)) }
+    ensures set { IfOk result (λ r. IsColl (tree r)) }
     ensures levels { IfOk result (λ r. Fits size (tree r)) }
     ensures operators { IfOk result (λ r. (o : Bool) → AdmitsItems o (comps_of classes.now) → AdmitsItems o (comps_of letters.now) → AdmitsItems o (comps_of steps.now) → AdmitsTerm o (tree r)) }
     ensures widths { IfOk result (λ r. ItemsHaveBoundedWidths (comps_of classes.now) → ItemsHaveBoundedWidths (comps_of letters.now) → HasBoundedWidths (tree r)) }

@@ -10,7 +10,7 @@ use Rattle.lois_base.specs.declared.guards.Lit.{Lit}
 use Rattle.lois_base.specs.declared.guards.Op.TheVariants.{Eq}
 use Rattle.lois_base.proofs.Order.{equal_refl, equal_sym}
 use Rattle.lois_base.proofs.Truths.{op_respects}
-use Rattle.lois_order.specs.Equations.{AreEquivalent, Equates, renamed_level, renamed}
+use Rattle.lois_order.specs.Equations.{AreEquivalentCubes, Equates, renamed_level, renamed}
 use Rattle.lois_order.proofs.Choices.{at_end, at_front, place}
 use Rattle.lois_order.proofs.Projects.{Projects}
 use Rattle.lois_order.proofs.With.{contained_entails}
@@ -48,7 +48,7 @@ module _ (cube : List Lit) (x y : ℕ) (fits : CubeFits (x + 1) cube) (equation 
         equal_sym (atom_at c y) a (rw (at_end c a x e, at_front c a x y e other_below) at m)
   ]
 
-  pub substituted_projects : (r : List Lit) → AreEquivalent (map (renamed x y) cube) r → Projects x cube r
+  pub substituted_projects : (r : List Lit) → AreEquivalentCubes (map (renamed x y) cube) r → Projects x cube r
   substituted_projects r s c e = (
     λ h. (atom_at c y, cube_renamed c (atom_at c y) x y e (equal_refl (atom_at c y)) cube fits ∙ sym (s c) ∙ h),
     λ p. s c ∙ sym (cube_renamed c p.0 x y e (same_atom c p.0 e p.1) cube fits) ∙ p.1,

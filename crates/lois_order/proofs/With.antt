@@ -11,7 +11,7 @@ use Rattle.lois_base.specs.Truth.{atom_at, lit_holds, cube_holds}
 use Rattle.lois_base.specs.declared.guards.Lit.{Lit}
 use Rattle.lois_base.specs.declared.guards.Op.TheVariants.{Eq}
 use Rattle.lois_base.proofs.Order.{equal_refl}
-use Rattle.lois_order.specs.Cubes.{Entails, IsWith}
+use Rattle.lois_order.specs.Cubes.{EntailsLiteral, IsWith}
 
 and_right : (a b : Bool) → (a ≡ true → b ≡ true) → a ≡ (a && b)
 and_right a b f = elim (cases_Bool a) [ inl y ↦ let e : b ≡ true = f y in cc | inr n ↦ cc ]
@@ -27,8 +27,8 @@ pub with_all : (P : Lit → Type 0) (old new : List Lit) (l : Lit) → IsWith ol
 with_all P old new l (inl e) h p = All-same P new (old ++ l ∷ []) e (All-push P old l h p)
 with_all P old new l (inr e) h p = All-same P new old e.0 h
 
-pub contained_entails : (cube : List Lit) (l : Lit) → Contains cube l → Entails cube l
+pub contained_entails : (cube : List Lit) (l : Lit) → Contains cube l → EntailsLiteral cube l
 contained_entails cube l k c h = All-contains (λ x. lit_holds c x ≡ true) cube l (AllPass-from_list_all (lit_holds c) cube h) k
 
-pub same_entails : (cube : List Lit) (l : Lit) → l.op ≡ Eq → l.left ≡ l.right → Entails cube l
+pub same_entails : (cube : List Lit) (l : Lit) → l.op ≡ Eq → l.left ≡ l.right → EntailsLiteral cube l
 same_entails cube l e k c h = rw (e, k) (equal_refl (atom_at c l.right))

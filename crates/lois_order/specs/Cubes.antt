@@ -16,9 +16,9 @@ abbrev pub is_absurd : Lit → Bool
 is_absurd l = (l.left == l.right) && not (is_eq l.op)
 
 -- the literal holds wherever the cube does
-abbrev pub Entails : List Lit → Lit → Type 0
-Entails cube l = (c : List Atom) → IsTrue (cube_holds c cube) → IsTrue (lit_holds c l)
+abbrev pub EntailsLiteral : List Lit → Lit → Type 0
+EntailsLiteral cube l = (c : List Atom) → IsTrue (cube_holds c cube) → IsTrue (lit_holds c l)
 
 -- the cube with one more literal, or as it was where it entails that one
 abbrev pub IsWith : List Lit → List Lit → Lit → Type 0
-IsWith old new l = (new ≡ old ++ l ∷ []) ⊎ ((new ≡ old) × Entails old l)
+IsWith old new l = (new ≡ old ++ l ∷ []) ⊎ ((new ≡ old) × EntailsLiteral old l)

@@ -24,5 +24,5 @@ abbrev pub renamed : ℕ → ℕ → Lit → Lit
 renamed x y l = record { op = l.op; left = renamed_level x y l.left; right = renamed_level x y l.right }
 
 -- the cubes hold at the same choices of atoms
-abbrev pub AreEquivalent : List Lit → List Lit → Type 0
-AreEquivalent k r = (c : List Atom) → cube_holds c r ≡ cube_holds c k
+abbrev pub AreEquivalentCubes : List Lit → List Lit → Type 0
+AreEquivalentCubes k r = (c : List Atom) → cube_holds c r ≡ cube_holds c k

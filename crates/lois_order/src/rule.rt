@@ -5,7 +5,7 @@ ghost use Rattle.std.specs.List.{list_any};
 ghost use Rattle.lois_base.specs.Fits.{CubeFits};
 ghost use Rattle.lois_base.specs.Validity.{IsOrderFreeCube};
 ghost use Rattle.lois_order.specs.Bounds.{is_lower, is_upper, AddsLowerBounds, JoinsBounds};
-ghost use Rattle.lois_order.specs.Equations.{equates, Equates, renamed_level, renamed, AreEquivalent};
+ghost use Rattle.lois_order.specs.Equations.{equates, Equates, renamed_level, renamed, AreEquivalentCubes};
 
 use crate::cubes::add;
 use lois_base::{Cube, Lit, NoMemory, Op};
@@ -44,7 +44,7 @@ pub fn substitute_in_cube(
 ) -> Result<Cube, NoMemory>
     requires other { to < from }
     requires levels { CubeFits (from + 1) cube.now }
-    ensures holds { IfOk result (AreEquivalent (map (renamed from to) cube.now)) }
+    ensures holds { IfOk result (AreEquivalentCubes (map (renamed from to) cube.now)) }
     ensures levels { IfOk result (CubeFits from) }
     ensures order { IfOk result (λ r. IsOrderFreeCube cube.now → IsOrderFreeCube r) }
 {

@@ -4,7 +4,7 @@ use Rattle.std.proofs.Math.Seq.{take-append_seam}
 use Rattle.std.specs.Prelude.{Err, Ok, OnErr, Option, Result}
 use Rattle.std.proofs.KnownBytes.{Appends-kept, Appends-nil, Appends-trans, Consumes-nil, Consumes-trans}
 use Rattle.std.specs.Io.KnownBytes.{Appends, Consumes, Keeps}
-use Rattle.lois_outside.specs.Calls.{Reads, Writes, no_put, no_take, one_more_put, one_more_take}
+use Rattle.lois_outside.specs.Calls.{TakesPieces, Writes, no_put, no_take, one_more_put, one_more_take}
 use Rattle.lois_outside.specs.Writing.{AppendsProperPrefix}
 
 -- the source gave these bytes since the loop began
@@ -12,7 +12,7 @@ pub record HasRead {S : Type 0} (left : S → Option (List ℕ)) (faults : S →
   pub fits : length bytes ≤ most
   pub consumed : Consumes (left from) (left to) bytes
   pub count : faults from ≤ faults to
-  pub calls : Reads takes most from bytes to
+  pub calls : TakesPieces takes most from bytes to
 
 -- the sink took all of the bytes but the rest since the loop began
 pub record HasWritten {K : Type 0} (held : K → Option (List ℕ)) (faults : K → ℕ) (puts : K → List ℕ → Option ℕ → K → Type 0) (from : K) (bytes rest : List ℕ) (to : K) : Type 0 where

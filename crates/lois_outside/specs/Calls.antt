@@ -4,15 +4,15 @@ use Rattle.std.specs.Option.{option_map}
 use Rattle.std.specs.Result.{result_ok}
 
 -- what a call of `take` gave: the bytes at the front of the slice, or none at all where it failed
-abbrev pub given : {E : Type 0} → Result ℕ E → List ℕ → Option (List ℕ)
-given answer slice = option_map (λ n. take n slice) (result_ok answer)
+abbrev pub given_bytes : {E : Type 0} → Result ℕ E → List ℕ → Option (List ℕ)
+given_bytes answer slice = option_map (λ n. take n slice) (result_ok answer)
 
 -- Calls of `take` lead from a source to a source and gave these bytes, and no call asked for more
 -- than was left of `most` bytes in all. `takes s asked gave t` is one call: a slice of `asked` bytes.
-pub data Reads {S : Type 0} (takes : S → ℕ → Option (List ℕ) → S → Type 0) (most : ℕ) (from : S) : List ℕ → S → Type 0 where
-  no_take : Reads takes most from [] from
-  one_more_take : (bytes piece : List ℕ) (asked : ℕ) (mid to : S) → Reads takes most from bytes mid → length bytes + asked ≤ most
-      → takes mid asked (Some piece) to → Reads takes most from (bytes ++ piece) to
+pub data TakesPieces {S : Type 0} (takes : S → ℕ → Option (List ℕ) → S → Type 0) (most : ℕ) (from : S) : List ℕ → S → Type 0 where
+  no_take : TakesPieces takes most from [] from
+  one_more_take : (bytes piece : List ℕ) (asked : ℕ) (mid to : S) → TakesPieces takes most from bytes mid → length bytes + asked ≤ most
+      → takes mid asked (Some piece) to → TakesPieces takes most from (bytes ++ piece) to
 
 -- Calls of `put` lead from a sink to a sink, each was handed all the bytes that weren't appended yet,
 -- and `rest` isn't appended now. `puts s piece taken t` is one call: how many bytes of the piece it took.

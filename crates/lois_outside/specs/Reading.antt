@@ -1,7 +1,7 @@
 -- What reading to the end of the input answers, and what it took before it gave up.
 use Rattle.std.specs.Prelude.{◌≡◌, ℕ, ◌+◌, ◌<◌, ◌≤◌, List, [], length, Option, Some, None}
 use Rattle.std.specs.Io.KnownBytes.{Consumes}
-use Rattle.lois_outside.specs.Calls.{Reads}
+use Rattle.lois_outside.specs.Calls.{TakesPieces}
 use Rattle.lois_outside.specs.declared.reading.ReadError.{ReadError}
 use Rattle.lois_outside.specs.declared.reading.ReadError.TheVariants.{ReadFault, TooLong, NoMemory}
 
@@ -15,22 +15,22 @@ TookExactly count before after = (bytes : List ℕ) × Consumes before after byt
 
 -- How many bytes an error has taken: one more than the limit where the input is too long, which is
 -- the number that it names, and in every other case no more than the limit.
-abbrev pub HasTaken : ℕ → Option (List ℕ) → Option (List ℕ) → ReadError → Type 0
-HasTaken limit before after (TooLong n) = (n ≡ limit + 1) × TookExactly n before after
-HasTaken limit before after ReadFault = TookAtMost limit before after
-HasTaken limit before after NoMemory = TookAtMost limit before after
+abbrev pub HasConsumed : ℕ → Option (List ℕ) → Option (List ℕ) → ReadError → Type 0
+HasConsumed limit before after (TooLong n) = (n ≡ limit + 1) × TookExactly n before after
+HasConsumed limit before after ReadFault = TookAtMost limit before after
+HasConsumed limit before after NoMemory = TookAtMost limit before after
 
 -- calls that gave these bytes, within this many in all, and then one that asked for a byte and was given none
 abbrev pub ReadsToEnd : {S : Type 0} → (S → ℕ → Option (List ℕ) → S → Type 0) → ℕ → S → List ℕ → S → Type 0
 ReadsToEnd {S} takes most from bytes to =
-    (mid : S) × (asked : ℕ) × Reads takes most from bytes mid × (length bytes + asked ≤ most) × (0 < asked) × takes mid asked (Some []) to
+    (mid : S) × (asked : ℕ) × TakesPieces takes most from bytes mid × (length bytes + asked ≤ most) × (0 < asked) × takes mid asked (Some []) to
 
 -- The calls before an error. Too long: they gave one byte more than the limit. A fault: the last one
 -- failed. Want of memory: none failed.
 abbrev pub GivesUp : {S : Type 0} → (S → ℕ → Option (List ℕ) → S → Type 0) → ℕ → S → ReadError → S → Type 0
 GivesUp takes limit from (TooLong n) to =
-    (bytes : List ℕ) × Reads takes (limit + 1) from bytes to × (length bytes ≡ limit + 1)
+    (bytes : List ℕ) × TakesPieces takes (limit + 1) from bytes to × (length bytes ≡ limit + 1)
 GivesUp {S} takes limit from ReadFault to =
-    (bytes : List ℕ) × (mid : S) × (asked : ℕ) × Reads takes (limit + 1) from bytes mid × (length bytes ≤ limit) × (length bytes + asked ≤ limit + 1) × takes mid asked None to
+    (bytes : List ℕ) × (mid : S) × (asked : ℕ) × TakesPieces takes (limit + 1) from bytes mid × (length bytes ≤ limit) × (length bytes + asked ≤ limit + 1) × takes mid asked None to
 GivesUp takes limit from NoMemory to =
-    (bytes : List ℕ) × Reads takes (limit + 1) from bytes to × (length bytes ≤ limit)
+    (bytes : List ℕ) × TakesPieces takes (limit + 1) from bytes to × (length bytes ≤ limit)

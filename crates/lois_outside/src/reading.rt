@@ -2,7 +2,7 @@
 ghost use Rattle.std.specs.Prelude.{◌≡◌, ◌+◌, ◌<◌, ◌≤◌, ◌++◌, Err, IfErr, IfOk, OnOk, length, vec_capacity, vec_len};
 ghost use Rattle.std.specs.Io.KnownBytes.{Consumes, IsAtEnd};
 ghost use Rattle.lois_outside.specs.Faults.{Rose};
-ghost use Rattle.lois_outside.specs.Reading.{GivesUp, HasTaken, ReadsToEnd};
+ghost use Rattle.lois_outside.specs.Reading.{GivesUp, HasConsumed, ReadsToEnd};
 
 use crate::{Failed, Source};
 use std::alloc::Global;
@@ -42,7 +42,7 @@ pub fn read_all<S: Source>(
     ensures fits { IfOk result (λ v. vec_len v ≤ limit) }
 
     // `TooLong(limit + 1)` where that many bytes were taken. Every other error took at most `limit`.
-    ensures stays_taken { IfErr result (HasTaken limit (S.left source.old) (S.left source.new)) }
+    ensures stays_taken { IfErr result (HasConsumed limit (S.left source.old) (S.left source.new)) }
     ensures read_fault { result ≡ Err ReadError.ReadFault → Rose (S.faults source.old) (S.faults source.new) }
     ensures count_never_falls { S.faults source.old ≤ S.faults source.new }
 

@@ -1,7 +1,7 @@
 // Where bytes come from.
 ghost use Rattle.std.specs.Prelude.{◌≡◌, ◌≤◌, ◌<◌, ℕ, List, Option, length, take, ⊤, Ok, IfOk, OnErr};
 ghost use Rattle.std.specs.Io.KnownBytes.{Consumes, IsAtEnd, Keeps};
-ghost use Rattle.lois_outside.specs.Calls.{given};
+ghost use Rattle.lois_outside.specs.Calls.{given_bytes};
 ghost use Rattle.lois_outside.specs.Faults.{Rose};
 
 use crate::Failed;
@@ -29,5 +29,5 @@ pub trait Source {
         ensures nothing_taken { OnErr result (Keeps (left self.old) (left self.new)) }
         ensures count_never_falls { faults self.old ≤ faults self.new }
 
-        ensures call { takes self.old (length into.old) (given result into.new) self.new };
+        ensures call { takes self.old (length into.old) (given_bytes result into.new) self.new };
 }

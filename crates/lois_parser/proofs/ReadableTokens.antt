@@ -14,7 +14,7 @@ use Rattle.lois_lexer.specs.Forms.{HasForm, is_within_limits}
 use Rattle.lois_lexer.specs.Tokens.{HasTokens, IsTokenOf, bytes_of}
 use Rattle.lois_lexer.proofs.OneReading.{tokens_of_cut}
 use Rattle.lois_descent.specs.Lexemes.{as_tag, lexeme_from, accepts}
-use Rattle.lois_parser.specs.Readable.{is_name, is_number, is_tag, suits, is_readable, are_readable}
+use Rattle.lois_parser.specs.Readable.{is_name, is_digits, is_tag, suits, is_readable, are_readable}
 use Rattle.lois_descent.specs.Refusals.{tokens_in}
 use Rattle.lois_descent.specs.Steps.{first_lexeme}
 use Rattle.lois_descent.specs.declared.lexemes.Lexeme.TheVariants as lexemes
@@ -79,13 +79,13 @@ module _ (text : List ℕ) (tokens : List Token) (t : Token) (rest : List Token)
       let found = tag_from (bytes_of text t) (subst (λ k. suits k (bytes_of text t) ≡ true) kind first_lies.suited) in
       (found.1, found.2)
 
-  pub counted : accepts terminals.Number (first_lexeme (tokens_in text tokens)) ≡ true → is_number (bytes_of text t) ≡ true
+  pub counted : accepts terminals.Number (first_lexeme (tokens_in text tokens)) ≡ true → is_digits (bytes_of text t) ≡ true
   counted e =
       let l : lexeme_from t.kind (bytes_of text t) ≡ lexemes.Number = sym first_is ∙ number_accepted (first_lexeme (tokens_in text tokens)) e in
       let kind : t.kind ≡ kinds.Number = kind_is t.kind (bytes_of text t) lexemes.Number kinds.Number l refl in
       subst (λ k. suits k (bytes_of text t) ≡ true) kind first_lies.suited
 
-pub number_parts : (digits : List ℕ) → is_number digits ≡ true → (length digits ≤ 9) × (list_all is_ascii_digit digits ≡ true)
+pub number_parts : (digits : List ℕ) → is_digits digits ≡ true → (length digits ≤ 9) × (list_all is_ascii_digit digits ≡ true)
 number_parts digits h =
     let both : (nat_le (length digits) 9 ≡ true) × (list_all is_ascii_digit digits ≡ true) = and_parts (nat_le (length digits) 9) (list_all is_ascii_digit digits) h in
     (leb-true (length digits) 9 both.0, both.1)
@@ -100,7 +100,7 @@ tag_bytes_suit : (bytes : List ℕ) → HasForm kinds.Tag bytes → IsName (drop
 tag_bytes_suit [] h n = absurd h
 tag_bytes_suit (b ∷ bs) h n = and_from (nat_eq b 39) (is_name bs) (eq-eqb b 39 h.0) (name_bytes_suit bs n)
 
-number_bytes_suit : (bytes : List ℕ) → HasForm kinds.Number bytes → is_within_limits kinds.Number bytes ≡ true → is_number bytes ≡ true
+number_bytes_suit : (bytes : List ℕ) → HasForm kinds.Number bytes → is_within_limits kinds.Number bytes ≡ true → is_digits bytes ≡ true
 number_bytes_suit [] h l = absurd h
 number_bytes_suit (b ∷ bs) h l = and_from (nat_le (length (b ∷ bs)) 9) (list_all is_ascii_digit (b ∷ bs)) (and_parts (nat_le (length (b ∷ bs)) 9) _ l).0 h
 

@@ -14,8 +14,8 @@ use Rattle.lois_parser.specs.declared.rest.Rest.{Rest}
 use Rattle.std.specs.Prelude.{List}
 
 -- some token was read
-abbrev pub GoesOn : {A : Type 0} → Rest → Result (A × Rest) ParseError → Type 0
-GoesOn at r = IfOk r (λ x. length (ahead x.1) < length (ahead at))
+abbrev pub ConsumesTokens : {A : Type 0} → Rest → Result (A × Rest) ParseError → Type 0
+ConsumesTokens at r = IfOk r (λ x. length (ahead x.1) < length (ahead at))
 
 -- an expression, a condition, and the statements of a block, as this reads them
 abbrev pub GivesExpr : Read ExprD → Rest → Result (Expr × Rest) ParseError → Type 0
@@ -31,11 +31,11 @@ GivesStmts b at r = ResultIs (λ x. (stmts_list x.0, ahead x.1)) r (b (ahead at)
 pub record Nests (depth_left : ℕ) (expr_pre : Global → Rest → ℕ → Type 0) (expr_post : Global → Rest → ℕ → Result (Expr × Rest) ParseError → Type 0)
     (cond_pre : Global → Rest → ℕ → Type 0) (cond_post : Global → Rest → ℕ → Result (Cond × Rest) ParseError → Type 0) : Type 0 where
   pub expr_callable : (alloc : Global) (at : Rest) (inner : ℕ) → depth_left ≡ suc inner → expr_pre alloc at inner
-  pub expr_reads : (alloc : Global) (at : Rest) (inner : ℕ) (r : Result (Expr × Rest) ParseError) → depth_left ≡ suc inner → expr_post alloc at inner r → GivesExpr (expr_of inner) at r × GoesOn at r
+  pub expr_reads : (alloc : Global) (at : Rest) (inner : ℕ) (r : Result (Expr × Rest) ParseError) → depth_left ≡ suc inner → expr_post alloc at inner r → GivesExpr (expr_of inner) at r × ConsumesTokens at r
   pub cond_callable : (alloc : Global) (at : Rest) (inner : ℕ) → depth_left ≡ suc inner → cond_pre alloc at inner
-  pub cond_reads : (alloc : Global) (at : Rest) (inner : ℕ) (r : Result (Cond × Rest) ParseError) → depth_left ≡ suc inner → cond_post alloc at inner r → GivesCond (cond_of inner) at r × GoesOn at r
+  pub cond_reads : (alloc : Global) (at : Rest) (inner : ℕ) (r : Result (Cond × Rest) ParseError) → depth_left ≡ suc inner → cond_post alloc at inner r → GivesCond (cond_of inner) at r × ConsumesTokens at r
 
 -- a function value that reads the statements of a block where one bracket fewer may be open
 pub record Blocks (depth_left : ℕ) (pre : Global → Rest → ℕ → Type 0) (post : Global → Rest → ℕ → Result (Stmts × Rest) ParseError → Type 0) : Type 0 where
   pub callable : (alloc : Global) (at : Rest) (inner : ℕ) → depth_left ≡ suc inner → pre alloc at inner
-  pub reads : (alloc : Global) (at : Rest) (inner : ℕ) (r : Result (Stmts × Rest) ParseError) → depth_left ≡ suc inner → post alloc at inner r → GivesStmts (block_of inner) at r × GoesOn at r
+  pub reads : (alloc : Global) (at : Rest) (inner : ℕ) (r : Result (Stmts × Rest) ParseError) → depth_left ≡ suc inner → post alloc at inner r → GivesStmts (block_of inner) at r × ConsumesTokens at r

@@ -11,8 +11,8 @@ use Rattle.lois_base.specs.Names.{begins_with_letter, is_name_byte}
 abbrev pub is_name : List ℕ → Bool
 is_name bytes = nat_le (length bytes) 64 && (begins_with_letter bytes && list_all is_name_byte bytes)
 
-abbrev pub is_number : List ℕ → Bool
-is_number bytes = nat_le (length bytes) 9 && list_all is_ascii_digit bytes
+abbrev pub is_digits : List ℕ → Bool
+is_digits bytes = nat_le (length bytes) 9 && list_all is_ascii_digit bytes
 
 -- a quote and a name
 abbrev pub is_tag : List ℕ → Bool
@@ -23,7 +23,7 @@ is_tag (b ∷ bs) = nat_eq b 39 && is_name bs
 abbrev pub suits : TokenKind → List ℕ → Bool
 suits Name bytes = is_name bytes
 suits Tag bytes = is_tag bytes
-suits Number bytes = is_number bytes
+suits Number bytes = is_digits bytes
 suits _ bytes = true
 
 -- the token lies in the text, and its bytes suit its kind

@@ -5,7 +5,7 @@ ghost use Rattle.lois_script.specs.View.{binding_tree, cond_tree, conds_list};
 ghost use Rattle.lois_parser.specs.Ahead.{ahead};
 ghost use Rattle.lois_descent.specs.Descent as descent;
 ghost use Rattle.lois_descent.specs.Descent.{inner_expr, inner_cond, expr_here, cond_here, base_here, unit_here, conjunction_here};
-ghost use Rattle.lois_parser.specs.Nests.{Nests, GivesCond, GoesOn};
+ghost use Rattle.lois_parser.specs.Nests.{Nests, GivesCond, ConsumesTokens};
 ghost use Rattle.lois_descent.specs.Reading.{ResultIs};
 ghost use Rattle.lois_descent.specs.declared.lexemes.UnitForm.TheVariants as units;
 
@@ -27,7 +27,7 @@ impl<
     pub(crate) fn condition(&self, at: Rest<'a>) -> Result<(Cond, Rest<'a>), ParseError>
         requires nested { Nests self.now.depth_left (E.pre self.now.expr) (E.post self.now.expr) (C.pre self.now.cond) (C.post self.now.cond) }
         ensures read { GivesCond (cond_here self.now.depth_left) at.entry result }
-        ensures shorter { GoesOn at.entry result }
+        ensures shorter { ConsumesTokens at.entry result }
     {
         let (first, behind) = self.conjunction(at)?;
         if !behind.begins_or() {
@@ -59,7 +59,7 @@ impl<
     fn conjunction(&self, at: Rest<'a>) -> Result<(Cond, Rest<'a>), ParseError>
         requires nested { Nests self.now.depth_left (E.pre self.now.expr) (E.post self.now.expr) (C.pre self.now.cond) (C.post self.now.cond) }
         ensures read { GivesCond (conjunction_here self.now.depth_left) at.entry result }
-        ensures shorter { GoesOn at.entry result }
+        ensures shorter { ConsumesTokens at.entry result }
     {
         let (first, behind) = self.unit(at)?;
         if !behind.begins_and() {
@@ -91,7 +91,7 @@ impl<
     fn unit(&self, at: Rest<'a>) -> Result<(Cond, Rest<'a>), ParseError>
         requires nested { Nests self.now.depth_left (E.pre self.now.expr) (E.post self.now.expr) (C.pre self.now.cond) (C.post self.now.cond) }
         ensures read { GivesCond (unit_here self.now.depth_left) at.entry result }
-        ensures shorter { GoesOn at.entry result }
+        ensures shorter { ConsumesTokens at.entry result }
     {
         match at.lexeme().unit_form() {
             UnitForm::Not => self.negation(at),
@@ -105,7 +105,7 @@ impl<
     fn negation(&self, at: Rest<'a>) -> Result<(Cond, Rest<'a>), ParseError>
         requires nested { Nests self.now.depth_left (E.pre self.now.expr) (E.post self.now.expr) (C.pre self.now.cond) (C.post self.now.cond) }
         ensures read { GivesCond (descent.unit_by units.Not (expr_here self.now.depth_left) (base_here self.now.depth_left)) at.entry result }
-        ensures shorter { GoesOn at.entry result }
+        ensures shorter { ConsumesTokens at.entry result }
     {
         let (condition, end) = self.base(at.behind())?;
         Ok((Cond::Not(Box::new(self.alloc, condition)?), end))
@@ -115,7 +115,7 @@ impl<
     fn existence(&self, at: Rest<'a>) -> Result<(Cond, Rest<'a>), ParseError>
         requires nested { Nests self.now.depth_left (E.pre self.now.expr) (E.post self.now.expr) (C.pre self.now.cond) (C.post self.now.cond) }
         ensures read { GivesCond (descent.unit_by units.Exists (expr_here self.now.depth_left) (base_here self.now.depth_left)) at.entry result }
-        ensures shorter { GoesOn at.entry result }
+        ensures shorter { ConsumesTokens at.entry result }
     {
         let ((binding, condition), end) = self.quantified(at)?;
         Ok((exists(self.alloc, binding, condition)?, end))
@@ -125,7 +125,7 @@ impl<
     fn generality(&self, at: Rest<'a>) -> Result<(Cond, Rest<'a>), ParseError>
         requires nested { Nests self.now.depth_left (E.pre self.now.expr) (E.post self.now.expr) (C.pre self.now.cond) (C.post self.now.cond) }
         ensures read { GivesCond (descent.unit_by units.Every (expr_here self.now.depth_left) (base_here self.now.depth_left)) at.entry result }
-        ensures shorter { GoesOn at.entry result }
+        ensures shorter { ConsumesTokens at.entry result }
     {
         let ((binding, condition), end) = self.quantified(at)?;
         Ok((every(self.alloc, binding, condition)?, end))
@@ -136,7 +136,7 @@ impl<
     fn quantified(&self, at: Rest<'a>) -> Result<((Binding, Cond), Rest<'a>), ParseError>
         requires nested { Nests self.now.depth_left (E.pre self.now.expr) (E.post self.now.expr) (C.pre self.now.cond) (C.post self.now.cond) }
         ensures read { ResultIs (λ x. ((binding_tree x.0.0, cond_tree x.0.1), ahead x.1)) result (descent.quantified (expr_here self.now.depth_left) (base_here self.now.depth_left) (ahead at.entry)) }
-        ensures shorter { GoesOn at.entry result }
+        ensures shorter { ConsumesTokens at.entry result }
     {
         let (binding, colon) = self.binding(at.behind())?;
         let (condition, end) = self.base(colon.pass(Terminal::Colon)?)?;
@@ -148,7 +148,7 @@ impl<
     fn base(&self, at: Rest<'a>) -> Result<(Cond, Rest<'a>), ParseError>
         requires nested { Nests self.now.depth_left (E.pre self.now.expr) (E.post self.now.expr) (C.pre self.now.cond) (C.post self.now.cond) }
         ensures read { GivesCond (base_here self.now.depth_left) at.entry result }
-        ensures shorter { GoesOn at.entry result }
+        ensures shorter { ConsumesTokens at.entry result }
     {
         match at.lexeme().base_form() {
             BaseForm::True => Ok((Cond::True, at.behind())),
@@ -164,7 +164,7 @@ impl<
     fn emptiness(&self, at: Rest<'a>) -> Result<(Cond, Rest<'a>), ParseError>
         requires nested { Nests self.now.depth_left (E.pre self.now.expr) (E.post self.now.expr) (C.pre self.now.cond) (C.post self.now.cond) }
         ensures read { GivesCond (descent.emptiness self.now.depth_left (inner_expr self.now.depth_left)) at.entry result }
-        ensures shorter { GoesOn at.entry result }
+        ensures shorter { ConsumesTokens at.entry result }
     {
         let inside = at.behind().enter_call(self.depth_left)?;
         let (automaton, close) = self.inner_expression(inside)?;
@@ -177,7 +177,7 @@ impl<
     fn brackets(&self, at: Rest<'a>) -> Result<(Cond, Rest<'a>), ParseError>
         requires nested { Nests self.now.depth_left (E.pre self.now.expr) (E.post self.now.expr) (C.pre self.now.cond) (C.post self.now.cond) }
         ensures read { GivesCond (descent.brackets self.now.depth_left (inner_cond self.now.depth_left)) at.entry result }
-        ensures shorter { GoesOn at.entry result }
+        ensures shorter { ConsumesTokens at.entry result }
     {
         let (condition, close) = self.inner_condition(at.enter(self.depth_left)?)?;
         close.pass_with(condition, Terminal::CloseSquare)
@@ -188,7 +188,7 @@ impl<
     fn comparison(&self, at: Rest<'a>) -> Result<(Cond, Rest<'a>), ParseError>
         requires nested { Nests self.now.depth_left (E.pre self.now.expr) (E.post self.now.expr) (C.pre self.now.cond) (C.post self.now.cond) }
         ensures read { GivesCond (descent.comparison (expr_here self.now.depth_left)) at.entry result }
-        ensures shorter { GoesOn at.entry result }
+        ensures shorter { ConsumesTokens at.entry result }
     {
         let (left, middle) = self.expression(at)?;
         let (relation, behind) = middle.relation()?;

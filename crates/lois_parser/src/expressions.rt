@@ -5,7 +5,7 @@ ghost use Rattle.lois_script.specs.View.{tree, binding_tree, exprs_list, binding
 ghost use Rattle.lois_parser.specs.Ahead.{ahead};
 ghost use Rattle.lois_descent.specs.Descent as descent;
 ghost use Rattle.lois_descent.specs.Descent.{inner_expr, inner_cond, expr_here};
-ghost use Rattle.lois_parser.specs.Nests.{Nests, GivesExpr, GivesCond, GoesOn};
+ghost use Rattle.lois_parser.specs.Nests.{Nests, GivesExpr, GivesCond, ConsumesTokens};
 ghost use Rattle.lois_descent.specs.Reading.{ResultIs};
 
 use crate::grammar::Grammar;
@@ -27,7 +27,7 @@ impl<
     pub(crate) fn expression(&self, at: Rest<'a>) -> Result<(Expr, Rest<'a>), ParseError>
         requires nested { Nests self.now.depth_left (E.pre self.now.expr) (E.post self.now.expr) (C.pre self.now.cond) (C.post self.now.cond) }
         ensures read { GivesExpr (expr_here self.now.depth_left) at.entry result }
-        ensures shorter { GoesOn at.entry result }
+        ensures shorter { ConsumesTokens at.entry result }
     {
         match at.lexeme().expr_form() {
             ExprForm::Atoms => Ok((Expr::Atoms(at.pos()), at.behind())),
@@ -52,7 +52,7 @@ impl<
     fn tuple(&self, at: Rest<'a>) -> Result<(Expr, Rest<'a>), ParseError>
         requires nested { Nests self.now.depth_left (E.pre self.now.expr) (E.post self.now.expr) (C.pre self.now.cond) (C.post self.now.cond) }
         ensures read { GivesExpr (descent.tuple self.now.depth_left (inner_expr self.now.depth_left)) at.entry result }
-        ensures shorter { GoesOn at.entry result }
+        ensures shorter { ConsumesTokens at.entry result }
     {
         let (first, behind) = self.inner_expression(at.enter(self.depth_left)?)?;
         let (parts, close) = self.parts(first, behind)?;
@@ -89,7 +89,7 @@ impl<
     fn part(&self, at: Rest<'a>) -> Result<(Expr, Rest<'a>), ParseError>
         requires nested { Nests self.now.depth_left (E.pre self.now.expr) (E.post self.now.expr) (C.pre self.now.cond) (C.post self.now.cond) }
         ensures read { GivesExpr (descent.part self.now.depth_left (inner_expr self.now.depth_left)) at.entry result }
-        ensures shorter { GoesOn at.entry result }
+        ensures shorter { ConsumesTokens at.entry result }
     {
         let inside = at.behind().enter_call(self.depth_left)?;
         let (tuple, comma) = self.inner_expression(inside)?;
@@ -104,7 +104,7 @@ impl<
     fn apply(&self, operation: Operation, at: Rest<'a>) -> Result<(Expr, Rest<'a>), ParseError>
         requires nested { Nests self.now.depth_left (E.pre self.now.expr) (E.post self.now.expr) (C.pre self.now.cond) (C.post self.now.cond) }
         ensures read { GivesExpr (descent.apply operation self.now.depth_left (inner_expr self.now.depth_left)) at.entry result }
-        ensures shorter { GoesOn at.entry result }
+        ensures shorter { ConsumesTokens at.entry result }
     {
         if has_two_operands(operation) {
             self.apply_two(operation, at)
@@ -118,7 +118,7 @@ impl<
     fn apply_one(&self, operation: Operation, at: Rest<'a>) -> Result<(Expr, Rest<'a>), ParseError>
         requires nested { Nests self.now.depth_left (E.pre self.now.expr) (E.post self.now.expr) (C.pre self.now.cond) (C.post self.now.cond) }
         ensures read { GivesExpr (descent.apply_one operation self.now.depth_left (inner_expr self.now.depth_left)) at.entry result }
-        ensures shorter { GoesOn at.entry result }
+        ensures shorter { ConsumesTokens at.entry result }
     {
         let inside = at.behind().enter_call(self.depth_left)?;
         let (operand, close) = self.inner_expression(inside)?;
@@ -132,7 +132,7 @@ impl<
     fn apply_two(&self, operation: Operation, at: Rest<'a>) -> Result<(Expr, Rest<'a>), ParseError>
         requires nested { Nests self.now.depth_left (E.pre self.now.expr) (E.post self.now.expr) (C.pre self.now.cond) (C.post self.now.cond) }
         ensures read { GivesExpr (descent.apply_two operation self.now.depth_left (inner_expr self.now.depth_left)) at.entry result }
-        ensures shorter { GoesOn at.entry result }
+        ensures shorter { ConsumesTokens at.entry result }
     {
         let inside = at.behind().enter_call(self.depth_left)?;
         let (left, comma) = self.inner_expression(inside)?;
@@ -149,7 +149,7 @@ impl<
     fn braces(&self, at: Rest<'a>) -> Result<(Expr, Rest<'a>), ParseError>
         requires nested { Nests self.now.depth_left (E.pre self.now.expr) (E.post self.now.expr) (C.pre self.now.cond) (C.post self.now.cond) }
         ensures read { GivesExpr (descent.braces self.now.depth_left (inner_expr self.now.depth_left) (inner_cond self.now.depth_left)) at.entry result }
-        ensures shorter { GoesOn at.entry result }
+        ensures shorter { ConsumesTokens at.entry result }
     {
         let inside = at.enter(self.depth_left)?;
         if inside.begins(Terminal::CloseCurly) {
@@ -236,7 +236,7 @@ impl<
     pub(crate) fn binding(&self, at: Rest<'a>) -> Result<(Binding, Rest<'a>), ParseError>
         requires nested { Nests self.now.depth_left (E.pre self.now.expr) (E.post self.now.expr) (C.pre self.now.cond) (C.post self.now.cond) }
         ensures read { ResultIs (λ x. (binding_tree x.0, ahead x.1)) result (descent.binding (expr_here self.now.depth_left) (ahead at.entry)) }
-        ensures shorter { GoesOn at.entry result }
+        ensures shorter { ConsumesTokens at.entry result }
     {
         let (name, word) = at.name(self.alloc)?;
         let set = word.pass(Terminal::In)?;
@@ -257,7 +257,7 @@ impl<
         requires depth_left { 0 < self.now.depth_left }
         requires nested { Nests self.now.depth_left (E.pre self.now.expr) (E.post self.now.expr) (C.pre self.now.cond) (C.post self.now.cond) }
         ensures read { ResultIs (λ x. (binding_tree x.0, ahead x.1)) result (descent.binding (inner_expr self.now.depth_left) (ahead at.entry)) }
-        ensures shorter { GoesOn at.entry result }
+        ensures shorter { ConsumesTokens at.entry result }
     {
         let (name, word) = at.name(self.alloc)?;
         let set = word.pass(Terminal::In)?;

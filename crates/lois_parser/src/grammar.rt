@@ -2,7 +2,7 @@
 
 ghost use Rattle.std.specs.Prelude.{◌<◌};
 ghost use Rattle.lois_descent.specs.Descent.{inner_expr, inner_cond};
-ghost use Rattle.lois_parser.specs.Nests.{Nests, GivesExpr, GivesCond, GoesOn};
+ghost use Rattle.lois_parser.specs.Nests.{Nests, GivesExpr, GivesCond, ConsumesTokens};
 
 use crate::rest::Rest;
 use lois_descent::parse_error::ParseError;
@@ -28,7 +28,7 @@ impl<
         requires depth_left { 0 < self.now.depth_left }
         requires nested { Nests self.now.depth_left (E.pre self.now.expr) (E.post self.now.expr) (C.pre self.now.cond) (C.post self.now.cond) }
         ensures read { GivesExpr (inner_expr self.now.depth_left) at.entry result }
-        ensures shorter { GoesOn at.entry result }
+        ensures shorter { ConsumesTokens at.entry result }
     {
         (self.expr)(self.alloc, at, self.depth_left - 1)
     }
@@ -38,7 +38,7 @@ impl<
         requires depth_left { 0 < self.now.depth_left }
         requires nested { Nests self.now.depth_left (E.pre self.now.expr) (E.post self.now.expr) (C.pre self.now.cond) (C.post self.now.cond) }
         ensures read { GivesCond (inner_cond self.now.depth_left) at.entry result }
-        ensures shorter { GoesOn at.entry result }
+        ensures shorter { ConsumesTokens at.entry result }
     {
         (self.cond)(self.alloc, at, self.depth_left - 1)
     }

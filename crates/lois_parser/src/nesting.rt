@@ -5,7 +5,7 @@ ghost use Rattle.lois_script.specs.View.{binding_tree};
 ghost use Rattle.lois_parser.specs.Ahead.{ahead};
 ghost use Rattle.lois_descent.specs.Descent as descent;
 ghost use Rattle.lois_descent.specs.Descent.{expr_of, cond_of, block_of};
-ghost use Rattle.lois_parser.specs.Nests.{GivesExpr, GivesCond, GivesStmts, GoesOn};
+ghost use Rattle.lois_parser.specs.Nests.{GivesExpr, GivesCond, GivesStmts, ConsumesTokens};
 ghost use Rattle.lois_descent.specs.Reading.{ResultIs};
 
 use crate::grammar::Grammar;
@@ -23,7 +23,7 @@ pub(crate) fn expression(
     depth_left: usize,
 ) -> Result<(Expr, Rest<'_>), ParseError>
     ensures read { GivesExpr (expr_of depth_left) at.entry result }
-    ensures shorter { GoesOn at.entry result }
+    ensures shorter { ConsumesTokens at.entry result }
 {
     Grammar {
         alloc,
@@ -42,7 +42,7 @@ pub(crate) fn condition(
     depth_left: usize,
 ) -> Result<(Cond, Rest<'_>), ParseError>
     ensures read { GivesCond (cond_of depth_left) at.entry result }
-    ensures shorter { GoesOn at.entry result }
+    ensures shorter { ConsumesTokens at.entry result }
 {
     Grammar {
         alloc,
@@ -60,7 +60,7 @@ pub(crate) fn binding(
     depth_left: usize,
 ) -> Result<(Binding, Rest<'_>), ParseError>
     ensures read { ResultIs (λ x. (binding_tree x.0, ahead x.1)) result (descent.binding (expr_of depth_left) (ahead at.entry)) }
-    ensures shorter { GoesOn at.entry result }
+    ensures shorter { ConsumesTokens at.entry result }
 {
     Grammar {
         alloc,
@@ -78,7 +78,7 @@ pub(crate) fn block(
     depth_left: usize,
 ) -> Result<(Stmts, Rest<'_>), ParseError>
     ensures read { GivesStmts (block_of depth_left) at.entry result }
-    ensures shorter { GoesOn at.entry result }
+    ensures shorter { ConsumesTokens at.entry result }
 {
     Statements {
         alloc,

@@ -4,7 +4,7 @@ ghost use Rattle.std.specs.Prelude.{◌≡◌, ◌<◌, ◌≤◌, true, IfOk, I
 ghost use Rattle.lois_base.specs.Names.{IsName};
 ghost use Rattle.lois_lexer.specs.Tokens.{HasTokens};
 ghost use Rattle.lois_script.specs.Grammar.{decimal};
-ghost use Rattle.lois_parser.specs.Readable.{is_number, are_readable};
+ghost use Rattle.lois_parser.specs.Readable.{is_digits, are_readable};
 
 use lois_base::Name;
 use lois_descent::lexemes::{
@@ -92,7 +92,7 @@ impl<'a> Rest<'a> {
         ensures bytes { result.now ≡ first_bytes (ahead self.entry) }
         ensures named { descent.begins Terminal.Name (ahead self.entry) ≡ true → IsName result.now }
         ensures tagged { first_lexeme (ahead self.entry) ≡ Lexeme.Tag → (1 ≤ length result.now) × IsName (drop 1 result.now) }
-        ensures counted { descent.begins Terminal.Number (ahead self.entry) ≡ true → is_number result.now ≡ true }
+        ensures counted { descent.begins Terminal.Number (ahead self.entry) ≡ true → is_digits result.now ≡ true }
     {
         match self.tokens.split_first() {
             Some((token, _)) => token.bytes(self.text),
@@ -240,7 +240,7 @@ impl<'a> Rest<'a> {
 
 /// What decimal digits stand for.
 fn value(digits: &[u8]) -> u32
-    requires { is_number digits.now ≡ true }
+    requires { is_digits digits.now ≡ true }
     ensures { result ≡ decimal digits.now }
 {
     let mut value = 0;

@@ -5,7 +5,7 @@ ghost use Rattle.lois_script.specs.View.{stmt_tree, stmts_list};
 ghost use Rattle.lois_parser.specs.Ahead.{ahead};
 ghost use Rattle.lois_descent.specs.Descent as descent;
 ghost use Rattle.lois_descent.specs.Descent.{cond_of, inner_block};
-ghost use Rattle.lois_parser.specs.Nests.{Blocks, GivesCond, GivesStmts, GoesOn};
+ghost use Rattle.lois_parser.specs.Nests.{Blocks, GivesCond, GivesStmts, ConsumesTokens};
 ghost use Rattle.lois_descent.specs.Reading.{ResultIs};
 
 use crate::nesting::{binding, condition, expression};
@@ -30,7 +30,7 @@ impl<'a, B: Fn(Global, Rest<'a>, usize) -> Result<(Stmts, Rest<'a>), ParseError>
     pub(crate) fn statements(&self, at: Rest<'a>) -> Result<(Stmts, Rest<'a>), ParseError>
         requires nested { Blocks self.now.depth_left (B.pre self.now.block) (B.post self.now.block) }
         ensures read { GivesStmts (descent.statements (descent.statement self.now.depth_left (inner_block self.now.depth_left))) at.entry result }
-        ensures shorter { GoesOn at.entry result }
+        ensures shorter { ConsumesTokens at.entry result }
     {
         let (all, close) = self.while_open(at)?;
         let end = close.pass(Terminal::CloseCurly)?;
@@ -74,7 +74,7 @@ impl<'a, B: Fn(Global, Rest<'a>, usize) -> Result<(Stmts, Rest<'a>), ParseError>
     fn statement(&self, at: Rest<'a>) -> Result<(Stmt, Rest<'a>), ParseError>
         requires nested { Blocks self.now.depth_left (B.pre self.now.block) (B.post self.now.block) }
         ensures read { ResultIs (λ x. (stmt_tree x.0, ahead x.1)) result (descent.statement self.now.depth_left (inner_block self.now.depth_left) (ahead at.entry)) }
-        ensures shorter { GoesOn at.entry result }
+        ensures shorter { ConsumesTokens at.entry result }
     {
         match at.lexeme().stmt_form() {
             StmtForm::Let => self.let_statement(at),
@@ -93,7 +93,7 @@ impl<'a, B: Fn(Global, Rest<'a>, usize) -> Result<(Stmts, Rest<'a>), ParseError>
     #[tactic(auto, unfolding(lois_descent::specs::Descent::let_statement))]
     fn let_statement(&self, at: Rest<'a>) -> Result<(Stmt, Rest<'a>), ParseError>
         ensures read { ResultIs (λ x. (stmt_tree x.0, ahead x.1)) result (descent.let_statement self.now.depth_left (ahead at.entry)) }
-        ensures shorter { GoesOn at.entry result }
+        ensures shorter { ConsumesTokens at.entry result }
     {
         let (name, equal) = at.behind().name(self.alloc)?;
         let (value, close) = expression(self.alloc, equal.pass(Terminal::Equal)?, self.depth_left)?;
@@ -105,7 +105,7 @@ impl<'a, B: Fn(Global, Rest<'a>, usize) -> Result<(Stmts, Rest<'a>), ParseError>
     #[tactic(auto, unfolding(lois_descent::specs::Descent::assignment))]
     fn assignment(&self, at: Rest<'a>) -> Result<(Stmt, Rest<'a>), ParseError>
         ensures read { ResultIs (λ x. (stmt_tree x.0, ahead x.1)) result (descent.assignment self.now.depth_left (ahead at.entry)) }
-        ensures shorter { GoesOn at.entry result }
+        ensures shorter { ConsumesTokens at.entry result }
     {
         let (name, becomes) = at.name(self.alloc)?;
         let (value, close) = expression(
@@ -121,7 +121,7 @@ impl<'a, B: Fn(Global, Rest<'a>, usize) -> Result<(Stmts, Rest<'a>), ParseError>
     #[tactic(auto, unfolding(lois_descent::specs::Descent::addition))]
     fn addition(&self, at: Rest<'a>) -> Result<(Stmt, Rest<'a>), ParseError>
         ensures read { ResultIs (λ x. (stmt_tree x.0, ahead x.1)) result (descent.addition self.now.depth_left (ahead at.entry)) }
-        ensures shorter { GoesOn at.entry result }
+        ensures shorter { ConsumesTokens at.entry result }
     {
         let (value, to) = expression(self.alloc, at.behind(), self.depth_left)?;
         let (name, close) = to.pass(Terminal::To)?.name(self.alloc)?;
@@ -134,7 +134,7 @@ impl<'a, B: Fn(Global, Rest<'a>, usize) -> Result<(Stmts, Rest<'a>), ParseError>
     fn for_statement(&self, at: Rest<'a>) -> Result<(Stmt, Rest<'a>), ParseError>
         requires nested { Blocks self.now.depth_left (B.pre self.now.block) (B.post self.now.block) }
         ensures read { ResultIs (λ x. (stmt_tree x.0, ahead x.1)) result (descent.for_statement self.now.depth_left (inner_block self.now.depth_left) (ahead at.entry)) }
-        ensures shorter { GoesOn at.entry result }
+        ensures shorter { ConsumesTokens at.entry result }
     {
         let (binding, behind) = binding(self.alloc, at.behind(), self.depth_left)?;
         let (condition, open) = self.guard(behind)?;
@@ -147,7 +147,7 @@ impl<'a, B: Fn(Global, Rest<'a>, usize) -> Result<(Stmts, Rest<'a>), ParseError>
     fn if_statement(&self, at: Rest<'a>) -> Result<(Stmt, Rest<'a>), ParseError>
         requires nested { Blocks self.now.depth_left (B.pre self.now.block) (B.post self.now.block) }
         ensures read { ResultIs (λ x. (stmt_tree x.0, ahead x.1)) result (descent.if_statement self.now.depth_left (inner_block self.now.depth_left) (ahead at.entry)) }
-        ensures shorter { GoesOn at.entry result }
+        ensures shorter { ConsumesTokens at.entry result }
     {
         let (condition, open) = condition(self.alloc, at.behind(), self.depth_left)?;
         let ((condition, body), behind) = self.block_with(condition, open)?;
@@ -173,7 +173,7 @@ impl<'a, B: Fn(Global, Rest<'a>, usize) -> Result<(Stmts, Rest<'a>), ParseError>
     fn while_statement(&self, at: Rest<'a>) -> Result<(Stmt, Rest<'a>), ParseError>
         requires nested { Blocks self.now.depth_left (B.pre self.now.block) (B.post self.now.block) }
         ensures read { ResultIs (λ x. (stmt_tree x.0, ahead x.1)) result (descent.while_statement self.now.depth_left (inner_block self.now.depth_left) (ahead at.entry)) }
-        ensures shorter { GoesOn at.entry result }
+        ensures shorter { ConsumesTokens at.entry result }
     {
         let (condition, word) = condition(self.alloc, at.behind(), self.depth_left)?;
         let ((condition, turns), open) = turns_with(condition, word)?;
@@ -185,7 +185,7 @@ impl<'a, B: Fn(Global, Rest<'a>, usize) -> Result<(Stmts, Rest<'a>), ParseError>
     #[tactic(auto, unfolding(lois_descent::specs::Descent::assertion))]
     fn assertion(&self, at: Rest<'a>) -> Result<(Stmt, Rest<'a>), ParseError>
         ensures read { ResultIs (λ x. (stmt_tree x.0, ahead x.1)) result (descent.assertion self.now.depth_left (ahead at.entry)) }
-        ensures shorter { GoesOn at.entry result }
+        ensures shorter { ConsumesTokens at.entry result }
     {
         let (condition, close) = condition(self.alloc, at.behind(), self.depth_left)?;
         let (condition, end) = close.pass_with(condition, Terminal::Semicolon)?;
@@ -196,7 +196,7 @@ impl<'a, B: Fn(Global, Rest<'a>, usize) -> Result<(Stmts, Rest<'a>), ParseError>
     #[tactic(auto, unfolding(lois_descent::specs::Descent::printing))]
     fn printing(&self, at: Rest<'a>) -> Result<(Stmt, Rest<'a>), ParseError>
         ensures read { ResultIs (λ x. (stmt_tree x.0, ahead x.1)) result (descent.printing (ahead at.entry)) }
-        ensures shorter { GoesOn at.entry result }
+        ensures shorter { ConsumesTokens at.entry result }
     {
         let (name, close) = at.behind().name(self.alloc)?;
         let end = close.pass(Terminal::Semicolon)?;
@@ -239,7 +239,7 @@ impl<'a, B: Fn(Global, Rest<'a>, usize) -> Result<(Stmts, Rest<'a>), ParseError>
         requires nested { Blocks self.now.depth_left (B.pre self.now.block) (B.post self.now.block) }
         ensures same { IfOk result (λ x. x.0.0 ≡ before) }
         ensures read { ResultIs (λ x. (stmts_list x.0.1, ahead x.1)) result (descent.block self.now.depth_left (inner_block self.now.depth_left) (ahead at.entry)) }
-        ensures shorter { GoesOn at.entry result }
+        ensures shorter { ConsumesTokens at.entry result }
     {
         let (body, end) = self.block(at)?;
         Ok(((before, body), end))
@@ -250,7 +250,7 @@ impl<'a, B: Fn(Global, Rest<'a>, usize) -> Result<(Stmts, Rest<'a>), ParseError>
     fn block(&self, at: Rest<'a>) -> Result<(Stmts, Rest<'a>), ParseError>
         requires nested { Blocks self.now.depth_left (B.pre self.now.block) (B.post self.now.block) }
         ensures read { GivesStmts (descent.block self.now.depth_left (inner_block self.now.depth_left)) at.entry result }
-        ensures shorter { GoesOn at.entry result }
+        ensures shorter { ConsumesTokens at.entry result }
     {
         if !at.begins(Terminal::OpenCurly) {
             return Err(ParseError::NoScript(at.len()));
@@ -263,7 +263,7 @@ impl<'a, B: Fn(Global, Rest<'a>, usize) -> Result<(Stmts, Rest<'a>), ParseError>
         requires depth_left { 0 < self.now.depth_left }
         requires nested { Blocks self.now.depth_left (B.pre self.now.block) (B.post self.now.block) }
         ensures read { GivesStmts (inner_block self.now.depth_left) at.entry result }
-        ensures shorter { GoesOn at.entry result }
+        ensures shorter { ConsumesTokens at.entry result }
     {
         (self.block)(self.alloc, at, self.depth_left - 1)
     }
@@ -273,7 +273,7 @@ impl<'a, B: Fn(Global, Rest<'a>, usize) -> Result<(Stmts, Rest<'a>), ParseError>
 fn turns_with<T: Drop>(before: T, at: Rest<'_>) -> Result<((T, u32), Rest<'_>), ParseError>
     ensures same { IfOk result (λ x. x.0.0 ≡ before) }
     ensures read { ResultIs (λ x. (x.0.1, ahead x.1)) result (descent.turns (ahead at.entry)) }
-    ensures shorter { GoesOn at.entry result }
+    ensures shorter { ConsumesTokens at.entry result }
 {
     let (turns, end) = turns(at)?;
     Ok(((before, turns), end))

@@ -2,7 +2,7 @@
 
 ghost use Rattle.std.specs.Prelude.{◌≡◌, ◌++◌, OnOk};
 ghost use Rattle.std.specs.Fmt.{decimal};
-ghost use Rattle.lois_answers.specs.TermText.{level_text, operand_text};
+ghost use Rattle.lois_answers.specs.TermText.{level_text, level_or_name_text};
 ghost use Rattle.lois_printer.specs.Separated.{separator};
 
 use lois_base::{Names, NoMemory};
@@ -52,7 +52,7 @@ pub(crate) fn append_operand(
     parameters: &Names,
     level: usize,
 ) -> Result<(), NoMemory>
-    ensures { OnOk result (text.new.items ≡ text.old.items ++ operand_text parameters.now level) }
+    ensures { OnOk result (text.new.items ≡ text.old.items ++ level_or_name_text parameters.now level) }
 {
     match parameters.get(level) {
         Some(name) => append(text, name.bytes()),

@@ -7,7 +7,7 @@ use Rattle.std.proofs.lemmas.Bool.Decides.{nat_tests}
 use Rattle.lois_lexer.specs.Bytes.{is_word_byte}
 use Rattle.lois_lexer.specs.Forms.{is_word_form}
 use Rattle.lois_reader.specs.Draft.{is_number}
-use Rattle.lois_reader.specs.Reading.{◌>>=◌, first, passes}
+use Rattle.lois_reader.specs.Reading.{◌>>=◌, first_byte, passes}
 use Rattle.lois_reader.specs.Ends.{fixed_end, word_at, word_end, number_at, number_end}
 use Rattle.lois_reader.proofs.Fronts.{EndsWord, word_front, number_front}
 
@@ -37,7 +37,7 @@ pub record Run (p : ℕ → Bool) (s : List ℕ) : Type 0 where
   pub rest : List ℕ
   pub split : s ≡ run ++ rest
   pub all : list_all p run ≡ true
-  pub ends : passes p (first rest) ≡ false
+  pub ends : passes p (first_byte rest) ≡ false
 
 pub run_of : (p : ℕ → Bool) (s : List ℕ) → Run p s
 run_of p [] = record { run = []; rest = []; split = refl; all = refl; ends = refl }

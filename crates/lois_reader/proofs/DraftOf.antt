@@ -23,9 +23,9 @@ use Rattle.lois_lexer.specs.Bytes.{is_word_byte}
 use Rattle.lois_answers.specs.Sound.{HasTags, PartsHaveTags, CompHasTags, ItemsHaveTags, AreDistinct}
 use Rattle.lois_answers.specs.TermText as texts
 use Rattle.lois_reader.specs.declared.scope.Scope.{Scope}
-use Rattle.lois_reader.specs.Draft.{Operand, word, level, LitDraft, ConstraintDraft, TermDraft, atom, tag, tuple, set, TermDrafts, no_terms, term, CompDraft, comp, CompDrafts, no_comps, more, IsWord, IsNumber, IsOperand, IsLitDraft, IsConstraintDraft, IsTermDraft, AreTermDrafts, IsCompDraft, AreCompDrafts, width, is_number}
+use Rattle.lois_reader.specs.Draft.{Operand, word, level, LitDraft, ConstraintDraft, TermDraft, atom, tag, tuple, set, TermDrafts, no_terms, term, CompDraft, comp, CompDrafts, no_comps, more, IsWord, IsNumber, IsOperand, IsLitDraft, IsConstraintDraft, IsTermDraft, AreTermDrafts, IsCompDraft, AreCompDrafts, draft_width, is_number}
 use Rattle.lois_reader.specs.Pieces.{Piece, plain, each, value, value_from, is_among, comma, operand_piece, literal_pieces, cube_pieces, constraint_pieces, guard_pieces, level_pieces, binder_pieces, term_pieces, part_pieces, comp_pieces, item_pieces}
-use Rattle.lois_reader.specs.Shape.{text_of}
+use Rattle.lois_reader.specs.Shape.{text_of_pieces}
 use Rattle.lois_reader.proofs.Forms.{is_among_iff}
 use Rattle.lois_reader.proofs.Outcome.{out, text_append}
 use Rattle.lois_reader.proofs.ConstraintOutcome.{level_of, lit_of, cube_of, constraint_of}
@@ -155,7 +155,7 @@ place_is ps i d lt =
 among_is : (ps : List (List ℕ)) (i : ℕ) → i < length ps → is_among ps (get_or ps i []) ≡ true
 among_is ps i lt = (is_among_iff ps (get_or ps i [])).1 (i, lt, same_at ps i (get_or ps i []) [] lt)
 
-pub operand_bytes : (s : Scope) (n i : ℕ) → (operand_piece s n (operand_draft s.names i)).bytes ≡ texts.operand_text s.names i
+pub operand_bytes : (s : Scope) (n i : ℕ) → (operand_piece s n (operand_draft s.names i)).bytes ≡ texts.level_or_name_text s.names i
 operand_bytes s n i =
     ⊎_elim (λ lt. rw (lt_test i (length s.names) lt) (same_at s.names i [] (texts.level_text i) lt))
     (λ le. rw (ge_test i (length s.names) le) (sym (get_or_past s.names i (texts.level_text i) le)))
@@ -188,12 +188,12 @@ operand_level s n i good small lt =
 
 -- ---- texts with something between them
 
-pub joined_text : {A : Type 0} (between : List ℕ) (pieces : A → List Piece) (f : A → List ℕ) → ((x : A) → text_of (pieces x) ≡ f x) → (x : A) (xs : List A) → text_of (pieces x ++ each (λ y. plain between ∷ pieces y) xs) ≡ texts.joined between (map f (x ∷ xs))
-joined_text between pieces f same x [] = text_append (pieces x) [] ∙ append-nil (text_of (pieces x)) ∙ same x
+pub joined_text : {A : Type 0} (between : List ℕ) (pieces : A → List Piece) (f : A → List ℕ) → ((x : A) → text_of_pieces (pieces x) ≡ f x) → (x : A) (xs : List A) → text_of_pieces (pieces x ++ each (λ y. plain between ∷ pieces y) xs) ≡ texts.joined between (map f (x ∷ xs))
+joined_text between pieces f same x [] = text_append (pieces x) [] ∙ append-nil (text_of_pieces (pieces x)) ∙ same x
 joined_text between pieces f same x (y ∷ ys) =
     let later : List Piece = pieces y ++ each (λ z. plain between ∷ pieces z) ys in
     text_append (pieces x) (plain between ∷ later)
-    ∙ ap (λ (t : List ℕ). t ++ (between ++ text_of later)) (same x)
+    ∙ ap (λ (t : List ℕ). t ++ (between ++ text_of_pieces later)) (same x)
     ∙ ap (λ (t : List ℕ). f x ++ (between ++ t)) (joined_text between pieces f same y ys)
     ∙ sym (append_assoc (f x) between (texts.joined between (map f (y ∷ ys))))
 
@@ -201,28 +201,28 @@ pub each_map : {A B : Type 0} (pieces : B → List Piece) (f : A → B) (xs : Li
 each_map pieces f [] = refl
 each_map pieces f (x ∷ xs) = ap (λ (ps : List Piece). pieces (f x) ++ ps) (each_map pieces f xs)
 
-literal_text : (s : Scope) (n : ℕ) (l : Lit) → text_of (literal_pieces s n (lit_draft s.names l)) ≡ texts.literal_text s.names l
+literal_text : (s : Scope) (n : ℕ) (l : Lit) → text_of_pieces (literal_pieces s n (lit_draft s.names l)) ≡ texts.literal_text s.names l
 literal_text s n l =
-    let a = texts.operand_text s.names l.left in
+    let a = texts.level_or_name_text s.names l.left in
     let o = texts.op_text l.op in
-    let b = texts.operand_text s.names l.right in
+    let b = texts.level_or_name_text s.names l.right in
     ap (λ (t : List ℕ). t ++ (o ++ ((operand_piece s n (operand_draft s.names l.right)).bytes ++ []))) (operand_bytes s n l.left)
     ∙ ap (λ (t : List ℕ). a ++ (o ++ (t ++ []))) (operand_bytes s n l.right)
     ∙ ap (λ (t : List ℕ). a ++ (o ++ t)) (append-nil b)
     ∙ sym (append_assoc a o b)
 
-cube_text : (s : Scope) (n : ℕ) (ls : List Lit) → text_of (cube_pieces s n (cube_draft s.names ls)) ≡ texts.cube_text s.names ls
+cube_text : (s : Scope) (n : ℕ) (ls : List Lit) → text_of_pieces (cube_pieces s n (cube_draft s.names ls)) ≡ texts.cube_text s.names ls
 cube_text s n [] = refl
 cube_text s n (l ∷ ls) =
     let pieces : Lit → List Piece = λ k. literal_pieces s n (lit_draft s.names k) in
-    ap (λ (ps : List Piece). text_of (pieces l ++ ps)) (each_map (λ k. plain (codes " and ") ∷ literal_pieces s n k) (lit_draft s.names) ls)
+    ap (λ (ps : List Piece). text_of_pieces (pieces l ++ ps)) (each_map (λ k. plain (codes " and ") ∷ literal_pieces s n k) (lit_draft s.names) ls)
     ∙ joined_text (codes " and ") pieces (texts.literal_text s.names) (literal_text s n) l ls
 
-pub constraint_text : (s : Scope) (n : ℕ) (cs : List (List Lit)) → text_of (constraint_pieces s n (constraint_draft s.names cs)) ≡ texts.constraint_text s.names cs
+pub constraint_text : (s : Scope) (n : ℕ) (cs : List (List Lit)) → text_of_pieces (constraint_pieces s n (constraint_draft s.names cs)) ≡ texts.constraint_text s.names cs
 constraint_text s n [] = refl
 constraint_text s n (c ∷ cs) =
     let pieces : List Lit → List Piece = λ d. cube_pieces s n (cube_draft s.names d) in
-    ap (λ (ps : List Piece). text_of (pieces c ++ ps)) (each_map (λ d. plain (codes " or ") ∷ cube_pieces s n d) (cube_draft s.names) cs)
+    ap (λ (ps : List Piece). text_of_pieces (pieces c ++ ps)) (each_map (λ d. plain (codes " or ") ∷ cube_pieces s n d) (cube_draft s.names) cs)
     ∙ joined_text (codes " or ") pieces (texts.cube_text s.names) (cube_text s n) c cs
 
 -- ---- constraints: form, rules, value
@@ -318,15 +318,15 @@ abbrev mutual
 
 -- their texts
 -- the bytes of binders are those of their digits, whatever number is asked of them
-levels_any : (k n : ℕ) (m : ℕ) → text_of (level_pieces k (numbers_from n m)) ≡ texts.levels_text n m
+levels_any : (k n : ℕ) (m : ℕ) → text_of_pieces (level_pieces k (numbers_from n m)) ≡ texts.levels_text n m
 levels_any k n zero = refl
 levels_any k n (suc m) = ap (λ (t : List ℕ). codes " $" ++ (decimal n ++ t)) (levels_any (suc k) (suc n) m)
 
-binders_any : (k n : ℕ) (m : ℕ) → text_of (binder_pieces k (numbers_from n m)) ≡ texts.binders_text n m
+binders_any : (k n : ℕ) (m : ℕ) → text_of_pieces (binder_pieces k (numbers_from n m)) ≡ texts.binders_text n m
 binders_any k n zero = refl
 binders_any k n (suc m) = ap (λ (t : List ℕ). codes " for" ++ t) (levels_any k n (suc m))
 
-guard_text : (s : Scope) (n : ℕ) (g : List (List Lit)) → text_of (guard_pieces s n (guard_draft s.names g)) ≡ texts.guard_text s.names g
+guard_text : (s : Scope) (n : ℕ) (g : List (List Lit)) → text_of_pieces (guard_pieces s n (guard_draft s.names g)) ≡ texts.guard_text s.names g
 guard_text s n [] = refl
 guard_text s n ([] ∷ []) = refl
 guard_text s n ([] ∷ d ∷ ds) = ap (λ (t : List ℕ). codes " if " ++ t) (constraint_text s n ([] ∷ d ∷ ds))
@@ -342,48 +342,48 @@ joined_is t [] = sym (append-nil t)
 joined_is t (u ∷ us) = append_assoc t (codes ", ") (texts.joined (codes ", ") (u ∷ us)) ∙ ap (λ (x : List ℕ). t ++ (codes ", " ++ x)) (joined_is u us)
 
 mutual
-  pub term_text : (s : Scope) (k n : ℕ) (t : TermD) → text_of (term_pieces s k (term_draft s.names n t)) ≡ texts.term_text s.names n t
+  pub term_text : (s : Scope) (k n : ℕ) (t : TermD) → text_of_pieces (term_pieces s k (term_draft s.names n t)) ≡ texts.term_text s.names n t
   term_text s k n (var i) = append-nil ((operand_piece s k (operand_draft s.names i)).bytes) ∙ operand_bytes s k i
   term_text s k n (data_of.tag t) = ap (λ (x : List ℕ). codes "'" ++ x) (append-nil t)
   term_text s k n (tup data_of.no_terms) = refl
   term_text s k n (tup (data_of.term t ts)) =
       ap (λ (x : List ℕ). codes "(" ++ x) (text_append (term_pieces s k (term_draft s.names n t) ++ part_pieces s k comma (parts_draft s.names n ts)) (plain (codes ")") ∷ [])
       ∙ ap (λ (x : List ℕ). x ++ codes ")") (text_append (term_pieces s k (term_draft s.names n t)) (part_pieces s k comma (parts_draft s.names n ts))
-      ∙ ap (λ (x : List ℕ). x ++ text_of (part_pieces s k comma (parts_draft s.names n ts))) (term_text s k n t)
+      ∙ ap (λ (x : List ℕ). x ++ text_of_pieces (part_pieces s k comma (parts_draft s.names n ts))) (term_text s k n t)
       ∙ ap (λ (x : List ℕ). texts.term_text s.names n t ++ x) (parts_text s k n ts)
       ∙ sym (joined_is (texts.term_text s.names n t) (texts.part_texts s.names n ts))))
   term_text s k n (coll data_of.no_comps) = refl
   term_text s k n (coll (data_of.more c cs)) =
       ap (λ (x : List ℕ). codes "{" ++ x) (text_append (comp_pieces s k (comp_draft s.names n c) ++ item_pieces s k comma (items_draft s.names n cs)) (plain (codes "}") ∷ [])
       ∙ ap (λ (x : List ℕ). x ++ codes "}") (text_append (comp_pieces s k (comp_draft s.names n c)) (item_pieces s k comma (items_draft s.names n cs))
-      ∙ ap (λ (x : List ℕ). x ++ text_of (item_pieces s k comma (items_draft s.names n cs))) (comp_text s k n c)
+      ∙ ap (λ (x : List ℕ). x ++ text_of_pieces (item_pieces s k comma (items_draft s.names n cs))) (comp_text s k n c)
       ∙ ap (λ (x : List ℕ). texts.comp_text s.names n c ++ x) (items_text s k n cs)
       ∙ sym (joined_is (texts.comp_text s.names n c) (texts.item_texts s.names n cs))))
 
-  parts_text : (s : Scope) (k n : ℕ) (ts : TermsD) → text_of (part_pieces s k comma (parts_draft s.names n ts)) ≡ later_texts (texts.part_texts s.names n ts)
+  parts_text : (s : Scope) (k n : ℕ) (ts : TermsD) → text_of_pieces (part_pieces s k comma (parts_draft s.names n ts)) ≡ later_texts (texts.part_texts s.names n ts)
   parts_text s k n data_of.no_terms = refl
   parts_text s k n (data_of.term t ts) =
       ap (λ (x : List ℕ). codes ", " ++ x) (text_append (term_pieces s k (term_draft s.names n t)) (part_pieces s k comma (parts_draft s.names n ts))
-      ∙ ap (λ (x : List ℕ). x ++ text_of (part_pieces s k comma (parts_draft s.names n ts))) (term_text s k n t)
+      ∙ ap (λ (x : List ℕ). x ++ text_of_pieces (part_pieces s k comma (parts_draft s.names n ts))) (term_text s k n t)
       ∙ ap (λ (x : List ℕ). texts.term_text s.names n t ++ x) (parts_text s k n ts))
 
-  comp_text : (s : Scope) (k n : ℕ) (c : CompD) → text_of (comp_pieces s k (comp_draft s.names n c)) ≡ texts.comp_text s.names n c
+  comp_text : (s : Scope) (k n : ℕ) (c : CompD) → text_of_pieces (comp_pieces s k (comp_draft s.names n c)) ≡ texts.comp_text s.names n c
   comp_text s k n (data_of.comp m g t) =
       let j : ℕ = k + length (numbers_from n m) in
       let item : List Piece = term_pieces s j (term_draft s.names (n + m) t) in
       let binders : List Piece = binder_pieces k (numbers_from n m) in
       let guard : List Piece = guard_pieces s j (guard_draft s.names g) in
       text_append (item ++ binders) guard
-      ∙ ap (λ (x : List ℕ). x ++ text_of guard) (text_append item binders
-      ∙ ap (λ (x : List ℕ). x ++ text_of binders) (term_text s j (n + m) t)
+      ∙ ap (λ (x : List ℕ). x ++ text_of_pieces guard) (text_append item binders
+      ∙ ap (λ (x : List ℕ). x ++ text_of_pieces binders) (term_text s j (n + m) t)
       ∙ ap (λ (x : List ℕ). texts.term_text s.names (n + m) t ++ x) (binders_any k n m))
       ∙ ap (λ (x : List ℕ). (texts.term_text s.names (n + m) t ++ texts.binders_text n m) ++ x) (guard_text s j g)
 
-  items_text : (s : Scope) (k n : ℕ) (cs : CompsD) → text_of (item_pieces s k comma (items_draft s.names n cs)) ≡ later_texts (texts.item_texts s.names n cs)
+  items_text : (s : Scope) (k n : ℕ) (cs : CompsD) → text_of_pieces (item_pieces s k comma (items_draft s.names n cs)) ≡ later_texts (texts.item_texts s.names n cs)
   items_text s k n data_of.no_comps = refl
   items_text s k n (data_of.more c cs) =
       ap (λ (x : List ℕ). codes ", " ++ x) (text_append (comp_pieces s k (comp_draft s.names n c)) (item_pieces s k comma (items_draft s.names n cs))
-      ∙ ap (λ (x : List ℕ). x ++ text_of (item_pieces s k comma (items_draft s.names n cs))) (comp_text s k n c)
+      ∙ ap (λ (x : List ℕ). x ++ text_of_pieces (item_pieces s k comma (items_draft s.names n cs))) (comp_text s k n c)
       ∙ ap (λ (x : List ℕ). texts.comp_text s.names n c ++ x) (items_text s k n cs))
 
 -- ---- their form
@@ -401,7 +401,7 @@ guard_form ps n ([] ∷ []) good small fits = tt
 guard_form ps n ([] ∷ d ∷ ds) good small fits = constraint_form ps n ([] ∷ d ∷ ds) good small fits
 guard_form ps n ((l ∷ ls) ∷ cs) good small fits = constraint_form ps n ((l ∷ ls) ∷ cs) good small fits
 
-parts_width : (ps : List (List ℕ)) (n : ℕ) (ts : TermsD) → width (parts_draft ps n ts) ≡ count_of_parts ts
+parts_width : (ps : List (List ℕ)) (n : ℕ) (ts : TermsD) → draft_width (parts_draft ps n ts) ≡ count_of_parts ts
 parts_width ps n data_of.no_terms = refl
 parts_width ps n (data_of.term t ts) = ap suc (parts_width ps n ts)
 
@@ -446,7 +446,7 @@ mutual
   term_whole s n (var i) small fits tags widths admits = (operand_whole s n i small fits, tt)
   term_whole s n (data_of.tag t) small fits tags widths admits = (ap not (le_test (length t) 64 tags.short), tt)
   term_whole s n (tup ts) small fits tags widths admits = (
-    ap not (le_test (width (parts_draft s.names n ts)) 8 (rw (parts_width s.names n ts) widths.1)),
+    ap not (le_test (draft_width (parts_draft s.names n ts)) 8 (rw (parts_width s.names n ts) widths.1)),
     unbroken_append (part_pieces s n [] (parts_draft s.names n ts)) (plain (codes ")") ∷ []) (parts_whole s n [] ts tt small fits tags widths.2 admits) (refl, tt),
   )
   term_whole s n (coll cs) small fits tags widths admits =

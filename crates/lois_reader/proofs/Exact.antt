@@ -3,7 +3,7 @@ use Rattle.std.proofs.Common.{◌≡◌, ℕ, zero, suc, ◌<◌, ◌≤◌, Boo
 use Rattle.std.specs.Char.{is_ascii_alphabetic, is_ascii_digit}
 use Rattle.std.proofs.lemmas.Bool.{eqb-true, false≢true, not-true, not_from_false, or_right}
 use Rattle.lois_lexer.specs.Bytes.{is_word_byte}
-use Rattle.lois_reader.specs.Reading.{◌>>=◌, End, first, passes, begins}
+use Rattle.lois_reader.specs.Reading.{◌>>=◌, End, first_byte, passes, begins}
 use Rattle.lois_reader.specs.Ends.{fixed_end, word_end, word_at, number_end, number_at, many_end}
 use Rattle.lois_reader.proofs.Backs.{no_ok, same_ok, got, fixed_back, run_of, word_form, word_back, word_size, number_form, number_back, number_size}
 use Rattle.lois_reader.proofs.Fronts.{fixed_front, word_ends, number_ends}
@@ -57,12 +57,12 @@ pub accepted_text : (k : List ℕ → End) → Exact k [] → (w : List ℕ) × 
 accepted_text k (accepts e) = ([], e)
 accepted_text k (refuses h) = (h.front ++ h.more, h.goes_on)
 
-first_kept : (q : Option ℕ → Bool) (v : List ℕ) (b : ℕ) (t u : List ℕ) → q (first (v ++ (b ∷ t))) ≡ true → q (first (v ++ (b ∷ u))) ≡ true
+first_kept : (q : Option ℕ → Bool) (v : List ℕ) (b : ℕ) (t u : List ℕ) → q (first_byte (v ++ (b ∷ t))) ≡ true → q (first_byte (v ++ (b ∷ u))) ≡ true
 first_kept q [] b t u h = h
 first_kept q (c ∷ v) b t u h = h
 
 -- g reads v and then as f does, where what follows v passes a test of its first byte; f accepts only what passes
-pub behind : (g f : List ℕ → End) (q : Option ℕ → Bool) (v r : List ℕ) → ((x : List ℕ) → q (first x) ≡ true → g (v ++ x) ≡ f x) → ((x : List ℕ) → f x ≡ Ok [] → q (first x) ≡ true) → q (first r) ≡ true → Exact f r → Exact g (v ++ r)
+pub behind : (g f : List ℕ → End) (q : Option ℕ → Bool) (v r : List ℕ) → ((x : List ℕ) → q (first_byte x) ≡ true → g (v ++ x) ≡ f x) → ((x : List ℕ) → f x ≡ Ok [] → q (first_byte x) ≡ true) → q (first_byte r) ≡ true → Exact f r → Exact g (v ++ r)
 behind g f q v r same passed here (accepts e) = accepts (same r here ∙ e)
 behind g f q v r same passed here (refuses h) =
     refuses (record {
@@ -72,7 +72,7 @@ behind g f q v r same passed here (refuses h) =
       split = ap (λ (x : List ℕ). v ++ x) h.split ∙ sym (append_assoc v h.front h.rest);
       left = same r here ∙ h.left;
       goes_on = ap g (append_assoc v h.front h.more) ∙ same (h.front ++ h.more) (passed (h.front ++ h.more) h.goes_on) ∙ h.goes_on;
-      stays = λ b t u e. ap g (append_assoc v h.front (b ∷ u)) ∙ same (h.front ++ (b ∷ u)) (first_kept q h.front b t u (subst (λ (x : List ℕ). q (first x) ≡ true) (h.split ∙ ap (λ (x : List ℕ). h.front ++ x) e) here)) ∙ h.stays b t u e;
+      stays = λ b t u e. ap g (append_assoc v h.front (b ∷ u)) ∙ same (h.front ++ (b ∷ u)) (first_kept q h.front b t u (subst (λ (x : List ℕ). q (first_byte x) ≡ true) (h.split ∙ ap (λ (x : List ℕ). h.front ++ x) e) here)) ∙ h.stays b t u e;
     })
 
 pub behind_any : (g f : List ℕ → End) (v r : List ℕ) → ((x : List ℕ) → g (v ++ x) ≡ f x) → Exact f r → Exact g (v ++ r)
@@ -83,7 +83,7 @@ pub refused_behind : (g : List ℕ → End) (v r w : List ℕ) → g (v ++ r) �
 refused_behind g v r w e f stays = refuses (record { front = v; rest = r; more = w; split = refl; left = e; goes_on = f; stays = stays })
 
 -- no text that a reader accepts begins with a byte that it refuses
-pub passed_first : (p : ℕ → Bool) (k : List ℕ → End) → Refuses p k → (x : List ℕ) → k x ≡ Ok [] → passes p (first x) ≡ false
+pub passed_first : (p : ℕ → Bool) (k : List ℕ → End) → Refuses p k → (x : List ℕ) → k x ≡ Ok [] → passes p (first_byte x) ≡ false
 passed_first p k refused [] e = refl
 passed_first p k refused (b ∷ t) e =
     elim (p b) as (λ v. p b ≡ v → p b ≡ false) [
@@ -92,10 +92,10 @@ passed_first p k refused (b ∷ t) e =
     ] refl
 
 -- a reader behind v, where what follows passes none of the bytes that the reader there refuses
-pub behind_stop : (g f : List ℕ → End) (p : ℕ → Bool) (v r : List ℕ) → ((x : List ℕ) → passes p (first x) ≡ false → g (v ++ x) ≡ f x) → Refuses p f → passes p (first r) ≡ false → Exact f r → Exact g (v ++ r)
+pub behind_stop : (g f : List ℕ → End) (p : ℕ → Bool) (v r : List ℕ) → ((x : List ℕ) → passes p (first_byte x) ≡ false → g (v ++ x) ≡ f x) → Refuses p f → passes p (first_byte r) ≡ false → Exact f r → Exact g (v ++ r)
 behind_stop g f p v r same stops ends h =
-    behind g f (λ o. not (passes p o)) v r (λ x q. same x (not-true (passes p (first x)) q))
-    (λ x e. not_from_false (passes p (first x)) (passed_first p f stops x e)) (not_from_false (passes p (first r)) ends) h
+    behind g f (λ o. not (passes p o)) v r (λ x q. same x (not-true (passes p (first_byte x)) q))
+    (λ x e. not_from_false (passes p (first_byte x)) (passed_first p f stops x e)) (not_from_false (passes p (first_byte r)) ends) h
 
 abbrev pub is_byte : ℕ → ℕ → Bool
 is_byte c b = b == c
@@ -251,7 +251,7 @@ unfolding number_end number_at
 number_zero s = refl
 
 -- a refusal at the front, which a text of one byte more than what follows would mend
-refused_front : (f k : List ℕ → End) (p : ℕ → Bool) (a : ℕ) (s : List ℕ) → ((x : List ℕ) → passes p (first x) ≡ false → f (a ∷ x) ≡ Ok x) → Refuses p k → Exact k [] → f s ≡ Err (length s) → ((b : ℕ) (t u : List ℕ) → s ≡ b ∷ t → f (b ∷ u) ≡ Err (suc (length u))) → Exact (f ⨾ k) s
+refused_front : (f k : List ℕ → End) (p : ℕ → Bool) (a : ℕ) (s : List ℕ) → ((x : List ℕ) → passes p (first_byte x) ≡ false → f (a ∷ x) ≡ Ok x) → Refuses p k → Exact k [] → f s ≡ Err (length s) → ((b : ℕ) (t u : List ℕ) → s ≡ b ∷ t → f (b ∷ u) ≡ Err (suc (length u))) → Exact (f ⨾ k) s
 refused_front f k p a s read stops some e stays =
     let w = accepted_text k some in
     refused_behind (f ⨾ k) [] s (a ∷ w.0) (ap (λ r. r >>= k) e)
@@ -259,10 +259,10 @@ refused_front f k p a s read stops some e stays =
     (λ b t u same. ap (λ r. r >>= k) (stays b t u same))
 
 -- a front that is read, and what follows it
-read_front : (f k : List ℕ → End) (p : ℕ → Bool) (v r : List ℕ) → ((x : List ℕ) → passes p (first x) ≡ false → f (v ++ x) ≡ Ok x) → Refuses p k → passes p (first r) ≡ false → Exact k r → Exact (f ⨾ k) (v ++ r)
+read_front : (f k : List ℕ → End) (p : ℕ → Bool) (v r : List ℕ) → ((x : List ℕ) → passes p (first_byte x) ≡ false → f (v ++ x) ≡ Ok x) → Refuses p k → passes p (first_byte r) ≡ false → Exact k r → Exact (f ⨾ k) (v ++ r)
 read_front f k p v r read stops ends h =
-    behind (f ⨾ k) k (λ o. not (passes p o)) v r (λ x q. ap (λ e. e >>= k) (read x (not-true (passes p (first x)) q)))
-    (λ x e. not_from_false (passes p (first x)) (passed_first p k stops x e)) (not_from_false (passes p (first r)) ends) h
+    behind (f ⨾ k) k (λ o. not (passes p o)) v r (λ x q. ap (λ e. e >>= k) (read x (not-true (passes p (first_byte x)) q)))
+    (λ x e. not_from_false (passes p (first_byte x)) (passed_first p k stops x e)) (not_from_false (passes p (first_byte r)) ends) h
 
 word_upto : (n : ℕ) (k : List ℕ → End) → Refuses is_word_byte k → Upto n k → Upto (suc n) (word_end ⨾ k)
 word_upto n k stops upto [] le = refused_front word_end k is_word_byte 97 [] (λ x ends. word_ends (97 ∷ []) x refl ends) stops (upto [] (omega arith)) word_nothing (λ b t u e. cc)
@@ -384,8 +384,8 @@ item_shortens c item after takes after_le t r e = let le : length r ≤ length t
 
 many_takes : (c : ℕ) (item after : List ℕ → End) → Shortens item → TakesFirst c item after → TakesFirst c (many c item) (after ⨾ many c item)
 many_takes c item after short takes x =
-    let first : many c item (c ∷ x) ≡ (item (c ∷ x) >>= many_end (begins c) item (suc (length x))) = rw (eq-eqb c c refl) refl in
-    first
+    let first_byte : many c item (c ∷ x) ≡ (item (c ∷ x) >>= many_end (begins c) item (suc (length x))) = rw (eq-eqb c c refl) refl in
+    first_byte
     ∙ bind_same (item (c ∷ x)) (many_end (begins c) item (suc (length x))) (many c item)
     (λ r e. let lt : length r < suc (length x) = short (c ∷ x) r e in many_same c item short (suc (length x)) (suc (length r)) r lt (omega arith))
     ∙ ap (λ (e : End). e >>= many c item) (takes x)

@@ -7,7 +7,7 @@ use Rattle.lois_lexer.specs.Bytes.{is_word_byte}
 use Rattle.lois_lexer.specs.Forms.{is_word_form}
 use Rattle.lois_reader.specs.Reading.{◌>>=◌, End, begins}
 use Rattle.lois_reader.specs.Ends.{fixed_end, word_at, word_end, number_end}
-use Rattle.lois_reader.specs.AnswerEnds.{structure_end, name_end, names_end, head_end, when_end, body_end, behind_case, assigned_end, behind_word, entry_at, opening_at, entries_end, cases_end, not_a_end, not_end, no_end, kind_end, failure_end, choice_number_end, numbers_end, choice_end, element_end, elements_end, trace_end, results_end, whole, results_text_end, version_end, answer_text_end}
+use Rattle.lois_reader.specs.AnswerEnds.{structure_end, name_end, names_end, head_end, when_end, body_end, behind_case, assigned_end, behind_word, entry_at, opening_at, entries_end, cases_end, not_a_end, not_end, no_end, kind_end, failure_end, choice_number_end, numbers_end, choice_end, element_end, elements_end, trace_end, results_end, ends_text, results_text_end, version_end, answer_text_end}
 use Rattle.lois_reader.proofs.Fronts.{EndsWord, word_front}
 use Rattle.lois_reader.proofs.Outcome.{bind_assoc}
 use Rattle.lois_reader.proofs.Backs.{same_ok, got, run_of, word_form, word_size, word_at_back}
@@ -305,9 +305,9 @@ trace_item =
 
 -- ---- whole texts
 
-whole_exact : (s : List ℕ) → Exact whole s
+whole_exact : (s : List ℕ) → Exact ends_text s
 whole_exact [] = Exact.accepts refl
-whole_exact (b ∷ t) = refused_behind whole [] (b ∷ t) [] refl refl (λ c u v e. refl)
+whole_exact (b ∷ t) = refused_behind ends_text [] (b ∷ t) [] refl refl (λ c u v e. refl)
 
 results_upto : (n : ℕ) (k : List ℕ → End) → Upto n k → Upto n (results_end ⨾ k)
 unfolding results_end
@@ -318,30 +318,30 @@ results_upto n k upto s le =
 pub results_text_exact : (s : List ℕ) → Exact results_text_end s
 unfolding results_text_end
 results_text_exact s =
-    same_reader results_text_end (fixed_end (codes "lois results 1") ⨾ (results_end ⨾ whole)) (λ x. bind_assoc (fixed_end (codes "lois results 1") x) results_end whole) s
-    ((fixed_part (codes "lois results 1")).exact (length s) (results_end ⨾ whole) (refuses_none (results_end ⨾ whole)) (results_upto (length s) whole (λ x h. whole_exact x)) s (omega arith))
+    same_reader results_text_end (fixed_end (codes "lois results 1") ⨾ (results_end ⨾ ends_text)) (λ x. bind_assoc (fixed_end (codes "lois results 1") x) results_end ends_text) s
+    ((fixed_part (codes "lois results 1")).exact (length s) (results_end ⨾ ends_text) (refuses_none (results_end ⨾ ends_text)) (results_upto (length s) ends_text (λ x h. whole_exact x)) s (omega arith))
 
 -- the version, and what follows it
 abbrev version : List ℕ → End
-version s = cond (begins 50 s) ((fixed_end (codes "2") ⨾ (trace_end ⨾ whole)) s) ((fixed_end (codes "1") ⨾ (results_end ⨾ whole)) s)
+version s = cond (begins 50 s) ((fixed_end (codes "2") ⨾ (trace_end ⨾ ends_text)) s) ((fixed_end (codes "1") ⨾ (results_end ⨾ ends_text)) s)
 
-version_is : (s : List ℕ) → ((version_end ⨾ whole) s) ≡ version s
+version_is : (s : List ℕ) → ((version_end ⨾ ends_text) s) ≡ version s
 unfolding version_end
 version_is s =
-    elim (begins 50 s) as (λ v. (cond v (fixed_end (codes "2") s >>= trace_end) (fixed_end (codes "1") s >>= results_end) >>= whole) ≡ cond v ((fixed_end (codes "2") ⨾ (trace_end ⨾ whole)) s) ((fixed_end (codes "1") ⨾ (results_end ⨾ whole)) s)) [
-      | true ↦ bind_assoc (fixed_end (codes "2") s) trace_end whole
-      | false ↦ bind_assoc (fixed_end (codes "1") s) results_end whole
+    elim (begins 50 s) as (λ v. (cond v (fixed_end (codes "2") s >>= trace_end) (fixed_end (codes "1") s >>= results_end) >>= ends_text) ≡ cond v ((fixed_end (codes "2") ⨾ (trace_end ⨾ ends_text)) s) ((fixed_end (codes "1") ⨾ (results_end ⨾ ends_text)) s)) [
+      | true ↦ bind_assoc (fixed_end (codes "2") s) trace_end ends_text
+      | false ↦ bind_assoc (fixed_end (codes "1") s) results_end ends_text
     ]
 
-version_exact : (s : List ℕ) → Exact (version_end ⨾ whole) s
+version_exact : (s : List ℕ) → Exact (version_end ⨾ ends_text) s
 version_exact s =
-    same_reader (version_end ⨾ whole) version version_is s
-    (choice_at 50 version (trace_end ⨾ whole) (fixed_end (codes "1") ⨾ (results_end ⨾ whole)) (λ x. refl) (λ x none. rw none refl) (λ t. refl) s
-    (λ t lt. (part_of trace_item).exact (length t) whole (refuses_none whole) (λ x h. whole_exact x) t (omega arith))
-    ((fixed_part (codes "1")).exact (length s) (results_end ⨾ whole) (refuses_none (results_end ⨾ whole)) (results_upto (length s) whole (λ x h. whole_exact x)) s (omega arith)))
+    same_reader (version_end ⨾ ends_text) version version_is s
+    (choice_at 50 version (trace_end ⨾ ends_text) (fixed_end (codes "1") ⨾ (results_end ⨾ ends_text)) (λ x. refl) (λ x none. rw none refl) (λ t. refl) s
+    (λ t lt. (part_of trace_item).exact (length t) ends_text (refuses_none ends_text) (λ x h. whole_exact x) t (omega arith))
+    ((fixed_part (codes "1")).exact (length s) (results_end ⨾ ends_text) (refuses_none (results_end ⨾ ends_text)) (results_upto (length s) ends_text (λ x h. whole_exact x)) s (omega arith)))
 
 pub answer_text_exact : (s : List ℕ) → Exact answer_text_end s
 unfolding answer_text_end
 answer_text_exact s =
-    same_reader answer_text_end (fixed_end (codes "lois results ") ⨾ (version_end ⨾ whole)) (λ x. bind_assoc (fixed_end (codes "lois results ") x) version_end whole) s
-    ((fixed_part (codes "lois results ")).exact (length s) (version_end ⨾ whole) (refuses_none (version_end ⨾ whole)) (λ x h. version_exact x) s (omega arith))
+    same_reader answer_text_end (fixed_end (codes "lois results ") ⨾ (version_end ⨾ ends_text)) (λ x. bind_assoc (fixed_end (codes "lois results ") x) version_end ends_text) s
+    ((fixed_part (codes "lois results ")).exact (length s) (version_end ⨾ ends_text) (refuses_none (version_end ⨾ ends_text)) (λ x h. version_exact x) s (omega arith))

@@ -8,7 +8,7 @@ use Rattle.lois_lexer.specs.Bytes.{is_word_byte}
 use Rattle.lois_lexer.specs.Forms.{is_word_form}
 use Rattle.lois_reader.specs.declared.constraint_ends.Connective.{Connective}
 use Rattle.lois_reader.specs.declared.constraint_ends.Connective.TheVariants.{Start, And, Or}
-use Rattle.lois_reader.specs.Reading.{◌>>=◌, End, first, passes, begins}
+use Rattle.lois_reader.specs.Reading.{◌>>=◌, End, first_byte, passes, begins}
 use Rattle.lois_reader.specs.Ends.{fixed_end, word_at, word_end, number_end, level_end, operand_end, op_end, tag_end, joint_at, or_at, begins_op, is_and, is_start, comparison_at, piece_at, onward, pieces_end, constraint_end, guard_end, binders_end, tail_end, more_parts_end, tuple_end, comp_end, more_comps_end, items_end, set_end, term_end}
 use Rattle.lois_reader.proofs.Fronts.{EndsWord, word_front, word_ends, word_begins}
 use Rattle.lois_reader.proofs.Outcome.{bind_assoc}
@@ -160,11 +160,11 @@ pieces_shorter (suc n) joint s r e =
 abbrev in_literal : ℕ → Bool
 in_literal b = is_word_byte b || (b == 61 || b == 33 || b == 60)
 
-literal_closed : (x : List ℕ) → passes in_literal (first x) ≡ false → EndsWord x × (begins_op x ≡ false)
+literal_closed : (x : List ℕ) → passes in_literal (first_byte x) ≡ false → EndsWord x × (begins_op x ≡ false)
 literal_closed [] h = (refl, refl)
 literal_closed (b ∷ t) h = or_parts (is_word_byte b) (b == 61 || b == 33 || b == 60) h
 
-not_in_literal : (x : List ℕ) → EndsWord x → begins_op x ≡ false → passes in_literal (first x) ≡ false
+not_in_literal : (x : List ℕ) → EndsWord x → begins_op x ≡ false → passes in_literal (first_byte x) ≡ false
 not_in_literal [] ends op = refl
 not_in_literal (b ∷ t) ends op = rw (ends, op) refl
 
@@ -266,7 +266,7 @@ module _ (k : List ℕ → End) where
         same_reader comparison ((op_end ⨾ operand_end) ⨾ after_literal) comparison_is s
         ((part_then (part_of op_item) (part_of operand_item) (λ l r. refuses_none (operand_end ⨾ l))).exact n after_literal literal_refuses (literal_upto n below upto) s le)
 
-    closes_of : (x : List ℕ) → passes in_constraint (first x) ≡ false → Closes x
+    closes_of : (x : List ℕ) → passes in_constraint (first_byte x) ≡ false → Closes x
     closes_of [] h = record { word_ends = refl; space = refl; op = refl }
     closes_of (b ∷ t) h =
         let outer = or_parts (is_word_byte b || (b == 61 || b == 33 || b == 60)) (b == 32) h in

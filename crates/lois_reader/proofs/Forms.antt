@@ -19,8 +19,8 @@ use Rattle.lois_base.proofs.NameForm.{name_form}
 use Rattle.lois_lexer.specs.Bytes.{is_word_byte}
 use Rattle.lois_lexer.specs.Forms.{is_word_form}
 use Rattle.lois_lexer.proofs.Longest.{front_is_word}
-use Rattle.lois_reader.specs.Pieces.{value_from, value, is_free}
-use Rattle.lois_reader.specs.Reading.{first, passes, ErrorIs, IsLeft}
+use Rattle.lois_reader.specs.Pieces.{value_from, value, is_unreserved}
+use Rattle.lois_reader.specs.Reading.{first_byte, passes, ErrorIs, IsTextError}
 use Rattle.lois_reader.specs.Ends.{fixed_end, word_at}
 use Rattle.lois_reader.specs.AnswerValues.{kinds_at}
 use Rattle.lois_reader.specs.Values.{value_within, keyword}
@@ -59,7 +59,7 @@ all_read n i limit ds le lt same =
     let v : n ≡ value ds = ap (value_from n) (sym e) ∙ same in
     rw v (sym (some_within 0 limit (value ds) (omega arith) (omega (arith, v))))
 
-pub front_form : (s : List ℕ) → passes is_ascii_alphabetic (first s) ≡ true → is_word_form (take (prefix_len is_word_byte s) s) ≡ true
+pub front_form : (s : List ℕ) → passes is_ascii_alphabetic (first_byte s) ≡ true → is_word_form (take (prefix_len is_word_byte s) s) ≡ true
 front_form [] h = absurd (false≢true h)
 front_form (b ∷ s) h = front_is_word (b ∷ s) (omega arith) h
 
@@ -76,17 +76,17 @@ same_test true c f g = sym (f refl)
 same_test false true f g = g refl
 same_test false false f g = refl
 
-pub free_is : (w : List ℕ) (b : Bool) → length w ≤ 64 → ((b ≡ true) ↔ Contains reserved w) → not b ≡ is_free w
+pub free_is : (w : List ℕ) (b : Bool) → length w ≤ 64 → ((b ≡ true) ↔ Contains reserved w) → not b ≡ is_unreserved w
 free_is w b short h =
     let e : b ≡ list_any (bytes_eq w) reserved = same_test b (list_any (bytes_eq w) reserved) (λ t. (is_among_iff reserved w).1 (h.0 t)) (λ t. h.1 ((is_among_iff reserved w).0 t)) in
     rw (e, le-leb (length w) 64 short) refl
 
 -- what isn't there
-pub isn't_ok : {A : Type 0} (e : ParseError) (read : Result A ℕ) → ErrorIs e read → IsLeft e → is_ok read ≡ false
+pub isn't_ok : {A : Type 0} (e : ParseError) (read : Result A ℕ) → ErrorIs e read → IsTextError e → is_ok read ≡ false
 isn't_ok (Left left) read failed sure = rw failed refl
 isn't_ok NoMemory read failed sure = absurd sure
 
-pub no_keyword : (e : ParseError) (k s : List ℕ) → ErrorIs e (word_at s) → IsLeft e → keyword k s ≡ None
+pub no_keyword : (e : ParseError) (k s : List ℕ) → ErrorIs e (word_at s) → IsTextError e → keyword k s ≡ None
 unfolding keyword
 no_keyword (Left left) k s failed sure = rw failed refl
 no_keyword NoMemory k s failed sure = absurd sure
@@ -94,11 +94,11 @@ no_keyword NoMemory k s failed sure = absurd sure
 kinds_at_next : (ks : List FaultKind) (i left : ℕ) (d : FaultKind) (s : List ℕ) → i < length ks → fixed_end (kind_text (get_or ks i d)) s ≡ Err left → kinds_at (drop i ks) s ≡ kinds_at (drop (i + 1) ks) s
 kinds_at_next ks i left d s lt failed = rw (add-one, drop-cons ks i d lt, failed) refl
 
-left_of : {A : Type 0} (e : ParseError) (read : Result A ℕ) → ErrorIs e read → IsLeft e → (left : ℕ) × (read ≡ Err left)
+left_of : {A : Type 0} (e : ParseError) (read : Result A ℕ) → ErrorIs e read → IsTextError e → (left : ℕ) × (read ≡ Err left)
 left_of (Left left) read failed sure = (left, failed)
 left_of NoMemory read failed sure = absurd sure
 
-pub kinds_go_on : (e : ParseError) (ks : List FaultKind) (i : ℕ) (d : FaultKind) (s : List ℕ) (total : Result (FaultKind × List ℕ) ℕ) → i < length ks → ErrorIs e (fixed_end (kind_text (get_or ks i d)) s) → IsLeft e → kinds_at (drop i ks) s ≡ total → kinds_at (drop (i + 1) ks) s ≡ total
+pub kinds_go_on : (e : ParseError) (ks : List FaultKind) (i : ℕ) (d : FaultKind) (s : List ℕ) (total : Result (FaultKind × List ℕ) ℕ) → i < length ks → ErrorIs e (fixed_end (kind_text (get_or ks i d)) s) → IsTextError e → kinds_at (drop i ks) s ≡ total → kinds_at (drop (i + 1) ks) s ≡ total
 kinds_go_on e ks i d s total lt failed sure so_far =
     let l = left_of e (fixed_end (kind_text (get_or ks i d)) s) failed sure in
     sym (kinds_at_next ks i l.0 d s lt l.1) ∙ so_far

@@ -9,22 +9,22 @@ use Rattle.lois_lexer.specs.Bytes.{is_word_byte}
 use Rattle.lois_lexer.specs.Forms.{is_word_form}
 use Rattle.lois_lexer.proofs.Forms.{word_bytes}
 use Rattle.lois_reader.specs.Draft.{is_number}
-use Rattle.lois_reader.specs.Reading.{first, passes, begins}
+use Rattle.lois_reader.specs.Reading.{first_byte, passes, begins}
 use Rattle.lois_reader.specs.Ends.{fixed_end, word_at, word_end, number_at, number_end}
 
 -- no byte of a word follows
 abbrev pub EndsWord : List ℕ → Type 0
-EndsWord r = passes is_word_byte (first r) ≡ false
+EndsWord r = passes is_word_byte (first_byte r) ≡ false
 
 abbrev pub EndsNumber : List ℕ → Type 0
-EndsNumber r = passes is_ascii_digit (first r) ≡ false
+EndsNumber r = passes is_ascii_digit (first_byte r) ≡ false
 
 pub fixed_front : (x r : List ℕ) → fixed_end x (x ++ r) ≡ Ok r
 fixed_front [] r = refl
 fixed_front (c ∷ cs) r = rw (eq-eqb c c refl) (fixed_front cs r)
 
 -- a run of bytes that pass, before one that doesn't
-run_is : (p : ℕ → Bool) (w r : List ℕ) → list_all p w ≡ true → passes p (first r) ≡ false → prefix_len p (w ++ r) ≡ length w
+run_is : (p : ℕ → Bool) (w r : List ℕ) → list_all p w ≡ true → passes p (first_byte r) ≡ false → prefix_len p (w ++ r) ≡ length w
 run_is p [] [] all none = refl
 run_is p [] (b ∷ r) all none = rw none refl
 run_is p (b ∷ w) r all none =
@@ -32,7 +32,7 @@ run_is p (b ∷ w) r all none =
     let here : p b ≡ true = parts.0 in
     rw here (omega (arith, run_is p w r parts.1 none))
 
-cut_is : (p : ℕ → Bool) (w r : List ℕ) → list_all p w ≡ true → passes p (first r) ≡ false → (take (prefix_len p (w ++ r)) (w ++ r) ≡ w) × (drop (prefix_len p (w ++ r)) (w ++ r) ≡ r)
+cut_is : (p : ℕ → Bool) (w r : List ℕ) → list_all p w ≡ true → passes p (first_byte r) ≡ false → (take (prefix_len p (w ++ r)) (w ++ r) ≡ w) × (drop (prefix_len p (w ++ r)) (w ++ r) ≡ r)
 cut_is p w r all none =
     let n = run_is p w r all none in
     (take_at w r (prefix_len p (w ++ r)) (sym n), drop_at w r (prefix_len p (w ++ r)) (sym n))
@@ -67,7 +67,7 @@ zero_alone : (d : ℕ) (ds : List ℕ) → (d == 48) ≡ true → (length (d ∷
 zero_alone d [] e h = refl
 zero_alone d (x ∷ ds) e h = absurd (grind (arith, nat_tests))
 
-digits_in_front : (s : List ℕ) → begins 48 s ≡ false → passes is_ascii_digit (first s) ≡ true → number_at s ≡ Ok (take (prefix_len is_ascii_digit s) s, drop (prefix_len is_ascii_digit s) s)
+digits_in_front : (s : List ℕ) → begins 48 s ≡ false → passes is_ascii_digit (first_byte s) ≡ true → number_at s ≡ Ok (take (prefix_len is_ascii_digit s) s, drop (prefix_len is_ascii_digit s) s)
 unfolding number_at
 digits_in_front s other digit = rw (other, digit) refl
 

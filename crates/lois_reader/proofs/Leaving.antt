@@ -4,7 +4,7 @@ use Rattle.std.proofs.lemmas.List.{take_at}
 use Rattle.lois_reader.specs.Draft.{AnswerDraft, IsAnswerDraft}
 use Rattle.lois_reader.specs.Draft as draft
 use Rattle.lois_reader.specs.Pieces.{answer_pieces}
-use Rattle.lois_reader.specs.Shape.{text_of, HasResultsShape, HasAnswerShape, Begins, LeavesShapeAt}
+use Rattle.lois_reader.specs.Shape.{text_of_pieces, HasResultsShape, HasAnswerShape, BeginsShape, LeavesShapeAt}
 use Rattle.lois_reader.specs.Reading.{End}
 use Rattle.lois_reader.specs.AnswerEnds.{results_text_end, answer_text_end}
 use Rattle.lois_reader.proofs.AnswerFronts.{results_front, results_text_front, results_rest_is}
@@ -17,9 +17,9 @@ use Rattle.lois_reader.proofs.Exact.{Refused}
 pub results_accepted : (s : List ℕ) → HasResultsShape s → results_text_end s ≡ Ok []
 results_accepted s h = subst (λ (t : List ℕ). results_text_end t ≡ Ok []) h.1.spelled (results_text_front h.0 h.1.form)
 
-answer_front : (a : AnswerDraft) → IsAnswerDraft a → answer_text_end (text_of (answer_pieces a)) ≡ Ok []
-answer_front (draft.results d) form = ap (λ ps. answer_text_end (text_of ps)) (results_rest_is d) ∙ answer_ends_one _ (results_front d form)
-answer_front (draft.trace t) form = ap (λ ps. answer_text_end (text_of ps)) (trace_rest_is t) ∙ answer_ends_two _ (trace_front t form)
+answer_front : (a : AnswerDraft) → IsAnswerDraft a → answer_text_end (text_of_pieces (answer_pieces a)) ≡ Ok []
+answer_front (draft.results d) form = ap (λ ps. answer_text_end (text_of_pieces ps)) (results_rest_is d) ∙ answer_ends_one _ (results_front d form)
+answer_front (draft.trace t) form = ap (λ ps. answer_text_end (text_of_pieces ps)) (trace_rest_is t) ∙ answer_ends_two _ (trace_front t form)
 
 pub answer_accepted : (s : List ℕ) → HasAnswerShape s → answer_text_end s ≡ Ok []
 answer_accepted s h = subst (λ (t : List ℕ). answer_text_end t ≡ Ok []) h.1.spelled (answer_front h.0 h.1.form)
@@ -33,7 +33,7 @@ take_past [] b t (suc m) lt = (take m t, refl)
 take_past (c ∷ front) b t (suc m) lt = let u = take_past front b t m (omega arith) in (u.0, ap (λ (x : List ℕ). c ∷ x) u.1)
 
 module _ (ends : List ℕ → End) (Shape : List ℕ → Type 0) (spelled : (s : List ℕ) → ends s ≡ Ok [] → Shape s) (accepted : (s : List ℕ) → Shape s → ends s ≡ Ok []) where
-  no_longer : (text : List ℕ) (h : Refused ends text) (rest : List ℕ) → h.rest ≡ rest → (m : ℕ) → length h.front < m → m ≤ length text → Begins Shape (take m text) → ⊥
+  no_longer : (text : List ℕ) (h : Refused ends text) (rest : List ℕ) → h.rest ≡ rest → (m : ℕ) → length h.front < m → m ≤ length text → BeginsShape Shape (take m text) → ⊥
   no_longer text h [] is m lt le begun = omega (arith, ap length h.split, length-append h.front h.rest, ap length is)
   no_longer text h (b ∷ t) is m lt le begun =
       let u = take_past h.front b t m lt in

@@ -17,7 +17,7 @@ pub mod ResultsBack
 pub mod Spelled
 pub mod SpelledAnswers
 pub mod TermOutcome
-pub mod Told
+pub mod Determined
 pub mod TraceBack
 pub mod TraceFronts
 pub mod Unbroken

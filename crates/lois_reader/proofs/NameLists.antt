@@ -5,14 +5,14 @@ use Rattle.lois_reader.specs.declared.parse_error.ParseError.{ParseError}
 use Rattle.lois_reader.specs.declared.parse_error.ParseError.TheVariants.{Left, NoMemory}
 use Rattle.lois_reader.specs.Reading.{◌>>=◌, ErrorIs, begins}
 use Rattle.lois_reader.specs.Ends.{fixed_end, word_at}
-use Rattle.lois_reader.specs.Pieces.{is_among, is_free}
+use Rattle.lois_reader.specs.Pieces.{is_among, is_unreserved}
 use Rattle.lois_reader.specs.AnswerValues.{names_at}
 use Rattle.lois_reader.proofs.Lists.{NamesFollow}
 use Rattle.lois_reader.proofs.Loops.{one_step}
 
 -- what is behind a space, in one step
 names_here : (before : List (List ℕ)) (s : List ℕ) (total : Result (List (List ℕ) × List ℕ) ℕ) → begins 32 s ≡ true → NamesFollow before s total →
-    (n : ℕ) × (length s ≤ n) × ((fixed_end (codes " ") s >>= (λ t. word_at t >>= (λ x. if is_free x.0 && not (is_among before x.0) then names_at n (before ++ x.0 ∷ []) x.1 else Err (length t)))) ≡ total)
+    (n : ℕ) × (length s ≤ n) × ((fixed_end (codes " ") s >>= (λ t. word_at t >>= (λ x. if is_unreserved x.0 && not (is_among before x.0) then names_at n (before ++ x.0 ∷ []) x.1 else Err (length t)))) ≡ total)
 names_here before s total here h =
     let o = one_step (λ n s. names_at n before s) s total h in
     (o.0, o.1, rw here at o.2)
@@ -24,13 +24,13 @@ names_halt before s t (Left left) total here behind failed h =
     let e : (let r : Result (List (List ℕ) × List ℕ) ℕ = Err left in r) ≡ total = rw (behind, failed) at o.2 in
     sym e
 
-pub names_refused : (before : List (List ℕ)) (s t : List ℕ) (x : List ℕ × List ℕ) (total : Result (List (List ℕ) × List ℕ) ℕ) → begins 32 s ≡ true → fixed_end (codes " ") s ≡ Ok t → word_at t ≡ Ok x → (is_free x.0 && not (is_among before x.0)) ≡ false → NamesFollow before s total → total ≡ Err (length t)
+pub names_refused : (before : List (List ℕ)) (s t : List ℕ) (x : List ℕ × List ℕ) (total : Result (List (List ℕ) × List ℕ) ℕ) → begins 32 s ≡ true → fixed_end (codes " ") s ≡ Ok t → word_at t ≡ Ok x → (is_unreserved x.0 && not (is_among before x.0)) ≡ false → NamesFollow before s total → total ≡ Err (length t)
 names_refused before s t x total here behind found bad h =
     let o = names_here before s total here h in
     let e : (let r : Result (List (List ℕ) × List ℕ) ℕ = Err (length t) in r) ≡ total = rw (behind, found, bad) at o.2 in
     sym e
 
-pub names_more : (before : List (List ℕ)) (s t : List ℕ) (x : List ℕ × List ℕ) (total : Result (List (List ℕ) × List ℕ) ℕ) → begins 32 s ≡ true → fixed_end (codes " ") s ≡ Ok t → word_at t ≡ Ok x → (is_free x.0 && not (is_among before x.0)) ≡ true → length x.1 < length s → NamesFollow before s total → NamesFollow (before ++ x.0 ∷ []) x.1 total
+pub names_more : (before : List (List ℕ)) (s t : List ℕ) (x : List ℕ × List ℕ) (total : Result (List (List ℕ) × List ℕ) ℕ) → begins 32 s ≡ true → fixed_end (codes " ") s ≡ Ok t → word_at t ≡ Ok x → (is_unreserved x.0 && not (is_among before x.0)) ≡ true → length x.1 < length s → NamesFollow before s total → NamesFollow (before ++ x.0 ∷ []) x.1 total
 names_more before s t x total here behind found good shorter h =
     let o = names_here before s total here h in
     let le : length s ≤ o.0 = o.1 in

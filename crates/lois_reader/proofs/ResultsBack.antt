@@ -14,9 +14,9 @@ use Rattle.lois_answers.specs.TermText as texts
 use Rattle.lois_answers.specs.declared.results.Results.{Results}
 use Rattle.lois_reader.specs.declared.scope.Scope.{Scope}
 use Rattle.lois_reader.specs.Draft.{LineDraft, CaseDraft, ResultsDraft, IsWord, IsLineDraft, IsCaseDraft, IsResultsDraft}
-use Rattle.lois_reader.specs.Pieces.{Piece, each, is_among, is_free, constraint_pieces, term_pieces, line_end, line_pieces, case_pieces, name_pieces, last_line, results_pieces}
+use Rattle.lois_reader.specs.Pieces.{Piece, each, is_among, is_unreserved, constraint_pieces, term_pieces, line_end, line_pieces, case_pieces, name_pieces, end_piece, results_pieces}
 use Rattle.lois_reader.specs.Refusal.{results_reading}
-use Rattle.lois_reader.specs.Shape.{text_of, first_broken}
+use Rattle.lois_reader.specs.Shape.{text_of_pieces, first_broken}
 use Rattle.lois_reader.specs.Reading.{◌>>=◌}
 use Rattle.lois_reader.specs.AnswerValues.{results_text_at}
 use Rattle.lois_reader.proofs.Forms.{is_among_iff}
@@ -36,54 +36,54 @@ results_draft r = record { ordered = r.order; parameters = r.parameters; cases =
 
 -- ---- texts
 
-pub each_flat : {A : Type 0} (pieces : A → List Piece) (f : A → List ℕ) → ((x : A) → text_of (pieces x) ≡ f x) → (xs : List A) → text_of (each pieces xs) ≡ flat_map f xs
+pub each_flat : {A : Type 0} (pieces : A → List Piece) (f : A → List ℕ) → ((x : A) → text_of_pieces (pieces x) ≡ f x) → (xs : List A) → text_of_pieces (each pieces xs) ≡ flat_map f xs
 each_flat pieces f same [] = refl
-each_flat pieces f same (x ∷ xs) = text_append (pieces x) (each pieces xs) ∙ ap (λ (t : List ℕ). t ++ text_of (each pieces xs)) (same x) ∙ ap (λ (t : List ℕ). f x ++ t) (each_flat pieces f same xs) ∙ sym (flat_map-cons f x xs)
+each_flat pieces f same (x ∷ xs) = text_append (pieces x) (each pieces xs) ∙ ap (λ (t : List ℕ). t ++ text_of_pieces (each pieces xs)) (same x) ∙ ap (λ (t : List ℕ). f x ++ t) (each_flat pieces f same xs) ∙ sym (flat_map-cons f x xs)
 
-pub names_flat : (before ws : List (List ℕ)) → text_of (name_pieces before ws) ≡ flat_map rt.spaced ws
+pub names_flat : (before ws : List (List ℕ)) → text_of_pieces (name_pieces before ws) ≡ flat_map rt.spaced ws
 names_flat before [] = refl
 names_flat before (w ∷ ws) = ap (λ (t : List ℕ). codes " " ++ (w ++ t)) (names_flat (before ++ w ∷ []) ws) ∙ sym (flat_map-cons rt.spaced w ws)
 
 pub line_regroup : (a e t n : List ℕ) → a ++ (e ++ (t ++ n)) ≡ ((a ++ e) ++ t) ++ n
 line_regroup a e t n = simp append_assoc
 
-pub line_text : (s : Scope) (n : ℕ) (l : LineD) → text_of (line_pieces s n (line_draft s.names n l)) ≡ rt.line_text s.names n l
+pub line_text : (s : Scope) (n : ℕ) (l : LineD) → text_of_pieces (line_pieces s n (line_draft s.names n l)) ≡ rt.line_text s.names n l
 line_text s n l =
     let t : List ℕ = texts.term_text s.names n l.term in
     ap (λ (x : List ℕ). l.name ++ (codes " = " ++ x)) (text_append (term_pieces s n (term_draft s.names n l.term)) (line_end ∷ []) ∙ ap (λ (x : List ℕ). x ++ codes "\n") (term_text s n n l.term))
     ∙ line_regroup l.name (codes " = ") t (codes "\n")
 
-lines_text : (s : Scope) (n : ℕ) (ls : List LineD) → text_of (each (line_pieces s n) (map (line_draft s.names n) ls)) ≡ flat_map (rt.line_text s.names n) ls
-lines_text s n ls = ap text_of (each_map (line_pieces s n) (line_draft s.names n) ls) ∙ each_flat (λ l. line_pieces s n (line_draft s.names n l)) (rt.line_text s.names n) (line_text s n) ls
+lines_text : (s : Scope) (n : ℕ) (ls : List LineD) → text_of_pieces (each (line_pieces s n) (map (line_draft s.names n) ls)) ≡ flat_map (rt.line_text s.names n) ls
+lines_text s n ls = ap text_of_pieces (each_map (line_pieces s n) (line_draft s.names n) ls) ∙ each_flat (λ l. line_pieces s n (line_draft s.names n l)) (rt.line_text s.names n) (line_text s n) ls
 
 case_regroup : (w g n ls : List ℕ) → w ++ (g ++ (n ++ ls)) ≡ ((w ++ g) ++ n) ++ ls
 case_regroup w g n ls = simp append_assoc
 
-case_text : (s : Scope) (c : CaseD) → text_of (case_pieces s (case_draft s.names c)) ≡ rt.case_text s.names c
+case_text : (s : Scope) (c : CaseD) → text_of_pieces (case_pieces s (case_draft s.names c)) ≡ rt.case_text s.names c
 case_text s c =
     let n : ℕ = length s.names in
     let lines : List Piece = each (line_pieces s n) (map (line_draft s.names n) c.lines) in
     ap (λ (x : List ℕ). codes "case when " ++ x) (text_append (constraint_pieces s n (constraint_draft s.names c.«when»)) (line_end ∷ lines)
-    ∙ ap (λ (x : List ℕ). x ++ (codes "\n" ++ text_of lines)) (constraint_text s n c.«when»)
+    ∙ ap (λ (x : List ℕ). x ++ (codes "\n" ++ text_of_pieces lines)) (constraint_text s n c.«when»)
     ∙ ap (λ (x : List ℕ). texts.constraint_text s.names c.«when» ++ (codes "\n" ++ x)) (lines_text s n c.lines))
     ∙ case_regroup (codes "case when ") (texts.constraint_text s.names c.«when») (codes "\n") (flat_map (rt.line_text s.names n) c.lines)
 
-cases_text : (s : Scope) (cs : List CaseD) → text_of (each (case_pieces s) (map (case_draft s.names) cs)) ≡ flat_map (rt.case_text s.names) cs
-cases_text s cs = ap text_of (each_map (case_pieces s) (case_draft s.names) cs) ∙ each_flat (λ c. case_pieces s (case_draft s.names c)) (rt.case_text s.names) (case_text s) cs
+cases_text : (s : Scope) (cs : List CaseD) → text_of_pieces (each (case_pieces s) (map (case_draft s.names) cs)) ≡ flat_map (rt.case_text s.names) cs
+cases_text s cs = ap text_of_pieces (each_map (case_pieces s) (case_draft s.names) cs) ∙ each_flat (λ c. case_pieces s (case_draft s.names c)) (rt.case_text s.names) (case_text s) cs
 
-pub head_rest_text : (s : Scope) → text_of (head_rest s) ≡ codes "\n" ++ (rt.structure_text s.ordered ++ (codes "parameters" ++ (flat_map rt.spaced s.names ++ codes "\n")))
+pub head_rest_text : (s : Scope) → text_of_pieces (head_rest s) ≡ codes "\n" ++ (rt.structure_text s.ordered ++ (codes "parameters" ++ (flat_map rt.spaced s.names ++ codes "\n")))
 head_rest_text s = ap (λ (x : List ℕ). codes "\n" ++ (rt.structure_text s.ordered ++ (codes "parameters" ++ x))) (text_append (name_pieces [] s.names) (line_end ∷ []) ∙ ap (λ (x : List ℕ). x ++ codes "\n") (names_flat [] s.names))
 
 regroup : (a s p n l c e : List ℕ) → a ++ ((s ++ (p ++ (n ++ l))) ++ (c ++ e)) ≡ (((a ++ s) ++ ((p ++ n) ++ l)) ++ c) ++ e
 regroup a s p n l c e = simp append_assoc
 
-pub results_text_is : (r : Results) → text_of (results_pieces (results_draft r)) ≡ rt.results_text r
+pub results_text_is : (r : Results) → text_of_pieces (results_pieces (results_draft r)) ≡ rt.results_text r
 results_text_is r =
     let d : ResultsDraft = results_draft r in
     let s : Scope = scope_of (results_draft r) in
-    let cases : List ℕ = text_of (each (case_pieces s) (map (case_draft r.parameters) r.cases)) in
+    let cases : List ℕ = text_of_pieces (each (case_pieces s) (map (case_draft r.parameters) r.cases)) in
     let names : List ℕ = flat_map rt.spaced r.parameters in
-    ap text_of (results_rest_is d)
+    ap text_of_pieces (results_rest_is d)
     ∙ ap (λ (x : List ℕ). codes "lois results 1" ++ x) (results_rest_text d ∙ ap (λ (x : List ℕ). x ++ (cases ++ codes "end\n")) (head_rest_text s)
     ∙ ap (λ (x : List ℕ). (codes "\n" ++ (rt.structure_text r.order ++ (codes "parameters" ++ (names ++ codes "\n")))) ++ (x ++ codes "end\n")) (cases_text s r.cases))
     ∙ regroup (codes "lois results 1\n") (rt.structure_text r.order) (codes "parameters") names (codes "\n") (flat_map (rt.case_text r.parameters) r.cases) (codes "end\n")
@@ -101,7 +101,7 @@ not_among : (words : List (List ℕ)) (w : List ℕ) → (Contains words w → �
 not_among words w h =
     elim (is_among words w) as (λ b. is_among words w ≡ b → b ≡ false) [ true ↦ λ e. absurd (h ((is_among_iff words w).0 e)) | false ↦ λ e. refl ] refl
 
-pub free_is : (w : List ℕ) → IsFreeName w → is_free w ≡ true
+pub free_is : (w : List ℕ) → IsFreeName w → is_unreserved w ≡ true
 free_is w h = rw (le_test (length w) 64 h.form.short, not_among reserved w h.free) refl
 
 apart : (w : List ℕ) (ws : List (List ℕ)) → (Contains ws w → ⊥) → AllByRecursion (λ x. bytes_eq x w ≡ false) ws
@@ -127,7 +127,7 @@ still_apart before w (x ∷ xs) h k = (among_append before w x ∙ rw (h.0, k.0)
 names_whole : (before ws : List (List ℕ)) → AllByRecursion IsFreeName ws → AreDistinct ws → AllByRecursion (λ x. is_among before x ≡ false) ws → Unbroken (name_pieces before ws)
 names_whole before [] free distinct new = tt
 names_whole before (w ∷ ws) free distinct new =
-    (refl, (both (is_free w) (is_among before w) (free_is w free.0) new.0, names_whole (before ++ w ∷ []) ws free.1 distinct.1 (still_apart before w ws new.1 (apart w ws distinct.0))))
+    (refl, (both (is_unreserved w) (is_among before w) (free_is w free.0) new.0, names_whole (before ++ w ∷ []) ws free.1 distinct.1 (still_apart before w ws new.1 (apart w ws distinct.0))))
   where
     both : (a b : Bool) → a ≡ true → b ≡ false → not (a && not b) ≡ false
     both a b e f = rw (e, f) refl
@@ -202,7 +202,7 @@ results_whole r sound =
       refl,
       (
         refl,
-        unbroken_append (head_rest s) (cases ++ last_line ∷ []) (head_whole s sound.parameters) (unbroken_append cases (last_line ∷ [])
+        unbroken_append (head_rest s) (cases ++ end_piece ∷ []) (head_whole s sound.parameters) (unbroken_append cases (end_piece ∷ [])
             (subst Unbroken (sym (each_map (case_pieces s) (case_draft r.parameters) r.cases)) (unbroken_each (λ c. case_pieces s (case_draft r.parameters c)) (IsSoundCase r.order (length r.parameters)) (λ c h. case_whole s c h) r.cases (recursion_from_All (IsSoundCase r.order (length r.parameters)) r.cases sound.cases)))
             (refl, tt)),
       ),
@@ -213,8 +213,8 @@ results_value r sound =
     ap (λ (cs : List CaseD). let x : Results = record { order = r.order; parameters = r.parameters; cases = cs } in x)
     (cases_value (scope_of (results_draft r)) r.cases (parameters_of r.parameters sound.parameters) (recursion_from_All (IsSoundCase r.order (length r.parameters)) r.cases sound.cases))
 
-pub reading_is : (d : ResultsDraft) → IsResultsDraft d → results_reading (text_of (results_pieces d)) ≡ (out (results_pieces d) (results_of d) [] >>= λ x. Ok x.0)
-reading_is d form = ap (λ e. e >>= λ end. results_text_at (text_of (results_pieces d))) (results_text_front d form) ∙ results_text_out d form
+pub reading_is : (d : ResultsDraft) → IsResultsDraft d → results_reading (text_of_pieces (results_pieces d)) ≡ (out (results_pieces d) (results_of d) [] >>= λ x. Ok x.0)
+reading_is d form = ap (λ e. e >>= λ end. results_text_at (text_of_pieces (results_pieces d))) (results_text_front d form) ∙ results_text_out d form
 
 -- Sound results are read from their text.
 pub results_back : (r : Results) → IsSound r → results_reading (rt.results_text r) ≡ Ok r

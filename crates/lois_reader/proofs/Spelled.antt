@@ -12,7 +12,7 @@ use Rattle.lois_reader.specs.declared.constraint_ends.Connective.TheVariants.{St
 use Rattle.lois_reader.specs.declared.scope.Scope.{Scope}
 use Rattle.lois_reader.specs.Draft.{Operand, word, level, LitDraft, ConstraintDraft, TermDraft, atom, tag, tuple, set, TermDrafts, no_terms, term, CompDraft, comp, CompDrafts, no_comps, more, IsNumber, IsOperand, IsLitDraft, IsConstraintDraft, IsTermDraft, AreTermDrafts, IsCompDraft, AreCompDrafts}
 use Rattle.lois_reader.specs.Pieces.{Piece, plain, each, comma, operand_piece, literal_pieces, cube_pieces, constraint_pieces, guard_pieces, level_pieces, binder_pieces, term_pieces, part_pieces, comp_pieces, item_pieces}
-use Rattle.lois_reader.specs.Shape.{text_of}
+use Rattle.lois_reader.specs.Shape.{text_of_pieces}
 use Rattle.lois_reader.specs.Reading.{◌>>=◌, End, begins}
 use Rattle.lois_reader.specs.Ends.{fixed_end, word_at, word_end, number_end, level_end, operand_end, op_end, tag_end, many_end, joint_at, or_at, begins_op, is_and, is_start, comparison_at, piece_at, onward, pieces_end, constraint_end, guard_end, binders_end, tail_end, more_parts_end, tuple_end, comp_end, more_comps_end, items_end, set_end, term_end}
 use Rattle.lois_reader.proofs.Outcome.{text_split}
@@ -29,7 +29,7 @@ then_text a e f = e ∙ ap (λ (x : List ℕ). a ++ x) f
 pub record Spelled {D : Type 0} (Form : D → Type 0) (pieces : Scope → ℕ → D → List Piece) (s r : List ℕ) : Type 0 where
   pub draft : D
   pub form : Form draft
-  pub text : (c : Scope) (n : ℕ) → s ≡ text_of (pieces c n draft) ++ r
+  pub text : (c : Scope) (n : ℕ) → s ≡ text_of_pieces (pieces c n draft) ++ r
 
 -- items as long as one begins with a byte
 pub many_spelled : {D : Type 0} (b : ℕ) (item : List ℕ → End) (Form : D → Type 0) (pieces : Scope → ℕ → D → List Piece) → ((s r : List ℕ) → item s ≡ Ok r → Spelled Form pieces s r) → (n : ℕ) (s r : List ℕ) → many_end (begins b) item n s ≡ Ok r → Spelled (AllByRecursion Form) (λ c m xs. each (pieces c m) xs) s r
@@ -42,7 +42,7 @@ many_spelled b item Form pieces one (suc n) s r e =
           record {
             draft = x.draft ∷ xs.draft;
             form = (x.form, xs.form);
-            text = λ c k. then_text (text_of (pieces c k x.draft)) (x.text c k) (xs.text c k) ∙ sym (text_split (pieces c k x.draft) (each (pieces c k) xs.draft) r);
+            text = λ c k. then_text (text_of_pieces (pieces c k x.draft)) (x.text c k) (xs.text c k) ∙ sym (text_split (pieces c k x.draft) (each (pieces c k) xs.draft) r);
           }
       | false ↦ λ h. record { draft = []; form = tt; text = λ c k. same_ok (rw h at e) }
     ] refl
@@ -168,7 +168,7 @@ compared s y e =
 
 -- A piece of a constraint: a literal; `true`, which no `and` stands before or behind; `false` alone.
 data PieceAt (joint : Connective) (s : List ℕ) (y : Option Connective × List ℕ) : Type 0 where
-  literal : (l : LitDraft) → IsLitDraft l → Joins y.0 → ((c : Scope) (n : ℕ) → s ≡ text_of (literal_pieces c n l) ++ (joint_text y.0 ++ y.1)) → PieceAt joint s y
+  literal : (l : LitDraft) → IsLitDraft l → Joins y.0 → ((c : Scope) (n : ℕ) → s ≡ text_of_pieces (literal_pieces c n l) ++ (joint_text y.0 ++ y.1)) → PieceAt joint s y
   always : is_and joint ≡ false → JoinsCubes y.0 → s ≡ codes "true" ++ (joint_text y.0 ++ y.1) → PieceAt joint s y
   never : is_start joint ≡ true → y.0 ≡ None → s ≡ codes "false" ++ y.1 → PieceAt joint s y
 
@@ -225,29 +225,29 @@ record CubesAt (joint : Connective) (s r : List ℕ) : Type 0 where
   pub cube_form : AllByRecursion IsLitDraft cube
   pub others_form : AllByRecursion (AllByRecursion IsLitDraft) others
   pub some : is_and joint ≡ true → 0 < length cube
-  pub text : (c : Scope) (n : ℕ) → s ≡ text_of (cube_pieces c n cube) ++ (text_of (each (further_cube c n) others) ++ r)
+  pub text : (c : Scope) (n : ℕ) → s ≡ text_of_pieces (cube_pieces c n cube) ++ (text_of_pieces (each (further_cube c n) others) ++ r)
 
-cube_more : (c : Scope) (n : ℕ) (l k : LitDraft) (ks : List LitDraft) (q : List ℕ) → text_of (cube_pieces c n (l ∷ k ∷ ks)) ++ q ≡ text_of (literal_pieces c n l) ++ (codes " and " ++ (text_of (cube_pieces c n (k ∷ ks)) ++ q))
+cube_more : (c : Scope) (n : ℕ) (l k : LitDraft) (ks : List LitDraft) (q : List ℕ) → text_of_pieces (cube_pieces c n (l ∷ k ∷ ks)) ++ q ≡ text_of_pieces (literal_pieces c n l) ++ (codes " and " ++ (text_of_pieces (cube_pieces c n (k ∷ ks)) ++ q))
 cube_more c n l k ks q = text_split (literal_pieces c n l) (plain (codes " and ") ∷ cube_pieces c n (k ∷ ks)) q
 
-others_more : (c : Scope) (n : ℕ) (d : List LitDraft) (ds : List (List LitDraft)) (r : List ℕ) → text_of (each (further_cube c n) (d ∷ ds)) ++ r ≡ codes " or " ++ (text_of (cube_pieces c n d) ++ (text_of (each (further_cube c n) ds) ++ r))
+others_more : (c : Scope) (n : ℕ) (d : List LitDraft) (ds : List (List LitDraft)) (r : List ℕ) → text_of_pieces (each (further_cube c n) (d ∷ ds)) ++ r ≡ codes " or " ++ (text_of_pieces (cube_pieces c n d) ++ (text_of_pieces (each (further_cube c n) ds) ++ r))
 others_more c n d ds r = ap (λ (x : List ℕ). codes " or " ++ x) (text_split (cube_pieces c n d) (each (further_cube c n) ds) r)
 
 -- a literal that is the last piece, or stands before `and`, or before `or`
-last_literal : (joint : Connective) (s t r : List ℕ) (l : LitDraft) → IsLitDraft l → ((c : Scope) (n : ℕ) → s ≡ text_of (literal_pieces c n l) ++ t) → t ≡ r → CubesAt joint s r
+last_literal : (joint : Connective) (s t r : List ℕ) (l : LitDraft) → IsLitDraft l → ((c : Scope) (n : ℕ) → s ≡ text_of_pieces (literal_pieces c n l) ++ t) → t ≡ r → CubesAt joint s r
 last_literal joint s t r l form text e = record {
   cube = l ∷ [];
   others = [];
   cube_form = (form, tt);
   others_form = tt;
   some = λ h. omega arith;
-  text = λ c n. then_text (text_of (literal_pieces c n l)) (text c n) e;
+  text = λ c n. then_text (text_of_pieces (literal_pieces c n l)) (text c n) e;
 }
 
-literal_and : (joint : Connective) (s t r : List ℕ) (l : LitDraft) → IsLitDraft l → ((c : Scope) (n : ℕ) → s ≡ text_of (literal_pieces c n l) ++ (codes " and " ++ t)) → CubesAt And t r → CubesAt joint s r
+literal_and : (joint : Connective) (s t r : List ℕ) (l : LitDraft) → IsLitDraft l → ((c : Scope) (n : ℕ) → s ≡ text_of_pieces (literal_pieces c n l) ++ (codes " and " ++ t)) → CubesAt And t r → CubesAt joint s r
 literal_and joint s t r l form text later = by_cube later.cube (later.some refl) later.cube_form later.text
   where
-    by_cube : (ks : List LitDraft) → 0 < length ks → AllByRecursion IsLitDraft ks → ((c : Scope) (n : ℕ) → t ≡ text_of (cube_pieces c n ks) ++ (text_of (each (further_cube c n) later.others) ++ r)) → CubesAt joint s r
+    by_cube : (ks : List LitDraft) → 0 < length ks → AllByRecursion IsLitDraft ks → ((c : Scope) (n : ℕ) → t ≡ text_of_pieces (cube_pieces c n ks) ++ (text_of_pieces (each (further_cube c n) later.others) ++ r)) → CubesAt joint s r
     by_cube [] some forms rest = absurd (omega arith)
     by_cube (k ∷ ks) some forms rest = record {
       cube = l ∷ k ∷ ks;
@@ -255,17 +255,17 @@ literal_and joint s t r l form text later = by_cube later.cube (later.some refl)
       cube_form = (form, forms);
       others_form = later.others_form;
       some = λ h. omega arith;
-      text = λ c n. then_text (text_of (literal_pieces c n l)) (text c n) (ap (λ (x : List ℕ). codes " and " ++ x) (rest c n)) ∙ sym (cube_more c n l k ks (text_of (each (further_cube c n) later.others) ++ r));
+      text = λ c n. then_text (text_of_pieces (literal_pieces c n l)) (text c n) (ap (λ (x : List ℕ). codes " and " ++ x) (rest c n)) ∙ sym (cube_more c n l k ks (text_of_pieces (each (further_cube c n) later.others) ++ r));
     }
 
-literal_or : (joint : Connective) (s t r : List ℕ) (l : LitDraft) → IsLitDraft l → ((c : Scope) (n : ℕ) → s ≡ text_of (literal_pieces c n l) ++ (codes " or " ++ t)) → CubesAt Or t r → CubesAt joint s r
+literal_or : (joint : Connective) (s t r : List ℕ) (l : LitDraft) → IsLitDraft l → ((c : Scope) (n : ℕ) → s ≡ text_of_pieces (literal_pieces c n l) ++ (codes " or " ++ t)) → CubesAt Or t r → CubesAt joint s r
 literal_or joint s t r l form text later = record {
   cube = l ∷ [];
   others = later.cube ∷ later.others;
   cube_form = (form, tt);
   others_form = (later.cube_form, later.others_form);
   some = λ h. omega arith;
-  text = λ c n. then_text (text_of (literal_pieces c n l)) (text c n) (ap (λ (x : List ℕ). codes " or " ++ x) (later.text c n) ∙ sym (others_more c n later.cube later.others r));
+  text = λ c n. then_text (text_of_pieces (literal_pieces c n l)) (text c n) (ap (λ (x : List ℕ). codes " or " ++ x) (later.text c n) ∙ sym (others_more c n later.cube later.others r));
 }
 
 no_and : (joint : Connective) → is_and joint ≡ false → is_and joint ≡ true → 0 < length (let ls : List LitDraft = [] in ls)
@@ -301,7 +301,7 @@ cubes_of joint s r h (inr other) = absurd (false≢true (sym h ∙ other.0))
 
 -- what follows a piece
 module _ (n : ℕ) (r : List ℕ) (rec : (joint : Connective) (s : List ℕ) → pieces_end n joint s ≡ Ok r → PiecesAt joint s r) where
-  add_literal : (joint : Connective) (s : List ℕ) (l : LitDraft) (found : Option Connective) (t : List ℕ) → IsLitDraft l → Joins found → ((c : Scope) (k : ℕ) → s ≡ text_of (literal_pieces c k l) ++ (joint_text found ++ t)) → onward (pieces_end n) found t ≡ Ok r → CubesAt joint s r
+  add_literal : (joint : Connective) (s : List ℕ) (l : LitDraft) (found : Option Connective) (t : List ℕ) → IsLitDraft l → Joins found → ((c : Scope) (k : ℕ) → s ≡ text_of_pieces (literal_pieces c k l) ++ (joint_text found ++ t)) → onward (pieces_end n) found t ≡ Ok r → CubesAt joint s r
   add_literal joint s l None t form allowed text e = last_literal joint s t r l form text (same_ok e)
   add_literal joint s l (Some Start) t form allowed text e = absurd allowed
   add_literal joint s l (Some And) t form allowed text e = literal_and joint s t r l form text (cubes_of And t r refl (rec And t e))
@@ -344,7 +344,7 @@ record LevelsAt (s r : List ℕ) : Type 0 where
   pub guard : Option ConstraintDraft
   pub levels_form : AllByRecursion IsNumber levels
   pub guard_form : IfSome guard IsConstraintDraft
-  pub text : (c : Scope) (i n : ℕ) → s ≡ text_of (level_pieces i levels ++ guard_pieces c n guard) ++ r
+  pub text : (c : Scope) (i n : ℕ) → s ≡ text_of_pieces (level_pieces i levels ++ guard_pieces c n guard) ++ r
 
 -- binders, and a guard or none
 record TailAt (s r : List ℕ) : Type 0 where
@@ -352,9 +352,9 @@ record TailAt (s r : List ℕ) : Type 0 where
   pub guard : Option ConstraintDraft
   pub binders_form : AllByRecursion IsNumber binders
   pub guard_form : IfSome guard IsConstraintDraft
-  pub text : (c : Scope) (i n : ℕ) → s ≡ text_of (binder_pieces i binders ++ guard_pieces c n guard) ++ r
+  pub text : (c : Scope) (i n : ℕ) → s ≡ text_of_pieces (binder_pieces i binders ++ guard_pieces c n guard) ++ r
 
-guard_spelled : (s r : List ℕ) → guard_end s ≡ Ok r → (g : ConstraintDraft) × IsConstraintDraft g × ((c : Scope) (n : ℕ) → s ≡ codes "if " ++ (text_of (constraint_pieces c n g) ++ r))
+guard_spelled : (s r : List ℕ) → guard_end s ≡ Ok r → (g : ConstraintDraft) × IsConstraintDraft g × ((c : Scope) (n : ℕ) → s ≡ codes "if " ++ (text_of_pieces (constraint_pieces c n g) ++ r))
 unfolding guard_end
 guard_spelled s r e =
     let m = got (fixed_end (codes "if ") s) constraint_end r e in
@@ -362,21 +362,21 @@ guard_spelled s r e =
     (g.draft, g.form, λ c n. then_text (codes "if ") (fixed_back (codes "if ") s m.0 m.1) (g.text c n))
 
 -- behind a space
-guard_behind : (s m r : List ℕ) → s ≡ codes " " ++ m → guard_end m ≡ Ok r → (g : ConstraintDraft) × IsConstraintDraft g × ((c : Scope) (n : ℕ) → s ≡ text_of (guard_pieces c n (Some g)) ++ r)
+guard_behind : (s m r : List ℕ) → s ≡ codes " " ++ m → guard_end m ≡ Ok r → (g : ConstraintDraft) × IsConstraintDraft g × ((c : Scope) (n : ℕ) → s ≡ text_of_pieces (guard_pieces c n (Some g)) ++ r)
 guard_behind s m r split e =
     let g = guard_spelled m r e in
     (g.0, g.1, λ c n. then_text (codes " ") split (g.2 c n) ∙ sym (if_text c n g.0 r))
 
-level_behind : (c : Scope) (i n : ℕ) (b : List ℕ) (bs : List (List ℕ)) (g : Option ConstraintDraft) (r : List ℕ) → text_of (level_pieces i (b ∷ bs) ++ guard_pieces c n g) ++ r ≡ codes " $" ++ (b ++ (text_of (level_pieces (suc i) bs ++ guard_pieces c n g) ++ r))
+level_behind : (c : Scope) (i n : ℕ) (b : List ℕ) (bs : List (List ℕ)) (g : Option ConstraintDraft) (r : List ℕ) → text_of_pieces (level_pieces i (b ∷ bs) ++ guard_pieces c n g) ++ r ≡ codes " $" ++ (b ++ (text_of_pieces (level_pieces (suc i) bs ++ guard_pieces c n g) ++ r))
 level_behind c i n b bs g r =
     text_split (level_pieces i (b ∷ bs)) (guard_pieces c n g) r
-    ∙ level_text b bs i (text_of (guard_pieces c n g) ++ r)
+    ∙ level_text b bs i (text_of_pieces (guard_pieces c n g) ++ r)
     ∙ ap (λ (x : List ℕ). codes " $" ++ (b ++ x)) (sym (text_split (level_pieces (suc i) bs) (guard_pieces c n g) r))
 
-for_behind : (c : Scope) (i n : ℕ) (b : List ℕ) (bs : List (List ℕ)) (g : Option ConstraintDraft) (r : List ℕ) → text_of (binder_pieces i (b ∷ bs) ++ guard_pieces c n g) ++ r ≡ codes " for $" ++ (b ++ (text_of (level_pieces (suc i) bs ++ guard_pieces c n g) ++ r))
+for_behind : (c : Scope) (i n : ℕ) (b : List ℕ) (bs : List (List ℕ)) (g : Option ConstraintDraft) (r : List ℕ) → text_of_pieces (binder_pieces i (b ∷ bs) ++ guard_pieces c n g) ++ r ≡ codes " for $" ++ (b ++ (text_of_pieces (level_pieces (suc i) bs ++ guard_pieces c n g) ++ r))
 for_behind c i n b bs g r =
     text_split (binder_pieces i (b ∷ bs)) (guard_pieces c n g) r
-    ∙ for_text b bs i (text_of (guard_pieces c n g) ++ r)
+    ∙ for_text b bs i (text_of_pieces (guard_pieces c n g) ++ r)
     ∙ ap (λ (x : List ℕ). codes " for $" ++ (b ++ x)) (sym (text_split (level_pieces (suc i) bs) (guard_pieces c n g) r))
 
 no_guard : (s r : List ℕ) → s ≡ r → LevelsAt s r
@@ -491,7 +491,7 @@ module _ (d : ℕ) (t : List ℕ → End) (one : (s r : List ℕ) → t s ≡ Ok
   unfolding more_parts_end
   more_parts_spelled s r e =
       let xs = many_spelled 44 (λ q. fixed_end (codes ", ") q >>= t) (IsTermDraft d) further_part further_spelled (suc (length s)) s r e in
-      record { draft = parts_from xs.draft; form = parts_form d xs.draft xs.form; text = λ c n. xs.text c n ∙ ap (λ (ps : List Piece). text_of ps ++ r) (sym (parts_pieces c n xs.draft)) }
+      record { draft = parts_from xs.draft; form = parts_form d xs.draft xs.form; text = λ c n. xs.text c n ∙ ap (λ (ps : List Piece). text_of_pieces ps ++ r) (sym (parts_pieces c n xs.draft)) }
 
   tuple_spelled : (s r : List ℕ) → tuple_end t s ≡ Ok r → Spelled (IsTermDraft (suc d)) term_pieces s r
   unfolding tuple_end
@@ -508,10 +508,10 @@ module _ (d : ℕ) (t : List ℕ → End) (one : (s r : List ℕ) → t s ≡ Ok
         draft = tuple (term x.draft (term y.draft zs.draft));
         form = (omega arith, (x.form, (y.form, zs.form)));
         text = λ c n. then_text (codes "(") (fixed_back (codes "(") s j.0 j.1)
-            (then_text (text_of (term_pieces c n x.draft)) (x.text c n)
+            (then_text (text_of_pieces (term_pieces c n x.draft)) (x.text c n)
             (then_text (codes ", ") (fixed_back (codes ", ") i.0 h.0 i.2)
-            (then_text (text_of (term_pieces c n y.draft)) (y.text c n)
-            (then_text (text_of (part_pieces c n comma zs.draft)) (zs.text c n) (fixed_back (codes ")") f.0 r f.2)))))
+            (then_text (text_of_pieces (term_pieces c n y.draft)) (y.text c n)
+            (then_text (text_of_pieces (part_pieces c n comma zs.draft)) (zs.text c n) (fixed_back (codes ")") f.0 r f.2)))))
             ∙ sym (tuple_text c n x.draft y.draft zs.draft r);
       }
 
@@ -524,7 +524,7 @@ module _ (d : ℕ) (t : List ℕ → End) (one : (s r : List ℕ) → t s ≡ Ok
       record {
         draft = comp x.draft y.binders y.guard;
         form = (x.form, y.binders_form, y.guard_form);
-        text = λ c n. then_text (text_of (term_pieces c (n + length y.binders) x.draft)) (x.text c (n + length y.binders)) (y.text c n (n + length y.binders)) ∙ sym (comp_text c n x.draft y.binders y.guard r);
+        text = λ c n. then_text (text_of_pieces (term_pieces c (n + length y.binders) x.draft)) (x.text c (n + length y.binders)) (y.text c n (n + length y.binders)) ∙ sym (comp_text c n x.draft y.binders y.guard r);
       }
 
   further_comp_spelled : (s r : List ℕ) → (fixed_end (codes ", ") s >>= comp_end t) ≡ Ok r → Spelled (IsCompDraft d) further_item s r
@@ -537,7 +537,7 @@ module _ (d : ℕ) (t : List ℕ → End) (one : (s r : List ℕ) → t s ≡ Ok
   unfolding more_comps_end
   more_comps_spelled s r e =
       let xs = many_spelled 44 (λ q. fixed_end (codes ", ") q >>= comp_end t) (IsCompDraft d) further_item further_comp_spelled (suc (length s)) s r e in
-      record { draft = items_from xs.draft; form = items_form d xs.draft xs.form; text = λ c n. xs.text c n ∙ ap (λ (ps : List Piece). text_of ps ++ r) (sym (items_pieces c n xs.draft)) }
+      record { draft = items_from xs.draft; form = items_form d xs.draft xs.form; text = λ c n. xs.text c n ∙ ap (λ (ps : List Piece). text_of_pieces ps ++ r) (sym (items_pieces c n xs.draft)) }
 
   -- behind the brace
   items_spelled : (s r : List ℕ) → items_end t s ≡ Ok r → Spelled (IsTermDraft (suc d)) term_pieces (codes "{" ++ s) r
@@ -551,8 +551,8 @@ module _ (d : ℕ) (t : List ℕ → End) (one : (s r : List ℕ) → t s ≡ Ok
         draft = set (more x.draft ys.draft);
         form = (x.form, ys.form);
         text = λ c n. ap (λ (y : List ℕ). codes "{" ++ y)
-            (then_text (text_of (comp_pieces c n x.draft)) (x.text c n)
-            (then_text (text_of (item_pieces c n comma ys.draft)) (ys.text c n) (fixed_back (codes "}") f.0 r f.2)))
+            (then_text (text_of_pieces (comp_pieces c n x.draft)) (x.text c n)
+            (then_text (text_of_pieces (item_pieces c n comma ys.draft)) (ys.text c n) (fixed_back (codes "}") f.0 r f.2)))
             ∙ sym (set_text c n x.draft ys.draft r);
       }
 

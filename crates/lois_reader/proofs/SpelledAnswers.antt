@@ -11,11 +11,11 @@ use Rattle.lois_answers.specs.declared.faults.FaultKind.TheVariants.{Assertion, 
 use Rattle.lois_reader.specs.declared.scope.Scope.{Scope}
 use Rattle.lois_reader.specs.Draft.{ConstraintDraft, TermDraft, LineDraft, CaseDraft, ResultsDraft, TraceDraft, IsWord, IsNumber, IsConstraintDraft, IsTermDraft, IsLineDraft, IsCaseDraft, IsResultsDraft, IsTraceDraft}
 use Rattle.lois_reader.specs.Draft as draft
-use Rattle.lois_reader.specs.Pieces.{Piece, each, constraint_pieces, term_pieces, line_pieces, case_pieces, name_pieces, last_line, failure_pieces}
-use Rattle.lois_reader.specs.Shape.{text_of, HasResultsShape, HasAnswerShape}
+use Rattle.lois_reader.specs.Pieces.{Piece, each, constraint_pieces, term_pieces, line_pieces, case_pieces, name_pieces, end_piece, failure_pieces}
+use Rattle.lois_reader.specs.Shape.{text_of_pieces, HasResultsShape, HasAnswerShape}
 use Rattle.lois_reader.specs.Reading.{◌>>=◌, End, begins}
 use Rattle.lois_reader.specs.Ends.{fixed_end, word_at, word_end, number_end, many_end, constraint_end, term_end}
-use Rattle.lois_reader.specs.AnswerEnds.{structure_end, name_end, names_end, head_end, when_end, body_end, behind_case, assigned_end, behind_word, entry_at, opening_at, entries_end, cases_end, not_a_end, not_end, no_end, kind_end, failure_end, choice_number_end, numbers_end, choice_end, element_end, elements_end, trace_end, results_end, whole, results_text_end, version_end, answer_text_end}
+use Rattle.lois_reader.specs.AnswerEnds.{structure_end, name_end, names_end, head_end, when_end, body_end, behind_case, assigned_end, behind_word, entry_at, opening_at, entries_end, cases_end, not_a_end, not_end, no_end, kind_end, failure_end, choice_number_end, numbers_end, choice_end, element_end, elements_end, trace_end, results_end, ends_text, results_text_end, version_end, answer_text_end}
 use Rattle.lois_reader.proofs.Outcome.{text_append, text_split}
 use Rattle.lois_reader.proofs.Backs.{no_ok, same_ok, got, fixed_back, word_back, word_at_back, number_back}
 use Rattle.lois_reader.proofs.AnswerFronts.{name_text, head_rest, head_text, line_text, case_text, results_rest, results_rest_is, results_rest_text}
@@ -34,7 +34,7 @@ name_spelled s r e =
 record NamesAt (s r : List ℕ) : Type 0 where
   pub names : List (List ℕ)
   pub form : AllByRecursion IsWord names
-  pub text : (before : List (List ℕ)) → s ≡ text_of (name_pieces before names) ++ r
+  pub text : (before : List (List ℕ)) → s ≡ text_of_pieces (name_pieces before names) ++ r
 
 many_names : (n : ℕ) (s r : List ℕ) → many_end (begins 32) name_end n s ≡ Ok r → NamesAt s r
 many_names zero s r e = absurd (no_ok e)
@@ -66,7 +66,7 @@ structure_spelled s r e =
 record HeadAt (s r : List ℕ) : Type 0 where
   pub scope : Scope
   pub form : AllByRecursion IsWord scope.names
-  pub text : s ≡ text_of (head_rest scope) ++ r
+  pub text : s ≡ text_of_pieces (head_rest scope) ++ r
 
 head_spelled : (s r : List ℕ) → head_end s ≡ Ok r → HeadAt s r
 unfolding head_end
@@ -82,7 +82,7 @@ head_spelled s r e =
       scope = scope;
       form = ns.form;
       text = fixed_back (codes "\natoms ") s i.0 i.1 ∙ o.1
-          ∙ ap (λ (x : List ℕ). codes "\n" ++ (structure_text o.0 ++ x)) (then_text (codes "parameters") (fixed_back (codes "parameters") h.0 g.0 h.2) (then_text (text_of (name_pieces [] ns.names)) (ns.text []) (fixed_back (codes "\n") f.0 r f.2)))
+          ∙ ap (λ (x : List ℕ). codes "\n" ++ (structure_text o.0 ++ x)) (then_text (codes "parameters") (fixed_back (codes "parameters") h.0 g.0 h.2) (then_text (text_of_pieces (name_pieces [] ns.names)) (ns.text []) (fixed_back (codes "\n") f.0 r f.2)))
           ∙ sym (head_text scope r);
     }
 
@@ -91,38 +91,38 @@ head_spelled s r e =
 record TermAt (s r : List ℕ) : Type 0 where
   pub term : TermDraft
   pub form : IsTermDraft 64 term
-  pub text : (c : Scope) (n : ℕ) → s ≡ text_of (term_pieces c n term) ++ (codes "\n" ++ r)
+  pub text : (c : Scope) (n : ℕ) → s ≡ text_of_pieces (term_pieces c n term) ++ (codes "\n" ++ r)
 
 record WhenAt (s r : List ℕ) : Type 0 where
   pub guard : ConstraintDraft
   pub form : IsConstraintDraft guard
-  pub text : (c : Scope) (n : ℕ) → s ≡ text_of (constraint_pieces c n guard) ++ (codes "\n" ++ r)
+  pub text : (c : Scope) (n : ℕ) → s ≡ text_of_pieces (constraint_pieces c n guard) ++ (codes "\n" ++ r)
 
 body_spelled : (s r : List ℕ) → body_end s ≡ Ok r → TermAt s r
 unfolding body_end
 body_spelled s r e =
     let m = got (term_end 64 s) (fixed_end (codes "\n")) r e in
     let t = term_spelled 64 s m.0 m.1 in
-    record { term = t.draft; form = t.form; text = λ c n. then_text (text_of (term_pieces c n t.draft)) (t.text c n) (fixed_back (codes "\n") m.0 r m.2) }
+    record { term = t.draft; form = t.form; text = λ c n. then_text (text_of_pieces (term_pieces c n t.draft)) (t.text c n) (fixed_back (codes "\n") m.0 r m.2) }
 
 when_spelled : (s r : List ℕ) → when_end s ≡ Ok r → WhenAt s r
 unfolding when_end
 when_spelled s r e =
     let m = got (constraint_end s) (fixed_end (codes "\n")) r e in
     let g = constraint_spelled s m.0 m.1 in
-    record { guard = g.draft; form = g.form; text = λ c n. then_text (text_of (constraint_pieces c n g.draft)) (g.text c n) (fixed_back (codes "\n") m.0 r m.2) }
+    record { guard = g.draft; form = g.form; text = λ c n. then_text (text_of_pieces (constraint_pieces c n g.draft)) (g.text c n) (fixed_back (codes "\n") m.0 r m.2) }
 
 -- behind the name of a line
 record AssignedAt (s r : List ℕ) : Type 0 where
   pub term : TermDraft
   pub form : IsTermDraft 64 term
-  pub text : (c : Scope) (n : ℕ) → s ≡ codes " = " ++ (text_of (term_pieces c n term) ++ (codes "\n" ++ r))
+  pub text : (c : Scope) (n : ℕ) → s ≡ codes " = " ++ (text_of_pieces (term_pieces c n term) ++ (codes "\n" ++ r))
 
 -- behind `case`
 record CaseAt (s r : List ℕ) : Type 0 where
   pub guard : ConstraintDraft
   pub form : IsConstraintDraft guard
-  pub text : (c : Scope) (n : ℕ) → s ≡ codes " when " ++ (text_of (constraint_pieces c n guard) ++ (codes "\n" ++ r))
+  pub text : (c : Scope) (n : ℕ) → s ≡ codes " when " ++ (text_of_pieces (constraint_pieces c n guard) ++ (codes "\n" ++ r))
 
 assigned_spelled : (s r : List ℕ) → assigned_end s ≡ Ok r → AssignedAt s r
 unfolding assigned_end
@@ -160,8 +160,8 @@ word_spelled w s r e =
 -- A line inside a case: the last of the text, one with a name, or the first of a case.
 data EntryAt (s : List ℕ) : Bool → List ℕ → Type 0 where
   last : {r : List ℕ} → s ≡ codes "end\n" ++ r → EntryAt s false r
-  line : {r : List ℕ} (l : LineDraft) → IsLineDraft l → ((c : Scope) (n : ℕ) → s ≡ text_of (line_pieces c n l) ++ r) → EntryAt s true r
-  opens : {r : List ℕ} (g : ConstraintDraft) → IsConstraintDraft g → ((c : Scope) (n : ℕ) → s ≡ codes "case when " ++ (text_of (constraint_pieces c n g) ++ (codes "\n" ++ r))) → EntryAt s true r
+  line : {r : List ℕ} (l : LineDraft) → IsLineDraft l → ((c : Scope) (n : ℕ) → s ≡ text_of_pieces (line_pieces c n l) ++ r) → EntryAt s true r
+  opens : {r : List ℕ} (g : ConstraintDraft) → IsConstraintDraft g → ((c : Scope) (n : ℕ) → s ≡ codes "case when " ++ (text_of_pieces (constraint_pieces c n g) ++ (codes "\n" ++ r))) → EntryAt s true r
 
 entry_of : (w s t r : List ℕ) → IsWord w → s ≡ w ++ t → BehindWord w t r → EntryAt s true r
 entry_of w s t r form split (assigned h) =
@@ -195,7 +195,7 @@ record LinesAt (s r : List ℕ) : Type 0 where
   pub cases : List CaseDraft
   pub lines_form : AllByRecursion IsLineDraft lines
   pub cases_form : AllByRecursion IsCaseDraft cases
-  pub text : (c : Scope) → s ≡ text_of (each (line_pieces c (length c.names)) lines) ++ (text_of (each (case_pieces c) cases) ++ (codes "end\n" ++ r))
+  pub text : (c : Scope) → s ≡ text_of_pieces (each (line_pieces c (length c.names)) lines) ++ (text_of_pieces (each (case_pieces c) cases) ++ (codes "end\n" ++ r))
 
 add_entry : (n : ℕ) (r : List ℕ) → ((s : List ℕ) → entries_end n s ≡ Ok r → LinesAt s r) → (s : List ℕ) (goes_on : Bool) (t : List ℕ) → EntryAt s goes_on t → cond goes_on (entries_end n t) (Ok t) ≡ Ok r → LinesAt s r
 add_entry n r rec s false t (last split) e = record { lines = []; cases = []; lines_form = tt; cases_form = tt; text = λ c. split ∙ ap (λ (x : List ℕ). codes "end\n" ++ x) (same_ok e) }
@@ -206,8 +206,8 @@ add_entry n r rec s true t (line l form text) e =
       cases = later.cases;
       lines_form = (form, later.lines_form);
       cases_form = later.cases_form;
-      text = λ c. then_text (text_of (line_pieces c (length c.names) l)) (text c (length c.names)) (later.text c)
-          ∙ sym (text_split (line_pieces c (length c.names) l) (each (line_pieces c (length c.names)) later.lines) (text_of (each (case_pieces c) later.cases) ++ (codes "end\n" ++ r)));
+      text = λ c. then_text (text_of_pieces (line_pieces c (length c.names) l)) (text c (length c.names)) (later.text c)
+          ∙ sym (text_split (line_pieces c (length c.names) l) (each (line_pieces c (length c.names)) later.lines) (text_of_pieces (each (case_pieces c) later.cases) ++ (codes "end\n" ++ r)));
     }
 add_entry n r rec s true t (opens g form text) e =
     let later = rec t e in
@@ -218,8 +218,8 @@ add_entry n r rec s true t (opens g form text) e =
       lines_form = tt;
       cases_form = ((form, later.lines_form), later.cases_form);
       text = λ c. text c (length c.names)
-          ∙ ap (λ (x : List ℕ). codes "case when " ++ (text_of (constraint_pieces c (length c.names) g) ++ (codes "\n" ++ x))) (later.text c)
-          ∙ sym (case_text c k (text_of (each (case_pieces c) later.cases) ++ (codes "end\n" ++ r)))
+          ∙ ap (λ (x : List ℕ). codes "case when " ++ (text_of_pieces (constraint_pieces c (length c.names) g) ++ (codes "\n" ++ x))) (later.text c)
+          ∙ sym (case_text c k (text_of_pieces (each (case_pieces c) later.cases) ++ (codes "end\n" ++ r)))
           ∙ sym (text_split (case_pieces c k) (each (case_pieces c) later.cases) (codes "end\n" ++ r));
     }
 
@@ -232,7 +232,7 @@ lines_spelled (suc n) r s e =
 record CasesAt (s r : List ℕ) : Type 0 where
   pub cases : List CaseDraft
   pub form : AllByRecursion IsCaseDraft cases
-  pub text : (c : Scope) → s ≡ text_of (each (case_pieces c) cases) ++ (codes "end\n" ++ r)
+  pub text : (c : Scope) → s ≡ text_of_pieces (each (case_pieces c) cases) ++ (codes "end\n" ++ r)
 
 first_case : (s t r : List ℕ) → WhenAt t r → s ≡ codes "case when " ++ t → (u : List ℕ) → LinesAt r u → CasesAt s u
 first_case s t r g split u later =
@@ -241,8 +241,8 @@ first_case s t r g split u later =
       cases = k ∷ later.cases;
       form = ((g.form, later.lines_form), later.cases_form);
       text = λ c. then_text (codes "case when ") split (g.text c (length c.names))
-          ∙ ap (λ (x : List ℕ). codes "case when " ++ (text_of (constraint_pieces c (length c.names) g.guard) ++ (codes "\n" ++ x))) (later.text c)
-          ∙ sym (case_text c k (text_of (each (case_pieces c) later.cases) ++ (codes "end\n" ++ u)))
+          ∙ ap (λ (x : List ℕ). codes "case when " ++ (text_of_pieces (constraint_pieces c (length c.names) g.guard) ++ (codes "\n" ++ x))) (later.text c)
+          ∙ sym (case_text c k (text_of_pieces (each (case_pieces c) later.cases) ++ (codes "end\n" ++ u)))
           ∙ sym (text_split (case_pieces c k) (each (case_pieces c) later.cases) (codes "end\n" ++ u));
     }
 
@@ -269,14 +269,14 @@ cases_spelled s r e =
 
 -- ---- results
 
-whole_spelled : (s r : List ℕ) → whole s ≡ Ok r → s ≡ []
+whole_spelled : (s r : List ℕ) → ends_text s ≡ Ok r → s ≡ []
 whole_spelled [] r e = refl
 whole_spelled (b ∷ s) r e = absurd (no_ok e)
 
 record ResultsAt (s : List ℕ) : Type 0 where
   pub draft : ResultsDraft
   pub form : IsResultsDraft draft
-  pub text : s ≡ text_of (results_rest draft)
+  pub text : s ≡ text_of_pieces (results_rest draft)
 
 results_spelled : (s : List ℕ) → results_end s ≡ Ok [] → ResultsAt s
 unfolding results_end
@@ -285,16 +285,16 @@ results_spelled s e =
     let h = head_spelled s m.0 m.1 in
     let cs = cases_spelled m.0 [] m.2 in
     let d : ResultsDraft = record { ordered = h.scope.ordered; parameters = h.scope.names; cases = cs.cases } in
-    record { draft = d; form = record { parameters = h.form; cases = cs.form }; text = then_text (text_of (head_rest h.scope)) h.text (cs.text h.scope) ∙ sym (results_rest_text d) }
+    record { draft = d; form = record { parameters = h.form; cases = cs.form }; text = then_text (text_of_pieces (head_rest h.scope)) h.text (cs.text h.scope) ∙ sym (results_rest_text d) }
 
 results_shape : (s t : List ℕ) → s ≡ codes "lois results 1" ++ t → ResultsAt t → HasResultsShape s
 results_shape s t split h =
-    (h.draft, record { form = h.form; spelled = ap (λ (ps : List Piece). text_of ps) (results_rest_is h.draft) ∙ sym (then_text (codes "lois results 1") split h.text) })
+    (h.draft, record { form = h.form; spelled = ap (λ (ps : List Piece). text_of_pieces ps) (results_rest_is h.draft) ∙ sym (then_text (codes "lois results 1") split h.text) })
 
 pub results_text_spelled : (s : List ℕ) → results_text_end s ≡ Ok [] → HasResultsShape s
 unfolding results_text_end
 results_text_spelled s e =
-    let m = got (fixed_end (codes "lois results 1") s >>= results_end) whole [] e in
+    let m = got (fixed_end (codes "lois results 1") s >>= results_end) ends_text [] e in
     let k = got (fixed_end (codes "lois results 1") s) results_end m.0 m.1 in
     results_shape s k.0 (fixed_back (codes "lois results 1") s k.0 k.1) (results_spelled k.0 (k.2 ∙ ap (λ (x : List ℕ). Ok x) (whole_spelled m.0 [] m.2)))
 
@@ -391,7 +391,7 @@ number_spelled s r e =
 record ChoiceAt (s r : List ℕ) : Type 0 where
   pub choice : List (List ℕ)
   pub form : AllByRecursion IsNumber choice
-  pub text : Scope → s ≡ codes "choice" ++ (text_of (each number_pieces choice) ++ (codes "\n" ++ r))
+  pub text : Scope → s ≡ codes "choice" ++ (text_of_pieces (each number_pieces choice) ++ (codes "\n" ++ r))
 
 choice_spelled : (s r : List ℕ) → choice_end s ≡ Ok r → ChoiceAt s r
 unfolding choice_end numbers_end
@@ -402,7 +402,7 @@ choice_spelled s r e =
     record {
       choice = ns.draft;
       form = ns.form;
-      text = λ c. then_text (codes "choice") (fixed_back (codes "choice") s g.0 g.1) (then_text (text_of (each number_pieces ns.draft)) (ns.text c 0) (fixed_back (codes "\n") f.0 r f.2));
+      text = λ c. then_text (codes "choice") (fixed_back (codes "choice") s g.0 g.1) (then_text (text_of_pieces (each number_pieces ns.draft)) (ns.text c 0) (fixed_back (codes "\n") f.0 r f.2));
     }
 
 element_spelled : (s r : List ℕ) → element_end s ≡ Ok r → Spelled IsLineDraft element_pieces s r
@@ -423,18 +423,18 @@ elements_spelled : (s r : List ℕ) → elements_end s ≡ Ok r → Spelled (All
 unfolding elements_end
 elements_spelled s r e = many_spelled 102 element_end IsLineDraft element_pieces element_spelled (suc (length s)) s r e
 
-trace_rest_text : (t : TraceDraft) → text_of (trace_rest t) ≡ text_of (head_rest (trace_scope t)) ++ (text_of (failure_pieces t) ++ (text_of (choice_line t) ++ (text_of (elements_of t) ++ codes "end\n")))
+trace_rest_text : (t : TraceDraft) → text_of_pieces (trace_rest t) ≡ text_of_pieces (head_rest (trace_scope t)) ++ (text_of_pieces (failure_pieces t) ++ (text_of_pieces (choice_line t) ++ (text_of_pieces (elements_of t) ++ codes "end\n")))
 trace_rest_text t =
-    text_append (head_rest (trace_scope t)) (failure_pieces t ++ (choice_line t ++ (elements_of t ++ last_line ∷ [])))
-    ∙ ap (λ (x : List ℕ). text_of (head_rest (trace_scope t)) ++ x)
-    (text_append (failure_pieces t) (choice_line t ++ (elements_of t ++ last_line ∷ []))
-    ∙ ap (λ (x : List ℕ). text_of (failure_pieces t) ++ x)
-    (text_append (choice_line t) (elements_of t ++ last_line ∷ []) ∙ ap (λ (x : List ℕ). text_of (choice_line t) ++ x) (text_append (elements_of t) (last_line ∷ []))))
+    text_append (head_rest (trace_scope t)) (failure_pieces t ++ (choice_line t ++ (elements_of t ++ end_piece ∷ [])))
+    ∙ ap (λ (x : List ℕ). text_of_pieces (head_rest (trace_scope t)) ++ x)
+    (text_append (failure_pieces t) (choice_line t ++ (elements_of t ++ end_piece ∷ []))
+    ∙ ap (λ (x : List ℕ). text_of_pieces (failure_pieces t) ++ x)
+    (text_append (choice_line t) (elements_of t ++ end_piece ∷ []) ∙ ap (λ (x : List ℕ). text_of_pieces (choice_line t) ++ x) (text_append (elements_of t) (end_piece ∷ []))))
 
 record TraceAt (s : List ℕ) : Type 0 where
   pub draft : TraceDraft
   pub form : IsTraceDraft draft
-  pub text : s ≡ text_of (trace_rest draft)
+  pub text : s ≡ text_of_pieces (trace_rest draft)
 
 trace_spelled : (s : List ℕ) → trace_end s ≡ Ok [] → TraceAt s
 unfolding trace_end
@@ -451,16 +451,16 @@ trace_spelled s e =
     record {
       draft = t;
       form = record { parameters = h.form; line = f.line_form; column = f.column_form; choice = ns.form; elements = xs.form };
-      text = then_text (text_of (head_rest h.scope)) h.text
-          (then_text (text_of (failure_pieces t)) (f.text ∙ sym (failure_text t c.0))
-          (then_text (text_of (choice_line t)) (ns.text h.scope ∙ sym (choice_text t b.0))
-          (then_text (text_of (elements_of t)) (xs.text h.scope (length ns.choice)) (fixed_back (codes "end\n") a.0 [] a.2))))
+      text = then_text (text_of_pieces (head_rest h.scope)) h.text
+          (then_text (text_of_pieces (failure_pieces t)) (f.text ∙ sym (failure_text t c.0))
+          (then_text (text_of_pieces (choice_line t)) (ns.text h.scope ∙ sym (choice_text t b.0))
+          (then_text (text_of_pieces (elements_of t)) (xs.text h.scope (length ns.choice)) (fixed_back (codes "end\n") a.0 [] a.2))))
           ∙ sym (trace_rest_text t);
     }
 
 trace_shape : (s t : List ℕ) → s ≡ codes "lois results 2" ++ t → TraceAt t → HasAnswerShape s
 trace_shape s t split h =
-    (draft.trace h.draft, record { form = h.form; spelled = ap (λ (ps : List Piece). text_of ps) (trace_rest_is h.draft) ∙ sym (then_text (codes "lois results 2") split h.text) })
+    (draft.trace h.draft, record { form = h.form; spelled = ap (λ (ps : List Piece). text_of_pieces ps) (trace_rest_is h.draft) ∙ sym (then_text (codes "lois results 2") split h.text) })
 
 results_as_answer : (s : List ℕ) → HasResultsShape s → HasAnswerShape s
 results_as_answer s h = (draft.results h.0, record { form = h.1.form; spelled = h.1.spelled })
@@ -478,6 +478,6 @@ version_spelled s t split e =
 pub answer_text_spelled : (s : List ℕ) → answer_text_end s ≡ Ok [] → HasAnswerShape s
 unfolding answer_text_end
 answer_text_spelled s e =
-    let m = got (fixed_end (codes "lois results ") s >>= version_end) whole [] e in
+    let m = got (fixed_end (codes "lois results ") s >>= version_end) ends_text [] e in
     let k = got (fixed_end (codes "lois results ") s) version_end m.0 m.1 in
     version_spelled s k.0 (fixed_back (codes "lois results ") s k.0 k.1) (k.2 ∙ ap (λ (x : List ℕ). Ok x) (whole_spelled m.0 [] m.2))

@@ -18,9 +18,9 @@ use Rattle.lois_answers.specs.declared.faults.Trace.{Trace}
 use Rattle.lois_reader.specs.declared.scope.Scope.{Scope}
 use Rattle.lois_reader.specs.Draft.{LineDraft, TraceDraft, AnswerDraft, IsNumber, IsTraceDraft}
 use Rattle.lois_reader.specs.Draft as draft
-use Rattle.lois_reader.specs.Pieces.{Piece, plain, ruled, each, value, term_pieces, line_end, line_pieces, last_line, failure_pieces, trace_pieces, answer_pieces}
+use Rattle.lois_reader.specs.Pieces.{Piece, plain, ruled, each, value, term_pieces, line_end, line_pieces, end_piece, failure_pieces, trace_pieces, answer_pieces}
 use Rattle.lois_reader.specs.Refusal.{IsSoundAnswer, answer_reading}
-use Rattle.lois_reader.specs.Shape.{text_of}
+use Rattle.lois_reader.specs.Shape.{text_of_pieces}
 use Rattle.lois_reader.specs.Reading.{◌>>=◌}
 use Rattle.lois_reader.proofs.Outcome.{text_append}
 use Rattle.lois_reader.proofs.AnswerFronts.{head_rest}
@@ -43,23 +43,23 @@ trace_draft t = record {
 
 -- ---- texts
 
-numbers_text : (sample : List ℕ) → text_of (each number_pieces (map decimal sample)) ≡ flat_map (λ a. rt.spaced (decimal a)) sample
-numbers_text sample = ap text_of (each_map number_pieces decimal sample) ∙ each_flat (λ a. number_pieces (decimal a)) (λ a. rt.spaced (decimal a)) (λ a. ap (λ (x : List ℕ). codes " " ++ x) (append-nil (decimal a))) sample
+numbers_text : (sample : List ℕ) → text_of_pieces (each number_pieces (map decimal sample)) ≡ flat_map (λ a. rt.spaced (decimal a)) sample
+numbers_text sample = ap text_of_pieces (each_map number_pieces decimal sample) ∙ each_flat (λ a. number_pieces (decimal a)) (λ a. rt.spaced (decimal a)) (λ a. ap (λ (x : List ℕ). codes " " ++ x) (append-nil (decimal a))) sample
 
 -- the levels asked of an element's pieces don't change its bytes
-element_text : (s : Scope) (k n : ℕ) (l : LineD) → text_of (element_pieces s k (line_draft s.names n l)) ≡ tt_.element_text s.names n l
+element_text : (s : Scope) (k n : ℕ) (l : LineD) → text_of_pieces (element_pieces s k (line_draft s.names n l)) ≡ tt_.element_text s.names n l
 element_text s k n l =
     let t : List ℕ = texts.term_text s.names n l.term in
     ap (λ (x : List ℕ). codes "for " ++ (l.name ++ (codes " = " ++ x))) (text_append (term_pieces s k (term_draft s.names n l.term)) (line_end ∷ []) ∙ ap (λ (x : List ℕ). x ++ codes "\n") (term_text s k n l.term))
     ∙ ap (λ (x : List ℕ). codes "for " ++ x) (line_regroup l.name (codes " = ") t (codes "\n"))
 
-elements_text : (s : Scope) (k n : ℕ) (ls : List LineD) → text_of (each (element_pieces s k) (map (line_draft s.names n) ls)) ≡ flat_map (tt_.element_text s.names n) ls
-elements_text s k n ls = ap text_of (each_map (element_pieces s k) (line_draft s.names n) ls) ∙ each_flat (λ l. element_pieces s k (line_draft s.names n l)) (tt_.element_text s.names n) (element_text s k n) ls
+elements_text : (s : Scope) (k n : ℕ) (ls : List LineD) → text_of_pieces (each (element_pieces s k) (map (line_draft s.names n) ls)) ≡ flat_map (tt_.element_text s.names n) ls
+elements_text s k n ls = ap text_of_pieces (each_map (element_pieces s k) (line_draft s.names n) ls) ∙ each_flat (λ l. element_pieces s k (line_draft s.names n l)) (tt_.element_text s.names n) (element_text s k n) ls
 
 regroup : (a o p n l f x b y c k w m e z : List ℕ) → a ++ ((o ++ (p ++ (n ++ l))) ++ ((f ++ (x ++ (b ++ (y ++ ((c ++ k) ++ (l ++ [])))))) ++ (((w ++ m) ++ l) ++ (e ++ z)))) ≡ (((((a ++ o) ++ ((p ++ n) ++ l)) ++ ((((((f ++ x) ++ b) ++ y) ++ c) ++ k) ++ l)) ++ ((w ++ m) ++ l)) ++ e) ++ z
 regroup a o p n l f x b y c k w m e z = simp append_assoc
 
-pub trace_text_is : (t : Trace) → text_of (trace_pieces (trace_draft t)) ≡ tt_.trace_text t
+pub trace_text_is : (t : Trace) → text_of_pieces (trace_pieces (trace_draft t)) ≡ tt_.trace_text t
 trace_text_is t =
     let d : TraceDraft = trace_draft t in
     let s : Scope = trace_scope (trace_draft t) in
@@ -67,17 +67,17 @@ trace_text_is t =
     let numbers : List ℕ = flat_map (λ a. rt.spaced (decimal a)) t.sample in
     let names : List ℕ = flat_map rt.spaced t.parameters in
     let elements_piece : List Piece = elements_of (trace_draft t) in
-    let tail_is : text_of (elements_of (trace_draft t) ++ last_line ∷ []) ≡ flat_map (tt_.element_text t.parameters (length t.sample)) t.elements ++ codes "end\n" = text_append elements_piece (last_line ∷ []) ∙ ap (λ (x : List ℕ). x ++ codes "end\n") (elements_text s (length (map decimal t.sample)) (length t.sample) t.elements) in
-    let choice_is : text_of (choice_line (trace_draft t)) ≡ (codes "choice" ++ flat_map (λ a. rt.spaced (decimal a)) t.sample) ++ codes "\n" = text_append (plain (codes "choice") ∷ each number_pieces (map decimal t.sample)) (ruled (nat_le (length t.parameters) (length (map decimal t.sample))) (codes "\n") ∷ []) ∙ ap (λ (x : List ℕ). (codes "choice" ++ x) ++ codes "\n") (numbers_text t.sample) in
-    ap text_of (trace_rest_is d)
+    let tail_is : text_of_pieces (elements_of (trace_draft t) ++ end_piece ∷ []) ≡ flat_map (tt_.element_text t.parameters (length t.sample)) t.elements ++ codes "end\n" = text_append elements_piece (end_piece ∷ []) ∙ ap (λ (x : List ℕ). x ++ codes "end\n") (elements_text s (length (map decimal t.sample)) (length t.sample) t.elements) in
+    let choice_is : text_of_pieces (choice_line (trace_draft t)) ≡ (codes "choice" ++ flat_map (λ a. rt.spaced (decimal a)) t.sample) ++ codes "\n" = text_append (plain (codes "choice") ∷ each number_pieces (map decimal t.sample)) (ruled (nat_le (length t.parameters) (length (map decimal t.sample))) (codes "\n") ∷ []) ∙ ap (λ (x : List ℕ). (codes "choice" ++ x) ++ codes "\n") (numbers_text t.sample) in
+    ap text_of_pieces (trace_rest_is d)
     ∙ ap (λ (x : List ℕ). codes "lois results 2" ++ x)
-    (text_append (head_rest s) (failure_pieces d ++ (choice_line d ++ (elements_piece ++ last_line ∷ [])))
-    ∙ ap (λ (x : List ℕ). x ++ text_of (failure_pieces d ++ (choice_line d ++ (elements_piece ++ last_line ∷ [])))) (head_rest_text s)
+    (text_append (head_rest s) (failure_pieces d ++ (choice_line d ++ (elements_piece ++ end_piece ∷ [])))
+    ∙ ap (λ (x : List ℕ). x ++ text_of_pieces (failure_pieces d ++ (choice_line d ++ (elements_piece ++ end_piece ∷ [])))) (head_rest_text s)
     ∙ ap (λ (x : List ℕ). (codes "\n" ++ (rt.structure_text t.order ++ (codes "parameters" ++ (names ++ codes "\n")))) ++ x)
-    (text_append (failure_pieces d) (choice_line d ++ (elements_piece ++ last_line ∷ []))
-    ∙ ap (λ (x : List ℕ). text_of (failure_pieces d) ++ x)
-    (text_append (choice_line d) (elements_piece ++ last_line ∷ [])
-    ∙ ap (λ (x : List ℕ). x ++ text_of (elements_piece ++ last_line ∷ [])) choice_is
+    (text_append (failure_pieces d) (choice_line d ++ (elements_piece ++ end_piece ∷ []))
+    ∙ ap (λ (x : List ℕ). text_of_pieces (failure_pieces d) ++ x)
+    (text_append (choice_line d) (elements_piece ++ end_piece ∷ [])
+    ∙ ap (λ (x : List ℕ). x ++ text_of_pieces (elements_piece ++ end_piece ∷ [])) choice_is
     ∙ ap (λ (x : List ℕ). ((codes "choice" ++ numbers) ++ codes "\n") ++ x) tail_is)))
     ∙ regroup (codes "lois results 2\n") (rt.structure_text t.order) (codes "parameters") names (codes "\n") (codes "failed at ") (decimal t.line) (codes ":") (decimal t.column) (codes ": ") (tt_.kind_text t.kind) (codes "choice") numbers elements (codes "end\n")
 
@@ -130,12 +130,12 @@ trace_whole t sound short =
       refl,
       (
         refl,
-        unbroken_append (head_rest s) (failure_pieces d ++ (choice_line d ++ (elements_of d ++ last_line ∷ []))) (head_whole s sound.parameters)
-            (unbroken_append (failure_pieces d) (choice_line d ++ (elements_of d ++ last_line ∷ []))
+        unbroken_append (head_rest s) (failure_pieces d ++ (choice_line d ++ (elements_of d ++ end_piece ∷ []))) (head_whole s sound.parameters)
+            (unbroken_append (failure_pieces d) (choice_line d ++ (elements_of d ++ end_piece ∷ []))
             (refl, (place_whole (value (decimal t.line)) t.line (value_decimal t.line (place_small t.line sound.line)) sound.line, (refl, (place_whole (value (decimal t.column)) t.column (value_decimal t.column (place_small t.column sound.column)) sound.column, (refl, (refl, tt))))))
-            (unbroken_append (choice_line d) (elements_of d ++ last_line ∷ [])
+            (unbroken_append (choice_line d) (elements_of d ++ end_piece ∷ [])
             (unbroken_append (plain (codes "choice") ∷ each number_pieces (map decimal t.sample)) (ruled (nat_le (length t.parameters) (length (map decimal t.sample))) (codes "\n") ∷ []) (refl, numbers_whole t.sample (recursion_from_All (λ a. a < 2 ^ 64) t.sample sound.numbers)) (enough, tt))
-            (unbroken_append (elements_of d) (last_line ∷ []) (element_lines s (length (map decimal t.sample)) (map (line_draft t.parameters (length t.sample)) t.elements) elements) (refl, tt)))),
+            (unbroken_append (elements_of d) (end_piece ∷ []) (element_lines s (length (map decimal t.sample)) (map (line_draft t.parameters (length t.sample)) t.elements) elements) (refl, tt)))),
       ),
     )
 

@@ -15,9 +15,9 @@ use Rattle.lois_answers.specs.declared.results.Results.{Results}
 use Rattle.lois_reader.specs.declared.scope.Scope.{Scope}
 use Rattle.lois_reader.specs.Draft.{LineDraft, TraceDraft, AnswerDraft, IsWord, IsNumber, IsLineDraft, IsTraceDraft, IsAnswerDraft}
 use Rattle.lois_reader.specs.Draft as draft
-use Rattle.lois_reader.specs.Pieces.{Piece, plain, ruled, each, value, term_pieces, line_end, line_pieces, last_line, place_piece, failure_pieces, trace_pieces, answer_pieces}
+use Rattle.lois_reader.specs.Pieces.{Piece, plain, ruled, each, value, term_pieces, line_end, line_pieces, end_piece, place_piece, failure_pieces, trace_pieces, answer_pieces}
 use Rattle.lois_reader.specs.Refusal.{answer_reading}
-use Rattle.lois_reader.specs.Shape.{text_of}
+use Rattle.lois_reader.specs.Shape.{text_of_pieces}
 use Rattle.lois_reader.specs.Reading.{◌>>=◌, begins}
 use Rattle.lois_reader.specs.Ends.{fixed_end, many_end}
 use Rattle.lois_reader.specs.AnswerEnds.{head_end, body_end, not_a_end, not_end, no_end, kind_end, failure_end, choice_number_end, numbers_end, choice_end, assigned_end, element_end, elements_end, trace_end, results_end, version_end, answer_text_end}
@@ -63,14 +63,14 @@ kind_out DepthLimit r = refl
 failure_regroup : (a l b c d k n r : List ℕ) → (a ++ (l ++ (b ++ (c ++ ((d ++ k) ++ (n ++ [])))))) ++ r ≡ a ++ (l ++ (b ++ (c ++ (d ++ (k ++ (n ++ r))))))
 failure_regroup a l b c d k n r = simp append_assoc
 
-pub failure_text : (t : TraceDraft) (r : List ℕ) → text_of (failure_pieces t) ++ r ≡ codes "failed at " ++ (t.line ++ (codes ":" ++ (t.column ++ (codes ": " ++ (kind_text t.kind ++ (codes "\n" ++ r))))))
+pub failure_text : (t : TraceDraft) (r : List ℕ) → text_of_pieces (failure_pieces t) ++ r ≡ codes "failed at " ++ (t.line ++ (codes ":" ++ (t.column ++ (codes ": " ++ (kind_text t.kind ++ (codes "\n" ++ r))))))
 failure_text t r = failure_regroup (codes "failed at ") t.line (codes ":") t.column (codes ": ") (kind_text t.kind) (codes "\n") r
 
 failure_is : (l c : List ℕ) (k : FaultKind) (r : List ℕ) → IsNumber l → IsNumber c → failure_end (codes "failed at " ++ (l ++ (codes ":" ++ (c ++ (codes ": " ++ (kind_text k ++ (codes "\n" ++ r))))))) ≡ Ok r
 unfolding failure_end
 failure_is l c k r form_l form_c = rw (number_ends l (codes ":" ++ (c ++ (codes ": " ++ (kind_text k ++ (codes "\n" ++ r))))) form_l refl, number_ends c (codes ": " ++ (kind_text k ++ (codes "\n" ++ r))) form_c refl, kind_front k (codes "\n" ++ r)) refl
 
-failure_front : (t : TraceDraft) (r : List ℕ) → IsTraceDraft t → failure_end (text_of (failure_pieces t) ++ r) ≡ Ok r
+failure_front : (t : TraceDraft) (r : List ℕ) → IsTraceDraft t → failure_end (text_of_pieces (failure_pieces t) ++ r) ≡ Ok r
 failure_front t r form = ap failure_end (failure_text t r) ∙ failure_is t.line t.column t.kind r form.line form.column
 
 -- ---- the choice
@@ -78,35 +78,35 @@ failure_front t r form = ap failure_end (failure_text t r) ∙ failure_is t.line
 abbrev pub number_pieces : List ℕ → List Piece
 number_pieces ds = plain (codes " ") ∷ ruled (nat_lt (value ds) (2 ^ 64)) ds ∷ []
 
-pub number_text : (ds r : List ℕ) → text_of (number_pieces ds) ++ r ≡ codes " " ++ (ds ++ r)
+pub number_text : (ds r : List ℕ) → text_of_pieces (number_pieces ds) ++ r ≡ codes " " ++ (ds ++ r)
 number_text ds r = ap (λ (x : List ℕ). codes " " ++ x) (append_assoc ds [] r)
 
-number_longer : (ds r : List ℕ) → length r < length (text_of (number_pieces ds) ++ r)
+number_longer : (ds r : List ℕ) → length r < length (text_of_pieces (number_pieces ds) ++ r)
 number_longer ds r = omega (arith, ap length (number_text ds r), length-append (codes " ") (ds ++ r), length-append ds r)
 
 numbers_is : (u : List ℕ) → numbers_end u ≡ many_end (begins 32) choice_number_end (suc (length u)) u
 unfolding numbers_end
 numbers_is u = refl
 
-numbers_front : (nss : List (List ℕ)) (r : List ℕ) → AllByRecursion IsNumber nss → EndsNumber r → begins 32 r ≡ false → numbers_end (text_of (each number_pieces nss) ++ r) ≡ Ok r
+numbers_front : (nss : List (List ℕ)) (r : List ℕ) → AllByRecursion IsNumber nss → EndsNumber r → begins 32 r ≡ false → numbers_end (text_of_pieces (each number_pieces nss) ++ r) ≡ Ok r
 numbers_front nss r forms ends none =
-    numbers_is (text_of (each number_pieces nss) ++ r)
+    numbers_is (text_of_pieces (each number_pieces nss) ++ r)
     ∙ many_front (begins 32) choice_number_end number_pieces IsNumber EndsNumber
     (λ x good t ends_t. ap choice_number_end (number_text x t) ∙ number_ends x t good ends_t) (λ x good t. refl) (λ x good t. refl) (λ x good t. number_longer x t)
-    nss (suc (length (text_of (each number_pieces nss) ++ r))) r (omega arith) forms ends none
+    nss (suc (length (text_of_pieces (each number_pieces nss) ++ r))) r (omega arith) forms ends none
 
 abbrev pub choice_line : TraceDraft → List Piece
 choice_line t = (plain (codes "choice") ∷ each number_pieces t.choice) ++ ruled (nat_le (length t.parameters) (length t.choice)) (codes "\n") ∷ []
 
-pub choice_text : (t : TraceDraft) (r : List ℕ) → text_of (choice_line t) ++ r ≡ codes "choice" ++ (text_of (each number_pieces t.choice) ++ (codes "\n" ++ r))
+pub choice_text : (t : TraceDraft) (r : List ℕ) → text_of_pieces (choice_line t) ++ r ≡ codes "choice" ++ (text_of_pieces (each number_pieces t.choice) ++ (codes "\n" ++ r))
 choice_text t r = text_split (plain (codes "choice") ∷ each number_pieces t.choice) (ruled (nat_le (length t.parameters) (length t.choice)) (codes "\n") ∷ []) r
 
 choice_is : (u r : List ℕ) → numbers_end u ≡ Ok (codes "\n" ++ r) → choice_end (codes "choice" ++ u) ≡ Ok r
 unfolding choice_end
 choice_is u r e = rw e refl
 
-choice_front : (t : TraceDraft) (r : List ℕ) → IsTraceDraft t → choice_end (text_of (choice_line t) ++ r) ≡ Ok r
-choice_front t r form = ap choice_end (choice_text t r) ∙ choice_is (text_of (each number_pieces t.choice) ++ (codes "\n" ++ r)) r (numbers_front t.choice (codes "\n" ++ r) form.choice refl refl)
+choice_front : (t : TraceDraft) (r : List ℕ) → IsTraceDraft t → choice_end (text_of_pieces (choice_line t) ++ r) ≡ Ok r
+choice_front t r form = ap choice_end (choice_text t r) ∙ choice_is (text_of_pieces (each number_pieces t.choice) ++ (codes "\n" ++ r)) r (numbers_front t.choice (codes "\n" ++ r) form.choice refl refl)
 
 -- ---- elements
 
@@ -121,24 +121,24 @@ assigned_is : (t : List ℕ) → assigned_end (codes " = " ++ t) ≡ body_end t
 unfolding assigned_end
 assigned_is t = refl
 
-element_front : (s : Scope) (n : ℕ) (l : LineDraft) (r : List ℕ) → IsLineDraft l → element_end (text_of (element_pieces s n l) ++ r) ≡ Ok r
+element_front : (s : Scope) (n : ℕ) (l : LineDraft) (r : List ℕ) → IsLineDraft l → element_end (text_of_pieces (element_pieces s n l) ++ r) ≡ Ok r
 element_front s n l r form =
-    let t : List ℕ = text_of (term_pieces s n l.term) ++ (codes "\n" ++ r) in
+    let t : List ℕ = text_of_pieces (term_pieces s n l.term) ++ (codes "\n" ++ r) in
     ap (λ (x : List ℕ). element_end (codes "for " ++ x)) (line_text s n l r) ∙ element_is l.name t r form.0 (assigned_is t ∙ body_front s n l.term r form.1)
 
-element_longer : (s : Scope) (n : ℕ) (l : LineDraft) (r : List ℕ) → length r < length (text_of (element_pieces s n l) ++ r)
-element_longer s n l r = omega (arith, length-append (text_of (line_pieces s n l)) r)
+element_longer : (s : Scope) (n : ℕ) (l : LineDraft) (r : List ℕ) → length r < length (text_of_pieces (element_pieces s n l) ++ r)
+element_longer s n l r = omega (arith, length-append (text_of_pieces (line_pieces s n l)) r)
 
 elements_is : (u : List ℕ) → elements_end u ≡ many_end (begins 102) element_end (suc (length u)) u
 unfolding elements_end
 elements_is u = refl
 
-elements_front : (s : Scope) (n : ℕ) (ls : List LineDraft) (r : List ℕ) → AllByRecursion IsLineDraft ls → begins 102 r ≡ false → elements_end (text_of (each (element_pieces s n) ls) ++ r) ≡ Ok r
+elements_front : (s : Scope) (n : ℕ) (ls : List LineDraft) (r : List ℕ) → AllByRecursion IsLineDraft ls → begins 102 r ≡ false → elements_end (text_of_pieces (each (element_pieces s n) ls) ++ r) ≡ Ok r
 elements_front s n ls r forms none =
-    elements_is (text_of (each (element_pieces s n) ls) ++ r)
+    elements_is (text_of_pieces (each (element_pieces s n) ls) ++ r)
     ∙ many_front (begins 102) element_end (element_pieces s n) IsLineDraft (λ t. Unit {0})
     (λ x good t any. element_front s n x t good) (λ x good t. refl) (λ x good t. tt) (λ x good t. element_longer s n x t)
-    ls (suc (length (text_of (each (element_pieces s n) ls) ++ r))) r (omega arith) forms tt none
+    ls (suc (length (text_of_pieces (each (element_pieces s n) ls) ++ r))) r (omega arith) forms tt none
 
 -- ---- traces
 
@@ -146,30 +146,30 @@ abbrev pub elements_of : TraceDraft → List Piece
 elements_of t = each (element_pieces (trace_scope t) (length t.choice)) t.elements
 
 abbrev pub trace_rest : TraceDraft → List Piece
-trace_rest t = head_rest (trace_scope t) ++ (failure_pieces t ++ (choice_line t ++ (elements_of t ++ last_line ∷ [])))
+trace_rest t = head_rest (trace_scope t) ++ (failure_pieces t ++ (choice_line t ++ (elements_of t ++ end_piece ∷ [])))
 
 pieces_regroup : (h f c l e z : List Piece) → ((((h ++ f) ++ c) ++ (l ++ e)) ++ z) ≡ h ++ (f ++ ((c ++ l) ++ (e ++ z)))
 pieces_regroup h f c l e z = simp append_assoc
 
 pub trace_rest_is : (t : TraceDraft) → trace_pieces t ≡ plain (codes "lois results ") ∷ plain (codes "2") ∷ trace_rest t
-trace_rest_is t = pieces_regroup (plain (codes "lois results ") ∷ plain (codes "2") ∷ head_rest (trace_scope t)) (failure_pieces t) (plain (codes "choice") ∷ each number_pieces t.choice) (ruled (nat_le (length t.parameters) (length t.choice)) (codes "\n") ∷ []) (elements_of t) (last_line ∷ [])
+trace_rest_is t = pieces_regroup (plain (codes "lois results ") ∷ plain (codes "2") ∷ head_rest (trace_scope t)) (failure_pieces t) (plain (codes "choice") ∷ each number_pieces t.choice) (ruled (nat_le (length t.parameters) (length t.choice)) (codes "\n") ∷ []) (elements_of t) (end_piece ∷ [])
 
 trace_is : (a b c d : List ℕ) → head_end a ≡ Ok b → failure_end b ≡ Ok c → choice_end c ≡ Ok d → elements_end d ≡ Ok (codes "end\n") → trace_end a ≡ Ok []
 unfolding trace_end
 trace_is a b c d e f g h = rw (e, f, g, h) refl
 
-pub trace_front : (t : TraceDraft) → IsTraceDraft t → trace_end (text_of (trace_rest t)) ≡ Ok []
+pub trace_front : (t : TraceDraft) → IsTraceDraft t → trace_end (text_of_pieces (trace_rest t)) ≡ Ok []
 trace_front t form =
     let s : Scope = trace_scope t in
-    let tail : List Piece = elements_of t ++ last_line ∷ [] in
-    let d : List ℕ = text_of (elements_of t) ++ codes "end\n" in
-    let tail_is : text_of (elements_of t ++ last_line ∷ []) ≡ text_of (elements_of t) ++ codes "end\n" = text_append (elements_of t) (last_line ∷ []) in
-    let c_is : text_of (choice_line t ++ (elements_of t ++ last_line ∷ [])) ≡ text_of (choice_line t) ++ (text_of (elements_of t) ++ codes "end\n") = text_append (choice_line t) tail ∙ ap (λ (x : List ℕ). text_of (choice_line t) ++ x) tail_is in
-    let b_is : text_of (failure_pieces t ++ (choice_line t ++ (elements_of t ++ last_line ∷ []))) ≡ text_of (failure_pieces t) ++ (text_of (choice_line t) ++ (text_of (elements_of t) ++ codes "end\n")) = text_append (failure_pieces t) (choice_line t ++ tail) ∙ ap (λ (x : List ℕ). text_of (failure_pieces t) ++ x) c_is in
-    let c : List ℕ = text_of (choice_line t) ++ d in
-    let b : List ℕ = text_of (failure_pieces t) ++ c in
-    ap trace_end (text_append (head_rest s) (failure_pieces t ++ (choice_line t ++ tail)) ∙ ap (λ (x : List ℕ). text_of (head_rest s) ++ x) b_is)
-    ∙ trace_is (text_of (head_rest s) ++ b) b c d (head_front s b form.parameters) (failure_front t c form) (choice_front t d form) (elements_front s (length t.choice) t.elements (codes "end\n") form.elements refl)
+    let tail : List Piece = elements_of t ++ end_piece ∷ [] in
+    let d : List ℕ = text_of_pieces (elements_of t) ++ codes "end\n" in
+    let tail_is : text_of_pieces (elements_of t ++ end_piece ∷ []) ≡ text_of_pieces (elements_of t) ++ codes "end\n" = text_append (elements_of t) (end_piece ∷ []) in
+    let c_is : text_of_pieces (choice_line t ++ (elements_of t ++ end_piece ∷ [])) ≡ text_of_pieces (choice_line t) ++ (text_of_pieces (elements_of t) ++ codes "end\n") = text_append (choice_line t) tail ∙ ap (λ (x : List ℕ). text_of_pieces (choice_line t) ++ x) tail_is in
+    let b_is : text_of_pieces (failure_pieces t ++ (choice_line t ++ (elements_of t ++ end_piece ∷ []))) ≡ text_of_pieces (failure_pieces t) ++ (text_of_pieces (choice_line t) ++ (text_of_pieces (elements_of t) ++ codes "end\n")) = text_append (failure_pieces t) (choice_line t ++ tail) ∙ ap (λ (x : List ℕ). text_of_pieces (failure_pieces t) ++ x) c_is in
+    let c : List ℕ = text_of_pieces (choice_line t) ++ d in
+    let b : List ℕ = text_of_pieces (failure_pieces t) ++ c in
+    ap trace_end (text_append (head_rest s) (failure_pieces t ++ (choice_line t ++ tail)) ∙ ap (λ (x : List ℕ). text_of_pieces (head_rest s) ++ x) b_is)
+    ∙ trace_is (text_of_pieces (head_rest s) ++ b) b c d (head_front s b form.parameters) (failure_front t c form) (choice_front t d form) (elements_front s (length t.choice) t.elements (codes "end\n") form.elements refl)
 
 -- ---- what places, choices and elements stand for
 
@@ -186,7 +186,7 @@ place_is : (ds r : List ℕ) → IsNumber ds → EndsNumber r → place_at (ds +
 unfolding place_at
 place_is ds r form ends = rw (number_front ds r form ends) refl
 
-place_out : (ds r : List ℕ) → IsNumber ds → EndsNumber r → place_at (text_of (place_piece ds ∷ []) ++ r) ≡ out (place_piece ds ∷ []) (value ds) r
+place_out : (ds r : List ℕ) → IsNumber ds → EndsNumber r → place_at (text_of_pieces (place_piece ds ∷ []) ++ r) ≡ out (place_piece ds ∷ []) (value ds) r
 place_out ds r form ends =
     ap place_at (append_assoc ds [] r) ∙ place_is ds r form ends
     ∙ given_out (nat_le 1 (value ds) && nat_lt (value ds) 1048578) (nat_le 1 (value ds) && nat_le (value ds) 1048577) (value ds) (length (ds ++ r)) (length ds + (0 + length r)) r (place_test (value ds)) (omega (arith, length-append ds r))
@@ -198,19 +198,19 @@ failure_at_is : (u : List ℕ) → failure_at u ≡ (fixed_end (codes "failed at
 unfolding failure_at
 failure_at_is u = refl
 
-failure_out : (t : TraceDraft) (r : List ℕ) → IsTraceDraft t → failure_at (text_of (failure_pieces t) ++ r) ≡ out (failure_pieces t) (value t.line, (value t.column, t.kind)) r
+failure_out : (t : TraceDraft) (r : List ℕ) → IsTraceDraft t → failure_at (text_of_pieces (failure_pieces t) ++ r) ≡ out (failure_pieces t) (value t.line, (value t.column, t.kind)) r
 failure_out t r form =
     let kind : List Piece = plain (codes ": " ++ kind_text t.kind) ∷ line_end ∷ [] in
     let made : ℕ × (ℕ × FaultKind) = (value t.line, (value t.column, t.kind)) in
     let third : ℕ → ℕ × List ℕ → Result ((ℕ × (ℕ × FaultKind)) × List ℕ) ℕ = λ l x. fixed_end (codes ": ") x.1 >>= λ third. kind_at third >>= λ k. fixed_end (codes "\n") k.1 >>= λ rest. Ok ((l, (x.0, k.0)), rest) in
     let second : ℕ × List ℕ → Result ((ℕ × (ℕ × FaultKind)) × List ℕ) ℕ = λ x. fixed_end (codes ":") x.1 >>= λ second. place_at second >>= third x.0 in
-    let named : third (value t.line) (value t.column, text_of (plain (codes ": " ++ kind_text t.kind) ∷ line_end ∷ []) ++ r) ≡ out (plain (codes ": " ++ kind_text t.kind) ∷ line_end ∷ []) (value t.line, (value t.column, t.kind)) r =
+    let named : third (value t.line) (value t.column, text_of_pieces (plain (codes ": " ++ kind_text t.kind) ∷ line_end ∷ []) ++ r) ≡ out (plain (codes ": " ++ kind_text t.kind) ∷ line_end ∷ []) (value t.line, (value t.column, t.kind)) r =
     ap (λ (x : List ℕ). kind_at x >>= λ k. fixed_end (codes "\n") k.1 >>= λ rest. Ok ((value t.line, (value t.column, k.0)), rest)) (append_assoc (kind_text t.kind) (codes "\n") r)
     ∙ ap (λ e. e >>= λ k. fixed_end (codes "\n") k.1 >>= λ rest. Ok ((value t.line, (value t.column, k.0)), rest)) (kind_out t.kind (codes "\n" ++ r)) in
-    failure_at_is (text_of (failure_pieces t) ++ r)
+    failure_at_is (text_of_pieces (failure_pieces t) ++ r)
     ∙ part_step place_at (place_piece t.line ∷ []) (plain (codes ":") ∷ place_piece t.column ∷ kind) (value t.line) made r second
-    (place_out t.line (text_of (plain (codes ":") ∷ place_piece t.column ∷ kind) ++ r) form.line refl)
-    (part_step place_at (place_piece t.column ∷ []) kind (value t.column) made r (third (value t.line)) (place_out t.column (text_of kind ++ r) form.column refl) named)
+    (place_out t.line (text_of_pieces (plain (codes ":") ∷ place_piece t.column ∷ kind) ++ r) form.line refl)
+    (part_step place_at (place_piece t.column ∷ []) kind (value t.column) made r (third (value t.line)) (place_out t.column (text_of_pieces kind ++ r) form.column refl) named)
 
 number_test : (v : ℕ) → (nat_le 0 v && nat_lt v (2 ^ 64)) ≡ nat_lt v (2 ^ 64)
 number_test v = grind (arith, nat_tests)
@@ -219,7 +219,7 @@ number_is : (ds r : List ℕ) → IsNumber ds → EndsNumber r → number_of_cho
 unfolding number_of_choice_at
 number_is ds r form ends = rw (number_front ds r form ends) refl
 
-number_out : (ds r : List ℕ) → IsNumber ds → EndsNumber r → number_of_choice_at (text_of (number_pieces ds) ++ r) ≡ out (number_pieces ds) (value ds) r
+number_out : (ds r : List ℕ) → IsNumber ds → EndsNumber r → number_of_choice_at (text_of_pieces (number_pieces ds) ++ r) ≡ out (number_pieces ds) (value ds) r
 number_out ds r form ends =
     ap number_of_choice_at (number_text ds r) ∙ number_is ds r form ends
     ∙ given_out (nat_le 0 (value ds) && nat_lt (value ds) (2 ^ 64)) (nat_lt (value ds) (2 ^ 64)) (value ds) (length (ds ++ r)) (length ds + (0 + length r)) r (number_test (value ds)) (omega (arith, length-append ds r))
@@ -228,11 +228,11 @@ numbers_at_is : (u : List ℕ) → numbers_at u ≡ many_at (begins 32) number_o
 unfolding numbers_at
 numbers_at_is u = refl
 
-numbers_out : (nss : List (List ℕ)) (r : List ℕ) → AllByRecursion IsNumber nss → EndsNumber r → begins 32 r ≡ false → numbers_at (text_of (each number_pieces nss) ++ r) ≡ out (each number_pieces nss) (map value nss) r
+numbers_out : (nss : List (List ℕ)) (r : List ℕ) → AllByRecursion IsNumber nss → EndsNumber r → begins 32 r ≡ false → numbers_at (text_of_pieces (each number_pieces nss) ++ r) ≡ out (each number_pieces nss) (map value nss) r
 numbers_out nss r forms ends none =
-    numbers_at_is (text_of (each number_pieces nss) ++ r)
+    numbers_at_is (text_of_pieces (each number_pieces nss) ++ r)
     ∙ many_out (begins 32) number_of_choice_at number_pieces value IsNumber EndsNumber
-    (λ x good t ends_t. number_out x t good ends_t) (λ x good t ends_t. refl) (λ x good t ends_t. refl) nss (suc (length (text_of (each number_pieces nss) ++ r))) r
+    (λ x good t ends_t. number_out x t good ends_t) (λ x good t ends_t. refl) (λ x good t ends_t. refl) nss (suc (length (text_of_pieces (each number_pieces nss) ++ r))) r
     (each_enough number_pieces number_longer nss r) forms ends none
 
 pub length_map : {A B : Type 0} (f : A → B) (xs : List A) → length (map f xs) ≡ length xs
@@ -243,34 +243,34 @@ choice_at_is : (n : ℕ) (u : List ℕ) → choice_at n u ≡ (fixed_end (codes 
 unfolding choice_at
 choice_at_is n u = refl
 
-choice_out : (t : TraceDraft) (r : List ℕ) → IsTraceDraft t → choice_at (length t.parameters) (text_of (choice_line t) ++ r) ≡ out (choice_line t) (map value t.choice) r
+choice_out : (t : TraceDraft) (r : List ℕ) → IsTraceDraft t → choice_at (length t.parameters) (text_of_pieces (choice_line t) ++ r) ≡ out (choice_line t) (map value t.choice) r
 choice_out t r form =
     let numbers : List Piece = each number_pieces t.choice in
     let enough : Bool = nat_le (length t.parameters) (length t.choice) in
     let lf : List Piece = ruled (nat_le (length t.parameters) (length t.choice)) (codes "\n") ∷ [] in
     let behind : List ℕ × List ℕ → Result (List ℕ × List ℕ) ℕ = λ x. cond (nat_le (length t.parameters) (length x.0)) (fixed_end (codes "\n") x.1 >>= λ q. Ok (x.0, q)) (Err (length x.1)) in
-    let ended : behind (map value t.choice, text_of (ruled (nat_le (length t.parameters) (length t.choice)) (codes "\n") ∷ []) ++ r) ≡ out (ruled (nat_le (length t.parameters) (length t.choice)) (codes "\n") ∷ []) (map value t.choice) r =
+    let ended : behind (map value t.choice, text_of_pieces (ruled (nat_le (length t.parameters) (length t.choice)) (codes "\n") ∷ []) ++ r) ≡ out (ruled (nat_le (length t.parameters) (length t.choice)) (codes "\n") ∷ []) (map value t.choice) r =
     ap (λ (k : ℕ). cond (nat_le (length t.parameters) k) (Ok (map value t.choice, r)) (Err (suc (length r)))) (length_map value t.choice)
     ∙ pick enough (suc (length r)) (1 + (0 + length r)) (Ok (map value t.choice, r)) (Ok (map value t.choice, r)) (omega arith) refl in
-    choice_at_is (length t.parameters) (text_of (choice_line t) ++ r)
-    ∙ part_step numbers_at numbers lf (map value t.choice) (map value t.choice) r behind (numbers_out t.choice (text_of lf ++ r) form.choice refl refl) ended
+    choice_at_is (length t.parameters) (text_of_pieces (choice_line t) ++ r)
+    ∙ part_step numbers_at numbers lf (map value t.choice) (map value t.choice) r behind (numbers_out t.choice (text_of_pieces lf ++ r) form.choice refl refl) ended
 
 element_at_is : (s : Scope) (n : ℕ) (u : List ℕ) → element_at s n (codes "for " ++ u) ≡ line_at s n u
 unfolding element_at
 element_at_is s n u = refl
 
-element_out : (s : Scope) (n : ℕ) (l : LineDraft) (r : List ℕ) → IsLineDraft l → element_at s n (text_of (element_pieces s n l) ++ r) ≡ out (element_pieces s n l) (line_of s n l) r
-element_out s n l r form = element_at_is s n (text_of (line_pieces s n l) ++ r) ∙ line_out s n l r form
+element_out : (s : Scope) (n : ℕ) (l : LineDraft) (r : List ℕ) → IsLineDraft l → element_at s n (text_of_pieces (element_pieces s n l) ++ r) ≡ out (element_pieces s n l) (line_of s n l) r
+element_out s n l r form = element_at_is s n (text_of_pieces (line_pieces s n l) ++ r) ∙ line_out s n l r form
 
 elements_at_is : (s : Scope) (n : ℕ) (u : List ℕ) → elements_at s n u ≡ many_at (begins 102) (element_at s n) (suc (length u)) u
 unfolding elements_at
 elements_at_is s n u = refl
 
-elements_out : (s : Scope) (n : ℕ) (ls : List LineDraft) (r : List ℕ) → AllByRecursion IsLineDraft ls → begins 102 r ≡ false → elements_at s n (text_of (each (element_pieces s n) ls) ++ r) ≡ out (each (element_pieces s n) ls) (map (line_of s n) ls) r
+elements_out : (s : Scope) (n : ℕ) (ls : List LineDraft) (r : List ℕ) → AllByRecursion IsLineDraft ls → begins 102 r ≡ false → elements_at s n (text_of_pieces (each (element_pieces s n) ls) ++ r) ≡ out (each (element_pieces s n) ls) (map (line_of s n) ls) r
 elements_out s n ls r forms none =
-    elements_at_is s n (text_of (each (element_pieces s n) ls) ++ r)
+    elements_at_is s n (text_of_pieces (each (element_pieces s n) ls) ++ r)
     ∙ many_out (begins 102) (element_at s n) (element_pieces s n) (line_of s n) IsLineDraft (λ t. Unit {0})
-    (λ x good t any. element_out s n x t good) (λ x good t any. refl) (λ x good t any. tt) ls (suc (length (text_of (each (element_pieces s n) ls) ++ r))) r
+    (λ x good t any. element_out s n x t good) (λ x good t any. refl) (λ x good t any. tt) ls (suc (length (text_of_pieces (each (element_pieces s n) ls) ++ r))) r
     (each_enough (element_pieces s n) (element_longer s n) ls r) forms tt none
 
 abbrev pub trace_of : TraceDraft → Trace
@@ -280,23 +280,23 @@ trace_at_is : (u : List ℕ) → trace_at u ≡ (head_at u >>= λ scope. failure
 unfolding trace_at
 trace_at_is u = refl
 
-pub trace_out : (t : TraceDraft) → IsTraceDraft t → trace_at (text_of (trace_rest t)) ≡ out (trace_rest t) (trace_of t) []
+pub trace_out : (t : TraceDraft) → IsTraceDraft t → trace_at (text_of_pieces (trace_rest t)) ≡ out (trace_rest t) (trace_of t) []
 trace_out t form =
     let s : Scope = trace_scope t in
     let made : Trace = trace_of t in
-    let tail : List Piece = elements_of t ++ last_line ∷ [] in
+    let tail : List Piece = elements_of t ++ end_piece ∷ [] in
     let with_elements : List ℕ → List LineD × List ℕ → Result (Trace × List ℕ) ℕ = λ sample x. fixed_end (codes "end\n") x.1 >>= λ rest. Ok (record { order = t.ordered; parameters = t.parameters; line = value t.line; column = value t.column; kind = t.kind; sample = sample; elements = x.0 }, rest) in
     let with_choice : ℕ × (ℕ × FaultKind) → List ℕ × List ℕ → Result (Trace × List ℕ) ℕ = λ f x. elements_at s (length x.0) x.1 >>= λ elements. fixed_end (codes "end\n") elements.1 >>= λ rest. Ok (record { order = t.ordered; parameters = t.parameters; line = f.0; column = f.1.0; kind = f.1.1; sample = x.0; elements = elements.0 }, rest) in
     let with_failure : (ℕ × (ℕ × FaultKind)) × List ℕ → Result (Trace × List ℕ) ℕ = λ x. choice_at (length t.parameters) x.1 >>= with_choice x.0 in
     let with_scope : Scope × List ℕ → Result (Trace × List ℕ) ℕ = λ x. failure_at x.1 >>= λ failure. choice_at (length x.0.names) failure.1 >>= λ choice. elements_at x.0 (length choice.0) choice.1 >>= λ elements. fixed_end (codes "end\n") elements.1 >>= λ rest. Ok (record { order = x.0.ordered; parameters = x.0.names; line = failure.0.0; column = failure.0.1.0; kind = failure.0.1.1; sample = choice.0; elements = elements.0 }, rest) in
-    let ended : with_choice (value t.line, (value t.column, t.kind)) (map value t.choice, text_of (elements_of t ++ last_line ∷ []) ++ []) ≡ out (elements_of t ++ last_line ∷ []) (trace_of t) [] =
-    ap (λ (k : ℕ). elements_at s k (text_of tail ++ []) >>= with_elements (map value t.choice)) (length_map value t.choice)
-    ∙ part_step (elements_at s (length t.choice)) (elements_of t) (last_line ∷ []) (map (line_of s (length t.choice)) t.elements) made [] (with_elements (map value t.choice)) (elements_out s (length t.choice) t.elements (codes "end\n") form.elements refl) refl in
-    ap trace_at (sym (append-nil (text_of (trace_rest t))))
-    ∙ trace_at_is (text_of (trace_rest t) ++ [])
-    ∙ part_step head_at (head_rest s) (failure_pieces t ++ (choice_line t ++ tail)) s made [] with_scope (head_out s (text_of (failure_pieces t ++ (choice_line t ++ tail)) ++ []) form.parameters)
-    (part_step failure_at (failure_pieces t) (choice_line t ++ tail) (value t.line, (value t.column, t.kind)) made [] with_failure (failure_out t (text_of (choice_line t ++ tail) ++ []) form)
-    (part_step (choice_at (length t.parameters)) (choice_line t) tail (map value t.choice) made [] (with_choice (value t.line, (value t.column, t.kind))) (choice_out t (text_of tail ++ []) form) ended))
+    let ended : with_choice (value t.line, (value t.column, t.kind)) (map value t.choice, text_of_pieces (elements_of t ++ end_piece ∷ []) ++ []) ≡ out (elements_of t ++ end_piece ∷ []) (trace_of t) [] =
+    ap (λ (k : ℕ). elements_at s k (text_of_pieces tail ++ []) >>= with_elements (map value t.choice)) (length_map value t.choice)
+    ∙ part_step (elements_at s (length t.choice)) (elements_of t) (end_piece ∷ []) (map (line_of s (length t.choice)) t.elements) made [] (with_elements (map value t.choice)) (elements_out s (length t.choice) t.elements (codes "end\n") form.elements refl) refl in
+    ap trace_at (sym (append-nil (text_of_pieces (trace_rest t))))
+    ∙ trace_at_is (text_of_pieces (trace_rest t) ++ [])
+    ∙ part_step head_at (head_rest s) (failure_pieces t ++ (choice_line t ++ tail)) s made [] with_scope (head_out s (text_of_pieces (failure_pieces t ++ (choice_line t ++ tail)) ++ []) form.parameters)
+    (part_step failure_at (failure_pieces t) (choice_line t ++ tail) (value t.line, (value t.column, t.kind)) made [] with_failure (failure_out t (text_of_pieces (choice_line t ++ tail) ++ []) form)
+    (part_step (choice_at (length t.parameters)) (choice_line t) tail (map value t.choice) made [] (with_choice (value t.line, (value t.column, t.kind))) (choice_out t (text_of_pieces tail ++ []) form) ended))
 
 -- ---- answers
 
@@ -324,18 +324,18 @@ map_end : {A B : Type 0} (ps : List Piece) (a : A) (g : A → B) → (out ps a [
 map_end [] a g = refl
 map_end (p ∷ ps) a g = elim p.broken as (λ b. (cond b (Err (length p.bytes + (size ps + 0))) (out ps a []) >>= λ x. Ok (g x.0)) ≡ (cond b (Err (length p.bytes + (size ps + 0))) (out ps (g a) []) >>= λ x. Ok x.0)) [ true ↦ refl | false ↦ map_end ps a g ]
 
-pub answer_reading_is : (a : AnswerDraft) → IsAnswerDraft a → answer_reading (text_of (answer_pieces a)) ≡ (out (answer_pieces a) (answer_of a) [] >>= λ x. Ok x.0)
+pub answer_reading_is : (a : AnswerDraft) → IsAnswerDraft a → answer_reading (text_of_pieces (answer_pieces a)) ≡ (out (answer_pieces a) (answer_of a) [] >>= λ x. Ok x.0)
 answer_reading_is (draft.results d) form =
-    ap (λ (ps : List Piece). answer_reading (text_of ps)) (results_rest_is d)
-    ∙ ap (λ e. e >>= λ end. answer_text_at (codes "lois results 1" ++ text_of (results_rest d))) (answer_ends_one (text_of (results_rest d)) (results_front d form))
-    ∙ answer_at_one (text_of (results_rest d))
+    ap (λ (ps : List Piece). answer_reading (text_of_pieces ps)) (results_rest_is d)
+    ∙ ap (λ e. e >>= λ end. answer_text_at (codes "lois results 1" ++ text_of_pieces (results_rest d))) (answer_ends_one (text_of_pieces (results_rest d)) (results_front d form))
+    ∙ answer_at_one (text_of_pieces (results_rest d))
     ∙ ap (λ e. e >>= λ x. Ok (answers.Results x.0)) (results_out d form)
     ∙ map_end (results_rest d) (results_of d) (λ (r : Results). answers.Results r)
     ∙ ap (λ (ps : List Piece). out ps (answers.Results (results_of d)) [] >>= λ x. Ok x.0) (sym (results_rest_is d))
 answer_reading_is (draft.trace t) form =
-    ap (λ (ps : List Piece). answer_reading (text_of ps)) (trace_rest_is t)
-    ∙ ap (λ e. e >>= λ end. answer_text_at (codes "lois results 2" ++ text_of (trace_rest t))) (answer_ends_two (text_of (trace_rest t)) (trace_front t form))
-    ∙ answer_at_two (text_of (trace_rest t))
+    ap (λ (ps : List Piece). answer_reading (text_of_pieces ps)) (trace_rest_is t)
+    ∙ ap (λ e. e >>= λ end. answer_text_at (codes "lois results 2" ++ text_of_pieces (trace_rest t))) (answer_ends_two (text_of_pieces (trace_rest t)) (trace_front t form))
+    ∙ answer_at_two (text_of_pieces (trace_rest t))
     ∙ ap (λ e. e >>= λ x. Ok (answers.Trace x.0)) (trace_out t form)
     ∙ map_end (trace_rest t) (trace_of t) (λ (r : Trace). answers.Trace r)
     ∙ ap (λ (ps : List Piece). out ps (answers.Trace (trace_of t)) [] >>= λ x. Ok x.0) (sym (trace_rest_is t))

@@ -15,7 +15,7 @@ use Rattle.lois_base.specs.Fits.{LitFits, CubeFits, ConstraintFits, Fits, PartsF
 use Rattle.lois_base.specs.Validity.{is_admitted, AdmitsLit, AdmitsCube, AdmitsConstraint, AdmitsTerm, AdmitsParts, AdmitsComp, AdmitsItems, HasBoundedWidths, PartsHaveBoundedWidths, CompHasBoundedWidths, ItemsHaveBoundedWidths, count_of_parts}
 use Rattle.lois_answers.specs.Sound.{HasTags, PartsHaveTags, CompHasTags, ItemsHaveTags}
 use Rattle.lois_reader.specs.declared.scope.Scope.{Scope}
-use Rattle.lois_reader.specs.Draft.{Operand, word, level, LitDraft, ConstraintDraft, TermDraft, atom, tag, tuple, set, TermDrafts, no_terms, term, CompDraft, comp, CompDrafts, no_comps, more, IsNumber, IsOperand, IsLitDraft, IsConstraintDraft, IsTermDraft, AreTermDrafts, IsCompDraft, AreCompDrafts, width}
+use Rattle.lois_reader.specs.Draft.{Operand, word, level, LitDraft, ConstraintDraft, TermDraft, atom, tag, tuple, set, TermDrafts, no_terms, term, CompDraft, comp, CompDrafts, no_comps, more, IsNumber, IsOperand, IsLitDraft, IsConstraintDraft, IsTermDraft, AreTermDrafts, IsCompDraft, AreCompDrafts, draft_width}
 use Rattle.lois_reader.specs.Pieces.{Piece, plain, each, value, is_among, comma, operand_piece, literal_pieces, cube_pieces, constraint_pieces, guard_pieces, level_pieces, binder_pieces, term_pieces, part_pieces, comp_pieces, item_pieces}
 use Rattle.lois_reader.specs.Shape.{first_broken}
 use Rattle.lois_reader.proofs.Fronts.{number_parts}
@@ -233,7 +233,7 @@ record PartsGood (s : Scope) (n d : ℕ) (ts : TermDrafts) : Type 0 where
   pub widths : PartsHaveBoundedWidths (terms_of (values_of s ts))
   pub admits : AdmitsParts s.ordered (terms_of (values_of s ts))
   pub deep : depth_of_parts (terms_of (values_of s ts)) ≤ d
-  pub count : count_of_parts (terms_of (values_of s ts)) ≡ width ts
+  pub count : count_of_parts (terms_of (values_of s ts)) ≡ draft_width ts
   pub same : parts_draft s.names n (terms_of (values_of s ts)) ≡ ts
 
 record CompGood (s : Scope) (n d : ℕ) (c : CompDraft) : Type 0 where
@@ -255,7 +255,7 @@ record ItemsGood (s : Scope) (n d : ℕ) (cs : CompDrafts) : Type 0 where
 pub le_back : (a b : ℕ) → not (nat_le a b) ≡ false → a ≤ b
 le_back a b h = grind (arith, nat_tests)
 
-tuple_good : (s : Scope) (n d : ℕ) (ts : TermDrafts) → 2 ≤ width ts → width ts ≤ 8 → PartsGood s n d ts → TermGood s n (suc d) (tuple ts)
+tuple_good : (s : Scope) (n d : ℕ) (ts : TermDrafts) → 2 ≤ draft_width ts → draft_width ts ≤ 8 → PartsGood s n d ts → TermGood s n (suc d) (tuple ts)
 tuple_good s n d ts many few h = record {
   fits = h.fits;
   tags = h.tags;
@@ -309,7 +309,7 @@ mutual
   term_good s n zero (set cs) room form whole short = absurd form
   term_good s n (suc d) (tuple ts) room form whole short =
       let r = unbroken_split (part_pieces s n [] ts) (plain (codes ")") ∷ []) whole.1 in
-      tuple_good s n d ts form.0 (le_back (width ts) 8 whole.0)
+      tuple_good s n d ts form.0 (le_back (draft_width ts) 8 whole.0)
       (parts_good s n d [] ts room form.1 r.0 (omega (arith, size_append (part_pieces s n [] ts) (plain (codes ")") ∷ []))))
   term_good s n (suc d) (set cs) room form whole short =
       let r = unbroken_split (item_pieces s n [] cs) (plain (codes "}") ∷ []) whole.1 in

@@ -11,7 +11,7 @@ use Rattle.lois_lexer.specs.Words.{reserved}
 use Rattle.lois_answers.specs.Sound.{IsFreeName, IsSoundLine, AreDistinct, AreParameters, IsSoundCase, IsSound, IsPlaceNumber, IsSoundTrace}
 use Rattle.lois_reader.specs.declared.scope.Scope.{Scope}
 use Rattle.lois_reader.specs.Draft.{ConstraintDraft, TermDraft, LineDraft, CaseDraft, ResultsDraft, TraceDraft, IsWord, IsNumber, IsLineDraft, IsCaseDraft, IsResultsDraft, IsTraceDraft}
-use Rattle.lois_reader.specs.Pieces.{Piece, plain, ruled, each, value, is_among, is_free, constraint_pieces, term_pieces, line_end, line_pieces, case_pieces, name_pieces, last_line, results_pieces, failure_pieces, trace_pieces}
+use Rattle.lois_reader.specs.Pieces.{Piece, plain, ruled, each, value, is_among, is_unreserved, constraint_pieces, term_pieces, line_end, line_pieces, case_pieces, name_pieces, end_piece, results_pieces, failure_pieces, trace_pieces}
 use Rattle.lois_reader.proofs.Forms.{is_among_iff, word_is_name}
 use Rattle.lois_reader.proofs.Outcome.{size, size_append}
 use Rattle.lois_reader.proofs.AnswerFronts.{head_rest, lines_of, scope_of, results_rest, results_rest_is}
@@ -24,7 +24,7 @@ use Rattle.lois_reader.proofs.Unbroken.{unbroken_split, digits_of_value, Room, l
 
 -- ---- names
 
-free_name : (w : List ℕ) → IsWord w → is_free w ≡ true → IsFreeName w
+free_name : (w : List ℕ) → IsWord w → is_unreserved w ≡ true → IsFreeName w
 free_name w form free =
     let parts = and_parts (nat_le (length w) 64) (not (is_among reserved w)) free in
     let none : is_among reserved w ≡ false = not-true (is_among reserved w) parts.1 in
@@ -40,7 +40,7 @@ free_name w form free =
 names_new : (before ws : List (List ℕ)) → Unbroken (name_pieces before ws) → AllByRecursion (λ x. is_among before x ≡ false) ws
 names_new before [] whole = tt
 names_new before (w ∷ ws) whole =
-    let parts = and_parts (is_free w) (not (is_among before w)) (not-false (is_free w && not (is_among before w)) whole.1.0) in
+    let parts = and_parts (is_unreserved w) (not (is_among before w)) (not-false (is_unreserved w && not (is_among before w)) whole.1.0) in
     (not-true (is_among before w) parts.1, fewer ws (names_new (before ++ w ∷ []) ws whole.1.1))
   where
     fewer : (xs : List (List ℕ)) → AllByRecursion (λ x. is_among (before ++ w ∷ []) x ≡ false) xs → AllByRecursion (λ x. is_among before x ≡ false) xs
@@ -62,7 +62,7 @@ record NamesGood (ws : List (List ℕ)) : Type 0 where
 names_good : (before ws : List (List ℕ)) → AllByRecursion IsWord ws → Unbroken (name_pieces before ws) → NamesGood ws
 names_good before [] forms whole = record { free = tt; distinct = tt }
 names_good before (w ∷ ws) forms whole =
-    let parts = and_parts (is_free w) (not (is_among before w)) (not-false (is_free w && not (is_among before w)) whole.1.0) in
+    let parts = and_parts (is_unreserved w) (not (is_among before w)) (not-false (is_unreserved w && not (is_among before w)) whole.1.0) in
     let later = names_good (before ++ w ∷ []) ws forms.1 whole.1.1 in
     record {
       free = (free_name w forms.0 parts.0, later.free);
@@ -93,7 +93,7 @@ line_of_good s n l name h = record {
 pub line_good : (s : Scope) (n : ℕ) (l : LineDraft) → Room s n → IsLineDraft l → Unbroken (line_pieces s n l) → n + size (line_pieces s n l) < 2 ^ 64 → LineGood s n l
 line_good s n l room form whole short =
     let r = unbroken_split (term_pieces s n l.term) (line_end ∷ []) whole.1.1 in
-    line_of_good s n l (free_name l.name form.0 (not-false (is_free l.name) whole.0))
+    line_of_good s n l (free_name l.name form.0 (not-false (is_unreserved l.name) whole.0))
     (term_good s n 64 l.term room form.1 r.0 (omega (arith, size_append (term_pieces s n l.term) (line_end ∷ []))))
 
 record LinesGood (s : Scope) (n : ℕ) (ls : List LineDraft) : Type 0 where
@@ -171,11 +171,11 @@ pub results_good : (d : ResultsDraft) → IsResultsDraft d → Unbroken (results
 results_good d form whole short =
     let s : Scope = scope_of d in
     let rest : Unbroken (plain (codes "lois results ") ∷ plain (codes "1") ∷ results_rest d) = subst Unbroken (results_rest_is d) whole in
-    let r = unbroken_split (head_rest s) (each (case_pieces s) d.cases ++ last_line ∷ []) rest.1.1 in
-    let q = unbroken_split (each (case_pieces s) d.cases) (last_line ∷ []) r.1 in
+    let r = unbroken_split (head_rest s) (each (case_pieces s) d.cases ++ end_piece ∷ []) rest.1.1 in
+    let q = unbroken_split (each (case_pieces s) d.cases) (end_piece ∷ []) r.1 in
     let names : length d.parameters ≤ size (head_rest (scope_of d)) = head_size s in
-    let all : size (results_rest d) ≡ size (head_rest (scope_of d)) + size (each (case_pieces (scope_of d)) d.cases ++ last_line ∷ []) = size_append (head_rest s) (each (case_pieces s) d.cases ++ last_line ∷ []) in
-    let cases : size (each (case_pieces (scope_of d)) d.cases ++ last_line ∷ []) ≡ size (each (case_pieces (scope_of d)) d.cases) + size (last_line ∷ []) = size_append (each (case_pieces s) d.cases) (last_line ∷ []) in
+    let all : size (results_rest d) ≡ size (head_rest (scope_of d)) + size (each (case_pieces (scope_of d)) d.cases ++ end_piece ∷ []) = size_append (head_rest s) (each (case_pieces s) d.cases ++ end_piece ∷ []) in
+    let cases : size (each (case_pieces (scope_of d)) d.cases ++ end_piece ∷ []) ≡ size (each (case_pieces (scope_of d)) d.cases) + size (end_piece ∷ []) = size_append (each (case_pieces s) d.cases) (end_piece ∷ []) in
     let below : size (plain (codes "lois results ") ∷ plain (codes "1") ∷ results_rest d) < 2 ^ 64 = subst (λ (ps : List Piece). size ps < 2 ^ 64) (results_rest_is d) short in
     results_of_good d (head_good s form.parameters r.0)
     (cases_good s d.cases (record { named = omega arith; small = omega arith }) form.cases q.0 (omega arith))
@@ -255,19 +255,19 @@ trace_good t form whole short =
     let s : Scope = trace_scope t in
     let rest : Unbroken (plain (codes "lois results ") ∷ plain (codes "2") ∷ trace_rest t) = subst Unbroken (trace_rest_is t) whole in
     let below : size (plain (codes "lois results ") ∷ plain (codes "2") ∷ trace_rest t) < 2 ^ 64 = subst (λ (ps : List Piece). size ps < 2 ^ 64) (trace_rest_is t) short in
-    let a = unbroken_split (head_rest s) (failure_pieces t ++ (choice_line t ++ (elements_of t ++ last_line ∷ []))) rest.1.1 in
-    let b = unbroken_split (failure_pieces t) (choice_line t ++ (elements_of t ++ last_line ∷ [])) a.1 in
-    let c = unbroken_split (choice_line t) (elements_of t ++ last_line ∷ []) b.1 in
-    let d = unbroken_split (elements_of t) (last_line ∷ []) c.1 in
+    let a = unbroken_split (head_rest s) (failure_pieces t ++ (choice_line t ++ (elements_of t ++ end_piece ∷ []))) rest.1.1 in
+    let b = unbroken_split (failure_pieces t) (choice_line t ++ (elements_of t ++ end_piece ∷ [])) a.1 in
+    let c = unbroken_split (choice_line t) (elements_of t ++ end_piece ∷ []) b.1 in
+    let d = unbroken_split (elements_of t) (end_piece ∷ []) c.1 in
     let numbers : List Piece = plain (codes "choice") ∷ each number_pieces t.choice in
     let lf : List Piece = ruled (nat_le (length t.parameters) (length t.choice)) (codes "\n") ∷ [] in
     let f = unbroken_split numbers lf c.0 in
     let lines = elements_lines s (length t.choice) t.elements d.0 in
     let enough : length t.parameters ≤ length t.choice = le_back (length t.parameters) (length t.choice) f.1.0 in
-    let all : size (trace_rest t) ≡ size (head_rest (trace_scope t)) + size (failure_pieces t ++ (choice_line t ++ (elements_of t ++ last_line ∷ []))) = size_append (head_rest s) (failure_pieces t ++ (choice_line t ++ (elements_of t ++ last_line ∷ []))) in
-    let second : size (failure_pieces t ++ (choice_line t ++ (elements_of t ++ last_line ∷ []))) ≡ size (failure_pieces t) + size (choice_line t ++ (elements_of t ++ last_line ∷ [])) = size_append (failure_pieces t) (choice_line t ++ (elements_of t ++ last_line ∷ [])) in
-    let third : size (choice_line t ++ (elements_of t ++ last_line ∷ [])) ≡ size (choice_line t) + size (elements_of t ++ last_line ∷ []) = size_append (choice_line t) (elements_of t ++ last_line ∷ []) in
-    let fourth : size (elements_of t ++ last_line ∷ []) ≡ size (elements_of t) + size (last_line ∷ []) = size_append (elements_of t) (last_line ∷ []) in
+    let all : size (trace_rest t) ≡ size (head_rest (trace_scope t)) + size (failure_pieces t ++ (choice_line t ++ (elements_of t ++ end_piece ∷ []))) = size_append (head_rest s) (failure_pieces t ++ (choice_line t ++ (elements_of t ++ end_piece ∷ []))) in
+    let second : size (failure_pieces t ++ (choice_line t ++ (elements_of t ++ end_piece ∷ []))) ≡ size (failure_pieces t) + size (choice_line t ++ (elements_of t ++ end_piece ∷ [])) = size_append (failure_pieces t) (choice_line t ++ (elements_of t ++ end_piece ∷ [])) in
+    let third : size (choice_line t ++ (elements_of t ++ end_piece ∷ [])) ≡ size (choice_line t) + size (elements_of t ++ end_piece ∷ []) = size_append (choice_line t) (elements_of t ++ end_piece ∷ []) in
+    let fourth : size (elements_of t ++ end_piece ∷ []) ≡ size (elements_of t) + size (end_piece ∷ []) = size_append (elements_of t) (end_piece ∷ []) in
     let line : size (choice_line t) ≡ size (plain (codes "choice") ∷ each number_pieces t.choice) + size (ruled (nat_le (length t.parameters) (length t.choice)) (codes "\n") ∷ []) = size_append numbers lf in
     let count : length t.choice ≤ size (each number_pieces t.choice) = numbers_size t.choice in
     let fewer : size (each (line_pieces (trace_scope t) (length t.choice)) t.elements) ≤ size (elements_of t) = lines.1 in

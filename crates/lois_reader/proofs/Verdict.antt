@@ -5,9 +5,9 @@ use Rattle.lois_answers.specs.declared.results.Results.{Results}
 use Rattle.lois_reader.specs.Draft.{ResultsDraft, TraceDraft, AnswerDraft}
 use Rattle.lois_reader.specs.Draft as draft
 use Rattle.lois_reader.specs.Pieces.{Piece, results_pieces, trace_pieces, answer_pieces}
-use Rattle.lois_reader.specs.Shape.{text_of, first_broken, SpellsResults, SpellsAnswer, HasResultsShape, HasAnswerShape, LeavesShapeAt, BreaksRuleAt}
+use Rattle.lois_reader.specs.Shape.{text_of_pieces, first_broken, SpellsResults, SpellsAnswer, HasResultsShape, HasAnswerShape, LeavesShapeAt, BreaksRuleAt}
 use Rattle.lois_reader.specs.Reading.{◌>>=◌, End, ErrorIs}
-use Rattle.lois_reader.specs.Refusal.{IsResultsOf, IsAnswerOf, HasNone, IsPlace, IsErrorOfHalt, results_reading, answer_reading}
+use Rattle.lois_reader.specs.Refusal.{IsResultsOf, IsAnswerOf, NoValueHolds, IsErrorPlace, IsErrorOfHalt, results_reading, answer_reading}
 use Rattle.lois_reader.specs.AnswerEnds.{results_text_end, answer_text_end}
 use Rattle.lois_reader.specs.AnswerValues.{results_text_at, answer_text_at}
 use Rattle.lois_reader.specs.declared.ResultError.{ResultError}
@@ -94,16 +94,16 @@ module _ {V D : Type 0} (ends : List ℕ → End) (value_at : List ℕ → Resul
             let at : length h.front ≡ length s - left = omega (arith, ap length h.split, length-append h.front h.rest) in
             inl (subst (LeavesShapeAt (λ t. (d : D) × Spells t d) s) at (leaves_at ends (λ t. (d : D) × Spells t d) reader.spelled reader.accepted s h))
 
-    place_of : (s : List ℕ) (h : ParseError) (e : ResultError) → length s < 2 ^ 64 → ErrorIs h (read s) → IsErrorOfHalt (length s) h e → IsPlace (λ t. (d : D) × Spells t d) Spells pieces s e
-    place_of s halts.NoMemory e short failed is_error = subst (IsPlace (λ t. (d : D) × Spells t d) Spells pieces s) (sym is_error) tt
-    place_of s (halts.Left left) e short failed is_error = subst (IsPlace (λ t. (d : D) × Spells t d) Spells pieces s) (sym is_error) (place_is s left short failed)
+    place_of : (s : List ℕ) (h : ParseError) (e : ResultError) → length s < 2 ^ 64 → ErrorIs h (read s) → IsErrorOfHalt (length s) h e → IsErrorPlace (λ t. (d : D) × Spells t d) Spells pieces s e
+    place_of s halts.NoMemory e short failed is_error = subst (IsErrorPlace (λ t. (d : D) × Spells t d) Spells pieces s) (sym is_error) tt
+    place_of s (halts.Left left) e short failed is_error = subst (IsErrorPlace (λ t. (d : D) × Spells t d) Spells pieces s) (sym is_error) (place_is s left short failed)
 
-    none_of : (s : List ℕ) (h : ParseError) (e : ResultError) → length s < 2 ^ 64 → ErrorIs h (read s) → IsErrorOfHalt (length s) h e → HasNone (Holds s) e
-    none_of s halts.NoMemory e short failed is_error = subst (HasNone (Holds s)) (sym is_error) tt
-    none_of s (halts.Left left) e short failed is_error = subst (HasNone (Holds s)) (sym is_error) (λ v holds. no_ok (sym failed ∙ reader.back s v short holds))
+    none_of : (s : List ℕ) (h : ParseError) (e : ResultError) → length s < 2 ^ 64 → ErrorIs h (read s) → IsErrorOfHalt (length s) h e → NoValueHolds (Holds s) e
+    none_of s halts.NoMemory e short failed is_error = subst (NoValueHolds (Holds s)) (sym is_error) tt
+    none_of s (halts.Left left) e short failed is_error = subst (NoValueHolds (Holds s)) (sym is_error) (λ v holds. no_ok (sym failed ∙ reader.back s v short holds))
 
 -- a text that is some value's isn't refused
-pub accepted_value : {V : Type 0} (Holds : V → Type 0) (e : ResultError) → HasNone Holds e → (v : V) → Holds v → e ≡ NoMemory
+pub accepted_value : {V : Type 0} (Holds : V → Type 0) (e : ResultError) → NoValueHolds Holds e → (v : V) → Holds v → e ≡ NoMemory
 accepted_value Holds NoMemory none v holds = refl
 accepted_value Holds (NotResults k) none v holds = absurd (none v holds)
 
@@ -118,7 +118,7 @@ results_sized s d h = sym (size_is (results_pieces d)) ∙ ap length h.spelled
 results_whole : (s : List ℕ) (d : ResultsDraft) → SpellsResults s d → Unbroken (results_pieces d) → length s < 2 ^ 64 → IsResultsOf s (results_of d)
 results_whole s d h unbroken short =
     let g = results_good d h.form unbroken (omega (arith, results_sized s d h)) in
-    (g.sound, sym (results_text_is (results_of d)) ∙ ap (λ (x : ResultsDraft). text_of (results_pieces x)) g.same ∙ h.spelled)
+    (g.sound, sym (results_text_is (results_of d)) ∙ ap (λ (x : ResultsDraft). text_of_pieces (results_pieces x)) g.same ∙ h.spelled)
 
 results_known : (s : List ℕ) (r : Results) → length s < 2 ^ 64 → IsResultsOf s r → results_reading s ≡ Ok r
 results_known s r short holds = subst (λ (t : List ℕ). results_reading t ≡ Ok r) holds.1 (results_back r holds.0)
@@ -141,10 +141,10 @@ results_hold = read_holds results_text_end results_text_at SpellsResults results
 pub results_those : (s : List ℕ) (r other : Results) → length s < 2 ^ 64 → results_reading s ≡ Ok r → IsResultsOf s other → r ≡ other
 results_those s r other short e holds = same_ok (sym e ∙ results_known s other short holds)
 
-pub results_place : (s : List ℕ) (h : ParseError) (e : ResultError) → length s < 2 ^ 64 → ErrorIs h (results_reading s) → IsErrorOfHalt (length s) h e → IsPlace HasResultsShape SpellsResults results_pieces s e
+pub results_place : (s : List ℕ) (h : ParseError) (e : ResultError) → length s < 2 ^ 64 → ErrorIs h (results_reading s) → IsErrorOfHalt (length s) h e → IsErrorPlace HasResultsShape SpellsResults results_pieces s e
 results_place = place_of results_text_end results_text_at SpellsResults results_pieces results_of IsResultsOf results_reader
 
-pub results_none : (s : List ℕ) (h : ParseError) (e : ResultError) → length s < 2 ^ 64 → ErrorIs h (results_reading s) → IsErrorOfHalt (length s) h e → HasNone (IsResultsOf s) e
+pub results_none : (s : List ℕ) (h : ParseError) (e : ResultError) → length s < 2 ^ 64 → ErrorIs h (results_reading s) → IsErrorOfHalt (length s) h e → NoValueHolds (IsResultsOf s) e
 results_none = none_of results_text_end results_text_at SpellsResults results_pieces results_of IsResultsOf results_reader
 
 -- ---- answers
@@ -158,10 +158,10 @@ answer_sized s a h = sym (size_is (answer_pieces a)) ∙ ap length h.spelled
 answer_whole : (s : List ℕ) (a : AnswerDraft) → SpellsAnswer s a → Unbroken (answer_pieces a) → length s < 2 ^ 64 → IsAnswerOf s (answer_of a)
 answer_whole s (draft.results d) h unbroken short =
     let g = results_good d h.form unbroken (omega (arith, answer_sized s (draft.results d) h)) in
-    (g.sound, sym (results_text_is (results_of d)) ∙ ap (λ (x : ResultsDraft). text_of (results_pieces x)) g.same ∙ h.spelled)
+    (g.sound, sym (results_text_is (results_of d)) ∙ ap (λ (x : ResultsDraft). text_of_pieces (results_pieces x)) g.same ∙ h.spelled)
 answer_whole s (draft.trace t) h unbroken short =
     let g = trace_good t h.form unbroken (omega (arith, answer_sized s (draft.trace t) h)) in
-    (g.sound, sym (trace_text_is (trace_of t)) ∙ ap (λ (x : TraceDraft). text_of (trace_pieces x)) g.same ∙ h.spelled)
+    (g.sound, sym (trace_text_is (trace_of t)) ∙ ap (λ (x : TraceDraft). text_of_pieces (trace_pieces x)) g.same ∙ h.spelled)
 
 answer_known : (s : List ℕ) (a : Answer) → length s < 2 ^ 64 → IsAnswerOf s a → answer_reading s ≡ Ok a
 answer_known s a short holds = subst (λ (t : List ℕ). answer_reading t ≡ Ok a) holds.1 (answer_back a holds.0 (subst (λ (t : List ℕ). length t < 2 ^ 64) (sym holds.1) short))
@@ -183,8 +183,8 @@ answer_holds = read_holds answer_text_end answer_text_at SpellsAnswer answer_pie
 pub answer_those : (s : List ℕ) (a other : Answer) → length s < 2 ^ 64 → answer_reading s ≡ Ok a → IsAnswerOf s other → a ≡ other
 answer_those s a other short e holds = same_ok (sym e ∙ answer_known s other short holds)
 
-pub answer_place : (s : List ℕ) (h : ParseError) (e : ResultError) → length s < 2 ^ 64 → ErrorIs h (answer_reading s) → IsErrorOfHalt (length s) h e → IsPlace HasAnswerShape SpellsAnswer answer_pieces s e
+pub answer_place : (s : List ℕ) (h : ParseError) (e : ResultError) → length s < 2 ^ 64 → ErrorIs h (answer_reading s) → IsErrorOfHalt (length s) h e → IsErrorPlace HasAnswerShape SpellsAnswer answer_pieces s e
 answer_place = place_of answer_text_end answer_text_at SpellsAnswer answer_pieces answer_of IsAnswerOf answer_reader
 
-pub answer_none : (s : List ℕ) (h : ParseError) (e : ResultError) → length s < 2 ^ 64 → ErrorIs h (answer_reading s) → IsErrorOfHalt (length s) h e → HasNone (IsAnswerOf s) e
+pub answer_none : (s : List ℕ) (h : ParseError) (e : ResultError) → length s < 2 ^ 64 → ErrorIs h (answer_reading s) → IsErrorOfHalt (length s) h e → NoValueHolds (IsAnswerOf s) e
 answer_none = none_of answer_text_end answer_text_at SpellsAnswer answer_pieces answer_of IsAnswerOf answer_reader

@@ -101,15 +101,15 @@ unfoldable pub results_end : List ℕ → End
 results_end s = head_end s >>= cases_end
 
 -- nothing follows
-abbrev pub whole : List ℕ → End
-whole [] = Ok []
-whole (b ∷ s) = Err (suc (length s))
+abbrev pub ends_text : List ℕ → End
+ends_text [] = Ok []
+ends_text (b ∷ s) = Err (suc (length s))
 
 unfoldable pub results_text_end : List ℕ → End
-results_text_end s = fixed_end (codes "lois results 1") s >>= results_end >>= whole
+results_text_end s = fixed_end (codes "lois results 1") s >>= results_end >>= ends_text
 
 unfoldable pub version_end : List ℕ → End
 version_end s = if begins 50 s then fixed_end (codes "2") s >>= trace_end else fixed_end (codes "1") s >>= results_end
 
 unfoldable pub answer_text_end : List ℕ → End
-answer_text_end s = fixed_end (codes "lois results ") s >>= version_end >>= whole
+answer_text_end s = fixed_end (codes "lois results ") s >>= version_end >>= ends_text

@@ -11,7 +11,7 @@ use Rattle.lois_answers.specs.declared.results.Results.{Results}
 use Rattle.lois_reader.specs.declared.scope.Scope.{Scope}
 use Rattle.lois_reader.specs.Reading.{◌>>=◌, End, begins}
 use Rattle.lois_reader.specs.Ends.{fixed_end, word_at, number_at}
-use Rattle.lois_reader.specs.Pieces.{is_among, is_free}
+use Rattle.lois_reader.specs.Pieces.{is_among, is_unreserved}
 use Rattle.lois_reader.specs.Values.{given, value_within, many_at, constraint_at}
 use Rattle.lois_reader.specs.TermValues.{term_at}
 
@@ -20,7 +20,7 @@ abbrev pub names_at : ℕ → List (List ℕ) → List ℕ → Result (List (Lis
 names_at zero before s = Err (length s)
 names_at (suc k) before s =
     if begins 32 s then fixed_end (codes " ") s >>= (λ t. word_at t >>= (λ x.
-    if is_free x.0 && not (is_among before x.0) then names_at k (before ++ x.0 ∷ []) x.1 else Err (length t)))
+    if is_unreserved x.0 && not (is_among before x.0) then names_at k (before ++ x.0 ∷ []) x.1 else Err (length t)))
     else Ok (before, s)
 
 unfoldable pub structure_at : List ℕ → Result (Bool × List ℕ) ℕ
@@ -40,7 +40,7 @@ head_at s = do
 
 -- the name of a line
 unfoldable pub name_at : List ℕ → Result (List ℕ × List ℕ) ℕ
-name_at s = word_at s >>= λ x. if is_free x.0 then Ok x else Err (length s)
+name_at s = word_at s >>= λ x. if is_unreserved x.0 then Ok x else Err (length s)
 
 unfoldable pub line_at : Scope → ℕ → List ℕ → Result (LineD × List ℕ) ℕ
 line_at scope n s = do

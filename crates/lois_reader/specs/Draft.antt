@@ -87,9 +87,9 @@ IsLitDraft l = IsOperand l.left × IsOperand l.right
 abbrev pub IsConstraintDraft : ConstraintDraft → Type 0
 IsConstraintDraft = AllByRecursion (AllByRecursion IsLitDraft)
 
-abbrev pub width : TermDrafts → ℕ
-width no_terms = 0
-width (term t ts) = suc (width ts)
+abbrev pub draft_width : TermDrafts → ℕ
+draft_width no_terms = 0
+draft_width (term t ts) = suc (draft_width ts)
 
 -- at most d brackets are open at one place; a tuple has at least two parts
 abbrev mutual
@@ -97,7 +97,7 @@ abbrev mutual
   IsTermDraft d (atom o) = IsOperand o
   IsTermDraft d (tag w) = IsWord w
   IsTermDraft zero (tuple ts) = ⊥
-  IsTermDraft (suc d) (tuple ts) = (2 ≤ width ts) × AreTermDrafts d ts
+  IsTermDraft (suc d) (tuple ts) = (2 ≤ draft_width ts) × AreTermDrafts d ts
   IsTermDraft zero (set cs) = ⊥
   IsTermDraft (suc d) (set cs) = AreCompDrafts d cs
 

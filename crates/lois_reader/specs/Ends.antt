@@ -3,7 +3,7 @@ use Rattle.std.specs.Prelude.{ℕ, zero, suc, Bool, true, false, ◌&&◌, ◌||
 use Rattle.std.specs.Char.{is_ascii_alphabetic, is_ascii_digit}
 use Rattle.std.specs.List.{prefix_len}
 use Rattle.lois_lexer.specs.Bytes.{is_word_byte}
-use Rattle.lois_reader.specs.Reading.{◌>>=◌, End, first, passes, begins}
+use Rattle.lois_reader.specs.Reading.{◌>>=◌, End, first_byte, passes, begins}
 use Rattle.lois_reader.specs.declared.constraint_ends.Connective.{Connective}
 use Rattle.lois_reader.specs.declared.constraint_ends.Connective.TheVariants.{Start, And, Or}
 
@@ -16,7 +16,7 @@ fixed_end (c ∷ cs) (b ∷ s) = if b == c then fixed_end cs s else Err (suc (le
 -- a word, and what follows it
 unfoldable pub word_at : List ℕ → Result (List ℕ × List ℕ) ℕ
 word_at s =
-    if passes is_ascii_alphabetic (first s) then Ok (take (prefix_len is_word_byte s) s, drop (prefix_len is_word_byte s) s)
+    if passes is_ascii_alphabetic (first_byte s) then Ok (take (prefix_len is_word_byte s) s, drop (prefix_len is_word_byte s) s)
     else Err (length s)
 
 unfoldable pub word_end : List ℕ → End
@@ -26,7 +26,7 @@ word_end s = word_at s >>= λ x. Ok x.1
 unfoldable pub number_at : List ℕ → Result (List ℕ × List ℕ) ℕ
 number_at s =
     if begins 48 s then Ok (take 1 s, drop 1 s)
-    else (if passes is_ascii_digit (first s) then Ok (take (prefix_len is_ascii_digit s) s, drop (prefix_len is_ascii_digit s) s)
+    else (if passes is_ascii_digit (first_byte s) then Ok (take (prefix_len is_ascii_digit s) s, drop (prefix_len is_ascii_digit s) s)
     else Err (length s))
 
 unfoldable pub number_end : List ℕ → End

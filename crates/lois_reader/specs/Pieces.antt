@@ -8,7 +8,7 @@ use Rattle.lois_answers.specs.ResultsText.{structure_text}
 use Rattle.lois_answers.specs.TermText.{op_text}
 use Rattle.lois_answers.specs.TraceText.{kind_text}
 use Rattle.lois_reader.specs.declared.scope.Scope.{Scope}
-use Rattle.lois_reader.specs.Draft.{Operand, word, level, LitDraft, ConstraintDraft, TermDraft, atom, tag, tuple, set, TermDrafts, no_terms, term, CompDraft, comp, CompDrafts, no_comps, more, LineDraft, CaseDraft, ResultsDraft, TraceDraft, AnswerDraft, results, trace, width}
+use Rattle.lois_reader.specs.Draft.{Operand, word, level, LitDraft, ConstraintDraft, TermDraft, atom, tag, tuple, set, TermDrafts, no_terms, term, CompDraft, comp, CompDrafts, no_comps, more, LineDraft, CaseDraft, ResultsDraft, TraceDraft, AnswerDraft, results, trace, draft_width}
 
 -- Bytes, and whether a side rule is broken at the first of them.
 pub record Piece : Type 0 where
@@ -39,8 +39,8 @@ abbrev pub is_among : List (List ℕ) → List ℕ → Bool
 is_among words w = list_any (bytes_eq w) words
 
 -- at most 64 bytes, and no word of the language
-abbrev pub is_free : List ℕ → Bool
-is_free w = nat_le (length w) 64 && not (is_among reserved w)
+abbrev pub is_unreserved : List ℕ → Bool
+is_unreserved w = nat_le (length w) 64 && not (is_among reserved w)
 
 -- A scope has the parameters, and whether the atoms are ordered. An operand inside n levels: a word is a parameter (so it is free), and a level is no parameter's and below n.
 abbrev pub operand_piece : Scope → ℕ → Operand → Piece
@@ -87,7 +87,7 @@ abbrev mutual
   pub term_pieces : Scope → ℕ → TermDraft → List Piece
   term_pieces s n (atom o) = operand_piece s n o ∷ []
   term_pieces s n (tag w) = ruled (nat_le (length w) 64) (codes "'" ++ w) ∷ []
-  term_pieces s n (tuple ts) = ruled (nat_le (width ts) 8) (codes "(") ∷ part_pieces s n [] ts ++ plain (codes ")") ∷ []
+  term_pieces s n (tuple ts) = ruled (nat_le (draft_width ts) 8) (codes "(") ∷ part_pieces s n [] ts ++ plain (codes ")") ∷ []
   term_pieces s n (set cs) = plain (codes "{") ∷ item_pieces s n [] cs ++ plain (codes "}") ∷ []
 
   pub part_pieces : Scope → ℕ → List Piece → TermDrafts → List Piece
@@ -105,7 +105,7 @@ abbrev pub line_end : Piece
 line_end = plain (codes "\n")
 
 abbrev pub line_pieces : Scope → ℕ → LineDraft → List Piece
-line_pieces s n l = ruled (is_free l.name) l.name ∷ plain (codes " = ") ∷ term_pieces s n l.term ++ line_end ∷ []
+line_pieces s n l = ruled (is_unreserved l.name) l.name ∷ plain (codes " = ") ∷ term_pieces s n l.term ++ line_end ∷ []
 
 abbrev pub case_pieces : Scope → CaseDraft → List Piece
 case_pieces s c =
@@ -116,7 +116,7 @@ case_pieces s c =
 abbrev pub name_pieces : List (List ℕ) → List (List ℕ) → List Piece
 name_pieces before [] = []
 name_pieces before (w ∷ ws) =
-    plain (codes " ") ∷ ruled (is_free w && not (is_among before w)) w ∷ name_pieces (before ++ w ∷ []) ws
+    plain (codes " ") ∷ ruled (is_unreserved w && not (is_among before w)) w ∷ name_pieces (before ++ w ∷ []) ws
 
 -- the first lines of an answer: its version, its structure and its parameters
 abbrev pub head_pieces : List ℕ → Scope → List Piece
@@ -124,13 +124,13 @@ head_pieces version s =
     plain (codes "lois results ") ∷ plain version ∷ line_end ∷ plain (structure_text s.ordered) ∷
     plain (codes "parameters") ∷ name_pieces [] s.names ++ line_end ∷ []
 
-abbrev pub last_line : Piece
-last_line = plain (codes "end\n")
+abbrev pub end_piece : Piece
+end_piece = plain (codes "end\n")
 
 abbrev pub results_pieces : ResultsDraft → List Piece
 results_pieces r =
     let s : Scope = record { names = r.parameters; ordered = r.ordered } in
-    head_pieces (codes "1") s ++ each (case_pieces s) r.cases ++ last_line ∷ []
+    head_pieces (codes "1") s ++ each (case_pieces s) r.cases ++ end_piece ∷ []
 
 -- a line or a column of a script
 abbrev pub place_piece : List ℕ → Piece
@@ -152,7 +152,7 @@ trace_pieces t =
     head_pieces (codes "2") s ++ failure_pieces t ++
     plain (codes "choice") ∷ choice_pieces t.choice ++
     ruled (nat_le (length t.parameters) (length t.choice)) (codes "\n") ∷
-    each (λ l. plain (codes "for ") ∷ line_pieces s (length t.choice) l) t.elements ++ last_line ∷ []
+    each (λ l. plain (codes "for ") ∷ line_pieces s (length t.choice) l) t.elements ++ end_piece ∷ []
 
 abbrev pub answer_pieces : AnswerDraft → List Piece
 answer_pieces (results r) = results_pieces r

@@ -14,9 +14,9 @@ ErrorIs NoMemory read = Unit {0}
 ErrorIs (Left left) read = read ≡ Err left
 
 -- it isn't want of memory
-abbrev pub IsLeft : ParseError → Type 0
-IsLeft NoMemory = ⊥
-IsLeft (Left left) = Unit {0}
+abbrev pub IsTextError : ParseError → Type 0
+IsTextError NoMemory = ⊥
+IsTextError (Left left) = Unit {0}
 
 abbrev pub ResultIs : {X Y : Type 0} → (X → Y) → Result X ParseError → Result Y ℕ → Type 0
 ResultIs view (Ok x) read = read ≡ Ok (view x)
@@ -27,13 +27,13 @@ abbrev pub End : Type 0
 End = Result (List ℕ) ℕ
 
 -- the first byte, if there is one, and a test of it
-abbrev pub first : List ℕ → Option ℕ
-first [] = None
-first (b ∷ bs) = Some b
+abbrev pub first_byte : List ℕ → Option ℕ
+first_byte [] = None
+first_byte (b ∷ bs) = Some b
 
 abbrev pub passes : (ℕ → Bool) → Option ℕ → Bool
 passes p None = false
 passes p (Some b) = p b
 
 abbrev pub begins : ℕ → List ℕ → Bool
-begins b s = passes (λ c. c == b) (first s)
+begins b s = passes (λ c. c == b) (first_byte s)

@@ -21,14 +21,14 @@ IsSoundAnswer (answers.Results r) = IsSound r
 IsSoundAnswer (answers.Trace t) = IsSoundTrace t
 
 -- The text is no value's. Want of memory says nothing of the text.
-abbrev pub HasNone : {V : Type 0} → (V → Type 0) → ResultError → Type 0
-HasNone {V} Holds NoMemory = Unit {0}
-HasNone {V} Holds (NotResults k) = (v : V) → Holds v → ⊥
+abbrev pub NoValueHolds : {V : Type 0} → (V → Type 0) → ResultError → Type 0
+NoValueHolds {V} Holds NoMemory = Unit {0}
+NoValueHolds {V} Holds (NotResults k) = (v : V) → Holds v → ⊥
 
 -- The error is at the place where the text leaves the shape, or where it first breaks a side rule.
-abbrev pub IsPlace : {D : Type 0} → (List ℕ → Type 0) → (List ℕ → D → Type 0) → (D → List Piece) → List ℕ → ResultError → Type 0
-IsPlace {D} Shape Spells pieces text NoMemory = Unit {0}
-IsPlace {D} Shape Spells pieces text (NotResults k) = LeavesShapeAt Shape text k ⊎ BreaksRuleAt (Spells text) pieces k
+abbrev pub IsErrorPlace : {D : Type 0} → (List ℕ → Type 0) → (List ℕ → D → Type 0) → (D → List Piece) → List ℕ → ResultError → Type 0
+IsErrorPlace {D} Shape Spells pieces text NoMemory = Unit {0}
+IsErrorPlace {D} Shape Spells pieces text (NotResults k) = LeavesShapeAt Shape text k ⊎ BreaksRuleAt (Spells text) pieces k
 
 -- the place of an error is a byte of a text of this length, or its end
 abbrev pub IsOffsetInText : ℕ → ResultError → Type 0

@@ -2,7 +2,7 @@
 
 ghost use Rattle.std.specs.Prelude.{◌<◌, ◌≤◌, length, IfOk};
 ghost use Rattle.lois_reader.specs.Reading.{ResultIs};
-ghost use Rattle.lois_reader.specs.AnswerEnds.{structure_end, name_end, names_end, head_end, when_end, body_end, behind_case, assigned_end, behind_word, entry_at, opening_at, cases_end, not_a_end, not_end, no_end, kind_end, failure_end, choice_number_end, numbers_end, choice_end, element_end, elements_end, trace_end, results_end, whole, results_text_end, version_end, answer_text_end};
+ghost use Rattle.lois_reader.specs.AnswerEnds.{structure_end, name_end, names_end, head_end, when_end, body_end, behind_case, assigned_end, behind_word, entry_at, opening_at, cases_end, not_a_end, not_end, no_end, kind_end, failure_end, choice_number_end, numbers_end, choice_end, element_end, elements_end, trace_end, results_end, ends_text, results_text_end, version_end, answer_text_end};
 
 use crate::constraint_ends::constraint_end;
 use crate::parse_error::ParseError;
@@ -291,7 +291,7 @@ fn results_end(bytes: &[u8]) -> Result<&[u8], ParseError>
 
 /// Nothing, where nothing is left.
 fn whole(bytes: &[u8]) -> Result<&[u8], ParseError>
-    ensures end { ResultIs (λ r. r.now) result (whole bytes.now) }
+    ensures end { ResultIs (λ r. r.now) result (ends_text bytes.now) }
     ensures shorter { IfOk result (λ r. length r.now ≤ length bytes.now) }
 {
     if !bytes.is_empty() {

@@ -3,7 +3,7 @@
 ghost use Rattle.std.specs.Prelude.{◌≡◌, ◌<◌, ◌≤◌, [], length, IfOk, suc};
 ghost use Rattle.lois_answers.specs.CaseView.{case_of};
 ghost use Rattle.lois_answers.specs.LineView.{line_of};
-ghost use Rattle.lois_reader.specs.Pieces.{is_free};
+ghost use Rattle.lois_reader.specs.Pieces.{is_unreserved};
 ghost use Rattle.lois_reader.specs.Reading.{ResultIs};
 ghost use Rattle.lois_reader.specs.AnswerValues.{names_at, structure_at, parameters_at, head_at, name_at, line_at, starts_with, line_follows, lines_at, case_at, cases_at, results_at, place_at, kind_at, failure_at, number_of_choice_at, numbers_at, choice_at, element_at, elements_at, trace_at, results_text_at, version_at, answer_text_at};
 
@@ -24,7 +24,7 @@ const PLACES_END: usize = LONGEST_TEXT + 2;
 
 /// Whether a name may be so: at most 64 bytes, and no word of the language.
 fn is_free(word: &[u8]) -> bool
-    ensures { result ≡ is_free word.now }
+    ensures { result ≡ is_unreserved word.now }
 {
     word.len() <= LONGEST_NAME && !is_reserved(word)
 }

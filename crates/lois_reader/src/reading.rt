@@ -10,7 +10,7 @@ ghost use Rattle.lois_reader.specs.Pieces.{results_pieces, answer_pieces};
 ghost use Rattle.lois_reader.specs.Reading.{ResultIs};
 ghost use Rattle.lois_reader.specs.Shape.{SpellsResults, SpellsAnswer, HasResultsShape, HasAnswerShape};
 ghost use Rattle.lois_reader.specs.declared.ResultError.{ResultError};
-ghost use Rattle.lois_reader.specs.Refusal.{IsSoundAnswer, IsOffsetInText, HasNone, IsPlace, IsResultsOf, IsAnswerOf, results_reading, answer_reading, IsErrorOfHalt};
+ghost use Rattle.lois_reader.specs.Refusal.{IsSoundAnswer, IsOffsetInText, NoValueHolds, IsErrorPlace, IsResultsOf, IsAnswerOf, results_reading, answer_reading, IsErrorOfHalt};
 
 use crate::ResultError;
 use crate::answer_ends::{answer_text_end, results_text_end};
@@ -58,8 +58,8 @@ pub fn read_results(alloc: Global, text: &[u8]) -> Result<Results, ResultError>
     ensures accepts { (others : Results) → IsResultsOf text.now others → IfErr result (λ error. error ≡ ResultError.NoMemory) }
 
     // A refusal comes only where there are none, at the place of the first fault.
-    ensures none { IfErr result (HasNone (IsResultsOf text.now)) }
-    ensures place { IfErr result (IsPlace HasResultsShape SpellsResults results_pieces text.now) }
+    ensures none { IfErr result (NoValueHolds (IsResultsOf text.now)) }
+    ensures place { IfErr result (IsErrorPlace HasResultsShape SpellsResults results_pieces text.now) }
     ensures inside { IfErr result (IsOffsetInText (length text.now)) }
 {
     let len = text.len();
@@ -82,8 +82,8 @@ pub fn read_answer(alloc: Global, text: &[u8]) -> Result<Answer, ResultError>
     ensures accepts { (other : Answer) → IsAnswerOf text.now other → IfErr result (λ error. error ≡ ResultError.NoMemory) }
 
     // A refusal comes only where there is none, at the place of the first fault.
-    ensures none { IfErr result (HasNone (IsAnswerOf text.now)) }
-    ensures place { IfErr result (IsPlace HasAnswerShape SpellsAnswer answer_pieces text.now) }
+    ensures none { IfErr result (NoValueHolds (IsAnswerOf text.now)) }
+    ensures place { IfErr result (IsErrorPlace HasAnswerShape SpellsAnswer answer_pieces text.now) }
     ensures inside { IfErr result (IsOffsetInText (length text.now)) }
 {
     let len = text.len();

@@ -5,7 +5,7 @@ ghost use Rattle.std.specs.List.{prefix_len};
 ghost use Rattle.std.specs.Char.{is_ascii_digit, is_ascii_alphabetic};
 ghost use Rattle.lois_lexer.specs.Bytes.{is_word_byte};
 ghost use Rattle.lois_lexer.specs.Forms.{is_word_form};
-ghost use Rattle.lois_reader.specs.Reading.{ResultIs, IsLeft, begins, first, passes};
+ghost use Rattle.lois_reader.specs.Reading.{ResultIs, IsTextError, begins, first_byte, passes};
 ghost use Rattle.lois_reader.specs.Ends.{fixed_end, word_at, word_end, number_at, number_end, level_end, operand_end, op_end, tag_end, begins_op};
 
 use crate::parse_error::ParseError;
@@ -25,13 +25,13 @@ pub fn begins_op(bytes: &[u8]) -> bool
 }
 
 fn begins_with_letter(bytes: &[u8]) -> bool
-    ensures { result ≡ passes is_ascii_alphabetic (first bytes.now) }
+    ensures { result ≡ passes is_ascii_alphabetic (first_byte bytes.now) }
 {
     !bytes.is_empty() && bytes[0].is_ascii_alphabetic()
 }
 
 fn begins_with_digit(bytes: &[u8]) -> bool
-    ensures { result ≡ passes is_ascii_digit (first bytes.now) }
+    ensures { result ≡ passes is_ascii_digit (first_byte bytes.now) }
 {
     !bytes.is_empty() && bytes[0].is_ascii_digit()
 }
@@ -40,7 +40,7 @@ fn begins_with_digit(bytes: &[u8]) -> bool
 fn word_len(bytes: &[u8]) -> usize
     ensures value { result ≡ prefix_len is_word_byte bytes.now }
     ensures within { result ≤ length bytes.now }
-    ensures some { IsTrue (passes is_ascii_alphabetic (first bytes.now)) → 0 < result }
+    ensures some { IsTrue (passes is_ascii_alphabetic (first_byte bytes.now)) → 0 < result }
 {
     bytes
         .iter()
@@ -52,7 +52,7 @@ fn word_len(bytes: &[u8]) -> usize
 fn digits_len(bytes: &[u8]) -> usize
     ensures value { result ≡ prefix_len is_ascii_digit bytes.now }
     ensures within { result ≤ length bytes.now }
-    ensures some { IsTrue (passes is_ascii_digit (first bytes.now)) → 0 < result }
+    ensures some { IsTrue (passes is_ascii_digit (first_byte bytes.now)) → 0 < result }
 {
     bytes.iter().take_while(|b| b.is_ascii_digit()).count()
 }
@@ -61,7 +61,7 @@ fn digits_len(bytes: &[u8]) -> usize
 pub fn fixed_end<'a>(text: &[u8], bytes: &'a [u8]) -> Result<&'a [u8], ParseError>
     ensures end { ResultIs (λ r. r.now) result (fixed_end text.now bytes.now) }
     ensures shorter { IfOk result (λ r. length r.now + length text.now ≡ length bytes.now) }
-    ensures sure { IfErr result IsLeft }
+    ensures sure { IfErr result IsTextError }
 {
     let mut rest = bytes;
     for wanted in text {
@@ -78,7 +78,7 @@ pub fn fixed_end<'a>(text: &[u8], bytes: &'a [u8]) -> Result<&'a [u8], ParseErro
 pub fn word_at(bytes: &[u8]) -> Result<(&[u8], &[u8]), ParseError>
     ensures word { ResultIs (λ x. (x.0.now, x.1.now)) result (word_at bytes.now) }
     ensures form { IfOk result (λ x. IsTrue (is_word_form x.0.now)) }
-    ensures sure { IfErr result IsLeft }
+    ensures sure { IfErr result IsTextError }
     ensures shorter { IfOk result (λ x. length x.1.now < length bytes.now) }
 {
     if !begins_with_letter(bytes) {

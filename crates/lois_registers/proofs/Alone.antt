@@ -7,7 +7,7 @@ use Rattle.std.proofs.lemmas.List.Elements.{All-head, All-tail, All-weaker}
 use Rattle.lois_answers.specs.TermText.{literal_text, op_text}
 use Rattle.lois_base.specs.declared.guards.Lit.{Lit}
 use Rattle.lois_registers.specs.Places.{IsRegistersOf}
-use Rattle.lois_registers.specs.Texts.{operand_names, operand_text, digit, linked_words, guard_words, stored_words, step_words, order_words, count_words, spelled, front_lines, end_words}
+use Rattle.lois_registers.specs.Texts.{operand_names, operand_text, digit, linked_words, guard_words, stored_words, step_words, order_words, count_words, text_of_words, front_lines, end_words}
 use Rattle.lois_registers.specs.Valid.{IsLiteral, IsRegStep, IsRegisters}
 use Rattle.lois_registers.specs.declared.automata.RegStep.{RegStep}
 use Rattle.lois_registers.specs.declared.automata.Registers.{Registers}
@@ -109,17 +109,17 @@ module _ (ordered : Bool) (n : ℕ) (states : List (List ℕ)) (small : n ≤ 4)
       ap (λ z. z ∷ ss) same ∙ ap (λ z. t ∷ z) (steps_same ss ts (All-tail (IsRegStep ordered n states) s ss h) (All-tail (IsRegStep ordered n states) t ts i) rest)
 
 -- the lines of a text but its last one are those of one register automaton
-lines_same : (r s : Registers) → IsRegisters r → IsRegisters s → flat_map spelled (front_lines r) ++ spelled end_words ≡ flat_map spelled (front_lines s) ++ spelled end_words → front_lines r ≡ front_lines s
+lines_same : (r s : Registers) → IsRegisters r → IsRegisters s → flat_map text_of_words (front_lines r) ++ text_of_words end_words ≡ flat_map text_of_words (front_lines s) ++ text_of_words end_words → front_lines r ≡ front_lines s
 lines_same r s h i e =
-    elim (two_beginnings (front_lines r) (front_lines s) (spelled end_words) (spelled end_words) (front_are r h) (front_are s i) e) [
+    elim (two_beginnings (front_lines r) (front_lines s) (text_of_words end_words) (text_of_words end_words) (front_are r h) (front_are s i) e) [
       | inl (zs, f, g) ↦ closed (front_lines r) (front_lines s) zs f g
       | inr (zs, f, g) ↦ sym (closed (front_lines s) (front_lines r) zs f g)
     ]
   where
-    closed : (xs ys zs : List (List (List ℕ))) → ys ≡ xs ++ zs → spelled end_words ≡ flat_map spelled zs ++ spelled end_words → xs ≡ ys
+    closed : (xs ys zs : List (List (List ℕ))) → ys ≡ xs ++ zs → text_of_words end_words ≡ flat_map text_of_words zs ++ text_of_words end_words → xs ≡ ys
     closed xs ys [] f g = sym (f ∙ append-nil xs)
     closed xs ys (z ∷ zs) f g =
-        absurd (omega (arith, ap length g, length-append (flat_map spelled (z ∷ zs)) (spelled end_words), length-append (spelled z) (flat_map spelled zs), length-append (join_with_byte 32 z) (10 ∷ [])))
+        absurd (omega (arith, ap length g, length-append (flat_map text_of_words (z ∷ zs)) (text_of_words end_words), length-append (text_of_words z) (flat_map text_of_words zs), length-append (join_with_byte 32 z) (10 ∷ [])))
 
 pub one_automaton : (text : List ℕ) (r s : Registers) → IsRegistersOf text r → IsRegistersOf text s → s ≡ r
 one_automaton text r s h i =

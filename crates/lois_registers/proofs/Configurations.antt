@@ -12,7 +12,7 @@ use Rattle.lois_base.specs.declared.guards.Lit.{Lit}
 use Rattle.lois_base.proofs.Members.{same_refl}
 use Rattle.lois_base.proofs.Order.{equal_refl, equal_sym, equal_trans}
 use Rattle.lois_base.proofs.Truths.{op_respects}
-use Rattle.lois_meaning.specs.Kinds.{IsAtomAt, IsTagTerm, IsTagValue, HasParts, AreSame, parts_at}
+use Rattle.lois_meaning.specs.Kinds.{IsAtomAt, IsTagTerm, IsTagValue, HasParts, AreSame, part_values}
 use Rattle.lois_meaning.proofs.Alike.{is_atom_same, is_tag_same, atoms_same, tags_same, atom_equal, parts_same, parts_both, tuples_same}
 use Rattle.lois_registers.specs.Placed.{content_term, configuration_term}
 use Rattle.lois_registers.specs.declared.automata.RegStep.{RegStep}
@@ -28,12 +28,12 @@ content_is : (o : Option ℕ) (e : List Atom) → IsContent (point (content_term
 content_is None e = refl
 content_is (Some i) e = equal_refl (atom_at e i)
 
-contents_are : (os : List (Option ℕ)) (e : List Atom) → AllZip IsContent (parts_at (terms_of (map content_term os)) e) (filled e os)
+contents_are : (os : List (Option ℕ)) (e : List Atom) → AllZip IsContent (part_values (terms_of (map content_term os)) e) (filled e os)
 contents_are [] e = tt
 contents_are (o ∷ os) e = (content_is o e, contents_are os e)
 
 pub value_is : (state : List ℕ) (os : List (Option ℕ)) (e : List Atom) → IsValueOf (point (configuration_term state os) e) (configured state (filled e os))
-value_is state os e = (point (tag state) e, parts_at (terms_of (map content_term os)) e, refl, refl, contents_are os e)
+value_is state os e = (point (tag state) e, part_values (terms_of (map content_term os)) e, refl, refl, contents_are os e)
 
 -- contents that are alike
 abbrev pub IsLike : Option Atom → Option Atom → Type 0

@@ -14,7 +14,7 @@ use Rattle.lois_registers.specs.declared.parse_error.ParseError.{ParseError}
 use Rattle.lois_registers.specs.declared.parse_error.ParseError.TheVariants.{Left, NoMemory}
 use Rattle.lois_base.specs.Names.{IsName, is_name_byte}
 use Rattle.lois_base.proofs.Viewed.{rest_at}
-use Rattle.lois_registers.specs.Texts.{spelled}
+use Rattle.lois_registers.specs.Texts.{text_of_words}
 
 pub behind_is : (text front : List ℕ) → take (length front) text ≡ front → text ≡ front ++ drop (length front) text
 behind_is text front e = sym (take-append-drop (length front) text) ∙ ap (λ z. z ++ drop (length front) text) e
@@ -47,11 +47,11 @@ line_unique (c ∷ x) (d ∷ y) a b h k e =
     (ap (λ z. z ∷ x) first ∙ ap (λ z. d ∷ z) r.0, r.1)
 
 -- ---- words
-spelled_more : (ws : List (List ℕ)) (more : List ℕ) → spelled ws ++ more ≡ join_with_byte 32 ws ++ (10 ∷ more)
+spelled_more : (ws : List (List ℕ)) (more : List ℕ) → text_of_words ws ++ more ≡ join_with_byte 32 ws ++ (10 ∷ more)
 spelled_more ws more = append_assoc (join_with_byte 32 ws) (10 ∷ []) more
 
 -- a line has its words alone
-pub words_unique : (ws vs : List (List ℕ)) (a b : List ℕ) → AreWords ws → AreWords vs → spelled ws ++ a ≡ spelled vs ++ b → (ws ≡ vs) × (a ≡ b)
+pub words_unique : (ws vs : List (List ℕ)) (a b : List ℕ) → AreWords ws → AreWords vs → text_of_words ws ++ a ≡ text_of_words vs ++ b → (ws ≡ vs) × (a ≡ b)
 words_unique ws vs a b h k e =
     let r = line_unique (join_with_byte 32 ws) (join_with_byte 32 vs) a b h.line k.line (sym (spelled_more ws a) ∙ (e ∙ spelled_more vs b)) in
     (sym h.cut ∙ (ap (slice_split (λ c. nat_eq c 32)) r.0 ∙ k.cut), r.1)
@@ -113,21 +113,21 @@ inside_before (b ∷ text) (suc n) l h =
     other b never = pick b (nat_eq b 10) refl never
 
 pub cut_line : (text : List ℕ) (words : List (List ℕ)) (n : ℕ) → n < length text → get_or text n 0 ≡ 10 → ((k : ℕ) → k < n → get_or text k 0 ≡ 10 → ⊥) → words ≡ slice_split (λ b. nat_eq b 32) (take n text) →
-    AreWords words × (text ≡ spelled words ++ take (length text - (n + 1)) (drop (n + 1) text))
+    AreWords words × (text ≡ text_of_words words ++ take (length text - (n + 1)) (drop (n + 1) text))
 cut_line text words n l found before is =
     let joined : join_with_byte 32 words ≡ take n text = ap (join_with_byte 32) is ∙ join_with_byte-slice_split 32 (take n text) in
     let cut : text ≡ take n text ++ drop n text = sym (take-append-drop n text) in
     let rest : drop n text ≡ 10 ∷ drop (n + 1) text = rest_at text n 0 l ∙ ap (λ z. z ∷ drop (n + 1) text) found in
-    let whole : text ≡ spelled words ++ drop (n + 1) text = cut ∙ (ap (λ z. take n text ++ z) rest ∙ (ap (λ z. z ++ (10 ∷ drop (n + 1) text)) (sym joined) ∙ sym (spelled_more words (drop (n + 1) text)))) in (
+    let whole : text ≡ text_of_words words ++ drop (n + 1) text = cut ∙ (ap (λ z. take n text ++ z) rest ∙ (ap (λ z. z ++ (10 ∷ drop (n + 1) text)) (sym joined) ∙ sym (spelled_more words (drop (n + 1) text)))) in (
       record {
         line = subst (λ z. IsTrue (list_all is_inside z)) (sym joined) (inside_before text n (omega arith) before);
         cut = ap (slice_split (λ b. nat_eq b 32)) joined ∙ sym is;
       },
-      whole ∙ ap (λ z. spelled words ++ z) (sym (take_rest text (n + 1))),
+      whole ∙ ap (λ z. text_of_words words ++ z) (sym (take_rest text (n + 1))),
     )
 
 -- a text without the end of a line has no line
-pub no_line : (text : List ℕ) → ((k : ℕ) → k < length text → get_or text k 0 ≡ 10 → ⊥) → (words : List (List ℕ)) (more : List ℕ) → text ≡ spelled words ++ more → ⊥
+pub no_line : (text : List ℕ) → ((k : ℕ) → k < length text → get_or text k 0 ≡ 10 → ⊥) → (words : List (List ℕ)) (more : List ℕ) → text ≡ text_of_words words ++ more → ⊥
 no_line text none words more e =
     let line = join_with_byte 32 words in
     let whole : text ≡ line ++ (10 ∷ more) = e ∙ spelled_more words more in
@@ -163,7 +163,7 @@ pub tails : (a b : List ℕ) (xs ys : List (List ℕ)) → a ∷ xs ≡ b ∷ ys
 tails a b xs ys e = cc
 
 -- the words of a line that begins with names are those that were read
-pub named_only : (first text rest : List ℕ) (ws : List (List ℕ)) → IsTrue (is_clean first) → AreWords ws → text ≡ spelled ws ++ rest → (names : List (List ℕ)) → HasNames first names text → ws ≡ first ∷ names
+pub named_only : (first text rest : List ℕ) (ws : List (List ℕ)) → IsTrue (is_clean first) → AreWords ws → text ≡ text_of_words ws ++ rest → (names : List (List ℕ)) → HasNames first names text → ws ≡ first ∷ names
 named_only first text rest ws c are e names (form, (more, f)) =
     (words_unique ws (first ∷ names) rest more are (named_words first names c form) (sym e ∙ f)).0
 

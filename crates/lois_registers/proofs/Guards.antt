@@ -10,7 +10,7 @@ use Rattle.lois_base.specs.Truth.{atom_at, op_holds, lit_holds, cube_holds, hold
 use Rattle.lois_base.specs.Validity.{AdmitsLit, AdmitsCube, AdmitsConstraint, is_admitted}
 use Rattle.lois_base.specs.declared.guards.Lit.{Lit}
 use Rattle.lois_base.specs.declared.guards.Op.{Op}
-use Rattle.lois_registers.specs.Placed.{placed_literal, placed_lit, with_literal, placed, guard_of, placed_guard}
+use Rattle.lois_registers.specs.Placed.{placed_literal, placed_lit, with_literal, placed, constraint_of_cube, placed_guard}
 use Rattle.lois_registers.specs.Runs.{LiteralHolds}
 use Rattle.lois_registers.proofs.Contents.{at_level, filled, AreBelow}
 
@@ -48,7 +48,7 @@ module _ (e : List Atom) where
         let r : (a b : Atom) × (at_level e (slice_index_or os l.left None) ≡ Some a) × (at_level e (slice_index_or os l.right None) ≡ Some b) × IsTrue (op_holds l.op a b) = literal_from l.op (slice_index_or os l.left None) (slice_index_or os l.right None) t in
         (r.0, r.1, read_at e os l.left ∙ r.2, read_at e os l.right ∙ r.3, r.4)
 
-  add_to : (l : Option Lit) (ls : Option (List Lit)) → IsMetBy e l → IsTrue (holds e (guard_of ls)) → IsTrue (holds e (guard_of (with_literal l ls)))
+  add_to : (l : Option Lit) (ls : Option (List Lit)) → IsMetBy e l → IsTrue (holds e (constraint_of_cube ls)) → IsTrue (holds e (constraint_of_cube (with_literal l ls)))
   add_to (Some l) (Some ls) h k = go (lit_holds e l) (cube_holds e ls) h k
     where
       go : (a b : Bool) → IsTrue a → IsTrue (b || false) → IsTrue ((a && b) || false)
@@ -58,7 +58,7 @@ module _ (e : List Atom) where
   add_to None ls h k = absurd h
   add_to (Some l) None h k = absurd (cc)
 
-  add_from : (l : Option Lit) (ls : Option (List Lit)) → IsTrue (holds e (guard_of (with_literal l ls))) → IsMetBy e l × IsTrue (holds e (guard_of ls))
+  add_from : (l : Option Lit) (ls : Option (List Lit)) → IsTrue (holds e (constraint_of_cube (with_literal l ls))) → IsMetBy e l × IsTrue (holds e (constraint_of_cube ls))
   add_from (Some l) (Some ls) h = go (lit_holds e l) (cube_holds e ls) h
     where
       go : (a b : Bool) → IsTrue ((a && b) || false) → IsTrue a × IsTrue (b || false)
@@ -112,7 +112,7 @@ cube_sound n o os (l ∷ g) b h =
     (lit_sound n o l.op (slice_index_or os l.left None) (slice_index_or os l.right None) (λ i e. level_below n os l.left i b e) (λ i e. level_below n os l.right i b e) (All-head (AdmitsLit o) l g h))
     (cube_sound n o os g b (All-tail (AdmitsLit o) l g h))
 
-guard_sound : (n : ℕ) (o : Bool) (c : Option (List Lit)) → IsSoundCube n o c → ConstraintFits n (guard_of c) × AdmitsConstraint o (guard_of c)
+guard_sound : (n : ℕ) (o : Bool) (c : Option (List Lit)) → IsSoundCube n o c → ConstraintFits n (constraint_of_cube c) × AdmitsConstraint o (constraint_of_cube c)
 guard_sound n o None h = (All-nil (CubeFits n), All-nil (AdmitsCube o))
 guard_sound n o (Some ls) h = (All-cons (CubeFits n) ls [] h.0 (All-nil (CubeFits n)), All-cons (AdmitsCube o) ls [] h.1 (All-nil (AdmitsCube o)))
 

@@ -6,7 +6,7 @@ use Rattle.std.proofs.lemmas.List.{append_cancel_right, length-append, length-ma
 use Rattle.std.proofs.lemmas.List.Elements.{All-map, All-weaker, All-head, All-tail}
 use Rattle.lois_answers.specs.TermText.{literal_text}
 use Rattle.lois_base.specs.declared.guards.Lit.{Lit}
-use Rattle.lois_registers.specs.Texts.{operand_names, linked, linked_words}
+use Rattle.lois_registers.specs.Texts.{operand_names, joined_by_and, linked_words}
 use Rattle.lois_registers.specs.Valid.{IsLiteral, AreLiterals}
 
 -- the words, with `and` behind each
@@ -18,15 +18,15 @@ pub anded_push : (ws : List (List ℕ)) (w : List ℕ) → anded (ws ++ w ∷ []
 anded_push [] w = refl
 anded_push (v ∷ ws) w = ap (λ z. v ∷ codes "and" ∷ z) (anded_push ws w)
 
-pub linked_anded : (w : List ℕ) (ws : List (List ℕ)) → linked (w ∷ ws) ++ codes "and" ∷ [] ≡ anded (w ∷ ws)
+pub linked_anded : (w : List ℕ) (ws : List (List ℕ)) → joined_by_and (w ∷ ws) ++ codes "and" ∷ [] ≡ anded (w ∷ ws)
 linked_anded w [] = refl
 linked_anded w (v ∷ ws) = ap (λ z. w ∷ codes "and" ∷ z) (linked_anded v ws)
 
-linked_length : (w : List ℕ) (ws : List (List ℕ)) → length (linked (w ∷ ws)) ≡ 2 * length ws + 1
+linked_length : (w : List ℕ) (ws : List (List ℕ)) → length (joined_by_and (w ∷ ws)) ≡ 2 * length ws + 1
 linked_length w [] = refl
 linked_length w (v ∷ ws) = omega (arith, linked_length v ws)
 
-linked_and : (ws : List (List ℕ)) (k : ℕ) (d : List ℕ) → k < length (linked ws) → k % 2 ≡ 1 → get_or (linked ws) k d ≡ codes "and"
+linked_and : (ws : List (List ℕ)) (k : ℕ) (d : List ℕ) → k < length (joined_by_and ws) → k % 2 ≡ 1 → get_or (joined_by_and ws) k d ≡ codes "and"
 linked_and [] k d l odd = absurd (omega (arith, l))
 linked_and (w ∷ []) zero d l odd = absurd (omega (arith, odd))
 linked_and (w ∷ []) (suc k) d l odd = absurd (omega (arith, l))
@@ -34,7 +34,7 @@ linked_and (w ∷ v ∷ ws) zero d l odd = absurd (omega (arith, odd))
 linked_and (w ∷ v ∷ ws) (suc zero) d l odd = refl
 linked_and (w ∷ v ∷ ws) (suc (suc k)) d l odd = linked_and (v ∷ ws) k d (omega (arith, l)) (omega (arith, odd))
 
-linked_word : (P : List ℕ → Type 0) (ws : List (List ℕ)) (k : ℕ) (d : List ℕ) → All P ws → k < length (linked ws) → k % 2 ≡ 0 → P (get_or (linked ws) k d)
+linked_word : (P : List ℕ → Type 0) (ws : List (List ℕ)) (k : ℕ) (d : List ℕ) → All P ws → k < length (joined_by_and ws) → k % 2 ≡ 0 → P (get_or (joined_by_and ws) k d)
 linked_word P [] k d h l even = absurd (omega (arith, l))
 linked_word P (w ∷ []) zero d h l even = All-head P w [] h
 linked_word P (w ∷ []) (suc k) d h l even = absurd (omega (arith, l))

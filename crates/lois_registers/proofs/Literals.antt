@@ -1,6 +1,6 @@
 -- Literals as words: operands and operators are read from the front in one way.
 use Rattle.std.proofs.Common.{◌≡◌, ℕ, zero, suc, ◌+◌, ◌≤◌, List, [], ◌∷◌, ◌++◌, refl, sym, ap, ◌∙◌, arith, append_assoc}
-use Rattle.lois_answers.specs.TermText.{operand_text as named_text, op_text, literal_text}
+use Rattle.lois_answers.specs.TermText.{level_or_name_text as named_text, op_text, literal_text}
 use Rattle.lois_base.specs.declared.guards.Lit.{Lit}
 use Rattle.lois_base.specs.declared.guards.Op.{Op}
 use Rattle.lois_base.specs.declared.guards.Op.TheVariants.{Eq, Ne, Lt}

@@ -14,7 +14,7 @@ use Rattle.lois_base.specs.declared.guards.Lit.{Lit}
 use Rattle.lois_base.proofs.Validity.{all_that_are}
 use Rattle.std.specs.List.{All, flat_map}
 use Rattle.std.proofs.lemmas.List.{take_more, flat_map_more}
-use Rattle.lois_registers.specs.Placed.{HasGuard, IsMadeOf, IsIdle, AreMade, AddsMade, placements}
+use Rattle.lois_registers.specs.Placed.{HasGuard, IsSpelledComp, IsIdle, AreMade, AddsMade, placements}
 use Rattle.lois_registers.proofs.Contents.{place_is}
 use Rattle.lois_registers.proofs.Members.{Each}
 
@@ -36,18 +36,18 @@ adds_more ks ls old new newer (made, e, h) (more, f, i) = (
 pub adds_to : (ks ls made new : List CompD) → AreMade ks made → AddsMade ls made new → AreMade (ks ++ ls) new
 adds_to ks ls made new h (more, e, i) = subst (AreMade (ks ++ ls)) (sym e) (made_append ks ls made more h i)
 
-pub adds_one : (k l : CompD) (old new : List CompD) → new ≡ old ++ l ∷ [] → IsMadeOf k l → AddsMade (k ∷ []) old new
+pub adds_one : (k l : CompD) (old new : List CompD) → new ≡ old ++ l ∷ [] → IsSpelledComp k l → AddsMade (k ∷ []) old new
 adds_one k l old new e h = (l ∷ [], e, inr (l, [], refl, h, refl))
 
 pub adds_idle : (k : CompD) (old new : List CompD) → new ≡ old → IsIdle k → AddsMade (k ∷ []) old new
 adds_idle k old new e h = ([], e ∙ sym (append-nil old), inl (h, refl))
 
 module _ (w : TermD) (x c : List Atom) where
-  make_same : (k l : CompD) → IsMadeOf k l → MakesAt w x k c → MakesAt w x l c
+  make_same : (k l : CompD) → IsSpelledComp k l → MakesAt w x k c → MakesAt w x l c
   make_same (comp m g t) (comp n h s) (i, j, same) (e, is, a, b) =
       (e, record { count = is.count ∙ i; guard = subst IsTrue (sym (same.truth (c ++ e))) is.guard }, a ∙ j, b)
 
-  same_make : (k l : CompD) → IsMadeOf k l → MakesAt w x l c → MakesAt w x k c
+  same_make : (k l : CompD) → IsSpelledComp k l → MakesAt w x l c → MakesAt w x k c
   same_make (comp m g t) (comp n h s) (i, j, same) (e, is, a, b) =
       (e, record { count = is.count ∙ sym i; guard = subst IsTrue (same.truth (c ++ e)) is.guard }, a ∙ sym j, b)
 
@@ -74,28 +74,28 @@ module _ (w : TermD) (x c : List Atom) where
       go (inr j) r = inr (r j)
 
 -- a fact that goes over from a wanted comprehension to the one that is made of it
-pub each_made : (P : CompD → Type 0) → ((k l : CompD) → IsMadeOf k l → P k → P l) → (ks made : List CompD) → AreMade ks made → Each P ks → Each P made
+pub each_made : (P : CompD → Type 0) → ((k l : CompD) → IsSpelledComp k l → P k → P l) → (ks made : List CompD) → AreMade ks made → Each P ks → Each P made
 each_made P step [] made h i = subst (Each P) (sym h) tt
 each_made P step (k ∷ ks) made (inl (idle, h)) i = each_made P step ks made h i.1
 each_made P step (k ∷ ks) made (inr (l, rest, e, is, h)) i = subst (Each P) (sym e) (step k l is i.0, each_made P step ks rest h i.1)
 
-pub fits_made : (n : ℕ) (k l : CompD) → IsMadeOf k l → CompFits n k → CompFits n l
+pub fits_made : (n : ℕ) (k l : CompD) → IsSpelledComp k l → CompFits n k → CompFits n l
 fits_made n (comp m g t) (comp o h s) (i, j, same) f = go m o t s i j f
   where
     go : (m o : ℕ) (t s : TermD) → m ≡ o → t ≡ s → CompFits n (comp m g t) → CompFits n (comp o h s)
     go m o t s i j f =
         subst (λ z. CompFits n (comp z h s)) i (subst (λ z. CompFits n (comp m h z)) j (f.0, same.levels (n + m) f.1, f.2))
 
-pub admits_made : (o : Bool) (k l : CompD) → IsMadeOf k l → AdmitsComp o k → AdmitsComp o l
+pub admits_made : (o : Bool) (k l : CompD) → IsSpelledComp k l → AdmitsComp o k → AdmitsComp o l
 admits_made o (comp m g t) (comp n h s) (i, j, same) f = subst (λ z. AdmitsComp o (comp n h z)) j (same.operators o f.0, f.1)
 
-pub widths_made : (k l : CompD) → IsMadeOf k l → CompHasBoundedWidths k → CompHasBoundedWidths l
+pub widths_made : (k l : CompD) → IsSpelledComp k l → CompHasBoundedWidths k → CompHasBoundedWidths l
 widths_made (comp m g t) (comp n h s) (i, j, same) f = subst (λ z. CompHasBoundedWidths (comp n h z)) j f
 
-pub tags_made : (k l : CompD) → IsMadeOf k l → CompHasTags k → CompHasTags l
+pub tags_made : (k l : CompD) → IsSpelledComp k l → CompHasTags k → CompHasTags l
 tags_made (comp m g t) (comp n h s) (i, j, same) f = subst (λ z. CompHasTags (comp n h z)) j f
 
-pub depth_made : (d : ℕ) (k l : CompD) → IsMadeOf k l → depth_of_comp k ≤ d → depth_of_comp l ≤ d
+pub depth_made : (d : ℕ) (k l : CompD) → IsSpelledComp k l → depth_of_comp k ≤ d → depth_of_comp l ≤ d
 depth_made d (comp m g t) (comp n h s) (i, j, same) f = subst (λ z. depth_of_comp (comp n h z) ≤ d) j f
 
 -- the facts of lists

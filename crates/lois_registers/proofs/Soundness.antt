@@ -10,7 +10,7 @@ use Rattle.lois_base.specs.Fits.{Fits, PartsFit, CompFits, CubeFits, ConstraintF
 use Rattle.lois_base.specs.Names.{IsName}
 use Rattle.lois_base.specs.Validity.{AdmitsTerm, AdmitsParts, AdmitsComp, AdmitsCube, AdmitsConstraint, AdmitsLit, HasBoundedWidths, PartsHaveBoundedWidths, CompHasBoundedWidths, count_of_parts}
 use Rattle.lois_base.specs.declared.guards.Lit.{Lit}
-use Rattle.lois_registers.specs.Placed.{full, placements, content_term, configuration_term, configuration_comp, configurations, step_item, step_comp, step_comps, AreMade, IsMadeOf}
+use Rattle.lois_registers.specs.Placed.{full, placements, content_term, configuration_term, configuration_comp, configurations, step_item, step_comp, step_comps, AreMade, IsSpelledComp}
 use Rattle.lois_registers.specs.Runs.{stored_from}
 use Rattle.lois_registers.specs.Valid.{IsRegStep, IsLiteral}
 use Rattle.lois_registers.specs.declared.automata.RegStep.{RegStep}
@@ -147,7 +147,7 @@ module _ (o : Bool) (k : ℕ) (some : 1 ≤ k) (few : k ≤ 4) where
   steps_sound states names steps are made h =
       set_sound o 2 made (omega arith) (each_made (IsSoundComp o 2) over (step_comps (placements k) steps) made h (each_flat (IsSoundComp o 2) (λ s. map (step_comp s) (placements k)) steps (λ s i. each_map (IsSoundComp o 2) (step_comp s) (placements k) (λ os j. step_sound states names s (All-contains (IsRegStep o k states) steps s are i) os (place_is k os j)))))
     where
-      over : (a b : CompD) → IsMadeOf a b → IsSoundComp o 2 a → IsSoundComp o 2 b
+      over : (a b : CompD) → IsSpelledComp a b → IsSoundComp o 2 a → IsSoundComp o 2 b
       over a b is h = record {
         levels = fits_made 0 a b is h.levels;
         tags = tags_made a b is h.tags;

@@ -13,7 +13,7 @@ use Rattle.lois_base.specs.declared.guards.Op.{Op}
 use Rattle.lois_base.specs.declared.guards.Op.TheVariants.{Eq, Ne, Lt}
 use Rattle.lois_base.proofs.Connectives.{both_true}
 use Rattle.lois_registers.specs.Reading.{is_clean, AreWords, AreOf, IsCutAt}
-use Rattle.lois_registers.specs.Texts.{operand_names, operand_text, digit, linked, guard_words, stored_words, step_words}
+use Rattle.lois_registers.specs.Texts.{operand_names, operand_text, digit, joined_by_and, guard_words, stored_words, step_words}
 use Rattle.lois_registers.specs.Valid.{AreIncreasing, IsLiteral, IsRegStep}
 use Rattle.lois_registers.specs.declared.automata.RegStep.{RegStep}
 use Rattle.lois_registers.proofs.Cuts.{clean_words, name_clean}
@@ -113,12 +113,12 @@ literal_word l i j = (
 and_word : IsGuardWord (codes "and")
 and_word = (refl, λ e. let bad : ◌≡◌ {A = ℕ} 97 115 = cc in absurd (omega (arith, bad)))
 
-linked_guard : (ws : List (List ℕ)) → All IsGuardWord ws → All IsGuardWord (linked ws)
+linked_guard : (ws : List (List ℕ)) → All IsGuardWord ws → All IsGuardWord (joined_by_and ws)
 linked_guard [] h = h
 linked_guard (w ∷ []) h = h
 linked_guard (w ∷ v ∷ ws) h =
-    All-cons IsGuardWord w (codes "and" ∷ linked (v ∷ ws)) (All-head IsGuardWord w (v ∷ ws) h)
-    (All-cons IsGuardWord (codes "and") (linked (v ∷ ws)) and_word (linked_guard (v ∷ ws) (All-tail IsGuardWord w (v ∷ ws) h)))
+    All-cons IsGuardWord w (codes "and" ∷ joined_by_and (v ∷ ws)) (All-head IsGuardWord w (v ∷ ws) h)
+    (All-cons IsGuardWord (codes "and") (joined_by_and (v ∷ ws)) and_word (linked_guard (v ∷ ws) (All-tail IsGuardWord w (v ∷ ws) h)))
 
 pub guard_are : (ordered : Bool) (n : ℕ) (ls : List Lit) → n ≤ 4 → All (IsLiteral ordered n) ls → All IsGuardWord (guard_words ls)
 guard_are ordered n [] l h = All-cons IsGuardWord (codes "true") [] (refl, λ e. let bad : ◌≡◌ {A = ℕ} 116 111 = cc in absurd (omega (arith, bad))) (All-nil IsGuardWord)

@@ -6,8 +6,8 @@ use Rattle.std.proofs.lemmas.List.{length-append, length-map}
 use Rattle.std.proofs.lemmas.List.Elements.{All-nil, All-cons, All-contains, Contains-append_left, Contains-push}
 use Rattle.lois_base.specs.Names.{IsName}
 use Rattle.lois_registers.specs.Places.{AreGoodLines, BreaksAt, StopsIn, IsRegistersOf}
-use Rattle.lois_registers.specs.Reading.{IsLeftAt, HasNoLine}
-use Rattle.lois_registers.specs.Texts.{spelled, title_words, order_words, count_words, states_words, initial_words, final_words, step_words, end_words, head_lines, front_lines}
+use Rattle.lois_registers.specs.Reading.{IsLeftAt, BeginsWithNoLine}
+use Rattle.lois_registers.specs.Texts.{text_of_words, title_words, order_words, count_words, states_words, initial_words, final_words, step_words, end_words, head_lines, front_lines}
 use Rattle.lois_registers.specs.Valid.{IsCount, AreStates, AreListed, IsRegStep, IsRegisters}
 use Rattle.lois_registers.specs.declared.automata.RegStep.{RegStep}
 use Rattle.lois_registers.specs.declared.automata.Registers.{Registers}
@@ -19,19 +19,19 @@ use Rattle.lois_registers.proofs.Members.{contains_first}
 abbrev Lines : Type 0
 Lines = List (List (List ℕ))
 
-flat_append : (xs ys : Lines) → flat_map spelled (xs ++ ys) ≡ flat_map spelled xs ++ flat_map spelled ys
+flat_append : (xs ys : Lines) → flat_map text_of_words (xs ++ ys) ≡ flat_map text_of_words xs ++ flat_map text_of_words ys
 flat_append [] ys = refl
-flat_append (x ∷ xs) ys = ap (λ z. spelled x ++ z) (flat_append xs ys) ∙ sym (append_assoc (spelled x) (flat_map spelled xs) (flat_map spelled ys))
+flat_append (x ∷ xs) ys = ap (λ z. text_of_words x ++ z) (flat_append xs ys) ∙ sym (append_assoc (text_of_words x) (flat_map text_of_words xs) (flat_map text_of_words ys))
 
 -- further lines were read
-pub front_more : (lines more : Lines) (text rest after : List ℕ) → text ≡ flat_map spelled lines ++ rest → rest ≡ flat_map spelled more ++ after → text ≡ flat_map spelled (lines ++ more) ++ after
+pub front_more : (lines more : Lines) (text rest after : List ℕ) → text ≡ flat_map text_of_words lines ++ rest → rest ≡ flat_map text_of_words more ++ after → text ≡ flat_map text_of_words (lines ++ more) ++ after
 front_more lines more text rest after e f =
-    e ∙ (ap (λ z. flat_map spelled lines ++ z) f ∙ (sym (append_assoc (flat_map spelled lines) (flat_map spelled more) after) ∙ ap (λ z. z ++ after) (sym (flat_append lines more))))
+    e ∙ (ap (λ z. flat_map text_of_words lines ++ z) f ∙ (sym (append_assoc (flat_map text_of_words lines) (flat_map text_of_words more) after) ∙ ap (λ z. z ++ after) (sym (flat_append lines more))))
 
-one_line : (words : List (List ℕ)) (after : List ℕ) → spelled words ++ after ≡ flat_map spelled (words ∷ []) ++ after
-one_line words after = ap (λ z. z ++ after) (sym (append-nil (spelled words)))
+one_line : (words : List (List ℕ)) (after : List ℕ) → text_of_words words ++ after ≡ flat_map text_of_words (words ∷ []) ++ after
+one_line words after = ap (λ z. z ++ after) (sym (append-nil (text_of_words words)))
 
-pub front_one : (lines : Lines) (words : List (List ℕ)) (text rest after : List ℕ) → text ≡ flat_map spelled lines ++ rest → rest ≡ spelled words ++ after → text ≡ flat_map spelled (lines ++ words ∷ []) ++ after
+pub front_one : (lines : Lines) (words : List (List ℕ)) (text rest after : List ℕ) → text ≡ flat_map text_of_words lines ++ rest → rest ≡ text_of_words words ++ after → text ≡ flat_map text_of_words (lines ++ words ∷ []) ++ after
 front_one lines words text rest after e f = front_more lines (words ∷ []) text rest after e (f ∙ one_line words after)
 
 -- register automata with these first lines
@@ -75,85 +75,85 @@ too_many more steps line rest e full few =
     omega (arith, ap length e, length-append (map step_words steps ++ line ∷ []) rest, length-append (map step_words steps) (line ∷ []), length-map more step_words, length-map steps step_words)
 
 -- what stops the reading at the lines so far
-stop : (text rest : List ℕ) (lines : Lines) (h : ParseError) (C : Type 0) → text ≡ flat_map spelled lines ++ rest → AreGoodLines lines →
-    (C → (line : List (List ℕ)) (more : List ℕ) → rest ≡ spelled line ++ more → AreGoodLines (lines ++ line ∷ []) → ⊥) →
+stop : (text rest : List ℕ) (lines : Lines) (h : ParseError) (C : Type 0) → text ≡ flat_map text_of_words lines ++ rest → AreGoodLines lines →
+    (C → (line : List (List ℕ)) (more : List ℕ) → rest ≡ text_of_words line ++ more → AreGoodLines (lines ++ line ∷ []) → ⊥) →
     ((r : Registers) → front_lines r ≡ lines → ⊥) → IsLeftAt rest C h → StopsIn text h
 stop text rest lines (Left n) C e good further short (l, cause) =
     (lines, rest, record { whole = e; good = good; further = further cause; last = λ r v f _. absurd (short r f) }, l)
 stop text rest lines NoMemory C e good further short h = tt
 
 module _ (text : List ℕ) (h : ParseError) where
-  pub stop_title : IsLeftAt text ((more : List ℕ) → text ≡ spelled title_words ++ more → ⊥) h → StopsIn text h
+  pub stop_title : IsLeftAt text ((more : List ℕ) → text ≡ text_of_words title_words ++ more → ⊥) h → StopsIn text h
   stop_title left =
       let r = made false 1 some_states (codes "s") [] [] in
-      stop text text [] h ((more : List ℕ) → text ≡ spelled title_words ++ more → ⊥) refl (r, front_lines r, made_valid false 1 some_states (codes "s") [] [] (omega arith, omega arith) are_some (contains_first (codes "s") []) (no_finals some_states) (omega arith) (All-nil (IsRegStep false 1 some_states)), refl)
-      (λ none line more e (r, rest, v, f). let is : line ≡ title_words = cc in none more (subst (λ z. text ≡ spelled z ++ more) is e)) (λ r e. absurd (cc)) left
+      stop text text [] h ((more : List ℕ) → text ≡ text_of_words title_words ++ more → ⊥) refl (r, front_lines r, made_valid false 1 some_states (codes "s") [] [] (omega arith, omega arith) are_some (contains_first (codes "s") []) (no_finals some_states) (omega arith) (All-nil (IsRegStep false 1 some_states)), refl)
+      (λ none line more e (r, rest, v, f). let is : line ≡ title_words = cc in none more (subst (λ z. text ≡ text_of_words z ++ more) is e)) (λ r e. absurd (cc)) left
 
-  module _ (rest1 : List ℕ) (e1 : text ≡ spelled title_words ++ rest1) where
-    whole1 : text ≡ flat_map spelled (title_words ∷ []) ++ rest1
+  module _ (rest1 : List ℕ) (e1 : text ≡ text_of_words title_words ++ rest1) where
+    whole1 : text ≡ flat_map text_of_words (title_words ∷ []) ++ rest1
     whole1 = front_one [] title_words text text rest1 refl e1
 
-    pub stop_order : IsLeftAt rest1 ((o : Bool) (more : List ℕ) → rest1 ≡ spelled (order_words o) ++ more → ⊥) h → StopsIn text h
+    pub stop_order : IsLeftAt rest1 ((o : Bool) (more : List ℕ) → rest1 ≡ text_of_words (order_words o) ++ more → ⊥) h → StopsIn text h
     stop_order left =
         let r = made false 1 some_states (codes "s") [] [] in
-        stop text rest1 (title_words ∷ []) h ((o : Bool) (more : List ℕ) → rest1 ≡ spelled (order_words o) ++ more → ⊥) whole1 (r, _, made_valid false 1 some_states (codes "s") [] [] (omega arith, omega arith) are_some (contains_first (codes "s") []) (no_finals some_states) (omega arith) (All-nil (IsRegStep false 1 some_states)), refl)
-        (λ none line more e (r, rest, v, f). let is : line ≡ order_words r.order = cc in none r.order more (subst (λ z. rest1 ≡ spelled z ++ more) is e)) (λ r e. absurd (cc)) left
+        stop text rest1 (title_words ∷ []) h ((o : Bool) (more : List ℕ) → rest1 ≡ text_of_words (order_words o) ++ more → ⊥) whole1 (r, _, made_valid false 1 some_states (codes "s") [] [] (omega arith, omega arith) are_some (contains_first (codes "s") []) (no_finals some_states) (omega arith) (All-nil (IsRegStep false 1 some_states)), refl)
+        (λ none line more e (r, rest, v, f). let is : line ≡ order_words r.order = cc in none r.order more (subst (λ z. rest1 ≡ text_of_words z ++ more) is e)) (λ r e. absurd (cc)) left
 
-    module _ (o : Bool) (rest2 : List ℕ) (e2 : rest1 ≡ spelled (order_words o) ++ rest2) where
-      whole2 : text ≡ flat_map spelled (title_words ∷ order_words o ∷ []) ++ rest2
+    module _ (o : Bool) (rest2 : List ℕ) (e2 : rest1 ≡ text_of_words (order_words o) ++ rest2) where
+      whole2 : text ≡ flat_map text_of_words (title_words ∷ order_words o ∷ []) ++ rest2
       whole2 = front_one (title_words ∷ []) (order_words o) text rest1 rest2 whole1 e2
 
-      pub stop_count : IsLeftAt rest2 (HasNoLine IsCount count_words rest2) h → StopsIn text h
+      pub stop_count : IsLeftAt rest2 (BeginsWithNoLine IsCount count_words rest2) h → StopsIn text h
       stop_count left =
           let r = made o 1 some_states (codes "s") [] [] in
-          stop text rest2 (title_words ∷ order_words o ∷ []) h (HasNoLine IsCount count_words rest2) whole2 (r, _, made_valid o 1 some_states (codes "s") [] [] (omega arith, omega arith) are_some (contains_first (codes "s") []) (no_finals some_states) (omega arith) (All-nil (IsRegStep o 1 some_states)), refl)
-          (λ none line more e (r, rest, v, f). let is : line ≡ count_words r.registers = cc in none r.registers more (v.some, v.few) (subst (λ z. rest2 ≡ spelled z ++ more) is e)) (λ r e. absurd (cc)) left
+          stop text rest2 (title_words ∷ order_words o ∷ []) h (BeginsWithNoLine IsCount count_words rest2) whole2 (r, _, made_valid o 1 some_states (codes "s") [] [] (omega arith, omega arith) are_some (contains_first (codes "s") []) (no_finals some_states) (omega arith) (All-nil (IsRegStep o 1 some_states)), refl)
+          (λ none line more e (r, rest, v, f). let is : line ≡ count_words r.registers = cc in none r.registers more (v.some, v.few) (subst (λ z. rest2 ≡ text_of_words z ++ more) is e)) (λ r e. absurd (cc)) left
 
-      module _ (k : ℕ) (count : IsCount k) (rest3 : List ℕ) (e3 : rest2 ≡ spelled (count_words k) ++ rest3) where
-        whole3 : text ≡ flat_map spelled (title_words ∷ order_words o ∷ count_words k ∷ []) ++ rest3
+      module _ (k : ℕ) (count : IsCount k) (rest3 : List ℕ) (e3 : rest2 ≡ text_of_words (count_words k) ++ rest3) where
+        whole3 : text ≡ flat_map text_of_words (title_words ∷ order_words o ∷ count_words k ∷ []) ++ rest3
         whole3 = front_one (title_words ∷ order_words o ∷ []) (count_words k) text rest2 rest3 whole2 e3
 
-        pub stop_states : IsLeftAt rest3 (HasNoLine AreStates states_words rest3) h → StopsIn text h
+        pub stop_states : IsLeftAt rest3 (BeginsWithNoLine AreStates states_words rest3) h → StopsIn text h
         stop_states left =
             let r = made o k some_states (codes "s") [] [] in
-            stop text rest3 (title_words ∷ order_words o ∷ count_words k ∷ []) h (HasNoLine AreStates states_words rest3) whole3 (r, _, made_valid o k some_states (codes "s") [] [] count are_some (contains_first (codes "s") []) (no_finals some_states) (omega arith) (All-nil (IsRegStep o k some_states)), refl)
-            (λ none line more e (r, rest, v, f). let is : line ≡ states_words r.states = cc in none r.states more v.states (subst (λ z. rest3 ≡ spelled z ++ more) is e)) (λ r e. absurd (cc)) left
+            stop text rest3 (title_words ∷ order_words o ∷ count_words k ∷ []) h (BeginsWithNoLine AreStates states_words rest3) whole3 (r, _, made_valid o k some_states (codes "s") [] [] count are_some (contains_first (codes "s") []) (no_finals some_states) (omega arith) (All-nil (IsRegStep o k some_states)), refl)
+            (λ none line more e (r, rest, v, f). let is : line ≡ states_words r.states = cc in none r.states more v.states (subst (λ z. rest3 ≡ text_of_words z ++ more) is e)) (λ r e. absurd (cc)) left
 
-        module _ (states : List (List ℕ)) (are : AreStates states) (rest4 : List ℕ) (e4 : rest3 ≡ spelled (states_words states) ++ rest4) where
-          whole4 : text ≡ flat_map spelled (title_words ∷ order_words o ∷ count_words k ∷ states_words states ∷ []) ++ rest4
+        module _ (states : List (List ℕ)) (are : AreStates states) (rest4 : List ℕ) (e4 : rest3 ≡ text_of_words (states_words states) ++ rest4) where
+          whole4 : text ≡ flat_map text_of_words (title_words ∷ order_words o ∷ count_words k ∷ states_words states ∷ []) ++ rest4
           whole4 = front_one (title_words ∷ order_words o ∷ count_words k ∷ []) (states_words states) text rest3 rest4 whole3 e4
 
-          pub stop_initial : IsLeftAt rest4 (HasNoLine (Contains states) initial_words rest4) h → StopsIn text h
+          pub stop_initial : IsLeftAt rest4 (BeginsWithNoLine (Contains states) initial_words rest4) h → StopsIn text h
           stop_initial left =
               let s = head_of states are in
               let r = made o k states s.0 [] [] in
-              stop text rest4 (title_words ∷ order_words o ∷ count_words k ∷ states_words states ∷ []) h (HasNoLine (Contains states) initial_words rest4) whole4 (r, _, made_valid o k states s.0 [] [] count are s.1 (no_finals states) (omega arith) (All-nil (IsRegStep o k states)), refl)
-              (λ none line more e (r, rest, v, f). let is : line ≡ initial_words r.initial = cc in let own : r.states ≡ states = cc in none r.initial more (subst (λ z. Contains z r.initial) own v.initial) (subst (λ z. rest4 ≡ spelled z ++ more) is e)) (λ r e. absurd (cc)) left
+              stop text rest4 (title_words ∷ order_words o ∷ count_words k ∷ states_words states ∷ []) h (BeginsWithNoLine (Contains states) initial_words rest4) whole4 (r, _, made_valid o k states s.0 [] [] count are s.1 (no_finals states) (omega arith) (All-nil (IsRegStep o k states)), refl)
+              (λ none line more e (r, rest, v, f). let is : line ≡ initial_words r.initial = cc in let own : r.states ≡ states = cc in none r.initial more (subst (λ z. Contains z r.initial) own v.initial) (subst (λ z. rest4 ≡ text_of_words z ++ more) is e)) (λ r e. absurd (cc)) left
 
-          module _ (initial : List ℕ) (listed : Contains states initial) (rest5 : List ℕ) (e5 : rest4 ≡ spelled (initial_words initial) ++ rest5) where
-            whole5 : text ≡ flat_map spelled (title_words ∷ order_words o ∷ count_words k ∷ states_words states ∷ initial_words initial ∷ []) ++ rest5
+          module _ (initial : List ℕ) (listed : Contains states initial) (rest5 : List ℕ) (e5 : rest4 ≡ text_of_words (initial_words initial) ++ rest5) where
+            whole5 : text ≡ flat_map text_of_words (title_words ∷ order_words o ∷ count_words k ∷ states_words states ∷ initial_words initial ∷ []) ++ rest5
             whole5 = front_one (title_words ∷ order_words o ∷ count_words k ∷ states_words states ∷ []) (initial_words initial) text rest4 rest5 whole4 e5
 
-            pub stop_final : IsLeftAt rest5 (HasNoLine (AreListed states) final_words rest5) h → StopsIn text h
+            pub stop_final : IsLeftAt rest5 (BeginsWithNoLine (AreListed states) final_words rest5) h → StopsIn text h
             stop_final left =
                 let r = made o k states initial [] [] in
-                stop text rest5 (title_words ∷ order_words o ∷ count_words k ∷ states_words states ∷ initial_words initial ∷ []) h (HasNoLine (AreListed states) final_words rest5) whole5 (r, _, made_valid o k states initial [] [] count are listed (no_finals states) (omega arith) (All-nil (IsRegStep o k states)), refl)
-                (λ none line more e (r, rest, v, f). let is : line ≡ final_words r.finals = cc in let own : r.states ≡ states = cc in none r.finals more (subst (λ z. AreListed z r.finals) own v.finals) (subst (λ z. rest5 ≡ spelled z ++ more) is e)) (λ r e. absurd (cc)) left
+                stop text rest5 (title_words ∷ order_words o ∷ count_words k ∷ states_words states ∷ initial_words initial ∷ []) h (BeginsWithNoLine (AreListed states) final_words rest5) whole5 (r, _, made_valid o k states initial [] [] count are listed (no_finals states) (omega arith) (All-nil (IsRegStep o k states)), refl)
+                (λ none line more e (r, rest, v, f). let is : line ≡ final_words r.finals = cc in let own : r.states ≡ states = cc in none r.finals more (subst (λ z. AreListed z r.finals) own v.finals) (subst (λ z. rest5 ≡ text_of_words z ++ more) is e)) (λ r e. absurd (cc)) left
 
-            module _ (finals : List (List ℕ)) (ends : AreListed states finals) (rest6 : List ℕ) (e6 : rest5 ≡ spelled (final_words finals) ++ rest6) (steps : List RegStep) (few : length steps ≤ 256) (valid : All (IsRegStep o k states) steps) (rest7 : List ℕ) (e7 : rest6 ≡ flat_map spelled (map step_words steps) ++ rest7) where
+            module _ (finals : List (List ℕ)) (ends : AreListed states finals) (rest6 : List ℕ) (e6 : rest5 ≡ text_of_words (final_words finals) ++ rest6) (steps : List RegStep) (few : length steps ≤ 256) (valid : All (IsRegStep o k states) steps) (rest7 : List ℕ) (e7 : rest6 ≡ flat_map text_of_words (map step_words steps) ++ rest7) where
               abbrev read : Registers
               read = made o k states initial finals steps
 
               read_valid : IsRegisters read
               read_valid = made_valid o k states initial finals steps count are listed ends few valid
 
-              whole7 : text ≡ flat_map spelled (front_lines read) ++ rest7
+              whole7 : text ≡ flat_map text_of_words (front_lines read) ++ rest7
               whole7 = front_more (head_lines read) (map step_words steps) text rest6 rest7 (front_one (title_words ∷ order_words o ∷ count_words k ∷ states_words states ∷ initial_words initial ∷ []) (final_words finals) text rest5 rest6 whole5 e6) e7
 
-              pub is_read : rest7 ≡ spelled end_words → IsRegistersOf text read
-              is_read e = record { valid = read_valid; same = ap (λ z. flat_map spelled (front_lines read) ++ z) (sym e) ∙ sym whole7 }
+              pub is_read : rest7 ≡ text_of_words end_words → IsRegistersOf text read
+              is_read e = record { valid = read_valid; same = ap (λ z. flat_map text_of_words (front_lines read) ++ z) (sym e) ∙ sym whole7 }
 
-              further : (length steps ≡ 256) ⊎ HasNoLine (IsRegStep o k states) step_words rest7 → (line : List (List ℕ)) (more : List ℕ) → rest7 ≡ spelled line ++ more → AreGoodLines (front_lines read ++ line ∷ []) → ⊥
+              further : (length steps ≡ 256) ⊎ BeginsWithNoLine (IsRegStep o k states) step_words rest7 → (line : List (List ℕ)) (more : List ℕ) → rest7 ≡ text_of_words line ++ more → AreGoodLines (front_lines read ++ line ∷ []) → ⊥
               further all line more e (r, rest, v, f) =
                   let tail : map step_words r.steps ≡ (map step_words steps ++ line ∷ []) ++ rest = cc in
                   let states_are : r.states ≡ states = cc in
@@ -165,10 +165,10 @@ module _ (text : List ℕ) (h : ParseError) where
                   let here : IsRegStep o k states found.0 = subst (λ z. IsRegStep z k states found.0) (same_order r.order o orders) (subst (λ z. IsRegStep r.order z states found.0) (same_count r.registers k counts) (subst (λ z. IsRegStep r.order r.registers z found.0) states_are own)) in
                   elim all [
                     | inl full ↦ too_many r.steps steps line rest tail full v.few_steps
-                    | inr none ↦ none found.0 more here (subst (λ z. rest7 ≡ spelled z ++ more) (sym found.2) e)
+                    | inr none ↦ none found.0 more here (subst (λ z. rest7 ≡ text_of_words z ++ more) (sym found.2) e)
                   ]
 
-              pub stop_end : (length steps ≡ 256) ⊎ HasNoLine (IsRegStep o k states) step_words rest7 → (rest7 ≡ spelled end_words → ⊥) → BreaksAt text (front_lines read) rest7
+              pub stop_end : (length steps ≡ 256) ⊎ BeginsWithNoLine (IsRegStep o k states) step_words rest7 → (rest7 ≡ text_of_words end_words → ⊥) → BreaksAt text (front_lines read) rest7
               stop_end all never = record {
                 whole = whole7;
                 good = (read, [], read_valid, sym (append-nil (front_lines read)));

@@ -5,9 +5,9 @@ use Rattle.std.specs.List.{All, Contains, flat_map}
 use Rattle.std.proofs.lemmas.List.{length-append}
 use Rattle.std.proofs.lemmas.List.Elements.{All-nil, All-cons, All-head, All-tail, All-append, All-map, All-weaker, All-contains, Contains-append_left, Contains-append_right}
 use Rattle.lois_base.specs.Names.{IsName}
-use Rattle.lois_registers.specs.Places.{AreGoodLines, BreaksAt, IsPlace, StopsIn, IsRegistersOf}
+use Rattle.lois_registers.specs.Places.{AreGoodLines, BreaksAt, IsFaultPlace, StopsIn, IsRegistersOf}
 use Rattle.lois_registers.specs.Reading.{AreWords, is_clean}
-use Rattle.lois_registers.specs.Texts.{spelled, title_words, order_words, count_words, states_words, initial_words, final_words, step_words, end_words, digit, head_lines, front_lines}
+use Rattle.lois_registers.specs.Texts.{text_of_words, title_words, order_words, count_words, states_words, initial_words, final_words, step_words, end_words, digit, head_lines, front_lines}
 use Rattle.lois_registers.specs.Valid.{IsRegStep, IsRegisters}
 use Rattle.lois_registers.specs.declared.RegistersError.TheVariants.{NotRegisters}
 use Rattle.lois_registers.specs.declared.automata.RegStep.{RegStep}
@@ -83,25 +83,25 @@ good_no_end lines (r, more, v, e) has =
 
 -- ---- two beginnings of one text: one of them goes on from the other
 abbrev pub GoesOn : Lines → Lines → List ℕ → List ℕ → Type 0
-GoesOn xs ys a b = (zs : Lines) × (ys ≡ xs ++ zs) × (a ≡ flat_map spelled zs ++ b)
+GoesOn xs ys a b = (zs : Lines) × (ys ≡ xs ++ zs) × (a ≡ flat_map text_of_words zs ++ b)
 
 next_line : (x y : List (List ℕ)) (xs ys : Lines) (a b : List ℕ) → x ≡ y → GoesOn xs ys a b ⊎ GoesOn ys xs b a → GoesOn (x ∷ xs) (y ∷ ys) a b ⊎ GoesOn (y ∷ ys) (x ∷ xs) b a
 next_line x y xs ys a b e (inl (zs, f, g)) = inl (zs, ap (λ z. z ∷ ys) (sym e) ∙ ap (λ z. x ∷ z) f, g)
 next_line x y xs ys a b e (inr (zs, f, g)) = inr (zs, ap (λ z. z ∷ xs) e ∙ ap (λ z. y ∷ z) f, g)
 
-pub two_beginnings : (xs ys : Lines) (a b : List ℕ) → All AreWords xs → All AreWords ys → flat_map spelled xs ++ a ≡ flat_map spelled ys ++ b → GoesOn xs ys a b ⊎ GoesOn ys xs b a
+pub two_beginnings : (xs ys : Lines) (a b : List ℕ) → All AreWords xs → All AreWords ys → flat_map text_of_words xs ++ a ≡ flat_map text_of_words ys ++ b → GoesOn xs ys a b ⊎ GoesOn ys xs b a
 two_beginnings [] ys a b h k e = inl (ys, refl, e)
 two_beginnings (x ∷ xs) [] a b h k e = inr (x ∷ xs, refl, sym e)
 two_beginnings (x ∷ xs) (y ∷ ys) a b h k e =
-    let u = words_unique x y (flat_map spelled xs ++ a) (flat_map spelled ys ++ b) (All-head AreWords x xs h) (All-head AreWords y ys k)
-    (sym (append_assoc (spelled x) (flat_map spelled xs) a) ∙ (e ∙ append_assoc (spelled y) (flat_map spelled ys) b)) in
+    let u = words_unique x y (flat_map text_of_words xs ++ a) (flat_map text_of_words ys ++ b) (All-head AreWords x xs h) (All-head AreWords y ys k)
+    (sym (append_assoc (text_of_words x) (flat_map text_of_words xs) a) ∙ (e ∙ append_assoc (text_of_words y) (flat_map text_of_words ys) b)) in
     next_line x y xs ys a b u.0 (two_beginnings xs ys a b (All-tail AreWords x xs h) (All-tail AreWords y ys k) u.1)
 
 -- where a text breaks no good lines go on
-no_further : (text : List ℕ) (xs ys : Lines) (a b : List ℕ) → BreaksAt text xs a → AreGoodLines ys → (zs : Lines) → ys ≡ xs ++ zs → a ≡ flat_map spelled zs ++ b → xs ≡ ys
+no_further : (text : List ℕ) (xs ys : Lines) (a b : List ℕ) → BreaksAt text xs a → AreGoodLines ys → (zs : Lines) → ys ≡ xs ++ zs → a ≡ flat_map text_of_words zs ++ b → xs ≡ ys
 no_further text xs ys a b breaks good [] f g = sym (f ∙ append-nil xs)
 no_further text xs ys a b breaks (r, more, v, e) (z ∷ zs) f g =
-    absurd (breaks.further z (flat_map spelled zs ++ b) (g ∙ append_assoc (spelled z) (flat_map spelled zs) b)
+    absurd (breaks.further z (flat_map text_of_words zs ++ b) (g ∙ append_assoc (text_of_words z) (flat_map text_of_words zs) b)
     (r, zs ++ more, v, e ∙ (ap (λ w. w ++ more) (f ∙ sym (append_assoc xs (z ∷ []) zs)) ∙ append_assoc (xs ++ z ∷ []) zs more)))
 
 lines_alone : (text : List ℕ) (xs ys : Lines) (a b : List ℕ) → BreaksAt text xs a → BreaksAt text ys b → xs ≡ ys
@@ -112,26 +112,26 @@ lines_alone text xs ys a b p q =
     ]
 
 -- a text is refused at one place
-pub one_place : (text : List ℕ) (k m : ℕ) → IsPlace text (NotRegisters k) → IsPlace text (NotRegisters m) → k ≡ m
-one_place text k m (xs, a, p, e) (ys, b, q, f) = e ∙ (ap (λ z. length (flat_map spelled z)) (lines_alone text xs ys a b p q) ∙ sym f)
+pub one_place : (text : List ℕ) (k m : ℕ) → IsFaultPlace text (NotRegisters k) → IsFaultPlace text (NotRegisters m) → k ≡ m
+one_place text k m (xs, a, p, e) (ys, b, q, f) = e ∙ (ap (λ z. length (flat_map text_of_words z)) (lines_alone text xs ys a b p q) ∙ sym f)
 
 -- a text that breaks is no register automaton's
-breaks_on : (text : List ℕ) (lines : Lines) (rest : List ℕ) → BreaksAt text lines rest → (r : Registers) → IsRegisters r → (zs : Lines) → front_lines r ≡ lines ++ zs → rest ≡ flat_map spelled zs ++ spelled end_words → ⊥
+breaks_on : (text : List ℕ) (lines : Lines) (rest : List ℕ) → BreaksAt text lines rest → (r : Registers) → IsRegisters r → (zs : Lines) → front_lines r ≡ lines ++ zs → rest ≡ flat_map text_of_words zs ++ text_of_words end_words → ⊥
 breaks_on text lines rest b r v [] f g = b.last r v (f ∙ append-nil lines) g
 breaks_on text lines rest b r v (z ∷ zs) f g =
-    b.further z (flat_map spelled zs ++ spelled end_words) (g ∙ append_assoc (spelled z) (flat_map spelled zs) (spelled end_words)) (r, zs, v, f ∙ sym (append_assoc lines (z ∷ []) zs))
+    b.further z (flat_map text_of_words zs ++ text_of_words end_words) (g ∙ append_assoc (text_of_words z) (flat_map text_of_words zs) (text_of_words end_words)) (r, zs, v, f ∙ sym (append_assoc lines (z ∷ []) zs))
 
-breaks_behind : (text : List ℕ) (lines : Lines) (rest : List ℕ) → BreaksAt text lines rest → (r : Registers) → IsRegisters r → (zs : Lines) → lines ≡ front_lines r ++ zs → spelled end_words ≡ flat_map spelled zs ++ rest → ⊥
+breaks_behind : (text : List ℕ) (lines : Lines) (rest : List ℕ) → BreaksAt text lines rest → (r : Registers) → IsRegisters r → (zs : Lines) → lines ≡ front_lines r ++ zs → text_of_words end_words ≡ flat_map text_of_words zs ++ rest → ⊥
 breaks_behind text lines rest b r v [] f g = b.last r v (sym (f ∙ append-nil (front_lines r))) (sym g)
 breaks_behind text lines rest b r v (z ∷ zs) f g =
     let lines_are : All AreWords (front_lines r ++ z ∷ zs) = subst (All AreWords) f (good_are lines b.good) in
     let z_are : AreWords z = All-contains AreWords (front_lines r ++ z ∷ zs) z lines_are (Contains-append_right (front_lines r) (z ∷ zs) z (contains_first z zs)) in
-    let u = words_unique end_words z [] (flat_map spelled zs ++ rest) (clean_words (codes "end") [] refl) z_are (append-nil (spelled end_words) ∙ (g ∙ append_assoc (spelled z) (flat_map spelled zs) rest)) in
+    let u = words_unique end_words z [] (flat_map text_of_words zs ++ rest) (clean_words (codes "end") [] refl) z_are (append-nil (text_of_words end_words) ∙ (g ∙ append_assoc (text_of_words z) (flat_map text_of_words zs) rest)) in
     good_no_end lines b.good (subst (λ w. Contains w end_words) (sym f) (Contains-append_right (front_lines r) (z ∷ zs) end_words (subst (Contains (z ∷ zs)) (sym u.0) (contains_first z zs))))
 
 no_registers : (text : List ℕ) (lines : Lines) (rest : List ℕ) → BreaksAt text lines rest → (r : Registers) → IsRegistersOf text r → ⊥
 no_registers text lines rest b r h =
-    elim (two_beginnings lines (front_lines r) rest (spelled end_words) (good_are lines b.good) (front_are r h.valid) (sym b.whole ∙ sym h.same)) [
+    elim (two_beginnings lines (front_lines r) rest (text_of_words end_words) (good_are lines b.good) (front_are r h.valid) (sym b.whole ∙ sym h.same)) [
       | inl (zs, f, g) ↦ breaks_on text lines rest b r h.valid zs f g
       | inr (zs, f, g) ↦ breaks_behind text lines rest b r h.valid zs f g
     ]
@@ -141,6 +141,6 @@ module _ (text : List ℕ) (n : ℕ) where
   pub none_left : StopsIn text (Left n) → (r : Registers) → IsRegistersOf text r → ⊥
   none_left (lines, rest, b, l) = no_registers text lines rest b
 
-  pub only_left : (at : ℕ) → at ≡ length text - n → StopsIn text (Left n) → (other : ℕ) → IsPlace text (NotRegisters other) → other ≡ at
+  pub only_left : (at : ℕ) → at ≡ length text - n → StopsIn text (Left n) → (other : ℕ) → IsFaultPlace text (NotRegisters other) → other ≡ at
   only_left at e (lines, rest, b, l) other h =
-      one_place text other at h (lines, rest, b, omega (arith, e, l, ap length b.whole, length-append (flat_map spelled lines) rest))
+      one_place text other at h (lines, rest, b, omega (arith, e, l, ap length b.whole, length-append (flat_map text_of_words lines) rest))

@@ -62,12 +62,12 @@ placed operands [] = Some []
 placed operands (l ∷ ls) = with_literal (placed_lit operands l) (placed operands ls)
 
 -- the guard of the literals; false where one of them names an empty register
-abbrev pub guard_of : Option (List Lit) → List (List Lit)
-guard_of None = []
-guard_of (Some cube) = cube ∷ []
+abbrev pub constraint_of_cube : Option (List Lit) → List (List Lit)
+constraint_of_cube None = []
+constraint_of_cube (Some cube) = cube ∷ []
 
 abbrev pub placed_guard : List (Option ℕ) → List Lit → List (List Lit)
-placed_guard operands guard = guard_of (placed operands guard)
+placed_guard operands guard = constraint_of_cube (placed operands guard)
 
 abbrev pub five_terms : TermD → TermD → TermD → TermD → TermD → TermD
 five_terms a b c d e = tup (terms_of (a ∷ b ∷ c ∷ d ∷ e ∷ []))
@@ -92,8 +92,8 @@ pub record HasGuard (g h : List (List Lit)) : Type 0 where
   pub levels : (n : ℕ) → ConstraintFits n g → ConstraintFits n h
   pub operators : (o : Bool) → AdmitsConstraint o g → AdmitsConstraint o h
 
-abbrev pub IsMadeOf : CompD → CompD → Type 0
-IsMadeOf (comp m g t) (comp n h s) = (m ≡ n) × (t ≡ s) × HasGuard g h
+abbrev pub IsSpelledComp : CompD → CompD → Type 0
+IsSpelledComp (comp m g t) (comp n h s) = (m ≡ n) × (t ≡ s) × HasGuard g h
 
 -- the guard holds nowhere
 abbrev pub IsIdle : CompD → Type 0
@@ -103,7 +103,7 @@ IsIdle (comp m g t) = (c : List Atom) → holds c g ≡ false
 abbrev pub AreMade : List CompD → List CompD → Type 0
 AreMade [] made = made ≡ []
 AreMade (k ∷ ks) made =
-    (IsIdle k × AreMade ks made) ⊎ ((l : CompD) × (rest : List CompD) × (made ≡ l ∷ rest) × IsMadeOf k l × AreMade ks rest)
+    (IsIdle k × AreMade ks made) ⊎ ((l : CompD) × (rest : List CompD) × (made ≡ l ∷ rest) × IsSpelledComp k l × AreMade ks rest)
 
 -- what is made of the wanted comprehensions was appended
 abbrev pub AddsMade : List CompD → List CompD → List CompD → Type 0

@@ -1,7 +1,7 @@
 -- Where a text stops being one of a register automaton.
 use Rattle.std.specs.Prelude.{◌≡◌, ℕ, List, [], ◌∷◌, ◌++◌, length}
 use Rattle.std.specs.List.{flat_map}
-use Rattle.lois_registers.specs.Texts.{front_lines, spelled, end_words, registers_text}
+use Rattle.lois_registers.specs.Texts.{front_lines, text_of_words, end_words, registers_text}
 use Rattle.lois_registers.specs.Valid.{IsRegisters}
 use Rattle.lois_registers.specs.declared.RegistersError.{RegistersError}
 use Rattle.lois_registers.specs.declared.RegistersError.TheVariants.{NotRegisters, NoMemory as OutOfMemory}
@@ -22,26 +22,26 @@ AreGoodLines lines = (r : Registers) × (rest : List (List (List ℕ))) × IsReg
 -- The text begins with whole good lines, and what is left of it begins with no further one; nor is it the line `end` behind
 -- all lines of a register automaton.
 pub record BreaksAt (text : List ℕ) (lines : List (List (List ℕ))) (rest : List ℕ) : Type 0 where
-  pub whole : text ≡ flat_map spelled lines ++ rest
+  pub whole : text ≡ flat_map text_of_words lines ++ rest
   pub good : AreGoodLines lines
-  pub further : (line : List (List ℕ)) (more : List ℕ) → rest ≡ spelled line ++ more → AreGoodLines (lines ++ line ∷ []) → ⊥
-  pub last : (r : Registers) → IsRegisters r → front_lines r ≡ lines → rest ≡ spelled end_words → ⊥
+  pub further : (line : List (List ℕ)) (more : List ℕ) → rest ≡ text_of_words line ++ more → AreGoodLines (lines ++ line ∷ []) → ⊥
+  pub last : (r : Registers) → IsRegisters r → front_lines r ≡ lines → rest ≡ text_of_words end_words → ⊥
 
 -- the offset is that of the first line at fault, or the text's length where a line is missing
-abbrev pub IsPlace : List ℕ → RegistersError → Type 0
-IsPlace text (NotRegisters at) =
-    (lines : List (List (List ℕ))) × (rest : List ℕ) × BreaksAt text lines rest × (at ≡ length (flat_map spelled lines))
-IsPlace text OutOfMemory = Unit {0}
+abbrev pub IsFaultPlace : List ℕ → RegistersError → Type 0
+IsFaultPlace text (NotRegisters at) =
+    (lines : List (List (List ℕ))) × (rest : List ℕ) × BreaksAt text lines rest × (at ≡ length (flat_map text_of_words lines))
+IsFaultPlace text OutOfMemory = Unit {0}
 
 -- no other offset is
 abbrev pub IsOnlyPlace : List ℕ → RegistersError → Type 0
-IsOnlyPlace text (NotRegisters at) = (other : ℕ) → IsPlace text (NotRegisters other) → other ≡ at
+IsOnlyPlace text (NotRegisters at) = (other : ℕ) → IsFaultPlace text (NotRegisters other) → other ≡ at
 IsOnlyPlace text OutOfMemory = Unit {0}
 
 -- no register automaton has the text
-abbrev pub HasNone : List ℕ → RegistersError → Type 0
-HasNone text (NotRegisters at) = (r : Registers) → IsRegistersOf text r → ⊥
-HasNone text OutOfMemory = Unit {0}
+abbrev pub SpellsNoRegisters : List ℕ → RegistersError → Type 0
+SpellsNoRegisters text (NotRegisters at) = (r : Registers) → IsRegistersOf text r → ⊥
+SpellsNoRegisters text OutOfMemory = Unit {0}
 
 -- the same by how many bytes are left
 abbrev pub StopsIn : List ℕ → ParseError → Type 0

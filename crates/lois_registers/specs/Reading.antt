@@ -2,7 +2,7 @@
 use Rattle.std.specs.Prelude.{◌≡◌, ℕ, Bool, not, ◌&&◌, List, ◌∷◌, ◌++◌, Option, length, nat_eq, MatchOption, IsTrue}
 use Rattle.std.specs.List.{All, list_all, slice_split, join_with_byte}
 use Rattle.lois_base.specs.Names.{IsName}
-use Rattle.lois_registers.specs.Texts.{spelled}
+use Rattle.lois_registers.specs.Texts.{text_of_words}
 use Rattle.lois_registers.specs.declared.parse_error.ParseError.{ParseError}
 use Rattle.lois_registers.specs.declared.parse_error.ParseError.TheVariants.{Left, NoMemory}
 
@@ -26,12 +26,12 @@ AreOf {V} P words_of words o =
     MatchOption o ((v : V) → P v → words ≡ words_of v → ⊥) (λ v. P v × (words ≡ words_of v))
 
 -- no value of this kind has its line at the front
-abbrev pub HasNoLine : {V : Type 0} → (V → Type 0) → (V → List (List ℕ)) → List ℕ → Type 0
-HasNoLine {V} P words_of text = (v : V) (more : List ℕ) → P v → text ≡ spelled (words_of v) ++ more → ⊥
+abbrev pub BeginsWithNoLine : {V : Type 0} → (V → Type 0) → (V → List (List ℕ)) → List ℕ → Type 0
+BeginsWithNoLine {V} P words_of text = (v : V) (more : List ℕ) → P v → text ≡ text_of_words (words_of v) ++ more → ⊥
 
 -- a line of this word and these names is at the front
 abbrev pub HasNames : List ℕ → List (List ℕ) → List ℕ → Type 0
-HasNames first names text = All IsName names × ((more : List ℕ) × (text ≡ spelled (first ∷ names) ++ more))
+HasNames first names text = All IsName names × ((more : List ℕ) × (text ≡ text_of_words (first ∷ names) ++ more))
 
 -- the words are those before a word and those after it, and it isn't one of those before
 abbrev pub IsCutAt : List ℕ → List (List ℕ) → List (List ℕ) → List (List ℕ) → Type 0

@@ -19,13 +19,13 @@ abbrev pub operand_text : ℕ → List ℕ
 operand_text i = slice_index_or operand_names i []
 
 -- the words, with `and` between each two
-abbrev pub linked : List (List ℕ) → List (List ℕ)
-linked [] = []
-linked (w ∷ []) = w ∷ []
-linked (w ∷ v ∷ ws) = w ∷ codes "and" ∷ linked (v ∷ ws)
+abbrev pub joined_by_and : List (List ℕ) → List (List ℕ)
+joined_by_and [] = []
+joined_by_and (w ∷ []) = w ∷ []
+joined_by_and (w ∷ v ∷ ws) = w ∷ codes "and" ∷ joined_by_and (v ∷ ws)
 
 abbrev pub linked_words : List Lit → List (List ℕ)
-linked_words ls = linked (map (literal_text operand_names) ls)
+linked_words ls = joined_by_and (map (literal_text operand_names) ls)
 
 abbrev pub guard_words : List Lit → List (List ℕ)
 guard_words [] = codes "true" ∷ []
@@ -72,8 +72,8 @@ abbrev pub front_lines : Registers → List (List (List ℕ))
 front_lines r = head_lines r ++ map step_words r.steps
 
 -- a line: its words with a space between each two, and the end of the line
-abbrev pub spelled : List (List ℕ) → List ℕ
-spelled words = lined (join_with_byte 32 words)
+abbrev pub text_of_words : List (List ℕ) → List ℕ
+text_of_words words = lined (join_with_byte 32 words)
 
 abbrev pub registers_text : Registers → List ℕ
-registers_text r = flat_map spelled (front_lines r) ++ spelled end_words
+registers_text r = flat_map text_of_words (front_lines r) ++ text_of_words end_words

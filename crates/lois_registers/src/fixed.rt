@@ -1,9 +1,9 @@
 //! Lines of which only a few are possible: the title, the structure and the number of registers.
 
 ghost use Rattle.std.specs.Prelude.{◌≡◌, ℕ, Bool, List, ◌++◌, IfOk, IfErr, IfSome, IfNone};
-ghost use Rattle.lois_registers.specs.Reading.{IsLeftAt, HasNoLine};
+ghost use Rattle.lois_registers.specs.Reading.{IsLeftAt, BeginsWithNoLine};
 ghost use Rattle.lois_registers.specs.Valid.{IsCount};
-ghost use Rattle.lois_registers.specs.Texts.{spelled, title_words, order_words, count_words};
+ghost use Rattle.lois_registers.specs.Texts.{text_of_words, title_words, order_words, count_words};
 
 use crate::lines::is;
 use crate::parse_error::ParseError;
@@ -22,8 +22,8 @@ fn behind<'a>(text: &'a [u8], front: &[u8]) -> Option<&'a [u8]>
 
 /// What follows the title.
 pub fn title(text: &[u8]) -> Result<&[u8], ParseError>
-    ensures read { IfOk result (λ rest. text.now ≡ spelled title_words ++ rest.now) }
-    ensures left { IfErr result (IsLeftAt text.now ((more : List ℕ) → text.now ≡ spelled title_words ++ more → ⊥)) }
+    ensures read { IfOk result (λ rest. text.now ≡ text_of_words title_words ++ rest.now) }
+    ensures left { IfErr result (IsLeftAt text.now ((more : List ℕ) → text.now ≡ text_of_words title_words ++ more → ⊥)) }
 {
     match behind(text, b"lois registers 1\n") {
         Some(rest) => Ok(rest),
@@ -33,8 +33,8 @@ pub fn title(text: &[u8]) -> Result<&[u8], ParseError>
 
 /// Whether atoms are ordered, and what follows the line.
 pub fn order_line(text: &[u8]) -> Result<(bool, &[u8]), ParseError>
-    ensures read { IfOk result (λ x. text.now ≡ spelled (order_words x.0) ++ x.1.now) }
-    ensures left { IfErr result (IsLeftAt text.now ((order : Bool) (more : List ℕ) → text.now ≡ spelled (order_words order) ++ more → ⊥)) }
+    ensures read { IfOk result (λ x. text.now ≡ text_of_words (order_words x.0) ++ x.1.now) }
+    ensures left { IfErr result (IsLeftAt text.now ((order : Bool) (more : List ℕ) → text.now ≡ text_of_words (order_words order) ++ more → ⊥)) }
 {
     if let Some(rest) = behind(text, b"atoms equality\n") {
         return Ok((false, rest));
@@ -47,8 +47,8 @@ pub fn order_line(text: &[u8]) -> Result<(bool, &[u8]), ParseError>
 
 /// The number of registers, and what follows the line.
 pub fn count_line(text: &[u8]) -> Result<(u32, &[u8]), ParseError>
-    ensures read { IfOk result (λ x. IsCount x.0 × (text.now ≡ spelled (count_words x.0) ++ x.1.now)) }
-    ensures left { IfErr result (IsLeftAt text.now (HasNoLine IsCount count_words text.now)) }
+    ensures read { IfOk result (λ x. IsCount x.0 × (text.now ≡ text_of_words (count_words x.0) ++ x.1.now)) }
+    ensures left { IfErr result (IsLeftAt text.now (BeginsWithNoLine IsCount count_words text.now)) }
 {
     if let Some(rest) = behind(text, b"registers 1\n") {
         return Ok((1, rest));

@@ -3,7 +3,7 @@
 ghost use Rattle.std.specs.Prelude.{◌≡◌, ℕ, List, ◌++◌, map, nat_eq, length, slice_index, ◌<◌, IfOk, IfErr, IfSome, IfNone, IsTrue, ◌↔◌};
 ghost use Rattle.std.specs.List.{slice_split};
 ghost use Rattle.lois_registers.specs.Reading.{AreWords, IsLeftAt};
-ghost use Rattle.lois_registers.specs.Texts.{spelled};
+ghost use Rattle.lois_registers.specs.Texts.{text_of_words};
 
 use crate::parse_error::ParseError;
 use std::alloc::{AllocError, Global};
@@ -41,8 +41,8 @@ pub fn line_words<'a>(
     alloc: Global,
     text: &'a [u8],
 ) -> Result<(Vec<&'a [u8]>, &'a [u8]), ParseError>
-    ensures read { IfOk result (λ x. AreWords (map (λ w. w.now) x.0.items) × (text.now ≡ spelled (map (λ w. w.now) x.0.items) ++ x.1.now)) }
-    ensures left { IfErr result (IsLeftAt text.now ((words : List (List ℕ)) (more : List ℕ) → text.now ≡ spelled words ++ more → ⊥)) }
+    ensures read { IfOk result (λ x. AreWords (map (λ w. w.now) x.0.items) × (text.now ≡ text_of_words (map (λ w. w.now) x.0.items) ++ x.1.now)) }
+    ensures left { IfErr result (IsLeftAt text.now ((words : List (List ℕ)) (more : List ℕ) → text.now ≡ text_of_words words ++ more → ⊥)) }
 {
     let Some(end) = line_end(text) else {
         return Err(ParseError::Left(text.len()));

@@ -181,7 +181,7 @@ fn operand(operands: &[Option<usize>], level: usize) -> Option<usize>
 
 /// The guard at the levels of its operands: the letter, which stands at the level `letter`, and the registers. It has no cube
 /// where a literal names an empty register.
-pub fn placed_guard(
+pub fn place_guard(
     alloc: Global,
     guard: &Cube,
     contents: &[Option<usize>],

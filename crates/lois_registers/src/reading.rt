@@ -3,9 +3,9 @@
 ghost use Rattle.std.specs.Prelude.{◌≡◌, ◌≤◌, ℕ, List, ◌++◌, length, map, IfOk, IfErr, OnOk};
 ghost use Rattle.std.specs.List.{All, flat_map};
 ghost use Rattle.lois_base.specs.Names.{IsName};
-ghost use Rattle.lois_registers.specs.Places.{IsRegistersOf, IsPlace, IsOnlyPlace, HasNone, StopsIn};
-ghost use Rattle.lois_registers.specs.Reading.{HasNoLine};
-ghost use Rattle.lois_registers.specs.Texts.{spelled, step_words};
+ghost use Rattle.lois_registers.specs.Places.{IsRegistersOf, IsFaultPlace, IsOnlyPlace, SpellsNoRegisters, StopsIn};
+ghost use Rattle.lois_registers.specs.Reading.{BeginsWithNoLine};
+ghost use Rattle.lois_registers.specs.Texts.{text_of_words, step_words};
 ghost use Rattle.lois_registers.specs.Valid.{IsCount, IsRegStep};
 ghost use Rattle.lois_registers.specs.declared.automata.Registers.{Registers};
 ghost use Rattle.std.specs.Prelude.{◌⊎◌};
@@ -32,8 +32,8 @@ fn steps<'a>(
     requires form { All IsName frame.states.now }
     ensures few { IfOk result (λ x. length x.0 ≤ 256) }
     ensures valid { IfOk result (λ x. All (IsRegStep frame.entry.order frame.entry.registers frame.entry.states.now) x.0) }
-    ensures read { IfOk result (λ x. text.now ≡ flat_map spelled (map step_words x.0) ++ x.1.now) }
-    ensures all { IfOk result (λ x. (length x.0 ≡ 256) ⊎ HasNoLine (IsRegStep frame.entry.order frame.entry.registers frame.entry.states.now) step_words x.1.now) }
+    ensures read { IfOk result (λ x. text.now ≡ flat_map text_of_words (map step_words x.0) ++ x.1.now) }
+    ensures all { IfOk result (λ x. (length x.0 ≡ 256) ⊎ BeginsWithNoLine (IsRegStep frame.entry.order frame.entry.registers frame.entry.states.now) step_words x.1.now) }
 {
     let mut steps = RegSteps::new(alloc);
     let mut rest = text;
@@ -91,8 +91,8 @@ pub fn read_registers(alloc: Global, text: &[u8]) -> Result<Registers, Registers
     ensures alone { IfOk result (λ r. (s : Registers) → IsRegistersOf text.now s → s ≡ r) }
 
     // A refusal comes only where there is none, at the first line at fault.
-    ensures none { IfErr result (HasNone text.now) }
-    ensures place { IfErr result (IsPlace text.now) }
+    ensures none { IfErr result (SpellsNoRegisters text.now) }
+    ensures place { IfErr result (IsFaultPlace text.now) }
     ensures only { IfErr result (IsOnlyPlace text.now) }
 {
     let len = text.len();

@@ -4,8 +4,8 @@ ghost use Rattle.std.specs.Prelude.{◌≡◌, ℕ, List, ◌∷◌, ◌++◌, m
 ghost use Rattle.std.specs.List.{All};
 ghost use Rattle.lois_answers.specs.Sound.{AreDistinct};
 ghost use Rattle.lois_base.specs.Names.{IsName};
-ghost use Rattle.lois_registers.specs.Reading.{IsLeftAt, HasNoLine, HasNames, is_clean};
-ghost use Rattle.lois_registers.specs.Texts.{spelled, states_words, initial_words, final_words};
+ghost use Rattle.lois_registers.specs.Reading.{IsLeftAt, BeginsWithNoLine, HasNames, is_clean};
+ghost use Rattle.lois_registers.specs.Texts.{text_of_words, states_words, initial_words, final_words};
 ghost use Rattle.lois_registers.specs.Valid.{AreStates, AreListed};
 
 use crate::lines::{is, line_words};
@@ -44,7 +44,7 @@ pub fn begins(words: &[&[u8]], first: &[u8]) -> bool
 /// The names of a line that begins with this word, and what follows the line.
 fn named<'a>(alloc: Global, first: &[u8], text: &'a [u8]) -> Result<(Names, &'a [u8]), ParseError>
     requires clean { IsTrue (is_clean first.now) }
-    ensures read { IfOk result (λ x. All IsName x.0 × (text.now ≡ spelled (first.now ∷ x.0) ++ x.1.now)) }
+    ensures read { IfOk result (λ x. All IsName x.0 × (text.now ≡ text_of_words (first.now ∷ x.0) ++ x.1.now)) }
     ensures only { IfOk result (λ x. (names : List (List ℕ)) → HasNames first.now names text.now → names ≡ x.0) }
     ensures left { IfErr result (IsLeftAt text.now ((names : List (List ℕ)) → HasNames first.now names text.now → ⊥)) }
 {
@@ -88,8 +88,8 @@ fn are_among(states: &[Name], names: &[Name]) -> bool
 
 /// The states, and what follows their line.
 pub fn states_line(alloc: Global, text: &[u8]) -> Result<(Names, &[u8]), ParseError>
-    ensures read { IfOk result (λ x. AreStates x.0 × (text.now ≡ spelled (states_words x.0) ++ x.1.now)) }
-    ensures left { IfErr result (IsLeftAt text.now (HasNoLine AreStates states_words text.now)) }
+    ensures read { IfOk result (λ x. AreStates x.0 × (text.now ≡ text_of_words (states_words x.0) ++ x.1.now)) }
+    ensures left { IfErr result (IsLeftAt text.now (BeginsWithNoLine AreStates states_words text.now)) }
 {
     let (names, rest) = named(alloc, b"states", text)?;
     let count = names.len();
@@ -106,8 +106,8 @@ pub fn initial_line<'a>(
     text: &'a [u8],
 ) -> Result<(Name, &'a [u8]), ParseError>
     requires form { All IsName states.now }
-    ensures read { IfOk result (λ x. Contains states.now x.0 × (text.now ≡ spelled (initial_words x.0) ++ x.1.now)) }
-    ensures left { IfErr result (IsLeftAt text.now (HasNoLine (Contains states.now) initial_words text.now)) }
+    ensures read { IfOk result (λ x. Contains states.now x.0 × (text.now ≡ text_of_words (initial_words x.0) ++ x.1.now)) }
+    ensures left { IfErr result (IsLeftAt text.now (BeginsWithNoLine (Contains states.now) initial_words text.now)) }
 {
     let (names, rest) = named(alloc, b"initial", text)?;
     let names = names.as_slice();
@@ -124,8 +124,8 @@ pub fn final_line<'a>(
     text: &'a [u8],
 ) -> Result<(Names, &'a [u8]), ParseError>
     requires form { All IsName states.now }
-    ensures read { IfOk result (λ x. AreListed states.now x.0 × (text.now ≡ spelled (final_words x.0) ++ x.1.now)) }
-    ensures left { IfErr result (IsLeftAt text.now (HasNoLine (AreListed states.now) final_words text.now)) }
+    ensures read { IfOk result (λ x. AreListed states.now x.0 × (text.now ≡ text_of_words (final_words x.0) ++ x.1.now)) }
+    ensures left { IfErr result (IsLeftAt text.now (BeginsWithNoLine (AreListed states.now) final_words text.now)) }
 {
     let (names, rest) = named(alloc, b"final", text)?;
     if !are_among(states, names.as_slice()) || !are_distinct(names.as_slice()) {

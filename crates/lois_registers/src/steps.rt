@@ -5,8 +5,8 @@ ghost use Rattle.std.specs.List.{All};
 ghost use Rattle.lois_answers.specs.TermText.{literal_text, op_text};
 ghost use Rattle.lois_base.specs.Names.{IsName};
 ghost use Rattle.lois_base.specs.Validity.{is_admitted};
-ghost use Rattle.lois_registers.specs.Reading.{IsLeftAt, HasNoLine, AreOf, IsCutAt};
-ghost use Rattle.lois_registers.specs.Texts.{spelled, operand_names, operand_text, digit, guard_words, linked_words, stored_words, step_words};
+ghost use Rattle.lois_registers.specs.Reading.{IsLeftAt, BeginsWithNoLine, AreOf, IsCutAt};
+ghost use Rattle.lois_registers.specs.Texts.{text_of_words, operand_names, operand_text, digit, guard_words, linked_words, stored_words, step_words};
 ghost use Rattle.lois_registers.specs.Valid.{IsCount, IsLiteral, AreLiterals, IsGuard, AreIncreasing, IsRegStep};
 ghost use Rattle.lois_base.specs.declared.guards.Lit.{Lit};
 ghost use Rattle.lois_base.specs.declared.guards.Op.{Op};
@@ -244,8 +244,8 @@ pub fn step_line<'a>(
 ) -> Result<(RegStep, &'a [u8]), ParseError>
     requires count { IsCount frame.registers }
     requires form { All IsName frame.states.now }
-    ensures read { IfOk result (λ x. IsRegStep frame.entry.order frame.entry.registers frame.entry.states.now x.0 × (text.now ≡ spelled (step_words x.0) ++ x.1.now)) }
-    ensures left { IfErr result (IsLeftAt text.now (HasNoLine (IsRegStep frame.entry.order frame.entry.registers frame.entry.states.now) step_words text.now)) }
+    ensures read { IfOk result (λ x. IsRegStep frame.entry.order frame.entry.registers frame.entry.states.now x.0 × (text.now ≡ text_of_words (step_words x.0) ++ x.1.now)) }
+    ensures left { IfErr result (IsLeftAt text.now (BeginsWithNoLine (IsRegStep frame.entry.order frame.entry.registers frame.entry.states.now) step_words text.now)) }
 {
     let (words, rest) = line_words(alloc, text)?;
     match step(alloc, frame, &words)? {

@@ -9,7 +9,7 @@ ghost use Rattle.lois_registers.specs.Placed.{AddsMade, AreMade, configuration_c
 ghost use Rattle.lois_registers.specs.Translation.{IsTranslatedTo};
 ghost use Rattle.lois_registers.specs.Valid.{IsRegisters};
 
-use crate::placements::{Placement, all_placements, configuration, placed_guard, stored};
+use crate::placements::{Placement, all_placements, configuration, place_guard, stored};
 use crate::{RegStep, RegSteps, Registers};
 use lois_base::{Comp, Comps, Constraint, Name, NoMemory, Term, Terms};
 use lois_constraint::normalise;
@@ -70,7 +70,7 @@ fn add_step(
     ensures { OnOk result (AddsMade (step_comp step.now place.now ∷ []) comps.old comps.new) }
 {
     let letter = place.levels();
-    let placed = placed_guard(alloc, &step.guard, place.contents(), letter)?;
+    let placed = place_guard(alloc, &step.guard, place.contents(), letter)?;
     let guard = normalise(alloc, &placed)?;
     if guard.len() == 0 {
         return Ok(());

@@ -15,9 +15,9 @@ use Rattle.lois_base.specs.declared.values.Comp.{Comp}
 use Rattle.lois_base.specs.declared.values.Term.{Term}
 use Rattle.lois_base.proofs.Order.{equal_refl}
 use Rattle.lois_base.proofs.Same.{same_at_sym}
-use Rattle.lois_relate.specs.Alike.{LevelsMatch, LitsMatch, CubesMatch, GuardsMatch, AreAlike, PartsAlike, CompsAlike, ItemsAlike, IsListed}
+use Rattle.lois_relate.specs.Alike.{LevelsMatch, LitsMatch, CubesMatch, GuardsMatch, TermsAlike, PartsAlike, CompsAlike, ItemsAlike, IsListed}
 use Rattle.lois_relate.specs.Built.{Defines}
-use Rattle.lois_relate.specs.Named.{chosen}
+use Rattle.lois_relate.specs.Named.{atoms_named}
 use Rattle.lois_relate.proofs.Names.{length-chosen, atom_chosen}
 use Rattle.lois_relate.proofs.Sets.{sets_same}
 
@@ -30,24 +30,24 @@ level_false i n l = grind (arith, nat_tests)
 module _ (sn tn : List ℕ) (c : List Atom) where
   -- with atoms e for the binders inside of the terms
   abbrev left : List Atom → List Atom
-  left e = chosen sn c ++ e
+  left e = atoms_named sn c ++ e
 
   abbrev right : List Atom → List Atom
-  right e = chosen tn c ++ e
+  right e = atoms_named tn c ++ e
 
   left_more : (e x : List Atom) → left e ++ x ≡ left (e ++ x)
-  left_more e x = append_assoc (chosen sn c) e x
+  left_more e x = append_assoc (atoms_named sn c) e x
 
   right_more : (e x : List Atom) → right e ++ x ≡ right (e ++ x)
-  right_more e x = append_assoc (chosen tn c) e x
+  right_more e x = append_assoc (atoms_named tn c) e x
 
-  named_at : (names : List ℕ) (e : List Atom) (i : ℕ) → i < length names → atom_at (chosen names c ++ e) i ≡ atom_at c (get_or names i 0)
+  named_at : (names : List ℕ) (e : List Atom) (i : ℕ) → i < length names → atom_at (atoms_named names c ++ e) i ≡ atom_at c (get_or names i 0)
   named_at names e i l =
-      let m : i < length (chosen names c) = omega (arith, length-chosen names c) in
-      get_or_append_left (chosen names c) e (whole 0) i m ∙ atom_chosen names c i l
+      let m : i < length (atoms_named names c) = omega (arith, length-chosen names c) in
+      get_or_append_left (atoms_named names c) e (whole 0) i m ∙ atom_chosen names c i l
 
-  inner_at : (names : List ℕ) (e : List Atom) (i : ℕ) → length names ≤ i → atom_at (chosen names c ++ e) i ≡ atom_at e (i - length names)
-  inner_at names e i l = get_or-append_right (chosen names c) e (length names) i (whole 0) (length-chosen names c) l
+  inner_at : (names : List ℕ) (e : List Atom) (i : ℕ) → length names ≤ i → atom_at (atoms_named names c ++ e) i ≡ atom_at e (i - length names)
+  inner_at names e i l = get_or-append_right (atoms_named names c) e (length names) i (whole 0) (length-chosen names c) l
 
   abbrev Named : ℕ → ℕ → Type 0
   Named i j = (j < length tn) × (get_or sn i 0 ≡ get_or tn j 0)
@@ -93,7 +93,7 @@ module _ (sn tn : List ℕ) (c : List Atom) where
       subst (λ z. IsTrue (holds z g)) (sym (left_more e x)) (guard_same (e ++ x) g r h ∙ subst (λ z. IsTrue (holds z r)) (right_more e x) y)
 
   mutual
-    alike_same : (t s : TermD) (e : List Atom) → AreAlike sn tn t s → SameAt t (left e) s (right e)
+    alike_same : (t s : TermD) (e : List Atom) → TermsAlike sn tn t s → SameAt t (left e) s (right e)
     alike_same (var i) (var j) e h =
         subst (λ a. IsTrue (equal (atom_at (left e) i) a)) (level_same e i j h) (equal_refl (atom_at (left e) i))
     alike_same (tag n) (tag k) e h = h
@@ -137,23 +137,23 @@ module _ (sn tn : List ℕ) (c : List Atom) where
         )
 
   -- without further atoms
-  pub sets_alike : (cs ks : CompsD) → ItemsAlike sn tn cs ks → SameAt (coll cs) (chosen sn c) (coll ks) (chosen tn c)
+  pub sets_alike : (cs ks : CompsD) → ItemsAlike sn tn cs ks → SameAt (coll cs) (atoms_named sn c) (coll ks) (atoms_named tn c)
   sets_alike cs ks h =
-      subst (λ z. SameAt (coll cs) z (coll ks) (chosen tn c)) (append-nil (chosen sn c)) (subst (λ z. SameAt (coll cs) (left []) (coll ks) z) (append-nil (chosen tn c)) (alike_same (coll cs) (coll ks) [] h))
+      subst (λ z. SameAt (coll cs) z (coll ks) (atoms_named tn c)) (append-nil (atoms_named sn c)) (subst (λ z. SameAt (coll cs) (left []) (coll ks) z) (append-nil (atoms_named tn c)) (alike_same (coll cs) (coll ks) [] h))
 
-  each_at : (k q : CompD) → CompsAlike sn tn k q → (whole : CompsD) → ((w : TermD) (x : List Atom) → MakesAt w x q (chosen tn c) → MemberAt w x whole (chosen tn c)) → EachInAt k (chosen sn c) whole (chosen tn c)
+  each_at : (k q : CompD) → CompsAlike sn tn k q → (whole : CompsD) → ((w : TermD) (x : List Atom) → MakesAt w x q (atoms_named tn c) → MemberAt w x whole (atoms_named tn c)) → EachInAt k (atoms_named sn c) whole (atoms_named tn c)
   each_at k q h whole within =
-      let nil : right [] ≡ chosen tn c = append-nil (chosen tn c) in
+      let nil : right [] ≡ atoms_named tn c = append-nil (atoms_named tn c) in
       let there : EachInAt k (left []) whole (right []) = each_alike k q [] h whole (λ w x m. subst (λ z. MemberAt w x whole z) (sym nil) (within w x (subst (λ z. MakesAt w x q z) nil m))) in
-      subst (λ z. EachInAt k z whole (chosen tn c)) (append-nil (chosen sn c)) (subst (λ z. EachInAt k (left []) whole z) nil there)
+      subst (λ z. EachInAt k z whole (atoms_named tn c)) (append-nil (atoms_named sn c)) (subst (λ z. EachInAt k (left []) whole z) nil there)
 
   -- a comprehension that the other set has too
-  listed_within : (k : CompD) (qs whole : CompsD) → IsListed sn tn k qs → ((w : TermD) (x : List Atom) → MemberAt w x qs (chosen tn c) → MemberAt w x whole (chosen tn c)) → EachInAt k (chosen sn c) whole (chosen tn c)
+  listed_within : (k : CompD) (qs whole : CompsD) → IsListed sn tn k qs → ((w : TermD) (x : List Atom) → MemberAt w x qs (atoms_named tn c) → MemberAt w x whole (atoms_named tn c)) → EachInAt k (atoms_named sn c) whole (atoms_named tn c)
   listed_within k no_comps whole h within = absurd h
   listed_within k (more q qs) whole (inl h) within = each_at k q h whole (λ w x m. within w x (inl m))
   listed_within k (more q qs) whole (inr h) within = listed_within k qs whole h (λ w x m. within w x (inr m))
 
-  pub listed_each : (k : CompD) (qs : CompsD) → IsListed sn tn k qs → EachInAt k (chosen sn c) qs (chosen tn c)
+  pub listed_each : (k : CompD) (qs : CompsD) → IsListed sn tn k qs → EachInAt k (atoms_named sn c) qs (atoms_named tn c)
   listed_each k qs h = listed_within k qs qs h (λ w x m. m)
 
 pub always_says : (n : ℕ) (Q : List Atom → Type 0) (A : Bool → Type 0) (f : FormulaD) → f ≡ all no_formulas → ((c : List Atom) → Q c) → Defines n Q A f

@@ -14,7 +14,7 @@ use Rattle.lois_base.specs.declared.guards.Lit.{Lit}
 use Rattle.lois_base.specs.declared.values.Comp.{Comp}
 use Rattle.lois_relate.specs.Built.{Defines, IsBoth, IsEither, IsForSome}
 use Rattle.lois_relate.specs.Compared.{IsForEach, DefinesPaired, DefinesItem, DefinesFound}
-use Rattle.lois_relate.specs.Named.{chosen, AreBelow, levels_from}
+use Rattle.lois_relate.specs.Named.{atoms_named, AreBelow, level_range}
 use Rattle.lois_relate.proofs.Binders.{each_says, paired_one}
 use Rattle.lois_relate.proofs.Loops.{AnySoFar, any_begin, any_go_on, any_end, any_cut}
 use Rattle.lois_relate.proofs.Names.{below_entered, below_more}
@@ -26,7 +26,7 @@ item_got ks vs i k m l e =
 
 module _ (n : ℕ) (sn tn : List ℕ) (k : ℕ) (h : List (List Lit)) (s : TermD) where
   abbrev pub Found : CompsD → List Atom → Type 0
-  Found qs c = IsTrue (holds (chosen (sn ++ levels_from n k) c) h) × SomeIsAt qs (chosen tn c) s (chosen (sn ++ levels_from n k) c)
+  Found qs c = IsTrue (holds (atoms_named (sn ++ level_range n k) c) h) × SomeIsAt qs (atoms_named tn c) s (atoms_named (sn ++ level_range n k) c)
 
   abbrev pub FoundSoFar : CompsD → CompsD → FormulaD → Type 0
   FoundSoFar rest whole =
@@ -38,9 +38,9 @@ module _ (n : ℕ) (sn tn : List ℕ) (k : ℕ) (h : List (List Lit)) (s : TermD
 
   pub found_goes_on : (whole rest rest' : CompsD) (q : CompD) → rest ≡ more q rest' → (f g r : FormulaD) → FoundSoFar rest whole f → DefinesItem n sn (comp k h s) tn q g → ((o : Bool) → AdmitsItems o whole → AdmitsComp o q) → IsEither f g r → FoundSoFar rest' whole r
   found_goes_on whole rest rest' q e f g r so_far says admits either =
-      any_go_on (n + k) (Found rest) (Found whole) (λ o. AdmitsComp o (comp k h s) × AdmitsItems o whole) (λ c. IsTrue (holds (chosen (sn ++ levels_from n k) c) h) × OneIsAt q (chosen tn c) s (chosen (sn ++ levels_from n k) c)) (Found rest') (λ o. AdmitsComp o (comp k h s) × AdmitsComp o q) f g r so_far (λ c. split c (some_is_split rest rest' q e (chosen tn c) s (chosen (sn ++ levels_from n k) c))) says (λ o a. (a.0, admits o a.1)) either
+      any_go_on (n + k) (Found rest) (Found whole) (λ o. AdmitsComp o (comp k h s) × AdmitsItems o whole) (λ c. IsTrue (holds (atoms_named (sn ++ level_range n k) c) h) × OneIsAt q (atoms_named tn c) s (atoms_named (sn ++ level_range n k) c)) (Found rest') (λ o. AdmitsComp o (comp k h s) × AdmitsComp o q) f g r so_far (λ c. split c (some_is_split rest rest' q e (atoms_named tn c) s (atoms_named (sn ++ level_range n k) c))) says (λ o a. (a.0, admits o a.1)) either
     where
-      split : (c : List Atom) → SomeIsAt rest (chosen tn c) s (chosen (sn ++ levels_from n k) c) ↔ (OneIsAt q (chosen tn c) s (chosen (sn ++ levels_from n k) c) ⊎ SomeIsAt rest' (chosen tn c) s (chosen (sn ++ levels_from n k) c)) → Found rest c ↔ ((IsTrue (holds (chosen (sn ++ levels_from n k) c) h) × OneIsAt q (chosen tn c) s (chosen (sn ++ levels_from n k) c)) ⊎ Found rest' c)
+      split : (c : List Atom) → SomeIsAt rest (atoms_named tn c) s (atoms_named (sn ++ level_range n k) c) ↔ (OneIsAt q (atoms_named tn c) s (atoms_named (sn ++ level_range n k) c) ⊎ SomeIsAt rest' (atoms_named tn c) s (atoms_named (sn ++ level_range n k) c)) → Found rest c ↔ ((IsTrue (holds (atoms_named (sn ++ level_range n k) c) h) × OneIsAt q (atoms_named tn c) s (atoms_named (sn ++ level_range n k) c)) ⊎ Found rest' c)
       split c parts = (
         λ x. elim (parts.0 x.1) [ inl p ↦ inl (x.0, p) | inr p ↦ inr (x.0, p) ],
         λ x. elim x [ inl p ↦ (p.0, parts.1 (inl p.1)) | inr p ↦ (p.0, parts.1 (inr p.1)) ],
@@ -48,24 +48,24 @@ module _ (n : ℕ) (sn tn : List ℕ) (k : ℕ) (h : List (List Lit)) (s : TermD
 
   pub found_ends : (whole rest : CompsD) (f : FormulaD) → rest ≡ no_comps → FoundSoFar rest whole f → DefinesFound n sn (comp k h s) tn whole f
   found_ends whole rest f e so_far =
-      any_end (n + k) (Found rest) (Found whole) (λ o. AdmitsComp o (comp k h s) × AdmitsItems o whole) f (λ c x. subst (λ z. SomeIsAt z (chosen tn c) s (chosen (sn ++ levels_from n k) c)) e x.1) so_far
+      any_end (n + k) (Found rest) (Found whole) (λ o. AdmitsComp o (comp k h s) × AdmitsItems o whole) f (λ c x. subst (λ z. SomeIsAt z (atoms_named tn c) s (atoms_named (sn ++ level_range n k) c)) e x.1) so_far
 
   pub found_cut : (whole rest : CompsD) (f : FormulaD) → f ≡ all no_formulas → FoundSoFar rest whole f → DefinesFound n sn (comp k h s) tn whole f
   found_cut whole rest f e so_far =
       any_cut (n + k) (Found rest) (Found whole) (λ o. AdmitsComp o (comp k h s) × AdmitsItems o whole) f e so_far
 
   module _ (sn_below : AreBelow n sn) (tn_below : AreBelow n tn) where
-    pub each_found : (qs : CompsD) (f r : FormulaD) → DefinesFound n sn (comp k h s) tn qs f → IsForEach n k (sn ++ levels_from n k) h f r → Defines n (λ c. EachInAt (comp k h s) (chosen sn c) qs (chosen tn c)) (λ o. AdmitsComp o (comp k h s) × AdmitsItems o qs) r
+    pub each_found : (qs : CompsD) (f r : FormulaD) → DefinesFound n sn (comp k h s) tn qs f → IsForEach n k (sn ++ level_range n k) h f r → Defines n (λ c. EachInAt (comp k h s) (atoms_named sn c) qs (atoms_named tn c)) (λ o. AdmitsComp o (comp k h s) × AdmitsItems o qs) r
     each_found qs f r found each =
-        each_says n k (n + k) refl tn sn (sn ++ levels_from n k) refl tn_below sn_below h s qs f r found each
+        each_says n k (n + k) refl tn sn (sn ++ level_range n k) refl tn_below sn_below h s qs f r found each
 
     pub pair_item : (m : ℕ) (g : List (List Lit)) (t : TermD) (f r : FormulaD) → DefinesPaired n sn (comp k h s) tn (comp m g t) f → IsForSome m f r → DefinesItem n sn (comp k h s) tn (comp m g t) r
     pair_item m g t f r pair some =
-        paired_one (n + k) m ((n + k) + m) refl (sn ++ levels_from n k) tn (tn ++ levels_from (n + k) m) refl (below_entered n k sn sn_below) (below_more n k tn tn_below) h g s t (λ o. AdmitsComp o (comp k h s) × AdmitsComp o (comp m g t)) f r pair some
+        paired_one (n + k) m ((n + k) + m) refl (sn ++ level_range n k) tn (tn ++ level_range (n + k) m) refl (below_entered n k sn sn_below) (below_more n k tn tn_below) h g s t (λ o. AdmitsComp o (comp k h s) × AdmitsComp o (comp m g t)) f r pair some
 
-  pub guarded_item : (inner : ℕ) → inner ≡ n + k → (names : List ℕ) → names ≡ sn ++ levels_from n k → (q : CompD) (i f r : FormulaD) → Defines inner (λ c. IsTrue (holds (chosen names c) h)) (λ o. AdmitsConstraint o h) i → Defines inner (λ c. OneIsAt q (chosen tn c) s (chosen names c)) (λ o. AdmitsComp o q × AdmitsTerm o s) f → IsBoth i f r → DefinesItem n sn (comp k h s) tn q r
+  pub guarded_item : (inner : ℕ) → inner ≡ n + k → (names : List ℕ) → names ≡ sn ++ level_range n k → (q : CompD) (i f r : FormulaD) → Defines inner (λ c. IsTrue (holds (atoms_named names c) h)) (λ o. AdmitsConstraint o h) i → Defines inner (λ c. OneIsAt q (atoms_named tn c) s (atoms_named names c)) (λ o. AdmitsComp o q × AdmitsTerm o s) f → IsBoth i f r → DefinesItem n sn (comp k h s) tn q r
   guarded_item inner sum names e q i f r guard item both =
-      subst (λ j. At j (sn ++ levels_from n k)) sum (subst (At inner) e (record {
+      subst (λ j. At j (sn ++ level_range n k)) sum (subst (At inner) e (record {
         truth = λ c l. (
           λ x. let y = (both.truth c).0 x in ((guard.truth c l).0 y.0, (item.truth c l).0 y.1),
           λ x. (both.truth c).1 ((guard.truth c l).1 x.0, (item.truth c l).1 x.1),
@@ -75,4 +75,4 @@ module _ (n : ℕ) (sn tn : List ℕ) (k : ℕ) (h : List (List Lit)) (s : TermD
       }))
     where
       At : ℕ → List ℕ → Type 0
-      At j x = Defines j (λ c. IsTrue (holds (chosen x c) h) × OneIsAt q (chosen tn c) s (chosen x c)) (λ o. AdmitsComp o (comp k h s) × AdmitsComp o q) r
+      At j x = Defines j (λ c. IsTrue (holds (atoms_named x c) h) × OneIsAt q (atoms_named tn c) s (atoms_named x c)) (λ o. AdmitsComp o (comp k h s) × AdmitsComp o q) r

@@ -22,20 +22,20 @@ GuardsMatch sn tn (k ∷ g) (q ∷ h) = CubesMatch sn tn k q × GuardsMatch sn t
 GuardsMatch sn tn _ _ = ⊥
 
 abbrev mutual
-  pub AreAlike : List ℕ → List ℕ → TermD → TermD → Type 0
-  AreAlike sn tn (var i) (var j) = LevelsMatch sn tn i j
-  AreAlike sn tn (tag n) (tag k) = n ≡ k
-  AreAlike sn tn (tup ts) (tup ss) = PartsAlike sn tn ts ss
-  AreAlike sn tn (coll cs) (coll ks) = ItemsAlike sn tn cs ks
-  AreAlike sn tn _ _ = ⊥
+  pub TermsAlike : List ℕ → List ℕ → TermD → TermD → Type 0
+  TermsAlike sn tn (var i) (var j) = LevelsMatch sn tn i j
+  TermsAlike sn tn (tag n) (tag k) = n ≡ k
+  TermsAlike sn tn (tup ts) (tup ss) = PartsAlike sn tn ts ss
+  TermsAlike sn tn (coll cs) (coll ks) = ItemsAlike sn tn cs ks
+  TermsAlike sn tn _ _ = ⊥
 
   pub PartsAlike : List ℕ → List ℕ → TermsD → TermsD → Type 0
   PartsAlike sn tn no_terms no_terms = Unit {0}
-  PartsAlike sn tn (term t ts) (term s ss) = AreAlike sn tn t s × PartsAlike sn tn ts ss
+  PartsAlike sn tn (term t ts) (term s ss) = TermsAlike sn tn t s × PartsAlike sn tn ts ss
   PartsAlike sn tn _ _ = ⊥
 
   pub CompsAlike : List ℕ → List ℕ → CompD → CompD → Type 0
-  CompsAlike sn tn (comp m g t) (comp n h s) = (m ≡ n) × GuardsMatch sn tn g h × AreAlike sn tn t s
+  CompsAlike sn tn (comp m g t) (comp n h s) = (m ≡ n) × GuardsMatch sn tn g h × TermsAlike sn tn t s
 
   pub ItemsAlike : List ℕ → List ℕ → CompsD → CompsD → Type 0
   ItemsAlike sn tn no_comps no_comps = Unit {0}

@@ -7,16 +7,16 @@ use Rattle.lois_base.specs.Truth.{atom_at}
 use Rattle.lois_base.specs.declared.guards.Lit.{Lit}
 
 -- the atoms of a choice at the names
-abbrev pub chosen : List ℕ → List Atom → List Atom
-chosen names c = map (λ i. atom_at c i) names
+abbrev pub atoms_named : List ℕ → List Atom → List Atom
+atoms_named names c = map (λ i. atom_at c i) names
 
 abbrev pub AreBelow : ℕ → List ℕ → Type 0
 AreBelow n = All (λ i. i < n)
 
 -- m numbers from n on
-abbrev pub levels_from : ℕ → ℕ → List ℕ
-levels_from n zero = []
-levels_from n (suc m) = n ∷ levels_from (suc n) m
+abbrev pub level_range : ℕ → ℕ → List ℕ
+level_range n zero = []
+level_range n (suc m) = n ∷ level_range (suc n) m
 
 abbrev pub named_lit : List ℕ → Lit → Lit
 named_lit names l = record { op = l.op; left = slice_index names l.left; right = slice_index names l.right }

@@ -3,6 +3,6 @@ use Rattle.lois_base.specs.Data.{comp, CompsD, no_comps, more}
 use Rattle.std.specs.Prelude.{◌≡◌}
 
 -- one comprehension, without binders
-abbrev pub IsSingle : CompsD → Type 0
-IsSingle (more (comp m g t) no_comps) = m ≡ 0
-IsSingle _ = ⊥
+abbrev pub IsSingleItem : CompsD → Type 0
+IsSingleItem (more (comp m g t) no_comps) = m ≡ 0
+IsSingleItem _ = ⊥

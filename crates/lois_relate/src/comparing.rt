@@ -3,7 +3,7 @@
 ghost use Rattle.std.specs.Prelude.{◌≡◌, ◌+◌, ◌<◌, ◌^◌, map, IfOk, IfSome};
 ghost use Rattle.lois_base.specs.FormulaData.{FormulaFits};
 ghost use Rattle.lois_base.specs.FormulaView.{view, views};
-ghost use Rattle.lois_relate.specs.Compared.{IsEquivalent, IsTurned, IsEntry, turned_names};
+ghost use Rattle.lois_relate.specs.Compared.{IsEquivalentFormula, IsLevelSwap, IsTableEntry, turned_names};
 
 use crate::naming::{extend_names, guard_formula, inner_size};
 use lois_base::{Formula, Formulas, NoMemory};
@@ -28,7 +28,7 @@ pub struct PairCache<'a> {
 impl<'a> PairCache<'a> {
     /// The formula that is known for the comprehension.
     pub fn of(self, comp: usize) -> Option<&'a Formula>
-        ensures { IfSome result (λ f. IsEntry (map views self.entry.rows.now) comp self.entry.place (view f.now)) }
+        ensures { IfSome result (λ f. IsTableEntry (map views self.entry.rows.now) comp self.entry.place (view f.now)) }
     {
         match self.rows.get(comp) {
             Some(row) => row.get(self.place),
@@ -57,8 +57,8 @@ pub fn both_ways(
 ) -> Result<Comparison, NoMemory>
     requires room { (size + first) + second < 2 ^ 64 }
     requires levels { FormulaFits ((size + first) + second) (view paired.now) }
-    ensures forth { IfOk result (λ r. IsEquivalent ((size + first) + second) (view paired.now) (view r.forth)) }
-    ensures back { IfOk result (λ r. IsTurned size first second (view paired.now) (view r.back)) }
+    ensures forth { IfOk result (λ r. IsEquivalentFormula ((size + first) + second) (view paired.now) (view r.forth)) }
+    ensures back { IfOk result (λ r. IsLevelSwap size first second (view paired.now) (view r.back)) }
 {
     let whole = size + first + second;
     // The atoms are the same fractions in each structure, and an answer has `<` only where the formula has it.

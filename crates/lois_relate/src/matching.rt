@@ -3,7 +3,7 @@
 ghost use Rattle.std.specs.Prelude.{IsTrue, ◌↔◌};
 ghost use Rattle.lois_base.specs.Data.{terms_of, comps_of};
 ghost use Rattle.lois_base.specs.Tree.{tree, comp_of};
-ghost use Rattle.lois_relate.specs.Alike.{LevelsMatch, LitsMatch, CubesMatch, GuardsMatch, AreAlike, PartsAlike, CompsAlike, ItemsAlike, IsListed};
+ghost use Rattle.lois_relate.specs.Alike.{LevelsMatch, LitsMatch, CubesMatch, GuardsMatch, TermsAlike, PartsAlike, CompsAlike, ItemsAlike, IsListed};
 
 use lois_base::{Comp, Comps, Constraint, Cube, Lit, Term, Terms};
 
@@ -59,7 +59,7 @@ fn guards_match(g: &Constraint, s_names: &[usize], h: &Constraint, t_names: &[us
 
 #[cycle(matching)]
 fn terms_match(s: &Term, s_names: &[usize], t: &Term, t_names: &[usize]) -> bool
-    ensures { IsTrue result ↔ AreAlike s_names.now t_names.now (tree s.now) (tree t.now) }
+    ensures { IsTrue result ↔ TermsAlike s_names.now t_names.now (tree s.now) (tree t.now) }
 {
     match (s, t) {
         (Term::Var(i), Term::Var(j)) => levels_match(*i, s_names, *j, t_names),

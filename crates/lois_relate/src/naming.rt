@@ -6,7 +6,7 @@ ghost use Rattle.lois_base.specs.FormulaView.{view};
 ghost use Rattle.lois_base.specs.Truth.{cube_holds, holds};
 ghost use Rattle.lois_base.specs.Validity.{AdmitsCube, AdmitsConstraint};
 ghost use Rattle.lois_relate.specs.Built.{Defines};
-ghost use Rattle.lois_relate.specs.Named.{chosen, AreBelow, levels_from, named_lit};
+ghost use Rattle.lois_relate.specs.Named.{atoms_named, AreBelow, level_range, named_lit};
 
 use crate::building::{conjunction, disjunction, false_formula, true_formula};
 use lois_base::{Constraint, Cube, Formula, Lit, NoMemory};
@@ -26,7 +26,7 @@ pub fn extend_names(
     size: usize,
     binders: usize,
 ) -> Result<Vec<usize>, NoMemory>
-    ensures { IfOk result (λ r. r.items ≡ names.now ++ levels_from size binders) }
+    ensures { IfOk result (λ r. r.items ≡ names.now ++ level_range size binders) }
 {
     let inner = inner_size(size, binders)?;
     let mut longer = Vec::from_slice(alloc, names)?;
@@ -49,7 +49,7 @@ fn named_literal(lit: Lit, names: &[usize]) -> Lit
 
 fn cube_formula(alloc: Global, cube: &Cube, names: &[usize]) -> Result<Formula, NoMemory>
     requires { CubeFits (length names.now) cube.now }
-    ensures { IfOk result (λ f. (n : ℕ) → AreBelow n names.now → Defines n (λ c. IsTrue (cube_holds (chosen names.now c) cube.now)) (λ o. AdmitsCube o cube.now) (view f)) }
+    ensures { IfOk result (λ f. (n : ℕ) → AreBelow n names.now → Defines n (λ c. IsTrue (cube_holds (atoms_named names.now c) cube.now)) (λ o. AdmitsCube o cube.now) (view f)) }
 {
     let mut met = true_formula(alloc);
     for lit in cube.as_slice() {
@@ -66,7 +66,7 @@ pub fn guard_formula(
     names: &[usize],
 ) -> Result<Formula, NoMemory>
     requires { ConstraintFits (length names.now) guard.now }
-    ensures { IfOk result (λ f. (n : ℕ) → AreBelow n names.now → Defines n (λ c. IsTrue (holds (chosen names.now c) guard.now)) (λ o. AdmitsConstraint o guard.now) (view f)) }
+    ensures { IfOk result (λ f. (n : ℕ) → AreBelow n names.now → Defines n (λ c. IsTrue (holds (atoms_named names.now c) guard.now)) (λ o. AdmitsConstraint o guard.now) (view f)) }
 {
     let mut found = false_formula(alloc);
     for cube in guard.as_slice() {

@@ -10,11 +10,11 @@ ghost use Rattle.lois_base.specs.Truth.{atom_at};
 ghost use Rattle.lois_base.specs.Tree.{tree, comp_of};
 ghost use Rattle.lois_base.specs.Validity.{AdmitsTerm, AdmitsParts, AdmitsComp, AdmitsItems, AdmitsFormula};
 ghost use Rattle.lois_base.specs.Values.{SameAt, SamePartsAt, AllInAt, EachInAt, SomeIsAt, OneIsAt};
-ghost use Rattle.lois_terms.specs.Guarded.{IsSet};
+ghost use Rattle.lois_terms.specs.Guarded.{IsColl};
 ghost use Rattle.lois_relate.specs.Built.{Defines};
 ghost use Rattle.lois_relate.specs.Compared.{IsForEach, DefinesPaired, DefinesItem, DefinesFound, IsCached, IsRow, AreRows};
-ghost use Rattle.lois_relate.specs.Named.{chosen, AreBelow, levels_from};
-ghost use Rattle.lois_relate.specs.Singles.{IsSingle};
+ghost use Rattle.lois_relate.specs.Named.{atoms_named, AreBelow, level_range};
+ghost use Rattle.lois_relate.specs.Singles.{IsSingleItem};
 ghost use Rattle.lois_relate.specs.Relations.{HoldsWhereSame, HoldsWhereIn, HoldsWhereItemIn, HoldsWhereIncluded};
 
 use crate::building::{
@@ -45,7 +45,7 @@ pub fn equal_formula(alloc: Global, s: &Term, t: &Term, size: usize) -> Result<F
 pub fn member_formula(alloc: Global, s: &Term, t: &Term, size: usize) -> Result<Formula, NoMemory>
     requires element { Fits size (tree s.now) }
     requires levels { Fits size (tree t.now) }
-    requires set { IsSet (tree t.now) }
+    requires set { IsColl (tree t.now) }
     ensures truth { IfOk result (λ f. HoldsWhereIn size (tree s.now) (tree t.now) (view f)) }
     ensures levels { IfOk result (λ f. FormulaFits size (view f)) }
     ensures operators { IfOk result (λ f. (ordered : Bool) → AdmitsTerm ordered (tree s.now) → AdmitsTerm ordered (tree t.now) → AdmitsFormula ordered (view f)) }
@@ -82,9 +82,9 @@ pub fn item_formula(
 /// A formula that holds at each choice of `size` atoms exactly where each member of the set `s` is in the set `t`. It has `<` only where a term has it. Errors: `NoMemory`, also where a level would pass the greatest usize.
 pub fn included_formula(alloc: Global, s: &Term, t: &Term, size: usize) -> Result<Formula, NoMemory>
     requires left { Fits size (tree s.now) }
-    requires left_set { IsSet (tree s.now) }
+    requires left_set { IsColl (tree s.now) }
     requires right { Fits size (tree t.now) }
-    requires right_set { IsSet (tree t.now) }
+    requires right_set { IsColl (tree t.now) }
     ensures truth { IfOk result (λ f. HoldsWhereIncluded size (tree s.now) (tree t.now) (view f)) }
     ensures levels { IfOk result (λ f. FormulaFits size (view f)) }
     ensures operators { IfOk result (λ f. (ordered : Bool) → AdmitsTerm ordered (tree s.now) → AdmitsTerm ordered (tree t.now) → AdmitsFormula ordered (view f)) }
@@ -113,7 +113,7 @@ fn same(
     requires left_names { AreBelow size s_names.now }
     requires right { Fits (length t_names.now) (tree t.now) }
     requires right_names { AreBelow size t_names.now }
-    ensures { IfOk result (λ f. Defines size (λ c. SameAt (tree s.now) (chosen s_names.now c) (tree t.now) (chosen t_names.now c)) (λ o. AdmitsTerm o (tree s.now) × AdmitsTerm o (tree t.now)) (view f)) }
+    ensures { IfOk result (λ f. Defines size (λ c. SameAt (tree s.now) (atoms_named s_names.now c) (tree t.now) (atoms_named t_names.now c)) (λ o. AdmitsTerm o (tree s.now) × AdmitsTerm o (tree t.now)) (view f)) }
 {
     match (s, t) {
         (Term::Var(i), Term::Var(j)) => Ok(same_atoms(alloc, s_names[*i], t_names[*j])),
@@ -161,7 +161,7 @@ fn same_parts(
     requires left_names { AreBelow size s_names.now }
     requires right { PartsFit (length t_names.now) (terms_of others.now) }
     requires right_names { AreBelow size t_names.now }
-    ensures { IfOk result (λ f. Defines size (λ c. SamePartsAt (terms_of terms.now) (chosen s_names.now c) (terms_of others.now) (chosen t_names.now c)) (λ o. AdmitsParts o (terms_of terms.now) × AdmitsParts o (terms_of others.now)) (view f)) }
+    ensures { IfOk result (λ f. Defines size (λ c. SamePartsAt (terms_of terms.now) (atoms_named s_names.now c) (terms_of others.now) (atoms_named t_names.now c)) (λ o. AdmitsParts o (terms_of terms.now) × AdmitsParts o (terms_of others.now)) (view f)) }
 {
     let parts = terms.as_slice();
     let partners = others.as_slice();
@@ -193,7 +193,7 @@ fn same_sets(
     requires left_names { AreBelow size s_names.now }
     requires right { ItemsFit (length t_names.now) (comps_of others.now) }
     requires right_names { AreBelow size t_names.now }
-    ensures { IfOk result (λ f. Defines size (λ c. SameAt (coll (comps_of comps.now)) (chosen s_names.now c) (coll (comps_of others.now)) (chosen t_names.now c)) (λ o. AdmitsItems o (comps_of comps.now) × AdmitsItems o (comps_of others.now)) (view f)) }
+    ensures { IfOk result (λ f. Defines size (λ c. SameAt (coll (comps_of comps.now)) (atoms_named s_names.now c) (coll (comps_of others.now)) (atoms_named t_names.now c)) (λ o. AdmitsItems o (comps_of comps.now) × AdmitsItems o (comps_of others.now)) (view f)) }
 {
     if sets_match(comps, s_names, others, t_names) {
         return Ok(true_formula(alloc));
@@ -222,7 +222,7 @@ fn same_sets(
 // The comprehension of a set that has no other, and no binders.
 fn single(comps: &Comps) -> Option<&Comp>
     ensures some { IfSome result (λ k. (comps.now ≡ comp_of k.now ∷ []) × (k.now.binders ≡ 0)) }
-    ensures none { IfNone result (¬ IsSingle (comps_of comps.now)) }
+    ensures none { IfNone result (¬ IsSingleItem (comps_of comps.now)) }
 {
     let items = comps.as_slice();
     if items.len() != 1 {
@@ -248,7 +248,7 @@ fn same_singles(
     requires right { CompFits (length t_names.now) (comp_of other.now) }
     requires right_names { AreBelow size t_names.now }
     requires right_binders { other.now.binders ≡ 0 }
-    ensures { IfOk result (λ f. Defines size (λ c. SameAt (coll (more (comp_of one.now) no_comps)) (chosen s_names.now c) (coll (more (comp_of other.now) no_comps)) (chosen t_names.now c)) (λ o. AdmitsComp o (comp_of one.now) × AdmitsComp o (comp_of other.now)) (view f)) }
+    ensures { IfOk result (λ f. Defines size (λ c. SameAt (coll (more (comp_of one.now) no_comps)) (atoms_named s_names.now c) (coll (more (comp_of other.now) no_comps)) (atoms_named t_names.now c)) (λ o. AdmitsComp o (comp_of one.now) × AdmitsComp o (comp_of other.now)) (view f)) }
 {
     let equal = same(alloc, &one.item, s_names, &other.item, t_names, size)?;
     let one_there = guard_formula(alloc, &one.guard, s_names)?;
@@ -275,7 +275,7 @@ fn included(
     requires right { ItemsFit (length t_names.now) (comps_of others.now) }
     requires right_names { AreBelow size t_names.now }
     requires rows { AreRows size others.now t_names.now comps.now s_names.now (map views rows.now) }
-    ensures { IfOk result (λ f. Defines size (λ c. AllInAt (comps_of comps.now) (chosen s_names.now c) (comps_of others.now) (chosen t_names.now c)) (λ o. AdmitsItems o (comps_of comps.now) × AdmitsItems o (comps_of others.now)) (view f)) }
+    ensures { IfOk result (λ f. Defines size (λ c. AllInAt (comps_of comps.now) (atoms_named s_names.now c) (comps_of others.now) (atoms_named t_names.now c)) (λ o. AdmitsItems o (comps_of comps.now) × AdmitsItems o (comps_of others.now)) (view f)) }
 {
     let mut met = true_formula(alloc);
     let items = comps.as_slice();
@@ -306,7 +306,7 @@ fn each_in(
     requires right { ItemsFit (length t_names.now) (comps_of others.now) }
     requires right_names { AreBelow size t_names.now }
     requires known { IsCached size others.now t_names.now (comp_of comp.now) s_names.now (map views known.rows.now) known.place }
-    ensures { IfOk result (λ f. Defines size (λ c. EachInAt (comp_of comp.now) (chosen s_names.now c) (comps_of others.now) (chosen t_names.now c)) (λ o. AdmitsComp o (comp_of comp.now) × AdmitsItems o (comps_of others.now)) (view f)) }
+    ensures { IfOk result (λ f. Defines size (λ c. EachInAt (comp_of comp.now) (atoms_named s_names.now c) (comps_of others.now) (atoms_named t_names.now c)) (λ o. AdmitsComp o (comp_of comp.now) × AdmitsItems o (comps_of others.now)) (view f)) }
 {
     if is_listed(comp, s_names, others, t_names) {
         return Ok(true_formula(alloc));
@@ -412,7 +412,7 @@ fn member(
     requires left_names { AreBelow size s_names.now }
     requires right { ItemsFit (length t_names.now) (comps_of (map comp_of comps.now)) }
     requires right_names { AreBelow size t_names.now }
-    ensures { IfOk result (λ f. Defines size (λ c. SomeIsAt (comps_of (map comp_of comps.now)) (chosen t_names.now c) (tree s.now) (chosen s_names.now c)) (λ o. AdmitsItems o (comps_of (map comp_of comps.now)) × AdmitsTerm o (tree s.now)) (view f)) }
+    ensures { IfOk result (λ f. Defines size (λ c. SomeIsAt (comps_of (map comp_of comps.now)) (atoms_named t_names.now c) (tree s.now) (atoms_named s_names.now c)) (λ o. AdmitsItems o (comps_of (map comp_of comps.now)) × AdmitsTerm o (tree s.now)) (view f)) }
 {
     let mut found = false_formula(alloc);
     for comp in comps {
@@ -441,7 +441,7 @@ fn is_item(
     requires left_names { AreBelow size s_names.now }
     requires right { CompFits (length t_names.now) (comp_of comp.now) }
     requires right_names { AreBelow size t_names.now }
-    ensures { IfOk result (λ f. Defines size (λ c. OneIsAt (comp_of comp.now) (chosen t_names.now c) (tree s.now) (chosen s_names.now c)) (λ o. AdmitsComp o (comp_of comp.now) × AdmitsTerm o (tree s.now)) (view f)) }
+    ensures { IfOk result (λ f. Defines size (λ c. OneIsAt (comp_of comp.now) (atoms_named t_names.now c) (tree s.now) (atoms_named s_names.now c)) (λ o. AdmitsComp o (comp_of comp.now) × AdmitsTerm o (tree s.now)) (view f)) }
 {
     let inner = inner_size(size, comp.binders)?;
     let longer = extend_names(alloc, t_names, size, comp.binders)?;
@@ -482,7 +482,7 @@ fn sets_compared(
     requires left_names { AreBelow size s_names.now }
     requires right { ItemsFit (length t_names.now) (comps_of others.now) }
     requires right_names { AreBelow size t_names.now }
-    ensures included { IfOk result (λ r. Defines size (λ c. AllInAt (comps_of comps.now) (chosen s_names.now c) (comps_of others.now) (chosen t_names.now c)) (λ o. AdmitsItems o (comps_of comps.now) × AdmitsItems o (comps_of others.now)) (view r.included)) }
+    ensures included { IfOk result (λ r. Defines size (λ c. AllInAt (comps_of comps.now) (atoms_named s_names.now c) (comps_of others.now) (atoms_named t_names.now c)) (λ o. AdmitsItems o (comps_of comps.now) × AdmitsItems o (comps_of others.now)) (view r.included)) }
     ensures rows { IfOk result (λ r. AreRows size comps.now s_names.now others.now t_names.now (map views r.rows.items)) }
 {
     let mut met = true_formula(alloc);
@@ -518,7 +518,7 @@ fn each_compared(
     requires left_names { AreBelow size s_names.now }
     requires right { ItemsFit (length t_names.now) (comps_of others.now) }
     requires right_names { AreBelow size t_names.now }
-    ensures there { IfOk result (λ r. Defines size (λ c. EachInAt (comp_of comp.now) (chosen s_names.now c) (comps_of others.now) (chosen t_names.now c)) (λ o. AdmitsComp o (comp_of comp.now) × AdmitsItems o (comps_of others.now)) (view r.there)) }
+    ensures there { IfOk result (λ r. Defines size (λ c. EachInAt (comp_of comp.now) (atoms_named s_names.now c) (comps_of others.now) (atoms_named t_names.now c)) (λ o. AdmitsComp o (comp_of comp.now) × AdmitsItems o (comps_of others.now)) (view r.there)) }
     ensures pairs { IfOk result (λ r. IsRow size (comp_of comp.now) s_names.now others.now t_names.now (views r.pairs)) }
 {
     if is_listed(comp, s_names, others, t_names) {

@@ -15,7 +15,7 @@ use Rattle.lois_answers.specs.declared.faults.Trace.{Trace}
 use Rattle.lois_answers.specs.declared.results.Results.{Results}
 use Rattle.lois_meaning.proofs.TheLaws.{never_both}
 use Rattle.lois_interp.specs.Interpreted.{parameter_name, AreResultsOf}
-use Rattle.lois_reader.proofs.Told.{results_are_told}
+use Rattle.lois_reader.proofs.Determined.{results_are_told}
 use Rattle.lois_scope.specs.Refusals.{IsScopeRefusal as ScopeRefuses}
 use Rattle.lois_scope.specs.declared.checking.ScopeError.{ScopeError}
 use Rattle.lois_scope.specs.declared.checking.ScopeError.TheVariants.{Unknown, Again, OuterAssign, PrintInLoop, OrderInEquality, NoMemory as ScopeMemory}
@@ -25,7 +25,7 @@ use Rattle.lois_syntax.specs.declared.SyntaxError.TheVariants.{NoScript, TooNest
 use Rattle.lois_syntax.proofs.OneStatement.{one_script_of_text}
 use Rattle.lois_run.specs.Causes.{AnswersText}
 use Rattle.lois_run.specs.Headline.{Completes, NamesFailure, FailsSomewhere, IsToRun, Headline}
-use Rattle.lois_run.specs.Outcomes.{HasNumber, HasText}
+use Rattle.lois_run.specs.Outcomes.{HasCauseNumber, HasText}
 use Rattle.lois_run.specs.Places.{IsPlaceOf}
 use Rattle.lois_run.specs.Read.{IsReadOf, SpellsNone}
 use Rattle.lois_run.specs.Refusals.{SyntaxTells, ScopeTells, IsRefusedAs, IsNoAnswerAt}
@@ -42,14 +42,14 @@ use Rattle.lois_run.specs.declared.words.Command.TheVariants.{Run, Check, Reread
 one_of : (n k last : ℕ) → n ≡ k → 1 ≤ k → k ≤ last → (1 ≤ n) × (n ≤ last)
 one_of n k last e l m = (omega (arith, e, l), omega (arith, e, m))
 
-pub syntax_refused : (text : List ℕ) (ts : List Token) (error : SyntaxError) (r : Refusal) → HasTokens text ts → (error ≢ SyntaxMemory → SyntaxRefuses (tokens_in text ts) error) → SyntaxTells text ts error r → IsRefusedAs text r × HasNumber r
+pub syntax_refused : (text : List ℕ) (ts : List Token) (error : SyntaxError) (r : Refusal) → HasTokens text ts → (error ≢ SyntaxMemory → SyntaxRefuses (tokens_in text ts) error) → SyntaxTells text ts error r → IsRefusedAs text r × HasCauseNumber r
 syntax_refused text ts (NoScript k) (Syntax n p) cut refuses told = ((ts, NoScript k, cut, refuses (λ e. cc e), told), one_of n 1 4 told.0 (omega arith) (omega arith))
 syntax_refused text ts (TooNested k) (Syntax n p) cut refuses told = ((ts, TooNested k, cut, refuses (λ e. cc e), told), one_of n 2 4 told.0 (omega arith) (omega arith))
 syntax_refused text ts (WideTuple k) (Syntax n p) cut refuses told = ((ts, WideTuple k, cut, refuses (λ e. cc e), told), one_of n 3 4 told.0 (omega arith) (omega arith))
 syntax_refused text ts (TurnsTooMany k) (Syntax n p) cut refuses told = ((ts, TurnsTooMany k, cut, refuses (λ e. cc e), told), one_of n 4 4 told.0 (omega arith) (omega arith))
 syntax_refused text ts _ _ cut refuses told = absurd told
 
-pub scope_refused : (text : List ℕ) (s : ScriptD) (error : ScopeError) (r : Refusal) → Spells text s → ScopeRefuses s error → ScopeTells text error r → IsRefusedAs text r × HasNumber r
+pub scope_refused : (text : List ℕ) (s : ScriptD) (error : ScopeError) (r : Refusal) → Spells text s → ScopeRefuses s error → ScopeTells text error r → IsRefusedAs text r × HasCauseNumber r
 scope_refused text s (Unknown q) (Scope n p) spells refuses told = ((s, Unknown q, spells, refuses, told), one_of n 1 5 told.0 (omega arith) (omega arith))
 scope_refused text s (Again q) (Scope n p) spells refuses told = ((s, Again q, spells, refuses, told), one_of n 2 5 told.0 (omega arith) (omega arith))
 scope_refused text s (OuterAssign q) (Scope n p) spells refuses told = ((s, OuterAssign q, spells, refuses, told), one_of n 3 5 told.0 (omega arith) (omega arith))

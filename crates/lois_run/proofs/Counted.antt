@@ -3,8 +3,8 @@ use Rattle.std.proofs.Common.{◌≡◌, ℕ, ◌+◌, ◌<◌, Bool, List, [], 
 use Rattle.std.specs.List.{All}
 use Rattle.lois_answers.specs.ResultsData.{CaseD}
 use Rattle.lois_answers.specs.declared.results.Results.{Results}
-use Rattle.lois_census.specs.Censuses.{HasLine, HasSet}
-use Rattle.lois_census.specs.Refusals.{IsFirstWithout, IsRefusedAs, IsCensusAnswer}
+use Rattle.lois_census.specs.Censuses.{HasNamedLine, HasSet}
+use Rattle.lois_census.specs.Refusals.{IsFirstWithout, IsCensusRefusal, IsCensusAnswer}
 use Rattle.lois_census.specs.declared.counting.Answer.{Answer}
 use Rattle.lois_census.specs.declared.counting.Answer.TheVariants.{Listed, Refused as Uncounted}
 use Rattle.lois_census.specs.declared.counting.Refusal.{Refusal as Cause}
@@ -28,15 +28,15 @@ module _ (r : Results) (name : List ℕ) where
   some_parameters : {P : Type 0} → 0 < length r.parameters → r.parameters ≡ [] → P
   some_parameters some none = absurd (omega (arith, some, ap length none))
 
-  one_cause : (x y : Cause) → IsRefusedAs r name x → IsRefusedAs r name y → x ≡ y
+  one_cause : (x y : Cause) → IsCensusRefusal r name x → IsCensusRefusal r name y → x ≡ y
   one_cause HasParameters HasParameters h g = refl
   one_cause HasParameters (NoLine n k) h (none, is, first) = some_parameters h none
   one_cause HasParameters (NotASet n k) h (none, is, lines, first) = some_parameters h none
   one_cause (NoLine n k) HasParameters (none, is, first) g = some_parameters g none
-  one_cause (NoLine n k) (NoLine m l) (none, is, first) (nothing, e, other) = ap₂ NoLine (is ∙ sym e) (same_number (HasLine name) r.cases k l first other)
-  one_cause (NoLine n k) (NotASet m l) (none, is, first) (nothing, e, lines, other) = absurd (has_all (HasLine name) r.cases k lines first)
+  one_cause (NoLine n k) (NoLine m l) (none, is, first) (nothing, e, other) = ap₂ NoLine (is ∙ sym e) (same_number (HasNamedLine name) r.cases k l first other)
+  one_cause (NoLine n k) (NotASet m l) (none, is, first) (nothing, e, lines, other) = absurd (has_all (HasNamedLine name) r.cases k lines first)
   one_cause (NotASet n k) HasParameters (none, is, lines, first) g = some_parameters g none
-  one_cause (NotASet n k) (NoLine m l) (none, is, lines, first) (nothing, e, other) = absurd (has_all (HasLine name) r.cases l lines other)
+  one_cause (NotASet n k) (NoLine m l) (none, is, lines, first) (nothing, e, other) = absurd (has_all (HasNamedLine name) r.cases l lines other)
   one_cause (NotASet n k) (NotASet m l) (none, is, lines, first) (nothing, e, others, other) = ap₂ NotASet (is ∙ sym e) (same_number (HasSet name) r.cases k l first other)
 
   pub counted_once : (ordered : Bool) (x y : Answer) (q : Refusal) → IsCensusAnswer ordered r name x → IsCensusAnswer ordered r name y → Refused q ≡ listed_outcome x → listed_outcome y ≡ listed_outcome x

@@ -1,7 +1,7 @@
 pub mod Numbers
 pub mod FreeNames
 pub mod CommandLine
-pub mod Told
+pub mod TextsOfOutcomes
 pub mod PathNames
 pub mod Traced
 pub mod Answered

@@ -25,7 +25,7 @@ use Rattle.lois_equal.specs.declared.comparing.ComparisonFault.TheVariants as un
 use Rattle.lois_lexer.specs.declared.Place.{Place}
 use Rattle.lois_reader.specs.Refusal.{IsResultsOf}
 use Rattle.lois_base.specs.Data.{TermD}
-use Rattle.lois_registers.specs.Places.{IsRegistersOf, HasNone, IsPlace}
+use Rattle.lois_registers.specs.Places.{IsRegistersOf, SpellsNoRegisters, IsFaultPlace}
 use Rattle.lois_registers.specs.Translation.{IsTranslatedTo}
 use Rattle.lois_registers.specs.declared.RegistersError.TheVariants.{NotRegisters as NoRegisters}
 use Rattle.lois_registers.specs.declared.automata.Registers.{Registers as Automaton}
@@ -76,7 +76,7 @@ module _ (text : List ℕ) where
     kind = tt;
   }
 
-  pub no_translation : (k : ℕ) (place : Place) → HasNone text (NoRegisters k) → IsPlace text (NoRegisters k) → IsPlaceOf text k place → AnswersText Registers text (Refused (NotRegisters place))
+  pub no_translation : (k : ℕ) (place : Place) → SpellsNoRegisters text (NoRegisters k) → IsFaultPlace text (NoRegisters k) → IsPlaceOf text k place → AnswersText Registers text (Refused (NotRegisters place))
   no_translation k place none is at = record { cause = (k, (none, is), at); promise = λ l r h. absurd (none r h); kind = tt }
 
 -- ---- what is found can be written

@@ -9,7 +9,7 @@ use Rattle.std.proofs.lemmas.Bool.{and_parts, le-leb, leb-true, lt-leb}
 use Rattle.std.proofs.lemmas.Str.Parse.{IsNumeralModel, numerals_by_fold, parse_plain}
 use Rattle.lois_script.specs.Grammar.{decimal, decimal_behind}
 use Rattle.lois_base.specs.declared.deciding.Kind.{Kind}
-use Rattle.lois_run.specs.Words.{Requests, command_alone, command_of, command_with_number, is_number, number_first, number_last, number_named, option_named, command_with_names, free_name, one_name, two_names}
+use Rattle.lois_run.specs.Words.{Requests, command_alone, command_of, command_with_number, is_loop_count, number_first, number_last, number_named, option_named, command_with_names, free_name, one_name, two_names}
 use Rattle.lois_run.specs.declared.words.Command.{Command}
 use Rattle.lois_run.specs.declared.words.Command.TheVariants.{Run, Check, Reread, Make, Registers, Census}
 
@@ -32,13 +32,13 @@ some_digit : (bs : List ℕ) → 1 ≤ decimal bs → 0 < length bs
 some_digit [] h = absurd (omega (arith, h))
 some_digit (b ∷ bs) h = omega arith
 
-number_digits : (bs : List ℕ) → is_number bs ≡ true → list_all is_ascii_digit bs ≡ true
+number_digits : (bs : List ℕ) → is_loop_count bs ≡ true → list_all is_ascii_digit bs ≡ true
 number_digits bs h =
     let upper = and_parts (list_all is_ascii_digit bs && not (begins bs (codes "0")) && nat_le 1 (decimal bs)) (nat_le (decimal bs) 10000) h in
     let lower = and_parts (list_all is_ascii_digit bs && not (begins bs (codes "0"))) (nat_le 1 (decimal bs)) upper.0 in
     (and_parts (list_all is_ascii_digit bs) (not (begins bs (codes "0"))) lower.0).0
 
-number_limits : (bs : List ℕ) → is_number bs ≡ true → (1 ≤ decimal bs) × (decimal bs ≤ 10000)
+number_limits : (bs : List ℕ) → is_loop_count bs ≡ true → (1 ≤ decimal bs) × (decimal bs ≤ 10000)
 number_limits bs h =
     let upper = and_parts (list_all is_ascii_digit bs && not (begins bs (codes "0")) && nat_le 1 (decimal bs)) (nat_le (decimal bs) 10000) h in
     let lower = and_parts (list_all is_ascii_digit bs && not (begins bs (codes "0"))) (nat_le 1 (decimal bs)) upper.0 in
@@ -49,9 +49,9 @@ module _ {E : Type 0} where
   number_read bs (Ok n) h plus padded =
       let read = parse_plain own {E = E} 32 bs (Ok n) h (unsigned bs plus) in
       rw (read.0.0, padded, read.1) refl
-  number_read bs (Err e) h plus padded = go (is_number bs) refl
+  number_read bs (Err e) h plus padded = go (is_loop_count bs) refl
     where
-      go : (b : Bool) → is_number bs ≡ b → number_named bs ≡ None
+      go : (b : Bool) → is_loop_count bs ≡ b → number_named bs ≡ None
       go false f = rw f refl
       go true f =
           let limits = number_limits bs f in
@@ -71,9 +71,9 @@ IsLimited (Make n kind) = (1 ≤ n) × (n ≤ 10000)
 IsLimited _ = ⊤
 
 limited_number : (number : List ℕ) (kind : Option (Option Kind)) → IfSome (command_with_number (number_named number) kind) IsLimited
-limited_number number kind = go (is_number number) kind refl
+limited_number number kind = go (is_loop_count number) kind refl
   where
-    go : (b : Bool) (kind : Option (Option Kind)) → is_number number ≡ b → IfSome (command_with_number (if b then (Some (decimal number)) else None) kind) IsLimited
+    go : (b : Bool) (kind : Option (Option Kind)) → is_loop_count number ≡ b → IfSome (command_with_number (if b then (Some (decimal number)) else None) kind) IsLimited
     go false kind h = tt
     go true None h = tt
     go true (Some k) h = number_limits number h

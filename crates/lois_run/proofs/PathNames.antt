@@ -12,7 +12,7 @@ use Rattle.lois_answers.specs.Sound.{IsFreeName}
 use Rattle.lois_answers.specs.declared.faults.FaultKind.{FaultKind}
 use Rattle.lois_meaning.specs.Runs.{StmtFails, ListFails, ScriptFails}
 use Rattle.lois_meaning.specs.Store.{NamedValues, AreSameNamed}
-use Rattle.lois_context.specs.Slots.{lines_at}
+use Rattle.lois_context.specs.Slots.{line_values}
 use Rattle.lois_interp.proofs.FreeNames.{AreFree, free_name}
 use Rattle.lois_interp.proofs.Spelled.{spelled_prints}
 
@@ -48,7 +48,7 @@ pub path_free : (text : List ℕ) (s : ScriptD) → Spells text s → (choice : 
 path_free text s spelled choice at k path fails = list_free s.body 0 (spelled_prints text s spelled).body _ at k path fails
 
 -- elements that a path names have its names
-pub named_free : (c : List Atom) (path : NamedValues) (ls : List LineD) → AreSameNamed path (lines_at c ls) → AreFree path → All (λ l. IsFreeName l.name) ls
+pub named_free : (c : List Atom) (path : NamedValues) (ls : List LineD) → AreSameNamed path (line_values c ls) → AreFree path → All (λ l. IsFreeName l.name) ls
 named_free c [] [] same h = All-nil (λ l. IsFreeName l.name)
 named_free c [] (l ∷ ls) same h = absurd same
 named_free c (b ∷ path) [] same h = absurd same

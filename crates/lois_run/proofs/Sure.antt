@@ -14,7 +14,7 @@ use Rattle.lois_script.specs.Tree.{ScriptD}
 use Rattle.lois_answers.specs.declared.results.Results.{Results}
 use Rattle.lois_census.specs.Refusals.{IsCensusAnswer as IsCounted}
 use Rattle.lois_equal.specs.Comparing.{IsComparison}
-use Rattle.lois_reader.proofs.Told.{results_are_told}
+use Rattle.lois_reader.proofs.Determined.{results_are_told}
 use Rattle.lois_reader.specs.Pieces.{Piece, answer_pieces, results_pieces}
 use Rattle.lois_reader.specs.Refusal.{IsAnswerOf, IsResultsOf}
 use Rattle.lois_reader.specs.Shape.{HasAnswerShape, SpellsAnswer, HasResultsShape, SpellsResults, LeavesShapeAt}

@@ -20,7 +20,7 @@ use Rattle.lois_answers.specs.declared.faults.Trace.{Trace}
 use Rattle.lois_meaning.specs.Runs.{ScriptFails}
 use Rattle.lois_meaning.specs.Store.{AreSameNamed}
 use Rattle.lois_meaning.specs.declared.faults.Fault.{Fault}
-use Rattle.lois_context.specs.Slots.{lines_at}
+use Rattle.lois_context.specs.Slots.{line_values}
 use Rattle.lois_interp.specs.Interpreted.{parameter_name, IsFailureOf}
 use Rattle.lois_interp.proofs.FreeNames.{are_parameters}
 use Rattle.lois_run.specs.Headline.{NamesFailure}
@@ -78,6 +78,6 @@ module _ (text : List ℕ) (s : ScriptD) (spelled : Spells text s) (scoped : IsW
         path = h.path;
         failed = subst (λ k. ScriptFails s (sampled (take n k)) f.pos.offset t.kind h.path) (sym sample)
             (subst (λ k. ScriptFails s (sampled (take n f.sample.items)) f.pos.offset k h.path) (sym kind) h.failed);
-        named = subst (λ k. AreSameNamed h.path (lines_at (sampled k) t.elements)) (sym sample)
-            (subst (λ ls. AreSameNamed h.path (lines_at (sampled f.sample.items) ls)) (sym elements) h.named);
+        named = subst (λ k. AreSameNamed h.path (line_values (sampled k) t.elements)) (sym sample)
+            (subst (λ ls. AreSameNamed h.path (line_values (sampled f.sample.items) ls)) (sym elements) h.named);
       }

@@ -7,7 +7,7 @@ use Rattle.lois_script.specs.Scope.{IsWellScoped}
 use Rattle.lois_script.specs.Tree.{ScriptD}
 use Rattle.lois_script.specs.View.{script_tree}
 use Rattle.lois_answers.specs.declared.faults.Answer.{Answer}
-use Rattle.lois_outside.specs.Calls.{Reads, Writes}
+use Rattle.lois_outside.specs.Calls.{TakesPieces, Writes}
 use Rattle.lois_outside.specs.Faults.{Rose}
 use Rattle.lois_outside.specs.Reading.{TookAtMost, TookExactly, ReadsToEnd, GivesUp}
 use Rattle.lois_outside.specs.Writing.{AppendsProperPrefix, FailsWriting}
@@ -123,8 +123,8 @@ Promises (commands.Census name) text fault o = AboutResults (Lists name text) te
 Promises (Make n kind) text fault o = o ≡ WasMade (made_counts n)
 
 -- one call of a source: how many bytes it asked for, and what it was given, or `None` where it failed
-abbrev pub Takes : Type 0 → Type 1
-Takes S = S → ℕ → Option (List ℕ) → S → Type 0
+abbrev pub TakeRelation : Type 0 → Type 1
+TakeRelation S = S → ℕ → Option (List ℕ) → S → Type 0
 
 -- the outcome has its cause in the text, and keeps what the command that the words ask for promises of it
 abbrev pub Serves : List (List ℕ) → List ℕ → Outcome → Type 0
@@ -132,7 +132,7 @@ Serves words text o = (command : Command) → Requests command words → HasCaus
 
 -- What the calls of the source gave, whether or not it tells what is left: too many bytes; or some, and then the last call
 -- failed; or the whole text that the outcome is about, up to its end. For usage and for `make` there was no call.
-abbrev pub HasRead : {S : Type 0} → Takes S → List (List ℕ) → S → S → Outcome → Type 0
+abbrev pub HasRead : {S : Type 0} → TakeRelation S → List (List ℕ) → S → S → Outcome → Type 0
 HasRead {S} takes words from to (Refused TooLong) = GivesUp takes LONGEST_TEXT from (unread.TooLong (LONGEST_TEXT + 1)) to
 HasRead {S} takes words from to ReadFault = GivesUp takes LONGEST_TEXT from unread.ReadFault to
 HasRead {S} takes words from to Usage = from ≡ to
@@ -141,7 +141,7 @@ HasRead {S} takes words from to o = (text : List ℕ) × ReadsToEnd takes (LONGE
 
 -- The outcome of a call with these words and deciders of these kinds, which led from a source to a source: what each has
 -- left, where it tells that, its count of faults, and what one of its calls is.
-pub record IsOutcomeOf {S : Type 0} (words : List (List ℕ)) (kinds : List Kind) (left : S → Option (List ℕ)) (faults : S → ℕ) (takes : Takes S) (from to : S) (o : Outcome) : Type 0 where
+pub record IsOutcomeOf {S : Type 0} (words : List (List ℕ)) (kinds : List Kind) (left : S → Option (List ℕ)) (faults : S → ℕ) (takes : TakeRelation S) (from to : S) (o : Outcome) : Type 0 where
   -- usage comes exactly where the words aren't taken or lack their decider
   pub usage : (o ≡ Usage) ↔ IsUsage words kinds
   pub read_fault : o ≡ ReadFault → Rose (faults from) (faults to)
@@ -155,13 +155,13 @@ pub record IsOutcomeOf {S : Type 0} (words : List (List ℕ)) (kinds : List Kind
   pub promise : (command : Command) → Requests command words → (IsUsage words kinds → ⊥) → IfSome (left from) (λ text. Promises command text (Rose (faults from) (faults to)) o)
 
 -- calls that gave these bytes, of which the last one may have failed
-abbrev pub Gave : {S : Type 0} → Takes S → S → List ℕ → S → Type 0
+abbrev pub Gave : {S : Type 0} → TakeRelation S → S → List ℕ → S → Type 0
 Gave {S} takes from bytes to =
-    Reads takes (LONGEST_TEXT + 1) from bytes to ⊎
-    ((mid : S) × (asked : ℕ) × Reads takes (LONGEST_TEXT + 1) from bytes mid × takes mid asked None to)
+    TakesPieces takes (LONGEST_TEXT + 1) from bytes to ⊎
+    ((mid : S) × (asked : ℕ) × TakesPieces takes (LONGEST_TEXT + 1) from bytes mid × takes mid asked None to)
 
 -- the source has given at most so many bytes, by its calls and by what it has left
-pub record GaveAtMost {S : Type 0} (left : S → Option (List ℕ)) (takes : Takes S) (most : ℕ) (from to : S) : Type 0 where
+pub record GaveAtMost {S : Type 0} (left : S → Option (List ℕ)) (takes : TakeRelation S) (most : ℕ) (from to : S) : Type 0 where
   pub bytes : List ℕ
   pub calls : Gave takes from bytes to
   pub few : length bytes ≤ most

@@ -14,7 +14,7 @@ use Rattle.lois_script.specs.Scope.{IsWellScoped}
 use Rattle.lois_script.specs.Tree.{ScriptD}
 use Rattle.lois_meaning.specs.Runs.{ScriptFails}
 use Rattle.lois_meaning.specs.Store.{NamedValues, AreSameNamed}
-use Rattle.lois_context.specs.Slots.{lines_at}
+use Rattle.lois_context.specs.Slots.{line_values}
 use Rattle.lois_interp.specs.Interpreted.{parameter_name, IsChoiceOf, AreResultsOf}
 use Rattle.lois_run.specs.Places.{IsPlaceOf}
 use Rattle.lois_run.specs.declared.outcomes.Outcome.{Outcome}
@@ -35,7 +35,7 @@ pub record NamesFailure (text : List ℕ) (s : ScriptD) (t : Trace) : Type 0 whe
   pub place : IsPlaceOf text at (record { line = t.line; column = t.column })
   pub path : NamedValues
   pub failed : ScriptFails s (sampled (take (length s.parameters) t.sample)) at t.kind path
-  pub named : AreSameNamed path (lines_at (sampled t.sample) t.elements)
+  pub named : AreSameNamed path (line_values (sampled t.sample) t.elements)
 
 -- under some choice of the parameters
 abbrev pub FailsSomewhere : ScriptD → Type 0

@@ -18,7 +18,7 @@ use Rattle.lois_script.specs.View.{script_tree}
 use Rattle.lois_reader.specs.Refusal.{IsSoundAnswer}
 use Rattle.lois_script_printer.specs.Printed.{printed_script}
 use Rattle.lois_script_printer.specs.Unplaced.{IsSpelled}
-use Rattle.lois_run.specs.Texts.{lexical_text, syntax_text, scope_text, placed_text, case_text}
+use Rattle.lois_run.specs.Texts.{lexical_text, syntax_text, scope_text, placed_text, refused_case_text}
 use Rattle.lois_run.specs.declared.outcomes.Made.{Made}
 use Rattle.lois_run.specs.declared.outcomes.Outcome.{Outcome}
 use Rattle.lois_run.specs.declared.outcomes.Outcome.TheVariants.{Completed, Failed, Reread, Checked, Made as WasMade, Same, Differ, Translated, Census, Refused, ReadFault, Usage}
@@ -53,10 +53,10 @@ refusal_text (Syntax n place) = placed_text place (syntax_text n)
 refusal_text (Scope n place) = placed_text place (scope_text n)
 refusal_text (NotResults place) = placed_text place (codes "not results")
 refusal_text (NotRegisters place) = placed_text place (codes "not a register automaton")
-refusal_text (NoLine name k) = case_text (codes "no line ") name k []
-refusal_text (NotDeterministic name k) = case_text [] name k (codes " is no deterministic automaton")
+refusal_text (NoLine name k) = refused_case_text (codes "no line ") name k []
+refusal_text (NotDeterministic name k) = refused_case_text [] name k (codes " is no deterministic automaton")
 refusal_text HasParameters = codes "refused: census of results with parameters"
-refusal_text (NotASet name k) = case_text [] name k (codes " is no set")
+refusal_text (NotASet name k) = refused_case_text [] name k (codes " is no set")
 
 -- What the made script of n loops comes to: 37 bytes and 74 for each loop, one case, and a comprehension for each of its tags,
 -- of which there are seven.
@@ -84,11 +84,11 @@ outcome_text ReadFault = []
 outcome_text Usage = lined (codes "usage: lois run|check|reread|make N|equal A B|registers|census A [--decider plain|graph|memo]")
 
 -- the number is one of its table
-abbrev pub HasNumber : Refusal → Type 0
-HasNumber (Lexical n place) = (1 ≤ n) × (n ≤ 3)
-HasNumber (Syntax n place) = (1 ≤ n) × (n ≤ 4)
-HasNumber (Scope n place) = (1 ≤ n) × (n ≤ 5)
-HasNumber _ = Unit {0}
+abbrev pub HasCauseNumber : Refusal → Type 0
+HasCauseNumber (Lexical n place) = (1 ≤ n) × (n ≤ 3)
+HasCauseNumber (Syntax n place) = (1 ≤ n) × (n ≤ 4)
+HasCauseNumber (Scope n place) = (1 ≤ n) × (n ≤ 5)
+HasCauseNumber _ = Unit {0}
 
 -- each term of a difference or of an orbit fits the length of the sample beside it, and has the usual widths
 pub record CanBeWritten (d : Difference) : Type 0 where
@@ -111,5 +111,5 @@ HasText (Checked script) = IsSpelled (script_tree script)
 HasText (Differ k d name parameters) = CanBeWritten d
 HasText (Translated r) = IsSound r
 HasText (Census cs) = All CanBeListed cs
-HasText (Refused refusal) = HasNumber refusal
+HasText (Refused refusal) = HasCauseNumber refusal
 HasText _ = Unit {0}

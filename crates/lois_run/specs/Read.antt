@@ -4,7 +4,7 @@ use Rattle.lois_script.specs.Limits.{Spells}
 use Rattle.lois_script.specs.Scope.{IsWellScoped}
 use Rattle.lois_script.specs.Tree.{ScriptD}
 use Rattle.lois_script.specs.View.{script_tree}
-use Rattle.lois_run.specs.Outcomes.{HasNumber}
+use Rattle.lois_run.specs.Outcomes.{HasCauseNumber}
 use Rattle.lois_run.specs.Refusals.{IsRefusedAs}
 use Rattle.lois_run.specs.declared.reading.Read.{Read}
 use Rattle.lois_run.specs.declared.reading.Read.TheVariants.{Script, Refused}
@@ -15,4 +15,4 @@ SpellsNone text = (s : ScriptD) → Spells text s → IsWellScoped s → ⊥
 
 abbrev pub IsReadOf : List ℕ → Read → Type 0
 IsReadOf text (Script s) = Spells text (script_tree s) × IsWellScoped (script_tree s)
-IsReadOf text (Refused refusal) = IsRefusedAs text refusal × SpellsNone text × HasNumber refusal
+IsReadOf text (Refused refusal) = IsRefusedAs text refusal × SpellsNone text × HasCauseNumber refusal

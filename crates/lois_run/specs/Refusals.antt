@@ -9,7 +9,7 @@ use Rattle.lois_lexer.specs.declared.Token.{Token}
 use Rattle.lois_script.specs.Limits.{Spells}
 use Rattle.lois_script.specs.Tree.{ScriptD}
 use Rattle.lois_reader.specs.Pieces.{Piece, answer_pieces, results_pieces}
-use Rattle.lois_reader.specs.Refusal.{HasNone, IsAnswerOf, IsResultsOf, IsOffsetInText, IsPlace}
+use Rattle.lois_reader.specs.Refusal.{NoValueHolds, IsAnswerOf, IsResultsOf, IsOffsetInText, IsErrorPlace}
 use Rattle.lois_reader.specs.Shape.{HasAnswerShape, SpellsAnswer, HasResultsShape, SpellsResults}
 use Rattle.lois_reader.specs.declared.ResultError.TheVariants as results
 use Rattle.lois_scope.specs.Refusals.{IsScopeRefusal as ScopeRefuses}
@@ -18,7 +18,7 @@ use Rattle.lois_scope.specs.declared.checking.ScopeError.TheVariants.{Unknown, A
 use Rattle.lois_syntax.specs.Refusals.{tokens_in, IsSyntaxRefusal as SyntaxRefuses}
 use Rattle.lois_syntax.specs.declared.SyntaxError.{SyntaxError}
 use Rattle.lois_syntax.specs.declared.SyntaxError.TheVariants.{NoScript, TooNested, WideTuple, TurnsTooMany}
-use Rattle.lois_registers.specs.Places.{HasNone as HasNoRegisters, IsPlace as IsRegistersPlace}
+use Rattle.lois_registers.specs.Places.{SpellsNoRegisters as HasNoRegisters, IsFaultPlace as IsRegistersPlace}
 use Rattle.lois_registers.specs.declared.RegistersError.TheVariants.{NotRegisters as NoRegisters}
 use Rattle.lois_run.specs.Places.{IsPlaceOf}
 use Rattle.lois_run.specs.declared.outcomes.Refusal.{Refusal}
@@ -75,8 +75,8 @@ IsRefusedAs text _ = ⊥
 -- Nothing of a kind has the text. It is refused at k: where it leaves the shape of all texts of the kind, or, where it is of that
 -- shape, at the first side rule that it breaks.
 pub record IsNoneAt {V D : Type 0} (Holds : V → Type 0) (Shape : List ℕ → Type 0) (SpelledBy : List ℕ → D → Type 0) (pieces : D → List Piece) (text : List ℕ) (k : ℕ) : Type 0 where
-  pub none : HasNone Holds (results.NotResults k)
-  pub place : IsPlace Shape SpelledBy pieces text (results.NotResults k)
+  pub none : NoValueHolds Holds (results.NotResults k)
+  pub place : IsErrorPlace Shape SpelledBy pieces text (results.NotResults k)
   pub inside : IsOffsetInText (length text) (results.NotResults k)
 
 -- no sound results and no sound trace; no sound results

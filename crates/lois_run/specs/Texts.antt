@@ -20,19 +20,19 @@ syntax_text n =
     (if (n == 2) then (syntax_cause (TooNested 0)) else
     (if (n == 3) then (syntax_cause (WideTuple 0)) else (syntax_cause (TurnsTooMany 0))))
 
-abbrev pub start : Pos
-start = record { offset = 0 }
+abbrev pub place_zero : Pos
+place_zero = record { offset = 0 }
 
 abbrev pub scope_text : ℕ → List ℕ
 scope_text n =
-    if (n == 1) then (scope_cause (Unknown start)) else
-    (if (n == 2) then (scope_cause (Again start)) else
-    (if (n == 3) then (scope_cause (OuterAssign start)) else
-    (if (n == 4) then (scope_cause (PrintInLoop start)) else (scope_cause (OrderInEquality start)))))
+    if (n == 1) then (scope_cause (Unknown place_zero)) else
+    (if (n == 2) then (scope_cause (Again place_zero)) else
+    (if (n == 3) then (scope_cause (OuterAssign place_zero)) else
+    (if (n == 4) then (scope_cause (PrintInLoop place_zero)) else (scope_cause (OrderInEquality place_zero)))))
 
 abbrev pub placed_text : Place → List ℕ → List ℕ
 placed_text place cause = codes "refused at " ++ decimal place.line ++ codes ":" ++ decimal place.column ++ codes ": " ++ cause
 
 -- a refusal that names a line of results and the case
-abbrev pub case_text : List ℕ → List ℕ → ℕ → List ℕ → List ℕ
-case_text before name case behind = codes "refused: " ++ before ++ name ++ codes " in case " ++ decimal case ++ behind
+abbrev pub refused_case_text : List ℕ → List ℕ → ℕ → List ℕ → List ℕ
+refused_case_text before name case behind = codes "refused: " ++ before ++ name ++ codes " in case " ++ decimal case ++ behind

@@ -28,11 +28,11 @@ kind_chosen option =
     (if (bytes_eq option (codes "--decider=memo")) then (Some Memo) else None))
 
 -- decimal digits that don't begin with 0, for a number from 1 to 10,000
-abbrev pub is_number : List ℕ → Bool
-is_number word = list_all is_ascii_digit word && not (starts_with nat_eq word (codes "0")) && nat_le 1 (decimal word) && nat_le (decimal word) 10000
+abbrev pub is_loop_count : List ℕ → Bool
+is_loop_count word = list_all is_ascii_digit word && not (starts_with nat_eq word (codes "0")) && nat_le 1 (decimal word) && nat_le (decimal word) 10000
 
 abbrev pub number_named : List ℕ → Option ℕ
-number_named word = if (is_number word) then (Some (decimal word)) else None
+number_named word = if (is_loop_count word) then (Some (decimal word)) else None
 
 -- a name that is no word of the language
 abbrev pub is_free : List ℕ → Bool

@@ -2,7 +2,7 @@
 
 ghost use Rattle.std.specs.Prelude.{◌≡◌, IfOk};
 ghost use Rattle.lois_answers.specs.ResultsText.{lined};
-ghost use Rattle.lois_run.specs.Texts.{lexical_text, syntax_text, scope_text, placed_text, case_text};
+ghost use Rattle.lois_run.specs.Texts.{lexical_text, syntax_text, scope_text, placed_text, refused_case_text};
 
 use lois_base::{Name, NoMemory};
 use lois_lexer::{LexError, Place};
@@ -45,7 +45,7 @@ pub(crate) fn case_line(
     case: usize,
     behind: &[u8],
 ) -> Result<Vec<u8>, NoMemory>
-    ensures { IfOk result (λ text. text.items ≡ lined (case_text before.now name.now case behind.now)) }
+    ensures { IfOk result (λ text. text.items ≡ lined (refused_case_text before.now name.now case behind.now)) }
 {
     let mut text = Vec::new(alloc);
     append(&mut text, b"refused: ")?;

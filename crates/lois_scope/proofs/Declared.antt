@@ -9,7 +9,7 @@ use Rattle.std.specs.List.{All, list_any}
 use Rattle.lois_script.specs.Scope.{RoleD, inner, outer, role_of, declare, farther}
 use Rattle.lois_scope.specs.InScope.{MadeD, role_inside, roles_inside, is_named, with_name}
 use Rattle.lois_scope.specs.Breaks.{KeepsLeast}
-use Rattle.lois_scope.specs.Walks.{StateD, SeenD, scope_of, IsMadeWithin, IsWithin, IsAlike, Walks, Leads}
+use Rattle.lois_scope.specs.Walks.{StateD, SeenD, scope_of, IsMadeWithin, IsWithin, IsAlike, Walks, AdvancesScope}
 use Rattle.lois_scope.specs.declared.names.Made.{Made}
 use Rattle.lois_scope.specs.declared.names.Made.TheVariants.{Variable, Fixed}
 use Rattle.lois_scope.proofs.Alike.{Part, role_of-append, or_role}
@@ -79,7 +79,7 @@ declared_within loops x how made h w = by (list_any (is_named x) made)
 -- a part was walked, and a name declared behind it
 pub walked_and_declared : (P : Part) (x : List ℕ) (how : Made) (a b c : SeenD) → Walks P a b
     → c.state.made ≡ with_name b.state.made x how → c.state.loops ≡ b.state.loops → c.state.ordered ≡ b.state.ordered → c.kept ≡ b.kept
-    → IsMadeWithin a.state.loops how → Leads P (declare x (role_inside a.state.loops how)) a c
+    → IsMadeWithin a.state.loops how → AdvancesScope P (declare x (role_inside a.state.loops how)) a c
 walked_and_declared P x how a b c h made loops ordered kept fits =
     let e : c.state ≡ declared_state a.state x how = λ i. record { made = (made ∙ ap (λ (s : StateD). with_name s.made x how) h.state) i; loops = (loops ∙ ap (λ (s : StateD). s.loops) h.state) i; ordered = (ordered ∙ ap (λ (s : StateD). s.ordered) h.state) i } in
     record {

@@ -5,14 +5,14 @@ use Rattle.lois_script.specs.Scope.{RuleD, unknown, again, outer_assign, print_i
 use Rattle.lois_script.specs.Tree.{ScriptD}
 use Rattle.lois_scope.specs.Breaks.{BreakD, rule_view, break_of, KeepsLeast}
 use Rattle.lois_scope.specs.Refusals.{RefusesFor}
-use Rattle.lois_scope.specs.Walks.{StateD, SeenD, scope_of, Walks, Leads}
+use Rattle.lois_scope.specs.Walks.{StateD, SeenD, scope_of, Walks, AdvancesScope}
 use Rattle.lois_scope.specs.declared.breaks.Break.{Break}
 use Rattle.lois_scope.specs.declared.checking.ScopeError.{ScopeError}
 use Rattle.lois_scope.proofs.Alike.{stmts_steady}
 use Rattle.lois_scope.proofs.Walked.{stay, leads_both, leads_walked}
 
 pub walked_script : (script : ScriptD) (a m k : SeenD) → a.state.made ≡ [] → a.state.loops ≡ 0 → a.state.ordered ≡ script.ordered → a.kept ≡ None
-    → Leads (ParametersBreak script.parameters) (with_parameters script.parameters) a m → Walks (StmtsBreak script.body) m k → KeepsLeast (ScriptBreaks script) None k.kept
+    → AdvancesScope (ParametersBreak script.parameters) (with_parameters script.parameters) a m → Walks (StmtsBreak script.body) m k → KeepsLeast (ScriptBreaks script) None k.kept
 walked_script script a m k made loops ordered kept h g =
     let start : StateD = record { made = []; loops = 0; ordered = script.ordered } in
     let here : a.state ≡ start = λ i. record { made = made i; loops = loops i; ordered = ordered i } in

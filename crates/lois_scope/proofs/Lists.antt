@@ -8,7 +8,7 @@ use Rattle.lois_script.specs.declared.syntax.Cond.{Cond}
 use Rattle.lois_script.specs.declared.syntax.Binding.{Binding}
 use Rattle.lois_script.specs.declared.script.Param.{Param}
 use Rattle.lois_script.specs.declared.script.Stmt.{Stmt}
-use Rattle.lois_scope.specs.Walks.{SeenD, Walks, Leads}
+use Rattle.lois_scope.specs.Walks.{SeenD, Walks, AdvancesScope}
 use Rattle.lois_scope.proofs.Alike.{Part, alike_bound, alike_behind, bindings_steady, stmts_steady, alike_parameters, parameters_steady}
 use Rattle.lois_scope.proofs.Walked.{LeadsOn, WalksOn, KeepsAlike, walks_on, walks_to_end, leads_on, leads_to_end}
 
@@ -46,11 +46,11 @@ pub conditions_end : (items : List Cond) (i : ℕ) (first now : SeenD) → lengt
 conditions_end = walks_to_end cond_tree CondBreaks conditions_break refl (λ x xs. refl)
 
 pub bindings_on : (items : List Binding) (i : ℕ) (x : Binding) (first now next : SeenD) → i < length items → x ≡ get_or items i x
-    → Leads (BindingBreaks (binding_tree x)) (with_binder (binding_tree x)) now next → LeadsOn binding_tree bindings_break bound_by items i first now → LeadsOn binding_tree bindings_break bound_by items (i + 1) first next
+    → AdvancesScope (BindingBreaks (binding_tree x)) (with_binder (binding_tree x)) now next → LeadsOn binding_tree bindings_break bound_by items i first now → LeadsOn binding_tree bindings_break bound_by items (i + 1) first next
 bindings_on = leads_on binding_tree BindingBreaks with_binder bindings_break bound_by refl (λ x xs. refl) refl (λ x xs. refl) (λ xs. bindings_steady (bindings_of xs)) (λ xs. alike_bound (bindings_of xs))
 
 pub bindings_end : (items : List Binding) (i : ℕ) (first now : SeenD) → length items ≤ i → LeadsOn binding_tree bindings_break bound_by items i first now
-    → Leads (bindings_break (map binding_tree items)) (bound_by (map binding_tree items)) first now
+    → AdvancesScope (bindings_break (map binding_tree items)) (bound_by (map binding_tree items)) first now
 bindings_end = leads_to_end binding_tree BindingBreaks with_binder bindings_break bound_by refl (λ x xs. refl) refl (λ x xs. refl) (λ xs. bindings_steady (bindings_of xs)) (λ xs. alike_bound (bindings_of xs))
 
 alike_behind_all : (l : List StmtD) → KeepsAlike (behind_all l)
@@ -58,11 +58,11 @@ alike_behind_all [] s t h = h
 alike_behind_all (a ∷ l) s t h = alike_behind_all l (scope_behind a s) (scope_behind a t) (alike_behind a s t h)
 
 pub statements_on : (items : List Stmt) (i : ℕ) (x : Stmt) (first now next : SeenD) → i < length items → x ≡ get_or items i x
-    → Leads (StmtBreaks (stmt_tree x)) (scope_behind (stmt_tree x)) now next → LeadsOn stmt_tree statements_break behind_all items i first now → LeadsOn stmt_tree statements_break behind_all items (i + 1) first next
+    → AdvancesScope (StmtBreaks (stmt_tree x)) (scope_behind (stmt_tree x)) now next → LeadsOn stmt_tree statements_break behind_all items i first now → LeadsOn stmt_tree statements_break behind_all items (i + 1) first next
 statements_on = leads_on stmt_tree StmtBreaks scope_behind statements_break behind_all refl (λ x xs. refl) refl (λ x xs. refl) (λ xs. stmts_steady (stmts_of xs)) alike_behind_all
 
 pub statements_end : (items : List Stmt) (i : ℕ) (first now : SeenD) → length items ≤ i → LeadsOn stmt_tree statements_break behind_all items i first now
-    → Leads (statements_break (map stmt_tree items)) (behind_all (map stmt_tree items)) first now
+    → AdvancesScope (statements_break (map stmt_tree items)) (behind_all (map stmt_tree items)) first now
 statements_end = leads_to_end stmt_tree StmtBreaks scope_behind statements_break behind_all refl (λ x xs. refl) refl (λ x xs. refl) (λ xs. stmts_steady (stmts_of xs)) alike_behind_all
 
 abbrev pub parameter_breaks : ParamD → Part
@@ -72,9 +72,9 @@ abbrev pub with_parameter : ParamD → ScopeD → ScopeD
 with_parameter p = declare p.name fixed
 
 pub parameters_on : (items : List Param) (i : ℕ) (x : Param) (first now next : SeenD) → i < length items → x ≡ get_or items i x
-    → Leads (parameter_breaks (param_tree x)) (with_parameter (param_tree x)) now next → LeadsOn param_tree ParametersBreak with_parameters items i first now → LeadsOn param_tree ParametersBreak with_parameters items (i + 1) first next
+    → AdvancesScope (parameter_breaks (param_tree x)) (with_parameter (param_tree x)) now next → LeadsOn param_tree ParametersBreak with_parameters items i first now → LeadsOn param_tree ParametersBreak with_parameters items (i + 1) first next
 parameters_on = leads_on param_tree parameter_breaks with_parameter ParametersBreak with_parameters refl (λ x xs. refl) refl (λ x xs. refl) parameters_steady alike_parameters
 
 pub parameters_end : (items : List Param) (i : ℕ) (first now : SeenD) → length items ≤ i → LeadsOn param_tree ParametersBreak with_parameters items i first now
-    → Leads (ParametersBreak (map param_tree items)) (with_parameters (map param_tree items)) first now
+    → AdvancesScope (ParametersBreak (map param_tree items)) (with_parameters (map param_tree items)) first now
 parameters_end = leads_to_end param_tree parameter_breaks with_parameter ParametersBreak with_parameters refl (λ x xs. refl) refl (λ x xs. refl) parameters_steady alike_parameters

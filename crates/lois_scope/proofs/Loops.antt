@@ -8,7 +8,7 @@ use Rattle.lois_script.specs.View.{binding_tree}
 use Rattle.lois_script.specs.declared.syntax.Binding.{Binding}
 use Rattle.lois_scope.specs.Breaks.{KeepsLeast}
 use Rattle.lois_scope.specs.InScope.{MadeD, role_inside, with_name}
-use Rattle.lois_scope.specs.Walks.{StateD, SeenD, scope_of, IsMadeWithin, IsWithin, IsAlike, Walks, Leads, Enters}
+use Rattle.lois_scope.specs.Walks.{StateD, SeenD, scope_of, IsMadeWithin, IsWithin, IsAlike, Walks, AdvancesScope, Enters}
 use Rattle.lois_scope.specs.declared.names.Made.{Made}
 use Rattle.lois_scope.specs.declared.names.Made.TheVariants.{Variable, Fixed}
 use Rattle.lois_scope.proofs.Kept.{keeps_both, keeps_as}
@@ -19,14 +19,14 @@ use Rattle.lois_scope.proofs.Walked.{walks_both, keeps_alike}
 
 pub let_behind : (p : ℕ) (x : List ℕ) (e : ExprD) (a w k z : SeenD) → Walks (DeclarationBreaks x p) a w → Walks (ExprBreaks e) w k
     → z.state.made ≡ with_name k.state.made x (Variable k.state.loops) → z.state.loops ≡ k.state.loops → z.state.ordered ≡ k.state.ordered → z.kept ≡ k.kept
-    → Leads (StmtBreaks («let» p x e)) (scope_behind («let» p x e)) a z
+    → AdvancesScope (StmtBreaks («let» p x e)) (scope_behind («let» p x e)) a z
 let_behind p x e a w k z h g made loops ordered kept =
     let P : Part = λ s rule at. DeclarationBreaks x p s rule at ⊎ ExprBreaks e s rule at in
     let both : Walks P a k = walks_both (DeclarationBreaks x p) (ExprBreaks e) a w k h g in
     let same : k.state.loops ≡ a.state.loops = ap (λ (s : StateD). s.loops) both.state in
     let led = walked_and_declared P x (Variable k.state.loops) a k z both made loops ordered kept (omega (arith, same)) in
     let role : role_inside a.state.loops (Variable k.state.loops) ≡ inner = ap (λ (n : ℕ). role_inside a.state.loops (Variable n)) same ∙ made_here a.state.loops in
-    subst (λ r. Leads P (declare x r) a z) role led
+    subst (λ r. AdvancesScope P (declare x r) a z) role led
 
 within_more : (loops : ℕ) (made : List MadeD) → All (λ d. IsMadeWithin loops d.made) made → All (λ d. IsMadeWithin (suc loops) d.made) made
 within_more loops [] h = All-nil (λ d. IsMadeWithin (suc loops) d.made)

@@ -9,7 +9,7 @@ use Rattle.lois_script.specs.declared.syntax.Cond.TheVariants.{Same, Differ, Mem
 use Rattle.lois_script.specs.declared.syntax.Binding.{Binding}
 use Rattle.lois_script.proofs.Views.{binding_is, cond_Same, cond_Differ, cond_Member, cond_Included}
 use Rattle.lois_scope.specs.InScope.{with_name}
-use Rattle.lois_scope.specs.Walks.{SeenD, Walks, Leads}
+use Rattle.lois_scope.specs.Walks.{SeenD, Walks, AdvancesScope}
 use Rattle.lois_scope.specs.declared.names.Made.TheVariants.{Fixed}
 use Rattle.lois_scope.proofs.Alike.{Part, either_steady, expr_steady, cond_steady}
 use Rattle.lois_scope.proofs.Declared.{walked_and_declared}
@@ -20,7 +20,7 @@ on_ok (Ok x) to h = to h
 on_ok (Err e) to h = h
 
 pub bound_behind : (P : Part) (b : Binding) (a w d : SeenD) → Walks P a w → d.state.made ≡ with_name w.state.made b.name Fixed
-    → d.state.loops ≡ w.state.loops → d.state.ordered ≡ w.state.ordered → d.kept ≡ w.kept → Leads P (with_binder (binding_tree b)) a d
+    → d.state.loops ≡ w.state.loops → d.state.ordered ≡ w.state.ordered → d.kept ≡ w.kept → AdvancesScope P (with_binder (binding_tree b)) a d
 bound_behind P b a w d h made loops ordered kept = rw (binding_is b) (walked_and_declared P b.name Fixed a w d h made loops ordered kept tt)
 
 pub comparison : (x : Cond) (l r : Expr) (a b : SeenD) → (x ≡ Same l r) ⊎ ((x ≡ Differ l r) ⊎ ((x ≡ Member l r) ⊎ (x ≡ Included l r)))
@@ -38,7 +38,7 @@ comparison x l r a b is h =
     ]
 
 pub quantifier : (x : CondD) (b : BindingD) (c : CondD) (a d k z : SeenD) → (x ≡ exists b c) ⊎ (x ≡ every b c)
-    → Leads (BindingBreaks b) (with_binder b) a d → Walks (CondBreaks c) d k → z.state.made ≡ take (length a.state.made) k.state.made
+    → AdvancesScope (BindingBreaks b) (with_binder b) a d → Walks (CondBreaks c) d k → z.state.made ≡ take (length a.state.made) k.state.made
     → z.state.loops ≡ k.state.loops → z.state.ordered ≡ k.state.ordered → z.kept ≡ k.kept → Walks (CondBreaks x) a z
 quantifier x b c a d k z is h g made loops ordered kept =
     let all : Walks (λ s rule at. BindingBreaks b s rule at ⊎ CondBreaks c (with_binder b s) rule at) a z =
@@ -47,7 +47,7 @@ quantifier x b c a d k z is h g made loops ordered kept =
     made loops ordered kept in
     elim is as (λ y. Walks (CondBreaks x) a z) [ inl e ↦ rw e all | inr e ↦ rw e all ]
 
-pub comprehension : (e : ExprD) (bs : BindingsD) (c : CondD) (a d k m z : SeenD) → Leads (BindingsBreak bs) (bound bs) a d → Walks (ExprBreaks e) d k → Walks (CondBreaks c) k m
+pub comprehension : (e : ExprD) (bs : BindingsD) (c : CondD) (a d k m z : SeenD) → AdvancesScope (BindingsBreak bs) (bound bs) a d → Walks (ExprBreaks e) d k → Walks (CondBreaks c) k m
     → z.state.made ≡ take (length a.state.made) m.state.made → z.state.loops ≡ m.state.loops → z.state.ordered ≡ m.state.ordered → z.kept ≡ m.kept
     → Walks (λ s rule at. BindingsBreak bs s rule at ⊎ (ExprBreaks e (bound bs s) rule at ⊎ CondBreaks c (bound bs s) rule at)) a z
 comprehension e bs c a d k m z h g w made loops ordered kept =

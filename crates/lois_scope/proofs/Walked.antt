@@ -5,7 +5,7 @@ use Rattle.std.proofs.lemmas.List.{take-take, length-take, drop_all}
 use Rattle.lois_script.specs.Scope.{ScopeD}
 use Rattle.lois_scope.specs.InScope.{MadeD}
 use Rattle.lois_scope.specs.Breaks.{BreakD, KeepsLeast}
-use Rattle.lois_scope.specs.Walks.{StateD, SeenD, scope_of, IsWithin, IsAlike, Walks, Leads}
+use Rattle.lois_scope.specs.Walks.{StateD, SeenD, scope_of, IsWithin, IsAlike, Walks, AdvancesScope}
 use Rattle.lois_scope.proofs.Kept.{keeps_nothing, keeps_both, keeps_as}
 use Rattle.lois_scope.proofs.Alike.{Part, IsSteady, alike_self, alike_turned, alike_trans}
 
@@ -32,7 +32,7 @@ walks_both P Q a b c h g = record {
 pub keeps_alike : (P : Part) (steady : IsSteady P) (s t : ScopeD) (a b : Option BreakD) → IsAlike s t → KeepsLeast (P s) a b → KeepsLeast (P t) a b
 keeps_alike P steady s t a b h k = keeps_as (P s) (P t) a b (steady s t h) (steady t s (alike_turned s t h)) k
 
-pub leads_walked : (P : Part) (a b : SeenD) → Walks P a b → Leads P stay a b
+pub leads_walked : (P : Part) (a b : SeenD) → Walks P a b → AdvancesScope P stay a b
 leads_walked P a b h = record {
   made = ap (λ (s : StateD). take (length a.state.made) s.made) h.state ∙ take-length a.state.made;
   loops = ap (λ (s : StateD). s.loops) h.state;
@@ -47,8 +47,8 @@ prefix_trans a b c h g =
     let l : length a ≤ length b = omega (arith, length-take (length a) b, ap length h) in
     sym (take-take (length a) (length b) c l) ∙ ap (take (length a)) g ∙ h
 
-pub leads_both : (P Q : Part) (f g : ScopeD → ScopeD) → IsSteady Q → KeepsAlike g → (a b c : SeenD) → Leads P f a b → Leads Q g b c
-    → Leads (λ s rule at. P s rule at ⊎ Q (f s) rule at) (λ s. g (f s)) a c
+pub leads_both : (P Q : Part) (f g : ScopeD → ScopeD) → IsSteady Q → KeepsAlike g → (a b c : SeenD) → AdvancesScope P f a b → AdvancesScope Q g b c
+    → AdvancesScope (λ s rule at. P s rule at ⊎ Q (f s) rule at) (λ s. g (f s)) a c
 leads_both P Q f g steady keeps a b c h k = record {
   made = prefix_trans a.state.made b.state.made c.state.made h.made k.made;
   loops = k.loops ∙ h.loops;
@@ -60,7 +60,7 @@ leads_both P Q f g steady keeps a b c h k = record {
 }
 
 -- the names that the part added go out of scope
-pub walks_cut : (P : Part) (f : ScopeD → ScopeD) (a b c : SeenD) → Leads P f a b → c.state.made ≡ take (length a.state.made) b.state.made
+pub walks_cut : (P : Part) (f : ScopeD → ScopeD) (a b c : SeenD) → AdvancesScope P f a b → c.state.made ≡ take (length a.state.made) b.state.made
     → c.state.loops ≡ b.state.loops → c.state.ordered ≡ b.state.ordered → c.kept ≡ b.kept → Walks P a c
 walks_cut P f a b c h made loops ordered kept = record {
   state = λ i. record { made = (made ∙ h.made) i; loops = (loops ∙ h.loops) i; ordered = (ordered ∙ h.ordered) i };
@@ -71,7 +71,7 @@ walks_cut P f a b c h made loops ordered kept = record {
 module _ {X Y : Type 0} (tree : Y → X) (Whole : List X → Part) where
   abbrev pub LeadsOn : (List X → ScopeD → ScopeD) → List Y → ℕ → SeenD → SeenD → Type 0
   LeadsOn behind_all items i first now =
-      (done : SeenD) → Leads (Whole (map tree (drop i items))) (behind_all (map tree (drop i items))) now done → Leads (Whole (map tree items)) (behind_all (map tree items)) first done
+      (done : SeenD) → AdvancesScope (Whole (map tree (drop i items))) (behind_all (map tree (drop i items))) now done → AdvancesScope (Whole (map tree items)) (behind_all (map tree items)) first done
 
   -- the same where no part adds a name
   abbrev pub WalksOn : List Y → ℕ → SeenD → SeenD → Type 0
@@ -81,17 +81,17 @@ module _ {X Y : Type 0} (tree : Y → X) (Breaks : X → Part) (behind : X → S
     (none : Whole [] ≡ nothing) (some : (x : X) (xs : List X) → Whole (x ∷ xs) ≡ (λ s rule at. Breaks x s rule at ⊎ Whole xs (behind x s) rule at))
     (none_behind : behind_all [] ≡ stay) (some_behind : (x : X) (xs : List X) → behind_all (x ∷ xs) ≡ (λ s. behind_all xs (behind x s)))
     (steady : (xs : List X) → IsSteady (Whole xs)) (keeps : (xs : List X) → KeepsAlike (behind_all xs)) where
-  joined : (x : X) (xs : List X) (a b c : SeenD) → Leads (Breaks x) (behind x) a b → Leads (Whole xs) (behind_all xs) b c → Leads (Whole (x ∷ xs)) (behind_all (x ∷ xs)) a c
+  joined : (x : X) (xs : List X) (a b c : SeenD) → AdvancesScope (Breaks x) (behind x) a b → AdvancesScope (Whole xs) (behind_all xs) b c → AdvancesScope (Whole (x ∷ xs)) (behind_all (x ∷ xs)) a c
   joined x xs a b c h k =
       rw (some x xs, some_behind x xs) (leads_both (Breaks x) (Whole xs) (behind x) (behind_all xs) (steady xs) (keeps xs) a b c h k)
 
   pub leads_on : (items : List Y) (i : ℕ) (x : Y) (first now next : SeenD) → i < length items → x ≡ get_or items i x
-      → Leads (Breaks (tree x)) (behind (tree x)) now next → LeadsOn tree Whole behind_all items i first now → LeadsOn tree Whole behind_all items (i + 1) first next
+      → AdvancesScope (Breaks (tree x)) (behind (tree x)) now next → LeadsOn tree Whole behind_all items i first now → LeadsOn tree Whole behind_all items (i + 1) first next
   leads_on items i x first now next l e h on = λ done rest. on done
       (rw (drop-cons items i x l, ← e) (joined (tree x) (map tree (drop (suc i) items)) now next done h (rw (← (add-one i)) rest)))
 
   pub leads_to_end : (items : List Y) (i : ℕ) (first now : SeenD) → length items ≤ i → LeadsOn tree Whole behind_all items i first now
-      → Leads (Whole (map tree items)) (behind_all (map tree items)) first now
+      → AdvancesScope (Whole (map tree items)) (behind_all (map tree items)) first now
   leads_to_end items i first now l on = on now
       (rw (drop_all i items l, none, none_behind) (leads_walked nothing now now (walks_nothing now)))
 

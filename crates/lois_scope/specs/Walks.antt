@@ -48,7 +48,7 @@ pub record Walks (P : ScopeD → RuleD → ℕ → Type 0) (old new : SeenD) : T
   pub first : KeepsLeast (P (scope_of old.state)) old.kept new.kept
 
 -- The walk stands behind the part, with the names that were in scope and those that the part adds.
-pub record Leads (P : ScopeD → RuleD → ℕ → Type 0) (behind : ScopeD → ScopeD) (old new : SeenD) : Type 0 where
+pub record AdvancesScope (P : ScopeD → RuleD → ℕ → Type 0) (behind : ScopeD → ScopeD) (old new : SeenD) : Type 0 where
   pub made : take (length old.state.made) new.state.made ≡ old.state.made
   pub loops : new.state.loops ≡ old.state.loops
   pub ordered : new.state.ordered ≡ old.state.ordered

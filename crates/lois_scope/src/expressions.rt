@@ -3,7 +3,7 @@
 ghost use Rattle.std.specs.Prelude.{OnOk};
 ghost use Rattle.lois_script.specs.Scope.{bound, ExprBreaks, ExprsBreak, BindingBreaks, BindingsBreak, CondBreaks, CondsBreak};
 ghost use Rattle.lois_script.specs.View.{tree, exprs_of, exprs_list, binding_tree, bindings_of, bindings_list, cond_tree, conds_of, conds_list};
-ghost use Rattle.lois_scope.specs.Walks.{seen, Walks, Leads};
+ghost use Rattle.lois_scope.specs.Walks.{seen, Walks, AdvancesScope};
 
 use crate::names::Made;
 use crate::walk::Walk;
@@ -50,7 +50,7 @@ impl<'a> Walk<'a> {
     // Each binder is in scope at the names and in the sets of those after it.
     #[cycle(expressions)]
     fn bindings(&mut self, bindings: &'a Bindings) -> Result<(), NoMemory>
-        ensures walked { OnOk result (Leads (BindingsBreak (bindings_of (bindings_list bindings.now))) (bound (bindings_of (bindings_list bindings.now))) (seen self.old) (seen self.new)) }
+        ensures walked { OnOk result (AdvancesScope (BindingsBreak (bindings_of (bindings_list bindings.now))) (bound (bindings_of (bindings_list bindings.now))) (seen self.old) (seen self.new)) }
     {
         for binding in bindings.as_slice() {
             self.binding(binding)?;

@@ -4,7 +4,7 @@ ghost use Rattle.std.specs.Prelude.{◌≡◌, ◌+◌, ◌<◌, take, suc, OnOk
 ghost use Rattle.lois_script.specs.Scope.{entered, scope_behind, with_parameters, ParametersBreak, StmtBreaks, StmtsBreak};
 ghost use Rattle.lois_script.specs.View.{binding_tree, cond_tree, stmt_tree, stmts_of, stmts_list, params_list};
 ghost use Rattle.lois_scope.specs.InScope.{made_of};
-ghost use Rattle.lois_scope.specs.Walks.{seen, state_of, IsWithin, Walks, Leads, Enters};
+ghost use Rattle.lois_scope.specs.Walks.{seen, state_of, IsWithin, Walks, AdvancesScope, Enters};
 
 use crate::names::Made;
 use crate::walk::Walk;
@@ -14,7 +14,7 @@ use lois_script::{Binding, Cond, Params, Stmt, Stmts};
 impl<'a> Walk<'a> {
     /// Each parameter is in scope at the names of those after it.
     pub(crate) fn parameters(&mut self, parameters: &'a Params) -> Result<(), NoMemory>
-        ensures walked { OnOk result (Leads (ParametersBreak (params_list parameters.now)) (with_parameters (params_list parameters.now)) (seen self.old) (seen self.new)) }
+        ensures walked { OnOk result (AdvancesScope (ParametersBreak (params_list parameters.now)) (with_parameters (params_list parameters.now)) (seen self.old) (seen self.new)) }
     {
         for parameter in parameters.as_slice() {
             self.declared(&parameter.name, parameter.pos);
@@ -40,7 +40,7 @@ impl<'a> Walk<'a> {
     #[cycle(statements)]
     fn statement(&mut self, statement: &'a Stmt) -> Result<(), NoMemory>
         requires within { IsWithin (state_of self.old) }
-        ensures walked { OnOk result (Leads (StmtBreaks (stmt_tree statement.now)) (scope_behind (stmt_tree statement.now)) (seen self.old) (seen self.new)) }
+        ensures walked { OnOk result (AdvancesScope (StmtBreaks (stmt_tree statement.now)) (scope_behind (stmt_tree statement.now)) (seen self.old) (seen self.new)) }
     {
         match statement {
             Stmt::Let(pos, name, value) => {

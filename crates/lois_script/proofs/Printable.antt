@@ -9,7 +9,7 @@ use Rattle.lois_lexer.specs.Tokens.{IsTokenOf}
 use Rattle.lois_lexer.specs.declared.Token.{Token}
 use Rattle.lois_lexer.specs.declared.TokenKind.TheVariants.{Name, Tag, Number}
 use Rattle.lois_script.specs.Tree.{ExprD, atoms, var, tag, tuple, listed, each, part, apply, ExprsD, no_exprs, expr, BindingD, binding, BindingsD, no_bindings, bind, CondD, truth, falsity, same, differ, below, member, included, empty, not, all, any, exists, every, CondsD, no_conds, cond, StmtD, «let», assign, add, for, if, while, assert, print, StmtsD, no_stmts, stmt, ParamD, ScriptD}
-use Rattle.lois_script.specs.Grammar.{PlacedToken, placed, TakesNumber, decimal, IsWide, AreMany, HasArity, Bracketed, Enclosed, is_base, is_unit, is_conjunction, WhereClause, Block, ElseClause, SpellsExpr, SpellsExprs, SpellsListed, SpellsMoreExprs, SpellsBinding, SpellsBindings, SpellsMoreBindings, SpellsCond, SpellsUnits, SpellsMoreUnits, SpellsConjunctions, SpellsMoreConjunctions, SpellsStmt, SpellsStmts, SpellsMoreNames, SpellsParameters, SpellsScript}
+use Rattle.lois_script.specs.Grammar.{PlacedToken, token_at_place, TakesNumber, decimal, IsWide, AreMany, HasArity, Bracketed, Enclosed, is_base, is_unit, is_conjunction, WhereClause, Block, ElseClause, SpellsExpr, SpellsExprs, SpellsListed, SpellsMoreExprs, SpellsBinding, SpellsBindings, SpellsMoreBindings, SpellsCond, SpellsUnits, SpellsMoreUnits, SpellsConjunctions, SpellsMoreConjunctions, SpellsStmt, SpellsStmts, SpellsMoreNames, SpellsParameters, SpellsScript}
 use Rattle.lois_script.specs.Limits.{open_after, IsNestedWithin}
 use Rattle.lois_script.proofs.Numbers.{IsToken, number_again}
 
@@ -160,7 +160,7 @@ abbrev pub AreTokens : List PlacedToken → Type 0
 AreTokens [] = Unit {0}
 AreTokens (t ∷ ts) = IsToken t.kind t.bytes × AreTokens ts
 
-pub are_tokens : (text : List ℕ) (ts : List Token) → All (IsTokenOf text) ts → AreTokens (map (placed text) ts)
+pub are_tokens : (text : List ℕ) (ts : List Token) → All (IsTokenOf text) ts → AreTokens (map (token_at_place text) ts)
 are_tokens text [] h = tt
 are_tokens text (t ∷ ts) h =
     let one : IsTokenOf text t = All-head (IsTokenOf text) t ts h in

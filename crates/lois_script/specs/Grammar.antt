@@ -16,8 +16,8 @@ pub record PlacedToken : Type 0 where
   pub bytes : List ℕ
   pub place : ℕ
 
-abbrev pub placed : List ℕ → Token → PlacedToken
-placed text token = record { kind = token.kind; bytes = bytes_of text token; place = token.from }
+abbrev pub token_at_place : List ℕ → Token → PlacedToken
+token_at_place text token = record { kind = token.kind; bytes = bytes_of text token; place = token.from }
 
 abbrev pub Spelling : Type 1
 Spelling = List PlacedToken → List PlacedToken → Type 0

@@ -5,7 +5,7 @@ use Rattle.lois_lexer.specs.declared.TokenKind.TheVariants.{Symbol}
 use Rattle.lois_lexer.specs.declared.Token.{Token}
 use Rattle.lois_lexer.specs.Tokens.{HasTokens}
 use Rattle.lois_script.specs.Tree.{ExprD, atoms, var, tag, tuple, listed, each, part, apply, ExprsD, no_exprs, expr, BindingD, binding, BindingsD, no_bindings, bind, CondD, truth, falsity, same, differ, below, member, included, empty, not, all, any, exists, every, CondsD, no_conds, cond, StmtD, «let», assign, add, for, if, while, assert, print, StmtsD, no_stmts, stmt, ScriptD}
-use Rattle.lois_script.specs.Grammar.{PlacedToken, placed, SpellsScript}
+use Rattle.lois_script.specs.Grammar.{PlacedToken, token_at_place, SpellsScript}
 
 abbrev pub is_symbol : TokenKind → Bool
 is_symbol Symbol = true
@@ -92,6 +92,6 @@ abbrev mutual
 pub record Spells (text : List ℕ) (s : ScriptD) : Type 0 where
   pub tokens : List Token
   pub cut : HasTokens text tokens
-  pub script : SpellsScript s (map (placed text) tokens)
-  pub nesting : IsNestedWithin 0 (map (placed text) tokens)
+  pub script : SpellsScript s (map (token_at_place text) tokens)
+  pub nesting : IsNestedWithin 0 (map (token_at_place text) tokens)
   pub forms : StmtsAreWithin s.body

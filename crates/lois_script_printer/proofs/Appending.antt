@@ -12,7 +12,7 @@ use Rattle.lois_script.specs.declared.syntax.Cond.{Cond}
 use Rattle.lois_script.specs.declared.script.Stmt.{Stmt}
 use Rattle.lois_script.specs.declared.script.Param.{Param}
 use Rattle.lois_lexer.specs.declared.TokenKind.TheVariants.{Tag}
-use Rattle.lois_script_printer.specs.Printed.{Writing, nothing, ◌▸◌, spaced, ends_line, word, symbol, name, enclosed, is_truth, where_clause, block, else_clause, text, written_expr, written_exprs, written_more_exprs, written_binding, written_bindings, written_more_bindings, written_cond, written_units, written_more_units, written_conjunctions, written_more_conjunctions, written_stmt, written_stmts, written_more_names, written_parameters}
+use Rattle.lois_script_printer.specs.Printed.{Writing, nothing, ◌▸◌, followed_by_blank, ends_line, word, symbol, name, enclosed, is_truth, where_clause, block, else_clause, text, written_expr, written_exprs, written_more_exprs, written_binding, written_bindings, written_more_bindings, written_cond, written_units, written_more_units, written_conjunctions, written_more_conjunctions, written_stmt, written_stmts, written_more_names, written_parameters}
 use Rattle.lois_script_printer.specs.Appended.{Appends, between, written_names}
 
 infixr 5 ◌then◌
@@ -140,7 +140,7 @@ pub no_more_conjunctions : (xs : List Cond) (i : ℕ) (a b : List ℕ) (whole : 
 no_more_conjunctions = at_end cond_tree conjunctions_left conjunctions_end
 
 -- a tag is written behind its quote
-pub tag_written : {E : Type 0} (r : Result (Unit {0}) E) (a b x y z : List ℕ) → b ≡ a ++ 39 ∷ [] → y ≡ x → OnOk r (Appends b (spaced Tag y) z) → OnOk r (Appends a (spaced Tag (39 ∷ x)) z)
+pub tag_written : {E : Type 0} (r : Result (Unit {0}) E) (a b x y z : List ℕ) → b ≡ a ++ 39 ∷ [] → y ≡ x → OnOk r (Appends b (followed_by_blank Tag y) z) → OnOk r (Appends a (followed_by_blank Tag (39 ∷ x)) z)
 tag_written (Ok u) a b x y z e f h = record {
   same = λ rest.
       sym (append_assoc a (39 ∷ []) ((x ++ 32 ∷ []) ++ text rest)) ∙ ap (λ l. l ++ ((x ++ 32 ∷ []) ++ text rest)) (sym e) ∙ ap (λ l. b ++ ((l ++ 32 ∷ []) ++ text rest)) (sym f) ∙ h.same rest;

@@ -10,9 +10,9 @@ use Rattle.lois_lexer.specs.Laws.{Written}
 use Rattle.lois_lexer.proofs.OneReading.{tokens_of_cut}
 use Rattle.lois_lexer.proofs.Written.{written_is_read}
 use Rattle.lois_script.specs.Tree.{ExprD, atoms, var, tag, tuple, listed, each, part, apply, ExprsD, no_exprs, expr, BindingD, binding, BindingsD, no_bindings, bind, CondD, truth, falsity, same, differ, below, member, included, empty, not, all, any, exists, every, CondsD, no_conds, cond, StmtD, «let», assign, add, for, if, while, assert, print, StmtsD, no_stmts, stmt, ParamD, ScriptD}
-use Rattle.lois_script.specs.Grammar.{PlacedToken, placed, Spelling, IsWide, AreMany, operation_word, HasArity, Enclosed, is_base, is_unit, is_conjunction, WhereClause, Block, ElseClause, SpellsExpr, SpellsExprs, SpellsListed, SpellsMoreExprs, SpellsBinding, SpellsBindings, SpellsMoreBindings, SpellsCond, SpellsUnits, SpellsMoreUnits, SpellsConjunctions, SpellsMoreConjunctions, SpellsStmt, SpellsStmts, SpellsMoreNames, SpellsParameters, structure_word, SpellsScript}
+use Rattle.lois_script.specs.Grammar.{PlacedToken, token_at_place, Spelling, IsWide, AreMany, operation_word, HasArity, Enclosed, is_base, is_unit, is_conjunction, WhereClause, Block, ElseClause, SpellsExpr, SpellsExprs, SpellsListed, SpellsMoreExprs, SpellsBinding, SpellsBindings, SpellsMoreBindings, SpellsCond, SpellsUnits, SpellsMoreUnits, SpellsConjunctions, SpellsMoreConjunctions, SpellsStmt, SpellsStmts, SpellsMoreNames, SpellsParameters, structure_word, SpellsScript}
 use Rattle.lois_script.specs.Limits.{open_after, IsNestedWithin, StmtsAreWithin}
-use Rattle.lois_script_printer.specs.Printed.{spaced, enclosed, where_clause, block, else_clause, written_expr, written_exprs, written_more_exprs, written_binding, written_bindings, written_more_bindings, written_cond, written_units, written_more_units, written_conjunctions, written_more_conjunctions, written_stmt, written_stmts, written_more_names, written_parameters, written_script, printed_script}
+use Rattle.lois_script_printer.specs.Printed.{followed_by_blank, enclosed, where_clause, block, else_clause, written_expr, written_exprs, written_more_exprs, written_binding, written_bindings, written_more_bindings, written_cond, written_units, written_more_units, written_conjunctions, written_more_conjunctions, written_stmt, written_stmts, written_more_names, written_parameters, written_script, printed_script}
 use Rattle.lois_script_printer.specs.Unplaced.{unplaced_expr, unplaced_exprs, unplaced_binding, unplaced_bindings, unplaced_cond, unplaced_conds, unplaced_stmt, unplaced_stmts, unplaced_param, unplaced, IsSpelled, SpellsUnplaced}
 use Rattle.lois_script.proofs.Printable.{HasSomeExpr, HasSomeBinding, Opens, ExprPrints, ExprsPrint, BindingPrints, BindingsPrint, CondPrints, UnitsPrint, ConjunctionsPrint, EnclosedPrints, StmtPrints, StmtsPrint, NamesPrint, ScriptPrints, are_tokens, Left, one_back, script_prints}
 use Rattle.lois_script_printer.proofs.WrittenTokens.{AreWritten, script_writes}
@@ -174,7 +174,7 @@ record Sides (kind : TokenKind) (sign : List ℕ) (n : ℕ) (e f : ExprD) (ts : 
   left : Are after rest
   nested : IsNestedWithin n after → IsNestedWithin n ts
 
-again_sides : (kind : TokenKind) (sign : List ℕ) (e f : ExprD) → ExprAgain e → ExprAgain f → (n : ℕ) → n ≤ 64 → ((p : ℕ) → open_after n (record { kind = kind; bytes = sign; place = p }) ≡ n) → ExprPrints e n → ExprPrints f n → (ts : List PlacedToken) (rest : List Written) → Are ts (written_expr e (spaced kind sign (written_expr f rest))) → Sides kind sign n e f ts rest
+again_sides : (kind : TokenKind) (sign : List ℕ) (e f : ExprD) → ExprAgain e → ExprAgain f → (n : ℕ) → n ≤ 64 → ((p : ℕ) → open_after n (record { kind = kind; bytes = sign; place = p }) ≡ n) → ExprPrints e n → ExprPrints f n → (ts : List PlacedToken) (rest : List Written) → Are ts (written_expr e (followed_by_blank kind sign (written_expr f rest))) → Sides kind sign n e f ts rest
 again_sides kind sign e f again_e again_f n low flat h k ts rest is =
     let a = again_e n low h ts _ is in
     let s = first kind sign a.after _ a.left in
@@ -755,21 +755,21 @@ again_script s h ts is =
       nest 0 0 ts w.after w.is refl low_zero (nest 0 0 w.after o.after o.is refl low_zero (nest 0 0 o.after m.after m.is refl low_zero (p.nested (b.nested (subst (IsNestedWithin 0) (sym none) tt))))),
     )
 
-placed_bare : (text : List ℕ) (ts : List Token) → map bare (map (placed text) ts) ≡ spelled text ts
+placed_bare : (text : List ℕ) (ts : List Token) → map bare (map (token_at_place text) ts) ≡ spelled text ts
 placed_bare text [] = refl
 placed_bare text (t ∷ ts) = ap (λ l. record { kind = t.kind; bytes = bytes_of text t } ∷ l) (placed_bare text ts)
 
 -- what is printed of a script that a text spells, spells it
 pub printed_again : (s : ScriptD) → IsSpelled s → SpellsUnplaced (printed_script s) s
 printed_again s (text, h) =
-    let given = map (placed text) h.tokens in
-    let left : Left 0 (map (placed text) h.tokens) = record { nested = h.nesting; tokens = are_tokens text h.tokens (tokens_of_cut text _ h.tokens h.cut) } in
+    let given = map (token_at_place text) h.tokens in
+    let left : Left 0 (map (token_at_place text) h.tokens) = record { nested = h.nesting; tokens = are_tokens text h.tokens (tokens_of_cut text _ h.tokens h.cut) } in
     let prints = script_prints s given h.script left in
     let nil : AreWritten [] = record { each_one = All-nil _ } in
     let written = script_writes s prints [] nil in
     let read = written_is_read (written_script s []) written.each_one in
-    let is : Are (map (placed (printed_script s)) read.0) (written_script s []) = record { these = placed_bare (printed_script s) read.0 ∙ read.2 } in
-    let again = again_script s prints (map (placed (printed_script s)) read.0) is in (
+    let is : Are (map (token_at_place (printed_script s)) read.0) (written_script s []) = record { these = placed_bare (printed_script s) read.0 ∙ read.2 } in
+    let again = again_script s prints (map (token_at_place (printed_script s)) read.0) is in (
       again.0,
       record {
         tokens = read.0;

@@ -17,7 +17,7 @@ use Rattle.lois_script.specs.declared.syntax.Operation.{Operation}
 use Rattle.lois_script.specs.declared.syntax.Operation.TheVariants.{Union, Inter, Minus, Flatten, Reach, Product, Complement, Minimise}
 use Rattle.lois_script.specs.Tree.{ExprD, atoms, var, tag, tuple, listed, each, part, apply, ExprsD, no_exprs, expr, BindingD, binding, BindingsD, no_bindings, bind, CondD, truth, falsity, same, differ, below, member, included, empty, not, all, any, exists, every, CondsD, no_conds, cond, StmtD, «let», assign, add, for, if, while, assert, print, StmtsD, no_stmts, stmt, ParamD, ScriptD}
 use Rattle.lois_script.specs.Grammar.{operation_word, is_base, is_unit, is_conjunction, structure_word}
-use Rattle.lois_script_printer.specs.Printed.{Writing, spaced, ends_line, word, symbol, enclosed, where_clause, block, else_clause, written_expr, written_exprs, written_more_exprs, written_binding, written_bindings, written_more_bindings, written_cond, written_units, written_more_units, written_conjunctions, written_more_conjunctions, written_stmt, written_stmts, written_more_names, written_parameters, written_script}
+use Rattle.lois_script_printer.specs.Printed.{Writing, followed_by_blank, ends_line, word, symbol, enclosed, where_clause, block, else_clause, written_expr, written_exprs, written_more_exprs, written_binding, written_bindings, written_more_bindings, written_cond, written_units, written_more_units, written_conjunctions, written_more_conjunctions, written_stmt, written_stmts, written_more_names, written_parameters, written_script}
 use Rattle.lois_script.proofs.Numbers.{IsToken}
 use Rattle.lois_script.proofs.Printable.{ExprPrints, ExprsPrint, BindingPrints, BindingsPrint, CondPrints, UnitsPrint, ConjunctionsPrint, EnclosedPrints, StmtPrints, StmtsPrint, NamesPrint, ScriptPrints}
 
@@ -31,7 +31,7 @@ is_fixed_word w = is_word_form w && (list_any (bytes_eq w) reserved && nat_le (l
 abbrev Writes : Writing → Type 0
 Writes w = (rest : List Written) → AreWritten rest → AreWritten (w rest)
 
-token_writes : (kind : TokenKind) (bytes : List ℕ) → IsToken kind bytes → Writes (spaced kind bytes)
+token_writes : (kind : TokenKind) (bytes : List ℕ) → IsToken kind bytes → Writes (followed_by_blank kind bytes)
 token_writes kind bytes t rest h = record { each_one = All-cons IsWritten (record { token = record { kind = kind; bytes = bytes }; blank = 32 }) rest (record { form = t.form; limits = t.limits; blank = refl }) h.each_one }
 
 found : (xs : List (List ℕ)) (w : List ℕ) → list_any (bytes_eq w) xs ≡ true → Contains xs w

@@ -21,24 +21,24 @@ abbrev pub ◌▸◌ : Writing → Writing → Writing
 (one ▸ other) rest = one (other rest)
 
 -- a token, and a space (32) behind it
-abbrev pub spaced : TokenKind → List ℕ → Writing
-spaced kind bytes rest = record { token = record { kind = kind; bytes = bytes }; blank = 32 } ∷ rest
+abbrev pub followed_by_blank : TokenKind → List ℕ → Writing
+followed_by_blank kind bytes rest = record { token = record { kind = kind; bytes = bytes }; blank = 32 } ∷ rest
 
 -- a symbol, and LF (10) behind it
 abbrev pub ends_line : List ℕ → Writing
 ends_line bytes rest = record { token = record { kind = Symbol; bytes = bytes }; blank = 10 } ∷ rest
 
 abbrev pub word : List ℕ → Writing
-word = spaced Word
+word = followed_by_blank Word
 
 abbrev pub symbol : List ℕ → Writing
-symbol = spaced Symbol
+symbol = followed_by_blank Symbol
 
 abbrev pub name : List ℕ → Writing
-name = spaced Name
+name = followed_by_blank Name
 
 abbrev pub number : ℕ → Writing
-number n = spaced Number (decimal n)
+number n = followed_by_blank Number (decimal n)
 
 -- a condition that hasn't the form that is asked for stands in brackets
 abbrev pub enclosed : Bool → Writing → Writing
@@ -63,7 +63,7 @@ abbrev mutual
   pub written_expr : ExprD → Writing
   written_expr (atoms p) = word (codes "atoms")
   written_expr (var p x) = name x
-  written_expr (tag p x) = spaced Tag (39 ∷ x)
+  written_expr (tag p x) = followed_by_blank Tag (39 ∷ x)
   written_expr (tuple p es) = symbol (codes "(") ▸ written_exprs es ▸ symbol (codes ")")
   written_expr (listed p es) = symbol (codes "{") ▸ written_exprs es ▸ symbol (codes "}")
   written_expr (each p e bs c) =

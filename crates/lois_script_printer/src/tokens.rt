@@ -4,7 +4,7 @@ ghost use Rattle.std.specs.Prelude.{◌≡◌, ◌∷◌, ◌++◌, OnOk};
 ghost use Rattle.lois_lexer.specs.declared.TokenKind.{TokenKind};
 ghost use Rattle.lois_lexer.specs.declared.TokenKind.TheVariants.{Tag};
 ghost use Rattle.lois_script_printer.specs.Appended.{Appends, between};
-ghost use Rattle.lois_script_printer.specs.Printed.{spaced, ends_line, number};
+ghost use Rattle.lois_script_printer.specs.Printed.{followed_by_blank, ends_line, number};
 
 use lois_base::{Name, NoMemory};
 
@@ -16,7 +16,7 @@ fn append(out: &mut Vec<u8>, bytes: &[u8]) -> Result<(), NoMemory>
 
 /// Writes a token, and a space behind it.
 pub(crate) fn put(out: &mut Vec<u8>, bytes: &[u8]) -> Result<(), NoMemory>
-    ensures { (kind : TokenKind) → OnOk result (Appends out.old.items (spaced kind bytes.now) out.new.items) }
+    ensures { (kind : TokenKind) → OnOk result (Appends out.old.items (followed_by_blank kind bytes.now) out.new.items) }
 {
     append(out, bytes)?;
     append(out, b" ")
@@ -31,7 +31,7 @@ pub(crate) fn put_line_end(out: &mut Vec<u8>, symbol: &[u8]) -> Result<(), NoMem
 }
 
 pub(crate) fn put_tag(out: &mut Vec<u8>, name: &Name) -> Result<(), NoMemory>
-    ensures { OnOk result (Appends out.old.items (spaced Tag (39 ∷ name.now)) out.new.items) }
+    ensures { OnOk result (Appends out.old.items (followed_by_blank Tag (39 ∷ name.now)) out.new.items) }
 {
     append(out, b"'")?;
     put(out, name.bytes())
@@ -50,7 +50,7 @@ pub(crate) fn put_separator(
     index: usize,
     separator: &[u8],
 ) -> Result<(), NoMemory>
-    ensures { (kind : TokenKind) → OnOk result (Appends out.old.items (between index (spaced kind separator.now)) out.new.items) }
+    ensures { (kind : TokenKind) → OnOk result (Appends out.old.items (between index (followed_by_blank kind separator.now)) out.new.items) }
 {
     if index == 0 {
         return Ok(());

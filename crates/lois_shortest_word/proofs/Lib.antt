@@ -3,7 +3,7 @@ pub mod Sources
 pub mod Choices
 pub mod Firsts
 pub mod Starts
-pub mod Goings
+pub mod Advances
 pub mod Ways
 pub mod Ends
 pub mod Lowered

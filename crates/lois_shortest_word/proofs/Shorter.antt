@@ -18,7 +18,7 @@ use Rattle.lois_base.proofs.Members.{same_trans}
 use Rattle.lois_base.proofs.RenamedForm.{admits_renamed, widths_renamed}
 use Rattle.lois_meaning.specs.Automata.{Automaton, Accepts}
 use Rattle.lois_meaning.specs.Kinds.{AreSame}
-use Rattle.lois_shortest_word.specs.Shortened.{lowered, IsWithout, IsShortened}
+use Rattle.lois_shortest_word.specs.Shortened.{lowered, IsWithoutLevel, IsShortenedWord}
 use Rattle.lois_shortest_word.specs.Walks.{HaveAtLeast, IsWordOf}
 use Rattle.lois_shortest_word.specs.Words.{values_at, first_sampled, AreUsedBetween}
 use Rattle.lois_shortest_word.specs.declared.words.Word.{Word}
@@ -54,7 +54,7 @@ module _ (s : List ℕ) (gone : ℕ) (below : gone < length s) where
       (fits_left ts (λ o. unused (inr o)) (All-tail (Fits (length s)) t ts h))
 
 -- ---- from word to word
-pub shortened_none : (n : ℕ) (w : Word) → n ≤ length w.sample → All (Fits (length w.sample)) w.letters → IsShortened n w w
+pub shortened_none : (n : ℕ) (w : Word) → n ≤ length w.sample → All (Fits (length w.sample)) w.letters → IsShortenedWord n w w
 shortened_none n w count levels = record {
   count = count;
   first = refl;
@@ -65,8 +65,8 @@ shortened_none n w count levels = record {
   widths = λ h. h;
 }
 
-module _ (n gone : ℕ) (w v r : Word) (from : n ≤ gone) (below : gone < length v.sample) (unused : OccursInPart gone (terms_of v.letters) → ⊥) (is : IsWithout gone v r) where
-  pub shortened_more : IsShortened n w v → IsShortened n w r
+module _ (n gone : ℕ) (w v r : Word) (from : n ≤ gone) (below : gone < length v.sample) (unused : OccursInPart gone (terms_of v.letters) → ⊥) (is : IsWithoutLevel gone v r) where
+  pub shortened_more : IsShortenedWord n w v → IsShortenedWord n w r
   shortened_more was = record {
     count = omega (arith, count);
     first = ap sampled (ap (take n) is.sample ∙ first_left v.sample n gone from below) ∙ was.first;
@@ -100,7 +100,7 @@ used_here level w here was i least most = go (cases_lt level i)
     go (inr l) = subst (λ z. OccursInPart z (terms_of w.letters)) (omega arith) here
 
 -- the word stays one that is accepted, and none is shorter
-pub word_shortened : (n : ℕ) (u : List (List Lit)) (m : List Atom → Automaton) (w r : Word) → IsWordOf n u m w → IsShortened n w r → IsWordOf n u m r
+pub word_shortened : (n : ℕ) (u : List (List Lit)) (m : List Atom → Automaton) (w r : Word) → IsWordOf n u m w → IsShortenedWord n w r → IsWordOf n u m r
 word_shortened n u m w r is short = record {
   count = short.count;
   admitted = subst (λ z. IsTrue (holds z u)) (sym short.first) is.admitted;

@@ -13,12 +13,12 @@ use Rattle.lois_base.specs.Values.{PointValue, point, IsIn}
 use Rattle.lois_base.specs.declared.guards.Lit.{Lit}
 use Rattle.lois_base.proofs.Connectives.{both_true}
 use Rattle.lois_base.proofs.Members.{same_refl, same_sym, in_same}
-use Rattle.lois_algebra.specs.Gathered.{IsAmong, IsMadeBy, IsPut}
+use Rattle.lois_algebra.specs.Gathered.{IsAmong, IsCompMember, IsPut}
 use Rattle.lois_meaning.specs.Automata.{Automaton}
 use Rattle.lois_meaning.proofs.Automata.{triple_same}
 use Rattle.lois_automata.specs.Adding.{IsMadeOfOne}
-use Rattle.lois_automata.specs.Built.{HoldsWhereIn}
-use Rattle.lois_automata.specs.Projections.{triple_of, automaton_at, IsStep}
+use Rattle.lois_automata.specs.Built.{HoldsWhereMember}
+use Rattle.lois_automata.specs.Projections.{triple_of, automaton_at, HasStepIn}
 use Rattle.lois_automata.proofs.Adding.{added_put, adds_nothing, one_among}
 use Rattle.lois_automata.proofs.Tuples.{triple_to}
 use Rattle.lois_automata.proofs.Written.{triple_is, triple_here, triple_term}
@@ -28,16 +28,16 @@ use Rattle.lois_shortest_word.specs.Layers.{AcceptsIn, IsLayer, AreLayers, AreSo
 pub no_sources : (n m : ℕ) (g : List (List Lit)) (item t : TermD) (before : CompsD) → ((p l q : TermD) → item ≡ triple_of p l q → ⊥) → AddsSource n (comp m g item) t before before
 no_sources n m g item t before never = adds_nothing n _ _ _ _ before none
   where
-    none : (c : List Atom) → length c ≡ n → (w : PointValue) → IsMadeOfOne (IsSourceTo t c) (IsMadeBy (comp m g item) c) w → ⊥
+    none : (c : List Atom) → length c ≡ n → (w : PointValue) → IsMadeOfOne (IsSourceTo t c) (IsCompMember (comp m g item) c) w → ⊥
     none c k w (x, (e, ext, same), (L, Q, triple, i)) =
         let found = triple_term item (c ++ e) w L Q (triple_to x (point item (c ++ e)) w L Q (same_sym (point item (c ++ e)) x same) triple) in
         never found.0 found.1 found.2 found.3
 
-module _ (n m : ℕ) (g found guard : List (List Lit)) (p l q t : TermD) (is : HoldsWhereIn n m q t found) (met : (d : List Atom) → holds d guard ≡ (holds d g && holds d found)) where
-  source_is : (c : List Atom) → length c ≡ n → (w : PointValue) → IsMadeBy (comp m guard p) c w ↔ IsMadeOfOne (IsSourceTo t c) (IsMadeBy (comp m g (triple_of p l q)) c) w
+module _ (n m : ℕ) (g found guard : List (List Lit)) (p l q t : TermD) (is : HoldsWhereMember n m q t found) (met : (d : List Atom) → holds d guard ≡ (holds d g && holds d found)) where
+  source_is : (c : List Atom) → length c ≡ n → (w : PointValue) → IsCompMember (comp m guard p) c w ↔ IsMadeOfOne (IsSourceTo t c) (IsCompMember (comp m g (triple_of p l q)) c) w
   source_is c k w = (there, back)
     where
-      there : IsMadeBy (comp m guard p) c w → IsMadeOfOne (IsSourceTo t c) (IsMadeBy (comp m g (triple_of p l q)) c) w
+      there : IsCompMember (comp m guard p) c w → IsMadeOfOne (IsSourceTo t c) (IsCompMember (comp m g (triple_of p l q)) c) w
       there (e, ext, same) =
           let d = c ++ e in
           let s = triple_of p l q in
@@ -47,7 +47,7 @@ module _ (n m : ℕ) (g found guard : List (List Lit)) (p l q t : TermD) (is : H
             (point l d, point q d, triple_same (point s d) (point p d) (point l d) (point q d) w (point l d) (point q d) same (same_refl (point l d)) (same_refl (point q d)) (triple_is p l q d), (is c e k ext.count).0 both.1),
           )
 
-      back : IsMadeOfOne (IsSourceTo t c) (IsMadeBy (comp m g (triple_of p l q)) c) w → IsMadeBy (comp m guard p) c w
+      back : IsMadeOfOne (IsSourceTo t c) (IsCompMember (comp m g (triple_of p l q)) c) w → IsCompMember (comp m guard p) c w
       back (x, (e, ext, same), (L, Q, triple, i)) =
           let d = c ++ e in
           let s = triple_of p l q in
@@ -63,13 +63,13 @@ module _ (n m : ℕ) (g found guard : List (List Lit)) (p l q t : TermD) (is : H
 pub are_sources : (n : ℕ) (whole made : CompsD) (t : TermD) → ((c : List Atom) → length c ≡ n → (w : PointValue) → IsIn w (point (coll made) c) ↔ IsMadeOfOne (IsSourceTo t c) (IsAmong whole c) w) → AreSources n (coll whole) t (coll made)
 are_sources n whole made t same c k w = (there, back)
   where
-    there : IsIn w (point (coll made) c) → (l q : PointValue) × IsStep (point (coll whole) c) w l q × IsIn q (point t c)
+    there : IsIn w (point (coll made) c) → (l q : PointValue) × HasStepIn (point (coll whole) c) w l q × IsIn q (point t c)
     there i = turned ((one_among (IsSourceTo t) whole c w).0 ((same c k w).0 i))
       where
-        turned : IsMadeOfOne (IsSourceTo t c) (λ x. IsIn x (point (coll whole) c)) w → (l q : PointValue) × IsStep (point (coll whole) c) w l q × IsIn q (point t c)
+        turned : IsMadeOfOne (IsSourceTo t c) (λ x. IsIn x (point (coll whole) c)) w → (l q : PointValue) × HasStepIn (point (coll whole) c) w l q × IsIn q (point t c)
         turned (x, j, (l, q, triple, h)) = (l, q, (x, j, triple), h)
 
-    back : ((l q : PointValue) × IsStep (point (coll whole) c) w l q × IsIn q (point t c)) → IsIn w (point (coll made) c)
+    back : ((l q : PointValue) × HasStepIn (point (coll whole) c) w l q × IsIn q (point t c)) → IsIn w (point (coll made) c)
     back (l, q, (x, j, triple), h) = (same c k w).1 ((one_among (IsSourceTo t) whole c w).1 (x, j, (l, q, triple, h)))
 
 -- ---- layers
@@ -84,7 +84,7 @@ module _ (s l t i f : CompsD) (n : ℕ) where
   pub next_layer : (k : ℕ) (layer r : TermD) → IsLayer n (automaton_at s l t i f) k layer → AreSources n (coll t) layer r → IsLayer n (automaton_at s l t i f) (suc k) r
   next_layer k layer r is are c e p = (λ h. there ((are c e p).0 h), back)
     where
-      there : ((x q : PointValue) × IsStep (point (coll t) c) p x q × IsIn q (point layer c)) → AcceptsIn (automaton_at s l t i f c) (suc k) p
+      there : ((x q : PointValue) × HasStepIn (point (coll t) c) p x q × IsIn q (point layer c)) → AcceptsIn (automaton_at s l t i f c) (suc k) p
       there (x, q, step, h) = longer ((is c e q).0 h)
         where
           longer : AcceptsIn (automaton_at s l t i f c) k q → AcceptsIn (automaton_at s l t i f c) (suc k) p

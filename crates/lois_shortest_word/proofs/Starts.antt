@@ -7,14 +7,14 @@ use Rattle.lois_base.specs.Tree.{tree}
 use Rattle.lois_base.specs.Values.{PointValue, point}
 use Rattle.lois_base.specs.declared.guards.Lit.{Lit}
 use Rattle.lois_base.proofs.Members.{same_refl, same_sym, in_same}
-use Rattle.lois_algebra.specs.Gathered.{IsAmong, IsMadeBy}
+use Rattle.lois_algebra.specs.Gathered.{IsAmong, IsCompMember}
 use Rattle.lois_automata.specs.Built.{HoldsWhereAdmittedIn}
 use Rattle.lois_deciders.specs.Satisfaction.{ConstraintIsSatisfiable}
-use Rattle.lois_shortest_word.specs.SymbolicStates.{IsNarrowed, IsStart, IsInitialSymbolicState, HasNoInitialState}
+use Rattle.lois_shortest_word.specs.SymbolicStates.{IsSatisfiableCube, IsStart, IsInitialSymbolicState, HasNoInitialState}
 use Rattle.lois_shortest_word.specs.declared.symbolic_states.SymbolicState.{SymbolicState}
 
 -- the state is the item of a comprehension
-pub begun_is : (n : ℕ) (u g : List (List Lit)) (item t : TermD) (wanted : List (List Lit)) (s : SymbolicState) → n + s.more < 2 ^ 64 → Fits (n + s.more) item → tree s.state ≡ item → HoldsWhereAdmittedIn n s.more u g item t wanted → IsNarrowed (n + s.more) wanted s.admitted s.sample → IsInitialSymbolicState n u (IsMadeBy (comp s.more g item)) t s
+pub begun_is : (n : ℕ) (u g : List (List Lit)) (item t : TermD) (wanted : List (List Lit)) (s : SymbolicState) → n + s.more < 2 ^ 64 → Fits (n + s.more) item → tree s.state ≡ item → HoldsWhereAdmittedIn n s.more u g item t wanted → IsSatisfiableCube (n + s.more) wanted s.admitted s.sample → IsInitialSymbolicState n u (IsCompMember (comp s.more g item)) t s
 begun_is n u g item t wanted s small fits e is narrow = record {
   stage = record {
     count = small;
@@ -24,11 +24,11 @@ begun_is n u g item t wanted s small fits e is narrow = record {
   };
   begins = λ c f lc lf h.
       let x = (is c f lc lf).0 (narrow.narrower (c ++ f) h) in
-      subst (λ z. IsStart u (IsMadeBy (comp s.more g item)) t c (point z (c ++ f))) (sym e)
+      subst (λ z. IsStart u (IsCompMember (comp s.more g item)) t c (point z (c ++ f))) (sym e)
       (x.0, (f, record { count = lf; guard = x.1 }, same_refl (point item (c ++ f))), x.2);
 }
 
-pub never_begins : (n m : ℕ) (u g : List (List Lit)) (item t : TermD) (wanted : List (List Lit)) → HoldsWhereAdmittedIn n m u g item t wanted → (ConstraintIsSatisfiable (n + m) wanted → ⊥) → HasNoInitialState n u (IsMadeBy (comp m g item)) t
+pub never_begins : (n m : ℕ) (u g : List (List Lit)) (item t : TermD) (wanted : List (List Lit)) → HoldsWhereAdmittedIn n m u g item t wanted → (ConstraintIsSatisfiable (n + m) wanted → ⊥) → HasNoInitialState n u (IsCompMember (comp m g item)) t
 never_begins n m u g item t wanted is none c l h p (e, ext, same) i =
     let longer : length (c ++ e) ≡ n + m = omega (arith, length-append c e, ext.count) in
     none (c ++ e, longer, (is c e l ext.count).1 (h, ext.guard, in_same p (point item (c ++ e)) (point t c) (same_sym (point item (c ++ e)) p same) i))
@@ -43,7 +43,7 @@ module _ (n : ℕ) (u : List (List Lit)) (t : TermD) where
   }
 
   -- where none of the rest begins, none of the comprehensions does
-  pub never_begins_more : (rest next : CompsD) (k : CompD) (All : Type 0) → rest ≡ more k next → HasNoInitialState n u (IsMadeBy k) t → (HasNoInitialState n u (IsAmong rest) t → All) → HasNoInitialState n u (IsAmong next) t → All
+  pub never_begins_more : (rest next : CompsD) (k : CompD) (All : Type 0) → rest ≡ more k next → HasNoInitialState n u (IsCompMember k) t → (HasNoInitialState n u (IsAmong rest) t → All) → HasNoInitialState n u (IsAmong next) t → All
   never_begins_more rest next k All e one h others = h (subst (λ z. HasNoInitialState n u (IsAmong z) t) (sym e) both)
     where
       both : HasNoInitialState n u (IsAmong (more k next)) t

@@ -24,7 +24,7 @@ use Rattle.lois_automata.proofs.Members.{raised_same}
 use Rattle.lois_shortest_word.specs.Layers.{AcceptsIn, IsLayer}
 use Rattle.lois_shortest_word.specs.SymbolicStates.{IsInitialSymbolicState, HasNoInitialState}
 use Rattle.lois_shortest_word.specs.Steps.{IsSymbolicStep, NeverAdvances}
-use Rattle.lois_shortest_word.specs.Walks.{IsOnWay, IsWay, HaveAtLeast, IsMoved, AreMoved, IsLengthened}
+use Rattle.lois_shortest_word.specs.Walks.{IsOnWay, IsWay, HaveAtLeast, IsShiftedLetter, AreShiftedLetters, IsLengthened}
 use Rattle.lois_shortest_word.specs.Words.{values_at}
 use Rattle.lois_shortest_word.specs.declared.symbolic_states.SymbolicState.{SymbolicState}
 use Rattle.lois_shortest_word.specs.declared.steps.SymbolicStep.{SymbolicStep}
@@ -32,7 +32,7 @@ use Rattle.lois_shortest_word.proofs.Choices.{cut, length_front, length_back, fi
 use Rattle.lois_shortest_word.proofs.Readings.{accepts_alike, same_rest}
 
 -- ---- letters among further levels
-moved_values : (n by : ℕ) (ts rs : List TermD) (d f : List Atom) → length d ≡ n → length f ≡ by → AreMoved n by ts rs → AreSame (values_at d ts) (values_at (d ++ f) rs)
+moved_values : (n by : ℕ) (ts rs : List TermD) (d f : List Atom) → length d ≡ n → length f ≡ by → AreShiftedLetters n by ts rs → AreSame (values_at d ts) (values_at (d ++ f) rs)
 moved_values n by [] [] d f ld lf moved = tt
 moved_values n by [] (r ∷ rs) d f ld lf moved = absurd moved
 moved_values n by (t ∷ ts) [] d f ld lf moved = absurd moved
@@ -40,22 +40,22 @@ moved_values n by (t ∷ ts) (r ∷ rs) d f ld lf moved =
     let raised : IsShifted n by t r = subst (IsShifted n by t) (sym moved.0.raised) (is_raised n by t) in
     (same_sym (point r (d ++ f)) (point t d) (raised_same n by t r raised d f ld lf), moved_values n by ts rs d f ld lf moved.1)
 
-pub moved_push : (n by : ℕ) (ts rs : List TermD) (t r : TermD) → AreMoved n by ts rs → IsMoved n by t r → AreMoved n by (ts ++ t ∷ []) (rs ++ r ∷ [])
+pub moved_push : (n by : ℕ) (ts rs : List TermD) (t r : TermD) → AreShiftedLetters n by ts rs → IsShiftedLetter n by t r → AreShiftedLetters n by (ts ++ t ∷ []) (rs ++ r ∷ [])
 moved_push n by [] [] t r moved one = (one, tt)
 moved_push n by [] (y ∷ rs) t r moved one = absurd moved
 moved_push n by (x ∷ ts) [] t r moved one = absurd moved
 moved_push n by (x ∷ ts) (y ∷ rs) t r moved one = (moved.0, moved_push n by ts rs t r moved.1 one)
 
 -- what holds of each moved term
-module _ (n by : ℕ) (P Q : TermD → Type 0) (carried : (t r : TermD) → IsMoved n by t r → P t → Q r) where
-  pub moved_all : (ts rs : List TermD) → AreMoved n by ts rs → All P ts → All Q rs
+module _ (n by : ℕ) (P Q : TermD → Type 0) (carried : (t r : TermD) → IsShiftedLetter n by t r → P t → Q r) where
+  pub moved_all : (ts rs : List TermD) → AreShiftedLetters n by ts rs → All P ts → All Q rs
   moved_all [] [] moved h i d l = absurd (omega arith)
   moved_all [] (r ∷ rs) moved h i d l = absurd moved
   moved_all (t ∷ ts) [] moved h i d l = absurd moved
   moved_all (t ∷ ts) (r ∷ rs) moved h zero d l = carried t r moved.0 (h 0 t (omega arith))
   moved_all (t ∷ ts) (r ∷ rs) moved h (suc i) d l = moved_all ts rs moved.1 (λ j x below. h (suc j) x (omega arith)) i d (omega arith)
 
-moved_length : (n by : ℕ) (ts rs : List TermD) → AreMoved n by ts rs → length rs ≡ length ts
+moved_length : (n by : ℕ) (ts rs : List TermD) → AreShiftedLetters n by ts rs → length rs ≡ length ts
 moved_length n by [] [] moved = refl
 moved_length n by [] (r ∷ rs) moved = absurd moved
 moved_length n by (t ∷ ts) [] moved = absurd moved
@@ -63,7 +63,7 @@ moved_length n by (t ∷ ts) (r ∷ rs) moved = ap suc (moved_length n by ts rs 
 
 module _ (n by : ℕ) (ts : List TermD) (t : TermD) (rs : List TermD) (long : IsLengthened n by ts t rs) where
   -- what holds of the letters and of the one more
-  pub lengthened_all : (P Q : TermD → Type 0) → ((x r : TermD) → IsMoved n by x r → P x → Q r) → All P ts → Q t → All Q rs
+  pub lengthened_all : (P Q : TermD → Type 0) → ((x r : TermD) → IsShiftedLetter n by x r → P x → Q r) → All P ts → Q t → All Q rs
   lengthened_all P Q carried each one =
       subst (All Q) (sym long.2) (All-push Q long.0 t (moved_all n by P Q carried ts long.0 long.1 each) one)
 

@@ -14,12 +14,12 @@ abbrev pub lowered : ℕ → ℕ → ℕ
 lowered gone i = if (nat_lt gone i) then (i - 1) else i
 
 -- r is the word without the level, which has no number either
-pub record IsWithout (level : ℕ) (w r : Word) : Type 0 where
+pub record IsWithoutLevel (level : ℕ) (w r : Word) : Type 0 where
   pub sample : r.sample ≡ remove w.sample level
   pub letters : r.letters ≡ map (rename (lowered level)) w.letters
 
 -- each letter of r is the same value as that of w, at the sample of each, whose first n numbers are the same
-pub record IsShortened (n : ℕ) (w r : Word) : Type 0 where
+pub record IsShortenedWord (n : ℕ) (w r : Word) : Type 0 where
   pub count : n ≤ length r.sample
   pub first : first_sampled n r.sample ≡ first_sampled n w.sample
   pub levels : All (Fits (length r.sample)) r.letters

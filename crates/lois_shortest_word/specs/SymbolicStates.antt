@@ -12,7 +12,7 @@ use Rattle.lois_deciders.specs.Satisfaction.{IsConstraintSample}
 use Rattle.lois_shortest_word.specs.declared.symbolic_states.SymbolicState.{SymbolicState}
 
 -- h holds only where g does, and at the sample
-pub record IsNarrowed (n : ℕ) (g h : List (List Lit)) (s : List ℕ) : Type 0 where
+pub record IsSatisfiableCube (n : ℕ) (g h : List (List Lit)) (s : List ℕ) : Type 0 where
   pub narrower : (c : List Atom) → IsTrue (holds c h) → IsTrue (holds c g)
   pub levels : ConstraintFits n h
   pub met : IsConstraintSample n h s

@@ -36,20 +36,20 @@ abbrev pub HaveAtLeast : ℕ → List (List Lit) → (List Atom → Automaton) �
 HaveAtLeast n u m k = HoldsThroughout n u (λ c. (word : List PointValue) → Accepts (m c) word → k ≤ length word)
 
 -- r is t among `by` further levels
-pub record IsMoved (n by : ℕ) (t r : TermD) : Type 0 where
+pub record IsShiftedLetter (n by : ℕ) (t r : TermD) : Type 0 where
   pub raised : r ≡ shift n by t
   pub levels : Fits (n + by) r
   pub operators : (o : Bool) → AdmitsTerm o t → AdmitsTerm o r
   pub widths : HasBoundedWidths t → HasBoundedWidths r
 
-abbrev pub AreMoved : ℕ → ℕ → List TermD → List TermD → Type 0
-AreMoved n by [] [] = Unit {0}
-AreMoved n by (t ∷ ts) (r ∷ rs) = IsMoved n by t r × AreMoved n by ts rs
-AreMoved n by _ _ = ⊥
+abbrev pub AreShiftedLetters : ℕ → ℕ → List TermD → List TermD → Type 0
+AreShiftedLetters n by [] [] = Unit {0}
+AreShiftedLetters n by (t ∷ ts) (r ∷ rs) = IsShiftedLetter n by t r × AreShiftedLetters n by ts rs
+AreShiftedLetters n by _ _ = ⊥
 
 -- the letters among further levels, and then the letter t
 abbrev pub IsLengthened : ℕ → ℕ → List TermD → TermD → List TermD → Type 0
-IsLengthened n by ts t rs = (moved : List TermD) × AreMoved n by ts moved × (rs ≡ moved ++ t ∷ [])
+IsLengthened n by ts t rs = (moved : List TermD) × AreShiftedLetters n by ts moved × (rs ≡ moved ++ t ∷ [])
 
 -- a word that is accepted at the choice of the first n numbers, which u admits, and no shorter one is at any choice that u admits
 pub record IsWordOf (n : ℕ) (u : List (List Lit)) (m : List Atom → Automaton) (w : Word) : Type 0 where

@@ -6,7 +6,7 @@ ghost use Rattle.lois_base.specs.Fits.{ConstraintFits};
 ghost use Rattle.lois_base.specs.Truth.{holds, sampled};
 ghost use Rattle.lois_deciders.specs.Satisfaction.{ConstraintIsSatisfiable};
 ghost use Rattle.lois_deciders.specs.OnlyAsked.{HasOnlyAsked};
-ghost use Rattle.lois_shortest_word.specs.SymbolicStates.{IsNarrowed};
+ghost use Rattle.lois_shortest_word.specs.SymbolicStates.{IsSatisfiableCube};
 
 use lois_base::{Constraint, Decider, NoMemory, Numbers};
 use lois_constraint::singleton;
@@ -21,7 +21,7 @@ pub fn satisfiable_cube(
     chosen: &mut Chosen,
 ) -> Result<Option<SampledConstraint>, NoMemory>
     requires { ConstraintFits size wanted.now }
-    ensures some { IfOk result (λ o. IfSome o (λ m. IsNarrowed size wanted.now m.constraint m.sample)) }
+    ensures some { IfOk result (λ o. IfSome o (λ m. IsSatisfiableCube size wanted.now m.constraint m.sample)) }
     ensures none { IfOk result (λ o. IsNone o → ConstraintIsSatisfiable size wanted.now → ⊥) }
     ensures only_asked { HasOnlyAsked (λ b. (⟦<dyn Decider as Decider>⟧ b.vtable).kind_of b.value) (λ b. (⟦<dyn Decider as Decider>⟧ b.vtable).questions b.value) chosen.old chosen.new }
 {

@@ -5,7 +5,7 @@ ghost use Rattle.std.specs.List.{All};
 ghost use Rattle.lois_base.specs.Data.{terms_of};
 ghost use Rattle.lois_base.specs.Fits.{Fits};
 ghost use Rattle.lois_base.specs.Normal.{OccursInPart};
-ghost use Rattle.lois_shortest_word.specs.Shortened.{IsWithout, IsShortened};
+ghost use Rattle.lois_shortest_word.specs.Shortened.{IsWithoutLevel, IsShortenedWord};
 ghost use Rattle.lois_shortest_word.specs.Words.{AreUsedBetween};
 
 use crate::lowering::lowered_terms;
@@ -18,7 +18,7 @@ use std::alloc::Global;
 pub(crate) fn shortened(alloc: Global, word: Word, size: usize) -> Result<Word, NoMemory>
     requires count { size ≤ length word.sample }
     requires levels { All (Fits (length word.sample)) word.letters }
-    ensures shortened { IfOk result (IsShortened size word) }
+    ensures shortened { IfOk result (IsShortenedWord size word) }
     ensures used { IfOk result (λ r. AreUsedBetween size (length r.sample) r.letters) }
 {
     let mut left = word.sample.len();
@@ -46,7 +46,7 @@ fn is_used(level: usize, letters: &Terms) -> bool
 // The word without a level, and without the number of that level.
 fn without(alloc: Global, word: Word, level: usize) -> Result<Word, NoMemory>
     requires { level < length word.sample }
-    ensures { IfOk result (IsWithout level word) }
+    ensures { IfOk result (IsWithoutLevel level word) }
 {
     let Word { sample, letters } = word;
     let letters = lowered_terms(alloc, &letters, level)?;

@@ -5,7 +5,7 @@ ghost use Rattle.lois_base.specs.Data.{comps_of};
 ghost use Rattle.lois_base.specs.Fits.{ConstraintFits, Fits, CompFits, ItemsFit};
 ghost use Rattle.lois_base.specs.Tree.{tree, comp_of};
 ghost use Rattle.lois_base.specs.Validity.{AdmitsTerm, AdmitsComp, AdmitsItems, HasBoundedWidths, CompHasBoundedWidths, ItemsHaveBoundedWidths};
-ghost use Rattle.lois_algebra.specs.Gathered.{IsAmong, IsMadeBy};
+ghost use Rattle.lois_algebra.specs.Gathered.{IsAmong, IsCompMember};
 ghost use Rattle.lois_deciders.specs.OnlyAsked.{HasOnlyAsked};
 ghost use Rattle.lois_shortest_word.specs.Layers.{IsReadable};
 ghost use Rattle.lois_shortest_word.specs.SymbolicStates.{IsSymbolicState};
@@ -13,7 +13,7 @@ ghost use Rattle.lois_shortest_word.specs.Steps.{HoldsWhereAdvancing, IsSymbolic
 
 use crate::narrowing::satisfiable_cube;
 use crate::symbolic_states::SymbolicState;
-use lois_automata::{Step, among_more, membership, step_parts, where_same};
+use lois_automata::{Step, insert_levels, membership, step_parts, where_same};
 use lois_base::{Comp, Comps, Constraint, Decider, NoMemory, Structure, Term};
 use lois_constraint::meet;
 use lois_deciders::Chosen;
@@ -70,8 +70,8 @@ fn step_by<T: Structure>(
     requires levels { CompFits size (comp_of comp.now) }
     requires operators { AdmitsComp T.ordered (comp_of comp.now) }
     requires layer { IsReadable T.ordered size (tree layer.now) }
-    ensures some { IfOk result (λ o. IfSome o (IsSymbolicStep size stage.now (IsMadeBy (comp_of comp.now)) (tree layer.now))) }
-    ensures none { IfOk result (λ o. IsNone o → NeverAdvances size stage.now (IsMadeBy (comp_of comp.now)) (tree layer.now)) }
+    ensures some { IfOk result (λ o. IfSome o (IsSymbolicStep size stage.now (IsCompMember (comp_of comp.now)) (tree layer.now))) }
+    ensures none { IfOk result (λ o. IsNone o → NeverAdvances size stage.now (IsCompMember (comp_of comp.now)) (tree layer.now)) }
     ensures operators { IfOk result (λ o. IfSome o (λ r. (o : Bool) → AdmitsComp o (comp_of comp.now) → AdmitsTerm o (tree r.letter))) }
     ensures state_operators { IfOk result (λ o. IfSome o (λ r. AdmitsTerm T.ordered (tree r.stage.state))) }
     ensures widths { IfOk result (λ o. IfSome o (λ r. CompHasBoundedWidths (comp_of comp.now) → HasBoundedWidths (tree r.letter))) }
@@ -125,7 +125,7 @@ fn where_going<T: Structure>(
     ensures levels { IfOk result (ConstraintFits (size + stage.now.more + binders)) }
 {
     let at = size + stage.more;
-    let state = among_more(alloc, &stage.state, at, binders)?;
+    let state = insert_levels(alloc, &stage.state, at, binders)?;
     let begins = where_same::<T>(alloc, step.source, &state, at + binders)?;
     let ends = membership::<T>(alloc, step.target, layer, size, stage.more + binders)?;
     let admitted = meet(alloc, &stage.admitted, guard)?;

@@ -5,7 +5,7 @@ ghost use Rattle.lois_base.specs.Data.{comps_of};
 ghost use Rattle.lois_base.specs.Fits.{ConstraintFits, CompFits, ItemsFit};
 ghost use Rattle.lois_base.specs.Tree.{tree, comp_of};
 ghost use Rattle.lois_base.specs.Validity.{AdmitsTerm, AdmitsComp, AdmitsItems};
-ghost use Rattle.lois_algebra.specs.Gathered.{IsAmong, IsMadeBy};
+ghost use Rattle.lois_algebra.specs.Gathered.{IsAmong, IsCompMember};
 ghost use Rattle.lois_deciders.specs.OnlyAsked.{HasOnlyAsked};
 ghost use Rattle.lois_shortest_word.specs.Layers.{IsReadable};
 ghost use Rattle.lois_shortest_word.specs.SymbolicStates.{IsInitialSymbolicState, HasNoInitialState};
@@ -65,8 +65,8 @@ fn begun_by<T: Structure>(
     requires operators { AdmitsComp T.ordered (comp_of comp.now) }
     requires layer { IsReadable T.ordered size (tree layer.now) }
     requires under { ConstraintFits size under.now }
-    ensures some { IfOk result (λ o. IfSome o (IsInitialSymbolicState size under.now (IsMadeBy (comp_of comp.now)) (tree layer.now))) }
-    ensures none { IfOk result (λ o. IsNone o → HasNoInitialState size under.now (IsMadeBy (comp_of comp.now)) (tree layer.now)) }
+    ensures some { IfOk result (λ o. IfSome o (IsInitialSymbolicState size under.now (IsCompMember (comp_of comp.now)) (tree layer.now))) }
+    ensures none { IfOk result (λ o. IsNone o → HasNoInitialState size under.now (IsCompMember (comp_of comp.now)) (tree layer.now)) }
     ensures operators { IfOk result (λ o. IfSome o (λ s. AdmitsTerm T.ordered (tree s.state))) }
     ensures only_asked { HasOnlyAsked (λ b. (⟦<dyn Decider as Decider>⟧ b.vtable).kind_of b.value) (λ b. (⟦<dyn Decider as Decider>⟧ b.vtable).questions b.value) chosen.old chosen.new }
 {

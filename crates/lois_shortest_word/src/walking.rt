@@ -10,13 +10,13 @@ ghost use Rattle.lois_base.specs.Validity.{AdmitsTerm, AdmitsItems, HasBoundedWi
 ghost use Rattle.lois_automata.specs.Projections.{automaton_at};
 ghost use Rattle.lois_deciders.specs.OnlyAsked.{HasOnlyAsked};
 ghost use Rattle.lois_shortest_word.specs.Layers.{IsReadable, AreLayers};
-ghost use Rattle.lois_shortest_word.specs.Walks.{IsWay, HaveAtLeast, AreMoved, IsLengthened, IsWordOf};
+ghost use Rattle.lois_shortest_word.specs.Walks.{IsWay, HaveAtLeast, AreShiftedLetters, IsLengthened, IsWordOf};
 
 use crate::layers::sources;
 use crate::steps::{SymbolicStep, step_from};
 use crate::symbolic_states::{SymbolicState, initial_state};
 use crate::words::Word;
-use lois_automata::{FiveSets, among_more};
+use lois_automata::{FiveSets, insert_levels};
 use lois_base::{Constraint, Decider, NoMemory, Structure, Term, Terms};
 use lois_deciders::Chosen;
 use std::alloc::Global;
@@ -129,11 +129,11 @@ fn lengthened(
 fn moved(alloc: Global, letters: &Terms, size: usize, by: usize) -> Result<Terms, NoMemory>
     requires letters { All (Fits size) letters.now }
     requires levels { size + by < 2 ^ 64 }
-    ensures moved { IfOk result (AreMoved size by letters.now) }
+    ensures moved { IfOk result (AreShiftedLetters size by letters.now) }
 {
     let mut among = Terms::new(alloc);
     for letter in letters.as_slice() {
-        among.push(among_more(alloc, letter, size, by)?)?;
+        among.push(insert_levels(alloc, letter, size, by)?)?;
     }
     Ok(among)
 }

@@ -7,7 +7,7 @@ use Rattle.std.proofs.lemmas.List.Kept.{AllPairs-cons}
 use Rattle.lois_base.specs.Atom.{Atom, whole}
 use Rattle.lois_base.specs.Truth.{holds}
 use Rattle.lois_base.specs.declared.guards.Lit.{Lit}
-use Rattle.lois_constraint.specs.Normalised.{IsTurned, lit_before, cube_before, is_part, IsNormalCube, IsNormalised}
+use Rattle.lois_constraint.specs.Normalised.{IsOriented, lit_before, cube_before, is_part, IsNormalCube, IsNormalised}
 use Rattle.lois_deciders.specs.Satisfaction.{ConstraintIsSatisfiable}
 
 -- nothing is added where the guard always holds
@@ -25,7 +25,7 @@ no_pairs R i j d lt within = absurd (omega (arith, within))
 empty_cube_is_normal : IsNormalCube []
 empty_cube_is_normal = record {
   apart = All-nil (λ l. l.left ≢ l.right);
-  turned = All-nil (λ l. IsTurned l.op l.left l.right);
+  turned = All-nil (λ l. IsOriented l.op l.left l.right);
   increasing = no_pairs (λ l m. IsTrue (lit_before l m));
 }
 

@@ -19,8 +19,8 @@ use Rattle.lois_elim.specs.Bound.{AgreesWith}
 use Rattle.lois_relate.specs.Built.{IsEither}
 use Rattle.lois_relate.specs.Relations.{HoldsWhereItemIn}
 use Rattle.lois_simplify.specs.Covered.{IsCovered}
-use Rattle.lois_simplify.specs.Kept.{IsSameWhere, set_of}
-use Rattle.lois_simplify.specs.Lean.{IsLeanAlone, HasOwn, EachHasOwn}
+use Rattle.lois_simplify.specs.Simplification.{IsSameWhere, set_of}
+use Rattle.lois_simplify.specs.Irredundant.{IsIrredundantAlone, HasOwn, EachHasOwn}
 use Rattle.lois_simplify.proofs.Inserted.{holds_before}
 use Rattle.lois_simplify.proofs.Members.{contains_cases, member_made, made_member, member_more, member_in, in_more, sets_same}
 
@@ -139,7 +139,7 @@ module _ (u : List (List Lit)) (n m : ℕ) (g : List (List Lit)) (t : TermD) (ot
   }
 
 -- where no other can have the item, the comprehension has a member of its own
-pub alone_has_own : (u : List (List Lit)) (n m : ℕ) (g : List (List Lit)) (t : TermD) (others : List CompD) (f : FormulaD) → ConstraintFits n u → HoldsWhereItemIn n m t (comps_of others) f → f ≡ any no_formulas → IsLeanAlone u n m g t → HasOwn u n others (comp m g t)
+pub alone_has_own : (u : List (List Lit)) (n m : ℕ) (g : List (List Lit)) (t : TermD) (others : List CompD) (f : FormulaD) → ConstraintFits n u → HoldsWhereItemIn n m t (comps_of others) f → f ≡ any no_formulas → IsIrredundantAlone u n m g t → HasOwn u n others (comp m g t)
 alone_has_own u n m g t others f fits member never lean =
     let asked : IsAsked u n m g t others (both u g) [] = record {
       under = fits;

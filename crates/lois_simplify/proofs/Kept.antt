@@ -9,10 +9,10 @@ use Rattle.lois_base.specs.Validity.{AdmitsItems, ItemsHaveBoundedWidths}
 use Rattle.lois_base.specs.Values.{MakesAt, MemberAt, SameAt, InAt}
 use Rattle.lois_base.specs.declared.guards.Lit.{Lit}
 use Rattle.lois_base.proofs.Same.{same_at_refl, same_at_sym, same_at_trans}
-use Rattle.lois_simplify.specs.Kept.{IsSameWhere, IsKept, set_of}
+use Rattle.lois_simplify.specs.Simplification.{IsSameWhere, IsSimplification, set_of}
 use Rattle.lois_simplify.proofs.Members.{member_made, made_member, member_more, in_more, member_in, sets_same, same_sets_in, items_fit_each, each_fits_items, items_admit_each, each_admits_items, items_wide_each, each_wide_items, comp_depth_le, comps_depth_le}
 
-pub kept_refl : (u : List (List Lit)) (n : ℕ) (t : TermD) → IsKept u n t t
+pub kept_refl : (u : List (List Lit)) (n : ℕ) (t : TermD) → IsSimplification u n t t
 kept_refl u n t = record {
   value = λ c l o. same_at_refl t c;
   levels = λ f. f;
@@ -21,7 +21,7 @@ kept_refl u n t = record {
   depth = omega arith;
 }
 
-pub kept_trans : (u : List (List Lit)) (n : ℕ) (t s r : TermD) → IsKept u n t s → IsKept u n s r → IsKept u n t r
+pub kept_trans : (u : List (List Lit)) (n : ℕ) (t s r : TermD) → IsSimplification u n t s → IsSimplification u n s r → IsSimplification u n t r
 kept_trans u n t s r a b = record {
   value = λ c l o. same_at_trans t c s c r c (a.value c l o) (b.value c l o);
   levels = λ f. b.levels (a.levels f);
@@ -32,7 +32,7 @@ kept_trans u n t s r a b = record {
 
 module _ (u : List (List Lit)) (n : ℕ) where
   -- some comprehensions are left out
-  pub fewer_kept : (cs rs : List CompD) → ((k : CompD) → Contains rs k → Contains cs k) → IsSameWhere u n (set_of cs) (set_of rs) → IsKept u n (set_of cs) (set_of rs)
+  pub fewer_kept : (cs rs : List CompD) → ((k : CompD) → Contains rs k → Contains cs k) → IsSameWhere u n (set_of cs) (set_of rs) → IsSimplification u n (set_of cs) (set_of rs)
   fewer_kept cs rs only value = record {
     value = value;
     levels = λ f. each_fits_items n rs (λ k h. items_fit_each n cs k f (only k h));
@@ -42,7 +42,7 @@ module _ (u : List (List Lit)) (n : ℕ) where
   }
 
   -- the same comprehensions, perhaps at other places and not as often
-  pub alike_kept : (cs rs : List CompD) → ((k : CompD) → Contains cs k → Contains rs k) → ((k : CompD) → Contains rs k → Contains cs k) → IsKept u n (set_of cs) (set_of rs)
+  pub alike_kept : (cs rs : List CompD) → ((k : CompD) → Contains cs k → Contains rs k) → ((k : CompD) → Contains rs k → Contains cs k) → IsSimplification u n (set_of cs) (set_of rs)
   alike_kept cs rs all only =
       fewer_kept cs rs only (λ c l o. sets_same cs rs c c (λ w x m. member_in rs w x c (member_more cs rs all w x c m)) (λ w x m. member_in cs w x c (member_more rs cs only w x c m)))
 
@@ -69,7 +69,7 @@ module _ (u : List (List Lit)) (n : ℕ) where
       go (inr h) = in_more qs (rs ++ qs) (each_right rs qs) w x c (same_sets_in bs qs c c q w x h)
 
   -- list after list
-  pub kept-append : (ps rs bs qs : List CompD) → IsKept u n (set_of ps) (set_of rs) → IsKept u n (set_of bs) (set_of qs) → IsKept u n (set_of (ps ++ bs)) (set_of (rs ++ qs))
+  pub kept-append : (ps rs bs qs : List CompD) → IsSimplification u n (set_of ps) (set_of rs) → IsSimplification u n (set_of bs) (set_of qs) → IsSimplification u n (set_of (ps ++ bs)) (set_of (rs ++ qs))
   kept-append ps rs bs qs p q = record {
     value = λ c l o. sets_same (ps ++ bs) (rs ++ qs) c c (two_in ps bs rs qs c (p.value c l o) (q.value c l o))
         (two_in rs qs ps bs c (same_at_sym (set_of ps) c (set_of rs) c (p.value c l o)) (same_at_sym (set_of bs) c (set_of qs) c (q.value c l o)));

@@ -3,7 +3,7 @@ pub mod Asked
 pub mod Beside
 pub mod Inserted
 pub mod Kept
-pub mod LeanComps
+pub mod IrredundantComps
 pub mod Members
 pub mod OneRound
 pub mod Pass

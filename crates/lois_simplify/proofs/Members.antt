@@ -8,7 +8,7 @@ use Rattle.lois_base.specs.Fits.{CompFits, ItemsFit}
 use Rattle.lois_base.specs.Validity.{AdmitsComp, AdmitsItems, CompHasBoundedWidths, ItemsHaveBoundedWidths}
 use Rattle.lois_base.specs.Values.{MakesAt, MemberAt, SameAt, InAt}
 use Rattle.lois_base.proofs.Same.{all_in_is, is_all_in, is_some_is, same_at_refl, same_at_sym}
-use Rattle.lois_simplify.specs.Kept.{set_of}
+use Rattle.lois_simplify.specs.Simplification.{set_of}
 
 module _ {X : Type 0} where
   pub contains_first : (y : X) (xs : List X) → Contains (y ∷ xs) y

@@ -20,8 +20,8 @@ use Rattle.lois_constraint.specs.Normalised.{IsNormalised}
 use Rattle.lois_deciders.specs.Satisfaction.{ConstraintIsSatisfiable}
 use Rattle.lois_base.specs.Bound.{HoldsForSome}
 use Rattle.lois_simplify.specs.Fixed.{IsFixed}
-use Rattle.lois_simplify.specs.Kept.{IsSameWhere, IsKept, set_of}
-use Rattle.lois_simplify.specs.Lean.{HasNormalGuards, IsLeanAlone, IsLeanComp}
+use Rattle.lois_simplify.specs.Simplification.{IsSameWhere, IsSimplification, set_of}
+use Rattle.lois_simplify.specs.Irredundant.{HasNormalGuards, IsIrredundantAlone, IsIrredundantComp}
 use Rattle.lois_simplify.specs.Moved.{moved}
 use Rattle.lois_simplify.specs.Rounds.{only, IsRoundOf, IsOpen, IsOpeningOf, IsClosingOf, IsKeptEverywhere}
 use Rattle.lois_simplify.specs.declared.rounds.Opening.{Opening}
@@ -35,7 +35,7 @@ use Rattle.lois_simplify.proofs.Single.{guard_changed, item_changed, nothing_the
 use Rattle.lois_simplify.proofs.Under.{normal_under}
 
 module _ (u : List (List Lit)) (n : ℕ) where
-  comp_kept : (k r : CompD) → IsSameWhere u n (set_of (only k)) (set_of (only r)) → (CompFits n k → CompFits n r) → ((o : Bool) → AdmitsComp o k → AdmitsComp o r) → (CompHasBoundedWidths k → CompHasBoundedWidths r) → depth_of_comp r ≤ depth_of_comp k → IsKept u n (set_of (only k)) (set_of (only r))
+  comp_kept : (k r : CompD) → IsSameWhere u n (set_of (only k)) (set_of (only r)) → (CompFits n k → CompFits n r) → ((o : Bool) → AdmitsComp o k → AdmitsComp o r) → (CompHasBoundedWidths k → CompHasBoundedWidths r) → depth_of_comp r ≤ depth_of_comp k → IsSimplification u n (set_of (only k)) (set_of (only r))
   comp_kept k r value levels operators widths deep = record {
     value = value;
     levels = λ f. (levels f.0, tt);
@@ -45,7 +45,7 @@ module _ (u : List (List Lit)) (n : ℕ) where
   }
 
   -- no members
-  pub nothing_kept : (m : ℕ) (g h : List (List Lit)) (t : TermD) → ConstraintFits n u → ((d : List Atom) → holds d h ≡ (holds d u && holds d g)) → (ConstraintIsSatisfiable (n + m) h → ⊥) → IsKept u n (set_of (only (comp m g t))) (set_of [])
+  pub nothing_kept : (m : ℕ) (g h : List (List Lit)) (t : TermD) → ConstraintFits n u → ((d : List Atom) → holds d h ≡ (holds d u && holds d g)) → (ConstraintIsSatisfiable (n + m) h → ⊥) → IsSimplification u n (set_of (only (comp m g t))) (set_of [])
   nothing_kept m g h t fits here none = record {
     value = nothing_there u h n m g t fits here none;
     levels = λ f. tt;
@@ -55,12 +55,12 @@ module _ (u : List (List Lit)) (n : ℕ) where
   }
 
   -- another guard that is equally true where u holds
-  pub guard_kept : (m : ℕ) (g h : List (List Lit)) (t : TermD) → ConstraintFits n u → ((c : List Atom) → IsTrue (holds c u) → holds c h ≡ holds c g) → ((k : ℕ) → ConstraintFits k g → ConstraintFits k h) → ((o : Bool) → AdmitsConstraint o g → AdmitsConstraint o h) → IsKept u n (set_of (only (comp m g t))) (set_of (only (comp m h t)))
+  pub guard_kept : (m : ℕ) (g h : List (List Lit)) (t : TermD) → ConstraintFits n u → ((c : List Atom) → IsTrue (holds c u) → holds c h ≡ holds c g) → ((k : ℕ) → ConstraintFits k g → ConstraintFits k h) → ((o : Bool) → AdmitsConstraint o g → AdmitsConstraint o h) → IsSimplification u n (set_of (only (comp m g t))) (set_of (only (comp m h t)))
   guard_kept m g h t whole same fits admits =
       comp_kept (comp m g t) (comp m h t) (guard_changed u n m g h t whole (λ c o. sym (same c o))) (λ f. (f.0, fits (n + m) f.1, f.2)) (λ o f. (admits o f.0, f.1)) (λ f. f) (omega arith)
 
   -- another item
-  pub item_kept : (m : ℕ) (g h : List (List Lit)) (t s : TermD) → ConstraintFits n u → ((d : List Atom) → holds d h ≡ (holds d u && holds d g)) → IsKept h (n + m) t s → IsKept u n (set_of (only (comp m g t))) (set_of (only (comp m g s)))
+  pub item_kept : (m : ℕ) (g h : List (List Lit)) (t s : TermD) → ConstraintFits n u → ((d : List Atom) → holds d h ≡ (holds d u && holds d g)) → IsSimplification h (n + m) t s → IsSimplification u n (set_of (only (comp m g t))) (set_of (only (comp m g s)))
   item_kept m g h t s fits here kept =
       comp_kept (comp m g t) (comp m g s) (item_changed u h n m g t s fits here kept.value) (λ f. (f.0, f.1, kept.levels f.2)) (λ o f. (f.0, kept.operators o f.1)) kept.widths kept.depth
 
@@ -83,17 +83,17 @@ module _ (u : List (List Lit)) (n : ℕ) where
           let k : b < n + suc m + j = omega arith in
           moved_above b a (n + suc m + j) k ∙ omega arith
 
-  one_less : (m b a : ℕ) (g h : List (List Lit)) (t : TermD) → ConstraintFits n u → n ≤ b → b < n + suc m → HoldsForSome (n + m) (rename_constraint (moved b (n + m)) g) h → ConstraintFits (n + m) h → ((o : Bool) → AdmitsConstraint o g → AdmitsConstraint o h) → CompFits n (comp (suc m) g t) → CanLeave u g (n + suc m) b a t → IsKept u n (set_of (only (comp (suc m) g t))) (set_of (only (comp m h (rename (moved b a) t))))
+  one_less : (m b a : ℕ) (g h : List (List Lit)) (t : TermD) → ConstraintFits n u → n ≤ b → b < n + suc m → HoldsForSome (n + m) (rename_constraint (moved b (n + m)) g) h → ConstraintFits (n + m) h → ((o : Bool) → AdmitsConstraint o g → AdmitsConstraint o h) → CompFits n (comp (suc m) g t) → CanLeave u g (n + suc m) b a t → IsSimplification u n (set_of (only (comp (suc m) g t))) (set_of (only (comp m h (rename (moved b a) t))))
   one_less m b a g h t fits from below some levels admits whole leave =
       comp_kept (comp (suc m) g t) (comp m h (rename (moved b a) t)) (binder_left_out u n m b a g h t fits from below whole.1 some leave)
       (λ f. (omega (arith, f.0), levels, fits_renamed (moved b a) t (n + suc m) (n + m) (omega arith) (names_fit m b a t below from leave.place) f.2))
       (λ o f. (admits o f.0, admits_renamed (moved b a) o t f.1)) (widths_renamed (moved b a) t) (omega (arith, depth_renamed (moved b a) t))
 
-  pub binder_less : (m m' b a : ℕ) (g h : List (List Lit)) (t s : TermD) → m' + 1 ≡ m → s ≡ rename (moved b a) t → ConstraintFits n u → n ≤ b → b < n + m → HoldsForSome (n + m') (rename_constraint (moved b (n + m')) g) h → ConstraintFits (n + m') h → ((o : Bool) → AdmitsConstraint o g → AdmitsConstraint o h) → CompFits n (comp m g t) → CanLeave u g (n + m) b a t → IsKept u n (set_of (only (comp m g t))) (set_of (only (comp m' h s)))
+  pub binder_less : (m m' b a : ℕ) (g h : List (List Lit)) (t s : TermD) → m' + 1 ≡ m → s ≡ rename (moved b a) t → ConstraintFits n u → n ≤ b → b < n + m → HoldsForSome (n + m') (rename_constraint (moved b (n + m')) g) h → ConstraintFits (n + m') h → ((o : Bool) → AdmitsConstraint o g → AdmitsConstraint o h) → CompFits n (comp m g t) → CanLeave u g (n + m) b a t → IsSimplification u n (set_of (only (comp m g t))) (set_of (only (comp m' h s)))
   binder_less m m' b a g h t s count e fits from below some levels admits whole leave =
       let up : m ≡ suc m' = omega arith in
-      subst (λ z. IsKept u n (set_of (only (comp m g t))) (set_of (only (comp m' h z)))) (sym e)
-      (subst (λ j. IsKept u n (set_of (only (comp j g t))) (set_of (only (comp m' h (rename (moved b a) t))))) (sym up)
+      subst (λ z. IsSimplification u n (set_of (only (comp m g t))) (set_of (only (comp m' h z)))) (sym e)
+      (subst (λ j. IsSimplification u n (set_of (only (comp j g t))) (set_of (only (comp m' h (rename (moved b a) t))))) (sym up)
       (one_less m' b a g h t fits from (omega arith) some levels admits (subst (λ j. CompFits n (comp j g t)) up whole) (subst (λ j. CanLeave u g (n + j) b a t) up leave)))
 
   pub fixed_can_leave : (k b a : ℕ) (g h : List (List Lit)) (t : TermD) → ((d : List Atom) → holds d h ≡ (holds d u && holds d g)) → a < b → IsFixed k h b a → CanLeave u g k b a t
@@ -107,7 +107,7 @@ module _ (u : List (List Lit)) (n : ℕ) where
       record { place = λ o. absurd (unused o); atom = λ o d l p q. absurd (unused o) }
 
   -- where nothing is left to do
-  pub open_is_lean : (m : ℕ) (g h : List (List Lit)) (s : TermD) → IsOpen u n m g h → IsNormal s h (n + m) → HasNormalGuards s → ((b : ℕ) → n ≤ b → b < n + m → Occurs b s) → IsLeanAlone u n m g s
+  pub open_is_lean : (m : ℕ) (g h : List (List Lit)) (s : TermD) → IsOpen u n m g h → IsNormal s h (n + m) → HasNormalGuards s → ((b : ℕ) → n ≤ b → b < n + m → Occurs b s) → IsIrredundantAlone u n m g s
   open_is_lean m g h s o normal guards used = record {
     met = (o.met.0, record { count = o.met.1; met = subst IsTrue (same o.met.0) o.met.2 });
     used = used;
@@ -121,10 +121,10 @@ module _ (u : List (List Lit)) (n : ℕ) where
       same c = o.here c ∙ sym (holds_both c u g)
 
 -- the round is over
-pub round_closed : (u : List (List Lit)) (n : ℕ) (k r : Comp) (h : List (List Lit)) (x : Round) → ConstraintFits n u → IsKept u n (set_of (only (comp_of k))) (set_of (only (comp_of r))) → r.binders ≤ k.binders → IsOpen u n r.binders r.guard h → IsNormal (tree r.item) h (n + r.binders) → HasNormalGuards (tree r.item) → IsClosingOf n r x → IsRoundOf u n k x
+pub round_closed : (u : List (List Lit)) (n : ℕ) (k r : Comp) (h : List (List Lit)) (x : Round) → ConstraintFits n u → IsSimplification u n (set_of (only (comp_of k))) (set_of (only (comp_of r))) → r.binders ≤ k.binders → IsOpen u n r.binders r.guard h → IsNormal (tree r.item) h (n + r.binders) → HasNormalGuards (tree r.item) → IsClosingOf n r x → IsRoundOf u n k x
 round_closed u n k r h (Lean s) fits kept less o normal guards (e, used) = (
-  subst (λ z. IsKept u n (set_of (only (comp_of k))) (set_of (only z))) (sym e) kept,
-  subst (IsLeanComp u n) (sym e) (open_is_lean u n r.binders r.guard h (tree r.item) o normal guards used),
+  subst (λ z. IsSimplification u n (set_of (only (comp_of k))) (set_of (only z))) (sym e) kept,
+  subst (IsIrredundantComp u n) (sym e) (open_is_lean u n r.binders r.guard h (tree r.item) o normal guards used),
 )
 round_closed u n k r h Empty fits kept less o normal guards y = absurd y
 round_closed u n k r h (Shorter s) fits kept less o normal guards y = (

@@ -12,15 +12,15 @@ use Rattle.lois_base.specs.declared.guards.Lit.{Lit}
 use Rattle.lois_base.specs.declared.values.Comp.{Comp}
 use Rattle.lois_base.proofs.Viewed.{rest_is}
 use Rattle.lois_simplify.specs.Covered.{IsCovered}
-use Rattle.lois_simplify.specs.Kept.{IsKept, set_of}
-use Rattle.lois_simplify.specs.Lean.{HasOwn, EachHasOwn}
+use Rattle.lois_simplify.specs.Simplification.{IsSimplification, set_of}
+use Rattle.lois_simplify.specs.Irredundant.{HasOwn, EachHasOwn}
 use Rattle.lois_simplify.proofs.Beside.{skip_one, own_without, own_with, without_covered}
 use Rattle.lois_simplify.proofs.Kept.{kept_refl, kept_trans, fewer_kept}
 use Rattle.lois_simplify.proofs.Members.{contains_first, items_fit_each, each_fits_items, items_admit_each, each_admits_items}
 
 -- what is kept so far, and what is still to come
 pub record UncoveredSoFar (u : List (List Lit)) (n : ℕ) (whole kept coming : List CompD) : Type 0 where
-  pub value : IsKept u n (set_of whole) (set_of (kept ++ coming))
+  pub value : IsSimplification u n (set_of whole) (set_of (kept ++ coming))
   pub only : (k : CompD) → Contains (kept ++ coming) k → Contains whole k
   pub own : EachHasOwn u n [] kept coming
 
@@ -75,7 +75,7 @@ module _ (u : List (List Lit)) (n : ℕ) (whole : List CompD) where
 
     pub next_kept : HasOwn u n (kept ++ coming) k → UncoveredSoFar u n whole (kept ++ k ∷ []) coming
     next_kept own = record {
-      value = subst (λ z. IsKept u n (set_of whole) (set_of z)) (sym (append_assoc kept (k ∷ []) coming)) so_far.value;
+      value = subst (λ z. IsSimplification u n (set_of whole) (set_of z)) (sym (append_assoc kept (k ∷ []) coming)) so_far.value;
       only = subst (λ z. (j : CompD) → Contains z j → Contains whole j) (sym (append_assoc kept (k ∷ []) coming)) so_far.only;
       own = own_with u n [] kept coming k so_far.own own;
     }

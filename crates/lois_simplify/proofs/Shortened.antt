@@ -14,7 +14,7 @@ use Rattle.lois_base.specs.declared.guards.Lit.{Lit}
 use Rattle.lois_base.proofs.Both.{cubes_append, holds_append}
 use Rattle.lois_constraint.proofs.NegatedLiterals.{alternatives_hold}
 use Rattle.lois_constraint.specs.Alternatives.{alternatives}
-use Rattle.lois_simplify.specs.Shortened.{CubeEntails, IsWeakened, IsShortened}
+use Rattle.lois_simplify.specs.Shortened.{CubeEntailsUnder, IsWeakenedCube, IsShortened}
 
 -- what all obey, all but one obey
 all_without : {X : Type 0} (P : X → Type 0) (p q : List X) (x : X) → All P (p ++ x ∷ q) → All P (p ++ q)
@@ -98,11 +98,11 @@ module _ (e : List Atom) where
       go (inr i) = behind (first_or_rest k q i)
 
 module _ (u g : List (List Lit)) (k : List Lit) where
-  pub weakened_begin : CubeEntails u k g → IsWeakened u g k k
+  pub weakened_begin : CubeEntailsUnder u k g → IsWeakenedCube u g k k
   weakened_begin h =
       record { weaker = λ e i. i; within = h; levels = λ n f. f; operators = λ o f. f }
 
-  pub literal_left_out : (p q : List Lit) (l : Lit) → IsWeakened u g k (p ++ l ∷ q) → ((e : List Atom) → IsTrue (holds e u) → IsTrue (cube_holds e (p ++ q)) → IsFalse (lit_holds e l) → IsTrue (holds e g)) → IsWeakened u g k (p ++ q)
+  pub literal_left_out : (p q : List Lit) (l : Lit) → IsWeakenedCube u g k (p ++ l ∷ q) → ((e : List Atom) → IsTrue (holds e u) → IsTrue (cube_holds e (p ++ q)) → IsFalse (lit_holds e l) → IsTrue (holds e g)) → IsWeakenedCube u g k (p ++ q)
   literal_left_out p q l so_far gained = record {
     weaker = λ e h. without e p q l (so_far.weaker e h);
     within = λ e o h. by_literal e o h (lit_holds e l) refl;
@@ -131,7 +131,7 @@ module _ (u : List (List Lit)) where
     operators = λ o f. b.operators o (a.operators o f);
   }
 
-  pub cube_left_out : (p q : List (List Lit)) (k : List Lit) → CubeEntails u k (p ++ q) → IsShortened u (p ++ k ∷ q) (p ++ q)
+  pub cube_left_out : (p q : List (List Lit)) (k : List Lit) → CubeEntailsUnder u k (p ++ q) → IsShortened u (p ++ k ∷ q) (p ++ q)
   cube_left_out p q k covered = record {
     there = λ e o h. change_middle e p q k (p ++ q) (covered e o) (λ i. i) h;
     back = λ e o h. with_middle e p q k h;
@@ -139,7 +139,7 @@ module _ (u : List (List Lit)) where
     operators = λ o f. all_without (AdmitsCube o) p q k f;
   }
 
-  pub cube_weakened : (p q : List (List Lit)) (k r : List Lit) → IsWeakened u (k ∷ (p ++ q)) k r → IsShortened u (p ++ k ∷ q) (p ++ r ∷ q)
+  pub cube_weakened : (p q : List (List Lit)) (k r : List Lit) → IsWeakenedCube u (k ∷ (p ++ q)) k r → IsShortened u (p ++ k ∷ q) (p ++ r ∷ q)
   cube_weakened p q k r w = record {
     there = λ e o h. change_middle e p q k (p ++ r ∷ q) (λ i. in_middle e p q r (w.weaker e i)) (with_middle e p q r) h;
     back = λ e o h. change_middle e p q r (p ++ k ∷ q) (λ i. whole e (first_or_rest e k (p ++ q) (w.within e o i))) (with_middle e p q k) h;
@@ -167,16 +167,16 @@ module _ (u : List (List Lit)) where
       turned false true = refl
       turned false false = refl
 
-  pub first_left_out : (g q : List (List Lit)) (k : List Lit) → g ≡ k ∷ q → CubeEntails u k q → IsShortened u g q
+  pub first_left_out : (g q : List (List Lit)) (k : List Lit) → g ≡ k ∷ q → CubeEntailsUnder u k q → IsShortened u g q
   first_left_out g q k e covered =
       subst (λ z. IsShortened u z q) (sym e) (cube_left_out [] q k covered)
 
-  pub first_weakened : (g q p : List (List Lit)) (k r : List Lit) → g ≡ k ∷ q → p ≡ q ++ r ∷ [] → IsWeakened u (k ∷ q) k r → IsShortened u g p
+  pub first_weakened : (g q p : List (List Lit)) (k r : List Lit) → g ≡ k ∷ q → p ≡ q ++ r ∷ [] → IsWeakenedCube u (k ∷ q) k r → IsShortened u g p
   first_weakened g q p k r e f w =
       subst (λ z. IsShortened u z p) (sym e)
       (subst (IsShortened u (k ∷ q)) (sym f) (shortened_then (k ∷ q) (r ∷ q) (q ++ r ∷ []) (cube_weakened [] q k r w) (first_behind q r)))
 
-  pub cube_itself : (q : List (List Lit)) (k : List Lit) → IsWeakened u (k ∷ q) k k
+  pub cube_itself : (q : List (List Lit)) (k : List Lit) → IsWeakenedCube u (k ∷ q) k k
   cube_itself q k = weakened_begin u (k ∷ q) k (λ e o h. or_left (cube_holds e k) (holds e q) h)
 
 pub held_by_others : (e : List Atom) (k : List Lit) (q : List (List Lit)) → IsTrue (holds e q) → IsTrue (holds e (k ∷ q))

@@ -14,7 +14,7 @@ use Rattle.lois_base.proofs.Order.{equal_refl}
 use Rattle.lois_base.proofs.Renamed.{Renames, same_renamed}
 use Rattle.lois_base.proofs.Same.{same_at_refl, same_at_sym}
 use Rattle.lois_base.specs.Bound.{HoldsForSome}
-use Rattle.lois_simplify.specs.Kept.{IsSameWhere, set_of}
+use Rattle.lois_simplify.specs.Simplification.{IsSameWhere, set_of}
 use Rattle.lois_simplify.specs.Moved.{moved}
 use Rattle.lois_simplify.specs.Rounds.{only}
 use Rattle.lois_simplify.proofs.Inserted.{put, length-put, put_below, put_at, put_above, put-append, IsPut, taken_out, moved_below, moved_at, moved_above, holds_moved, holds_before}

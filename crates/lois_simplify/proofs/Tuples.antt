@@ -10,12 +10,12 @@ use Rattle.lois_base.specs.Truth.{holds}
 use Rattle.lois_base.specs.Validity.{AdmitsParts, count_of_parts, PartsHaveBoundedWidths}
 use Rattle.lois_base.specs.Values.{SamePartsAt}
 use Rattle.lois_base.specs.declared.guards.Lit.{Lit}
-use Rattle.lois_simplify.specs.Kept.{IsKept}
-use Rattle.lois_simplify.specs.Lean.{HasNormalGuards, PartsHaveNormalGuards}
+use Rattle.lois_simplify.specs.Simplification.{IsSimplification}
+use Rattle.lois_simplify.specs.Irredundant.{HasNormalGuards, PartsHaveNormalGuards}
 
 -- s stands for t, and is normal
 pub record IsSimplified (u : List (List Lit)) (n : ℕ) (t s : TermD) : Type 0 where
-  pub kept : IsKept u n t s
+  pub kept : IsSimplification u n t s
   pub normal : IsNormal s u n
   pub guards : HasNormalGuards s
 
@@ -68,7 +68,7 @@ module _ (u : List (List Lit)) (n : ℕ) where
   parts_depth (t ∷ ts) [] h = absurd h
   parts_depth (t ∷ ts) (s ∷ ss) h = omega (arith, (h.0).kept.depth, parts_depth ts ss h.1)
 
-  pub tuple_kept : (ts ss : List TermD) → PartsSimplified ts ss → IsKept u n (tup (terms_of ts)) (tup (terms_of ss))
+  pub tuple_kept : (ts ss : List TermD) → PartsSimplified ts ss → IsSimplification u n (tup (terms_of ts)) (tup (terms_of ss))
   tuple_kept ts ss h = record {
     value = same_parts ts ss h;
     levels = parts_levels ts ss h;

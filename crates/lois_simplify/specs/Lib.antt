@@ -1,7 +1,7 @@
 pub mod Covered
 pub mod Fixed
-pub mod Kept
-pub mod Lean
+pub mod Simplification
+pub mod Irredundant
 pub mod Moved
 pub mod Rounds
 pub mod Shortened

@@ -12,8 +12,8 @@ use Rattle.lois_base.specs.declared.values.Comp.{Comp}
 use Rattle.lois_constraint.specs.Normalised.{IsNormalised}
 use Rattle.lois_deciders.specs.Satisfaction.{ConstraintIsSatisfiable}
 use Rattle.lois_simplify.specs.Fixed.{CanBeApart}
-use Rattle.lois_simplify.specs.Kept.{IsKept, set_of}
-use Rattle.lois_simplify.specs.Lean.{IsLeanComp}
+use Rattle.lois_simplify.specs.Simplification.{IsSimplification, set_of}
+use Rattle.lois_simplify.specs.Irredundant.{IsIrredundantComp}
 use Rattle.lois_simplify.specs.declared.rounds.Opening.{Opening}
 use Rattle.lois_simplify.specs.declared.rounds.Opening.TheVariants.{Over, Open}
 use Rattle.lois_simplify.specs.declared.rounds.Round.{Round}
@@ -23,16 +23,16 @@ use Rattle.lois_simplify.specs.declared.rounds.Round.TheVariants.{Lean, Empty, S
 abbrev pub only : CompD → List CompD
 only k = k ∷ []
 
-abbrev pub listed : Option Comp → List CompD
-listed None = []
-listed (Some k) = only (comp_of k)
+abbrev pub listed_comp : Option Comp → List CompD
+listed_comp None = []
+listed_comp (Some k) = only (comp_of k)
 
 -- it is lean now, has no members, or has a binder less
 abbrev pub IsRoundOf : List (List Lit) → ℕ → Comp → Round → Type 0
-IsRoundOf u n k (Lean r) = IsKept u n (set_of (only (comp_of k))) (set_of (only (comp_of r))) × IsLeanComp u n (comp_of r)
-IsRoundOf u n k Empty = IsKept u n (set_of (only (comp_of k))) (set_of [])
+IsRoundOf u n k (Lean r) = IsSimplification u n (set_of (only (comp_of k))) (set_of (only (comp_of r))) × IsIrredundantComp u n (comp_of r)
+IsRoundOf u n k Empty = IsSimplification u n (set_of (only (comp_of k))) (set_of [])
 IsRoundOf u n k (Shorter r) =
-    IsKept u n (set_of (only (comp_of k))) (set_of (only (comp_of r))) × (r.binders < k.binders)
+    IsSimplification u n (set_of (only (comp_of k))) (set_of (only (comp_of r))) × (r.binders < k.binders)
 
 -- A comprehension of m binders with the guard g, inside n levels, where h is what holds in it: u and g. It has members, and no
 -- binder is fixed.
@@ -47,12 +47,12 @@ pub record IsOpen (u : List (List Lit)) (n m : ℕ) (g h : List (List Lit)) : Ty
 abbrev pub IsOpeningOf : List (List Lit) → ℕ → Comp → Opening → Type 0
 IsOpeningOf u n k (Over r) = IsRoundOf u n k r
 IsOpeningOf u n k (Open r) =
-    IsKept u n (set_of (only (comp_of k))) (set_of (only (comp_of r.comp))) × (r.comp.binders ≤ k.binders) × IsOpen u n r.comp.binders r.comp.guard r.here
+    IsSimplification u n (set_of (only (comp_of k))) (set_of (only (comp_of r.comp))) × (r.comp.binders ≤ k.binders) × IsOpen u n r.comp.binders r.comp.guard r.here
 
 -- r stands for k inside n levels, whatever holds there
 abbrev pub IsKeptEverywhere : ℕ → CompD → CompD → Type 0
 IsKeptEverywhere n k r =
-    (u : List (List Lit)) → ConstraintFits n u → IsKept u n (set_of (only k)) (set_of (only r))
+    (u : List (List Lit)) → ConstraintFits n u → IsSimplification u n (set_of (only k)) (set_of (only r))
 
 -- the comprehension as it is, with each binder used, or without one that isn't
 abbrev pub IsClosingOf : ℕ → Comp → Round → Type 0

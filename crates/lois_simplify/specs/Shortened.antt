@@ -7,23 +7,23 @@ use Rattle.lois_base.specs.Validity.{AdmitsCube, AdmitsConstraint}
 use Rattle.lois_base.specs.declared.guards.Lit.{Lit}
 
 -- wherever u and c hold, g holds
-abbrev pub Entails : List (List Lit) → List (List Lit) → List (List Lit) → Type 0
-Entails u c g = (e : List Atom) → IsTrue (holds e u) → IsTrue (holds e c) → IsTrue (holds e g)
+abbrev pub EntailsUnder : List (List Lit) → List (List Lit) → List (List Lit) → Type 0
+EntailsUnder u c g = (e : List Atom) → IsTrue (holds e u) → IsTrue (holds e c) → IsTrue (holds e g)
 
 -- wherever u and the cube hold, g holds
-abbrev pub CubeEntails : List (List Lit) → List Lit → List (List Lit) → Type 0
-CubeEntails u k g = (e : List Atom) → IsTrue (holds e u) → IsTrue (cube_holds e k) → IsTrue (holds e g)
+abbrev pub CubeEntailsUnder : List (List Lit) → List Lit → List (List Lit) → Type 0
+CubeEntailsUnder u k g = (e : List Atom) → IsTrue (holds e u) → IsTrue (cube_holds e k) → IsTrue (holds e g)
 
 -- r has fewer literals than the cube k, and yet holds only where g does, as far as u holds
-pub record IsWeakened (u g : List (List Lit)) (k r : List Lit) : Type 0 where
+pub record IsWeakenedCube (u g : List (List Lit)) (k r : List Lit) : Type 0 where
   pub weaker : (e : List Atom) → IsTrue (cube_holds e k) → IsTrue (cube_holds e r)
-  pub within : CubeEntails u r g
+  pub within : CubeEntailsUnder u r g
   pub levels : (n : ℕ) → CubeFits n k → CubeFits n r
   pub operators : (ordered : Bool) → AdmitsCube ordered k → AdmitsCube ordered r
 
 -- r has fewer cubes and literals than g, and yet holds at the same choices wherever u does
 pub record IsShortened (u g r : List (List Lit)) : Type 0 where
-  pub there : Entails u g r
-  pub back : Entails u r g
+  pub there : EntailsUnder u g r
+  pub back : EntailsUnder u r g
   pub levels : (n : ℕ) → ConstraintFits n g → ConstraintFits n r
   pub operators : (ordered : Bool) → AdmitsConstraint ordered g → AdmitsConstraint ordered r

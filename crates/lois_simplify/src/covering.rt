@@ -9,8 +9,8 @@ ghost use Rattle.lois_base.specs.FormulaView.{view};
 ghost use Rattle.lois_base.specs.Tree.{tree, comp_of};
 ghost use Rattle.lois_base.specs.Validity.{AdmitsTerm, AdmitsComp, AdmitsItems, AdmitsFormula};
 ghost use Rattle.lois_relate.specs.Relations.{HoldsWhereItemIn};
-ghost use Rattle.lois_simplify.specs.Kept.{IsKept, set_of};
-ghost use Rattle.lois_simplify.specs.Lean.{IsLeanComp, HasOwn, EachHasOwn};
+ghost use Rattle.lois_simplify.specs.Simplification.{IsSimplification, set_of};
+ghost use Rattle.lois_simplify.specs.Irredundant.{IsIrredundantComp, HasOwn, EachHasOwn};
 ghost use Rattle.lois_simplify.specs.Covered.{IsCovered};
 
 use crate::guards::inside;
@@ -61,7 +61,7 @@ fn is_covered<T: Structure, D: Oracle>(
     requires operators { AdmitsComp T.ordered (comp_of comp.now) }
     requires kept_operators { AdmitsItems T.ordered (comps_of kept.now) }
     requires coming_operators { AdmitsItems T.ordered (comps_of (map comp_of coming.now)) }
-    requires lean { IsLeanComp under.now size (comp_of comp.now) }
+    requires lean { IsIrredundantComp under.now size (comp_of comp.now) }
     ensures covered { IfOk result (λ b. IsTrue b → IsCovered under.now size (kept.now ++ map comp_of coming.now) (comp_of comp.now)) }
     ensures own { IfOk result (λ b. IsFalse b → HasOwn under.now size (kept.now ++ map comp_of coming.now) (comp_of comp.now)) }
     ensures asked { D.reaches decider.old decider.new }
@@ -101,8 +101,8 @@ pub(crate) fn uncovered<T: Structure, D: Oracle>(
     requires levels { ItemsFit size (comps_of comps) }
     requires under_levels { ConstraintFits size under.now }
     requires operators { AdmitsItems T.ordered (comps_of comps) }
-    requires lean { All (IsLeanComp under.now size) comps }
-    ensures kept { IfOk result (λ r. IsKept under.now size (set_of comps) (set_of r)) }
+    requires lean { All (IsIrredundantComp under.now size) comps }
+    ensures kept { IfOk result (λ r. IsSimplification under.now size (set_of comps) (set_of r)) }
     ensures only { IfOk result (λ r. (k : CompD) → Contains r k → Contains comps k) }
     ensures own { IfOk result (λ r. EachHasOwn under.now size [] r []) }
     ensures asked { D.reaches decider.old decider.new }

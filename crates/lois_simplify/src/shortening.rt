@@ -3,7 +3,7 @@
 ghost use Rattle.std.specs.Prelude.{◌≡◌, [], ◌∷◌, ◌++◌, List, IfOk, IsTrue, IsFalse};
 ghost use Rattle.lois_base.specs.Atom.{Atom};
 ghost use Rattle.lois_base.specs.Truth.{lit_holds, cube_holds, holds};
-ghost use Rattle.lois_simplify.specs.Shortened.{IsWeakened, IsShortened};
+ghost use Rattle.lois_simplify.specs.Shortened.{IsWeakenedCube, IsShortened};
 
 use lois_base::{Constraint, Cube, Lit, NoMemory};
 use lois_constraint::{alternatives, covers_cube, prune};
@@ -66,7 +66,7 @@ fn weakened(
     others: &Constraint,
     under: &Constraint,
 ) -> Result<Cube, NoMemory>
-    ensures { IfOk result (IsWeakened under.now (cube.now ∷ others.now) cube.now) }
+    ensures { IfOk result (IsWeakenedCube under.now (cube.now ∷ others.now) cube.now) }
 {
     let literals = cube.as_slice();
     let mut kept = Cube::new(alloc);

@@ -10,9 +10,9 @@ ghost use Rattle.lois_base.specs.Validity.{AdmitsConstraint, AdmitsTerm, AdmitsP
 ghost use Rattle.lois_deciders.specs.Satisfaction.{IsConstraintSample, ConstraintIsSatisfiable, IsCounterexample, IsEntailed};
 ghost use Rattle.lois_deciders.specs.Conjunction.{IsSampledConjunction, AreInconsistent};
 ghost use Rattle.lois_deciders.specs.OnlyAsked.{HasOnlyAsked};
-ghost use Rattle.lois_simplify.specs.Kept.{IsKept, IsSameWhere, set_of};
-ghost use Rattle.lois_simplify.specs.Lean.{HasNormalGuards, PartsHaveNormalGuards, IsLeanComp};
-ghost use Rattle.lois_simplify.specs.Rounds.{only, listed, IsRoundOf};
+ghost use Rattle.lois_simplify.specs.Simplification.{IsSimplification, IsSameWhere, set_of};
+ghost use Rattle.lois_simplify.specs.Irredundant.{HasNormalGuards, PartsHaveNormalGuards, IsIrredundantComp};
+ghost use Rattle.lois_simplify.specs.Rounds.{only, listed_comp, IsRoundOf};
 
 use crate::covering::uncovered;
 use crate::distinct::distinct;
@@ -135,7 +135,7 @@ fn simplified_copy<T: Structure, D: Oracle>(
     requires under_levels { ConstraintFits size under.now }
     requires operators { AdmitsTerm T.ordered (tree term.now) }
     requires under_operators { AdmitsConstraint T.ordered under.now }
-    ensures kept { IfOk result (λ r. IsKept under.now size (tree term.now) (tree r)) }
+    ensures kept { IfOk result (λ r. IsSimplification under.now size (tree term.now) (tree r)) }
     ensures normal { IfOk result (λ r. IsNormal (tree r) under.now size) }
     ensures guards { IfOk result (λ r. HasNormalGuards (tree r)) }
     ensures asked { D.reaches decider.old decider.new }
@@ -160,7 +160,7 @@ fn simplified<T: Structure, D: Oracle>(
     requires met { IsTrue met → ConstraintIsSatisfiable size under.now }
     requires operators { AdmitsTerm T.ordered (tree term) }
     requires under_operators { AdmitsConstraint T.ordered under.now }
-    ensures kept { IfOk result (λ r. IsKept under.now size (tree term) (tree r)) }
+    ensures kept { IfOk result (λ r. IsSimplification under.now size (tree term) (tree r)) }
     ensures normal { IfOk result (λ r. IsNormal (tree r) under.now size) }
     ensures guards { IfOk result (λ r. HasNormalGuards (tree r)) }
     ensures asked { D.reaches decider.old decider.new }
@@ -172,7 +172,7 @@ fn simplified<T: Structure, D: Oracle>(
             alloc, parts, under, met, size, decider,
         )?)),
         Term::Coll(comps) => {
-            let lean = lean_comps::<T, D>(alloc, comps, under, met, size, decider)?;
+            let lean = irredundant_comps::<T, D>(alloc, comps, under, met, size, decider)?;
             Ok(Term::Coll(uncovered::<T, D>(alloc, lean, under, size, decider)?))
         }
     }
@@ -193,7 +193,7 @@ fn simplified_parts<T: Structure, D: Oracle>(
     requires met { IsTrue met → ConstraintIsSatisfiable size under.now }
     requires operators { AdmitsParts T.ordered (terms_of parts) }
     requires under_operators { AdmitsConstraint T.ordered under.now }
-    ensures kept { IfOk result (λ r. IsKept under.now size (tup (terms_of parts)) (tup (terms_of r))) }
+    ensures kept { IfOk result (λ r. IsSimplification under.now size (tup (terms_of parts)) (tup (terms_of r))) }
     ensures normal { IfOk result (λ r. PartsAreNormal (terms_of r) under.now size) }
     ensures guards { IfOk result (λ r. PartsHaveNormalGuards (terms_of r)) }
     ensures asked { D.reaches decider.old decider.new }
@@ -208,7 +208,7 @@ fn simplified_parts<T: Structure, D: Oracle>(
 // Each comprehension made lean by itself. Those that are written alike are cut first, before a decider is asked, and again
 // at the end.
 #[cycle(simplifying)]
-fn lean_comps<T: Structure, D: Oracle>(
+fn irredundant_comps<T: Structure, D: Oracle>(
     alloc: Global,
     comps: Comps,
     under: &Constraint,
@@ -222,14 +222,14 @@ fn lean_comps<T: Structure, D: Oracle>(
     requires met { IsTrue met → ConstraintIsSatisfiable size under.now }
     requires operators { AdmitsItems T.ordered (comps_of comps) }
     requires under_operators { AdmitsConstraint T.ordered under.now }
-    ensures kept { IfOk result (λ r. IsKept under.now size (set_of comps) (set_of r)) }
-    ensures lean { IfOk result (All (IsLeanComp under.now size)) }
+    ensures kept { IfOk result (λ r. IsSimplification under.now size (set_of comps) (set_of r)) }
+    ensures lean { IfOk result (All (IsIrredundantComp under.now size)) }
     ensures asked { D.reaches decider.old decider.new }
 {
     let several = distinct(alloc, comps)?;
     let mut found = Comps::new(alloc);
     for comp in several.into_vec() {
-        if let Some(simple) = lean_comp::<T, D>(alloc, comp, under, met, size, decider)? {
+        if let Some(simple) = irredundant_comp::<T, D>(alloc, comp, under, met, size, decider)? {
             found.push(simple)?;
         }
     }
@@ -238,7 +238,7 @@ fn lean_comps<T: Structure, D: Oracle>(
 
 // The comprehension made lean by itself, or `None` where it has no members.
 #[cycle(simplifying)]
-fn lean_comp<T: Structure, D: Oracle>(
+fn irredundant_comp<T: Structure, D: Oracle>(
     alloc: Global,
     comp: Comp,
     under: &Constraint,
@@ -252,8 +252,8 @@ fn lean_comp<T: Structure, D: Oracle>(
     requires met { IsTrue met → ConstraintIsSatisfiable size under.now }
     requires operators { AdmitsComp T.ordered (comp_of comp) }
     requires under_operators { AdmitsConstraint T.ordered under.now }
-    ensures kept { IfOk result (λ o. IsKept under.now size (set_of (only (comp_of comp))) (set_of (listed o))) }
-    ensures lean { IfOk result (λ o. IfSome o (λ k. IsLeanComp under.now size (comp_of k))) }
+    ensures kept { IfOk result (λ o. IsSimplification under.now size (set_of (only (comp_of comp))) (set_of (listed_comp o))) }
+    ensures lean { IfOk result (λ o. IfSome o (λ k. IsIrredundantComp under.now size (comp_of k))) }
     ensures asked { D.reaches decider.old decider.new }
 {
     let mut current = comp;

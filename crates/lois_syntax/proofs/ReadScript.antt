@@ -3,7 +3,7 @@ use Rattle.std.proofs.Common.{◌≡◌, ◌≢◌, ℕ, ◌⊎◌, inl, inr, Li
 use Rattle.std.proofs.lemmas.List.{length-map}
 use Rattle.lois_lexer.specs.declared.Token.{Token}
 use Rattle.lois_lexer.specs.Tokens.{HasTokens}
-use Rattle.lois_script.specs.Grammar.{placed}
+use Rattle.lois_script.specs.Grammar.{token_at_place}
 use Rattle.lois_script.specs.Limits.{Spells}
 use Rattle.lois_script.specs.Tree.{ScriptD}
 use Rattle.lois_descent.specs.Descent as descent
@@ -34,7 +34,7 @@ module _ (text : List ℕ) (tokens : List Token) (cut : HasTokens text tokens) w
       record { tokens = tokens; cut = cut; script = found.0; nesting = found.1; forms = found.2 }
 
   count : length (tokens_in text tokens) ≡ length tokens
-  count = length-map tokens (placed text)
+  count = length-map tokens (token_at_place text)
 
   refused_by : (h : ParseError) → descent.script (tokens_in text tokens) ≡ Err h → IsSyntaxRefusal (tokens_in text tokens) (error_of (length tokens) h)
   refused_by h e =

@@ -3,7 +3,7 @@ use Rattle.std.specs.Prelude.{List}
 use Rattle.lois_script.specs.Grammar.{PlacedToken}
 use Rattle.lois_descent.specs.Refusals as refusals
 use Rattle.lois_descent.specs.Refusals.{Refusal, Refused}
-pub use Rattle.lois_descent.specs.Refusals.{Fails, open_behind, Limit, nesting, parts, turns, GoesOver, Breaks, tokens_in}
+pub use Rattle.lois_descent.specs.Refusals.{IsNoScriptAt, open_behind, Limit, nesting, parts, turns, GoesOver, BreaksLimit, tokens_in}
 use Rattle.lois_syntax.specs.declared.SyntaxError.{SyntaxError}
 use Rattle.lois_syntax.specs.declared.SyntaxError.TheVariants.{NoScript, TooNested, WideTuple, TurnsTooMany, NoMemory}
 

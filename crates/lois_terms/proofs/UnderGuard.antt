@@ -13,7 +13,7 @@ use Rattle.lois_base.proofs.Both.{all_both, holds_both}
 use Rattle.lois_base.proofs.Truths.{holds_longer}
 use Rattle.lois_base.proofs.Validity.{fits_longer}
 use Rattle.lois_base.proofs.Same.{same_at_refl, is_all_in, is_some_is}
-use Rattle.lois_terms.specs.Guarded.{IsSet, KeepsWhere, IsEmptyElsewhere, guarded_comp, guarded_items, guarded}
+use Rattle.lois_terms.specs.Guarded.{IsColl, KeepsWhere, IsEmptyElsewhere, guarded_comp, guarded_items, guarded}
 
 pub guarded_items_of : (c : List (List Lit)) (cs : List CompD) → comps_of (map (guarded_comp c) cs) ≡ guarded_items c (comps_of cs)
 guarded_items_of c [] = refl
@@ -62,11 +62,11 @@ module _ (c : List (List Lit)) (d : List Atom) (fits : ConstraintFits (length d)
 pub keeps_where : (c : List (List Lit)) (t : TermD) → KeepsWhere c t (guarded c t)
 keeps_where c t = λ d fits h. same_where c d fits h t
 
-pub is_empty_elsewhere : (c : List (List Lit)) (t : TermD) → IsSet t → IsEmptyElsewhere c (guarded c t)
+pub is_empty_elsewhere : (c : List (List Lit)) (t : TermD) → IsColl t → IsEmptyElsewhere c (guarded c t)
 is_empty_elsewhere c (coll ks) s = λ d fits h u m. no_member c d fits h ks u.term_of u.choice m
 is_empty_elsewhere c _ (ks, e) = absurd (cc)
 
-pub is_set_guarded : (c : List (List Lit)) (t : TermD) → IsSet t → IsSet (guarded c t)
+pub is_set_guarded : (c : List (List Lit)) (t : TermD) → IsColl t → IsColl (guarded c t)
 is_set_guarded c (coll ks) s = (guarded_items c ks, refl)
 is_set_guarded c _ (ks, e) = absurd (cc)
 

@@ -8,8 +8,8 @@ use Rattle.lois_base.specs.Truth.{holds}
 use Rattle.lois_base.specs.Values.{PointValue, point, IsMember, IsSame}
 use Rattle.lois_base.specs.declared.guards.Lit.{Lit}
 
-abbrev pub IsSet : TermD → Type 0
-IsSet t = (ks : CompsD) × (t ≡ coll ks)
+abbrev pub IsColl : TermD → Type 0
+IsColl t = (ks : CompsD) × (t ≡ coll ks)
 
 -- the same value at each choice at which the constraint holds
 abbrev pub KeepsWhere : List (List Lit) → TermD → TermD → Type 0

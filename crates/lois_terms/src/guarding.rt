@@ -6,18 +6,18 @@ ghost use Rattle.lois_base.specs.Fits.{ConstraintFits, Fits};
 ghost use Rattle.lois_base.specs.Normal.{both};
 ghost use Rattle.lois_base.specs.Tree.{tree};
 ghost use Rattle.lois_base.specs.Validity.{AdmitsConstraint, AdmitsTerm, HasBoundedWidths};
-ghost use Rattle.lois_terms.specs.Guarded.{IsSet, KeepsWhere, IsEmptyElsewhere, guarded, guarded_comp};
+ghost use Rattle.lois_terms.specs.Guarded.{IsColl, KeepsWhere, IsEmptyElsewhere, guarded, guarded_comp};
 
 use lois_base::{Comp, Comps, Constraint, Cube, NoMemory, Term};
 use std::alloc::Global;
 
 /// The set that has the members of the set `t` where `c` holds, and none elsewhere.
 pub fn with_guard(alloc: Global, t: &Term, c: &Constraint) -> Result<Term, NoMemory>
-    requires { IsSet (tree t.now) }
+    requires { IsColl (tree t.now) }
     ensures conjoined { IfOk result (λ r. tree r ≡ guarded c.now (tree t.now)) }
     ensures kept { IfOk result (λ r. KeepsWhere c.now (tree t.now) (tree r)) }
     ensures empty { IfOk result (λ r. IsEmptyElsewhere c.now (tree r)) }
-    ensures set { IfOk result (λ r. IsSet (tree r)) }
+    ensures set { IfOk result (λ r. IsColl (tree r)) }
     ensures levels { IfOk result (λ r. (n : ℕ) → Fits n (tree t.now) → ConstraintFits n c.now → Fits n (tree r)) }
     ensures operators { IfOk result (λ r. (ordered : Bool) → AdmitsTerm ordered (tree t.now) → AdmitsConstraint ordered c.now → AdmitsTerm ordered (tree r)) }
     ensures widths { IfOk result (λ r. HasBoundedWidths (tree t.now) → HasBoundedWidths (tree r)) }
@@ -28,7 +28,7 @@ pub fn with_guard(alloc: Global, t: &Term, c: &Constraint) -> Result<Term, NoMem
 
 #[tactic(auto, using(crate::proofs::UnderGuard::guarded_items_of))]
 fn guarded_set(alloc: Global, t: &Term, c: &Constraint) -> Result<Term, NoMemory>
-    requires { IsSet (tree t.now) }
+    requires { IsColl (tree t.now) }
     ensures { IfOk result (λ r. tree r ≡ guarded c.now (tree t.now)) }
 {
     match t {

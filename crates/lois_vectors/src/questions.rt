@@ -5,7 +5,7 @@ ghost use Rattle.lois_base.specs.FormulaData.{FormulaFits};
 ghost use Rattle.lois_base.specs.FormulaView.{view};
 ghost use Rattle.lois_base.specs.Fits.{ConstraintFits};
 ghost use Rattle.lois_base.specs.Tree.{tree};
-ghost use Rattle.lois_terms.specs.Guarded.{IsSet};
+ghost use Rattle.lois_terms.specs.Guarded.{IsColl};
 
 use lois_base::{
     Comp, Comps, Constraint, Cube, Decider, Formula, Lit, Name, NoMemory, Op, Term, is_name,
@@ -75,7 +75,7 @@ fn each_atom(alloc: Global, literals: &[Lit]) -> Result<Comp, NoMemory> {
 
 // The set `{$1 for $1 if $0<$1}`, its comprehension so many times.
 fn above(alloc: Global, times: usize) -> Result<Term, NoMemory>
-    ensures { IfOk result (λ t. IsSet (tree t)) }
+    ensures { IfOk result (λ t. IsColl (tree t)) }
 {
     let below = Lit {
         op: Op::Lt,
@@ -90,7 +90,7 @@ fn above(alloc: Global, times: usize) -> Result<Term, NoMemory>
 }
 
 fn atoms(alloc: Global) -> Result<Term, NoMemory>
-    ensures { IfOk result (λ t. IsSet (tree t)) }
+    ensures { IfOk result (λ t. IsColl (tree t)) }
 {
     let mut comps = Comps::new(alloc);
     comps.push(each_atom(alloc, &[])?)?;

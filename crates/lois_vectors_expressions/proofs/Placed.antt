@@ -6,7 +6,7 @@ use Rattle.lois_context.specs.Choices.{AdmitsContext}
 use Rattle.lois_context.specs.declared.contexts.Context.{Context}
 use Rattle.lois_script.specs.Tree.{ExprD, BindingD, binding, CondD}
 use Rattle.lois_script.specs.View.{exprs_of, bindings_of, conds_of}
-use Rattle.lois_eval.specs.WellFormed.{IsNamed, IsUnnamed, IsWellFormed, AreWellFormed, BindersAreWellFormed, CondIsWellFormed, CondsAreWellFormed, names_behind, count_of}
+use Rattle.lois_eval.specs.WellFormed.{IsNamed, IsUnnamed, IsWellFormed, AreWellFormed, BindersAreWellFormed, CondIsWellFormed, CondsAreWellFormed, names_behind_bindings, count_of}
 
 pub all_one_more : (o : Bool) (xs : List (List ℕ)) (es : List ExprD) (e : ExprD) → AreWellFormed (exprs_of es) o xs → IsWellFormed e o xs → AreWellFormed (exprs_of (es ++ e ∷ [])) o xs
 all_one_more o xs [] e all one = (one, tt)
@@ -19,14 +19,14 @@ conds_one_more o xs (d ∷ cs) c all one = (all.0, conds_one_more o xs cs c all.
 -- the bindings stand, and these are the names in scope behind them
 pub record LeadTo (o : Bool) (xs : List (List ℕ)) (bs : List BindingD) (ys : List (List ℕ)) : Type 0 where
   pub stand : BindersAreWellFormed (bindings_of bs) o xs
-  pub names : ys ≡ names_behind (bindings_of bs) xs
+  pub names : ys ≡ names_behind_bindings (bindings_of bs) xs
 
-binders_one_more : (o : Bool) (xs : List (List ℕ)) (bs : List BindingD) (p : ℕ) (x : List ℕ) (e : ExprD) → BindersAreWellFormed (bindings_of bs) o xs → IsWellFormed e o (names_behind (bindings_of bs) xs) → IsUnnamed x (names_behind (bindings_of bs) xs) → BindersAreWellFormed (bindings_of (bs ++ binding p x e ∷ [])) o xs
+binders_one_more : (o : Bool) (xs : List (List ℕ)) (bs : List BindingD) (p : ℕ) (x : List ℕ) (e : ExprD) → BindersAreWellFormed (bindings_of bs) o xs → IsWellFormed e o (names_behind_bindings (bindings_of bs) xs) → IsUnnamed x (names_behind_bindings (bindings_of bs) xs) → BindersAreWellFormed (bindings_of (bs ++ binding p x e ∷ [])) o xs
 binders_one_more o xs [] p x e all from new = (from, new, tt)
 binders_one_more o xs (binding q y d ∷ bs) p x e all from new =
     (all.0, all.1, binders_one_more o (xs ++ y ∷ []) bs p x e all.2 from new)
 
-names_one_more : (xs : List (List ℕ)) (bs : List BindingD) (p : ℕ) (x : List ℕ) (e : ExprD) → names_behind (bindings_of (bs ++ binding p x e ∷ [])) xs ≡ names_behind (bindings_of bs) xs ++ x ∷ []
+names_one_more : (xs : List (List ℕ)) (bs : List BindingD) (p : ℕ) (x : List ℕ) (e : ExprD) → names_behind_bindings (bindings_of (bs ++ binding p x e ∷ [])) xs ≡ names_behind_bindings (bindings_of bs) xs ++ x ∷ []
 names_one_more xs [] p x e = refl
 names_one_more xs (binding q y d ∷ bs) p x e = names_one_more (xs ++ y ∷ []) bs p x e
 

@@ -2,7 +2,7 @@
 
 ghost use Rattle.std.specs.Prelude.{◌≡◌, [], ◌∷◌, ◌++◌, IfSome, IsNone};
 ghost use Rattle.lois_script.specs.View.{tree, cond_tree, exprs_of, exprs_list, bindings_of, bindings_list, conds_of, conds_list};
-ghost use Rattle.lois_eval.specs.WellFormed.{IsNamed, IsUnnamed, IsWellFormed, AreWellFormed, BindersAreWellFormed, CondIsWellFormed, CondsAreWellFormed, names_behind, arity};
+ghost use Rattle.lois_eval.specs.WellFormed.{IsNamed, IsUnnamed, IsWellFormed, AreWellFormed, BindersAreWellFormed, CondIsWellFormed, CondsAreWellFormed, names_behind_bindings, arity};
 
 use lois_base::{Name, Names};
 use lois_script::{Binding, Bindings, Cond, Conds, Expr, Exprs, Operation};
@@ -74,7 +74,7 @@ fn all_stand(alloc: Global, es: &Exprs, ordered: bool, names: &Names) -> Option<
 #[cycle(standing)]
 fn behind(alloc: Global, bindings: &Bindings, ordered: bool, names: &Names) -> Option<Names>
     ensures stand { IfSome result (λ _. BindersAreWellFormed (bindings_of (bindings_list bindings.now)) ordered names.now) }
-    ensures names { IfSome result (λ r. r ≡ names_behind (bindings_of (bindings_list bindings.now)) names.now) }
+    ensures names { IfSome result (λ r. r ≡ names_behind_bindings (bindings_of (bindings_list bindings.now)) names.now) }
 {
     let mut inside = names.copy(alloc).ok()?;
     for binding in bindings.as_slice() {

@@ -6,7 +6,7 @@ use Rattle.lois_base.specs.FormulaView.{view}
 use Rattle.lois_base.specs.Tree.{tree}
 use Rattle.lois_base.specs.Validity.{AdmitsConstraint, AdmitsItems}
 use Rattle.lois_relate.specs.Relations.{HoldsWhereItemIn}
-use Rattle.lois_algebra.specs.Selected.{IsNarrowed}
+use Rattle.lois_algebra.specs.Selected.{IsSelectedPart}
 use Rattle.lois_algebra.proofs.Selections.{selects}
 use Rattle.lois_algebra.proofs.selecting.selected_guard.Goals as goal
 
@@ -23,7 +23,7 @@ returns-clause-truth g c =
     let comp = c.args.comp.now in
     let own = c.in_ok-found.ensures in
     let member = subst (λ z. HoldsWhereItemIn c.args.size comp.binders (tree comp.item) (comps_of z) (view c.in_ok-formula.formula)) c.as_slice.ensures c.in_ok-formula.ensures.truth in
-    IfOk-weaker c.narrowed.result (IsNarrowed c.args.wanted comp.guard c.in_ok-found.found) _ (λ r narrowed. selects c.args.size comp.binders (comps_of c.args.others.now) (tree comp.item) (view c.in_ok-formula.formula) c.in_ok-found.found member own.truth c.args.wanted comp.guard r narrowed) c.narrowed.ensures.truth
+    IfOk-weaker c.narrowed.result (IsSelectedPart c.args.wanted comp.guard c.in_ok-found.found) _ (λ r narrowed. selects c.args.size comp.binders (comps_of c.args.others.now) (tree comp.item) (view c.in_ok-formula.formula) c.in_ok-found.found member own.truth c.args.wanted comp.guard r narrowed) c.narrowed.ensures.truth
 
 pub returns-clause-levels : goal.returns-clause-levels
 returns-clause-levels g c =

@@ -3,7 +3,7 @@ use Rattle.std.proofs.lemmas.List.Elements.{All-nil}
 use Rattle.lois_base.specs.Fits.{CubeFits, ConstraintFits}
 use Rattle.lois_base.specs.Tree.{comp_of}
 use Rattle.lois_relate.proofs.Parts.{is_comp_of}
-use Rattle.lois_automata.proofs.Telling.{clash_begin, clash_more, clash_end}
+use Rattle.lois_automata.proofs.Tests.{clash_begin, clash_more, clash_end}
 use Rattle.lois_automata.proofs.conditions.where_clashing.Goals as goal
 
 pub where_differing-requires-clause-second : goal.where_differing-requires-clause-second

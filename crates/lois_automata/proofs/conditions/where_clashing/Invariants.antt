@@ -1,7 +1,7 @@
 use Rattle.lois_base.specs.Fits.{ConstraintFits}
 use Rattle.lois_base.specs.Tree.{comp_of}
 use Rattle.lois_relate.proofs.Parts.{comps_from}
-use Rattle.lois_automata.proofs.Telling.{ClashSoFar}
+use Rattle.lois_automata.proofs.Tests.{ClashSoFar}
 use Rattle.lois_automata.proofs.conditions.where_clashing.Given as goal
 
 abbrev pub invariant-loop-second : goal.invariant-loop-second

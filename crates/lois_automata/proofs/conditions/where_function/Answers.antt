@@ -8,7 +8,7 @@ use Rattle.lois_base.specs.Truth.{holds}
 use Rattle.lois_base.specs.Values.{point}
 use Rattle.lois_relate.proofs.Parts.{is_comp_of}
 use Rattle.lois_automata.specs.Projections.{IsFunction}
-use Rattle.lois_automata.proofs.Telling.{clashes_begin, clashes_more, clashes_end, unless_not}
+use Rattle.lois_automata.proofs.Tests.{clashes_begin, clashes_more, clashes_end, unless_not}
 use Rattle.lois_automata.proofs.conditions.where_function.Goals as goal
 
 pub where_clashing-requires-clause-first : goal.where_clashing-requires-clause-first

@@ -3,7 +3,7 @@ use Rattle.std.proofs.lemmas.List.Elements.{All-nil}
 use Rattle.lois_base.specs.Fits.{CubeFits, ConstraintFits}
 use Rattle.lois_base.specs.Validity.{AdmitsCube, AdmitsConstraint}
 use Rattle.lois_relate.proofs.Parts.{is_comp_of}
-use Rattle.lois_automata.proofs.Telling.{some_begin, some_more, some_end}
+use Rattle.lois_automata.proofs.Tests.{some_begin, some_more, some_end}
 use Rattle.lois_automata.proofs.conditions.where_inhabited.Goals as goal
 
 pub where_making-requires-clause-levels : goal.where_making-requires-clause-levels

@@ -3,7 +3,7 @@ use Rattle.lois_base.specs.Data.{comps_of}
 use Rattle.lois_base.specs.Fits.{ConstraintFits}
 use Rattle.lois_base.specs.Validity.{AdmitsConstraint, AdmitsItems}
 use Rattle.lois_relate.proofs.Parts.{comps_from}
-use Rattle.lois_automata.proofs.Telling.{SomeSoFar}
+use Rattle.lois_automata.proofs.Tests.{SomeSoFar}
 use Rattle.lois_automata.proofs.conditions.where_inhabited.Given as goal
 
 abbrev pub invariant-loop-comp : goal.invariant-loop-comp

@@ -2,7 +2,7 @@ use Rattle.std.proofs.Common.{subst}
 use Rattle.std.proofs.lemmas.Result.{IfOk-weaker}
 use Rattle.lois_base.specs.Tree.{tree}
 use Rattle.lois_elim.specs.Bound.{HoldsForSomeMore}
-use Rattle.lois_automata.proofs.Telling.{making}
+use Rattle.lois_automata.proofs.Tests.{making}
 use Rattle.lois_automata.proofs.conditions.where_making.Goals as goal
 
 pub returns-clause-truth : goal.returns-clause-truth

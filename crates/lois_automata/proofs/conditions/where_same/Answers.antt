@@ -3,7 +3,7 @@ use Rattle.lois_base.specs.FormulaView.{view}
 use Rattle.lois_base.specs.Tree.{tree}
 use Rattle.lois_base.specs.Values.{point, IsSame}
 use Rattle.lois_elim.specs.Bound.{AgreesWith}
-use Rattle.lois_automata.proofs.Telling.{formula_where}
+use Rattle.lois_automata.proofs.Tests.{formula_where}
 use Rattle.lois_automata.proofs.conditions.where_same.Goals as goal
 
 pub returns-clause-truth : goal.returns-clause-truth

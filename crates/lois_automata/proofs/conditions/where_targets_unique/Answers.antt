@@ -7,7 +7,7 @@ use Rattle.lois_automata.specs.Projections.{AreProjected, IsFunction, HasUniqueT
 use Rattle.lois_automata.specs.declared.projections.Projection.TheVariants.{Keyed}
 use Rattle.lois_automata.specs.Throughout.{HoldsWhere}
 use Rattle.lois_automata.proofs.Checked.{led_once}
-use Rattle.lois_automata.proofs.Telling.{where_as}
+use Rattle.lois_automata.proofs.Tests.{where_as}
 use Rattle.lois_automata.proofs.conditions.where_targets_unique.Goals as goal
 
 pub returns-clause-truth : goal.returns-clause-truth

@@ -8,7 +8,7 @@ use Rattle.lois_base.specs.Truth.{holds}
 use Rattle.lois_base.specs.Values.{PointValue, point, IsIn}
 use Rattle.lois_algebra.specs.Sets.{IsIntersection}
 use Rattle.lois_automata.proofs.FiveMachine.{empty_throughout}
-use Rattle.lois_automata.proofs.Telling.{not_where}
+use Rattle.lois_automata.proofs.Tests.{not_where}
 use Rattle.lois_automata.proofs.operations.empty.Goals as goal
 
 pub returns-in_default-clause-empty : goal.returns-in_default-clause-empty

@@ -7,7 +7,7 @@ use Rattle.lois_base.specs.Values.{point, IsSame}
 use Rattle.lois_algebra.specs.Gathered.{IsPut}
 use Rattle.lois_automata.proofs.Apart.{no_steps_added}
 use Rattle.lois_automata.proofs.Joined.{first_is_no_step, second_is_no_step, step_put}
-use Rattle.lois_automata.proofs.Telling.{formula_where}
+use Rattle.lois_automata.proofs.Tests.{formula_where}
 use Rattle.lois_automata.proofs.pairing.add_step.Goals as goal
 
 pub returns-then-letters_clash : goal.returns-then-letters_clash

@@ -38,8 +38,8 @@ pub grow-requires : goal.grow-requires
 grow-requires c =
     only_weakens (record { size = c.args.size; under = c.in_ok-copy.field-0; nodes = comps_of c.in_ok-copy-2.field-0; moves = coll (comps_of c.in_ok-copy-3.field-0) })
 
-pub held_set-requires : goal.held_set-requires
-held_set-requires c =
+pub set_of_family-requires : goal.set_of_family-requires
+set_of_family-requires c =
     over_length c.args.size c.args.nodes.now c.in_ok-family.family (over_sizes c.args.size (comps_of c.args.nodes.now) c.in_ok-family.family c.in_ok-first.first c.in_ok-family.ensures.sizes ∙ first_over c.args.size c.args.under.now (tree c.args.start.now) (comps_of c.args.nodes.now) c.in_ok-first.first c.in_ok-first.ensures.members)
 
 pub returns-clause-members : goal.returns-clause-members
@@ -54,7 +54,7 @@ returns-clause-members c =
     (subst (λ z. IsFirstUnchanged (Propagates (record { size = n; under = c.in_ok-copy.field-0; nodes = comps_of z; moves = coll (comps_of c.args.moves.now) })) from f) c.in_ok-copy-2.ensures
     (subst (λ z. IsFirstUnchanged (Propagates (record { size = n; under = c.in_ok-copy.field-0; nodes = comps_of c.in_ok-copy-2.field-0; moves = coll (comps_of z) })) from f) c.in_ok-copy-3.ensures c.in_ok-family.ensures.first)) in
     let set = is_reached_set x t from f c.in_ok-first.ensures.members one in
-    IfOk-weaker c.held_set.result (λ r. tree r ≡ coll (held x.nodes f)) _ (λ r e. subst (λ z. HoldsThroughout n c.args.under.now (λ d. IsSetOf (point z d) (IsReached (graph_at (coll x.nodes) t x.moves d)))) (sym e) set) c.held_set.ensures
+    IfOk-weaker c.set_of_family.result (λ r. tree r ≡ coll (held x.nodes f)) _ (λ r e. subst (λ z. HoldsThroughout n c.args.under.now (λ d. IsSetOf (point z d) (IsReached (graph_at (coll x.nodes) t x.moves d)))) (sym e) set) c.set_of_family.ensures
 
 pub returns-clause-levels : goal.returns-clause-levels
 returns-clause-levels c =
@@ -62,23 +62,23 @@ returns-clause-levels c =
     let ks = comps_of c.args.nodes.now in
     let f = c.in_ok-family.family in
     let over = is_over_true n ks f (over_sizes n ks f c.in_ok-first.first c.in_ok-family.ensures.sizes ∙ first_over n c.args.under.now (tree c.args.start.now) ks c.in_ok-first.first c.in_ok-first.ensures.members) in
-    IfOk-weaker c.held_set.result (λ r. tree r ≡ coll (held ks f)) _ (λ r e. subst (λ z. Fits n z) (sym e) (held_fits n ks f over c.in_ok-family.ensures.fits c.requires.nodes)) c.held_set.ensures
+    IfOk-weaker c.set_of_family.result (λ r. tree r ≡ coll (held ks f)) _ (λ r e. subst (λ z. Fits n z) (sym e) (held_fits n ks f over c.in_ok-family.ensures.fits c.requires.nodes)) c.set_of_family.ensures
 
 pub returns-clause-operators : goal.returns-clause-operators
 returns-clause-operators c =
     let ks = comps_of c.args.nodes.now in
     let f = c.in_ok-family.family in
-    IfOk-weaker c.held_set.result (λ r. tree r ≡ coll (held ks f)) _ (λ r e o nodes start moves under.
+    IfOk-weaker c.set_of_family.result (λ r. tree r ≡ coll (held ks f)) _ (λ r e o nodes start moves under.
     let own : AdmitsConstraint o c.in_ok-copy.field-0 × AdmitsItems o (comps_of c.in_ok-copy-2.field-0) × AdmitsItems o (comps_of c.in_ok-copy-3.field-0) = (
       subst (λ z. AdmitsConstraint o z) (sym c.in_ok-copy.ensures) under,
       subst (λ z. AdmitsItems o (comps_of z)) (sym c.in_ok-copy-2.ensures) nodes,
       subst (λ z. AdmitsItems o (comps_of z)) (sym c.in_ok-copy-3.ensures) moves,
     ) in
     let grown = c.in_ok-family.ensures.operators o own (c.in_ok-first.ensures.operators o nodes start under) in
-    subst (λ z. AdmitsTerm o z) (sym e) (held_admits o ks f grown nodes)) c.held_set.ensures
+    subst (λ z. AdmitsTerm o z) (sym e) (held_admits o ks f grown nodes)) c.set_of_family.ensures
 
 pub returns-clause-widths : goal.returns-clause-widths
 returns-clause-widths c =
     let f = c.in_ok-family.family in
     let ks = comps_of c.args.nodes.now in
-    IfOk-weaker c.held_set.result (λ r. tree r ≡ coll (held ks f)) _ (λ r e h. subst HasBoundedWidths (sym e) (held_widths ks f h)) c.held_set.ensures
+    IfOk-weaker c.set_of_family.result (λ r. tree r ≡ coll (held ks f)) _ (λ r e h. subst HasBoundedWidths (sym e) (held_widths ks f h)) c.set_of_family.ensures

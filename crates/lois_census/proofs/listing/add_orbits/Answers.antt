@@ -7,7 +7,7 @@ use Rattle.lois_base.specs.Truth.{sampled}
 use Rattle.lois_deciders.proofs.Oracle.{some_is, none_is}
 use Rattle.lois_deciders.proofs.OnlyAsked.{only_asked_nothing, only_asked_then}
 use Rattle.lois_deciders.specs.Satisfaction.{IsConstraintSample}
-use Rattle.lois_census.specs.Left.{IsTakenFrom, IsWithout, IsLeft}
+use Rattle.lois_census.specs.Left.{IsTakenFrom, IsWithoutOrbit, IsRemainder}
 use Rattle.lois_census.specs.OrbitData.{OrbitD}
 use Rattle.lois_census.specs.Orbits.{AreDisjointOrbits}
 use Rattle.lois_census.proofs.Lefts.{left_more, covered, apart_from, pairs_more}
@@ -31,7 +31,7 @@ orbits-smaller g c =
     let u = c.orbits.left in
     let o : OrbitD = record { item = tree c.in_ok-copy.field-0; sample = c.from_vec.result } in
     let meets : IsConstraintSample n u o.sample = subst (IsConstraintSample n u) (sym c.from_vec.ensures) (some_is (λ s. IsConstraintSample n u s.items) c.in_ok-sample.field-0 c.in-Some.sample c.in-Some.is c.in_ok-sample.ensures.sample) in
-    let less : IsWithout g.T.Structure.ordered n o.item o u c.in_ok-left-2.left = subst (λ t. IsWithout g.T.Structure.ordered n t o u c.in_ok-left-2.left) (sym (ap tree c.in_ok-copy.ensures)) c.in_ok-left-2.ensures.truth in
+    let less : IsWithoutOrbit g.T.Structure.ordered n o.item o u c.in_ok-left-2.left = subst (λ t. IsWithoutOrbit g.T.Structure.ordered n t o u c.in_ok-left-2.left) (sym (ap tree c.in_ok-copy.ensures)) c.in_ok-left-2.ensures.truth in
     fewer g.T.Structure.ordered n o u c.in_ok-left-2.left less meets
 
 pub orbits-preserved : goal.orbits-preserved
@@ -47,7 +47,7 @@ orbits-preserved g c =
     let appended : c.push.new.self ≡ os ++ o ∷ [] = c.in_ok-push.ensures.appended in
     record {
       left =
-          subst (λ z. IsLeft g.T.Structure.ordered n k.guard (tree k.item) z c.in_ok-left-2.left) (sym appended) (left_more g.T.Structure.ordered n (tree k.item) k.guard os o u c.in_ok-left-2.left kept.left c.in_ok-left-2.ensures.truth);
+          subst (λ z. IsRemainder g.T.Structure.ordered n k.guard (tree k.item) z c.in_ok-left-2.left) (sym appended) (left_more g.T.Structure.ordered n (tree k.item) k.guard os o u c.in_ok-left-2.left kept.left c.in_ok-left-2.ensures.truth);
       fits = c.in_ok-left-2.ensures.fits;
       operators = c.in_ok-left-2.ensures.operators;
       added =

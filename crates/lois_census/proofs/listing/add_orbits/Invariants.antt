@@ -3,14 +3,14 @@ use Rattle.lois_base.specs.Fits.{ConstraintFits}
 use Rattle.lois_base.specs.Tree.{tree, comp_of}
 use Rattle.lois_base.specs.Validity.{AdmitsConstraint}
 use Rattle.lois_deciders.specs.OnlyAsked.{HasOnlyAsked}
-use Rattle.lois_census.specs.Left.{IsTakenFrom, AddsOnly, IsLeft}
+use Rattle.lois_census.specs.Left.{IsTakenFrom, AddsOnly, IsRemainder}
 use Rattle.lois_census.specs.Orbits.{AreDisjointOrbits}
 use Rattle.lois_census.proofs.Measures.{sample_count}
 use Rattle.lois_census.proofs.listing.add_orbits.Given as goal
 
 abbrev pub invariant-orbits : goal.invariant-orbits
 invariant-orbits g l = record {
-  left : IsLeft g.T.Structure.ordered l.comp.binders l.comp.guard (tree l.comp.item) l.orbits l.left;
+  left : IsRemainder g.T.Structure.ordered l.comp.binders l.comp.guard (tree l.comp.item) l.orbits l.left;
   fits : ConstraintFits l.comp.binders l.left;
   operators : AdmitsConstraint g.T.Structure.ordered l.left;
   added : AddsOnly (IsTakenFrom (comp_of l.comp)) l.fn.orbits l.orbits;

@@ -5,7 +5,7 @@ use Rattle.lois_base.proofs.Viewed.{one_more, all_taken, contains_item}
 use Rattle.lois_base.specs.Tree.{comp_of}
 use Rattle.lois_deciders.proofs.OnlyAsked.{only_asked_then}
 use Rattle.lois_relate.proofs.Parts.{is_comp_of}
-use Rattle.lois_census.specs.Left.{IsCovered}
+use Rattle.lois_census.specs.Left.{IsCoveredByOrbits}
 use Rattle.lois_census.proofs.TheCensus.{all_usable, still_covered, still_taken}
 use Rattle.lois_census.proofs.listing.all_orbits.Goals as goal
 
@@ -32,16 +32,16 @@ loop-comp-preserved g c =
     let before = c.loop-comp.orbits in
     let after = c.add_orbits.new.orbits in
     let kept = c.loop-comp.invariant in
-    let Covered = IsCovered g.T.Structure.ordered after in
+    let Covered = IsCoveredByOrbits g.T.Structure.ordered after in
     record {
       taken = still_taken g.T.Structure.ordered (comp_of k) before after c.in_ok-add_orbits.ensures.added ks (contains_item comp_of items ks i k c.as_slice-comp-items.ensures c.loop-comp-test.true c.comp-item.is) kept.taken;
       covered =
           subst (All Covered) (sym (one_more comp_of items i k c.loop-comp-test.true c.comp-item.is))
-          (All-push Covered (map comp_of (take i items)) (comp_of k) (All-weaker (IsCovered g.T.Structure.ordered before) Covered (still_covered g.T.Structure.ordered (comp_of k) before after c.in_ok-add_orbits.ensures.added) (map comp_of (take i items)) kept.covered) c.in_ok-add_orbits.ensures.covered);
+          (All-push Covered (map comp_of (take i items)) (comp_of k) (All-weaker (IsCoveredByOrbits g.T.Structure.ordered before) Covered (still_covered g.T.Structure.ordered (comp_of k) before after c.in_ok-add_orbits.ensures.added) (map comp_of (take i items)) kept.covered) c.in_ok-add_orbits.ensures.covered);
       apart = c.in_ok-add_orbits.ensures.apart;
       only_asked = only_asked_then (λ b. (goal.Decider-dyn g (b.vtable, b.value)).kind_of b.value) (λ b. (goal.Decider-dyn g (b.vtable, b.value)).questions b.value) c.args.chosen.now c.loop-comp.chosen c.add_orbits.new.chosen kept.only_asked c.add_orbits.ensures.only_asked;
     }
 
 pub returns-clause-covered : goal.returns-clause-covered
 returns-clause-covered g c =
-    subst (All (IsCovered g.T.Structure.ordered c.loop-comp.orbits)) (all_taken comp_of c.as_slice-comp-items.result.now c.args.comps.now c.loop-comp.comp-index c.as_slice-comp-items.ensures c.loop-comp-test.false) c.loop-comp.invariant.covered
+    subst (All (IsCoveredByOrbits g.T.Structure.ordered c.loop-comp.orbits)) (all_taken comp_of c.as_slice-comp-items.result.now c.args.comps.now c.loop-comp.comp-index c.as_slice-comp-items.ensures c.loop-comp-test.false) c.loop-comp.invariant.covered

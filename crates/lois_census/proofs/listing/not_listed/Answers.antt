@@ -1,7 +1,7 @@
 use Rattle.std.proofs.Common.{take, map, sym, subst}
 use Rattle.lois_base.proofs.Viewed.{one_more, item_has}
 use Rattle.lois_base.specs.Tree.{tree}
-use Rattle.lois_census.specs.Left.{IsLeft, IsUsable}
+use Rattle.lois_census.specs.Left.{IsRemainder, IsUsable}
 use Rattle.lois_census.specs.OrbitView.{orbit_of}
 use Rattle.lois_census.proofs.Lefts.{left_more}
 use Rattle.lois_census.proofs.listing.not_listed.Goals as goal
@@ -18,7 +18,7 @@ loop-orbit-preserved g c =
     let o = c.orbit-item.result in
     record {
       left =
-          subst (λ os. IsLeft g.T.Structure.ordered k.binders k.guard (tree k.item) os c.in_ok-left-2.left) (sym (one_more orbit_of items i o c.loop-orbit-test.true c.orbit-item.is))
+          subst (λ os. IsRemainder g.T.Structure.ordered k.binders k.guard (tree k.item) os c.in_ok-left-2.left) (sym (one_more orbit_of items i o c.loop-orbit-test.true c.orbit-item.is))
           (left_more g.T.Structure.ordered k.binders (tree k.item) k.guard (map orbit_of (take i items)) (orbit_of o) c.loop-orbit.left c.in_ok-left-2.left c.loop-orbit.invariant.left c.in_ok-left-2.ensures.truth);
       fits = c.in_ok-left-2.ensures.fits;
       operators = c.in_ok-left-2.ensures.operators;

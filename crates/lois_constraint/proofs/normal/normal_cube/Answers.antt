@@ -2,7 +2,7 @@ use Rattle.std.proofs.Common.{◌≡◌, ◌≢◌, List, sym, ap, ◌∙◌, su
 use Rattle.lois_base.specs.Atom.{Atom}
 use Rattle.lois_base.specs.Truth.{cube_holds}
 use Rattle.lois_base.specs.declared.guards.Lit.{Lit}
-use Rattle.lois_constraint.specs.Normalised.{IsTurned, IsNormalCube}
+use Rattle.lois_constraint.specs.Normalised.{IsOriented, IsNormalCube}
 use Rattle.lois_constraint.specs.Rules.{Rule, Obeys, CubeObeys}
 use Rattle.lois_constraint.proofs.Normals.{same_all, same_hold}
 use Rattle.lois_constraint.proofs.Uses.{same_answer}
@@ -20,7 +20,7 @@ returns-clause-normal c =
     let ys : List Lit = c.sort_literals.new.literals.items in
     let normal : IsNormalCube ys = record {
       apart = same_all xs ys c.sort_literals.ensures.same (λ l. l.left ≢ l.right) c.in_ok-literals.ensures.apart;
-      turned = same_all xs ys c.sort_literals.ensures.same (λ l. IsTurned l.op l.left l.right) c.in_ok-literals.ensures.turned;
+      turned = same_all xs ys c.sort_literals.ensures.same (λ l. IsOriented l.op l.left l.right) c.in_ok-literals.ensures.turned;
       increasing = c.sort_literals.ensures.increasing;
     } in
     same_answer c.cube_of.result c.deref-2.result.now IsNormalCube c.cube_of.ensures (subst IsNormalCube (sym c.deref-2.ensures.value) normal)

@@ -1,11 +1,11 @@
 use Rattle.std.proofs.Common.{take, map}
 use Rattle.lois_base.specs.Tree.{comp_of}
 use Rattle.lois_deciders.specs.OnlyAsked.{HasOnlyAsked}
-use Rattle.lois_context.specs.Entered.{AreEntries}
+use Rattle.lois_context.specs.Entered.{AreMemberContexts}
 use Rattle.lois_context.proofs.entering.entries.Given as goal
 
 abbrev pub invariant-loop-comp : goal.invariant-loop-comp
 invariant-loop-comp g l = record {
-  entries : AreEntries l.context l.name (map comp_of (take l.comp-index l.comp-items)) l.inner.items;
+  entries : AreMemberContexts l.context l.name (map comp_of (take l.comp-index l.comp-items)) l.inner.items;
   only_asked : HasOnlyAsked (λ b. (goal.Decider-dyn g (b.vtable, b.value)).kind_of b.value) (λ b. (goal.Decider-dyn g (b.vtable, b.value)).questions b.value) l.fn.chosen l.chosen;
 }

@@ -5,8 +5,8 @@ use Rattle.lois_equal.specs.Comparing.{IsFirstDifference, IsComparison}
 use Rattle.lois_equal.proofs.CaseLines.{comparison_of, refused_at, all_fit, sound_cases}
 use Rattle.lois_equal.proofs.comparing.compare.Goals as goal
 
-pub first_unfit-requires : goal.first_unfit-requires
-first_unfit-requires g c =
+pub first_incomparable-requires : goal.first_incomparable-requires
+first_incomparable-requires g c =
     sound_cases c.args.results.now.order g.T.Structure.ordered (length c.args.results.now.parameters) c.len-size.result c.args.results.now.cases c.requires.atoms c.len-size.ensures c.requires.sound.cases
 
 pub first_difference-requires-clause-sound : goal.first_difference-requires-clause-sound

@@ -3,7 +3,7 @@ use Rattle.std.specs.Prelude.{IfOk}
 use Rattle.lois_base.specs.Tree.{tree}
 use Rattle.lois_automata.specs.Machines.{IsAutomatonAt, IsDeterministicAt}
 use Rattle.lois_automata.specs.Throughout.{IsVerdictOn}
-use Rattle.lois_equal.specs.Comparing.{IsAnswerOf}
+use Rattle.lois_equal.specs.Comparing.{DecidesDeterminism}
 use Rattle.lois_equal.proofs.CaseLines.{unfit_automaton, unfit_deterministic}
 use Rattle.lois_equal.proofs.comparing.is_deterministic.Goals as goal
 use Rattle.lois_equal.proofs.comparing.is_deterministic.Goals.{in-Fails-2, in-Holds-2}
@@ -22,6 +22,6 @@ returns-clause-answer g c =
     let t = tree c.args.t.now in
     let verdict = c.in_ok-check_deterministic.ensures.verdict in
     elim c.match-branch-5.branch [
-      | in-Fails-2 w ↦ subst (λ z. IfOk z (IsAnswerOf n u t)) (sym w.result-is) (unfit_deterministic n u t w.in-Fails-2.field-0.items (subst (λ z. IsVerdictOn n u (IsDeterministicAt t) z) w.in-Fails-2.is verdict))
-      | in-Holds-2 w ↦ subst (λ z. IfOk z (IsAnswerOf n u t)) (sym w.result-is) (subst (λ z. IsVerdictOn n u (IsDeterministicAt t) z) w.in-Holds-2.is verdict)
+      | in-Fails-2 w ↦ subst (λ z. IfOk z (DecidesDeterminism n u t)) (sym w.result-is) (unfit_deterministic n u t w.in-Fails-2.field-0.items (subst (λ z. IsVerdictOn n u (IsDeterministicAt t) z) w.in-Fails-2.is verdict))
+      | in-Holds-2 w ↦ subst (λ z. IfOk z (DecidesDeterminism n u t)) (sym w.result-is) (subst (λ z. IsVerdictOn n u (IsDeterministicAt t) z) w.in-Holds-2.is verdict)
     ]

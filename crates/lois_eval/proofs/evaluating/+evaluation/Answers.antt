@@ -23,8 +23,8 @@ use Rattle.lois_script.specs.declared.syntax.Expr.{Expr}
 use Rattle.lois_script.proofs.Views.{tree_Part, tree_Each, cond_Not, cond_True, cond_False, cond_Same, cond_Differ, cond_Below, cond_Member, cond_Included, cond_Empty}
 use Rattle.lois_eval.specs.Automata.{IsEmptiness, IsValueFault}
 use Rattle.lois_eval.specs.Checks.{IsDepthFault, IsSetFault}
-use Rattle.lois_eval.specs.Evaluated.{IsTermOf, AreTermsOf, IsConstraintOf, IsWithin}
-use Rattle.lois_eval.specs.Folded.{IsGathered, IsFoundInside, IsFaultInside}
+use Rattle.lois_eval.specs.Evaluated.{IsTermOf, AreTermsOf, IsConstraintOf, HasMembersOnlyWhereAdmitted}
+use Rattle.lois_eval.specs.Folded.{IsGatheredInside, IsFoundInside, IsFaultInside}
 use Rattle.lois_eval.specs.Forms.{each_from, joint, quantifier, two}
 use Rattle.lois_eval.specs.Made.{IsPartFault}
 use Rattle.lois_eval.specs.WellFormed.{IsWellFormedIn, IsWellFormed, AreWellFormed, CondIsWellFormed}
@@ -304,7 +304,7 @@ gathered-returns-clause-term g t c =
     let is = c.index-bindings-from.is in
     let t = term_tree c.in_ok-elements.elements in
     let ds = c.deref.result.now in
-    handed_same c.leave_loop_with_comps.result c.gathered_inside.result (λ r. IsGathered k.size (Makes (each_from item bs (i + 1) cond)) (IsWellFormed (each_from item bs (i + 1) cond)) ds (comps_of r)) (λ r. IsTermOf k (Makes (each_from item bs i cond)) (IsWellFormed (each_from item bs i cond)) (coll (comps_of r)))
+    handed_same c.leave_loop_with_comps.result c.gathered_inside.result (λ r. IsGatheredInside k.size (Makes (each_from item bs (i + 1) cond)) (IsWellFormed (each_from item bs (i + 1) cond)) ds (comps_of r)) (λ r. IsTermOf k (Makes (each_from item bs i cond)) (IsWellFormed (each_from item bs i cond)) (coll (comps_of r)))
     c.leave_loop_with_comps.ensures.ok c.gathered_inside.ensures.comps (λ r h. first_loop k item bs i b cond l is t c.in_ok-elements.ensures.term ds c.in_ok-inner.ensures.set (subst (AreEntered k b.name t) (sym c.deref.ensures.value) c.in_ok-inner.ensures.entered) (comps_of r) h)
 
 pub gathered-returns-clause-within : goal.gathered-returns-clause-within
@@ -319,7 +319,7 @@ gathered-returns-clause-within g t c =
     let is = c.index-bindings-from.is in
     let t = term_tree c.in_ok-elements.elements in
     let ds = c.deref.result.now in
-    handed_same c.leave_loop_with_comps.result c.gathered_inside.result (λ r. IsGathered k.size (Makes (each_from item bs (i + 1) cond)) (IsWellFormed (each_from item bs (i + 1) cond)) ds (comps_of r)) (λ r. IsWithin k (coll (comps_of r)))
+    handed_same c.leave_loop_with_comps.result c.gathered_inside.result (λ r. IsGatheredInside k.size (Makes (each_from item bs (i + 1) cond)) (IsWellFormed (each_from item bs (i + 1) cond)) ds (comps_of r)) (λ r. HasMembersOnlyWhereAdmitted k (coll (comps_of r)))
     c.leave_loop_with_comps.ensures.ok c.gathered_inside.ensures.comps (λ r h. first_within k item bs i b cond l is t c.in_ok-elements.ensures.term ds c.in_ok-inner.ensures.set (subst (AreEntered k b.name t) (sym c.deref.ensures.value) c.in_ok-inner.ensures.entered) (comps_of r) h)
 
 pub gathered-returns-clause-fault : goal.gathered-returns-clause-fault
@@ -420,7 +420,7 @@ gathered_inside-loop-context-preserved g t c =
     let longer : c.args.size ≤ d.size = subst (λ z. c.args.size ≤ z.size) (sym c.context-item.is) (c.requires.sizes i d c.loop-context-test.true) in
     record {
       comps =
-          subst (λ z. IsGathered c.args.size (Makes e) (IsWellFormed e) z (comps_of c.put_outward.new.comps)) (sym more)
+          subst (λ z. IsGatheredInside c.args.size (Makes e) (IsWellFormed e) z (comps_of c.put_outward.new.comps)) (sym more)
           (gathered_more c.args.size (Makes e) (IsWellFormed e) (makes_same e) (take i inner) c.loop-context.comps d c.in_ok-more.more c.put_outward.new.comps c.loop-context.invariant.comps longer c.in_ok-more.ensures.term c.in_ok-more.ensures.within c.in_ok-put_outward.ensures);
       asked = g.met.D.Oracle.reaches_then c.args.decider.now c.loop-context.decider c.gathered.new.decider c.loop-context.invariant.asked c.gathered.ensures.asked;
     }

@@ -3,7 +3,7 @@ use Rattle.lois_base.specs.Data.{comps_of}
 use Rattle.lois_meaning.specs.Expressions.{Makes, HasTruth}
 use Rattle.lois_script.specs.View.{tree, cond_tree, binding_tree, exprs_of, exprs_list, conds_of, conds_list}
 use Rattle.lois_eval.specs.Evaluated.{AreTermsOf, IsConstraintOf}
-use Rattle.lois_eval.specs.Folded.{IsGathered, IsFoundInside}
+use Rattle.lois_eval.specs.Folded.{IsGatheredInside, IsFoundInside}
 use Rattle.lois_eval.specs.Forms.{each_from, joint}
 use Rattle.lois_eval.specs.WellFormed.{IsWellFormed, AreWellFormed, CondIsWellFormed}
 use Rattle.lois_eval.proofs.Weights.{weight, weight_of_exprs, weight_of_binding, weight_of_cond, weight_of_conds, weight_from}
@@ -50,7 +50,7 @@ invariant-all_evaluated-loop-e g l =
 abbrev pub invariant-gathered_inside-loop-context : goal.invariant-gathered_inside-loop-context
 invariant-gathered_inside-loop-context g l =
     record {
-      comps : IsGathered l.size (Makes (each_from l.item l.bindings l.from l.condition)) (IsWellFormed (each_from l.item l.bindings l.from l.condition)) (take l.context-index l.inner) (comps_of l.comps);
+      comps : IsGatheredInside l.size (Makes (each_from l.item l.bindings l.from l.condition)) (IsWellFormed (each_from l.item l.bindings l.from l.condition)) (take l.context-index l.inner) (comps_of l.comps);
       asked : g.D.Oracle.reaches l.fn.decider l.decider;
     }
 

@@ -4,7 +4,7 @@ use Rattle.lois_automata.specs.Machines.{IsAutomatonAt}
 use Rattle.lois_automata.specs.Throughout.{IsVerdictOn}
 use Rattle.lois_answers.specs.declared.faults.FaultKind.TheVariants.{NotAutomaton}
 use Rattle.lois_meaning.specs.Faults.{IsNoAutomaton}
-use Rattle.lois_eval.specs.Automata.{IsFailed, IsValueFault}
+use Rattle.lois_eval.specs.Automata.{IsFailureOfVerdict, IsValueFault}
 use Rattle.lois_eval.specs.Throughout.{IfFault}
 use Rattle.lois_eval.proofs.Automata.{no_automaton, on_holds}
 use Rattle.lois_eval.proofs.FaultsAt.{if_fault}
@@ -20,5 +20,5 @@ returns-clause-fault g c =
     let k = c.args.context.now in
     let t = tree c.args.value.now in
     let v = c.in_ok-verdict.verdict in
-    let P = IsFailed v c.args.pos NotAutomaton in
+    let P = IsFailureOfVerdict v c.args.pos NotAutomaton in
     IfErr-weaker c.passed.result (λ s. IfFault s P) _ (λ s h. if_fault s P (IsValueFault k IsNoAutomaton t c.args.pos.offset) (no_automaton k t c.args.pos v c.in_ok-verdict.ensures.verdict) h) c.passed.ensures.fault

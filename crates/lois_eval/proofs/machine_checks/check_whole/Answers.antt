@@ -6,7 +6,7 @@ use Rattle.lois_automata.specs.Throughout.{HoldsThroughout, IsVerdictOn}
 use Rattle.lois_answers.specs.declared.faults.FaultKind.TheVariants.{NotDeterministic, NotComplete}
 use Rattle.lois_meaning.specs.Faults.{IsNoAutomaton, IsInvalidOperand}
 use Rattle.lois_script.specs.declared.syntax.Operation.TheVariants.{Minimise}
-use Rattle.lois_eval.specs.Automata.{IsFailed, IsValueFault}
+use Rattle.lois_eval.specs.Automata.{IsFailureOfVerdict, IsValueFault}
 use Rattle.lois_eval.specs.Throughout.{IfFault}
 use Rattle.lois_eval.proofs.Automata.{is_whole, not_deterministic, not_complete, value_fault_weaker, on_holds, on_weaker}
 use Rattle.lois_eval.proofs.FaultsAt.{if_fault}
@@ -26,7 +26,7 @@ returns-in_err-passed-clause-fault g c =
     let k = c.args.context.now in
     let t = tree c.args.value.now in
     let v = c.in_ok-single.single in
-    passed_on c.from_residual-in_err-passed.result c.in_err-passed.field-0.0 (IsFailed v c.args.pos NotDeterministic) (IsValueFault k (IsInvalidOperand Minimise) t c.args.pos.offset) c.from_residual-in_err-passed.ensures.1
+    passed_on c.from_residual-in_err-passed.result c.in_err-passed.field-0.0 (IsFailureOfVerdict v c.args.pos NotDeterministic) (IsValueFault k (IsInvalidOperand Minimise) t c.args.pos.offset) c.from_residual-in_err-passed.ensures.1
     (not_deterministic k t c.in_ok-check_machine.ensures.automaton c.args.pos v c.in_ok-single.ensures.verdict) c.in_err-passed.ensures.fault
 
 pub returns-clause-whole : goal.returns-clause-whole
@@ -42,6 +42,6 @@ returns-clause-fault g c =
     let k = c.args.context.now in
     let t = tree c.args.value.now in
     let v = c.in_ok-total.total in
-    let P = IsFailed v c.args.pos NotComplete in
+    let P = IsFailureOfVerdict v c.args.pos NotComplete in
     let single = subst (IsVerdictOn k.size k.«when» (IsDeterministicAt t)) c.in_ok-passed.ensures.holds c.in_ok-single.ensures.verdict in
     IfErr-weaker c.passed-2.result (λ s. IfFault s P) _ (λ s h. if_fault s P (IsValueFault k (IsInvalidOperand Minimise) t c.args.pos.offset) (not_complete k t single c.args.pos v c.in_ok-total.ensures.verdict) h) c.passed-2.ensures.fault

@@ -8,7 +8,7 @@ use Rattle.lois_meaning.specs.Faults.{IsInvalidOperand}
 use Rattle.lois_meaning.specs.declared.faults.Fault.{Fault}
 use Rattle.lois_script.specs.View.{tree, exprs_of, exprs_list}
 use Rattle.lois_script.specs.declared.syntax.Operation.TheVariants.{Product}
-use Rattle.lois_eval.specs.Automata.{IsMadeOf, IsValueFault}
+use Rattle.lois_eval.specs.Automata.{IsOperationResult, IsValueFault}
 use Rattle.lois_eval.specs.Operands.{IsUnfitFault}
 use Rattle.lois_eval.specs.WellFormed.{arity}
 use Rattle.lois_eval.specs.Throughout.{IfFault}
@@ -38,7 +38,7 @@ pub returns-in-Product-clause-made : goal.returns-in-Product-clause-made
 returns-in-Product-clause-made g c =
     let k = c.args.context.now in
     let us = term_tree c.two_terms.result.0.now ∷ term_tree c.two_terms.result.1.now ∷ [] in
-    IfOk-weaker c.product_of.result (λ r. IsMadeOf k Product us (term_tree r)) _ (λ r h. made_of k c.args.operation Product c.args.values.now us (term_tree r) c.in-Product.is c.two_terms.ensures h) c.product_of.ensures.made
+    IfOk-weaker c.product_of.result (λ r. IsOperationResult k Product us (term_tree r)) _ (λ r h. made_of k c.args.operation Product c.args.values.now us (term_tree r) c.in-Product.is c.two_terms.ensures h) c.product_of.ensures.made
 
 pub returns-in-Product-clause-fault : goal.returns-in-Product-clause-fault
 returns-in-Product-clause-fault g c =
@@ -75,8 +75,8 @@ pub returns-in_default-clause-made : goal.returns-in_default-clause-made
 returns-in_default-clause-made g c =
     let k = c.args.context.now in
     let us = term_tree c.one_term.result.now ∷ [] in
-    IfOk-weaker c.of_one.result (λ r. IsMadeOf k c.args.operation us (term_tree r)) _
-    (λ r h. subst (λ z. IsMadeOf k c.args.operation z (term_tree r)) (sym c.one_term.ensures) h) c.of_one.ensures.made
+    IfOk-weaker c.of_one.result (λ r. IsOperationResult k c.args.operation us (term_tree r)) _
+    (λ r h. subst (λ z. IsOperationResult k c.args.operation z (term_tree r)) (sym c.one_term.ensures) h) c.of_one.ensures.made
 
 pub returns-in_default-clause-fault : goal.returns-in_default-clause-fault
 returns-in_default-clause-fault g c =

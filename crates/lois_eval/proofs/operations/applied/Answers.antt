@@ -7,7 +7,7 @@ use Rattle.lois_base.specs.Validity.{AdmitsTerm, AdmitsParts, HasBoundedWidths, 
 use Rattle.lois_meaning.specs.declared.faults.Fault.{Fault}
 use Rattle.lois_script.specs.View.{tree, exprs_of, exprs_list}
 use Rattle.lois_script.specs.declared.syntax.Operation.TheVariants.{Flatten}
-use Rattle.lois_eval.specs.Automata.{IsMadeOf}
+use Rattle.lois_eval.specs.Automata.{IsOperationResult}
 use Rattle.lois_eval.specs.Checks.{IsSetFault}
 use Rattle.lois_eval.specs.Operands.{IsOfTwoSets, IsAppliedThroughout, IsUnfitFault, IsMemberFault}
 use Rattle.lois_eval.specs.WellFormed.{arity}
@@ -104,16 +104,16 @@ apply-requires-clause-operands g c = record {
 
 pub returns-in_default-clause-applied : goal.returns-in_default-clause-applied
 returns-in_default-clause-applied g c =
-    IfOk-weaker c.apply.result (λ r. IsMadeOf c.args.context.now c.args.operation c.args.values.now (term_tree r)) _ (λ r h. h.applied) c.apply.ensures.made
+    IfOk-weaker c.apply.result (λ r. IsOperationResult c.args.context.now c.args.operation c.args.values.now (term_tree r)) _ (λ r h. h.applied) c.apply.ensures.made
 
 pub returns-in_default-clause-levels : goal.returns-in_default-clause-levels
 returns-in_default-clause-levels g c =
-    IfOk-weaker c.apply.result (λ r. IsMadeOf c.args.context.now c.args.operation c.args.values.now (term_tree r)) _ (λ r h. h.levels) c.apply.ensures.made
+    IfOk-weaker c.apply.result (λ r. IsOperationResult c.args.context.now c.args.operation c.args.values.now (term_tree r)) _ (λ r h. h.levels) c.apply.ensures.made
 
 pub returns-in_default-clause-operators : goal.returns-in_default-clause-operators
 returns-in_default-clause-operators g c =
-    IfOk-weaker c.apply.result (λ r. IsMadeOf c.args.context.now c.args.operation c.args.values.now (term_tree r)) _ (λ r h. h.operators) c.apply.ensures.made
+    IfOk-weaker c.apply.result (λ r. IsOperationResult c.args.context.now c.args.operation c.args.values.now (term_tree r)) _ (λ r h. h.operators) c.apply.ensures.made
 
 pub returns-in_default-clause-widths : goal.returns-in_default-clause-widths
 returns-in_default-clause-widths g c =
-    IfOk-weaker c.apply.result (λ r. IsMadeOf c.args.context.now c.args.operation c.args.values.now (term_tree r)) _ (λ r h. h.widths) c.apply.ensures.made
+    IfOk-weaker c.apply.result (λ r. IsOperationResult c.args.context.now c.args.operation c.args.values.now (term_tree r)) _ (λ r h. h.widths) c.apply.ensures.made

@@ -1,6 +1,6 @@
 use Rattle.lois_base.specs.Tree.{tree as term_tree}
 use Rattle.lois_script.specs.View.{tree}
-use Rattle.lois_interp.proofs.EnterGlue.{entered_all}
+use Rattle.lois_interp.proofs.EnteredMembers.{entered_all}
 use Rattle.lois_interp.proofs.elements.enter_members.Goals as goal
 
 pub returns-clause-entered : goal.returns-clause-entered

@@ -20,7 +20,7 @@ use Rattle.lois_interp.specs.Members.{IsExtended}
 use Rattle.lois_interp.specs.Reached.{RunsAs}
 use Rattle.lois_interp.specs.Run.{stmt_run}
 use Rattle.lois_interp.proofs.Extended.{slot_held, set_fits, set_from, set_admits, set_widths, set_joined, admitted_there, depth_fault_there}
-use Rattle.lois_interp.proofs.LeafGlue.{add_set, add_named, add_fails, add_no_set, add_too_deep}
+use Rattle.lois_interp.proofs.LeafContexts.{add_set, add_named, add_fails, add_no_set, add_too_deep}
 use Rattle.lois_interp.proofs.LeafRuns.{add_runs}
 use Rattle.lois_interp.proofs.leaves.run_add.Goals as goal
 

@@ -14,7 +14,7 @@ use Rattle.lois_eval.specs.Checks.{IsFaultWith}
 use Rattle.lois_interp.specs.Failed.{FailsWithin}
 use Rattle.lois_interp.specs.Reached.{RunsAs}
 use Rattle.lois_interp.specs.Run.{stmt_run}
-use Rattle.lois_interp.proofs.LeafGlue.{assert_cond, assert_fails, assertion_fails}
+use Rattle.lois_interp.proofs.LeafContexts.{assert_cond, assert_fails, assertion_fails}
 use Rattle.lois_interp.proofs.LeafRuns.{assert_runs}
 use Rattle.lois_interp.proofs.leaves.run_assert.Goals as goal
 

@@ -13,7 +13,7 @@ use Rattle.lois_interp.specs.Failed.{FailsWithin}
 use Rattle.lois_interp.specs.Leaves.{IsWithStore}
 use Rattle.lois_interp.specs.Reached.{RunsAs}
 use Rattle.lois_interp.specs.Run.{stmt_run}
-use Rattle.lois_interp.proofs.LeafGlue.{assign_set, assign_named, assign_fails}
+use Rattle.lois_interp.proofs.LeafContexts.{assign_set, assign_named, assign_fails}
 use Rattle.lois_interp.proofs.LeafRuns.{assign_runs}
 use Rattle.lois_interp.proofs.leaves.run_assign.Goals as goal
 

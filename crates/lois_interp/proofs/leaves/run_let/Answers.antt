@@ -11,7 +11,7 @@ use Rattle.lois_interp.specs.Failed.{FailsWithin}
 use Rattle.lois_interp.specs.Leaves.{IsWithStore}
 use Rattle.lois_interp.specs.Reached.{RunsAs}
 use Rattle.lois_interp.specs.Run.{stmt_run}
-use Rattle.lois_interp.proofs.LeafGlue.{let_set, let_new, let_fails}
+use Rattle.lois_interp.proofs.LeafContexts.{let_set, let_new, let_fails}
 use Rattle.lois_interp.proofs.LeafRuns.{let_runs}
 use Rattle.lois_interp.proofs.leaves.run_let.Goals as goal
 

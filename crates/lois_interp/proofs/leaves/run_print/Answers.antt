@@ -5,7 +5,7 @@ use Rattle.lois_script.specs.Tree.{print}
 use Rattle.lois_interp.specs.Looped.{Holds}
 use Rattle.lois_interp.specs.Reached.{RunsAs}
 use Rattle.lois_interp.specs.Run.{stmt_run}
-use Rattle.lois_interp.proofs.LeafGlue.{held_named, print_named}
+use Rattle.lois_interp.proofs.LeafContexts.{held_named, print_named}
 use Rattle.lois_interp.proofs.LeafRuns.{print_runs}
 use Rattle.lois_interp.proofs.Yielded.{held_fits}
 use Rattle.lois_interp.proofs.leaves.run_print.Goals as goal

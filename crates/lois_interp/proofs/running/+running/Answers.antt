@@ -17,7 +17,7 @@ use Rattle.lois_eval.specs.WellFormed.{IsWellFormedIn}
 use Rattle.lois_eval.specs.Throughout.{IsFaultOf, IfFault}
 use Rattle.lois_eval.proofs.FaultsAt.{if_fault}
 use Rattle.lois_eval.proofs.LoopExit.{item_there}
-use Rattle.lois_interp.specs.Decided.{listed, IsTrueSide}
+use Rattle.lois_interp.specs.Decided.{listed_context, IsTrueSide}
 use Rattle.lois_interp.specs.Elements.{SetFails}
 use Rattle.lois_interp.specs.Failed.{FailsWithin, FailsFrom}
 use Rattle.lois_interp.specs.Looped.{LoopRuns, FailsInside}
@@ -27,7 +27,7 @@ use Rattle.lois_interp.specs.WellScoped.{StmtIsWellScoped, BlockIsWellScoped, Tu
 use Rattle.lois_interp.specs.Turned.{Parts}
 use Rattle.lois_interp.proofs.Compose.{from_none, from_more, from_merged, from_apart, one_apart}
 use Rattle.lois_interp.proofs.Contents.{run_different}
-use Rattle.lois_interp.proofs.ForGlue.{set_placed, for_new, inside_may, inside_elements, for_fails_inside, for_ends, ends_admit, for_runs, for_fails_set}
+use Rattle.lois_interp.proofs.ForTurns.{set_placed, for_new, inside_may, inside_elements, for_fails_inside, for_ends, ends_admit, for_runs, for_fails_set}
 use Rattle.lois_interp.proofs.IfRuns.{if_placed, if_cond_fails, if_yes_fails, if_no_fails, if_may_yes, if_may_no, if_runs}
 use Rattle.lois_interp.proofs.Inside.{runs_none, runs_more, passing_runs, passing_none, cond_within, side_within}
 use Rattle.lois_interp.proofs.Sequence.{list_more, list_fails_at, list_none, may_at, block_cut}
@@ -375,13 +375,13 @@ pub run_if-returns-in-Err-run_side-clause-fault : goal.run_if-returns-in-Err-run
 run_if-returns-in-Err-run_side-clause-fault g t c =
     let k = c.args.context in let q = cond_tree c.args.condition.now in
     let a = stmts_of (stmts_list c.args.yes.now) in let b = stmts_of (stmts_list c.args.no.now) in
-    if_fault c.in-Err-run_side.stop (FailsFrom (block_run a) (listed c.in-Ok.sides.yes)) (FailsWithin (stmt_run ((if) q a b)) k) (λ f h. if_yes_fails q a b k c.in-Ok.sides f c.in-Ok.ensures.decided h) c.in-Err-run_side.ensures.fault
+    if_fault c.in-Err-run_side.stop (FailsFrom (block_run a) (listed_context c.in-Ok.sides.yes)) (FailsWithin (stmt_run ((if) q a b)) k) (λ f h. if_yes_fails q a b k c.in-Ok.sides f c.in-Ok.ensures.decided h) c.in-Err-run_side.ensures.fault
 
 pub run_if-returns-in-Err-run_side-2-clause-fault : goal.run_if-returns-in-Err-run_side-2-clause-fault
 run_if-returns-in-Err-run_side-2-clause-fault g t c =
     let k = c.args.context in let q = cond_tree c.args.condition.now in
     let a = stmts_of (stmts_list c.args.yes.now) in let b = stmts_of (stmts_list c.args.no.now) in
-    if_fault c.in-Err-run_side-2.stop (FailsFrom (block_run b) (listed c.in-Ok.sides.no)) (FailsWithin (stmt_run ((if) q a b)) k) (λ f h. if_no_fails q a b k c.in-Ok.sides f c.in-Ok.ensures.decided h) c.in-Err-run_side-2.ensures.fault
+    if_fault c.in-Err-run_side-2.stop (FailsFrom (block_run b) (listed_context c.in-Ok.sides.no)) (FailsWithin (stmt_run ((if) q a b)) k) (λ f h. if_no_fails q a b k c.in-Ok.sides f c.in-Ok.ensures.decided h) c.in-Err-run_side-2.ensures.fault
 
 pub run_if-returns-clause-runs : goal.run_if-returns-clause-runs
 run_if-returns-clause-runs g t c =
@@ -393,8 +393,8 @@ run_if-returns-clause-runs g t c =
 pub run_side-returns-in-Some-clause-fault : goal.run_side-returns-in-Some-clause-fault
 run_side-returns-in-Some-clause-fault g t c =
     let body = stmts_of (stmts_list c.args.body.now) in let k = c.in-Some.context in
-    err_weaker c.run_stmts.result (FailsWithin (block_run body) k) (FailsFrom (block_run body) (listed c.args.side))
-    (λ f h. subst (λ z. FailsFrom (block_run body) (listed z) f) (sym c.in-Some.is) (k, Contains-push [] k, h)) c.run_stmts.ensures.fault
+    err_weaker c.run_stmts.result (FailsWithin (block_run body) k) (FailsFrom (block_run body) (listed_context c.args.side))
+    (λ f h. subst (λ z. FailsFrom (block_run body) (listed_context z) f) (sym c.in-Some.is) (k, Contains-push [] k, h)) c.run_stmts.ensures.fault
 
 -- ---- one turn
 pub run_turn-loop-context-init : goal.run_turn-loop-context-init
@@ -436,7 +436,7 @@ run_turn-returns-in-Err-run_side-clause-fault g t c =
     let q = cond_tree c.args.condition.now in let body = stmts_of (stmts_list c.args.body.now) in
     let k = c.in-Some.context in
     let turn = YieldsList-turn (YieldsList-from_vec c.args.contexts.items (cc) (cc)) c.loop-context.yielded c.loop-context.context-iterator c.loop-context.yielded_by c.next.result c.next.new.self k c.in-Some.is c.next.ensures.steps in
-    if_fault c.in-Err-run_side.stop (FailsFrom (block_run body) (listed c.in-Ok.sides.yes)) (FailsFrom (turn_run q body) c.args.contexts.items)
+    if_fault c.in-Err-run_side.stop (FailsFrom (block_run body) (listed_context c.in-Ok.sides.yes)) (FailsFrom (turn_run q body) c.args.contexts.items)
     (λ f h. (k, item_there c.args.contexts.items (length c.loop-context.yielded) k turn.0 turn.1, turn_body_fails q body k c.in-Ok.sides f c.in-Ok.ensures.decided h)) c.in-Err-run_side.ensures.fault
 
 pub run_turn-loop-context-preserved : goal.run_turn-loop-context-preserved
@@ -447,11 +447,11 @@ run_turn-loop-context-preserved g t c =
     let more = c.in-Ok-run_side.more.items in
     let P = Parts (leave_run 0 q) (turn_run q body) (TurnIsWellScoped q body) (c.loop-context.yielded ++ k ∷ []) in
     let one = turn_parts q body k sides more c.in-Ok.ensures.decided c.in-Ok-run_side.ensures.runs in
-    let both = parts_more (leave_run 0 q) (turn_run q body) (TurnIsWellScoped q body) c.loop-context.yielded c.loop-context.left.items c.loop-context.going.items (k ∷ []) (listed sides.no) more c.loop-context.invariant.parts one in
+    let both = parts_more (leave_run 0 q) (turn_run q body) (TurnIsWellScoped q body) c.loop-context.yielded c.loop-context.left.items c.loop-context.going.items (k ∷ []) (listed_context sides.no) more c.loop-context.invariant.parts one in
     record {
       can_next = tt;
       is_finite = tt;
-      parts = subst (λ z. P z c.append.new.contexts.items) (sym c.in_ok-put.ensures) (subst (P (c.loop-context.left.items ++ listed sides.no)) (sym c.in_ok-append-in-Ok-run_side.ensures) both);
+      parts = subst (λ z. P z c.append.new.contexts.items) (sym c.in_ok-put.ensures) (subst (P (c.loop-context.left.items ++ listed_context sides.no)) (sym c.in_ok-append-in-Ok-run_side.ensures) both);
       asked = g.met.S.Oracle.reaches_then c.args.steps.now c.loop-context.steps c.run_side.new.steps c.loop-context.invariant.asked (g.met.S.Oracle.reaches_then c.loop-context.steps c.sides.new.self c.run_side.new.steps c.sides.ensures.asked c.run_side.ensures.asked);
     }
 

@@ -1,5 +1,5 @@
 use Rattle.lois_script.specs.View.{cond_tree}
-use Rattle.lois_interp.proofs.SidesGlue.{decided_sides}
+use Rattle.lois_interp.proofs.SplitSides.{decided_sides}
 use Rattle.lois_interp.proofs.sides.sides_of.Goals as goal
 
 pub returns-clause-decided : goal.returns-clause-decided

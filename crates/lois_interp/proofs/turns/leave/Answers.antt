@@ -8,7 +8,7 @@ use Rattle.lois_eval.specs.Checks.{IsFaultWith}
 use Rattle.lois_eval.proofs.FaultsAt.{if_fault}
 use Rattle.lois_eval.proofs.LoopExit.{passed_on}
 use Rattle.lois_eval.specs.Checks.{IsFaultWith}
-use Rattle.lois_interp.specs.Decided.{listed, IsTrueSide}
+use Rattle.lois_interp.specs.Decided.{listed_context, IsTrueSide}
 use Rattle.lois_interp.specs.Failed.{FailsWithin}
 use Rattle.lois_interp.specs.Reached.{RunsAs}
 use Rattle.lois_interp.specs.Run.{leave_run}
@@ -34,4 +34,4 @@ pub returns-in_ok-put-in-None-clause-runs : goal.returns-in_ok-put-in-None-claus
 returns-in_ok-put-in-None-clause-runs g c =
     let k = c.args.context in let q = cond_tree c.args.condition.now in let p = c.args.pos.offset in
     let sides = c.in_ok-sides.sides in
-    subst (RunsAs (leave_run p q) k) (sym (c.in_ok-put-in-None.ensures ∙ ap (λ z. z ++ listed sides.no) c.new-left.ensures.items)) (leave_runs q no_stmts k p sides c.in_ok-sides.ensures.decided c.in-None.is)
+    subst (RunsAs (leave_run p q) k) (sym (c.in_ok-put-in-None.ensures ∙ ap (λ z. z ++ listed_context sides.no) c.new-left.ensures.items)) (leave_runs q no_stmts k p sides c.in_ok-sides.ensures.decided c.in-None.is)

@@ -8,7 +8,7 @@ use Rattle.lois_automata.proofs.Adding.{added_members}
 use Rattle.lois_automata.proofs.Loops.{AddsOnes, ones_begin, ones_more, ones_end}
 use Rattle.lois_minimise.specs.Classes.{IsInFirstPart, IsInSecondPart}
 use Rattle.lois_minimise.proofs.Covering.{covers_begin, covers_more, covers_end}
-use Rattle.lois_minimise.proofs.SharedSets.{are_shared, still_shared}
+use Rattle.lois_minimise.proofs.Partitioned.{are_shared, still_shared}
 use Rattle.lois_minimise.proofs.partitioning.partition_by.Goals as goal
 
 pub partition_comp-requires-clause-levels : goal.partition_comp-requires-clause-levels

@@ -3,7 +3,7 @@ use Rattle.std.proofs.lemmas.Result.{IfOk-weaker}
 use Rattle.lois_base.specs.Data.{comp, comps_of}
 use Rattle.lois_base.specs.Tree.{tree}
 use Rattle.lois_algebra.specs.Gathered.{IsPut}
-use Rattle.lois_minimise.proofs.SharedSets.{adds_share}
+use Rattle.lois_minimise.proofs.Partitioned.{adds_share}
 use Rattle.lois_minimise.proofs.partitioning.partition_comp.Goals as goal
 
 pub returns : goal.returns

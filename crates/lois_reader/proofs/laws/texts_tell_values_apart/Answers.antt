@@ -1,4 +1,4 @@
-use Rattle.lois_reader.proofs.Told.{results_are_told, answers_are_told}
+use Rattle.lois_reader.proofs.Determined.{results_are_told, answers_are_told}
 use Rattle.lois_reader.proofs.laws.texts_tell_values_apart.Goals as goal
 
 pub returns-clause-results : goal.returns-clause-results

@@ -2,7 +2,7 @@ use Rattle.std.proofs.Common.{◌≡◌, [], ◌∷◌, ◌++◌, length, map, s
 use Rattle.std.specs.List.{All, flat_map}
 use Rattle.std.proofs.lemmas.List.{length_push, map_push}
 use Rattle.std.proofs.lemmas.List.Elements.{All-push}
-use Rattle.lois_registers.specs.Texts.{spelled, step_words}
+use Rattle.lois_registers.specs.Texts.{text_of_words, step_words}
 use Rattle.lois_registers.specs.Valid.{IsRegStep}
 use Rattle.lois_registers.proofs.Stops.{front_one}
 use Rattle.lois_registers.proofs.reading.steps.Goals as goal
@@ -18,5 +18,5 @@ loop-step-preserved c =
     record {
       count = omega (arith, ap length same, length_push steps step, c.loop-step.invariant.count);
       valid = subst (All (IsRegStep c.args.frame.order c.args.frame.registers c.args.frame.states.now)) (sym same) valid;
-      read = read ∙ ap (λ z. flat_map spelled z ++ c.in-Ok.after.now) (sym (map_push step_words steps step) ∙ ap (map step_words) (sym same));
+      read = read ∙ ap (λ z. flat_map text_of_words z ++ c.in-Ok.after.now) (sym (map_push step_words steps step) ∙ ap (map step_words) (sym same));
     }

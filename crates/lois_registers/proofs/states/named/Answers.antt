@@ -2,7 +2,7 @@ use Rattle.std.proofs.Common.{◌≡◌, ◌∷◌, ◌++◌, true, map, refl, s
 use Rattle.std.specs.List.{All}
 use Rattle.std.proofs.lemmas.List.Elements.{All-map}
 use Rattle.lois_base.specs.Names.{IsName}
-use Rattle.lois_registers.specs.Texts.{spelled}
+use Rattle.lois_registers.specs.Texts.{text_of_words}
 use Rattle.lois_registers.proofs.Cuts.{named_only, left_weaker, err_left, behind_first, all_behind, with_first}
 use Rattle.lois_registers.proofs.states.named.Goals as goal
 use Rattle.lois_registers.proofs.states.named.Goals.{then-not-begins-via-then-not-begins, then-not-begins-via-else-not-begins+then-not-are_names}
@@ -33,7 +33,7 @@ returns-clause-read c =
     let m = (c.begins.ensures.some c.if-not-begins.false).1 in
     let whole = sym same ∙ with_first (λ w. w.now) c.as_slice-words.result.now c.args.first.now m c.in_ok-names_of.field-0 c.in_ok-names_of.ensures in (
       subst (All IsName) (sym c.in_ok-names_of.ensures) (All-map IsName (λ w. w.now) _ (c.are_names.ensures.0 c.if-not-are_names.false)),
-      subst (λ z. c.args.text.now ≡ spelled z ++ c.in_ok-words.rest.now) whole c.in_ok-words.ensures.read.1,
+      subst (λ z. c.args.text.now ≡ text_of_words z ++ c.in_ok-words.rest.now) whole c.in_ok-words.ensures.read.1,
     )
 
 pub returns-clause-only : goal.returns-clause-only

@@ -10,7 +10,7 @@ use Rattle.lois_base.specs.Validity.{AdmitsComp}
 use Rattle.lois_base.specs.Values.{SameAt, AllInAt}
 use Rattle.lois_relate.specs.Built.{Defines, IsBoth, IsForSome}
 use Rattle.lois_relate.specs.Compared.{IsForEach, DefinesPaired, DefinesFound, IsCached}
-use Rattle.lois_relate.specs.Named.{chosen, levels_from}
+use Rattle.lois_relate.specs.Named.{atoms_named, level_range}
 use Rattle.lois_relate.proofs.AlikeSame.{always_says, listed_each, sets_alike}
 use Rattle.lois_relate.proofs.Apart.{item_left_out, pair_left_out, pair_left_out_back}
 use Rattle.lois_relate.proofs.Binders.{one_says, none_says}
@@ -33,7 +33,7 @@ each_in-found_in-requires t c =
 pub each_in-none_missing-requires : goal.each_in-none_missing-requires
 each_in-none_missing-requires t c =
     let comp = c.args.comp.now in
-    let e : c.as_slice-2.result.now ≡ c.args.s_names.now ++ levels_from c.args.size comp.binders = c.as_slice-2.ensures.value ∙ c.in_ok-longer.ensures in
+    let e : c.as_slice-2.result.now ≡ c.args.s_names.now ++ level_range c.args.size comp.binders = c.as_slice-2.ensures.value ∙ c.in_ok-longer.ensures in
     guard_fits c.args.size comp.binders (c.args.size + comp.binders) refl c.args.s_names.now c.as_slice-2.result.now e comp.guard (tree comp.item) c.requires.left
 
 pub each_in-returns : goal.each_in-returns
@@ -43,7 +43,7 @@ each_in-returns t c =
     let sn = c.args.s_names.now in
     let tn = c.args.t_names.now in
     let names = c.as_slice-2.result.now in
-    let e : names ≡ sn ++ levels_from n comp.binders = c.as_slice-2.ensures.value ∙ c.in_ok-longer.ensures in
+    let e : names ≡ sn ++ level_range n comp.binders = c.as_slice-2.ensures.value ∙ c.in_ok-longer.ensures in
     let below = names_below n comp.binders (n + comp.binders) refl sn names e c.requires.left_names in
     let found = subst (λ z. DefinesFound n sn (comp_of comp) tn (comps_of z) (view c.in_ok-found.found)) c.as_slice.ensures c.in_ok-found.ensures in
     IfOk-weaker c.none_missing.result _ _ (λ r each. each_found n sn tn comp.binders comp.guard (tree comp.item) c.requires.left_names c.requires.right_names (comps_of c.args.others.now) (view c.in_ok-found.found) (view r) found (subst (λ z. IsForEach n comp.binders z comp.guard (view c.in_ok-found.found) (view r)) e (each n below found.levels))) c.none_missing.ensures
@@ -81,7 +81,7 @@ one_found-returns-then-leaves_out t c =
 pub one_found-is_item-requires : goal.one_found-is_item-requires
 one_found-is_item-requires t c =
     let comp = c.args.comp.now in
-    let e : c.as_slice-names.result.now ≡ c.args.s_names.now ++ levels_from c.args.size comp.binders = c.as_slice-names.ensures.value ∙ c.in_ok-longer.ensures in
+    let e : c.as_slice-names.result.now ≡ c.args.s_names.now ++ level_range c.args.size comp.binders = c.as_slice-names.ensures.value ∙ c.in_ok-longer.ensures in
     let fits = item_fits c.args.size comp.binders c.in_ok-inner.inner c.in_ok-inner.ensures c.args.s_names.now c.as_slice-names.result.now e comp.guard (tree comp.item) c.requires.left in
     let below = names_below c.args.size comp.binders c.in_ok-inner.inner c.in_ok-inner.ensures c.args.s_names.now c.as_slice-names.result.now e c.requires.left_names in
     let others = own_below_more c.args.size comp.binders c.in_ok-inner.inner c.args.t_names.now c.in_ok-inner.ensures c.requires.right_names in
@@ -90,7 +90,7 @@ one_found-is_item-requires t c =
 pub one_found-guard_formula-requires : goal.one_found-guard_formula-requires
 one_found-guard_formula-requires t c =
     let comp = c.args.comp.now in
-    let e : c.as_slice-names.result.now ≡ c.args.s_names.now ++ levels_from c.args.size comp.binders = c.as_slice-names.ensures.value ∙ c.in_ok-longer.ensures in
+    let e : c.as_slice-names.result.now ≡ c.args.s_names.now ++ level_range c.args.size comp.binders = c.as_slice-names.ensures.value ∙ c.in_ok-longer.ensures in
     guard_fits c.args.size comp.binders c.in_ok-inner.inner c.in_ok-inner.ensures c.args.s_names.now c.as_slice-names.result.now e comp.guard (tree comp.item) c.requires.left
 
 pub one_found-returns : goal.one_found-returns
@@ -98,7 +98,7 @@ one_found-returns t c =
     let comp = c.args.comp.now in
     let other = c.args.other.now in
     let names = c.as_slice-names.result.now in
-    let e : names ≡ c.args.s_names.now ++ levels_from c.args.size comp.binders = c.as_slice-names.ensures.value ∙ c.in_ok-longer.ensures in
+    let e : names ≡ c.args.s_names.now ++ level_range c.args.size comp.binders = c.as_slice-names.ensures.value ∙ c.in_ok-longer.ensures in
     let below = names_below c.args.size comp.binders c.in_ok-inner.inner c.in_ok-inner.ensures c.args.s_names.now names e c.requires.left_names in
     IfOk-weaker c.conjunction.result (λ r. IsBoth (view c.in_ok-guard_formula.field-0) (view c.in_ok-one.one) (view r)) _ (λ r both. guarded_item c.args.size c.args.s_names.now c.args.t_names.now comp.binders comp.guard (tree comp.item) c.in_ok-inner.inner c.in_ok-inner.ensures names e (comp_of other) (view c.in_ok-guard_formula.field-0) (view c.in_ok-one.one) (view r) (c.in_ok-guard_formula.ensures c.in_ok-inner.inner below) c.in_ok-one.ensures both) c.conjunction.ensures
 
@@ -116,19 +116,19 @@ included-loop-place-preserved t c =
     let items = c.as_slice-items.result.now in
     let i = c.loop-place.place in
     let k = is_comp_of items c.args.comps.now i c.index-items-place.result c.as_slice-items.ensures c.loop-place-test.true c.index-items-place.is in
-    all_go_on c.args.size _ _ _ _ _ _ (view c.loop-place.met) (view c.in_ok-one.one) (view c.in_ok-met.met) c.loop-place.invariant (λ a. all_in_split (comps_from items i) (comps_from items (i + 1)) (comp_of c.index-items-place.result) (comps_are items i c.index-items-place.result c.loop-place-test.true c.index-items-place.is) (chosen c.args.s_names.now a) (comps_of c.args.others.now) (chosen c.args.t_names.now a)) c.in_ok-one.ensures (λ o h. (k.admits o h.0, h.1)) c.in_ok-met.ensures
+    all_go_on c.args.size _ _ _ _ _ _ (view c.loop-place.met) (view c.in_ok-one.one) (view c.in_ok-met.met) c.loop-place.invariant (λ a. all_in_split (comps_from items i) (comps_from items (i + 1)) (comp_of c.index-items-place.result) (comps_are items i c.index-items-place.result c.loop-place-test.true c.index-items-place.is) (atoms_named c.args.s_names.now a) (comps_of c.args.others.now) (atoms_named c.args.t_names.now a)) c.in_ok-one.ensures (λ o h. (k.admits o h.0, h.1)) c.in_ok-met.ensures
 
 pub included-returns-then-is_false_formula : goal.included-returns-then-is_false_formula
 included-returns-then-is_false_formula t c =
     let items = c.as_slice-items.result.now in
     let i = c.loop-place.place in
     let k = is_comp_of items c.args.comps.now i c.index-items-place.result c.as_slice-items.ensures c.loop-place-test.true c.index-items-place.is in
-    all_cut c.args.size (λ a. AllInAt (comps_from items (i + 1)) (chosen c.args.s_names.now a) (comps_of c.args.others.now) (chosen c.args.t_names.now a)) _ _ (view c.in_ok-met.met) (c.is_false_formula.ensures.0 c.if-is_false_formula.true) (all_go_on c.args.size _ _ _ _ _ _ (view c.loop-place.met) (view c.in_ok-one.one) (view c.in_ok-met.met) c.loop-place.invariant (λ a. all_in_split (comps_from items i) (comps_from items (i + 1)) (comp_of c.index-items-place.result) (comps_are items i c.index-items-place.result c.loop-place-test.true c.index-items-place.is) (chosen c.args.s_names.now a) (comps_of c.args.others.now) (chosen c.args.t_names.now a)) c.in_ok-one.ensures (λ o h. (k.admits o h.0, h.1)) c.in_ok-met.ensures)
+    all_cut c.args.size (λ a. AllInAt (comps_from items (i + 1)) (atoms_named c.args.s_names.now a) (comps_of c.args.others.now) (atoms_named c.args.t_names.now a)) _ _ (view c.in_ok-met.met) (c.is_false_formula.ensures.0 c.if-is_false_formula.true) (all_go_on c.args.size _ _ _ _ _ _ (view c.loop-place.met) (view c.in_ok-one.one) (view c.in_ok-met.met) c.loop-place.invariant (λ a. all_in_split (comps_from items i) (comps_from items (i + 1)) (comp_of c.index-items-place.result) (comps_are items i c.index-items-place.result c.loop-place-test.true c.index-items-place.is) (atoms_named c.args.s_names.now a) (comps_of c.args.others.now) (atoms_named c.args.t_names.now a)) c.in_ok-one.ensures (λ o h. (k.admits o h.0, h.1)) c.in_ok-met.ensures)
 
 pub is_item-same-requires : goal.is_item-same-requires
 is_item-same-requires t c =
     let comp = c.args.comp.now in
-    let e : c.as_slice-names.result.now ≡ c.args.t_names.now ++ levels_from c.args.size comp.binders = c.as_slice-names.ensures.value ∙ c.in_ok-longer.ensures in
+    let e : c.as_slice-names.result.now ≡ c.args.t_names.now ++ level_range c.args.size comp.binders = c.as_slice-names.ensures.value ∙ c.in_ok-longer.ensures in
     let fits = item_fits c.args.size comp.binders c.in_ok-inner.inner c.in_ok-inner.ensures c.args.t_names.now c.as_slice-names.result.now e comp.guard (tree comp.item) c.requires.right in
     let below = names_below c.args.size comp.binders c.in_ok-inner.inner c.in_ok-inner.ensures c.args.t_names.now c.as_slice-names.result.now e c.requires.right_names in
     let own = own_below_more c.args.size comp.binders c.in_ok-inner.inner c.args.s_names.now c.in_ok-inner.ensures c.requires.left_names in
@@ -137,19 +137,19 @@ is_item-same-requires t c =
 pub is_item-guard_formula-requires : goal.is_item-guard_formula-requires
 is_item-guard_formula-requires t c =
     let comp = c.args.comp.now in
-    let e : c.as_slice-names.result.now ≡ c.args.t_names.now ++ levels_from c.args.size comp.binders = c.as_slice-names.ensures.value ∙ c.in_ok-longer.ensures in
+    let e : c.as_slice-names.result.now ≡ c.args.t_names.now ++ level_range c.args.size comp.binders = c.as_slice-names.ensures.value ∙ c.in_ok-longer.ensures in
     guard_fits c.args.size comp.binders c.in_ok-inner.inner c.in_ok-inner.ensures c.args.t_names.now c.as_slice-names.result.now e comp.guard (tree comp.item) c.requires.right
 
 pub is_item-returns-then-is_false_formula : goal.is_item-returns-then-is_false_formula
 is_item-returns-then-is_false_formula t c =
     let comp = c.args.comp.now in
-    let e : c.as_slice-names.result.now ≡ c.args.t_names.now ++ levels_from c.args.size comp.binders = c.as_slice-names.ensures.value ∙ c.in_ok-longer.ensures in
+    let e : c.as_slice-names.result.now ≡ c.args.t_names.now ++ level_range c.args.size comp.binders = c.as_slice-names.ensures.value ∙ c.in_ok-longer.ensures in
     none_says c.args.size comp.binders c.in_ok-inner.inner c.in_ok-inner.ensures c.args.s_names.now c.args.t_names.now c.as_slice-names.result.now e c.requires.left_names c.requires.right_names comp.guard (tree comp.item) (tree c.args.s.now) (view c.in_ok-equal.equal) (c.is_false_formula.ensures.0 c.if-is_false_formula.true) c.in_ok-equal.ensures
 
 pub is_item-returns : goal.is_item-returns
 is_item-returns t c =
     let comp = c.args.comp.now in
-    let e : c.as_slice-names.result.now ≡ c.args.t_names.now ++ levels_from c.args.size comp.binders = c.as_slice-names.ensures.value ∙ c.in_ok-longer.ensures in
+    let e : c.as_slice-names.result.now ≡ c.args.t_names.now ++ level_range c.args.size comp.binders = c.as_slice-names.ensures.value ∙ c.in_ok-longer.ensures in
     let below = names_below c.args.size comp.binders c.in_ok-inner.inner c.in_ok-inner.ensures c.args.t_names.now c.as_slice-names.result.now e c.requires.right_names in
     let guard = c.in_ok-guard.ensures c.in_ok-inner.inner below in
     IfOk-weaker c.for_some.result (λ r. IsForSome comp.binders (view c.in_ok-conjunction.field-0) (view r)) _ (λ r some. one_says c.args.size comp.binders c.in_ok-inner.inner c.in_ok-inner.ensures c.args.s_names.now c.args.t_names.now c.as_slice-names.result.now e c.requires.left_names c.requires.right_names comp.guard (tree comp.item) (tree c.args.s.now) (view c.in_ok-equal.equal) (view c.in_ok-guard.guard) (view c.in_ok-conjunction.field-0) (view r) c.in_ok-equal.ensures guard c.in_ok-conjunction.ensures some) c.for_some.ensures
@@ -180,7 +180,7 @@ same_parts-loop-i-preserved t c =
     let other : c.loop-i.i < length c.as_slice-partners.result.now = omega arith in
     let p = is_part_of parts c.args.terms.now i c.index-parts-i.result c.as_slice-parts.ensures c.loop-i-test.true c.index-parts-i.is in
     let q = is_part_of partners c.args.others.now i c.index-partners-i.result c.as_slice-partners.ensures other c.index-partners-i.is in
-    all_go_on c.args.size _ _ _ _ _ _ (view c.loop-i.met) (view c.in_ok-one.one) (view c.in_ok-met.met) c.loop-i.invariant (λ a. parts_split (terms_from parts i) (terms_from parts (i + 1)) (terms_from partners i) (terms_from partners (i + 1)) (tree c.index-parts-i.result) (tree c.index-partners-i.result) (terms_are parts i c.index-parts-i.result c.loop-i-test.true c.index-parts-i.is) (terms_are partners i c.index-partners-i.result other c.index-partners-i.is) (chosen c.args.s_names.now a) (chosen c.args.t_names.now a)) c.in_ok-one.ensures (λ o h. (p.admits o h.0, q.admits o h.1)) c.in_ok-met.ensures
+    all_go_on c.args.size _ _ _ _ _ _ (view c.loop-i.met) (view c.in_ok-one.one) (view c.in_ok-met.met) c.loop-i.invariant (λ a. parts_split (terms_from parts i) (terms_from parts (i + 1)) (terms_from partners i) (terms_from partners (i + 1)) (tree c.index-parts-i.result) (tree c.index-partners-i.result) (terms_are parts i c.index-parts-i.result c.loop-i-test.true c.index-parts-i.is) (terms_are partners i c.index-partners-i.result other c.index-partners-i.is) (atoms_named c.args.s_names.now a) (atoms_named c.args.t_names.now a)) c.in_ok-one.ensures (λ o h. (p.admits o h.0, q.admits o h.1)) c.in_ok-met.ensures
 
 pub same_sets-returns : goal.same_sets-returns
 same_sets-returns t c =
@@ -196,7 +196,7 @@ same_sets-returns-then-sets_match t c =
 
 pub same_sets-returns-in-Some-single : goal.same_sets-returns-in-Some-single
 same_sets-returns-in-Some-single t c =
-    IfOk-weaker c.same_singles.result (λ r. Defines c.args.size (λ a. SameAt (coll (more (comp_of c.in-Some.one.now) no_comps)) (chosen c.args.s_names.now a) (coll (more (comp_of c.in-Some-single.other.now) no_comps)) (chosen c.args.t_names.now a)) (λ o. AdmitsComp o (comp_of c.in-Some.one.now) × AdmitsComp o (comp_of c.in-Some-single.other.now)) (view r)) _ (λ r says. singles_sets c.args.size c.args.s_names.now c.args.t_names.now c.args.comps.now c.args.others.now (comp_of c.in-Some.one.now) (comp_of c.in-Some-single.other.now) (view r) c.in-Some.ensures.some.0 c.in-Some-single.ensures.some.0 says) c.same_singles.ensures
+    IfOk-weaker c.same_singles.result (λ r. Defines c.args.size (λ a. SameAt (coll (more (comp_of c.in-Some.one.now) no_comps)) (atoms_named c.args.s_names.now a) (coll (more (comp_of c.in-Some-single.other.now) no_comps)) (atoms_named c.args.t_names.now a)) (λ o. AdmitsComp o (comp_of c.in-Some.one.now) × AdmitsComp o (comp_of c.in-Some-single.other.now)) (view r)) _ (λ r says. singles_sets c.args.size c.args.s_names.now c.args.t_names.now c.args.comps.now c.args.others.now (comp_of c.in-Some.one.now) (comp_of c.in-Some-single.other.now) (view r) c.in-Some.ensures.some.0 c.in-Some-single.ensures.some.0 says) c.same_singles.ensures
 
 pub same_singles-returns : goal.same_singles-returns
 same_singles-returns t c =
@@ -221,7 +221,7 @@ sets_compared-loop-comp-preserved t c =
     let at = item_got items c.args.comps.now i c.comp-item.result c.as_slice-comp-items.ensures c.loop-comp-test.true c.comp-item.is in
     let old = c.loop-comp.rows.items in
     let more = mapped_pushed views old c.push.new.self.items _ c.in_ok-push.ensures.items in (
-      all_go_on c.args.size _ _ _ _ _ _ (view c.loop-comp.met) _ (view c.in_ok-met.met) c.loop-comp.invariant.0 (λ a. all_in_split (comps_from items i) (comps_from items (i + 1)) (comp_of c.comp-item.result) (comps_are items i c.comp-item.result c.loop-comp-test.true c.comp-item.is) (chosen c.args.s_names.now a) (comps_of c.args.others.now) (chosen c.args.t_names.now a)) c.in_ok-there.ensures.there (λ o h. (k.admits o h.0, h.1)) c.in_ok-met.ensures,
+      all_go_on c.args.size _ _ _ _ _ _ (view c.loop-comp.met) _ (view c.in_ok-met.met) c.loop-comp.invariant.0 (λ a. all_in_split (comps_from items i) (comps_from items (i + 1)) (comp_of c.comp-item.result) (comps_are items i c.comp-item.result c.loop-comp-test.true c.comp-item.is) (atoms_named c.args.s_names.now a) (comps_of c.args.others.now) (atoms_named c.args.t_names.now a)) c.in_ok-there.ensures.there (λ o h. (k.admits o h.0, h.1)) c.in_ok-met.ensures,
       one_longer (map views old) _ (map views c.push.new.self.items) i c.loop-comp.invariant.1 more,
       rows_more c.args.size c.args.comps.now c.args.s_names.now c.args.others.now c.args.t_names.now (map views old) (map views c.push.new.self.items) i (comp_of c.comp-item.result) _ c.loop-comp.invariant.2 c.loop-comp.invariant.1 at more c.in_ok-there.ensures.pairs,
     )
@@ -231,7 +231,7 @@ sets_compared-returns-then-is_false_formula-clause-included t c =
     let items = c.as_slice-comp-items.result.now in
     let i = c.loop-comp.comp-index in
     let k = is_comp_of items c.args.comps.now i c.comp-item.result c.as_slice-comp-items.ensures c.loop-comp-test.true c.comp-item.is in
-    all_cut c.args.size (λ a. AllInAt (comps_from items (i + 1)) (chosen c.args.s_names.now a) (comps_of c.args.others.now) (chosen c.args.t_names.now a)) _ _ (view c.in_ok-met.met) (c.is_false_formula.ensures.0 c.if-is_false_formula.true) (all_go_on c.args.size _ _ _ _ _ _ (view c.loop-comp.met) _ (view c.in_ok-met.met) c.loop-comp.invariant.0 (λ a. all_in_split (comps_from items i) (comps_from items (i + 1)) (comp_of c.comp-item.result) (comps_are items i c.comp-item.result c.loop-comp-test.true c.comp-item.is) (chosen c.args.s_names.now a) (comps_of c.args.others.now) (chosen c.args.t_names.now a)) c.in_ok-there.ensures.there (λ o h. (k.admits o h.0, h.1)) c.in_ok-met.ensures)
+    all_cut c.args.size (λ a. AllInAt (comps_from items (i + 1)) (atoms_named c.args.s_names.now a) (comps_of c.args.others.now) (atoms_named c.args.t_names.now a)) _ _ (view c.in_ok-met.met) (c.is_false_formula.ensures.0 c.if-is_false_formula.true) (all_go_on c.args.size _ _ _ _ _ _ (view c.loop-comp.met) _ (view c.in_ok-met.met) c.loop-comp.invariant.0 (λ a. all_in_split (comps_from items i) (comps_from items (i + 1)) (comp_of c.comp-item.result) (comps_are items i c.comp-item.result c.loop-comp-test.true c.comp-item.is) (atoms_named c.args.s_names.now a) (comps_of c.args.others.now) (atoms_named c.args.t_names.now a)) c.in_ok-there.ensures.there (λ o h. (k.admits o h.0, h.1)) c.in_ok-met.ensures)
 
 pub sets_compared-returns-then-is_false_formula-clause-rows : goal.sets_compared-returns-then-is_false_formula-clause-rows
 sets_compared-returns-then-is_false_formula-clause-rows t c =
@@ -249,7 +249,7 @@ each_compared-returns-then-is_listed-clause-there t c =
 pub each_compared-none_missing-requires : goal.each_compared-none_missing-requires
 each_compared-none_missing-requires t c =
     let comp = c.args.comp.now in
-    let e : c.as_slice-2.result.now ≡ c.args.s_names.now ++ levels_from c.args.size comp.binders = c.as_slice-2.ensures.value ∙ c.in_ok-longer.ensures in
+    let e : c.as_slice-2.result.now ≡ c.args.s_names.now ++ level_range c.args.size comp.binders = c.as_slice-2.ensures.value ∙ c.in_ok-longer.ensures in
     guard_fits c.args.size comp.binders (c.args.size + comp.binders) refl c.args.s_names.now c.as_slice-2.result.now e comp.guard (tree comp.item) c.requires.left
 
 pub each_compared-returns-clause-there : goal.each_compared-returns-clause-there
@@ -259,7 +259,7 @@ each_compared-returns-clause-there t c =
     let sn = c.args.s_names.now in
     let tn = c.args.t_names.now in
     let names = c.as_slice-2.result.now in
-    let e : names ≡ sn ++ levels_from n comp.binders = c.as_slice-2.ensures.value ∙ c.in_ok-longer.ensures in
+    let e : names ≡ sn ++ level_range n comp.binders = c.as_slice-2.ensures.value ∙ c.in_ok-longer.ensures in
     let below = names_below n comp.binders (n + comp.binders) refl sn names e c.requires.left_names in
     let found = subst (λ z. DefinesFound n sn (comp_of comp) tn (comps_of z) (view c.in_ok-found.found.there)) c.as_slice.ensures c.in_ok-found.ensures.there in
     let each = c.in_ok-none_missing.ensures n below found.levels in
@@ -309,8 +309,8 @@ pair_compared-same-requires t c =
     let whole = c.in_ok-whole.whole in
     let left = c.as_slice-left.result.now in
     let right = c.as_slice-right.result.now in
-    let left_is : left ≡ c.args.s_names.now ++ levels_from n comp.binders = c.as_slice-left.ensures.value ∙ c.in_ok-own.ensures in
-    let right_is : right ≡ c.args.t_names.now ++ levels_from inner other.binders = c.as_slice-right.ensures.value ∙ c.in_ok-longer.ensures in
+    let left_is : left ≡ c.args.s_names.now ++ level_range n comp.binders = c.as_slice-left.ensures.value ∙ c.in_ok-own.ensures in
+    let right_is : right ≡ c.args.t_names.now ++ level_range inner other.binders = c.as_slice-right.ensures.value ∙ c.in_ok-longer.ensures in
     let left_fits = item_fits n comp.binders inner c.in_ok-inner.ensures c.args.s_names.now left left_is comp.guard (tree comp.item) c.requires.left in
     let right_fits = item_fits inner other.binders whole c.in_ok-whole.ensures c.args.t_names.now right right_is other.guard (tree other.item) c.requires.right in
     let left_below = own_below_more inner other.binders whole left c.in_ok-whole.ensures (names_below n comp.binders inner c.in_ok-inner.ensures c.args.s_names.now left left_is c.requires.left_names) in
@@ -321,14 +321,14 @@ pub pair_compared-guard_formula-requires : goal.pair_compared-guard_formula-requ
 pair_compared-guard_formula-requires t c =
     let comp = c.args.comp.now in
     let left = c.as_slice-left.result.now in
-    let left_is : left ≡ c.args.s_names.now ++ levels_from c.args.size comp.binders = c.as_slice-left.ensures.value ∙ c.in_ok-own.ensures in
+    let left_is : left ≡ c.args.s_names.now ++ level_range c.args.size comp.binders = c.as_slice-left.ensures.value ∙ c.in_ok-own.ensures in
     guard_fits c.args.size comp.binders c.in_ok-inner.inner c.in_ok-inner.ensures c.args.s_names.now left left_is comp.guard (tree comp.item) c.requires.left
 
 pub pair_compared-guard_formula-requires-2 : goal.pair_compared-guard_formula-requires-2
 pair_compared-guard_formula-requires-2 t c =
     let other = c.args.other.now in
     let right = c.as_slice-right.result.now in
-    let right_is : right ≡ c.args.t_names.now ++ levels_from c.in_ok-inner.inner other.binders = c.as_slice-right.ensures.value ∙ c.in_ok-longer.ensures in
+    let right_is : right ≡ c.args.t_names.now ++ level_range c.in_ok-inner.inner other.binders = c.as_slice-right.ensures.value ∙ c.in_ok-longer.ensures in
     guard_fits c.in_ok-inner.inner other.binders c.in_ok-whole.whole c.in_ok-whole.ensures c.args.t_names.now right right_is other.guard (tree other.item) c.requires.right
 
 pub pair_compared-both_ways-requires-clause-levels : goal.pair_compared-both_ways-requires-clause-levels
@@ -340,8 +340,8 @@ pair_compared-both_ways-requires-clause-levels t c =
     let whole = c.in_ok-whole.whole in
     let left = c.as_slice-left.result.now in
     let right = c.as_slice-right.result.now in
-    let left_is : left ≡ c.args.s_names.now ++ levels_from n comp.binders = c.as_slice-left.ensures.value ∙ c.in_ok-own.ensures in
-    let right_is : right ≡ c.args.t_names.now ++ levels_from inner other.binders = c.as_slice-right.ensures.value ∙ c.in_ok-longer.ensures in
+    let left_is : left ≡ c.args.s_names.now ++ level_range n comp.binders = c.as_slice-left.ensures.value ∙ c.in_ok-own.ensures in
+    let right_is : right ≡ c.args.t_names.now ++ level_range inner other.binders = c.as_slice-right.ensures.value ∙ c.in_ok-longer.ensures in
     let left_below = own_below_more inner other.binders whole left c.in_ok-whole.ensures (names_below n comp.binders inner c.in_ok-inner.ensures c.args.s_names.now left left_is c.requires.left_names) in
     let right_below = names_below inner other.binders whole c.in_ok-whole.ensures c.args.t_names.now right right_is (own_below_more n comp.binders inner c.args.t_names.now c.in_ok-inner.ensures c.requires.right_names) in
     let pair : DefinesPaired n c.args.s_names.now (comp_of comp) c.args.t_names.now (comp_of other) (view c.in_ok-paired.paired) = pair_says n comp.binders other.binders inner whole c.in_ok-inner.ensures c.in_ok-whole.ensures c.args.s_names.now c.args.t_names.now left right left_is right_is comp.guard other.guard (tree comp.item) (tree other.item) (view c.in_ok-guard.guard) (view c.in_ok-other_guard.other_guard) (view c.in_ok-there.there) (view c.in_ok-equal.equal) (view c.in_ok-paired.paired) (c.in_ok-guard.ensures whole left_below) (c.in_ok-other_guard.ensures whole right_below) c.in_ok-there.ensures c.in_ok-equal.ensures c.in_ok-paired.ensures in
@@ -356,8 +356,8 @@ pair_compared-returns-clause-forth t c =
     let whole = c.in_ok-whole.whole in
     let left = c.as_slice-left.result.now in
     let right = c.as_slice-right.result.now in
-    let left_is : left ≡ c.args.s_names.now ++ levels_from n comp.binders = c.as_slice-left.ensures.value ∙ c.in_ok-own.ensures in
-    let right_is : right ≡ c.args.t_names.now ++ levels_from inner other.binders = c.as_slice-right.ensures.value ∙ c.in_ok-longer.ensures in
+    let left_is : left ≡ c.args.s_names.now ++ level_range n comp.binders = c.as_slice-left.ensures.value ∙ c.in_ok-own.ensures in
+    let right_is : right ≡ c.args.t_names.now ++ level_range inner other.binders = c.as_slice-right.ensures.value ∙ c.in_ok-longer.ensures in
     let left_below = own_below_more inner other.binders whole left c.in_ok-whole.ensures (names_below n comp.binders inner c.in_ok-inner.ensures c.args.s_names.now left left_is c.requires.left_names) in
     let right_below = names_below inner other.binders whole c.in_ok-whole.ensures c.args.t_names.now right right_is (own_below_more n comp.binders inner c.args.t_names.now c.in_ok-inner.ensures c.requires.right_names) in
     let pair : DefinesPaired n c.args.s_names.now (comp_of comp) c.args.t_names.now (comp_of other) (view c.in_ok-paired.paired) = pair_says n comp.binders other.binders inner whole c.in_ok-inner.ensures c.in_ok-whole.ensures c.args.s_names.now c.args.t_names.now left right left_is right_is comp.guard other.guard (tree comp.item) (tree other.item) (view c.in_ok-guard.guard) (view c.in_ok-other_guard.other_guard) (view c.in_ok-there.there) (view c.in_ok-equal.equal) (view c.in_ok-paired.paired) (c.in_ok-guard.ensures whole left_below) (c.in_ok-other_guard.ensures whole right_below) c.in_ok-there.ensures c.in_ok-equal.ensures c.in_ok-paired.ensures in
@@ -372,8 +372,8 @@ pair_compared-returns-clause-back t c =
     let whole = c.in_ok-whole.whole in
     let left = c.as_slice-left.result.now in
     let right = c.as_slice-right.result.now in
-    let left_is : left ≡ c.args.s_names.now ++ levels_from n comp.binders = c.as_slice-left.ensures.value ∙ c.in_ok-own.ensures in
-    let right_is : right ≡ c.args.t_names.now ++ levels_from inner other.binders = c.as_slice-right.ensures.value ∙ c.in_ok-longer.ensures in
+    let left_is : left ≡ c.args.s_names.now ++ level_range n comp.binders = c.as_slice-left.ensures.value ∙ c.in_ok-own.ensures in
+    let right_is : right ≡ c.args.t_names.now ++ level_range inner other.binders = c.as_slice-right.ensures.value ∙ c.in_ok-longer.ensures in
     let left_below = own_below_more inner other.binders whole left c.in_ok-whole.ensures (names_below n comp.binders inner c.in_ok-inner.ensures c.args.s_names.now left left_is c.requires.left_names) in
     let right_below = names_below inner other.binders whole c.in_ok-whole.ensures c.args.t_names.now right right_is (own_below_more n comp.binders inner c.args.t_names.now c.in_ok-inner.ensures c.requires.right_names) in
     let pair : DefinesPaired n c.args.s_names.now (comp_of comp) c.args.t_names.now (comp_of other) (view c.in_ok-paired.paired) = pair_says n comp.binders other.binders inner whole c.in_ok-inner.ensures c.in_ok-whole.ensures c.args.s_names.now c.args.t_names.now left right left_is right_is comp.guard other.guard (tree comp.item) (tree other.item) (view c.in_ok-guard.guard) (view c.in_ok-other_guard.other_guard) (view c.in_ok-there.there) (view c.in_ok-equal.equal) (view c.in_ok-paired.paired) (c.in_ok-guard.ensures whole left_below) (c.in_ok-other_guard.ensures whole right_below) c.in_ok-there.ensures c.in_ok-equal.ensures c.in_ok-paired.ensures in

@@ -5,7 +5,7 @@ use Rattle.lois_base.specs.Tree.{tree, comp_of}
 use Rattle.lois_base.specs.Validity.{AdmitsParts, AdmitsItems}
 use Rattle.lois_base.specs.Values.{SamePartsAt, AllInAt}
 use Rattle.lois_relate.specs.Compared.{IsRow, AreRows}
-use Rattle.lois_relate.specs.Named.{chosen}
+use Rattle.lois_relate.specs.Named.{atoms_named}
 use Rattle.lois_relate.proofs.Loops.{AllSoFar}
 use Rattle.lois_relate.proofs.Pairs.{FoundSoFar}
 use Rattle.lois_relate.proofs.Parts.{terms_from, comps_from}
@@ -53,11 +53,11 @@ decreases-is_item l = 8 * (depth (tree l.s.now) + depth (tree l.comp.now.item)) 
 
 abbrev pub invariant-same_parts-loop-i : goal.invariant-same_parts-loop-i
 invariant-same_parts-loop-i l =
-    AllSoFar l.size (λ c. SamePartsAt (terms_from l.parts l.i) (chosen l.s_names c) (terms_from l.partners l.i) (chosen l.t_names c)) (λ c. SamePartsAt (terms_of l.terms) (chosen l.s_names c) (terms_of l.others) (chosen l.t_names c)) (λ o. AdmitsParts o (terms_of l.terms) × AdmitsParts o (terms_of l.others)) (view l.met)
+    AllSoFar l.size (λ c. SamePartsAt (terms_from l.parts l.i) (atoms_named l.s_names c) (terms_from l.partners l.i) (atoms_named l.t_names c)) (λ c. SamePartsAt (terms_of l.terms) (atoms_named l.s_names c) (terms_of l.others) (atoms_named l.t_names c)) (λ o. AdmitsParts o (terms_of l.terms) × AdmitsParts o (terms_of l.others)) (view l.met)
 
 abbrev pub invariant-included-loop-place : goal.invariant-included-loop-place
 invariant-included-loop-place l =
-    AllSoFar l.size (λ c. AllInAt (comps_from l.items l.place) (chosen l.s_names c) (comps_of l.others) (chosen l.t_names c)) (λ c. AllInAt (comps_of l.comps) (chosen l.s_names c) (comps_of l.others) (chosen l.t_names c)) (λ o. AdmitsItems o (comps_of l.comps) × AdmitsItems o (comps_of l.others)) (view l.met)
+    AllSoFar l.size (λ c. AllInAt (comps_from l.items l.place) (atoms_named l.s_names c) (comps_of l.others) (atoms_named l.t_names c)) (λ c. AllInAt (comps_of l.comps) (atoms_named l.s_names c) (comps_of l.others) (atoms_named l.t_names c)) (λ o. AdmitsItems o (comps_of l.comps) × AdmitsItems o (comps_of l.others)) (view l.met)
 
 abbrev pub invariant-found_in-loop-i : goal.invariant-found_in-loop-i
 invariant-found_in-loop-i l =
@@ -69,4 +69,4 @@ invariant-item_compared-loop-other l =
 
 abbrev pub invariant-sets_compared-loop-comp : goal.invariant-sets_compared-loop-comp
 invariant-sets_compared-loop-comp l =
-    AllSoFar l.size (λ c. AllInAt (comps_from l.comp-items l.comp-index) (chosen l.s_names c) (comps_of l.others) (chosen l.t_names c)) (λ c. AllInAt (comps_of l.comps) (chosen l.s_names c) (comps_of l.others) (chosen l.t_names c)) (λ o. AdmitsItems o (comps_of l.comps) × AdmitsItems o (comps_of l.others)) (view l.met) × (length (map views l.rows.items) ≡ l.comp-index) × AreRows l.size l.comps l.s_names l.others l.t_names (map views l.rows.items)
+    AllSoFar l.size (λ c. AllInAt (comps_from l.comp-items l.comp-index) (atoms_named l.s_names c) (comps_of l.others) (atoms_named l.t_names c)) (λ c. AllInAt (comps_of l.comps) (atoms_named l.s_names c) (comps_of l.others) (atoms_named l.t_names c)) (λ o. AdmitsItems o (comps_of l.comps) × AdmitsItems o (comps_of l.others)) (view l.met) × (length (map views l.rows.items) ≡ l.comp-index) × AreRows l.size l.comps l.s_names l.others l.t_names (map views l.rows.items)

@@ -1,7 +1,7 @@
 use Rattle.std.proofs.Common.{◌≡◌, List, ℕ, refl, sym, ◌∙◌, subst, inl, inr}
 use Rattle.lois_outside.specs.Writing.{AppendsProperPrefix, FailsWriting}
 use Rattle.lois_run.specs.Outcomes.{outcome_text}
-use Rattle.lois_run.proofs.Told.{gave_for, never_seven}
+use Rattle.lois_run.proofs.TextsOfOutcomes.{gave_for, never_seven}
 use Rattle.lois_run.proofs.top.lois.Goals as goal
 
 pub returns-in_default-text-clause-answer : goal.returns-in_default-text-clause-answer

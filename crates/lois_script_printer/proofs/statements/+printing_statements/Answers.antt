@@ -2,7 +2,7 @@ use Rattle.std.proofs.Common.{◌<◌, length, sym, ap, ◌∙◌, arith}
 use Rattle.lois_lexer.specs.declared.TokenKind.TheVariants.{Name, Word, Symbol}
 use Rattle.lois_script.specs.View.{stmt_tree, stmts_list, stmts_of}
 use Rattle.lois_script.proofs.Views.{stmt_Let, stmt_Assign, stmt_Add, stmt_For, stmt_If, stmt_While, stmt_Assert, stmt_Print}
-use Rattle.lois_script_printer.specs.Printed.{spaced, written_stmt, written_stmts}
+use Rattle.lois_script_printer.specs.Printed.{followed_by_blank, written_stmt, written_stmts}
 use Rattle.lois_script_printer.proofs.Appending.{◌then◌, last, on_ok_as, appends_as, start, one_more_stmt, no_more_stmts, else_is}
 use Rattle.lois_script_printer.proofs.statements.+printing_statements.Goals as goal
 
@@ -19,17 +19,17 @@ put_block-returns t c =
 pub put_stmt-returns-in_ok-put_expr-in-Let : goal.put_stmt-returns-in_ok-put_expr-in-Let
 put_stmt-returns-in_ok-put_expr-in-Let t c =
     on_ok_as c.put_line_end.result _ _ (ap written_stmt (ap stmt_tree c.in-Let.is ∙ stmt_Let _ _ _))
-    (last _ _ c.put_line_end.result (c.in_ok-put-in-Let.ensures Word then appends_as (ap (spaced Name) (sym c.bytes.ensures.same)) (c.in_ok-put-in-Let-2.ensures Name) then c.in_ok-put-in-Let-3.ensures Symbol then c.in_ok-put_expr-in-Let.ensures) c.put_line_end.ensures)
+    (last _ _ c.put_line_end.result (c.in_ok-put-in-Let.ensures Word then appends_as (ap (followed_by_blank Name) (sym c.bytes.ensures.same)) (c.in_ok-put-in-Let-2.ensures Name) then c.in_ok-put-in-Let-3.ensures Symbol then c.in_ok-put_expr-in-Let.ensures) c.put_line_end.ensures)
 
 pub put_stmt-returns-in_ok-put_expr-in-Assign : goal.put_stmt-returns-in_ok-put_expr-in-Assign
 put_stmt-returns-in_ok-put_expr-in-Assign t c =
     on_ok_as c.put_line_end-in-Assign.result _ _ (ap written_stmt (ap stmt_tree c.in-Assign.is ∙ stmt_Assign _ _ _))
-    (last _ _ c.put_line_end-in-Assign.result (appends_as (ap (spaced Name) (sym c.bytes-in-Assign.ensures.same)) (c.in_ok-put-in-Assign.ensures Name) then c.in_ok-put-in-Assign-2.ensures Symbol then c.in_ok-put_expr-in-Assign.ensures) c.put_line_end-in-Assign.ensures)
+    (last _ _ c.put_line_end-in-Assign.result (appends_as (ap (followed_by_blank Name) (sym c.bytes-in-Assign.ensures.same)) (c.in_ok-put-in-Assign.ensures Name) then c.in_ok-put-in-Assign-2.ensures Symbol then c.in_ok-put_expr-in-Assign.ensures) c.put_line_end-in-Assign.ensures)
 
 pub put_stmt-returns-in_ok-put-in-Add-3 : goal.put_stmt-returns-in_ok-put-in-Add-3
 put_stmt-returns-in_ok-put-in-Add-3 t c =
     on_ok_as c.put_line_end-in-Add.result _ _ (ap written_stmt (ap stmt_tree c.in-Add.is ∙ stmt_Add _ _ _))
-    (last _ _ c.put_line_end-in-Add.result (c.in_ok-put-in-Add.ensures Word then c.in_ok-put_expr-in-Add.ensures then c.in_ok-put-in-Add-2.ensures Word then appends_as (ap (spaced Name) (sym c.bytes-in-Add.ensures.same)) (c.in_ok-put-in-Add-3.ensures Name)) c.put_line_end-in-Add.ensures)
+    (last _ _ c.put_line_end-in-Add.result (c.in_ok-put-in-Add.ensures Word then c.in_ok-put_expr-in-Add.ensures then c.in_ok-put-in-Add-2.ensures Word then appends_as (ap (followed_by_blank Name) (sym c.bytes-in-Add.ensures.same)) (c.in_ok-put-in-Add-3.ensures Name)) c.put_line_end-in-Add.ensures)
 
 pub put_stmt-returns-in_ok-put_where-in-For : goal.put_stmt-returns-in_ok-put_where-in-For
 put_stmt-returns-in_ok-put_where-in-For t c =
@@ -54,7 +54,7 @@ put_stmt-returns-in_ok-put_cond-in-Assert t c =
 pub put_stmt-returns-in_ok-put-in-Print-2 : goal.put_stmt-returns-in_ok-put-in-Print-2
 put_stmt-returns-in_ok-put-in-Print-2 t c =
     on_ok_as c.put_line_end-in-Print.result _ _ (ap written_stmt (ap stmt_tree c.in-Print.is ∙ stmt_Print _ _ _))
-    (last _ _ c.put_line_end-in-Print.result (c.in_ok-put-in-Print.ensures Word then appends_as (ap (spaced Name) (sym c.bytes-in-Print.ensures.same)) (c.in_ok-put-in-Print-2.ensures Name)) c.put_line_end-in-Print.ensures)
+    (last _ _ c.put_line_end-in-Print.result (c.in_ok-put-in-Print.ensures Word then appends_as (ap (followed_by_blank Name) (sym c.bytes-in-Print.ensures.same)) (c.in_ok-put-in-Print-2.ensures Name)) c.put_line_end-in-Print.ensures)
 
 pub put_stmts-loop-statement-init : goal.put_stmts-loop-statement-init
 put_stmts-loop-statement-init t c =

@@ -1,11 +1,11 @@
 use Rattle.std.proofs.Common.{◌≤◌, length}
-use Rattle.lois_shortest_word.specs.Shortened.{IsShortened}
+use Rattle.lois_shortest_word.specs.Shortened.{IsShortenedWord}
 use Rattle.lois_shortest_word.specs.Words.{AreUsedBetween}
 use Rattle.lois_shortest_word.proofs.shortening.shortened.Given as goal
 
 abbrev pub invariant-dropping : goal.invariant-dropping
 invariant-dropping l = record {
-  short : IsShortened l.size l.fn.word l.shorter;
+  short : IsShortenedWord l.size l.fn.word l.shorter;
   least : l.size ≤ l.left;
   most : l.left ≤ length l.shorter.sample;
   used : AreUsedBetween l.left (length l.shorter.sample) l.shorter.letters;

@@ -3,8 +3,8 @@ use Rattle.lois_base.specs.Fits.{Fits}
 use Rattle.lois_base.specs.Tree.{tree}
 use Rattle.lois_automata.specs.Projections.{triple_of}
 use Rattle.lois_deciders.proofs.Oracle.{some_is, none_is}
-use Rattle.lois_shortest_word.specs.SymbolicStates.{IsNarrowed}
-use Rattle.lois_shortest_word.proofs.Goings.{no_step, never_goes, taken_is}
+use Rattle.lois_shortest_word.specs.SymbolicStates.{IsSatisfiableCube}
+use Rattle.lois_shortest_word.proofs.Advances.{no_step, never_goes, taken_is}
 use Rattle.lois_shortest_word.proofs.steps.step_by.Goals as goal
 
 pub returns-in_default-clause-none : goal.returns-in_default-clause-none
@@ -32,7 +32,7 @@ returns-clause-some g c =
     let parts : tree placed.placed.item ≡ triple_of p l q = c.in-Some.ensures.some in
     let fits : Fits n (triple_of p l q) = subst (Fits n) parts placed.ensures.item_levels in
     let small : n < 2 ^ 64 = (c.fits.ensures.0 c.if-not-fits.false).0 in
-    let narrow = some_is (λ m. IsNarrowed n c.in_ok-wanted.wanted m.constraint m.sample) c.in_ok-met.field-0 c.in-Some-2.met c.in-Some-2.is c.in_ok-met.ensures.some in
+    let narrow = some_is (λ m. IsSatisfiableCube n c.in_ok-wanted.wanted m.constraint m.sample) c.in_ok-met.field-0 c.in-Some-2.met c.in-Some-2.is c.in_ok-met.ensures.some in
     taken_is c.args.size comp.binders comp.guard (tree comp.item) s placed.placed.guard (tree placed.placed.item) placed.ensures.guard placed.ensures.item p l q (tree c.args.layer.now) c.in_ok-wanted.wanted parts c.in_ok-wanted.ensures.truth
     (record { letter = c.in_ok-letter.letter; stage = record { more = s.more + comp.binders; admitted = c.in-Some-2.met.constraint; state = c.in_ok-state.state; sample = c.in-Some-2.met.sample } })
     refl small (ap tree c.in_ok-letter.ensures) (ap tree c.in_ok-state.ensures) fits.1.0 fits.1.1.0 narrow

@@ -2,13 +2,13 @@ use Rattle.std.proofs.Common.{◌+◌, Bool, subst, arith}
 use Rattle.lois_base.specs.Data.{comps_of}
 use Rattle.lois_base.specs.Tree.{tree, comp_of}
 use Rattle.lois_base.specs.Validity.{AdmitsTerm, AdmitsComp, HasBoundedWidths, CompHasBoundedWidths}
-use Rattle.lois_algebra.specs.Gathered.{IsAmong, IsMadeBy}
+use Rattle.lois_algebra.specs.Gathered.{IsAmong, IsCompMember}
 use Rattle.lois_deciders.proofs.Oracle.{some_is, none_is}
 use Rattle.lois_deciders.proofs.OnlyAsked.{only_asked_nothing, only_asked_then}
 use Rattle.lois_relate.proofs.Parts.{comps_from, comps_are, no_comps_left, is_comp_of}
 use Rattle.lois_shortest_word.specs.Steps.{IsSymbolicStep, NeverAdvances}
 use Rattle.lois_shortest_word.proofs.Firsts.{among_item}
-use Rattle.lois_shortest_word.proofs.Goings.{taken_among, never_goes_more, never_goes_end}
+use Rattle.lois_shortest_word.proofs.Advances.{taken_among, never_goes_more, never_goes_end}
 use Rattle.lois_shortest_word.proofs.steps.step_from.Goals as goal
 
 pub loop-comp-init : goal.loop-comp-init
@@ -31,8 +31,8 @@ returns-in-Some-clause-some g c =
     let s = c.args.stage.now in
     let t = tree c.args.layer.now in
     let k = comp_of c.comp-item.result in
-    taken_among n s t (IsMadeBy k) (IsAmong (comps_of c.args.steps.now)) c.in-Some.step (among_item c.as_slice-comp-items.result.now c.args.steps.now c.loop-comp.comp-index c.comp-item.result c.as_slice-comp-items.ensures c.loop-comp-test.true c.comp-item.is)
-    (some_is (IsSymbolicStep n s (IsMadeBy k) t) c.in_ok-step.field-0 c.in-Some.step c.in-Some.is c.in_ok-step.ensures.some)
+    taken_among n s t (IsCompMember k) (IsAmong (comps_of c.args.steps.now)) c.in-Some.step (among_item c.as_slice-comp-items.result.now c.args.steps.now c.loop-comp.comp-index c.comp-item.result c.as_slice-comp-items.ensures c.loop-comp-test.true c.comp-item.is)
+    (some_is (IsSymbolicStep n s (IsCompMember k) t) c.in_ok-step.field-0 c.in-Some.step c.in-Some.is c.in_ok-step.ensures.some)
 
 pub returns-in-Some-clause-operators : goal.returns-in-Some-clause-operators
 returns-in-Some-clause-operators g c = λ o h.

@@ -5,7 +5,7 @@ use Rattle.lois_base.specs.Fits.{ConstraintFits}
 use Rattle.lois_base.specs.Truth.{holds}
 use Rattle.lois_base.specs.Tree.{tree}
 use Rattle.lois_constraint.proofs.Shifting.{fits_more}
-use Rattle.lois_shortest_word.proofs.Goings.{going_is}
+use Rattle.lois_shortest_word.proofs.Advances.{going_is}
 use Rattle.lois_shortest_word.proofs.steps.where_going.Goals as goal
 
 pub returns-clause-truth : goal.returns-clause-truth

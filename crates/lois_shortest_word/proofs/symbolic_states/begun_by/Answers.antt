@@ -5,7 +5,7 @@ use Rattle.lois_automata.specs.Built.{HoldsWhereAdmittedIn}
 use Rattle.lois_automata.proofs.Members.{admitted_is}
 use Rattle.lois_constraint.proofs.Shifting.{fits_more}
 use Rattle.lois_deciders.proofs.Oracle.{some_is, none_is}
-use Rattle.lois_shortest_word.specs.SymbolicStates.{IsNarrowed}
+use Rattle.lois_shortest_word.specs.SymbolicStates.{IsSatisfiableCube}
 use Rattle.lois_shortest_word.proofs.Starts.{begun_is, never_begins}
 use Rattle.lois_shortest_word.proofs.symbolic_states.begun_by.Goals as goal
 
@@ -27,5 +27,5 @@ returns-clause-some g c =
     let comp = c.args.comp.now in
     let n = c.args.size in
     let is : HoldsWhereAdmittedIn n comp.binders c.args.under.now comp.guard (tree comp.item) (tree c.args.layer.now) c.in_ok-wanted.wanted = admitted_is n comp.binders c.args.under.now comp.guard (tree comp.item) (tree c.args.layer.now) c.in_ok-found.found c.in_ok-admitted.admitted c.in_ok-wanted.wanted c.requires.under c.in_ok-found.ensures.truth c.in_ok-admitted.ensures.truth c.in_ok-wanted.ensures.truth in
-    let narrow = some_is (λ m. IsNarrowed (n + comp.binders) c.in_ok-wanted.wanted m.constraint m.sample) c.in_ok-met.field-0 c.in-Some.met c.in-Some.is c.in_ok-met.ensures.some in
+    let narrow = some_is (λ m. IsSatisfiableCube (n + comp.binders) c.in_ok-wanted.wanted m.constraint m.sample) c.in_ok-met.field-0 c.in-Some.met c.in-Some.is c.in_ok-met.ensures.some in
     begun_is n c.args.under.now comp.guard (tree comp.item) (tree c.args.layer.now) c.in_ok-wanted.wanted (record { more = comp.binders; admitted = c.in-Some.met.constraint; state = c.in_ok-state.state; sample = c.in-Some.met.sample }) c.requires.levels.0 c.requires.levels.2 (ap tree c.in_ok-state.ensures) is narrow

@@ -1,7 +1,7 @@
 use Rattle.std.proofs.Common.{◌+◌, arith}
 use Rattle.lois_base.specs.Data.{comps_of}
 use Rattle.lois_base.specs.Tree.{tree, comp_of}
-use Rattle.lois_algebra.specs.Gathered.{IsAmong, IsMadeBy}
+use Rattle.lois_algebra.specs.Gathered.{IsAmong, IsCompMember}
 use Rattle.lois_deciders.proofs.Oracle.{some_is, none_is}
 use Rattle.lois_deciders.proofs.OnlyAsked.{only_asked_then}
 use Rattle.lois_relate.proofs.Parts.{comps_from, comps_are, no_comps_left, is_comp_of}
@@ -24,8 +24,8 @@ returns-in-Some-clause-some g c =
     let u = c.args.under.now in
     let t = tree c.args.layer.now in
     let k = comp_of c.comp-item.result in
-    begun_among n u t (IsMadeBy k) (IsAmong (comps_of c.args.starts.now)) c.in-Some.stage (among_item c.as_slice-comp-items.result.now c.args.starts.now c.loop-comp.comp-index c.comp-item.result c.as_slice-comp-items.ensures c.loop-comp-test.true c.comp-item.is)
-    (some_is (IsInitialSymbolicState n u (IsMadeBy k) t) c.in_ok-stage.field-0 c.in-Some.stage c.in-Some.is c.in_ok-stage.ensures.some)
+    begun_among n u t (IsCompMember k) (IsAmong (comps_of c.args.starts.now)) c.in-Some.stage (among_item c.as_slice-comp-items.result.now c.args.starts.now c.loop-comp.comp-index c.comp-item.result c.as_slice-comp-items.ensures c.loop-comp-test.true c.comp-item.is)
+    (some_is (IsInitialSymbolicState n u (IsCompMember k) t) c.in_ok-stage.field-0 c.in-Some.stage c.in-Some.is c.in_ok-stage.ensures.some)
 
 pub loop-comp-preserved : goal.loop-comp-preserved
 loop-comp-preserved g c =

@@ -7,7 +7,7 @@ use Rattle.lois_base.specs.Fits.{ItemsFit}
 use Rattle.lois_base.specs.Tree.{comp_of}
 use Rattle.lois_base.specs.Validity.{AdmitsItems}
 use Rattle.lois_simplify.specs.Covered.{IsCovered}
-use Rattle.lois_simplify.specs.Lean.{IsLeanComp, HasOwn}
+use Rattle.lois_simplify.specs.Irredundant.{IsIrredundantComp, HasOwn}
 use Rattle.lois_simplify.proofs.Members.{items_fit_each, items_admit_each}
 use Rattle.lois_simplify.proofs.Pass.{UncoveredSoFar, uncovered_begin, next_moved, next_is_there, kept_fit, coming_fit, kept_admit, coming_admit, next_dropped, next_kept, to_the_end}
 use Rattle.lois_simplify.proofs.covering.uncovered.Goals as goal
@@ -90,7 +90,7 @@ is_covered-requires-clause-lean g c =
     let i = c.loop-index.index in
     let k = c.replace-comp.result in
     let so_far = next_moved u n c.args.comps c.loop-index.kept c.loop-index.items.items now i k c.index_mut.result.now c.replace-comp.new.dest (omega (arith, c.loop-index-test.true, c.loop-index.invariant.count)) c.replace-comp.ensures.value c.index_mut.ensures.value c.deref.ensures.value c.loop-index.invariant.so_far in
-    All-contains (IsLeanComp u n) c.args.comps (comp_of k) c.requires.lean (next_is_there u n c.args.comps c.loop-index.kept (map comp_of (drop (i + 1) now)) (comp_of k) so_far)
+    All-contains (IsIrredundantComp u n) c.args.comps (comp_of k) c.requires.lean (next_is_there u n c.args.comps c.loop-index.kept (map comp_of (drop (i + 1) now)) (comp_of k) so_far)
 
 pub loop-index-preserved : goal.loop-index-preserved
 loop-index-preserved g c =

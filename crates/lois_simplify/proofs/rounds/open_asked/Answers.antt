@@ -10,7 +10,7 @@ use Rattle.lois_deciders.specs.Satisfaction.{IsConstraintSample}
 use Rattle.lois_deciders.specs.Conjunction.{IsSampledConjunction}
 use Rattle.lois_deciders.proofs.Oracle.{some_is, none_is, is_met}
 use Rattle.lois_simplify.specs.Fixed.{IsFixed}
-use Rattle.lois_simplify.specs.Kept.{set_of}
+use Rattle.lois_simplify.specs.Simplification.{set_of}
 use Rattle.lois_simplify.specs.Rounds.{only}
 use Rattle.lois_simplify.proofs.Kept.{kept_trans}
 use Rattle.lois_simplify.proofs.OneRound.{nothing_kept, guard_kept, binder_less, fixed_can_leave}

@@ -10,36 +10,36 @@ use Rattle.lois_base.specs.Tree.{tree, comp_of}
 use Rattle.lois_base.specs.declared.values.Comp.{Comp}
 use Rattle.lois_deciders.proofs.Oracle.{some_is}
 use Rattle.lois_relate.proofs.Parts.{is_part_of}
-use Rattle.lois_simplify.specs.Kept.{IsKept, set_of}
-use Rattle.lois_simplify.specs.Lean.{IsLeanComp}
-use Rattle.lois_simplify.specs.Rounds.{only, listed, IsRoundOf, IsOpeningOf, IsClosingOf}
+use Rattle.lois_simplify.specs.Simplification.{IsSimplification, set_of}
+use Rattle.lois_simplify.specs.Irredundant.{IsIrredundantComp}
+use Rattle.lois_simplify.specs.Rounds.{only, listed_comp, IsRoundOf, IsOpeningOf, IsClosingOf}
 use Rattle.lois_simplify.proofs.Asked.{ok_both}
 use Rattle.lois_simplify.proofs.Kept.{kept_refl, kept_trans}
 use Rattle.lois_simplify.proofs.Members.{items_fit_each, items_admit_each, comp_depth_le}
 use Rattle.lois_simplify.proofs.OneRound.{item_kept, round_closed}
 use Rattle.lois_simplify.proofs.Tuples.{IsSimplified, PartsSimplified, part_behind, tuple_kept, parts_normal, parts_guards}
-use Rattle.lois_simplify.proofs.LeanComps.{LeanSoFar, lean_begin, lean_found, lean_none, lean_kept, fewer_lean}
+use Rattle.lois_simplify.proofs.IrredundantComps.{LeanSoFar, lean_begin, lean_found, lean_none, lean_kept, fewer_lean}
 use Rattle.lois_simplify.proofs.Under.{set_is_normal, set_has_normal_guards}
 use Rattle.lois_base.proofs.Viewed.{contains_item}
 use Rattle.lois_simplify.proofs.simplifying.+simplifying.Goals as goal
 
-pub lean_comp-rounds-init : goal.lean_comp-rounds-init
-lean_comp-rounds-init g t c =
+pub irredundant_comp-rounds-init : goal.irredundant_comp-rounds-init
+irredundant_comp-rounds-init g t c =
     let whole : TermD = set_of (only (comp_of c.args.comp)) in
     record {
       kept = kept_refl c.args.under.now c.args.size whole;
       asked = g.met.D.Oracle.reaches_itself c.args.decider.now;
     }
 
-pub lean_comp-returns-in-Lean-clause-kept : goal.lean_comp-returns-in-Lean-clause-kept
-lean_comp-returns-in-Lean-clause-kept g t c =
+pub irredundant_comp-returns-in-Lean-clause-kept : goal.irredundant_comp-returns-in-Lean-clause-kept
+irredundant_comp-returns-in-Lean-clause-kept g t c =
     let u = c.args.under.now in
     let n = c.args.size in
     let round = subst (IsRoundOf u n c.rounds.current) c.in-Lean.is c.in_ok-simple.ensures.round in
     kept_trans u n (set_of (only (comp_of c.args.comp))) (set_of (only (comp_of c.rounds.current))) (set_of (only (comp_of c.in-Lean.simple))) c.rounds.invariant.kept round.0
 
-pub lean_comp-rounds-preserved : goal.lean_comp-rounds-preserved
-lean_comp-rounds-preserved g t c =
+pub irredundant_comp-rounds-preserved : goal.irredundant_comp-rounds-preserved
+irredundant_comp-rounds-preserved g t c =
     let u = c.args.under.now in
     let n = c.args.size in
     let round = subst (IsRoundOf u n c.rounds.current) c.in-Shorter.is c.in_ok-simple.ensures.round in
@@ -48,8 +48,8 @@ lean_comp-rounds-preserved g t c =
       asked = g.met.D.Oracle.reaches_then c.args.decider.now c.rounds.decider c.one_round.new.decider c.rounds.invariant.asked c.one_round.ensures.asked;
     }
 
-pub lean_comps-loop-comp-init : goal.lean_comps-loop-comp-init
-lean_comps-loop-comp-init g t c =
+pub irredundant_comps-loop-comp-init : goal.irredundant_comps-loop-comp-init
+irredundant_comps-loop-comp-init g t c =
     record {
       can_next = tt;
       is_finite = tt;
@@ -57,8 +57,8 @@ lean_comps-loop-comp-init g t c =
       asked = g.met.D.Oracle.reaches_itself c.args.decider.now;
     }
 
-pub lean_comps-lean_comp-requires : goal.lean_comps-lean_comp-requires
-lean_comps-lean_comp-requires g t c κs within =
+pub irredundant_comps-irredundant_comp-requires : goal.irredundant_comps-irredundant_comp-requires
+irredundant_comps-irredundant_comp-requires g t c κs within =
     let comps = c.args.comps in
     let items = c.into_vec-comp-items.result.items in
     let seen = c.loop-comp.yielded in
@@ -67,42 +67,42 @@ lean_comps-lean_comp-requires g t c κs within =
     let there : Contains comps k = c.in_ok-several.ensures.only k (contains_item comp_of items c.in_ok-several.several (length seen) c.in-Some.comp c.into_vec-comp-items.ensures turn.0 turn.1) in
     (omega (arith, comp_depth_le comps k there), (within.0, (within.1, (c.requires.sound, (items_fit_each c.args.size comps k c.requires.levels there, (c.requires.under_levels, (c.requires.met, (items_admit_each g.T.Structure.ordered comps k c.requires.operators there, c.requires.under_operators))))))))
 
-pub lean_comps-loop-comp-preserved-in-Continue-branch-4 : goal.lean_comps-loop-comp-preserved-in-Continue-branch-4
-lean_comps-loop-comp-preserved-in-Continue-branch-4 g t c =
+pub irredundant_comps-loop-comp-preserved-in-Continue-branch-4 : goal.irredundant_comps-loop-comp-preserved-in-Continue-branch-4
+irredundant_comps-loop-comp-preserved-in-Continue-branch-4 g t c =
     let u = c.args.under.now in
     let n = c.args.size in
     let seen = c.loop-comp.yielded in
     let k : CompD = comp_of c.in-Some.comp in
     let done : List CompD = map comp_of seen in
-    let kept = subst (λ o. IsKept u n (set_of (only k)) (set_of (listed o))) c.in-Some-2.is c.in_ok-simple.ensures.kept in
-    let lean = some_is (λ j. IsLeanComp u n (comp_of j)) c.in_ok-simple.field-0 c.in-Some-2.simple c.in-Some-2.is c.in_ok-simple.ensures.lean in
+    let kept = subst (λ o. IsSimplification u n (set_of (only k)) (set_of (listed_comp o))) c.in-Some-2.is c.in_ok-simple.ensures.kept in
+    let lean = some_is (λ j. IsIrredundantComp u n (comp_of j)) c.in_ok-simple.field-0 c.in-Some-2.simple c.in-Some-2.is c.in_ok-simple.ensures.lean in
     record {
       can_next = tt;
       is_finite = tt;
       lean =
           subst (λ z. LeanSoFar u n z c.push.new.self) (sym (map-append comp_of seen (c.in-Some.comp ∷ [])))
           (lean_found u n done c.loop-comp.found c.push.new.self c.push.new.self k (comp_of c.in-Some-2.simple) c.in_ok-push.ensures.ok refl c.loop-comp.invariant.lean kept lean);
-      asked = g.met.D.Oracle.reaches_then c.args.decider.now c.loop-comp.decider c.lean_comp.new.decider c.loop-comp.invariant.asked c.lean_comp.ensures.asked;
+      asked = g.met.D.Oracle.reaches_then c.args.decider.now c.loop-comp.decider c.irredundant_comp.new.decider c.loop-comp.invariant.asked c.irredundant_comp.ensures.asked;
     }
 
-pub lean_comps-loop-comp-preserved : goal.lean_comps-loop-comp-preserved
-lean_comps-loop-comp-preserved g t c =
+pub irredundant_comps-loop-comp-preserved : goal.irredundant_comps-loop-comp-preserved
+irredundant_comps-loop-comp-preserved g t c =
     let u = c.args.under.now in
     let n = c.args.size in
     let seen = c.loop-comp.yielded in
     let k : CompD = comp_of c.in-Some.comp in
-    let kept = subst (λ o. IsKept u n (set_of (only k)) (set_of (listed o))) c.in_default.is c.in_ok-simple.ensures.kept in
+    let kept = subst (λ o. IsSimplification u n (set_of (only k)) (set_of (listed_comp o))) c.in_default.is c.in_ok-simple.ensures.kept in
     record {
       can_next = tt;
       is_finite = tt;
       lean =
           subst (λ z. LeanSoFar u n z c.loop-comp.found) (sym (map-append comp_of seen (c.in-Some.comp ∷ [])))
           (lean_none u n (map comp_of seen) c.loop-comp.found k c.loop-comp.invariant.lean kept);
-      asked = g.met.D.Oracle.reaches_then c.args.decider.now c.loop-comp.decider c.lean_comp.new.decider c.loop-comp.invariant.asked c.lean_comp.ensures.asked;
+      asked = g.met.D.Oracle.reaches_then c.args.decider.now c.loop-comp.decider c.irredundant_comp.new.decider c.loop-comp.invariant.asked c.irredundant_comp.ensures.asked;
     }
 
-pub lean_comps-returns-clause-kept : goal.lean_comps-returns-clause-kept
-lean_comps-returns-clause-kept g t c =
+pub irredundant_comps-returns-clause-kept : goal.irredundant_comps-returns-clause-kept
+irredundant_comps-returns-clause-kept g t c =
     let u = c.args.under.now in
     let n = c.args.size in
     let several = c.in_ok-several.several in
@@ -111,12 +111,12 @@ lean_comps-returns-clause-kept g t c =
     let end = YieldsList-end (YieldsList-from_vec items (cc) (cc)) c.loop-comp.yielded c.loop-comp.comp-iterator c.loop-comp.yielded_by c.next.result c.next.new.self c.in-None.is c.next.ensures.steps in
     let all : c.loop-comp.yielded ≡ items = sym (map-id c.loop-comp.yielded) ∙ end.0 in
     let so_far = subst (λ z. LeanSoFar u n z found) (ap (map comp_of) all ∙ c.into_vec-comp-items.ensures) c.loop-comp.invariant.lean in
-    ok_both (λ r. (k : CompD) → Contains found k → Contains r k) (λ r. (k : CompD) → Contains r k → Contains found k) (λ r. IsKept u n (set_of c.args.comps) (set_of r)) c.distinct-2.result
+    ok_both (λ r. (k : CompD) → Contains found k → Contains r k) (λ r. (k : CompD) → Contains r k → Contains found k) (λ r. IsSimplification u n (set_of c.args.comps) (set_of r)) c.distinct-2.result
     (λ r all only. lean_kept u n c.args.comps several found r c.in_ok-several.ensures.all c.in_ok-several.ensures.only so_far all only) c.distinct-2.ensures.all c.distinct-2.ensures.only
 
-pub lean_comps-returns-clause-lean : goal.lean_comps-returns-clause-lean
-lean_comps-returns-clause-lean g t c =
-    IfOk-weaker c.distinct-2.result (λ r. (k : CompD) → Contains r k → Contains c.loop-comp.found k) (All (IsLeanComp c.args.under.now c.args.size)) (λ r only. fewer_lean c.args.under.now c.args.size c.loop-comp.found r c.loop-comp.invariant.lean.lean only) c.distinct-2.ensures.only
+pub irredundant_comps-returns-clause-lean : goal.irredundant_comps-returns-clause-lean
+irredundant_comps-returns-clause-lean g t c =
+    IfOk-weaker c.distinct-2.result (λ r. (k : CompD) → Contains r k → Contains c.loop-comp.found k) (All (IsIrredundantComp c.args.under.now c.args.size)) (λ r only. fewer_lean c.args.under.now c.args.size c.loop-comp.found r c.loop-comp.invariant.lean.lean only) c.distinct-2.ensures.only
 
 pub one_round-returns-clause-round : goal.one_round-returns-clause-round
 one_round-returns-clause-round g t c =
@@ -140,21 +140,21 @@ simplified-returns-in_ok-uncovered-in-Coll-clause-kept g t c =
     let lean = c.in_ok-lean-in-Coll.lean in
     let r = c.in_ok-uncovered-in-Coll.field-0 in
     let is : tree c.args.term ≡ set_of c.in-Coll.comps = ap tree c.in-Coll.is in
-    subst (λ z. IsKept u n z (set_of r)) (sym is) (kept_trans u n (set_of c.in-Coll.comps) (set_of lean) (set_of r) c.in_ok-lean-in-Coll.ensures.kept c.in_ok-uncovered-in-Coll.ensures.kept)
+    subst (λ z. IsSimplification u n z (set_of r)) (sym is) (kept_trans u n (set_of c.in-Coll.comps) (set_of lean) (set_of r) c.in_ok-lean-in-Coll.ensures.kept c.in_ok-uncovered-in-Coll.ensures.kept)
 
 pub simplified-returns-in_ok-uncovered-in-Coll-clause-normal : goal.simplified-returns-in_ok-uncovered-in-Coll-clause-normal
 simplified-returns-in_ok-uncovered-in-Coll-clause-normal g t c =
     let u = c.args.under.now in
     let n = c.args.size in
     let r = c.in_ok-uncovered-in-Coll.field-0 in
-    set_is_normal u n r (λ k h. All-contains (IsLeanComp u n) c.in_ok-lean-in-Coll.lean k c.in_ok-lean-in-Coll.ensures.lean (c.in_ok-uncovered-in-Coll.ensures.only k h)) c.in_ok-uncovered-in-Coll.ensures.own
+    set_is_normal u n r (λ k h. All-contains (IsIrredundantComp u n) c.in_ok-lean-in-Coll.lean k c.in_ok-lean-in-Coll.ensures.lean (c.in_ok-uncovered-in-Coll.ensures.only k h)) c.in_ok-uncovered-in-Coll.ensures.own
 
 pub simplified-returns-in_ok-uncovered-in-Coll-clause-guards : goal.simplified-returns-in_ok-uncovered-in-Coll-clause-guards
 simplified-returns-in_ok-uncovered-in-Coll-clause-guards g t c =
     let u = c.args.under.now in
     let n = c.args.size in
     let r = c.in_ok-uncovered-in-Coll.field-0 in
-    set_has_normal_guards u n r (λ k h. All-contains (IsLeanComp u n) c.in_ok-lean-in-Coll.lean k c.in_ok-lean-in-Coll.ensures.lean (c.in_ok-uncovered-in-Coll.ensures.only k h))
+    set_has_normal_guards u n r (λ k h. All-contains (IsIrredundantComp u n) c.in_ok-lean-in-Coll.lean k c.in_ok-lean-in-Coll.ensures.lean (c.in_ok-uncovered-in-Coll.ensures.only k h))
 
 pub simplified_parts-loop-part-init : goal.simplified_parts-loop-part-init
 simplified_parts-loop-part-init g t c =

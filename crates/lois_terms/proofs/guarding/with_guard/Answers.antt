@@ -4,7 +4,7 @@ use Rattle.lois_base.specs.Data.{depth}
 use Rattle.lois_base.specs.Fits.{Fits}
 use Rattle.lois_base.specs.Tree.{tree}
 use Rattle.lois_base.specs.Validity.{AdmitsTerm, HasBoundedWidths}
-use Rattle.lois_terms.specs.Guarded.{IsSet, KeepsWhere, IsEmptyElsewhere}
+use Rattle.lois_terms.specs.Guarded.{IsColl, KeepsWhere, IsEmptyElsewhere}
 use Rattle.lois_terms.proofs.UnderGuard.{keeps_where, is_empty_elsewhere, is_set_guarded, fits_guarded, admits_guarded, widths_guarded, depth_guarded}
 use Rattle.lois_terms.proofs.guarding.with_guard.Goals as goal
 
@@ -18,7 +18,7 @@ returns-clause-empty c =
 
 pub returns-clause-set : goal.returns-clause-set
 returns-clause-set c =
-    IfOk-weaker c.guarded_set.result _ _ (λ r e. subst IsSet (sym e) (is_set_guarded c.args.c.now (tree c.args.t.now) c.requires)) c.guarded_set.ensures
+    IfOk-weaker c.guarded_set.result _ _ (λ r e. subst IsColl (sym e) (is_set_guarded c.args.c.now (tree c.args.t.now) c.requires)) c.guarded_set.ensures
 
 pub returns-clause-levels : goal.returns-clause-levels
 returns-clause-levels c =

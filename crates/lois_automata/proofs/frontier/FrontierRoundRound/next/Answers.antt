@@ -17,8 +17,8 @@ returns-then-not-is_over_nodes-clause-none c =
     let x : RoundParameters = record { size = self.size; under = self.under; nodes = comps_of self.nodes; moves = coll (comps_of self.moves) } in
     (λ h. other_left x c.args.family.now (sym c.is_over_nodes.ensures ∙ c.if-not-is_over_nodes.true), λ h. refl)
 
-pub held_set-requires : goal.held_set-requires
-held_set-requires c =
+pub set_of_family-requires : goal.set_of_family-requires
+set_of_family-requires c =
     let self = c.args.self.now in
     let x : RoundParameters = record { size = self.size; under = self.under; nodes = comps_of self.nodes; moves = coll (comps_of self.moves) } in
     let f = c.args.family.now in
@@ -64,8 +64,8 @@ returns-then-is_empty_family-clause-none c =
     let are : AreTargets x.size x.moves (coll (held x.nodes g)) targets = subst (λ z. AreTargets x.size x.moves z targets) c.in_ok-held.ensures c.in_ok-targets.ensures.members in
     (λ h. left_alone x f g targets are settled.within g_over over settled.settled c.in_ok-fresh.fresh c.as_slice-fresh.ensures.fits c.in_ok-fresh.ensures.members (c.is_empty_family.ensures.0 c.if-is_empty_family.true), λ h. refl)
 
-pub joined_family-requires : goal.joined_family-requires
-joined_family-requires c =
+pub join_family-requires : goal.join_family-requires
+join_family-requires c =
     let self = c.args.self.now in
     fresh_sizes self.size self.under (tree c.in_ok-targets.targets) (comps_of self.nodes) c.args.family.now c.in_ok-fresh.fresh c.in_ok-fresh.ensures.members
 

@@ -2,7 +2,7 @@ use Rattle.std.proofs.Common.{ℕ, Option, sym, ap, subst}
 use Rattle.std.specs.Global.{Vec}
 use Rattle.std.specs.List.{All}
 use Rattle.lru.specs.LruCache.{LruCache}
-use Rattle.lois_deciders.specs.Kept.{IsRight, Answers}
+use Rattle.lois_deciders.specs.Kept.{IsRightEntry, Answers}
 use Rattle.lois_deciders.specs.Remembering.{Kept}
 use Rattle.lois_deciders.specs.contracts.questions.QuestionPartialEq.TheImpl.{eq-value}
 use Rattle.lois_deciders.specs.declared.questions.Question.{Question}
@@ -11,7 +11,7 @@ use Rattle.lois_deciders.proofs.memo.MemoDeciderDecider.satisfiable.Goals as goa
 
 pub invariant_of-self-in-Some : goal.invariant_of-self-in-Some
 invariant_of-self-in-Some c = record {
-  right = subst (λ (d : LruCache Question (Option (Vec ℕ))). All IsRight d.entries) (sym c.promote.ensures.entries) (promoted_right (eq-value.it c.in_ok-question.question) c.args.self.now.answers.entries c.args.self.now.right);
+  right = subst (λ (d : LruCache Question (Option (Vec ℕ))). All IsRightEntry d.entries) (sym c.promote.ensures.entries) (promoted_right (eq-value.it c.in_ok-question.question) c.args.self.now.answers.entries c.args.self.now.right);
 }
 
 pub returns-in-Some-clause-sample : goal.returns-in-Some-clause-sample

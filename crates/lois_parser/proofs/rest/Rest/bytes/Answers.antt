@@ -1,7 +1,7 @@
 use Rattle.std.proofs.Common.{◌≡◌, ◌≤◌, true, length, drop, sym, subst}
 use Rattle.lois_base.specs.Names.{IsName}
 use Rattle.lois_parser.specs.Ahead.{ahead}
-use Rattle.lois_parser.specs.Readable.{is_number}
+use Rattle.lois_parser.specs.Readable.{is_digits}
 use Rattle.lois_parser.proofs.ReadableTokens.{first_lies, named, tagged, counted}
 use Rattle.lois_parser.proofs.rest.Rest.bytes.Goals as goal
 
@@ -21,4 +21,4 @@ returns-in-Some-clause-tagged c = λ e. subst (λ x. (1 ≤ length x) × IsName 
 
 pub returns-in-Some-clause-counted : goal.returns-in-Some-clause-counted
 unfolding ahead
-returns-in-Some-clause-counted c = λ e. subst (λ x. is_number x ≡ true) (sym c.bytes.ensures) (counted c.args.self.text.now c.args.self.tokens.now c.in-Some.token.now c.in-Some.field-0-1.now c.in-Some.ensures.cases c.args.self.readable e)
+returns-in-Some-clause-counted c = λ e. subst (λ x. is_digits x ≡ true) (sym c.bytes.ensures) (counted c.args.self.text.now c.args.self.tokens.now c.in-Some.token.now c.in-Some.field-0-1.now c.in-Some.ensures.cases c.args.self.readable e)

@@ -8,7 +8,7 @@ use Rattle.lois_script.specs.declared.syntax.Expr.{Expr}
 use Rattle.lois_script.proofs.Views.{binding_is, tree_Each, cond_Below, cond_Exists, cond_Every}
 use Rattle.lois_scope.specs.Breaks.{kept_of}
 use Rattle.lois_scope.specs.InScope.{made_of, with_name}
-use Rattle.lois_scope.specs.Walks.{SeenD, seen, ComparisonBreaks, Walks, Leads}
+use Rattle.lois_scope.specs.Walks.{SeenD, seen, ComparisonBreaks, Walks, AdvancesScope}
 use Rattle.lois_scope.specs.declared.names.Made.TheVariants.{Fixed}
 use Rattle.lois_scope.proofs.Walked.{walks_both}
 use Rattle.lois_scope.proofs.Lists.{expressions_on, expressions_end, conditions_on, conditions_end, bindings_on, bindings_end, expressions_break, conditions_break, bindings_break, bound_by}
@@ -47,7 +47,7 @@ bindings-loop-binding-preserved t c =
 
 pub bindings-returns : goal.bindings-returns
 bindings-returns t c = record {
-  walked = subst (λ (bs : List BindingD). Leads (bindings_break bs) (bound_by bs) (seen c.args.self.now) (seen c.loop-binding.self)) c.as_slice-binding-items.ensures.items
+  walked = subst (λ (bs : List BindingD). AdvancesScope (bindings_break bs) (bound_by bs) (seen c.args.self.now) (seen c.loop-binding.self)) c.as_slice-binding-items.ensures.items
       (bindings_end c.as_slice-binding-items.result.now c.loop-binding.binding-index (seen c.args.self.now) (seen c.loop-binding.self) c.loop-binding-test.false c.loop-binding.invariant);
 }
 

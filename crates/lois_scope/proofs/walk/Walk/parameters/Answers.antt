@@ -4,7 +4,7 @@ use Rattle.lois_script.specs.Tree.{ParamD}
 use Rattle.lois_script.specs.View.{param_tree}
 use Rattle.lois_scope.specs.Breaks.{kept_of}
 use Rattle.lois_scope.specs.InScope.{made_of}
-use Rattle.lois_scope.specs.Walks.{SeenD, seen, Leads}
+use Rattle.lois_scope.specs.Walks.{SeenD, seen, AdvancesScope}
 use Rattle.lois_scope.specs.declared.names.Made.TheVariants.{Fixed}
 use Rattle.lois_scope.proofs.Declared.{walked_and_declared}
 use Rattle.lois_scope.proofs.Lists.{parameters_on, parameters_end, parameter_breaks}
@@ -20,6 +20,6 @@ loop-parameter-preserved c =
 
 pub returns : goal.returns
 returns c = record {
-  walked = subst (λ (ps : List ParamD). Leads (ParametersBreak ps) (with_parameters ps) (seen c.args.self.now) (seen c.loop-parameter.self)) c.as_slice-parameter-items.ensures.items
+  walked = subst (λ (ps : List ParamD). AdvancesScope (ParametersBreak ps) (with_parameters ps) (seen c.args.self.now) (seen c.loop-parameter.self)) c.as_slice-parameter-items.ensures.items
       (parameters_end c.as_slice-parameter-items.result.now c.loop-parameter.parameter-index (seen c.args.self.now) (seen c.loop-parameter.self) c.loop-parameter-test.false c.loop-parameter.invariant);
 }
