@@ -7,6 +7,7 @@ use Rattle.lois_base.specs.Fits.{ItemsFit}
 use Rattle.lois_base.specs.Validity.{AdmitsItems, ItemsHaveBoundedWidths}
 use Rattle.lois_base.specs.Values.{PointValue, point, IsIn}
 use Rattle.lois_base.specs.declared.guards.Lit.{Lit}
+use Rattle.lois_base.proofs.Lists.{items_fit_append}
 use Rattle.lois_relate.proofs.Sets.{some_is_member}
 use Rattle.lois_algebra.specs.Gathered.{IsAmong, IsCompMember, IsPut}
 
@@ -34,10 +35,6 @@ module _ (c : List Atom) (w : PointValue) where
         λ h. both.1 (elim h [ inl p ↦ inl p | inr p ↦ inr (one.1 p) ]),
       )
 
-pub items_fit-append : (n : ℕ) (ks ls : List CompD) → ItemsFit n (comps_of ks) → ItemsFit n (comps_of ls) → ItemsFit n (comps_of (ks ++ ls))
-items_fit-append n [] ls h g = g
-items_fit-append n (k ∷ ks) ls h g = (h.0, items_fit-append n ks ls h.1 g)
-
 pub admits_items-append : (o : Bool) (ks ls : List CompD) → AdmitsItems o (comps_of ks) → AdmitsItems o (comps_of ls) → AdmitsItems o (comps_of (ks ++ ls))
 admits_items-append o [] ls h g = g
 admits_items-append o (k ∷ ks) ls h g = (h.0, admits_items-append o ks ls h.1 g)
@@ -50,20 +47,7 @@ widths-append (k ∷ ks) ls h g = (h.0, widths-append ks ls h.1 g)
 pub is_put_pushed : (k : CompD) (ks after : List CompD) → after ≡ ks ++ k ∷ [] → IsPut k (comps_of ks) (comps_of after)
 is_put_pushed k ks after e = subst (λ z. IsPut k (comps_of ks) (comps_of z)) (sym e) (record {
   members = λ c w. among_pushed c w ks k;
-  levels = λ n h g. items_fit-append n ks (k ∷ []) h (g, tt);
+  levels = λ n h g. items_fit_append n ks (k ∷ []) h (g, tt);
   operators = λ o h g. admits_items-append o ks (k ∷ []) h (g, tt);
   widths = λ h g. widths-append ks (k ∷ []) h (g, tt);
 })
-
-makes_nothing : (m : ℕ) (g : List (List Lit)) (t : TermD) (c : List Atom) (w : PointValue) → length g ≡ 0 → IsCompMember (comp m g t) c w → ⊥
-makes_nothing m [] t c w l (e, x, s) = false≢true x.guard
-makes_nothing m (k ∷ g) t c w l h = absurd (omega arith)
-
--- what has no cube in its guard has no members
-pub is_put_dropped : (m : ℕ) (g : List (List Lit)) (t : TermD) (ks : List CompD) → length g ≡ 0 → IsPut (comp m g t) (comps_of ks) (comps_of ks)
-is_put_dropped m g t ks l = record {
-  members = λ c w. (λ h. inl h, λ h. elim h [ inl p ↦ p | inr p ↦ absurd (makes_nothing m g t c w l p) ]);
-  levels = λ n h f. h;
-  operators = λ o h f. h;
-  widths = λ h f. h;
-}

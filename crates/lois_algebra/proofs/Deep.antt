@@ -12,46 +12,12 @@ use Rattle.lois_base.specs.Values.{DeeperAt, SomePartDeeperAt, SomeMemberDeeperA
 use Rattle.lois_base.specs.declared.guards.Lit.{Lit}
 use Rattle.lois_relate.specs.Built.{Defines, IsBoth, IsForSome}
 
-pub never_says : (n : ℕ) (Q : List Atom → Type 0) (A : Bool → Type 0) (f : FormulaD) → f ≡ any no_formulas → ((c : List Atom) → Q c → ⊥) → Defines n Q A f
-never_says n Q A f e refuted =
-    subst (Defines n Q A) (sym e) (record { truth = λ c k. (λ h. absurd h, λ h. refuted c h); levels = tt; operators = λ o h. tt })
-
 pub literal_says : (n : ℕ) (l : Lit) (f : FormulaD) → f ≡ lit l → LitFits n l → Defines n (λ c. IsTrue (lit_holds c l)) (λ o. AdmitsLit o l) f
 literal_says n l f e fits =
     subst (Defines n (λ c. IsTrue (lit_holds c l)) (λ o. AdmitsLit o l)) (sym e) (record { truth = λ c k. (λ h. h, λ h. h); levels = fits; operators = λ o h. h })
 
--- a tuple and a set are deeper than one more than their parts and members are
-pub tuple_deeper : (ts : TermsD) (c : List Atom) (k : ℕ) → 0 < k → SomePartDeeperAt ts c (k - 1) ↔ DeeperAt (tup ts) c k
-tuple_deeper ts c zero l = absurd (omega arith)
-tuple_deeper ts c (suc k) l =
-    let e : suc k - 1 ≡ k = omega arith in
-    (λ h. subst (λ j. SomePartDeeperAt ts c j) e h, λ h. subst (λ j. SomePartDeeperAt ts c j) (sym e) h)
-
-pub set_deeper : (ks : CompsD) (c : List Atom) (k : ℕ) → 0 < k → SomeMemberDeeperAt ks c (k - 1) ↔ DeeperAt (coll ks) c k
-set_deeper ks c zero l = absurd (omega arith)
-set_deeper ks c (suc k) l =
-    let e : suc k - 1 ≡ k = omega arith in
-    (λ h. subst (λ j. SomeMemberDeeperAt ks c j) e h, λ h. subst (λ j. SomeMemberDeeperAt ks c j) (sym e) h)
-
 pub tuple_deep : (t : TermD) (ts : TermsD) (k : ℕ) → t ≡ tup ts → k ≡ 0 → (c : List Atom) → DeeperAt t c k
 tuple_deep t ts k e z c = subst (λ j. DeeperAt t c j) (sym z) (subst (λ u. DeeperAt u c 0) (sym e) tt)
-
-pub set_deep : (t : TermD) (ks : CompsD) (k : ℕ) → t ≡ coll ks → k ≡ 0 → (c : List Atom) → DeeperAt t c k
-set_deep t ks k e z c = subst (λ j. DeeperAt t c j) (sym z) (subst (λ u. DeeperAt u c 0) (sym e) tt)
-
-pub tuple_says : (n k : ℕ) (t : TermD) (ts : TermsD) (f : FormulaD) → t ≡ tup ts → 0 < k → Defines n (λ c. SomePartDeeperAt ts c (k - 1)) (λ o. AdmitsParts o ts) f → Defines n (λ c. DeeperAt t c k) (λ o. AdmitsTerm o t) f
-tuple_says n k t ts f e l says = subst (λ u. Defines n (λ c. DeeperAt u c k) (λ o. AdmitsTerm o u) f) (sym e) (record {
-  truth = λ c a. let own = tuple_deeper ts c k l in (λ h. own.0 ((says.truth c a).0 h), λ h. (says.truth c a).1 (own.1 h));
-  levels = says.levels;
-  operators = says.operators;
-})
-
-pub set_says : (n k : ℕ) (t : TermD) (ks : CompsD) (f : FormulaD) → t ≡ coll ks → 0 < k → Defines n (λ c. SomeMemberDeeperAt ks c (k - 1)) (λ o. AdmitsItems o ks) f → Defines n (λ c. DeeperAt t c k) (λ o. AdmitsTerm o t) f
-set_says n k t ks f e l says = subst (λ u. Defines n (λ c. DeeperAt u c k) (λ o. AdmitsTerm o u) f) (sym e) (record {
-  truth = λ c a. let own = set_deeper ks c k l in (λ h. own.0 ((says.truth c a).0 h), λ h. (says.truth c a).1 (own.1 h));
-  levels = says.levels;
-  operators = says.operators;
-})
 
 -- ---- loops
 pub parts_deeper_split : (k : ℕ) (ts ts' : TermsD) (t : TermD) → ts ≡ term t ts' → (c : List Atom) → SomePartDeeperAt ts c k ↔ (DeeperAt t c k ⊎ SomePartDeeperAt ts' c k)

@@ -73,14 +73,6 @@ pub record ItemsSoFar (n m : ℕ) (g : List (List Lit)) (rest whole before after
   pub widths : ItemsHaveBoundedWidths whole → ItemsHaveBoundedWidths before → ItemsHaveBoundedWidths after
 
 module _ (n m : ℕ) (g : List (List Lit)) where
-  pub items_begin : (whole before : CompsD) → ItemsSoFar n m g whole whole before before
-  items_begin whole before = record {
-    members = λ c a w. (λ h. h, λ h. h);
-    levels = λ h. h;
-    operators = λ o h i j. j;
-    widths = λ h i. i;
-  }
-
   within_split : (rest rest' : CompsD) (q : CompD) → rest ≡ more q rest' → (c : List Atom) (w : PointValue) → IsAmongExtended m g rest c w ↔ (((e : List Atom) × IsExtension c m g e × IsCompMember q (c ++ e) w) ⊎ IsAmongExtended m g rest' c w)
   within_split rest rest' q e c w = subst (λ z. IsAmongExtended m g z c w ↔ (((x : List Atom) × IsExtension c m g x × IsCompMember q (c ++ x) w) ⊎ IsAmongExtended m g rest' c w)) (sym e) (
     λ h. elim h.2 [ inl p ↦ inl (h.0, h.1, p) | inr p ↦ inr (h.0, h.1, p) ],

@@ -40,7 +40,7 @@ narrowed_others wanted g q r e met = subst (λ b. IsSelectedPart b g q r) (sym e
     ))
 
 module _ (n m : ℕ) (ks : CompsD) (item : TermD) (f : FormulaD) (q : List (List Lit)) (member : HoldsWhereItemIn n m item ks f) (agrees : AgreesWith (n + m) f q) where
-  found_is : (c e : List Atom) → length c ≡ n → length e ≡ m → IsTrue (holds (c ++ e) q) ↔ IsIn (point item (c ++ e)) (point (coll ks) c)
+  pub found_is : (c e : List Atom) → length c ≡ n → length e ≡ m → IsTrue (holds (c ++ e) q) ↔ IsIn (point item (c ++ e)) (point (coll ks) c)
   found_is c e k l =
       let longer : length (c ++ e) ≡ n + m = omega (arith, length-append c e) in
       let one = agrees (c ++ e) longer in

@@ -10,9 +10,11 @@ use Rattle.lois_base.specs.Validity.{AdmitsTerm, HasBoundedWidths}
 use Rattle.lois_base.specs.Values.{PointValue, point, SameAt, IsIn}
 use Rattle.lois_base.proofs.Members.{same_as_atom}
 use Rattle.lois_base.proofs.Order.{equal_refl}
+use Rattle.lois_base.proofs.Lists.{items_fit_append}
+use Rattle.lois_base.proofs.Choices.{atom_at_end}
 use Rattle.lois_algebra.specs.Gathered.{IsAmong}
 use Rattle.lois_algebra.specs.Sets.{IsUnion, HasAllAtoms, IsAtom}
-use Rattle.lois_algebra.proofs.Among.{among_in, among_append, items_fit-append, admits_items-append, widths-append}
+use Rattle.lois_algebra.proofs.Among.{among_in, among_append, admits_items-append, widths-append}
 
 module _ (s t r : TermD) (ks ls all : List CompD) (left : s ≡ coll (comps_of ks)) (right : t ≡ coll (comps_of ls)) (joined : all ≡ ks ++ ls) (is : r ≡ coll (comps_of all)) where
   whole_is : r ≡ coll (comps_of (ks ++ ls))
@@ -31,7 +33,7 @@ module _ (s t r : TermD) (ks ls all : List CompD) (left : s ≡ coll (comps_of k
 
   pub union_fits : (n : ℕ) → Fits n s → Fits n t → Fits n r
   union_fits n h g =
-      subst (Fits n) (sym whole_is) (items_fit-append n ks ls (subst (Fits n) left h) (subst (Fits n) right g))
+      subst (Fits n) (sym whole_is) (items_fit_append n ks ls (subst (Fits n) left h) (subst (Fits n) right g))
 
   pub union_admits : (o : Bool) → AdmitsTerm o s → AdmitsTerm o t → AdmitsTerm o r
   union_admits o h g =
@@ -45,13 +47,6 @@ module _ (s t r : TermD) (ks ls all : List CompD) (left : s ≡ coll (comps_of k
 abbrev pub atoms_term : ℕ → TermD
 atoms_term n = coll (more (comp 1 ([] ∷ []) (var n)) no_comps)
 
-first_more : (c : List Atom) (a : Atom) (n : ℕ) → length c ≡ n → atom_at (c ++ a ∷ []) n ≡ a
-first_more c a n k =
-    get_or-append_right c (a ∷ []) n n (whole 0) k (omega arith) ∙ first (n)
-  where
-    first : (j : ℕ) → atom_at (a ∷ []) (j - j) ≡ a
-    first j = let e : j - j ≡ 0 = omega arith in ap (λ z. atom_at (a ∷ []) z) e
-
 pub has_all_atoms : (n : ℕ) (r : TermD) → r ≡ atoms_term n → HasAllAtoms n r
 has_all_atoms n r e = subst (HasAllAtoms n) (sym e) (λ c k w.
     let among = among_in (more (comp 1 ([] ∷ []) (var n)) no_comps) c w in
@@ -64,4 +59,4 @@ has_all_atoms n r e = subst (HasAllAtoms n) (sym e) (λ c k w.
     back : (c : List Atom) → length c ≡ n → (w : PointValue) → IsAtom w → IsAmong (more (comp 1 ([] ∷ []) (var n)) no_comps) c w
     back c k w (i, d) =
         let a = atom_at w.choice i in
-        inl (a ∷ [], record { count = refl; guard = refl }, subst (λ z. SameAt (var n) (c ++ a ∷ []) z w.choice) (sym d) (subst (λ z. IsTrue (equal z a)) (sym (first_more c a n k)) (equal_refl a)))
+        inl (a ∷ [], record { count = refl; guard = refl }, subst (λ z. SameAt (var n) (c ++ a ∷ []) z w.choice) (sym d) (subst (λ z. IsTrue (equal z a)) (sym (atom_at_end c a n k)) (equal_refl a)))

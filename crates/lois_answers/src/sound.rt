@@ -172,7 +172,7 @@ fn item_tags_are_names(comps: &Comps)
 }
 
 #[cycle(widths)]
-#[tactic(auto, using(crate::proofs::Counts::count_is_length))]
+#[tactic(auto, using(lois_base::proofs::Lists::parts_counted))]
 fn has_usual_widths(term: &Term) -> bool
     ensures exact { IsTrue result ↔ HasBoundedWidths (tree term.now) }
 {

@@ -12,15 +12,12 @@ use Rattle.lois_base.specs.declared.values.Comp.{Comp}
 use Rattle.lois_base.specs.Validity.{AdmitsConstraint, AdmitsTerm, AdmitsItems, AdmitsComp}
 use Rattle.lois_base.proofs.Connectives.{both_true}
 use Rattle.lois_base.proofs.Viewed.{rest_is}
+use Rattle.lois_base.proofs.Lists.{all_one}
 use Rattle.lois_relate.proofs.Parts.{comps_from, comps_are, no_comps_left}
 use Rattle.lois_rounds.specs.Families.{MemberD, FamilyD, AdmitsFamily, sizes}
 use Rattle.lois_automata.specs.Built.{IsFirstMember, AreFirstMembers, IsFreshMember, AreFreshMembers, IsJoinedMember, AreJoinedMembers, IsEmptyFamily}
 use Rattle.lois_automata.specs.Rounds.{is_over, held}
 use Rattle.lois_automata.proofs.Lists.{Completes, completes_more, completes_end, completes_begin}
-
-pub all_one : {X : Type 0} (P : X → Type 0) (x : X) → P x → All P (x ∷ [])
-all_one P x h zero d l = h
-all_one P x h (suc k) d l = absurd (omega arith)
 
 pub all_pushed : {X : Type 0} (P : X → Type 0) (xs ys : List X) (x : X) → ys ≡ xs ++ x ∷ [] → All P xs → P x → All P ys
 all_pushed P xs ys x e h p = subst (λ z. All P z) (sym e) (All-append P xs (x ∷ []) h (all_one P x p))
@@ -72,31 +69,8 @@ size_at (m ∷ f) (n ∷ g) (suc i) a b e l is is' = size_at f g i a b (rest (si
 abbrev pub CopiedSoFar : FamilyD → ℕ → FamilyD → Type 0
 CopiedSoFar f i done = Completes (λ rest. rest ≡ drop i f) (λ all. all ≡ f) done
 
-pub copied_more : (f done longer : FamilyD) (i : ℕ) (r : MemberD) (k : List (List Lit)) → i < length f → r ≡ get_or f i r → k ≡ r.1 → longer ≡ done ++ (r.0, k) ∷ [] → CopiedSoFar f i done → CopiedSoFar f (i + 1) longer
-copied_more f done longer i r k l is same e h =
-    completes_more (λ rest. rest ≡ drop i f) (λ rest. rest ≡ drop (i + 1) f) (λ all. all ≡ f) done longer r (subst (λ z. longer ≡ done ++ (r.0, z) ∷ []) same e) h (λ rest t. ap (λ z. r ∷ z) t ∙ sym (rest_is f i r l is))
-
 pub copied_end : (f done : FamilyD) (i : ℕ) → length f ≤ i → CopiedSoFar f i done → done ≡ f
 copied_end f done i l h = completes_end (λ rest. rest ≡ drop i f) (λ all. all ≡ f) done h (sym (drop_all i f l))
-
-pub alike_more : (f g : FamilyD) (i : ℕ) (a b : MemberD) → i < length f → i < length g → a ≡ get_or f i a → b ≡ get_or g i b → a ≡ b → (drop i f ≡ drop i g → f ≡ g) → drop (i + 1) f ≡ drop (i + 1) g → f ≡ g
-alike_more f g i a b l l' is is' same h rest =
-    let both : a ∷ drop (i + 1) f ≡ b ∷ drop (i + 1) g = rw (same, rest) in
-    h (rest_is f i a l is ∙ (both ∙ sym (rest_is g i b l' is')))
-
-pub alike_end : (f g : FamilyD) (i : ℕ) → length f ≤ i → length g ≤ i → (drop i f ≡ drop i g → f ≡ g) → f ≡ g
-alike_end f g i l l' h = h (drop_all i f l ∙ sym (drop_all i g l'))
-
--- ---- blank
-pub blank_end : (f : FamilyD) (i : ℕ) → length f ≤ i → (IsEmptyFamily (drop i f) → IsEmptyFamily f) → IsEmptyFamily f
-blank_end f i l h = h (subst IsEmptyFamily (sym (drop_all i f l)) tt)
-
-no_cubes : (g : List (List Lit)) → length g ≡ 0 → g ≡ []
-no_cubes [] e = refl
-no_cubes (k ∷ g) e = absurd (omega arith)
-
-pub blank_more : (f : FamilyD) (i : ℕ) (m : MemberD) → i < length f → m ≡ get_or f i m → length m.1 ≡ 0 → (IsEmptyFamily (drop i f) → IsEmptyFamily f) → IsEmptyFamily (drop (i + 1) f) → IsEmptyFamily f
-blank_more f i m l is e h rest = h (subst IsEmptyFamily (sym (rest_is f i m l is)) (no_cubes m.1 e, rest))
 
 pub not_blank : (f : FamilyD) (i : ℕ) (m : MemberD) → i < length f → m ≡ get_or f i m → 0 < length m.1 → IsEmptyFamily f → ⊥
 not_blank [] i m l is p h = absurd (omega arith)
@@ -118,26 +92,6 @@ over_at n (q ∷ items) (b ∷ f) zero k r h l is is' =
 over_at n (q ∷ items) (b ∷ f) (suc i) k r h l is is' =
     over_at n items f i k r ((both_true (nat_eq b.0 (n + q.binders)) (is_over n (comps_of (map comp_of items)) f)).0 h).1 (omega arith) is is'
 
-pub over_next : (n : ℕ) (items : List Comp) (f : FamilyD) (i : ℕ) (k : Comp) (r : MemberD) → i < length items → i < length f → k ≡ get_or items i k → r ≡ get_or f i r → r.0 ≡ n + k.binders →
-    is_over n (comps_from items i) (drop i f) ≡ is_over n (comps_from items (i + 1)) (drop (i + 1) f)
-over_next n items f i k r l l' is is' e =
-    let one : is_over n (comps_from items i) (drop i f) ≡ is_over n (more (comp_of k) (comps_from items (i + 1))) (r ∷ drop (i + 1) f) = rw (comps_are items i k l is, rest_is f i r l' is') in
-    let same : nat_eq r.0 (n + k.binders) ≡ true = eq-eqb r.0 (n + k.binders) e in
-    one ∙ rw same
-
-pub over_stops : (n : ℕ) (items : List Comp) (f : FamilyD) (i : ℕ) (k : Comp) (r : MemberD) → i < length items → i < length f → k ≡ get_or items i k → r ≡ get_or f i r → (r.0 ≡ n + k.binders → ⊥) →
-    is_over n (comps_from items i) (drop i f) ≡ false
-over_stops n items f i k r l l' is is' e =
-    let one : is_over n (comps_from items i) (drop i f) ≡ is_over n (more (comp_of k) (comps_from items (i + 1))) (r ∷ drop (i + 1) f) = rw (comps_are items i k l is, rest_is f i r l' is') in
-    one ∙ not_over (nat_eq r.0 (n + k.binders)) (is_over n (comps_from items (i + 1)) (drop (i + 1) f)) (λ h. e (eqb-true r.0 (n + k.binders) h))
-  where
-    not_over : (a b : Bool) → (a ≡ true → ⊥) → (a && b) ≡ false
-    not_over true b h = absurd (h refl)
-    not_over false b h = refl
-
-pub over_end : (n : ℕ) (items : List Comp) (f : FamilyD) (i : ℕ) → length items ≤ i → length f ≤ i → is_over n (comps_from items i) (drop i f) ≡ true
-over_end n items f i l l' = rw (no_comps_left items i l, drop_all i f l')
-
 pub over_lengths : (n : ℕ) (vs : List CompD) (f : FamilyD) → (length f ≡ length vs → ⊥) → is_over n (comps_of vs) f ≡ false
 over_lengths n vs f h = no_other (is_over n (comps_of vs) f) (λ e. h (over_length n vs f e))
   where
@@ -152,27 +106,11 @@ HeldRest items f i rest = comps_of rest ≡ held (comps_from items i) (drop i f)
 abbrev pub HeldSoFar : List Comp → FamilyD → ℕ → List CompD → Type 0
 HeldSoFar items f i done = Completes (HeldRest items f i) (λ ks. comps_of ks ≡ held (comps_of (map comp_of items)) f) done
 
-pub held_more : (items : List Comp) (f : FamilyD) (i : ℕ) (k : Comp) (r : MemberD) (done longer : List CompD) (item : TermD) → i < length items → i < length f → k ≡ get_or items i k → r ≡ get_or f i r →
-    longer ≡ done ++ comp k.binders r.1 (tree k.item) ∷ [] → HeldSoFar items f i done → HeldSoFar items f (i + 1) longer
-held_more items f i k r done longer item l l' is is' e h =
-    completes_more (HeldRest items f i) (HeldRest items f (i + 1)) (λ ks. comps_of ks ≡ held (comps_of (map comp_of items)) f) done longer (comp k.binders r.1 (tree k.item)) e h
-    (λ rest t. ap (λ z. more (comp k.binders r.1 (tree k.item)) z) t ∙ sym (rw (comps_are items i k l is, rest_is f i r l' is')))
-
-pub held_end : (items : List Comp) (f : FamilyD) (i : ℕ) (done : List CompD) → length items ≤ i → HeldSoFar items f i done → comps_of done ≡ held (comps_of (map comp_of items)) f
-held_end items f i done l h =
-    completes_end (HeldRest items f i) (λ ks. comps_of ks ≡ held (comps_of (map comp_of items)) f) done h (sym (rw (no_comps_left items i l)))
-
 -- ---- fresh
 module _ (n : ℕ) (u : List (List Lit)) (t : TermD) where
   pub record FreshSoFar (items : List Comp) (f : FamilyD) (i : ℕ) (done : FamilyD) : Type 0 where
     pub made : Completes (AreFreshMembers n u t (comps_from items i) (drop i f)) (AreFreshMembers n u t (comps_of (map comp_of items)) f) done
     pub operators : (o : Bool) → AdmitsItems o (comps_of (map comp_of items)) → AdmitsFamily o f → AdmitsTerm o t → AdmitsConstraint o u → AdmitsFamily o done
-
-  pub fresh_begin : (items : List Comp) (f done : FamilyD) → done ≡ [] → FreshSoFar items f 0 done
-  fresh_begin items f done e = record {
-    made = completes_begin (AreFreshMembers n u t (comps_of (map comp_of items)) f) done e;
-    operators = λ o a b p q. subst (λ z. AdmitsFamily o z) (sym e) (λ k d l. absurd (omega arith));
-  }
 
   pub fresh_more : (items : List Comp) (f : FamilyD) (i : ℕ) (k : Comp) (b r : MemberD) (done longer : FamilyD) → i < length items → i < length f → k ≡ get_or items i k → b ≡ get_or f i b →
       longer ≡ done ++ r ∷ [] → FreshSoFar items f i done → IsFreshMember n u t k.binders k.guard (tree k.item) b r →
@@ -194,12 +132,6 @@ module _ (n : ℕ) (u : List (List Lit)) (t : TermD) where
   pub record FirstSoFar (items : List Comp) (i : ℕ) (done : FamilyD) : Type 0 where
     pub made : Completes (AreFirstMembers n u t (comps_from items i)) (AreFirstMembers n u t (comps_of (map comp_of items))) done
     pub operators : (o : Bool) → AdmitsItems o (comps_of (map comp_of items)) → AdmitsTerm o t → AdmitsConstraint o u → AdmitsFamily o done
-
-  pub first_begin : (items : List Comp) (done : FamilyD) → done ≡ [] → FirstSoFar items 0 done
-  first_begin items done e = record {
-    made = completes_begin (AreFirstMembers n u t (comps_of (map comp_of items))) done e;
-    operators = λ o a p q. subst (λ z. AdmitsFamily o z) (sym e) (λ k d l. absurd (omega arith));
-  }
 
   pub first_more : (items : List Comp) (i : ℕ) (k : Comp) (r : MemberD) (done longer : FamilyD) → i < length items → k ≡ get_or items i k →
       longer ≡ done ++ r ∷ [] → FirstSoFar items i done → IsFirstMember n u t (comp_of k) r →

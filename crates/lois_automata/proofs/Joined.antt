@@ -14,13 +14,13 @@ use Rattle.lois_base.proofs.Connectives.{both_true}
 use Rattle.lois_meaning.specs.Automata.{IsPair, IsTriple}
 use Rattle.lois_meaning.proofs.Automata.{triple_same}
 use Rattle.lois_meaning.proofs.Operations.{pair_same, pair_to}
+use Rattle.lois_meaning.proofs.Tuples.{pair_parts, triple_to, triples_same}
 use Rattle.lois_automata.specs.Adding.{IsMadeOfTwo, IsPairOf, IsStepOf, AddsOfTwo}
 use Rattle.lois_automata.specs.Built.{AreBeside, ArePairs}
 use Rattle.lois_automata.specs.Projections.{HasStepIn, AreSideBySide, pair_of, triple_of}
 use Rattle.lois_automata.proofs.Adding.{added_put, adds_nothing, two_among}
 use Rattle.lois_automata.proofs.PairedComps.{made_of_two}
 use Rattle.lois_automata.proofs.Written.{pair_is, triple_is, triple_here, triple_term}
-use Rattle.lois_automata.proofs.Tuples.{pair_parts, triple_to, triples_same}
 
 pair_of_same : (x y w x' y' w' : PointValue) → IsSame x x' → IsSame y y' → IsSame w w' → IsPairOf x y w → IsPairOf x' y' w'
 pair_of_same x y w x' y' w' a b s h = pair_to w w' x' y' s (pair_parts w x y x' y' a b h)

@@ -22,15 +22,6 @@ raised_same n m t raised is_raised c e k l =
     let here : SameAt raised (c ++ (e ++ [])) t (c ++ []) = is_raised c e [] k l in
     subst (λ z. SameAt raised (c ++ z) t c) (append-nil e) (subst (λ z. SameAt raised (c ++ (e ++ [])) t z) (append-nil c) here)
 
-pub found_is : (n m : ℕ) (ks : CompsD) (item : TermD) (f : FormulaD) (q : List (List Lit)) → HoldsWhereItemIn n m item ks f → AgreesWith (n + m) f q → HoldsWhereMember n m item (coll ks) q
-found_is n m ks item f q member agrees c e k l =
-    let longer : length (c ++ e) ≡ n + m = omega (arith, length-append c e) in
-    let one = agrees (c ++ e) longer in
-    let two = member c e k l in (
-      λ h. let i = two.0 (one.0 h) in (point i.0 i.1, i.2, i.3),
-      λ h. one.1 (two.1 ((h.0).term_of, (h.0).choice, h.1, h.2)),
-    )
-
 -- further atoms don't count
 pub longer_is : (n : ℕ) (u : List (List Lit)) (c e : List Atom) → ConstraintFits n u → length c ≡ n → holds (c ++ e) u ≡ holds c u
 longer_is n u c e fits k = holds_longer c e u (subst (λ z. ConstraintFits z u) (sym k) fits)

@@ -85,6 +85,3 @@ is_reached_set x start first f are unchanged c l admitted = (
       let here = among_in (held x.nodes f) c w in
       (λ i. all.0 (here.1 i), λ i. here.0 (all.1 i)),
 )
-
-pub first_length : (n : ℕ) (u : List (List Lit)) (t : TermD) (ks : CompsD) (f : FamilyD) → AreFirstMembers n u t ks f → IsOver n ks f
-first_length n u t ks f h = is_over_true n ks f (first_over n u t ks f h)

@@ -12,6 +12,7 @@ use Rattle.lois_base.specs.Validity.{AdmitsCube, AdmitsConstraint, AdmitsItems, 
 use Rattle.lois_base.specs.Truth.{holds}
 use Rattle.lois_base.specs.Values.{PointValue, point, IsIn}
 use Rattle.lois_base.specs.declared.guards.Lit.{Lit}
+use Rattle.lois_base.proofs.Lists.{all_right}
 use Rattle.lois_constraint.proofs.Listed.{met_at}
 use Rattle.lois_algebra.specs.Gathered.{IsAmong}
 use Rattle.lois_algebra.proofs.Among.{among_in}
@@ -43,17 +44,12 @@ held_joined (more (comp m g t) ks) (p ∷ f) (q ∷ r) (s ∷ a) c w joined h = 
 ]
 held_joined _ _ _ _ c w joined h = absurd (assumption joined)
 
--- what all of a list obey, the rest of it obeys
-behind : {X : Type 0} (P : X → Type 0) (xs ys : List X) → All P (xs ++ ys) → All P ys
-behind P [] ys h = h
-behind P (x ∷ xs) ys h = behind P xs ys (All-tail P x (xs ++ ys) h)
-
 -- the operators of r are among those of f joined with r
 joined_admits : (o : Bool) (f r a : FamilyD) → AreJoinedMembers f r a → AdmitsFamily o a → AdmitsFamily o r
 joined_admits o [] [] [] joined h = h
 joined_admits o (p ∷ f) (q ∷ r) (s ∷ a) joined h =
     All-cons (λ m. AdmitsConstraint o m.1) q r
-    (behind (AdmitsCube o) p.1 q.1 (subst (λ z. AdmitsConstraint o z) joined.0.cubes (All-head (λ m. AdmitsConstraint o m.1) s a h)))
+    (all_right (AdmitsCube o) p.1 q.1 (subst (λ z. AdmitsConstraint o z) joined.0.cubes (All-head (λ m. AdmitsConstraint o m.1) s a h)))
     (joined_admits o f r a joined.1 (All-tail (λ m. AdmitsConstraint o m.1) s a h))
 joined_admits _ _ _ _ joined h = absurd (assumption joined)
 

@@ -16,7 +16,7 @@ use Rattle.lois_automata.specs.declared.projections.Projection.TheVariants.{Sour
 use Rattle.lois_automata.proofs.Adding.{added_put, adds_nothing, one_among}
 use Rattle.lois_automata.proofs.Written.{pair_is, triple_is, triple_here, triple_term}
 use Rattle.lois_meaning.proofs.Operations.{pair_same, pair_to}
-use Rattle.lois_automata.proofs.Tuples.{triple_to}
+use Rattle.lois_meaning.proofs.Tuples.{triple_to}
 
 shaped_is : (shape : Projection) (p l q : TermD) (d : List Atom) (w : PointValue) → IsSame (point (projected_term shape p l q) d) w → IsProjected shape w (point p d) (point l d) (point q d)
 shaped_is Source p l q d w s = same_sym (point p d) w s

@@ -8,14 +8,11 @@ use Rattle.lois_base.specs.Validity.{count_of_parts}
 use Rattle.lois_base.specs.Values.{PointValue, point, IsSame}
 use Rattle.lois_base.specs.declared.values.Term.{Term}
 use Rattle.lois_base.proofs.Members.{same_refl, same_sym}
+use Rattle.lois_base.proofs.Lists.{parts_counted}
 use Rattle.lois_meaning.specs.Automata.{IsPair, IsTriple}
 use Rattle.lois_meaning.specs.Kinds.{part_values}
 use Rattle.lois_automata.specs.Projections.{pair_of, triple_of}
 use Rattle.lois_automata.specs.Machines.{IsAutomatonAt}
-
-counted : (vs : List TermD) → count_of_parts (terms_of vs) ≡ length vs
-counted [] = refl
-counted (v ∷ vs) = ap suc (counted vs)
 
 abbrev parts_of_term : TermD → TermsD
 parts_of_term (tup ts) = ts
@@ -24,7 +21,7 @@ parts_of_term _ = no_terms
 pub not_two : (ts : List Term) (vs : List TermD) (a b : TermD) → map tree ts ≡ vs → (length ts ≡ 2 → ⊥) → tup (terms_of vs) ≡ pair_of a b → ⊥
 not_two ts vs a b m never e =
     let parts : terms_of vs ≡ term a (term b no_terms) = ap parts_of_term e in
-    never (sym (length-map ts tree) ∙ (ap length m ∙ (sym (counted vs) ∙ ap count_of_parts parts)))
+    never (sym (length-map ts tree) ∙ (ap length m ∙ (sym (parts_counted vs) ∙ ap count_of_parts parts)))
 
 pub two_parts : (ts : List Term) (vs : List TermD) (a b : Term) → map tree ts ≡ vs → length ts ≡ 2 → a ≡ get_or ts 0 a → b ≡ get_or ts 1 b → tup (terms_of vs) ≡ pair_of (tree a) (tree b)
 two_parts ts vs a b m l is is' = ap tup (ap terms_of (sym m) ∙ go ts l is is')
@@ -38,7 +35,7 @@ two_parts ts vs a b m l is is' = ap tup (ap terms_of (sym m) ∙ go ts l is is')
 pub not_three : (ts : List Term) (vs : List TermD) (p l q : TermD) → map tree ts ≡ vs → (length ts ≡ 3 → ⊥) → tup (terms_of vs) ≡ triple_of p l q → ⊥
 not_three ts vs p l q m never e =
     let parts : terms_of vs ≡ term p (term l (term q no_terms)) = ap parts_of_term e in
-    never (sym (length-map ts tree) ∙ (ap length m ∙ (sym (counted vs) ∙ ap count_of_parts parts)))
+    never (sym (length-map ts tree) ∙ (ap length m ∙ (sym (parts_counted vs) ∙ ap count_of_parts parts)))
 
 pub three_parts : (ts : List Term) (vs : List TermD) (a b e : Term) → map tree ts ≡ vs → length ts ≡ 3 → a ≡ get_or ts 0 a → b ≡ get_or ts 1 b → e ≡ get_or ts 2 e → tup (terms_of vs) ≡ triple_of (tree a) (tree b) (tree e)
 three_parts ts vs a b e m l is is' is2 = ap tup (ap terms_of (sym m) ∙ go ts l is is' is2)
@@ -62,7 +59,7 @@ pub five_parts : (ts : TermsD) (c : List Atom) → IsAutomatonAt (tup ts) c → 
 five_parts ts c (a, is) = count_at ts c (a.states ∷ a.letters ∷ a.steps ∷ a.initial ∷ a.final ∷ []) is.five
 
 pub not_five : (ts : List Term) (vs : List TermD) (c : List Atom) → map tree ts ≡ vs → (length ts ≡ 5 → ⊥) → IsAutomatonAt (tup (terms_of vs)) c → ⊥
-not_five ts vs c m never h = never (sym (length-map ts tree) ∙ (ap length m ∙ (sym (counted vs) ∙ five_parts (terms_of vs) c h)))
+not_five ts vs c m never h = never (sym (length-map ts tree) ∙ (ap length m ∙ (sym (parts_counted vs) ∙ five_parts (terms_of vs) c h)))
 
 -- the term of a pair is a tuple of two, whose items are its parts
 pub pair_term : (t : TermD) (d : List Atom) (p w : PointValue) → IsPair (point t d) p w → (a b : TermD) × (t ≡ pair_of a b) × IsSame p (point a d) × IsSame w (point b d)

@@ -9,6 +9,7 @@ use Rattle.lois_base.specs.Atom.{Atom}
 use Rattle.lois_base.specs.Normal.{both}
 use Rattle.lois_base.specs.Truth.{lit_holds, cube_holds, holds}
 use Rattle.lois_base.specs.declared.guards.Lit.{Lit}
+use Rattle.lois_base.proofs.Booleans.{and_false}
 
 and_or : (p q r : Bool) → ((p && q) || (p && r)) ≡ (p && (q || r))
 and_or true q r = refl
@@ -20,10 +21,6 @@ or_and true true false = refl
 or_and true false true = refl
 or_and true false false = refl
 or_and false q r = refl
-
-and_false : (p : Bool) → (p && false) ≡ false
-and_false true = refl
-and_false false = refl
 
 module _ (c : List Atom) where
   pub cubes_append : (k l : List Lit) → cube_holds c (k ++ l) ≡ (cube_holds c k && cube_holds c l)

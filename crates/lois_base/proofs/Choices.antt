@@ -1,8 +1,9 @@
 -- Choices with equal atoms at some levels.
-use Rattle.std.proofs.Common.{◌≡◌, ℕ, ◌-◌, ◌<◌, ◌≤◌, ◌⊎◌, inl, inr, List, ◌++◌, length, length-append, refl, sym, arith}
+use Rattle.std.proofs.Common.{◌≡◌, ℕ, ◌-◌, ◌<◌, ◌≤◌, ◌⊎◌, inl, inr, List, [], ◌∷◌, ◌++◌, length, length-append, refl, sym, arith}
 use Rattle.std.proofs.lemmas.Bool.{cases_lt}
 use Rattle.std.proofs.lemmas.List.{get_or_past, get_or_append_left, get_or-append_right}
 use Rattle.std.specs.Bool.{IsTrue}
+use Rattle.std.proofs.Math.Seq.{get_or-append_seam}
 use Rattle.lois_base.specs.Atom.{Atom, equal, whole}
 use Rattle.lois_base.specs.Patterns.{AreEqualFor, AreEqual}
 use Rattle.lois_base.specs.Truth.{atom_at}
@@ -10,6 +11,13 @@ use Rattle.lois_base.proofs.Order.{equal_refl, equal_sym}
 
 pub length_same : (c d e f : List Atom) → length c ≡ length d → length e ≡ length f → length (c ++ e) ≡ length (d ++ f)
 length_same c d e f h k = omega (arith, length-append c e, length-append d f)
+
+pub no_atoms : (c : List Atom) → length c ≡ 0 → c ≡ []
+no_atoms [] h = refl
+no_atoms (a ∷ c) h = absurd (omega arith)
+
+pub atom_at_end : (c : List Atom) (a : Atom) (n : ℕ) → length c ≡ n → atom_at (c ++ a ∷ []) n ≡ a
+atom_at_end c a n e = rw (sym e) (get_or-append_seam c a [] (whole 0))
 
 module _ (P : ℕ → Type 0) where
   -- at a level that both choices lack, both read zero
@@ -36,6 +44,3 @@ module _ (P : ℕ → Type 0) where
           rw (get_or_append_left c e (whole 0) i l, get_or_append_left d e (whole 0) i m) (h.atoms i p l)
       go i p (inr l) =
           rw (get_or-append_right c e (length c) i (whole 0) refl l, get_or-append_right d e (length c) i (whole 0) (sym h.count) l) (equal_refl (atom_at e (i - length c)))
-
-pub equal_choices_refl : (c : List Atom) → AreEqual c c
-equal_choices_refl c = record { count = refl; atoms = λ i p l. equal_refl (atom_at c i) }

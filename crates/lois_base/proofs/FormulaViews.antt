@@ -32,10 +32,6 @@ pub view_Exists : (f : Formula) (b : _) (d : Formula) → f ≡ Exists b → d �
 view_Exists f b d e v =
     ap view e ∙ ap view (sym (rolls-Exists b)) ∙ fold-roll-Formula FormulaD (List FormulaD) view_step views_step (Formula-F.Exists b) ∙ ap (λ x. exists (view x)) (sym v)
 
-pub view_Forall : (f : Formula) (b : _) (d : Formula) → f ≡ Forall b → d ≡ b.value → view f ≡ forall (view d)
-view_Forall f b d e v =
-    ap view e ∙ ap view (sym (rolls-Forall b)) ∙ fold-roll-Formula FormulaD (List FormulaD) view_step views_step (Formula-F.Forall b) ∙ ap (λ x. forall (view x)) (sym v)
-
 depth_at : (fs : List Formula) (i : ℕ) (d : Formula) → i < length fs → depth_of_formula (view (get_or fs i d)) ≤ depth_of_formulas (formulas_of (map view fs))
 depth_at [] i d l = omega arith
 depth_at (f ∷ fs) zero d l = omega arith

@@ -1,10 +1,14 @@
+pub mod Appended
+pub mod Booleans
 pub mod Both
 pub mod Choices
 pub mod Connectives
 pub mod Depths
+pub mod Numbers
 pub mod FormulaViews
 pub mod Gaps
 pub mod Levels
+pub mod Lists
 pub mod Members
 pub mod Moves
 pub mod NameForm

@@ -23,33 +23,11 @@ same_as_atom v w i e h = go w.term_of (subst (λ t. SameAt t v.choice w.term_of 
     go (var j) k = (j, refl)
     go _ k = absurd k
 
-pub same_as_tag : (v w : PointValue) (name : List ℕ) → v.term_of ≡ tag name → IsSame v w → w.term_of ≡ tag name
-same_as_tag v w name e h = go w.term_of (subst (λ t. SameAt t v.choice w.term_of w.choice) e h)
-  where
-    go : (s : TermD) → SameAt (tag name) v.choice s w.choice → s ≡ tag name
-    go (tag other) k = cc
-    go _ k = absurd k
-
-pub same_as_tuple : (v w : PointValue) (ts : TermsD) → v.term_of ≡ tup ts → IsSame v w → (ss : TermsD) × (w.term_of ≡ tup ss) × SamePartsAt ts v.choice ss w.choice
-same_as_tuple v w ts e h = go w.term_of (subst (λ t. SameAt t v.choice w.term_of w.choice) e h)
-  where
-    go : (s : TermD) → SameAt (tup ts) v.choice s w.choice → (ss : TermsD) × (s ≡ tup ss) × SamePartsAt ts v.choice ss w.choice
-    go (tup ss) k = (ss, refl, k)
-    go _ k = absurd k
-
 pub same_as_set : (v w : PointValue) (ks : CompsD) → v.term_of ≡ coll ks → IsSame v w → (ls : CompsD) × (w.term_of ≡ coll ls)
 same_as_set v w ks e h = go w.term_of (subst (λ t. SameAt t v.choice w.term_of w.choice) e h)
   where
     go : (s : TermD) → SameAt (coll ks) v.choice s w.choice → (ls : CompsD) × (s ≡ coll ls)
     go (coll ls) k = (ls, refl)
-    go _ k = absurd k
-
--- what has a member is a set
-pub set_of_member : (u v : PointValue) → IsMember u v → (ks : CompsD) × (v.term_of ≡ coll ks)
-set_of_member u v m = go v.term_of m
-  where
-    go : (t : TermD) → IsMemberOf u.term_of u.choice t v.choice → (ks : CompsD) × (t ≡ coll ks)
-    go (coll ks) k = (ks, refl)
     go _ k = absurd k
 
 pub member_in : (u v : PointValue) → IsMember u v → IsIn u v
@@ -98,7 +76,7 @@ both_included _ c _ d ks ls e f h k = absurd (cc)
 pub same_sets : (v w : PointValue) (ks ls : CompsD) → v.term_of ≡ coll ks → w.term_of ≡ coll ls → IsIncluded v w → IsIncluded w v → IsSame v w
 same_sets v w ks ls e f h k = both_included v.term_of v.choice w.term_of w.choice ks ls e f h k
 
-member_deeper : (ks : CompsD) (c : List Atom) (n : ℕ) (w : TermD) (x : List Atom) → MemberAt w x ks c → DeeperAt w x n → SomeMemberDeeperAt ks c n
+pub member_deeper : (ks : CompsD) (c : List Atom) (n : ℕ) (w : TermD) (x : List Atom) → MemberAt w x ks c → DeeperAt w x n → SomeMemberDeeperAt ks c n
 member_deeper no_comps c n w x m h = m
 member_deeper (more (comp m g t) ks) c n w x (inl k) h =
     inl (k.0, k.1, subst (λ z. DeeperAt t z n) k.3 (subst (λ u. DeeperAt u x n) k.2 h))

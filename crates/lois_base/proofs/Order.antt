@@ -5,7 +5,7 @@ use Rattle.std.proofs.Math.Nat.{mul-le-mul_right, le_of_mul-le-mul_right}
 use Rattle.std.specs.Bool.{IsTrue, IsFalse}
 use borrow.Author.Differences.{up, down, sum_is_lem}
 use mathlib.Core.Logic.{◌⊎◌, inl, inr}
-use Rattle.lois_base.specs.Atom.{Atom, equal, below}
+use Rattle.lois_base.specs.Atom.{Atom, equal, below, whole}
 
 -- the order of two fractions in natural numbers
 abbrev AtMost : Atom → Atom → Type 0
@@ -155,3 +155,17 @@ equals_from a b x y h k = equal_is_neither a b ∙ both (below a b) (below b a) 
   where
     both : (p q r s : Bool) → p ≡ r → q ≡ s → (not p && not q) ≡ (not r && not s)
     both p q r s e f = rw (e, f)
+
+pub below_not_equal : (a b : Atom) → IsTrue (below a b) → IsFalse (equal a b)
+below_not_equal a b h = grind arith
+
+-- ---- atoms at whole numbers
+pub numbers_same : (m n : ℕ) → IsTrue (equal (whole m) (whole n)) → m ≡ n
+numbers_same m n h = grind (arith, ints)
+
+pub numbers_differ : (m n : ℕ) → (m ≡ n → ⊥) → IsFalse (equal (whole m) (whole n))
+numbers_differ m n d = go (equal (whole m) (whole n)) refl
+  where
+    go : (t : Bool) → equal (whole m) (whole n) ≡ t → IsFalse t
+    go false e = refl
+    go true e = absurd (d (numbers_same m n e))

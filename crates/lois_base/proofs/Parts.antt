@@ -15,21 +15,6 @@ module _ {X : Type 0} where
   drop_at (y ∷ xs) zero x e = cc
   drop_at (y ∷ xs) (suc i) x e = rw add-one (rw add-one at (drop_at xs i x e))
 
-  pub take_at : (xs : List X) (i : ℕ) (x : X) → Some x ≡ slice_get xs i → take (i + 1) xs ≡ take i xs ++ x ∷ []
-  take_at [] i x e = absurd (cc)
-  take_at (y ∷ xs) zero x e = cc
-  take_at (y ∷ xs) (suc i) x e = rw add-one (ap (λ l. y ∷ l) (rw add-one at (take_at xs i x e)))
-
-pub part_within : (ts : List TermD) (i : ℕ) (t : TermD) → Some t ≡ slice_get ts i → depth t ≤ depth_of_terms ts
-part_within [] i t e = absurd (cc)
-part_within (u ∷ ts) zero t e = grind arith
-part_within (u ∷ ts) (suc i) t e = omega (arith, part_within ts i t e)
-
-pub comp_within : (cs : List CompD) (i : ℕ) (c : CompD) → Some c ≡ slice_get cs i → depth_of_comp c ≤ depth_of_comps cs
-comp_within [] i c e = absurd (cc)
-comp_within (d ∷ cs) zero c e = grind arith
-comp_within (d ∷ cs) (suc i) c e = omega (arith, comp_within cs i c e)
-
 pub deep_at : (ts : List Term) (i : ℕ) (t : Term) → i < length ts → deep-Term (get_or ts i t) ≤ depth_of_terms (map tree ts)
 deep_at [] i t l = omega arith
 deep_at (u ∷ ts) zero t l = omega (arith, deep_le-depth u)

@@ -12,7 +12,7 @@ use Rattle.lois_base.specs.Fits.{Fits}
 use Rattle.lois_base.specs.Truth.{sampled}
 use Rattle.lois_base.specs.Validity.{AdmitsFormula, AdmitsTerm}
 use Rattle.lois_base.specs.Values.{PointValue, point, IsProper, IsSame}
-use Rattle.lois_base.proofs.Order.{equal_refl, equal_sym, equal_trans, below_respects, trichotomy, below_asym, below_trans, between, lower, higher}
+use Rattle.lois_base.proofs.Order.{equal_refl, equal_sym, equal_trans, below_respects, trichotomy, below_asym, below_trans, between, lower, higher, below_not_equal}
 use Rattle.lois_base.proofs.Members.{same_refl, same_sym, same_trans, in_same, same_in, same_included, included_same, same_sets, deeper_same}
 use Rattle.lois_base.proofs.Truths.{holds_equal, formula_equal, holds_alike, holds_ordered}
 use Rattle.lois_base.proofs.Levels.{holds_for, value_for}
@@ -27,13 +27,10 @@ equality = record {
   in_below = below_respects;
 }
 
-smaller_differs : (a b : Atom) → IsTrue (below a b) → IsFalse (equal a b)
-smaller_differs a b h = grind arith
-
 pub order : IsDenseOrder
 order = record {
   total = trichotomy;
-  strict = λ a b h. (smaller_differs a b h, below_asym a b h);
+  strict = λ a b h. (below_not_equal a b h, below_asym a b h);
   transitive = below_trans;
   dense = between;
   no_least = lower;

@@ -57,9 +57,6 @@ pub lit_equal : (c d : List Atom) → AreEqual c d → (l : Lit) → LitAgrees c
 lit_equal c d h l =
     op_respects l.op (atom_at c l.left) (atom_at d l.left) (atom_at c l.right) (atom_at d l.right) (equal_at c d h l.left) (equal_at c d h l.right)
 
-pub cube_equal : (c d : List Atom) → AreEqual c d → (k : List Lit) → cube_holds c k ≡ cube_holds d k
-cube_equal c d h k = cube_agrees c d k (λ i x l. lit_equal c d h _)
-
 pub holds_equal : (c d : List Atom) → AreEqual c d → (g : List (List Lit)) → holds c g ≡ holds d g
 holds_equal c d h g = holds_agree c d g (λ i k l j x m. lit_equal c d h _)
 

@@ -92,7 +92,7 @@ module _ (P : Atom → Type 0) (passes : Twins → Bool) where
           All-tail P p.other (others passes ps) (subst (λ b. All P (cond b (p.other ∷ others passes ps) (others passes ps))) z h)
       rest (inr z) = subst (λ b. All P (cond b (p.other ∷ others passes ps) (others passes ps))) z h
 
-equal_turned : (a b : Atom) → equal a b ≡ equal b a
+pub equal_turned : (a b : Atom) → equal a b ≡ equal b a
 equal_turned a b = same_truth (equal a b) (equal b a) (equal_sym a b) (equal_sym b a)
 
 apart : (p q : Twins) → IsFalse (equal p.one q.one) → IsFalse (equal p.other q.other) → StandAlike false p q
@@ -179,10 +179,6 @@ carried_more ps qs n c d w h =
 pub carried_swap : (ps : List Twins) (n : ℕ) (c d : List Atom) → IsCarried ps n c d → IsCarried (swapped ps) n d c
 carried_swap ps n c d h =
     record { left = h.right; right = h.left; atoms = λ i l. has_swap ps (twins (atom_at c i) (atom_at d i)) (h.atoms i l) }
-
-pub carried_back : (ps : List Twins) (n : ℕ) (c d : List Atom) → IsCarried (swapped ps) n c d → IsCarried ps n d c
-carried_back ps n c d h =
-    record { left = h.right; right = h.left; atoms = λ i l. has_swapped ps (twins (atom_at c i) (atom_at d i)) (h.atoms i l) }
 
 pub carried_longer : (ps : List Twins) (n m : ℕ) (c d e f : List Atom) → IsCarried ps n c d → IsCarried ps m e f → IsCarried ps (n + m) (c ++ e) (d ++ f)
 carried_longer ps n m c d e f h k = record {

@@ -42,9 +42,6 @@ uses_only-is h g only i u = at_used (λ j. GuardUses j h) i g only u
 pub uses_only-refl : (g : List (List Lit)) → UsesOnly g g
 uses_only-refl g = uses_only g g (λ i u. u)
 
-pub uses_only-trans : (f g h : List (List Lit)) → UsesOnly f g → UsesOnly g h → UsesOnly f h
-uses_only-trans f g h a b = uses_only f h (λ i u. uses_only-is f g a i (uses_only-is g h b i u))
-
 pub uses-append_left : (i : ℕ) (g h : List (List Lit)) → GuardUses i g → GuardUses i (g ++ h)
 uses-append_left i g h u =
     let c = Contains-append_left g h u.1 (u.0, u.2, u.3) in (c.0, u.1, c.1, c.2, u.4)
@@ -65,10 +62,6 @@ uses_only-append_right g h r only =
 -- a level that is used is below the bound of all levels
 pub level_fits : (n : ℕ) (g : List (List Lit)) → ConstraintFits n g → (i : ℕ) → GuardUses i g → i < n
 level_fits n g fits i u = at_used (λ j. j < n) i g fits u
-
--- what uses only the levels of g fits where g does
-pub uses_only-fits : (n : ℕ) (g r : List (List Lit)) → ConstraintFits n g → UsesOnly g r → ConstraintFits n r
-uses_only-fits n g r fits only = used_at (λ j. j < n) r (λ i u. level_fits n g fits i (uses_only-is g r only i u))
 
 -- what fits, fits where there are more levels
 pub fits_longer : (n m : ℕ) (g : List (List Lit)) → ConstraintFits n g → ConstraintFits (n + m) g

@@ -17,10 +17,6 @@ use Rattle.lois_base.specs.Patterns.{AreAlike}
 use borrow.Author.Count.{below_more}
 
 module _ (ordered : Bool) (n m : ℕ) where
-  pub says_always : (P : List Atom → Type 0) (f : FormulaD) → f ≡ all no_formulas → ((d : List Atom) → P d) → SaysBehind ordered n m P f
-  says_always P f is each =
-      subst (SaysBehind ordered n m P) (sym is) (record { truth = λ e d le ld. (λ h. each d, λ h. tt); levels = tt; operators = tt })
-
   pub says_both : (P Q R : List Atom → Type 0) (f g r : FormulaD) → SaysBehind ordered n m P f → SaysBehind ordered n m Q g → IsBoth f g r → ((d : List Atom) → length d ≡ m → (P d × Q d) ↔ R d) → SaysBehind ordered n m R r
   says_both P Q R f g r p q both same = record {
     truth = λ e d le ld.

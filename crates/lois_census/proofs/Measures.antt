@@ -9,13 +9,11 @@ use Rattle.lois_base.specs.Values.{point}
 use Rattle.lois_base.specs.declared.guards.Lit.{Lit}
 use Rattle.lois_deciders.specs.Satisfaction.{IsConstraintSample}
 use Rattle.lois_rounds.proofs.Counts.{count_lists, Within, count_equal}
+use Rattle.lois_rounds.proofs.Measures.{at_sample}
 use Rattle.lois_census.specs.Left.{IsWithoutOrbit}
 use Rattle.lois_census.specs.OrbitData.{OrbitD}
 use Rattle.lois_census.specs.Orbits.{IsInOrbit}
 use Rattle.lois_census.proofs.Standing.{alike_itself}
-
-abbrev at_sample : List (List Lit) → List ℕ → Bool
-at_sample g s = holds (sampled s) g
 
 abbrev pub sample_count : ℕ → List (List Lit) → ℕ
 sample_count n g = count_lists true n n (at_sample g)

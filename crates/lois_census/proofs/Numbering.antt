@@ -9,6 +9,7 @@ use Rattle.lois_answers.specs.LastNamed.{last_line, last_named}
 use Rattle.lois_answers.specs.ResultsData.{LineD, CaseD}
 use Rattle.lois_answers.specs.declared.results.Case.{Case}
 use Rattle.std.specs.Prelude.{bytes_eq}
+use Rattle.lois_base.proofs.Lists.{zip_push}
 use Rattle.lois_census.specs.CensusData.{CensusD}
 use Rattle.lois_census.specs.Censuses.{NumberedD, numbered, is_met, IsCensusOf, AreCensusesOf, HaveText}
 use Rattle.lois_census.specs.Orbits.{FitsSample}
@@ -38,13 +39,6 @@ pub last_named_has : (P : LineD → Type 0) (name : List ℕ) (lines : List Line
 last_named_has P name lines l e h =
     last_has P (filter (λ k. bytes_eq k.name name) lines) l e (All-filter (λ k. bytes_eq k.name name) P lines h)
 
--- ---- one more case
-zip_push : {X Y : Type 0} (R : X → Y → Type 0) (xs : List X) (ys : List Y) (x : X) (y : Y) → AllZip R xs ys → R x y → AllZip R (xs ++ x ∷ []) (ys ++ y ∷ [])
-zip_push R [] [] x y h r = (r, tt)
-zip_push R [] (b ∷ ys) x y h r = absurd h
-zip_push R (a ∷ xs) [] x y h r = absurd h
-zip_push R (a ∷ xs) (b ∷ ys) x y h r = (h.0, zip_push R xs ys x y h.1 r)
-
 numbered_more : (n : ℕ) (cs : List CaseD) (c : CaseD) → numbered n (cs ++ c ∷ []) ≡ numbered n cs ++ record { number = n + length cs; case = c } ∷ []
 numbered_more n [] c =
     let k : (m : ℕ) → NumberedD = λ (m : ℕ). record { number = m; case = c } in
@@ -62,12 +56,6 @@ numbered_next items i x n more l counted =
     ap (numbered 1) more ∙ (numbered_more 1 before (case_of x) ∙ ap (λ m. numbered 1 before ++ k m ∷ []) long)
 
 module _ (ordered : Bool) (name : List ℕ) (k : NumberedD) (ks : List NumberedD) (es : List CensusD) (so_far : AreCensusesOf ordered name ks es) where
-  pub census_left_out : is_met k ≡ false → AreCensusesOf ordered name (ks ++ k ∷ []) es
-  census_left_out unmet =
-      let none : filter is_met (ks ++ k ∷ []) ≡ filter is_met ks =
-      filter-append is_met ks (k ∷ []) ∙ (ap (λ b. filter is_met ks ++ cond b (k ∷ []) []) unmet ∙ append-nil (filter is_met ks)) in
-      subst (λ z. AllZip (IsCensusOf ordered name) z es) (sym none) so_far
-
   pub census_put : (e : CensusD) → is_met k ≡ true → IsCensusOf ordered name k e → AreCensusesOf ordered name (ks ++ k ∷ []) (es ++ e ∷ [])
   census_put e met is =
       let one : filter is_met (ks ++ k ∷ []) ≡ filter is_met ks ++ k ∷ [] =

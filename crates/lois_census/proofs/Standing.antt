@@ -5,21 +5,19 @@ use Rattle.std.proofs.lemmas.Int.{ints}
 use Rattle.std.proofs.lemmas.List.{length-map}
 use Rattle.std.specs.Bool.{IsTrue, IsFalse}
 use Rattle.std.specs.Prelude.{◌↔◌}
-use Rattle.lois_base.proofs.Order.{equal_is_neither, below_asym, below_irrefl, equal_out, equal_refl, equal_sym, same_truth}
+use Rattle.lois_base.proofs.Order.{equal_is_neither, below_asym, below_irrefl, equal_out, equal_refl, equal_sym, same_truth, below_not_equal}
 use Rattle.lois_base.specs.Atom.{Atom, equal, below, whole}
 use Rattle.lois_base.specs.Patterns.{AreAlike}
 use Rattle.lois_base.specs.Truth.{atom_at, op_holds, sampled}
 use Rattle.lois_base.specs.Validity.{is_admitted}
 use Rattle.lois_base.specs.declared.guards.Op.{Op}
 use Rattle.lois_base.specs.declared.guards.Op.TheVariants.{Eq, Ne, Lt}
+use Rattle.lois_base.proofs.Twins.{equal_turned}
 use Rattle.lois_census.specs.Alike.{StandAlike, StandsAt, StandsBelow}
 
 not_in : (b : Bool) → IsTrue (not b) → IsFalse b
 not_in true h = absurd (cc)
 not_in false h = refl
-
-below_apart : (a b : Atom) → IsTrue (below a b) → IsFalse (equal a b)
-below_apart a b h = equal_is_neither a b ∙ ap (λ p. not p && not (below b a)) h
 
 -- where the one isn't below, the other is, unless they are equal
 neither : (p q e : Bool) → e ≡ (not p && not q) → (IsTrue p → IsFalse q) → q ≡ (not e && not p)
@@ -29,9 +27,6 @@ neither false false e h k = sym (ap (λ z. not z && true) h)
 
 above_is : (a b : Atom) → below b a ≡ (not (equal a b) && not (below a b))
 above_is a b = neither (below a b) (below b a) (equal a b) (equal_is_neither a b) (below_asym a b)
-
-equal_turned : (a b : Atom) → equal a b ≡ equal b a
-equal_turned a b = same_truth (equal a b) (equal b a) (equal_sym a b) (equal_sym b a)
 
 -- ---- numbers
 pub same_numbers : (m n : ℕ) → m ≡ n → IsTrue (equal (whole m) (whole n))
@@ -43,13 +38,6 @@ lower_number m n l = grind (arith, ints)
 pub higher_number : (m n : ℕ) → (m ≡ n → ⊥) → n ≤ m → n < m
 higher_number m n apart ge =
     elim (cases_lt n m) [ inl lt ↦ lt | inr le ↦ absurd (apart (omega arith)) ]
-
-pub other_numbers : (m n : ℕ) → (m ≡ n → ⊥) → IsFalse (equal (whole m) (whole n))
-other_numbers m n apart =
-    elim (cases_lt m n) [
-      | inl lt ↦ below_apart (whole m) (whole n) (lower_number m n lt)
-      | inr ge ↦ equal_turned (whole m) (whole n) ∙ below_apart (whole n) (whole m) (lower_number n m (higher_number m n apart ge))
-    ]
 
 -- ----
 module _ (ordered : Bool) where
@@ -73,7 +61,7 @@ module _ (ordered : Bool) where
 
   pub below_stand : (a b x y : Atom) → IsTrue ordered → IsTrue (below a b) → IsTrue (below x y) ↔ StandAlike ordered a b x y
   below_stand a b x y some h = (
-    λ k. stand_from a b x y (below_apart a b h ∙ sym (below_apart x y k)) (λ o. h ∙ sym k),
+    λ k. stand_from a b x y (below_not_equal a b h ∙ sym (below_not_equal x y k)) (λ o. h ∙ sym k),
     λ s. sym (s Lt some) ∙ h,
   )
 

@@ -14,6 +14,7 @@ use Rattle.lois_base.specs.Validity.{is_admitted, AdmitsLit}
 use Rattle.lois_base.specs.declared.guards.Lit.{Lit}
 use Rattle.lois_base.specs.declared.guards.Op.{Op}
 use Rattle.lois_base.specs.declared.guards.Op.TheVariants.{Eq, Ne, Lt}
+use Rattle.lois_base.proofs.Booleans.{or_false}
 use Rattle.lois_constraint.specs.Alternatives.{alternatives_of, alternatives, denials}
 use Rattle.lois_constraint.specs.Rules.{Rule, uses, fits, admits, Obeys, CubeObeys, ConstraintObeys}
 
@@ -22,10 +23,6 @@ one_side true true e h f = absurd (let no : true ≡ false = f refl in cc)
 one_side true false e h f = rw h refl
 one_side false true e h f = rw h refl
 one_side false false e h f = rw h refl
-
-only : (p : Bool) → (p || false) ≡ p
-only true = refl
-only false = refl
 
 twice : (p : Bool) → (p || false) ≡ not (not p)
 twice true = refl
@@ -36,7 +33,7 @@ both_not true q = refl
 both_not false q = refl
 
 op_alternatives : (c : List Atom) (o : Op) (x y : ℕ) → list_any (lit_holds c) (alternatives_of o x y) ≡ not (op_holds o (atom_at c x) (atom_at c y))
-op_alternatives c Eq x y = only (not (equal (atom_at c x) (atom_at c y)))
+op_alternatives c Eq x y = or_false (not (equal (atom_at c x) (atom_at c y)))
 op_alternatives c Ne x y = twice (equal (atom_at c x) (atom_at c y))
 op_alternatives c Lt x y =
     one_side (below (atom_at c x) (atom_at c y)) (below (atom_at c y) (atom_at c x)) (equal (atom_at c x) (atom_at c y)) (equal_is_neither (atom_at c x) (atom_at c y)) (below_asym (atom_at c x) (atom_at c y))
@@ -56,9 +53,6 @@ pub denials_hold : (c : List Atom) (k : List Lit) → holds c (denials k) ≡ no
 denials_hold c [] = refl
 denials_hold c (l ∷ k) =
     rw (list_any-append (cube_holds c) (map (λ m. m ∷ []) (alternatives l)) (denials k), singles_hold c (alternatives l), alternatives_hold c l, denials_hold c k) (both_not (lit_holds c l) (cube_holds c k))
-
-pub denials_more : (k : List Lit) (i : ℕ) (d : Lit) → i < length k → denials (take (i + 1) k) ≡ denials (take i k) ++ map (λ m. m ∷ []) (alternatives (get_or k i d))
-denials_more k i d l = rw (take_more k i d l) (simp (flat_map-append, append-nil))
 
 module _ (Q : ℕ → Type 0) (x y : ℕ) (p : Q x) (q : Q y) where
   abbrev BothSides : Lit → Type 0

@@ -11,6 +11,7 @@ use Rattle.std.specs.List.Sorted.{IsPermutation}
 use Rattle.lois_base.specs.Atom.{Atom}
 use Rattle.lois_base.specs.Truth.{cube_holds, holds}
 use Rattle.lois_base.specs.declared.guards.Lit.{Lit}
+use Rattle.lois_base.proofs.Lists.{all_before}
 use Rattle.lois_constraint.specs.Entailment.{CubeIsSatisfiable, Entails, AreIncomparable, IsPruned}
 use Rattle.lois_constraint.proofs.Sorted.{pairs_permuted}
 use Rattle.lois_constraint.proofs.Tightened.{constraint_grows}
@@ -19,13 +20,6 @@ use Rattle.lois_constraint.proofs.Words.{or_nothing}
 -- the kept cubes are apart from each of the cubes from i on
 abbrev pub ApartFrom : List (List Lit) → ℕ → List (List Lit) → Type 0
 ApartFrom xs i kept = (j : ℕ) (d : List Lit) → i ≤ j → j < length xs → All (λ k. AreIncomparable k (get_or xs j d)) kept
-
-module _ {X : Type 0} (P : X → Type 0) (xs : List X) (x : X) (h : All P (xs ++ x ∷ [])) where
-  pub all_before : All P xs
-  all_before = (All-pop P (xs ++ x ∷ []) xs (Some x) refl h).0
-
-  pub all_last : P x
-  all_last = (All-pop P (xs ++ x ∷ []) xs (Some x) refl h).1
 
 -- the cubes before the last one
 module _ (xs : List (List Lit)) (x : List Lit) (p : IsPruned (xs ++ x ∷ [])) where

@@ -11,6 +11,7 @@ use Rattle.std.proofs.lemmas.List.Sums.{AllPass-from_list_all, list_all-from_All
 use Rattle.lois_base.specs.Atom.{Atom}
 use Rattle.lois_base.specs.Truth.{lit_holds, cube_holds, holds}
 use Rattle.lois_base.specs.declared.guards.Lit.{Lit}
+use Rattle.lois_base.proofs.Booleans.{and_implied}
 use Rattle.lois_constraint.specs.Entailment.{CubeIsSatisfiable}
 use Rattle.lois_constraint.specs.Tight.{some_holds}
 use Rattle.lois_constraint.proofs.Linked.{not_true}
@@ -24,10 +25,6 @@ last_of_and true true = refl
 last_of_and true false = refl
 last_of_and false q = refl
 
-follows : (p q : Bool) → (p ≡ true → q ≡ true) → p ≡ (p && q)
-follows true q f = sym (f refl)
-follows false q f = refl
-
 fails : (p q : Bool) → (p ≡ true → q ≡ false) → false ≡ (p && q)
 fails true q f = sym (f refl)
 fails false q f = refl
@@ -40,7 +37,7 @@ module _ (c : List Atom) (tight xs : List Lit) (i : ℕ) (d : Lit) (b : i < leng
 
   pub tight_stays : (IsTrue (cube_holds c tight) → IsTrue (lit_holds c (get_or xs i d))) → cube_holds c tight ≡ cube_holds c (take (i + 1) xs)
   tight_stays f =
-      follows (cube_holds c tight) (lit_holds c (get_or xs i d)) f ∙ (ap (λ p. p && lit_holds c (get_or xs i d)) t ∙ sym (list_all_more (lit_holds c) xs i d b))
+      and_implied (cube_holds c tight) (lit_holds c (get_or xs i d)) f ∙ (ap (λ p. p && lit_holds c (get_or xs i d)) t ∙ sym (list_all_more (lit_holds c) xs i d b))
 
 pub constraint_grows : (c : List Atom) (g r xs : List (List Lit)) (x : List Lit) (i : ℕ) → i < length xs → x ≡ get_or xs i x → holds c g ≡ holds c (take i xs) → holds c r ≡ (holds c g || cube_holds c x) → holds c r ≡ holds c (take (i + 1) xs)
 constraint_grows c g r xs x i b is t e =
@@ -67,7 +64,7 @@ module _ (c : List Atom) (s : Bool) (closed xs : List Lit) (i : ℕ) (d : Lit) (
       grouped false q r = refl
 
   pub both_stay : (cube_holds c closed ≡ true → lit_holds c (get_or xs i d) ≡ true) → cube_holds c closed ≡ (s && cube_holds c (take (i + 1) xs))
-  both_stay f = follows (cube_holds c closed) (lit_holds c (get_or xs i d)) f ∙ read_with
+  both_stay f = and_implied (cube_holds c closed) (lit_holds c (get_or xs i d)) f ∙ read_with
 
   pub both_grow : (more : List Lit) → more ≡ closed ++ get_or xs i d ∷ [] → cube_holds c more ≡ (s && cube_holds c (take (i + 1) xs))
   both_grow more e =

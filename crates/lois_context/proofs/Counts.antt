@@ -63,9 +63,3 @@ times_some c (q ∷ ks) h = go (admits c q) refl (subst (λ n. 0 < n) (times_con
     go : (b : Bool) → admits c q ≡ b → 0 < cond b 1 0 + times c ks → (0 < times c ks → (k : Context) × Contains ks k × IsAdmitted c k) → (k : Context) × Contains (q ∷ ks) k × IsAdmitted c k
     go true e l later = (q, Contains-append_left (q ∷ []) ks q (Contains-push [] q), admits_is c q e)
     go false e l later = let r = later (omega arith) in (r.0, Contains-append_right (q ∷ []) ks r.0 r.1, r.2)
-
--- where as many admit, some admits exactly where some does
-pub alike_some : (before after : List Context) → AdmitAlike before after → (c : List Atom) (k : Context) → Contains before k → IsAdmitted c k → (d : Context) × Contains after d × IsAdmitted c d
-alike_some before after alike c k h adm =
-    let some = times_of c before k h adm in
-    times_some c after (omega (arith, alike c))

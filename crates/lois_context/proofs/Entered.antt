@@ -10,6 +10,7 @@ use Rattle.lois_base.specs.Truth.{holds}
 use Rattle.lois_base.specs.declared.guards.Lit.{Lit}
 use Rattle.lois_base.specs.Validity.{AdmitsConstraint, AdmitsTerm, AdmitsComp, AdmitsItems, HasBoundedWidths, CompHasBoundedWidths, ItemsHaveBoundedWidths}
 use Rattle.lois_base.specs.Values.{PointValue, point, MemberAt, MakesAt, IsMember}
+use Rattle.lois_base.proofs.Booleans.{and_true}
 use Rattle.lois_meaning.specs.Store.{looked_up, stored, AreSameNamed}
 use Rattle.lois_context.specs.Choices.{IsAdmitted, AdmitsContext, ContextHasBoundedWidths}
 use Rattle.lois_context.specs.Entered.{binders_of, guard_of, item_of, items_listed, comps_listed, carried, carried_line, element_slot, IsMemberContext, HasNoMembers, AreMemberContexts, IsHeldInside, ExtendsContext, IsLoopContext, AreEntered}
@@ -18,7 +19,6 @@ use Rattle.lois_context.specs.declared.contexts.Context.{Context}
 use Rattle.lois_context.proofs.Carried.{lines_same, store_same, carried_new, held_last, carried_admits, carried_widths, lines_admit, lines_widths}
 use Rattle.lois_context.proofs.Longer.{holds_at_start}
 use Rattle.lois_context.proofs.Later.{first_or_later}
-use Rattle.lois_context.proofs.Sides.{and_true}
 
 pub listed_of : (ks : List CompD) → items_listed (comps_of ks) ≡ ks
 listed_of [] = refl

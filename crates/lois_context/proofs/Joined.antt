@@ -19,6 +19,8 @@ use Rattle.lois_base.proofs.Shifted.{shift_items_of}
 use Rattle.lois_meaning.specs.Store.{looked_up}
 use Rattle.lois_relate.proofs.Sets.{some_is_member}
 use Rattle.lois_base.proofs.Validity.{fits_longer}
+use Rattle.lois_base.proofs.Booleans.{and_true}
+use Rattle.lois_base.proofs.Lists.{items_fit_append}
 use Rattle.lois_context.specs.Choices.{IsAdmitted, AdmitsContext, ContextHasBoundedWidths}
 use Rattle.lois_context.specs.Entered.{binders_of, item_of, items_listed, comps_listed, carried, element_slot, AreMemberContexts}
 use Rattle.lois_context.specs.Joined.{IsGoneOn, IsEndSlot, AreEndSlots, IsEnd, IsMovedOutOfLoop, AreMovedOutOfLoop, added_to, IsJoinedTerm, IsGrownTerm, IsJoinedSlot, AreJoinedSlots, AreJoined, IsAddedInside, HasJoined, IsWithMoved}
@@ -28,7 +30,6 @@ use Rattle.lois_context.proofs.Carried.{raised_same, count_of}
 use Rattle.lois_context.proofs.Entered.{listed_of, all_entries, goes_on}
 use Rattle.lois_context.proofs.Later.{first_or_later}
 use Rattle.lois_context.proofs.Longer.{holds_at_start}
-use Rattle.lois_context.proofs.Sides.{and_true}
 
 -- w is in the set of these comprehensions
 abbrev IsAmong : List CompD → List Atom → PointValue → Type 0
@@ -404,10 +405,6 @@ moved_fits n by m g q h t guard fits met =
 pub with_none : (n : ℕ) (g : List (List Lit)) (by : ℕ) (ks rs : List CompD) → rs ≡ ks → IsWithMoved n g by [] ks rs
 with_none n g by ks rs e = record { behind = []; moved = tt; comps = e ∙ sym (append-nil ks); levels = tt }
 
-fits_behind : (n : ℕ) (ks rs : List CompD) → ItemsFit n (comps_of ks) → ItemsFit n (comps_of rs) → ItemsFit n (comps_of (ks ++ rs))
-fits_behind n [] rs h g = g
-fits_behind n (k ∷ ks) rs h g = (h.0, fits_behind n ks rs h.1 g)
-
 count_behind : (ks rs : List CompD) → count_of_items (comps_of ks) ≤ count_of_items (comps_of (ks ++ rs))
 count_behind [] rs = omega arith
 count_behind (k ∷ ks) rs = omega (arith, count_behind ks rs)
@@ -426,18 +423,9 @@ set_grown n g by added ks rs s t e d fits h =
     let behind : t ≡ coll (comps_of (ks ++ h.behind)) = d ∙ ap (λ z. coll (comps_of z)) h.comps in
     subst (λ z. IsGrownTerm n g by added z t) (sym e) (subst (λ z. IsGrownTerm n g by added (coll (comps_of ks)) z) (sym behind) (record {
       joined = (h.behind, h.moved, ap (λ z. coll (comps_of (z ++ h.behind))) (sym (listed_of ks)));
-      levels = fits_behind n ks h.behind (subst (Fits n) e fits) h.levels;
+      levels = items_fit_append n ks h.behind (subst (Fits n) e fits) h.levels;
       more = count_behind ks h.behind;
     }))
-
-pub other_grown : (n : ℕ) (g : List (List Lit)) (by : ℕ) (added : List CompD) (s t : TermD) → ((ks : CompsD) → s ≡ coll ks → ⊥) → t ≡ s → Fits n s → IsGrownTerm n g by added s t
-other_grown n g by added s t not_set e fits = subst (λ z. IsGrownTerm n g by added s z) (sym e) (record { joined = alone s not_set; levels = fits; more = omega arith })
-  where
-    alone : (s : TermD) → ((ks : CompsD) → s ≡ coll ks → ⊥) → IsJoinedTerm g by added s s
-    alone (coll ks) f = absurd (f ks refl)
-    alone (var i) f = refl
-    alone (tag x) f = refl
-    alone (tup ts) f = refl
 
 -- ---- what is true of all terms of a store
 module _ (OfTerm : TermD → Type 0) (OfComp : CompD → Type 0) (of_set : (ks : List CompD) → OfTerm (coll (comps_of ks)) ↔ All OfComp ks) where

@@ -15,6 +15,7 @@ use Rattle.lois_base.specs.Truth.{holds}
 use Rattle.lois_base.specs.Validity.{AdmitsCube, AdmitsConstraint, AdmitsTerm, HasBoundedWidths}
 use Rattle.lois_base.specs.declared.guards.Lit.{Lit}
 use Rattle.lois_base.proofs.Both.{holds_append}
+use Rattle.lois_base.proofs.Lists.{all_before, all_last}
 use Rattle.lois_context.specs.Choices.{IsAdmitted, AdmitsContext, ContextHasBoundedWidths}
 use Rattle.lois_context.specs.Counted.{admits, times}
 use Rattle.lois_context.specs.Merged.{AreDisjoint, contents_of, HasSameContents, HasSameContentsAsOne, HasSampleOfOne, AreMerged, IsMergedInto}
@@ -42,15 +43,6 @@ counted_either false q r e l = ap (λ b. cond {A = ℕ} b 1 0) e ∙ sym (zero_m
   where
     zero_more : (n : ℕ) → 0 + n ≡ n
     zero_more n = omega arith
-
--- ---- all of a list with one item more
-module _ {X : Type 0} (P : X → Type 0) (xs : List X) (x : X) (h : All P (xs ++ x ∷ [])) where
-  all_before : All P xs
-  all_before =
-      All-weaker (Contains xs) P (λ y there. All-contains P (xs ++ x ∷ []) y h (Contains-append_left xs (x ∷ []) y there)) xs (All-contains_itself xs)
-
-  last_of_all : P x
-  last_of_all = All-contains P (xs ++ x ∷ []) x h (Contains-push xs x)
 
 module _ (ks : List Context) (k : Context) where
   like_later : (c : List Atom) (d : Context) → HasSameContentsAsOne ks c d → HasSameContentsAsOne (ks ++ k ∷ []) c d
@@ -92,8 +84,8 @@ module _ (ks ds : List Context) (k : Context) (h : AreMerged ks ds) where
         (λ i e l is. let m : i < length ds = omega (arith, l, length-map ds contents_of) in
         new i k m (sym (get_or-map contents_of ds i k e m) ∙ is)));
     samples = All-push (HasSampleOfOne (ks ++ k ∷ [])) ds k (All-weaker (HasSampleOfOne ks) _ (sample_later ks k) ds h.samples) (k, Contains-push ks k, refl);
-    operators = λ ordered a. All-push (AdmitsContext ordered) ds k (h.operators ordered (all_before (AdmitsContext ordered) ks k a)) (last_of_all (AdmitsContext ordered) ks k a);
-    widths = λ a. All-push ContextHasBoundedWidths ds k (h.widths (all_before ContextHasBoundedWidths ks k a)) (last_of_all ContextHasBoundedWidths ks k a);
+    operators = λ ordered a. All-push (AdmitsContext ordered) ds k (h.operators ordered (all_before (AdmitsContext ordered) ks k a)) (all_last (AdmitsContext ordered) ks k a);
+    widths = λ a. All-push ContextHasBoundedWidths ds k (h.widths (all_before ContextHasBoundedWidths ks k a)) (all_last ContextHasBoundedWidths ks k a);
   }
 
   -- ---- a context that is taken into one of those before it
@@ -199,7 +191,7 @@ module _ (ks ds : List Context) (k : Context) (h : AreMerged ks ds) where
           All-set (HasSampleOfOne (ks ++ k ∷ [])) ds i r (sample_later ks k r (one.0, one.1, taken.sample ∙ one.2)) (All-weaker (HasSampleOfOne ks) _ (sample_later ks k) ds h.samples);
       operators = λ ordered a.
           let all = h.operators ordered (all_before (AdmitsContext ordered) ks k a) in
-          All-set (AdmitsContext ordered) ds i r (admitted_in ordered (here (AdmitsContext ordered) all) (last_of_all (AdmitsContext ordered) ks k a)) all;
+          All-set (AdmitsContext ordered) ds i r (admitted_in ordered (here (AdmitsContext ordered) all) (all_last (AdmitsContext ordered) ks k a)) all;
       widths = λ a.
           let all = h.widths (all_before ContextHasBoundedWidths ks k a) in
           All-set ContextHasBoundedWidths ds i r (wide_in (here ContextHasBoundedWidths all)) all;
@@ -222,12 +214,6 @@ pub like_at : (k : Context) (xs ds : List Context) (i : ℕ) (d : Context) → x
 like_at k xs ds i d e h is = subst (HasSameContents k) (ap (λ z. get_or z i d) e ∙ sym is) (h d)
 
 -- ---- cubes that stand behind others
-module _ (g h r : List (List Lit)) (k : ℕ) (e : r ≡ g ++ take k h) where
-  pub grown_levels : (n : ℕ) → ConstraintFits n g → ConstraintFits n h → ConstraintFits n r
-  grown_levels n p q = subst (ConstraintFits n) (sym e) (All-append (CubeFits n) g (take k h) p (All-take (CubeFits n) k h q))
-
-  pub grown_truth : (c : List Atom) → IsTrue (holds c g) → IsTrue (holds c r)
-  grown_truth c t = ap (holds c) e ∙ (holds_append c g (take k h) ∙ ap (λ b. b || holds c (take k h)) t)
 
 -- one context, or none, is already merged
 pub merged_few : (ks : List Context) → length ks ≤ 1 → AreMerged ks ks

@@ -8,15 +8,12 @@ use Rattle.lois_base.specs.Atom.{Atom}
 use Rattle.lois_base.specs.Truth.{holds}
 use Rattle.lois_base.specs.Validity.{AdmitsConstraint, AdmitsTerm}
 use Rattle.lois_base.specs.declared.guards.Lit.{Lit}
+use Rattle.lois_base.proofs.Booleans.{and_true}
 use Rattle.lois_deciders.specs.Conjunction.{IsSampledConjunction, AreInconsistent}
 use Rattle.lois_deciders.specs.declared.chosen.SampledConstraint.{SampledConstraint}
 use Rattle.lois_context.specs.Choices.{IsAdmitted, IsAdmittedBy, AdmitsContext}
 use Rattle.lois_context.specs.Sides.{IsSide, HasSamplePathCondition, CanHavePathCondition}
 use Rattle.lois_context.specs.declared.contexts.Context.{Context}
-
-pub and_true : (a b : Bool) → IsTrue a → IsTrue b → IsTrue (a && b)
-and_true true b h k = k
-and_true false b h k = absurd (cc)
 
 -- a test that answers the same tells the same side
 pub side_of : (before : Context) (p q : List Atom → Bool) → ((c : List Atom) → p c ≡ q c) → (o : Option Context) → IfSome o (IsSide before p) → IfSome o (IsSide before q)

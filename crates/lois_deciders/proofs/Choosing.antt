@@ -21,6 +21,3 @@ module _ {X : Type 0} (f : X → Kind) (kind : Option Kind) (xs : List X) (at : 
 
   pub some_wanted : IsWanted kind (f x) → All (IsUnwanted kind) (map f xs) → ⊥
   some_wanted w all = all at (f x) (omega (arith, l, length-map xs f)) (subst (IsWanted kind) (kind_at (f x)) w)
-
-pub none_wanted : {X : Type 0} (f : X → Kind) (kind : Option Kind) (xs : List X) → ((i : ℕ) → i < length xs → HoldsAt (IsUnwanted kind) (map f xs) i) → All (IsUnwanted kind) (map f xs)
-none_wanted f kind xs h = λ k d l. h k (omega (arith, l, length-map xs f)) d

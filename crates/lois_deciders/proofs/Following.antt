@@ -38,7 +38,3 @@ module _ (cube : List Lit) where
   pub follows_below : (i i' j j' : ℕ) → Follows cube Eq i i' → Follows cube Eq j j' → Follows cube Lt i j → Follows cube Lt i' j'
   follows_below i i' j j' f g b = λ c h.
       subst IsTrue (below_respects (atom_at c i) (atom_at c i') (atom_at c j) (atom_at c j') (f c h) (g c h)) (b c h)
-
-pub no_both : (b : Bool) → IsTrue (not b) → IsTrue b → ⊥
-no_both true h k = cc
-no_both false h k = cc

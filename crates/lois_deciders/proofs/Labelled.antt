@@ -5,9 +5,10 @@ use Rattle.std.proofs.lemmas.List.{get_or-map, length-map, get_or_default}
 use Rattle.lois_base.specs.Fits.{CubeFits}
 use Rattle.lois_base.specs.declared.guards.Lit.{Lit}
 use Rattle.lois_base.specs.declared.guards.Op.TheVariants.{Eq, Ne}
+use Rattle.lois_base.proofs.Booleans.{never_both}
 use Rattle.lois_constraint.specs.Substitution.{put_level}
 use Rattle.lois_deciders.specs.Labels.{IsLabelling, IsJoined, IsUnmet, Follows, Joins}
-use Rattle.lois_deciders.proofs.Following.{up_to, literal_follows, follows_refl, follows_sym, follows_trans, no_both}
+use Rattle.lois_deciders.proofs.Following.{up_to, literal_follows, follows_refl, follows_sym, follows_trans}
 
 pub own_labelling : (n : ℕ) (cube : List Lit) (labels : List ℕ) → length labels ≡ n → ((i : ℕ) → i < n → get_or labels i 0 ≡ i) → IsLabelling n cube 0 labels
 own_labelling n cube labels count own = record {
@@ -106,4 +107,4 @@ parted n first xs cube k labels d e b q same =
     subst (λ (ys : List Lit). CubeFits n ys → IsLabelling n ys first labels → IsUnmet n ys) e (λ fits h sat. let l : Lit = get_or xs k d in
     let right : Follows xs Eq l.right (get_or labels l.left 0) = subst (Follows xs Eq l.right) (sym same) (h.equal l.right (fits k d b).1) in
     let equal_levels : Follows xs Eq l.left l.right = follows_trans xs l.left (get_or labels l.left 0) l.right (h.equal l.left (fits k d b).0) (follows_sym xs l.right (get_or labels l.left 0) right) in
-    no_both _ (literal_follows xs k d Ne b q sat.0 sat.2) (equal_levels sat.0 sat.2))
+    never_both _ (literal_follows xs k d Ne b q sat.0 sat.2) (equal_levels sat.0 sat.2))

@@ -183,13 +183,6 @@ no_place s g small fits fails a = go (place a (length s))
     go (inl (y, at)) = at_same s small g fits a y at.1 ∙ (fails y (omega (arith, at.0))).0
     go (inr (p, gap)) = in_gap s small g fits a p gap ∙ (fails p (omega (arith, gap.inside))).1
 
--- ---- the numbers stay below their count
-pub same_small : (s : List ℕ) (p : ℕ) → All (λ i. i < length s) s → p < length s + 1 → IsSmall (length s + 1) (s ++ p ∷ [])
-same_small s p small l = record {
-  count = omega (arith, length-append s (p ∷ []));
-  small = All-append (λ i. i < length s + 1) s (p ∷ []) (All-weaker (λ i. i < length s) (λ i. i < length s + 1) (λ i m. omega arith) s small) (All-cons (λ i. i < length s + 1) p [] l (All-nil (λ i. i < length s + 1)));
-}
-
 pub new_small : (s : List ℕ) (p : ℕ) → All (λ i. i < length s) s → p < length s + 1 → IsSmall (length s + 1) (map (raised_from p) s ++ p ∷ [])
 new_small s p small l = record {
   count = omega (arith, length-append (map (raised_from p) s) (p ∷ []), length-map s (raised_from p));

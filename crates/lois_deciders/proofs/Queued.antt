@@ -11,6 +11,7 @@ use Rattle.lois_base.specs.Fits.{CubeFits}
 use Rattle.lois_base.specs.declared.guards.Lit.{Lit}
 use Rattle.lois_base.specs.declared.guards.Op.{Op}
 use Rattle.lois_base.specs.declared.guards.Op.TheVariants.{Eq, Ne, Lt}
+use Rattle.lois_base.proofs.Booleans.{and_first, and_second}
 use Rattle.lois_constraint.specs.Steps.{is_step}
 use Rattle.lois_deciders.specs.Labels.{Follows, IsLabelling, IsUnmet}
 use Rattle.lois_deciders.specs.Ranks.{is_step_to, is_step_from, occurrences, AreUnheld, IsReleasedLabel, IsReleased, IsFullRanking}
@@ -256,14 +257,6 @@ is_step_lt Eq e = absurd (cc)
 is_step_lt Ne e = absurd (cc)
 is_step_lt Lt e = refl
 
-first_of : (p q : Bool) → (p && q) ≡ true → p ≡ true
-first_of true q h = refl
-first_of false q h = h
-
-second_of : (p q : Bool) → (p && q) ≡ true → q ≡ true
-second_of true q h = h
-second_of false q h = absurd (cc)
-
 last_fails : (p q : Bool) → (p && q) ≡ false → p ≡ true → q ≡ false
 last_fails true q h e = h
 last_fails false q h e = absurd (cc)
@@ -279,10 +272,10 @@ module _ (cube : List Lit) (labels steps ranks : List ℕ) (next : ℕ) (waiting
       let d : Lit = record { op = Eq; left = 0; right = 0 } in
       let m : Lit = get_or cube r.0 d in
       let held : holds_back labels waiting y m ≡ true = r.2 d in
-      let to_y : is_step_to labels y m ≡ true = first_of (is_step_to labels y m) _ held in
-      let waits : Waits waiting (get_or labels m.left 0) = second_of (is_step_to labels y m) _ held in
-      let lt : m.op ≡ Lt = is_step_lt m.op (first_of (is_step m.op) _ to_y) in
-      let at : get_or labels m.right 0 ≡ y = eqb-true (get_or labels m.right 0) y (second_of (is_step m.op) _ to_y) in
+      let to_y : is_step_to labels y m ≡ true = and_first (is_step_to labels y m) _ held in
+      let waits : Waits waiting (get_or labels m.left 0) = and_second (is_step_to labels y m) _ held in
+      let lt : m.op ≡ Lt = is_step_lt m.op (and_first (is_step m.op) _ to_y) in
+      let at : get_or labels m.right 0 ≡ y = eqb-true (get_or labels m.right 0) y (and_second (is_step m.op) _ to_y) in
       let small : get_or labels m.left 0 < length waiting = let s = labelling.small m.left (fits r.0 d r.1).0 in omega (arith, s, q.ranking.waiting_count) in
       let follows = follows_below cube m.left (get_or labels m.left 0) m.right (get_or labels m.right 0) (labelling.equal m.left (fits r.0 d r.1).0) (labelling.equal m.right (fits r.0 d r.1).1) (literal_follows cube r.0 d Lt r.1 lt) in (
         (get_or labels m.left 0, small, waits, subst (λ j. Follows cube Lt (get_or labels m.left 0) j) at follows),
@@ -358,7 +351,7 @@ module _ (cube : List Lit) (labels steps ranks : List ℕ) (next : ℕ) (waiting
             let c = some_counted (holds_back labels waiting z) cube (omega (arith, l, q.exact z)) in
             let d : Lit = record { op = Eq; left = 0; right = 0 } in
             let m : Lit = get_or cube c.0 d in
-            let at : get_or labels m.right 0 ≡ z = eqb-true (get_or labels m.right 0) z (second_of (is_step m.op) _ (first_of (is_step_to labels z m) _ (c.2 d))) in
+            let at : get_or labels m.right 0 ≡ z = eqb-true (get_or labels m.right 0) z (and_second (is_step m.op) _ (and_first (is_step_to labels z m) _ (c.2 d))) in
             subst (λ j. j < length labels) at (labelling.small m.right (fits c.0 d c.1).1)
 
     complete_now : (y : ℕ) → y < length labels → Waits (set waiting x false) y → get_or lower y 0 ≡ 0 → (get_or steps y 0 ≡ 0) ⊎ (get_or steps y 0 ≡ 0 → ⊥) → Contains after y

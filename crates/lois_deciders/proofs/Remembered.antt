@@ -21,34 +21,26 @@ use Rattle.lois_base.proofs.Samples.{satisfied_by}
 use Rattle.lois_constraint.proofs.Alike.{lit_eq, lits_same}
 use Rattle.lru.specs.LruCache.{LruCache, lru_cache, promoted, put_entries}
 use Rattle.lru.proofs.CallerLemmas.{Contains-lookup, Contains-promoted, Contains-put_entries, IsPut}
+use Rattle.lois_base.proofs.Booleans.{and_first, and_second}
 use Rattle.lois_deciders.specs.Kept.{Answers, IsRightEntry}
 use Rattle.lois_deciders.specs.Labels.{IsUnmet}
 use Rattle.lois_deciders.specs.Remembering.{Kept, HasPut, IsAbout, KeepsAnswers}
 use Rattle.lois_deciders.specs.contracts.questions.QuestionPartialEq.TheImpl.{eq-value}
 use Rattle.lois_deciders.specs.declared.questions.Question.{Question}
 
--- ---- cubes that the code calls equal
-first_and : (p q : Bool) → (p && q) ≡ true → p ≡ true
-first_and true q h = refl
-first_and false q h = h
-
-second_and : (p q : Bool) → (p && q) ≡ true → q ≡ true
-second_and true q h = h
-second_and false q h = absurd (cc)
-
 pub cubes_same : (a b : List Lit) → pointwise lit_eq a b ≡ true → a ≡ b
 cubes_same [] [] h = refl
 cubes_same [] (y ∷ b) h = absurd (cc)
 cubes_same (x ∷ a) [] h = absurd (cc)
 cubes_same (x ∷ a) (y ∷ b) h =
-    let e : x ≡ y = lits_same x y (first_and (lit_eq x y) (pointwise lit_eq a b) h) in
-    let f : a ≡ b = cubes_same a b (second_and (lit_eq x y) (pointwise lit_eq a b) h) in
+    let e : x ≡ y = lits_same x y (and_first (lit_eq x y) (pointwise lit_eq a b) h) in
+    let f : a ≡ b = cubes_same a b (and_second (lit_eq x y) (pointwise lit_eq a b) h) in
     rw (e, f) refl
 
 pub questions_same : (q k : Question) → eq-value.it q k ≡ true → (q.literals.items ≡ k.literals.items) × (q.size ≡ k.size)
 questions_same q k h =
-    let first : pointwise lit_eq q.literals.items k.literals.items ≡ true = first_and (pointwise lit_eq q.literals.items k.literals.items) (eqb q.size k.size) h in
-    (cubes_same q.literals.items k.literals.items first, eqb-true q.size k.size (second_and (pointwise lit_eq q.literals.items k.literals.items) (eqb q.size k.size) h))
+    let first : pointwise lit_eq q.literals.items k.literals.items ≡ true = and_first (pointwise lit_eq q.literals.items k.literals.items) (eqb q.size k.size) h in
+    (cubes_same q.literals.items k.literals.items first, eqb-true q.size k.size (and_second (pointwise lit_eq q.literals.items k.literals.items) (eqb q.size k.size) h))
 
 -- ---- a literal that stands just before as well
 pub stands_before : (c : List Atom) (xs : List Lit) (i : ℕ) (d : Lit) → 0 < i → i < length xs → get_or xs i d ≡ get_or xs (i - 1) d → IsTrue (cube_holds c (take i xs)) → IsTrue (lit_holds c (get_or xs i d))

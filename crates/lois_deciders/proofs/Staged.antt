@@ -11,6 +11,7 @@ use Rattle.lois_base.specs.Truth.{cube_holds, holds, sampled}
 use Rattle.lois_base.specs.declared.guards.Lit.{Lit}
 use Rattle.lois_deciders.specs.Satisfaction.{ConstraintIsSatisfiable}
 use Rattle.lois_base.specs.Bound.{SomeAtomMeets, HoldsForSome}
+use Rattle.lois_base.proofs.Booleans.{or_second}
 use Rattle.lois_deciders.specs.Stages.{AreStages}
 
 either : (p q : Bool) → IsTrue (p || q) → IsTrue p ⊎ IsTrue q
@@ -20,10 +21,6 @@ either false q h = inr h
 first_or : (p q : Bool) → IsTrue p → IsTrue (p || q)
 first_or true q h = refl
 first_or false q h = absurd (cc)
-
-second_or : (p q : Bool) → IsTrue q → IsTrue (p || q)
-second_or true q h = refl
-second_or false q h = h
 
 -- ---- the cubes of a constraint, without the level
 module _ (n : ℕ) (found r part xs : List (List Lit)) (i : ℕ) (k : List Lit) (l : i < length xs) (is : k ≡ get_or xs i k) (e : (c : List Atom) → holds c r ≡ (holds c found || holds c part)) (eliminates : Eliminates n k part) (so_far : HoldsForSome n (take i xs) found) where
@@ -39,20 +36,17 @@ module _ (n : ℕ) (found r part xs : List (List Lit)) (i : ℕ) (k : List Lit) 
           (m.0, read (c ++ m.0 ∷ []) ∙ first_or (holds (c ++ m.0 ∷ []) (take i xs)) (cube_holds (c ++ m.0 ∷ []) k) m.1)
       go (inr p) =
           let m = (eliminates c count).0 p in
-          (m.0, read (c ++ m.0 ∷ []) ∙ second_or (holds (c ++ m.0 ∷ []) (take i xs)) (cube_holds (c ++ m.0 ∷ []) k) m.1)
+          (m.0, read (c ++ m.0 ∷ []) ∙ or_second (holds (c ++ m.0 ∷ []) (take i xs)) (cube_holds (c ++ m.0 ∷ []) k) m.1)
 
   rest_holds : (c : List Atom) → length c ≡ n → SomeAtomMeets c (take (i + 1) xs) → IsTrue (holds c r)
   rest_holds c count m = go (either (holds (c ++ m.0 ∷ []) (take i xs)) (cube_holds (c ++ m.0 ∷ []) k) (sym (read (c ++ m.0 ∷ [])) ∙ m.1))
     where
       go : IsTrue (holds (c ++ m.0 ∷ []) (take i xs)) ⊎ IsTrue (cube_holds (c ++ m.0 ∷ []) k) → IsTrue (holds c r)
       go (inl p) = e c ∙ first_or (holds c found) (holds c part) ((so_far c count).1 (m.0, p))
-      go (inr p) = e c ∙ second_or (holds c found) (holds c part) ((eliminates c count).1 (m.0, p))
+      go (inr p) = e c ∙ or_second (holds c found) (holds c part) ((eliminates c count).1 (m.0, p))
 
   pub one_cube_more : HoldsForSome n (take (i + 1) xs) r
   one_cube_more c count = (some_meets c count, rest_holds c count)
-
-pub no_cubes_yet : (n : ℕ) → HoldsForSome n [] []
-no_cubes_yet n c count = (λ h. absurd (cc), λ m. let h : false ≡ true = m.1 in absurd (cc))
 
 -- ---- one more stage
 module _ (n done : ℕ) (g next : List (List Lit)) (stages : List (List (List Lit))) (h : AreStages n g done stages) (step : HoldsForSome (n - done - 1) (get_or stages done []) next) (fits : ConstraintFits (n - done - 1) next) where

@@ -19,10 +19,3 @@ holds_at u (f ∷ items) (suc i) d l h = holds_at u items i d (omega arith) h.1
 pub all_force : (items : List Formula) (vs : List FormulaD) (i : ℕ) (f : Formula) (n m : ℕ) → map view items ≡ vs → i < length items → f ≡ get_or items i f → Forces (view f) n m → Forces (all (formulas_of vs)) n m
 all_force items vs i f n m e l is forces u k h =
     forces u k (subst (λ g. FormulaHolds u (view g)) (sym is) (holds_at u items i f l (subst (λ fs. AllHold u (formulas_of fs)) (sym e) h)))
-
--- the atom behind is at a level above both
-pub exists_forces : (f : FormulaD) (n m : ℕ) → m < n → Forces f n m → Forces (exists f) n m
-exists_forces f n m l forces u k h =
-    let x = h.0 in
-    let here : IsTrue (equal (atom_at (u ++ x ∷ []) n) (atom_at (u ++ x ∷ []) m)) = forces (u ++ x ∷ []) (omega (arith, length-append u (x ∷ []))) h.1 in
-    subst (λ a. IsTrue (equal a (atom_at u m))) (get_or_append_left u (x ∷ []) (whole 0) n k) (subst (λ a. IsTrue (equal (atom_at (u ++ x ∷ []) n) a)) (get_or_append_left u (x ∷ []) (whole 0) m (omega arith)) here)

@@ -38,14 +38,6 @@ pub record CubesSoFar (n : ℕ) (g rest found : List (List Lit)) : Type 0 where
   pub rest_fits : ConstraintFits (n + 1) rest
   pub operators : (o : Bool) → AdmitsConstraint o g → AdmitsConstraint o found × AdmitsConstraint o rest
 
-pub cubes_begin : (n : ℕ) (g : List (List Lit)) → ConstraintFits (n + 1) g → CubesSoFar n g g []
-cubes_begin n g fits = record {
-  truth = λ c k. (λ h. elim h [ inl e ↦ absurd (false≢true e) | inr s ↦ s ], λ s. inr s);
-  levels = All-nil (CubeFits n);
-  rest_fits = fits;
-  operators = λ o h. (All-nil (AdmitsCube o), h);
-}
-
 -- a cube before others
 split_atom : (c : List Atom) (k : List Lit) (rest : List (List Lit)) → SomeAtom c (k ∷ rest) → ((a : Atom) × IsTrue (cube_holds (c ++ a ∷ []) k)) ⊎ SomeAtom c rest
 split_atom c k rest s =
@@ -95,12 +87,6 @@ module _ (n : ℕ) (g xs found : List (List Lit)) (i : ℕ) (k : List Lit) (l : 
   here : CubesSoFar n g (k ∷ drop (i + 1) xs) found
   here = subst (λ rest. CubesSoFar n g rest found) (rest_is xs i k l is) so_far
 
-  pub cube_fits : CubeFits (n + 1) k
-  cube_fits = All-head (CubeFits (n + 1)) k (drop (i + 1) xs) here.rest_fits
-
-  pub cube_admitted : (o : Bool) → AdmitsConstraint o g → AdmitsCube o k
-  cube_admitted o h = All-head (AdmitsCube o) k (drop (i + 1) xs) (here.operators o h).1
-
   pub cubes_go_on : (part r : List (List Lit)) → Eliminates n k part → ConstraintFits n part → (IsOrderFreeCube k → IsOrderFree part) → r ≡ found ++ part → CubesSoFar n g (drop (i + 1) xs) r
   cubes_go_on part r eliminates levels order e =
       one_more_cube n g k (drop (i + 1) xs) found part r here eliminates levels order e
@@ -137,22 +123,12 @@ parts_are items i f l is = ap (λ xs. formulas_of (map view xs)) (rest_is items 
 pub no_parts : (items : List Formula) (i : ℕ) → length items ≤ i → parts_from items i ≡ no_formulas
 no_parts items i l = ap (λ xs. formulas_of (map view xs)) (drop_all i items l)
 
-pub parts_begin : (n m : ℕ) (whole : FormulasD) (r : List (List Lit)) → FormulasFit m whole → ConstraintFits n r → ((o : Bool) → AdmitsConstraint o r) → PartsSoFar n m whole whole r
-parts_begin n m whole r fits levels operators = record {
-  rest_fits = fits;
-  levels = levels;
-  operators = λ o h. (operators o, h);
-}
-
 pub one_more_part : (n m : ℕ) (whole rest : FormulasD) (f : FormulaD) (before r : List (List Lit)) → PartsSoFar n m whole (formula f rest) before → ConstraintFits n r → ((o : Bool) → AdmitsConstraint o before → AdmitsFormula o f → AdmitsConstraint o r) → PartsSoFar n m whole rest r
 one_more_part n m whole rest f before r so_far levels operators = record {
   rest_fits = so_far.rest_fits.1;
   levels = levels;
   operators = λ o h. let both = so_far.operators o h in (operators o both.0 both.1.0, both.1.1);
 }
-
-pub any_begin : (n free : ℕ) (bound : List ℕ) (whole : FormulasD) → AnySoFar n free bound whole whole []
-any_begin n free bound whole c k = (λ h. elim h [ inl e ↦ absurd (false≢true e) | inr s ↦ s ], λ s. inr s)
 
 module _ (n free : ℕ) (bound : List ℕ) (whole rest : FormulasD) (f : FormulaD) (before part r : List (List Lit)) where
   any_holds : AnySoFar n free bound whole (formula f rest) before → AgreesUnder n free bound f part → r ≡ before ++ part → (c : List Atom) → length c ≡ n → IsTrue (holds c r) ⊎ AnyHolds (named_atoms free bound c) rest → AnyHolds (named_atoms free bound c) whole

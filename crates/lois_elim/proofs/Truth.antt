@@ -17,10 +17,6 @@ not_refuted : (a : Bool) → (IsTrue (not a) → ⊥) → IsTrue a
 not_refuted true h = refl
 not_refuted false h = absurd (h refl)
 
-pub or_nothing : (a : Bool) → (a || false) ≡ a
-or_nothing true = refl
-or_nothing false = refl
-
 pub and_nothing : (a : Bool) → (a && true) ≡ a
 and_nothing true = refl
 and_nothing false = refl

@@ -131,18 +131,6 @@ pushed_cube c cube r l e =
     )
 
 module _ (free : ℕ) (bound : List ℕ) (whole : FormulasD) where
-  pub literals_begin : FormulasFit (free + length bound) whole → LiteralsSoFar free bound whole whole []
-  literals_begin fits = record {
-    truth = λ c k. (λ h. h.1, λ h. (refl, h));
-    rest_fits = fits;
-    levels = λ n h. All-nil (LitFits n);
-    operators = λ o a. (All-nil (AdmitsLit o), a);
-  }
-
-  pub literals_end : (cube : List Lit) → LiteralsSoFar free bound whole no_formulas cube → (c : List Atom) → free ≤ length c → IsTrue (cube_holds c cube) ↔ HoldWhere is_literal (named_atoms free bound c) whole
-  literals_end cube so_far c k =
-      (λ h. (so_far.truth c k).0 (h, tt), λ h. ((so_far.truth c k).1 h).0)
-
   module _ (items : List Formula) (i : ℕ) (f : Formula) (l : i < length items) (is : f ≡ get_or items i f) (cube : List Lit) (so_far : LiteralsSoFar free bound whole (parts_from items i) cube) where
     here_literal : LiteralsSoFar free bound whole (formula (view f) (parts_from items (i + 1))) cube
     here_literal = subst (λ rest. LiteralsSoFar free bound whole rest cube) (parts_are items i f l is) so_far

@@ -17,12 +17,12 @@ use Rattle.lois_terms.specs.Shifted.{IsShifted}
 use Rattle.lois_meaning.specs.Automata.{IsPair, IsTriple}
 use Rattle.lois_meaning.proofs.Automata.{triple_same}
 use Rattle.lois_meaning.proofs.Operations.{pair_both, pair_to}
+use Rattle.lois_meaning.proofs.Tuples.{triple_to, triples_same}
 use Rattle.lois_automata.specs.Adding.{IsMadeOfOne}
 use Rattle.lois_automata.specs.Built.{HoldsWhereMember}
 use Rattle.lois_automata.specs.Projections.{pair_of, triple_of}
 use Rattle.lois_automata.proofs.Adding.{AddsSoFar, adds_begin, adds_more, adds_end, adds_nothing, added_put, added_members, one_split, one_none, one_among}
 use Rattle.lois_automata.proofs.Members.{raised_same}
-use Rattle.lois_automata.proofs.Tuples.{triple_to, triples_same}
 use Rattle.lois_automata.proofs.Written.{pair_is, pair_term, triple_is}
 use Rattle.lois_equal.specs.Completed.{LeadsToSink, IsProvided, AddsSinkSteps, LeadToSink}
 

@@ -7,6 +7,7 @@ use Rattle.lois_base.specs.Data.{TermD, tup, terms_of}
 use Rattle.lois_base.specs.Truth.{sampled}
 use Rattle.lois_base.specs.Values.{PointValue, point}
 use Rattle.lois_base.specs.declared.guards.Lit.{Lit}
+use Rattle.lois_deciders.proofs.Oracle.{on_ok}
 use Rattle.lois_meaning.specs.Automata.{Automaton, IsAutomatonOf, IsComplete}
 use Rattle.lois_meaning.specs.Expressions.{IsValidOperand, IsResultOf}
 use Rattle.lois_meaning.specs.Faults.{IsNoAutomaton, IsInvalidOperand}
@@ -23,16 +24,13 @@ use Rattle.lois_script.specs.View.{exprs_of}
 use Rattle.lois_script.specs.declared.syntax.Operation.{Operation}
 use Rattle.lois_script.specs.declared.syntax.Operation.TheVariants.{Union, Inter, Minus, Flatten, Reach, Product, Complement, Minimise}
 use Rattle.lois_script.specs.declared.syntax.Pos.{Pos}
+use Rattle.lois_meaning.proofs.Alike.{parts_one}
 use Rattle.lois_context.specs.Choices.{IsAdmitted}
 use Rattle.lois_context.specs.declared.contexts.Context.{Context}
 use Rattle.lois_eval.specs.Automata.{IsOfOneAutomaton, IsOfAutomata, IsOperationResult, IsValueFault, IsFailureOfVerdict}
 use Rattle.lois_eval.specs.Operands.{IsAppliedThroughout, IsUnfitFault}
 use Rattle.lois_eval.specs.WellFormed.{arity}
 use Rattle.lois_eval.proofs.FaultsAt.{fault_at}
-
-parts_one : (t : TermD) (c : List Atom) (us ws : List PointValue) → HasPartsAt t c us → HasPartsAt t c ws → us ≡ ws
-parts_one (tup ts) c us ws e f = e ∙ sym f
-parts_one _ c us ws e f = absurd e
 
 -- an automaton has one list of five sets
 pub one_machine : (v : PointValue) (a b : Automaton) → IsAutomatonOf v a → IsAutomatonOf v b → a ≡ b
@@ -51,13 +49,9 @@ one_machine v a b is own =
 
 -- ---- what the checks say
 
-pub on_weaker : {A E : Type 0} (r : Result A E) (P Q : Type 0) → (P → Q) → OnOk r P → OnOk r Q
-on_weaker (Ok x) P Q to h = to h
-on_weaker (Err e) P Q to h = tt
-
 -- where a verdict has to be that a property holds throughout
 pub on_holds : {A E : Type 0} (r : Result A E) (v : Verdict) (P : Verdict → Type 0) → OnOk r (v ≡ Holds) → P v → OnOk r (P Holds)
-on_holds r v P h p = on_weaker r (v ≡ Holds) (P Holds) (λ e. subst P e p) h
+on_holds r v P h p = on_ok r (v ≡ Holds) (P Holds) (λ e. subst P e p) h
 
 module _ (n : ℕ) (u : List (List Lit)) (t : TermD) where
   pub is_whole : HoldsThroughout n u (IsDeterministicAt t) → HoldsThroughout n u (IsCompleteAt t) → HoldsThroughout n u (IsCompleteDeterministicAt t)

@@ -13,9 +13,10 @@ use Rattle.lois_base.specs.declared.values.Comp.{Comp}
 use Rattle.lois_base.proofs.Viewed.{item_at}
 use Rattle.lois_base.specs.Validity.{AdmitsComp, AdmitsItems, CompHasBoundedWidths, ItemsHaveBoundedWidths}
 use Rattle.lois_base.specs.Values.{PointValue, point, MemberAt, IsMember}
+use Rattle.lois_base.proofs.Lists.{items_fit_append}
 use Rattle.lois_algebra.specs.Sets.{ItemsAreSets}
 use Rattle.lois_algebra.proofs.GatheredMembers.{set_items}
-use Rattle.lois_algebra.proofs.Among.{items_fit-append, admits_items-append, widths-append}
+use Rattle.lois_algebra.proofs.Among.{admits_items-append, widths-append}
 use Rattle.lois_context.specs.Choices.{IsAdmitted}
 use Rattle.lois_context.specs.Entered.{HasNoMembers, binders_of, item_of, guard_of}
 use Rattle.lois_context.specs.declared.contexts.Context.{Context}
@@ -63,7 +64,7 @@ module _ (k : Context) where
       λ m. (member_append 0 u.term_of u.choice c so_far (l ∷ [])).1 (elim ((member_append 0 u.term_of u.choice c ks (l ∷ [])).0 m) [ inl p ↦ inl ((h.members c a u).0 p) | inr p ↦ inr p ]),
       λ m. (member_append 0 u.term_of u.choice c ks (l ∷ [])).1 (elim ((member_append 0 u.term_of u.choice c so_far (l ∷ [])).0 m) [ inl p ↦ inl ((h.members c a u).1 p) | inr p ↦ inr p ]),
     );
-    levels = items_fit-append k.size so_far (l ∷ []) h.levels (fits, tt);
+    levels = items_fit_append k.size so_far (l ∷ []) h.levels (fits, tt);
     operators = λ o p. let q = admits-split o ks l p in admits_items-append o so_far (l ∷ []) (h.operators o q.0) (q.1, tt);
     widths = λ p. let q = widths-split ks l p in widths-append so_far (l ∷ []) (h.widths q.0) (q.1, tt);
   })

@@ -12,10 +12,12 @@ use Rattle.lois_base.specs.Validity.{AdmitsConstraint}
 use Rattle.lois_base.specs.Values.{PointValue, point, IsIn, IsSame}
 use Rattle.lois_base.specs.declared.guards.Lit.{Lit}
 use Rattle.lois_base.proofs.Members.{same_in}
-use Rattle.lois_algebra.proofs.Among.{items_fit-append, admits_items-append, widths-append}
+use Rattle.lois_algebra.proofs.Among.{admits_items-append, widths-append}
 use Rattle.lois_meaning.specs.Store.{NamedValues}
 use Rattle.lois_base.proofs.Connectives.{either_true}
-use Rattle.lois_context.proofs.Sides.{and_true}
+use Rattle.lois_base.proofs.Booleans.{and_true}
+use Rattle.lois_base.proofs.Lists.{items_fit_append}
+use Rattle.lois_base.proofs.Appended.{in_append}
 use Rattle.lois_context.specs.Choices.{IsAdmitted, ContextHasBoundedWidths}
 use Rattle.lois_context.specs.Slots.{store_at}
 use Rattle.lois_context.specs.declared.contexts.Context.{Context}
@@ -23,7 +25,7 @@ use Rattle.lois_eval.specs.Evaluated.{IsTermOf, IsConstraintOf, HasMembersOnlyWh
 use Rattle.lois_elim.specs.Bound.{HoldsForSomeMore}
 use Rattle.lois_eval.specs.Folded.{outward, IsSomewhereInside, IsGatheredInside, IsFoundInside}
 use Rattle.lois_eval.specs.WellFormed.{IsWellFormedIn}
-use Rattle.lois_eval.proofs.Outward.{in_outward, in_append, fits_outward, admits_outward, widths_outward}
+use Rattle.lois_eval.proofs.Outward.{in_outward, fits_outward, admits_outward, widths_outward}
 
 -- what is true of all contexts is true of those before the last one, and of it
 before_last : (Q : Context → Type 0) (ds : List Context) (d : Context) → All Q (ds ++ d ∷ []) → All Q ds × Q d
@@ -39,7 +41,7 @@ module _ (n : ℕ) (P : NamedValues → PointValue → Type 0) (stands : Bool �
       | inr same ↦ subst (λ z. IsAdmitted c z → (v : PointValue) × P (store_at c z.store) v) same (λ h. (point (coll (comps_of ls)) c, own.value c h)) a
     ];
     members = λ c l w. (to c l w, from c l w);
-    levels = items_fit-append n ks (map (outward (d.size - n)) ls) so_far.levels (fits_outward n (d.size - n) ls (subst (λ z. ItemsFit z (comps_of ls)) (sym whole) own.levels));
+    levels = items_fit_append n ks (map (outward (d.size - n)) ls) so_far.levels (fits_outward n (d.size - n) ls (subst (λ z. ItemsFit z (comps_of ls)) (sym whole) own.levels));
     operators = λ o h. admits_items-append o ks (map (outward (d.size - n)) ls) (so_far.operators o (before_last (IsWellFormedIn stands o) ds d h).0) (admits_outward o (d.size - n) ls (own.operators o (before_last (IsWellFormedIn stands o) ds d h).1));
     widths = λ h. widths-append ks (map (outward (d.size - n)) ls) (so_far.widths (before_last ContextHasBoundedWidths ds d h).0) (widths_outward (d.size - n) ls (own.widths (before_last ContextHasBoundedWidths ds d h).1));
   })

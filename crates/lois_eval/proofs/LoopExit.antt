@@ -45,10 +45,6 @@ pub four_ok : {A E : Type 0} (r : Result A E) (P Q R S T : A → Type 0) → IfO
 four_ok (Ok x) P Q R S T p q s u to = to x p q s u
 four_ok (Err e) P Q R S T p q s u to = tt
 
-pub is_none : {A : Type 0} (o : Option A) → ((x : A) → o ≡ Some x → ⊥) → o ≡ None
-is_none None h = refl
-is_none (Some x) h = absurd (h x refl)
-
 -- an item of a list is one of its items
 pub item_there : {A : Type 0} (xs : List A) (i : ℕ) (x : A) → i < length xs → x ≡ get_or xs i x → Contains xs x
 item_there xs i x l is = subst (Contains xs) (sym is) (Contains-get_or xs i x l)

@@ -72,15 +72,6 @@ in_outward m ks c w = (
   λ (e, l, (u, is, same)). (u, member_inward m u.term_of u.choice c ks (e, l, is), same),
 )
 
-pub in_append : (ks ls : List CompD) (c : List Atom) (w : PointValue) → IsIn w (point (coll (comps_of (ks ++ ls))) c) ↔ (IsIn w (point (coll (comps_of ks)) c) ⊎ IsIn w (point (coll (comps_of ls)) c))
-in_append ks ls c w = (
-  λ (u, is, same). elim ((member_append 0 u.term_of u.choice c ks ls).0 is) [ inl p ↦ inl (u, p, same) | inr p ↦ inr (u, p, same) ],
-  λ h. elim h [
-    | inl p ↦ (p.0, (member_append 0 p.0.term_of p.0.choice c ks ls).1 (inl p.1), p.2)
-    | inr p ↦ (p.0, (member_append 0 p.0.term_of p.0.choice c ks ls).1 (inr p.1), p.2)
-  ],
-)
-
 pub fits_outward : (n m : ℕ) (ks : List CompD) → ItemsFit (n + m) (comps_of ks) → ItemsFit n (comps_of (map (outward m) ks))
 fits_outward n m [] h = tt
 fits_outward n m (comp b g t ∷ ks) h =

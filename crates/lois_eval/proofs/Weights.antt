@@ -52,16 +52,6 @@ abbrev pub weight_from : Expr → List Binding → ℕ → Cond → ℕ
 weight_from item bs i c =
     weight (tree item) + weight_of_bindings (bindings_of (map binding_tree (drop i bs))) + weight_of_cond (cond_tree c)
 
-pub weight_positive : (e : ExprD) → 1 ≤ weight e
-weight_positive (atoms p) = omega arith
-weight_positive (var p x) = omega arith
-weight_positive (tag p name) = omega arith
-weight_positive (tuple p es) = omega arith
-weight_positive (listed p es) = omega arith
-weight_positive (each p item bs c) = omega arith
-weight_positive (part p e n) = omega arith
-weight_positive (apply p op es) = omega arith
-
 pub weight_of_cond_positive : (c : CondD) → 1 ≤ weight_of_cond c
 weight_of_cond_positive truth = omega arith
 weight_of_cond_positive falsity = omega arith

@@ -4,26 +4,14 @@ use Rattle.lois_base.specs.Atom.{Atom}
 use Rattle.lois_base.specs.Data.{TermD, coll, CompD, comps_of}
 use Rattle.lois_base.specs.Values.{PointValue, point, IsIn, IsSame, IsIncluded}
 use Rattle.lois_base.proofs.Members.{member_in, same_in, same_sym, same_sets}
+use Rattle.lois_base.proofs.Choices.{no_atoms}
+use Rattle.lois_base.proofs.Appended.{in_append}
 use Rattle.lois_algebra.proofs.Among.{among_in, among_append}
 use Rattle.lois_eval.specs.Made.{bare}
-
-pub in_append : (xs ys : List CompD) (c : List Atom) (w : PointValue) → IsIn w (point (coll (comps_of (xs ++ ys))) c) ↔ (IsIn w (point (coll (comps_of xs)) c) ⊎ IsIn w (point (coll (comps_of ys)) c))
-in_append xs ys c w =
-    let whole = among_in (comps_of (xs ++ ys)) c w in
-    let first = among_in (comps_of xs) c w in
-    let last = among_in (comps_of ys) c w in
-    let both = among_append c w xs ys in (
-      λ h. elim (both.0 (whole.1 h)) [ inl p ↦ inl (first.0 p) | inr p ↦ inr (last.0 p) ],
-      λ h. whole.0 (both.1 (elim h [ inl p ↦ inl (first.1 p) | inr p ↦ inr (last.1 p) ])),
-    )
 
 -- those of the first ones are members
 pub append_included : (xs ys : List CompD) (c : List Atom) → IsIncluded (point (coll (comps_of xs)) c) (point (coll (comps_of (xs ++ ys))) c)
 append_included xs ys c u m = (in_append xs ys c u).1 (inl (member_in u (point (coll (comps_of xs)) c) m))
-
-no_atoms : (e : List Atom) → length e ≡ 0 → e ≡ []
-no_atoms [] h = refl
-no_atoms (a ∷ e) h = absurd (omega arith)
 
 -- a comprehension without binders that holds everywhere has its item alone
 pub in_one : (item : TermD) (c : List Atom) (w : PointValue) → IsIn w (point (coll (comps_of (bare item ∷ []))) c) ↔ IsSame w (point item c)

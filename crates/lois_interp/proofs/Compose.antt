@@ -10,6 +10,7 @@ use Rattle.lois_base.specs.Truth.{sampled}
 use Rattle.lois_base.specs.Values.{point}
 use Rattle.lois_base.proofs.Members.{included_trans}
 use Rattle.lois_base.proofs.Validity.{all_that_are}
+use Rattle.lois_base.proofs.Lists.{all_right}
 use Rattle.lois_context.specs.Choices.{IsAdmitted, AdmitsContext, ContextHasBoundedWidths}
 use Rattle.lois_context.specs.Slots.{SlotD, slot_name, store_at, line_values}
 use Rattle.lois_context.specs.declared.contexts.Context.{Context}
@@ -24,7 +25,7 @@ use Rattle.lois_interp.specs.Reached.{IsReachedAt, ComesFrom, RunsFrom}
 use Rattle.lois_interp.specs.Run.{Run}
 use Rattle.lois_interp.specs.Slots.{IsKeptTerm, IsKeptSlot, AreKept}
 use Rattle.lois_context.proofs.Counts.{times_append}
-use Rattle.lois_interp.proofs.Lists.{only_one, all_left, all_right}
+use Rattle.lois_interp.proofs.Lists.{only_one, all_left}
 use Rattle.lois_meaning.specs.Store.{NamedValues}
 use Rattle.lois_meaning.specs.declared.faults.Fault.{Fault}
 use Rattle.lois_answers.specs.declared.faults.FaultKind.{FaultKind}

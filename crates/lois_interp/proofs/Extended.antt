@@ -9,7 +9,8 @@ use Rattle.lois_base.specs.Fits.{LitFits, CubeFits, CompFits, Fits, ItemsFit}
 use Rattle.lois_base.specs.Validity.{AdmitsLit, AdmitsCube, AdmitsTerm, AdmitsItems, HasBoundedWidths, ItemsHaveBoundedWidths}
 use Rattle.lois_base.specs.Truth.{holds, sampled}
 use Rattle.lois_base.specs.Values.{point}
-use Rattle.lois_algebra.proofs.Among.{items_fit-append, admits_items-append, widths-append}
+use Rattle.lois_base.proofs.Lists.{items_fit_append}
+use Rattle.lois_algebra.proofs.Among.{admits_items-append, widths-append}
 use Rattle.lois_meaning.specs.Runs.{IsSetWith}
 use Rattle.lois_meaning.specs.declared.faults.Fault.{Fault}
 use Rattle.lois_terms.specs.Guarded.{IsColl}

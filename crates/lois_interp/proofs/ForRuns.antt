@@ -29,12 +29,13 @@ use Rattle.lois_eval.specs.WellFormed.{IsWellFormedIn}
 use Rattle.lois_interp.specs.WellScoped.{StmtIsWellScoped}
 use Rattle.lois_base.specs.declared.guards.Lit.{Lit}
 use Rattle.lois_base.proofs.Members.{same_in}
+use Rattle.lois_base.proofs.Lists.{all_one}
 use Rattle.lois_meaning.specs.Store.{AreSameNamed}
 use Rattle.lois_meaning.proofs.Ends.{stmt_to}
 use Rattle.lois_interp.specs.Tidied.{AreTidied, counts_in}
 use Rattle.lois_interp.proofs.Compose.{kept_term_trans}
 use Rattle.lois_interp.proofs.ForFails.{take_in}
-use Rattle.lois_interp.proofs.Lists.{only_one, all_one, of_one}
+use Rattle.lois_interp.proofs.Lists.{only_one, of_one}
 use Rattle.lois_interp.proofs.EndsAreEnds.{NoneAssigned, end_further}
 use Rattle.lois_interp.proofs.ForEnds.{IsLoop, loop_ends}
 use Rattle.lois_interp.proofs.Kept.{reached_at}

@@ -32,7 +32,7 @@ free_append : (s t : NamedValues) → AreFree s → AreFree t → AreFree (s ++ 
 free_append [] t h k = k
 free_append (b ∷ s) t h k = (h.0, free_append s t h.1 k)
 
-none_free : (lines : NamedValues) → lines ≡ [] → AreFree lines
+pub none_free : (lines : NamedValues) → lines ≡ [] → AreFree lines
 none_free lines e = subst AreFree (sym e) tt
 
 abbrev PrintsFree : Ending → Type 0

@@ -2,6 +2,7 @@
 use Rattle.std.proofs.Common.{ℕ, inl, inr, Bool, true, false, List, [], ◌++◌, Option, Some, None, IfSome, refl, arith}
 use Rattle.std.specs.List.{All}
 use Rattle.std.proofs.lemmas.List.Elements.{Contains-append_cases, Contains-push, All-append, All-nil}
+use Rattle.lois_base.proofs.Lists.{all_one}
 use Rattle.lois_script.specs.Tree.{CondD, StmtsD, if}
 use Rattle.lois_meaning.specs.Faults.{CondFails}
 use Rattle.lois_meaning.specs.declared.faults.Fault.{Fault}
@@ -17,7 +18,7 @@ use Rattle.lois_interp.specs.Reached.{RunsFrom, RunsAs}
 use Rattle.lois_interp.specs.Run.{stmt_run, block_run}
 use Rattle.lois_interp.specs.WellScoped.{CondIsWellScoped, StmtIsWellScoped, BlockIsWellScoped}
 use Rattle.lois_interp.proofs.ForFails.{bare_within}
-use Rattle.lois_interp.proofs.Lists.{all_one, of_one}
+use Rattle.lois_interp.proofs.Lists.{of_one}
 use Rattle.lois_interp.proofs.Parted.{cond_placed, listed_side, side_placed, from_side, side_fails}
 
 -- what is true of each side that there is

@@ -12,6 +12,7 @@ use Rattle.lois_base.specs.Validity.{AdmitsTerm, HasBoundedWidths}
 use Rattle.lois_base.specs.Values.{point, IsSame}
 use Rattle.lois_base.proofs.Members.{same_sym}
 use Rattle.lois_base.proofs.RenamedForm.{depth_renamed, admits_renamed, widths_renamed}
+use Rattle.lois_base.proofs.Lists.{all_one, all_right}
 use Rattle.lois_answers.specs.ResultsData.{LineD}
 use Rattle.lois_script.specs.Tree.{CondD, StmtsD}
 use Rattle.lois_script.specs.declared.syntax.Pos.{Pos}
@@ -41,7 +42,7 @@ use Rattle.lois_interp.specs.Slots.{AreKept}
 use Rattle.lois_interp.specs.WellScoped.{BlockIsWellScoped, TurnIsWellScoped}
 use Rattle.lois_interp.proofs.ForFails.{bare_within}
 use Rattle.lois_interp.proofs.Kept.{as_reached}
-use Rattle.lois_interp.proofs.Lists.{only_one, all_one, of_one, all_left, all_right}
+use Rattle.lois_interp.proofs.Lists.{only_one, of_one, all_left}
 use Rattle.lois_interp.proofs.Parted.{turn_cond, turn_block, side_placed, side_fails}
 
 module _ (c : CondD) (body : StmtsD) where

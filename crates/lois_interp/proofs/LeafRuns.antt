@@ -11,6 +11,7 @@ use Rattle.lois_base.specs.Truth.{holds}
 use Rattle.lois_base.specs.Validity.{AdmitsConstraint, AdmitsTerm, HasBoundedWidths}
 use Rattle.lois_base.specs.Values.{point, IsIn, IsIncluded}
 use Rattle.lois_base.proofs.Members.{same_refl}
+use Rattle.lois_base.proofs.Lists.{all_one}
 use Rattle.lois_answers.specs.ResultsData.{LineD}
 use Rattle.lois_script.specs.Tree.{ExprD, CondD, «let», assign, add, assert, print}
 use Rattle.lois_meaning.specs.Expressions.{Gives, HasTruth}
@@ -38,7 +39,7 @@ use Rattle.lois_interp.specs.Run.{Run, stmt_run}
 use Rattle.lois_interp.specs.Slots.{IsKeptTerm, IsKeptSlot, AreKept}
 use Rattle.lois_interp.proofs.Kept.{kept_weaker}
 use Rattle.lois_interp.proofs.PutOnce.{item_kept, item_included, set_with}
-use Rattle.lois_interp.proofs.Lists.{only_one, all_one, of_one}
+use Rattle.lois_interp.proofs.Lists.{only_one, of_one}
 use Rattle.lois_interp.proofs.Sequence.{kept_refl}
 
 -- one context, where the first one admits

@@ -8,14 +8,8 @@ use Rattle.lois_context.proofs.Later.{first_or_later}
 pub only_one : {X : Type 0} (x y : X) → Contains (x ∷ []) y → x ≡ y
 only_one x y h = elim (first_or_later x [] y h) [ inl e ↦ e | inr later ↦ absurd (omega (arith, later.1)) ]
 
-pub all_one : {X : Type 0} (P : X → Type 0) (x : X) → P x → All P (x ∷ [])
-all_one P x h = all_that_are P (x ∷ []) (λ y there. subst P (only_one x y there) h)
-
 pub of_one : {X : Type 0} (P : X → Type 0) (x : X) → All P (x ∷ []) → P x
 of_one P x h = All-contains P (x ∷ []) x h (Contains-push [] x)
 
 pub all_left : {X : Type 0} (P : X → Type 0) (xs ys : List X) → All P (xs ++ ys) → All P xs
 all_left P xs ys h = all_that_are P xs (λ x there. All-contains P (xs ++ ys) x h (Contains-append_left xs ys x there))
-
-pub all_right : {X : Type 0} (P : X → Type 0) (xs ys : List X) → All P (xs ++ ys) → All P ys
-all_right P xs ys h = all_that_are P ys (λ x there. All-contains P (xs ++ ys) x h (Contains-append_right xs ys x there))

@@ -34,12 +34,6 @@ zip_from R (x ∷ xs) (z ∷ ys) h y there = elim (first_or_later z ys y there) 
   | inr later ↦ let r = zip_from R xs ys h.1 y later in (r.0, later_of x xs r.0 r.1, r.2)
 ]
 
-pub zip_more : {A B : Type 0} (R : A → B → Type 0) (xs : List A) (ys : List B) (x : A) (y : B) → AllZip R xs ys → R x y → AllZip R (xs ++ x ∷ []) (ys ++ y ∷ [])
-zip_more R [] [] x y h r = (r, tt)
-zip_more R [] (z ∷ ys) x y h r = absurd h
-zip_more R (w ∷ xs) [] x y h r = absurd h
-zip_more R (w ∷ xs) (z ∷ ys) x y h r = (h.0, zip_more R xs ys x y h.1 r)
-
 -- ---- how many contexts admit a choice
 pub times_printed : (c : List Atom) (ks ds : List Context) → AllZip IsPrinted ks ds → times c ds ≡ times c ks
 times_printed c [] [] h = refl

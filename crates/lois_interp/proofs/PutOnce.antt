@@ -10,7 +10,9 @@ use Rattle.lois_base.specs.Validity.{AdmitsLit, AdmitsCube, AdmitsTerm, AdmitsIt
 use Rattle.lois_base.specs.Values.{PointValue, point, IsIn, IsSame, IsIncluded}
 use Rattle.lois_base.specs.declared.guards.Lit.{Lit}
 use Rattle.lois_base.proofs.Members.{same_sym, same_in, same_included, included_trans}
-use Rattle.lois_algebra.proofs.Among.{items_fit-append, admits_items-append, widths-append}
+use Rattle.lois_base.proofs.Lists.{items_fit_append}
+use Rattle.lois_base.proofs.Appended.{in_append}
+use Rattle.lois_algebra.proofs.Among.{admits_items-append, widths-append}
 use Rattle.lois_meaning.specs.Runs.{IsSetWith}
 use Rattle.lois_simplify.specs.Simplification.{IsSimplification, set_of}
 use Rattle.lois_simplify.proofs.Kept.{alike_kept}
@@ -23,7 +25,7 @@ use Rattle.lois_context.proofs.Joined.{of_listed}
 use Rattle.lois_eval.specs.Made.{bare}
 use Rattle.lois_interp.specs.Members.{IsPutOnce, IsWithItem, AreBehind}
 use Rattle.lois_interp.specs.Slots.{IsKeptTerm}
-use Rattle.lois_interp.proofs.Added.{in_append, in_one, append_included}
+use Rattle.lois_interp.proofs.Added.{in_one, append_included}
 
 -- ---- the list has the same comprehensions as with the new one at its end
 put_all : (ks : List CompD) (k : CompD) (ls : List CompD) → IsPutOnce ks k ls → (j : CompD) → Contains (ks ++ k ∷ []) j → Contains ls j
@@ -59,7 +61,7 @@ module _ (t item r : TermD) (ks : CompsD) (set : t ≡ coll ks) (more : IsWithIt
   was = set ∙ ap coll (sym (of_listed ks))
 
   pub with_fits : (n : ℕ) → n < 2 ^ 64 → Fits n t → Fits n item → Fits n r
-  with_fits n room before new = (kept [] n).levels (items_fit-append n (items_listed ks) (bare item ∷ []) (subst (Fits n) was before) (item_fits n item room new, tt))
+  with_fits n room before new = (kept [] n).levels (items_fit_append n (items_listed ks) (bare item ∷ []) (subst (Fits n) was before) (item_fits n item room new, tt))
 
   pub with_admits : (o : Bool) → AdmitsTerm o t → AdmitsTerm o item → AdmitsTerm o r
   with_admits o before new = (kept [] 0).operators o (admits_items-append o (items_listed ks) (bare item ∷ []) (subst (AdmitsTerm o) was before) ((All-cons (AdmitsCube o) [] [] (All-nil (AdmitsLit o)) (All-nil (AdmitsCube o)), new), tt))
@@ -107,10 +109,6 @@ module _ (t item r : TermD) (ks : CompsD) (set : t ≡ coll ks) (more : IsWithIt
         | inl p ↦ inl p
         | inr p ↦ inr ((in_one item c w).1 p)
       ]))
-
--- ---- one list behind another
-pub none_behind : (first : List CompD) → AreBehind first [] first
-none_behind first = ([], sym (append-nil first), λ j h. h, λ j h. absurd (contains_none j h))
 
 pub one_behind : (first added all after : List CompD) (k : CompD) → AreBehind first added all → IsPutOnce all k after → AreBehind first (added ++ k ∷ []) after
 one_behind first added all after k (more, e, only, whole) (inl is) = (

@@ -43,7 +43,8 @@ use Rattle.lois_interp.proofs.FreeNames.{AreFree, script_free, are_parameters}
 use Rattle.lois_eval.proofs.FaultsAt.{own_sample}
 use Rattle.lois_interp.proofs.Kept.{as_reached}
 use Rattle.lois_base.proofs.Validity.{all_that_are}
-use Rattle.lois_interp.proofs.Lists.{only_one, all_one}
+use Rattle.lois_base.proofs.Lists.{all_one}
+use Rattle.lois_interp.proofs.Lists.{only_one}
 use Rattle.lois_interp.proofs.Opened.{opens_at, opening_admits, opening_widths, body_placed}
 use Rattle.lois_interp.proofs.Shallow.{AreShallow, same_shallow, list_shallow}
 use Rattle.lois_interp.proofs.Weaker.{IsWeaker, normal_weaker}

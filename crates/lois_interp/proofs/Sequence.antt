@@ -10,6 +10,7 @@ use Rattle.lois_base.specs.Validity.{AdmitsConstraint, AdmitsTerm, HasBoundedWid
 use Rattle.lois_base.specs.Values.{point}
 use Rattle.lois_base.proofs.Members.{included_refl}
 use Rattle.lois_base.proofs.Validity.{all_that_are}
+use Rattle.lois_base.proofs.Lists.{all_one}
 use Rattle.lois_answers.specs.ResultsData.{LineD}
 use Rattle.lois_answers.specs.declared.faults.FaultKind.{FaultKind}
 use Rattle.lois_script.specs.Scope.{RuleD, ScopeD, scope_behind, StmtBreaks, StmtsBreak}
@@ -30,6 +31,7 @@ use Rattle.lois_context.specs.Counted.{admits}
 use Rattle.lois_context.proofs.Later.{first_or_later}
 use Rattle.lois_simplify.proofs.Members.{contains_none}
 use Rattle.lois_eval.specs.WellFormed.{names_of, IsWellFormedIn}
+use Rattle.lois_scope.proofs.Lists.{behind_all}
 use Rattle.lois_interp.specs.Assigned.{StmtAssigns, ListAssigns}
 use Rattle.lois_interp.specs.Failed.{FailsWithin, FailsFrom}
 use Rattle.lois_interp.specs.WithinLimits.{StmtIsWithinLimits, StmtsAreWithinLimits}
@@ -40,7 +42,7 @@ use Rattle.lois_interp.specs.Slots.{IsKeptTerm, AreKept}
 use Rattle.lois_interp.specs.WellScoped.{declared_name, StmtIsWellScoped, BlockIsWellScoped}
 use Rattle.lois_interp.proofs.Compose.{from_both, fails_later}
 use Rattle.lois_interp.proofs.Kept.{as_named}
-use Rattle.lois_interp.proofs.Lists.{only_one, all_one, of_one}
+use Rattle.lois_interp.proofs.Lists.{only_one, of_one}
 
 -- ---- the statements before an index, and one more
 pub ends_snoc : (done : List StmtD) (a : StmtD) (s t u l m : NamedValues) → ListEnds (stmts_of done) s t l → StmtEnds a t u m → ListEnds (stmts_of (done ++ a ∷ [])) s u (l ++ m)
@@ -66,11 +68,6 @@ behind_snoc : (done : List StmtD) (a : StmtD) (names : List (List ℕ)) → name
 behind_snoc [] a names = refl
 behind_snoc (b ∷ done) a names = behind_snoc done a (names_behind b names)
 
--- ---- which statements may stand where
-pub scope_behind_all : List StmtD → ScopeD → ScopeD
-scope_behind_all [] s = s
-scope_behind_all (a ∷ l) s = scope_behind_all l (scope_behind a s)
-
 names_one : (a : StmtD) (s : ScopeD) → map declared_name (scope_behind a s).names ≡ names_behind a (map declared_name s.names)
 names_one («let» p x e) s = map-append declared_name s.names _
 names_one (assign p x e) s = refl
@@ -91,18 +88,18 @@ order_one (while p c n body) s = refl
 order_one (assert p c) s = refl
 order_one (print p q x) s = refl
 
-names_all : (l : List StmtD) (s : ScopeD) → map declared_name (scope_behind_all l s).names ≡ names_behind_all l (map declared_name s.names)
-unfolding scope_behind_all
+names_all : (l : List StmtD) (s : ScopeD) → map declared_name (behind_all l s).names ≡ names_behind_all l (map declared_name s.names)
+unfolding behind_all
 names_all [] s = refl
 names_all (a ∷ l) s = names_all l (scope_behind a s) ∙ ap (names_behind_all l) (names_one a s)
 
-order_all : (l : List StmtD) (s : ScopeD) → (scope_behind_all l s).ordered ≡ s.ordered
-unfolding scope_behind_all
+order_all : (l : List StmtD) (s : ScopeD) → (behind_all l s).ordered ≡ s.ordered
+unfolding behind_all
 order_all [] s = refl
 order_all (a ∷ l) s = order_all l (scope_behind a s) ∙ order_one a s
 
-breaks_at : (done : List StmtD) (a : StmtD) (rest : List StmtD) (s : ScopeD) (rule : RuleD) (at : ℕ) → StmtBreaks a (scope_behind_all done s) rule at → StmtsBreak (stmts_of (done ++ a ∷ rest)) s rule at
-unfolding scope_behind_all
+breaks_at : (done : List StmtD) (a : StmtD) (rest : List StmtD) (s : ScopeD) (rule : RuleD) (at : ℕ) → StmtBreaks a (behind_all done s) rule at → StmtsBreak (stmts_of (done ++ a ∷ rest)) s rule at
+unfolding behind_all
 breaks_at [] a rest s rule at h = inl h
 breaks_at (b ∷ done) a rest s rule at h = inr (breaks_at done a rest (scope_behind b s) rule at h)
 
@@ -131,7 +128,7 @@ first_stands done rest o names h = record {
 -- a statement stands behind those before it
 pub stands_at : (done : List StmtD) (a : StmtD) (rest : List StmtD) (o : Bool) (names : List (List ℕ)) → BlockIsWellScoped (stmts_of (done ++ a ∷ rest)) o names → StmtIsWellScoped a o (names_behind_all done names)
 stands_at done a rest o names h = record {
-  scope = scope_behind_all done h.scope;
+  scope = behind_all done h.scope;
   named = names_all done h.scope ∙ ap (names_behind_all done) h.named;
   order = order_all done h.scope ∙ h.order;
   unbroken = λ rule at bad. h.unbroken rule at (breaks_at done a rest h.scope rule at bad);

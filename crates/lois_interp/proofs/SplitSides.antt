@@ -18,10 +18,7 @@ use Rattle.lois_context.proofs.Counts.{admits_yes, admits_is, times_append}
 use Rattle.lois_meaning.specs.Expressions.{HasTruth}
 use Rattle.lois_answers.specs.ResultsData.{LineD}
 use Rattle.lois_script.specs.Tree.{CondD}
-
--- ---- counts
-pub once : (x : List Atom) (y : Context) → IsAdmitted x y → times x (y ∷ []) ≡ 1
-once x y h = ap (λ b. 0 + cond b 1 0) (admits_yes x y h)
+use Rattle.lois_interp.proofs.OneCase.{one_admits}
 
 pub never : (x : List Atom) (y : Context) → (IsAdmitted x y → ⊥) → times x (y ∷ []) ≡ 0
 never x y h = go (admits x y) refl
@@ -32,7 +29,7 @@ never x y h = go (admits x y) refl
 
 option_once : (x : List Atom) (o : Option Context) → IsAdmittedBy x o → times x (listed_context o) ≡ 1
 option_once x None h = absurd h
-option_once x (Some y) h = once x y h
+option_once x (Some y) h = one_admits x y h
 
 option_never : (x : List Atom) (o : Option Context) → (IsAdmittedBy x o → ⊥) → times x (listed_context o) ≡ 0
 option_never x None h = refl
@@ -72,12 +69,12 @@ module _ (c : CondD) (k : Context) (g : List (List Lit)) where
           let adm = admits_is x k e in
           let a = option_once x s.yes ((yes_choices x).1 (adm, f)) in
           let b = option_never x s.no (λ h. let r : holds x g ≡ false = ((no_choices x).0 h).1 in let bad : true ≡ false = sym f ∙ r in cc) in
-          let d = once x k adm in omega arith
+          let d = one_admits x k adm in omega arith
       count x true e false f =
           let adm = admits_is x k e in
           let a = option_never x s.yes (λ h. let r : holds x g ≡ true = ((yes_choices x).0 h).1 in let bad : true ≡ false = sym r ∙ f in cc) in
           let b = option_once x s.no ((no_choices x).1 (adm, f)) in
-          let d = once x k adm in omega arith
+          let d = one_admits x k adm in omega arith
       count x false e q f =
           let out : IsAdmitted x k → ⊥ = λ adm. let here : admits x k ≡ true = admits_yes x k adm in let bad : true ≡ false = sym here ∙ e in cc in
           let a = option_never x s.yes (λ h. out ((yes_choices x).0 h).0) in

@@ -12,7 +12,8 @@ use Rattle.lois_base.specs.Validity.{AdmitsTerm, AdmitsItems, HasBoundedWidths, 
 use Rattle.lois_base.specs.Values.{point, IsSame}
 use Rattle.lois_base.specs.declared.guards.Lit.{Lit}
 use Rattle.lois_base.proofs.Members.{same_refl, same_trans, same_as_set}
-use Rattle.lois_algebra.proofs.Among.{items_fit-append, admits_items-append, widths-append}
+use Rattle.lois_base.proofs.Lists.{items_fit_append}
+use Rattle.lois_algebra.proofs.Among.{admits_items-append, widths-append}
 use Rattle.lois_deciders.specs.Satisfaction.{ConstraintIsSatisfiable}
 use Rattle.lois_simplify.proofs.Kept.{alike_kept}
 use Rattle.lois_simplify.proofs.Members.{items_fit_each, each_fits_items, items_admit_each, each_admits_items, items_wide_each, each_wide_items}
@@ -87,7 +88,7 @@ module _ (n : ℕ) (g : List (List Lit)) (xs ys zs : List CompD) where
       ap (take (length xs)) (listed_of (xs ++ zs)) ∙ (take-append_seam xs zs ∙ sym (ap (take (length xs)) (listed_of (xs ++ ys)) ∙ take-append_seam xs ys)),
     );
     value = same;
-    levels = items_fit-append n xs zs fits levels;
+    levels = items_fit_append n xs zs fits levels;
     count = λ l. let e = count_of (xs ++ zs) in omega (arith, e, length-append xs zs);
     operators = λ o h. admits_items-append o xs zs (items_admit_first o xs ys h) (operators o (items_admit_last o xs ys h));
     widths = λ h. widths-append xs zs (items_widths_first xs ys h) (widths (items_widths_last xs ys h));

@@ -3,6 +3,7 @@ use Rattle.std.proofs.Common.{◌≡◌, ℕ, inl, inr, Bool, true, false, List,
 use Rattle.std.specs.Bool.{IsFalse}
 use Rattle.std.proofs.lemmas.List.{map-append}
 use Rattle.std.proofs.lemmas.List.Elements.{All-cons, All-nil}
+use Rattle.lois_base.proofs.Booleans.{true_if_not_false}
 use Rattle.lois_script.specs.Scope.{RuleD, unknown, again, order_in_equality, RoleD, DeclaredD, ScopeD, role_of, bound, with_binder, ExprBreaks, ExprsBreak, BindingsBreak, CondBreaks, CondsBreak}
 use Rattle.lois_script.specs.Tree.{ExprD, atoms, var, tag, tuple, listed, each, part, apply, ExprsD, no_exprs, expr, binding, BindingsD, no_bindings, bind, CondD, truth, falsity, same, differ, below, member, included, empty, not, all, any, exists, every, CondsD, no_conds, cond}
 use Rattle.lois_eval.specs.WellFormed.{IsNamed, IsUnnamed, names_behind_bindings, IsWellFormed, AreWellFormed, BindersAreWellFormed, CondIsWellFormed, CondsAreWellFormed}
@@ -38,10 +39,6 @@ bound_names (bind (binding p x e) bs) s = bound_names bs (with_binder (binding p
 bound_order : (bs : BindingsD) (s : ScopeD) → (bound bs s).ordered ≡ s.ordered
 bound_order no_bindings s = refl
 bound_order (bind (binding p x e) bs) s = bound_order bs (with_binder (binding p x e) s)
-
-has_order : (b : Bool) → (b ≡ false → ⊥) → b ≡ true
-has_order true h = refl
-has_order false h = absurd (h refl)
 
 -- no rule is broken
 abbrev Unbroken : (ScopeD → RuleD → ℕ → Type 0) → ScopeD → Type 0
@@ -80,7 +77,7 @@ mutual
   cond_stands (same e f) s h form = (expr_stands e s (λ rule at bad. h rule at (inl bad)) form.0, expr_stands f s (λ rule at bad. h rule at (inr bad)) form.1)
   cond_stands (differ e f) s h form = (expr_stands e s (λ rule at bad. h rule at (inl bad)) form.0, expr_stands f s (λ rule at bad. h rule at (inr bad)) form.1)
   cond_stands (below p e f) s h form = (
-    has_order s.ordered (λ none. h order_in_equality p (inr (inl (refl, refl, none)))),
+    true_if_not_false s.ordered (λ none. h order_in_equality p (inr (inl (refl, refl, none)))),
     expr_stands e s (λ rule at bad. h rule at (inl bad)) form.0,
     expr_stands f s (λ rule at bad. h rule at (inr (inr bad))) form.1,
   )

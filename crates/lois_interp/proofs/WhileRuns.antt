@@ -5,6 +5,7 @@ use Rattle.std.proofs.lemmas.List.{append_assoc}
 use Rattle.std.proofs.lemmas.List.Elements.{All-append, All-contains, All-nil, All-weaker, Contains-append_cases, Contains-push}
 use Rattle.lois_base.specs.Truth.{sampled}
 use Rattle.lois_base.proofs.Validity.{all_that_are}
+use Rattle.lois_base.proofs.Lists.{all_one, all_right}
 use Rattle.lois_answers.specs.declared.faults.FaultKind.{FaultKind}
 use Rattle.lois_answers.specs.declared.faults.FaultKind.TheVariants.{TurnLimit}
 use Rattle.lois_script.specs.Tree.{CondD, StmtsD, while}
@@ -38,7 +39,7 @@ use Rattle.lois_interp.specs.Turned.{Parts}
 use Rattle.lois_interp.proofs.Compose.{comes_more, comes_later, comes_merged, comes_both, fails_later, one_apart}
 use Rattle.lois_interp.proofs.ForFails.{bare_within}
 use Rattle.lois_interp.proofs.IfRuns.{all_sides, some_side}
-use Rattle.lois_interp.proofs.Lists.{only_one, all_one, of_one, all_left, all_right}
+use Rattle.lois_interp.proofs.Lists.{only_one, of_one, all_left}
 use Rattle.lois_interp.proofs.Parted.{turn_cond, turn_block, cond_placed, listed_side, side_placed, from_side, side_fails}
 use Rattle.lois_interp.proofs.Sequence.{stays_at}
 

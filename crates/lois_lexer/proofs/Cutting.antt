@@ -38,6 +38,3 @@ module _ (text : List ℕ) (at : ℕ) (tokens : List Token) (inside : at ≤ len
   cut_token kind n token limits =
       let here : Longest (drop at text) kind n = subst (λ bytes. Longest bytes kind n) (rest_is at text) token in
       (omega (arith, here.within, length-drop at text), past_token at n kind tokens cut here (subst (λ bytes. IsTrue (is_within_limits kind (take n bytes))) (rest_is at text) limits))
-
-  pub cut_refused : (error : LexError) → IsWrongAt at (rest_of text at) error → IsLexicalRefusal text error
-  cut_refused error wrong = (at, tokens, cut, subst (λ bytes. IsWrongAt at bytes error) (rest_is at text) wrong)

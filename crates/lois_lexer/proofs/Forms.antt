@@ -34,7 +34,7 @@ passed_by_symbol p each bytes h = let P : List ℕ → Type 0 = λ xs. p xs ≡ 
 pub digit_class : (b : ℕ) → is_ascii_digit b ≡ true → class_of b ≡ 1
 digit_class b h = grind (arith, nat_tests)
 
-letter_is_word_byte : (b : ℕ) → is_ascii_alphabetic b ≡ true → is_word_byte b ≡ true
+pub letter_is_word_byte : (b : ℕ) → is_ascii_alphabetic b ≡ true → is_word_byte b ≡ true
 letter_is_word_byte b h = grind (arith, nat_tests)
 
 -- a word's form, taken apart

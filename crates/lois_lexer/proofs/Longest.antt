@@ -11,7 +11,7 @@ use Rattle.lois_lexer.specs.Bytes.{is_word_byte}
 use Rattle.lois_lexer.specs.Words.{symbols}
 use Rattle.lois_lexer.specs.Forms.{is_word_form, HasForm}
 use Rattle.lois_lexer.specs.Tokens.{Longest}
-use Rattle.lois_lexer.proofs.Forms.{class_of, first_class, class_of_first, form_nonempty, letter_first, letter_class, digit_class, word_bytes, symbol_only, symbol_short}
+use Rattle.lois_lexer.proofs.Forms.{class_of, first_class, class_of_first, form_nonempty, letter_first, letter_class, digit_class, word_bytes, symbol_only, symbol_short, letter_is_word_byte}
 
 -- a run that passes a test: it passes, no longer front does, and it is there where the first byte passes
 pub run_passes : (p : ℕ → Bool) (bytes : List ℕ) → list_all p (take (prefix_len p bytes) bytes) ≡ true
@@ -60,9 +60,6 @@ tag_front kind bytes e h = let k : first_class kind ≡ 2 = sym (class_of_first 
 word_form_from : (bytes : List ℕ) → 0 < length bytes → is_ascii_alphabetic (get_or bytes 0 0) ≡ true → list_all is_word_byte bytes ≡ true → is_word_form bytes ≡ true
 word_form_from [] nonempty letter passes = absurd (omega arith)
 word_form_from (b ∷ bs) nonempty letter passes = and_from (is_ascii_alphabetic b) (list_all is_word_byte bs) letter (and_parts (is_word_byte b) (list_all is_word_byte bs) passes).1
-
-letter_is_word_byte : (b : ℕ) → is_ascii_alphabetic b ≡ true → is_word_byte b ≡ true
-letter_is_word_byte b h = (and_parts (is_word_byte b) true (word_bytes (b ∷ []) (and_from (is_ascii_alphabetic b) true h refl))).0
 
 module _ (bytes : List ℕ) (nonempty : 0 < length bytes) (letter : is_ascii_alphabetic (get_or bytes 0 0) ≡ true) where
   pub word_len_positive : 0 < prefix_len is_word_byte bytes

@@ -17,6 +17,7 @@ use Rattle.lois_base.specs.declared.guards.Op.TheVariants.{Eq, Ne, Lt}
 use Rattle.lois_base.proofs.Members.{same_sym}
 use Rattle.lois_base.proofs.Order.{equal_refl, equal_sym, equal_respects, same_truth}
 use Rattle.lois_base.proofs.Truths.{holds_alike}
+use Rattle.lois_base.proofs.Twins.{equal_turned}
 use Rattle.lois_make.specs.MadeTree.{made_tag}
 use Rattle.lois_make.specs.MadeValue.{tagged, IsTagged, IsMade}
 
@@ -89,9 +90,6 @@ agree f g i j p q (inl x) (inr y) ii ij ji jj = subst (λ z. f p z ≡ g p z) y 
 agree f g i j p q (inr x) (inl y) ii ij ji jj = subst (λ z. f p z ≡ g p z) y (subst (λ z. f z i ≡ g z i) x ji)
 agree f g i j p q (inr x) (inr y) ii ij ji jj = subst (λ z. f p z ≡ g p z) y (subst (λ z. f z j ≡ g z j) x jj)
 
-equal_swap : (a b : Atom) → equal a b ≡ equal b a
-equal_swap a b = same_truth (equal a b) (equal b a) (equal_sym a b) (equal_sym b a)
-
 -- two levels with different atoms, one of which each level is
 module _ (m i j : ℕ) (covers : (p : ℕ) → p < m → (i ≡ p) ⊎ (j ≡ p)) (c d : List Atom) (count : length c ≡ m) (count' : length d ≡ m)
     (apart : IsFalse (equal (atom_at c i) (atom_at c j))) (apart' : IsFalse (equal (atom_at d i) (atom_at d j))) where
@@ -99,7 +97,7 @@ module _ (m i j : ℕ) (covers : (p : ℕ) → p < m → (i ≡ p) ⊎ (j ≡ p)
   tests_agree p q p_in q_in =
       agree (λ x y. equal (atom_at c x) (atom_at c y)) (λ x y. equal (atom_at d x) (atom_at d y)) i j p q (covers p p_in) (covers q q_in)
       (equal_refl (atom_at c i) ∙ sym (equal_refl (atom_at d i))) (apart ∙ sym apart')
-      (equal_swap (atom_at c j) (atom_at c i) ∙ (apart ∙ (sym apart' ∙ equal_swap (atom_at d i) (atom_at d j)))) (equal_refl (atom_at c j) ∙ sym (equal_refl (atom_at d j)))
+      (equal_turned (atom_at c j) (atom_at c i) ∙ (apart ∙ (sym apart' ∙ equal_turned (atom_at d i) (atom_at d j)))) (equal_refl (atom_at c j) ∙ sym (equal_refl (atom_at d j)))
 
   operators_agree : (op : Op) → IsTrue (is_admitted false op) → Agree op c d
   operators_agree Eq h p q p_in q_in = tests_agree p q (omega arith) (omega arith)

@@ -50,7 +50,7 @@ atom_to _ c _ d a h k = absurd (assumption (h, k))
 pub is_atom_same : (v w : PointValue) (a : Atom) → IsSame v w → IsAtomValue v a → IsAtomValue w a
 is_atom_same v w a s k = atom_to v.term_of v.choice w.term_of w.choice a s k
 
-atom_one : (t : TermD) (c : List Atom) (a b : Atom) → IsAtomAt t c a → IsAtomAt t c b → IsTrue (equal a b)
+pub atom_one : (t : TermD) (c : List Atom) (a b : Atom) → IsAtomAt t c a → IsAtomAt t c b → IsTrue (equal a b)
 atom_one (var i) c a b h k = equal_trans a (atom_at c i) b (equal_sym (atom_at c i) a h) k
 atom_one _ c a b h k = absurd h
 
@@ -121,7 +121,7 @@ parts_to _ c _ d us h e = absurd (assumption (h, e))
 pub parts_same : (v w : PointValue) (us : List PointValue) → IsSame v w → HasParts v us → (ws : List PointValue) × HasParts w ws × AreSame us ws
 parts_same v w us s e = parts_to v.term_of v.choice w.term_of w.choice us s e
 
-parts_one : (t : TermD) (c : List Atom) (us ws : List PointValue) → HasPartsAt t c us → HasPartsAt t c ws → us ≡ ws
+pub parts_one : (t : TermD) (c : List Atom) (us ws : List PointValue) → HasPartsAt t c us → HasPartsAt t c ws → us ≡ ws
 parts_one (tup ts) c us ws e f = e ∙ sym f
 parts_one _ c us ws e f = absurd e
 
@@ -138,3 +138,7 @@ tuples_at _ c _ d vs ws e f h = absurd (assumption (e, f))
 -- tuples whose parts are the same one by one are the same
 pub tuples_same : (v w : PointValue) (vs ws : List PointValue) → HasParts v vs → HasParts w ws → AreSame vs ws → IsSame v w
 tuples_same v w vs ws e f h = tuples_at v.term_of v.choice w.term_of w.choice vs ws e f h
+
+pub tag_one : (t : TermD) (m n : List ℕ) → IsTagTerm t m → IsTagTerm t n → m ≡ n
+tag_one (TermD.tag k) m n h e = sym h ∙ e
+tag_one _ m n h e = absurd h

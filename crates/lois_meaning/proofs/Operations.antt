@@ -87,10 +87,6 @@ pub reads_move : (a : Automaton) (word : List PointValue) (p p' q : PointValue) 
 reads_move a [] p p' q s h = same_trans p' p q (same_sym p p' s) h
 reads_move a (l ∷ word) p p' q s (r, step, rest) = (r, step_move a p l r p' l r s (same_refl l) (same_refl r) step, rest)
 
-reads_to : (a : Automaton) (word : List PointValue) (p q q' : PointValue) → IsSame q q' → Reads a word p q → Reads a word p q'
-reads_to a [] p q q' s h = same_trans p q q' h s
-reads_to a (l ∷ word) p q q' s (r, step, rest) = (r, step, reads_to a word r q q' s rest)
-
 -- a path goes on
 pub reads_on : (a : Automaton) (word more : List PointValue) (p q r : PointValue) → Reads a word p q → Reads a more q r → Reads a (word ++ more) p r
 reads_on a [] more p q r h k = reads_move a more q p r (same_sym p q h) k
@@ -190,7 +186,7 @@ some_path v a (l ∷ word) p is whole i letters =
         let both : IsSame p j.0 × IsSame l j.1 × IsSame q j.2 = triple_both x p l q j.0 j.1 j.2 t j.3 in
         in_same j.2 q a.states (same_sym q j.2 both.2) j.6
 
-letters_of : (v : PointValue) (a : Automaton) (word : List PointValue) (p q : PointValue) → IsAutomatonOf v a → Reads a word p q → AreLetters a word
+pub letters_of : (v : PointValue) (a : Automaton) (word : List PointValue) (p q : PointValue) → IsAutomatonOf v a → Reads a word p q → AreLetters a word
 letters_of v a [] p q is h = tt
 letters_of v a (l ∷ word) p q is (r, (x, i, t), rest) =
     let j : JoinsStates x a = is.steps_join x i in
@@ -249,9 +245,6 @@ class_to a c d q s h = set_of_to _ c d s h
 
 pub reach_step : (a : Automaton) (q l r : PointValue) → IsReachable a q → HasStep a q l r → IsReachable a r
 reach_step a q l r (p, word, i, reads) step = (p, word ++ (l ∷ []), i, reads_on a word (l ∷ []) p q r reads (r, step, same_refl r))
-
-reach_same : (a : Automaton) (q q' : PointValue) → IsSame q q' → IsReachable a q → IsReachable a q'
-reach_same a q q' s (p, word, i, reads) = (p, word, i, reads_to a word p q q' s reads)
 
 -- from a class the words of its states are accepted
 class_accepts : (m a : Automaton) (word : List PointValue) (c q : PointValue) → IsMinimalOf m a → IsReachable a q → IsClassOf a c q → AcceptsFrom m c word → AcceptsFrom a q word

@@ -9,6 +9,7 @@ use Rattle.lois_base.specs.Truth.{atom_at}
 use Rattle.lois_base.specs.Values.{PointValue, point, IsProper, IsExtension, IsMember, IsSame, IsIn, SameAt, DeeperAt}
 use Rattle.lois_base.proofs.Members.{same_refl, same_sym, same_trans, member_in, same_in}
 use Rattle.lois_base.proofs.Order.{equal_refl}
+use Rattle.lois_base.proofs.Choices.{no_atoms}
 use Rattle.lois_meaning.specs.Automata.{IsTriple, JoinsStates, HasStep, Accepts}
 use Rattle.lois_meaning.specs.Examples.{nested, nested_term, DepthIsExact, OpensStores, parameter_name, assert_alike, name_a, name_b, name_p, name_q, name_s, name_x, name_y, the, only_item, empty_set, all_atoms, atom_value, tag_value, AtomsAreAll, EachAtomIsAll, ParametersAreAtoms, add_alone, add_each_alone, CopiesArePrivate, IdleLoopsEnd, MakesTurns, TurnsAreExact, two_prints, PrintsTwoLines, AddsToSetsAlone, PathsNameElements, one_atom_machine, AcceptsOneAtom}
 use Rattle.lois_meaning.specs.Expressions.{Given, Makes, Reaches, Gives, HasTruth, IsTruthOf}
@@ -19,7 +20,7 @@ use Rattle.lois_meaning.specs.Store.{named, NamedValues, looked_up, stored, AreS
 use Rattle.lois_script.specs.Tree.{ExprD, atoms, listed, no_exprs, binding, no_bindings, bind, CondD, truth, same, for, while, assert, StmtsD, no_stmts, stmt, ParamD}
 use Rattle.lois_answers.specs.declared.faults.FaultKind.TheVariants.{Assertion, TurnLimit}
 use Rattle.lois_answers.specs.declared.faults.FaultKind.{FaultKind}
-use Rattle.lois_meaning.proofs.Alike.{is_atom_same, atoms_same, atom_equal, set_of_shift, is_tag_same, parts_same, parts_both}
+use Rattle.lois_meaning.proofs.Alike.{is_atom_same, atoms_same, atom_equal, set_of_shift, is_tag_same, parts_same, parts_both, tag_one}
 use Rattle.lois_meaning.proofs.Determined.{given_same, truth_same}
 use Rattle.lois_meaning.proofs.NotBoth.{gives_fails, operand_set}
 use Rattle.lois_meaning.proofs.Runs.{list_same, stmt_fails}
@@ -112,16 +113,12 @@ parameters_are_atoms c d =
 abbrev singleton : PointValue → PointValue
 singleton m = point (only_item m.term_of) m.choice
 
-nothing_more : (e : List Atom) → length e ≡ 0 → e ≡ []
-nothing_more [] h = refl
-nothing_more (a ∷ e) h = absurd (omega (arith, h))
-
 singleton_is : (m : PointValue) → IsSetOf (singleton m) (λ w. IsSame w m)
 singleton_is m = (tt, λ w. (to w, from w))
   where
     to : (w : PointValue) → IsIn w (singleton m) → IsSame w m
     to w (u, inl (e, x, p, q), s) =
-        let here : u.choice ≡ m.choice = q ∙ (ap (λ z. m.choice ++ z) (nothing_more e x.count) ∙ append-nil m.choice) in
+        let here : u.choice ≡ m.choice = q ∙ (ap (λ z. m.choice ++ z) (no_atoms e x.count) ∙ append-nil m.choice) in
         subst (λ z. SameAt w.term_of w.choice m.term_of z) here (subst (λ z. SameAt w.term_of w.choice z u.choice) p s)
     to w (u, inr h, s) = absurd h
 
@@ -496,17 +493,13 @@ tag_in n w i =
     let found : (c : List Atom) × IsSame w (point (TermD.tag n) c) = item_is (TermD.tag n) w i in
     is_tag_same (point (TermD.tag n) found.0) w n (same_sym w (point (TermD.tag n) found.0) found.1) refl
 
-tag_terms : (t : TermD) (m n : List ℕ) → IsTagTerm t m → IsTagTerm t n → m ≡ n
-tag_terms (TermD.tag k) m n h e = sym h ∙ e
-tag_terms _ m n h e = absurd h
-
 p_or_q : name_p ≡ name_q → ⊥
 p_or_q e =
     let h : ◌≡◌ {A = ℕ} 112 113 = ap (λ (l : List ℕ). get_or l 0 0) e in
     absurd (omega (arith, h))
 
 not_both : (w : PointValue) → IsTagValue w name_p → IsTagValue w name_q → ⊥
-not_both w h k = p_or_q (tag_terms w.term_of name_p name_q h k)
+not_both w h k = p_or_q (tag_one w.term_of name_p name_q h k)
 
 abbrev step_term : TermD
 step_term = tup (term (TermD.tag name_p) (term (TermD.var 0) (term (TermD.tag name_q) no_terms)))

@@ -15,13 +15,14 @@ use Rattle.lois_terms.specs.Shifted.{IsShifted}
 use Rattle.lois_meaning.specs.Kinds as kinds
 use Rattle.lois_meaning.proofs.Alike.{set_of_same, set_of_shift}
 use Rattle.lois_meaning.proofs.Operations.{pair_same, pair_to}
+use Rattle.lois_meaning.proofs.Tuples.{pair_parts}
 use Rattle.lois_automata.specs.Adding.{IsMadeOfOne}
 use Rattle.lois_automata.specs.Built.{AreTargets}
 use Rattle.lois_automata.specs.Projections.{pair_of}
 use Rattle.lois_automata.specs.Reachability.{LeadsTo}
 use Rattle.lois_automata.proofs.Adding.{AddsSoFar, adds_begin, adds_more, adds_end, added_put, added_members, one_split, one_none, one_among}
 use Rattle.lois_automata.proofs.Members.{raised_same}
-use Rattle.lois_automata.proofs.Tuples.{pair_parts, leads_same}
+use Rattle.lois_automata.proofs.Tuples.{leads_same}
 use Rattle.lois_automata.proofs.Written.{pair_is}
 use Rattle.lois_minimise.proofs.Covering.{CoversSoFar, covers_begin, covers_more, covers_end}
 use Rattle.lois_minimise.specs.Classes.{AreOthers, AreClassed, IsClassTerm, IsSingletonOf, IsClassedAt, AddsClass}

@@ -7,9 +7,10 @@ use Rattle.lois_meaning.specs.Operations.{ClassesExist}
 use Rattle.lois_meaning.specs.Kinds.{HasParts, IsSet, IsSetOf}
 use Rattle.lois_meaning.proofs.Alike.{set_of_same, set_of_move}
 use Rattle.lois_meaning.proofs.Operations.{pair_both, reach_step, words_sym}
+use Rattle.lois_meaning.proofs.Tuples.{pair_parts}
 use Rattle.lois_automata.specs.Reachability.{LeadsTo}
 use Rattle.lois_automata.proofs.Paths.{letter_in}
-use Rattle.lois_automata.proofs.Tuples.{pair_parts, leads_same}
+use Rattle.lois_automata.proofs.Tuples.{leads_same}
 use Rattle.lois_minimise.specs.Classes.{IsDistinguishability, AreOthers, AreClassed, IsQuotient}
 
 -- Reachable states with classes: each member is a pair of a reachable state and its class, and each reachable state stands in one.

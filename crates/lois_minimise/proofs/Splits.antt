@@ -6,10 +6,10 @@ use Rattle.lois_base.specs.Values.{PointValue, point, IsIn}
 use Rattle.lois_algebra.specs.Sets.{IsUnion}
 use Rattle.lois_meaning.specs.Automata.{IsPair, IsTriple}
 use Rattle.lois_meaning.proofs.Operations.{triple_both, triple_exists}
+use Rattle.lois_meaning.proofs.Tuples.{pair_parts}
 use Rattle.lois_automata.specs.Built.{ArePairs}
 use Rattle.lois_automata.specs.Projections.{HasStepIn, AreProjected, AreSideBySide}
 use Rattle.lois_automata.specs.declared.projections.Projection.TheVariants.{Back}
-use Rattle.lois_automata.proofs.Tuples.{pair_parts}
 use Rattle.lois_minimise.specs.Classes.{IsPartition, AreSplitPairs, AreBackward}
 
 module _ (n : ℕ) (nodes set one other r : TermD) (inside outside : CompsD) (c : List Atom) (l : length c ≡ n) (shared : IsPartition (point nodes c) (point set c) (point (coll inside) c) (point (coll outside) c)) (first : ArePairs n (coll inside) (coll outside) one) (second : ArePairs n (coll outside) (coll inside) other) (all : IsUnion one other r) where

@@ -8,12 +8,12 @@ use Rattle.lois_base.proofs.Members.{same_refl, same_sym, in_same}
 use Rattle.lois_algebra.specs.Gathered.{IsAmong, IsCompMember, IsPut}
 use Rattle.lois_meaning.specs.Automata.{IsPair, IsTriple}
 use Rattle.lois_meaning.proofs.Operations.{pair_exists, pair_both, pair_same, pair_to}
+use Rattle.lois_meaning.proofs.Tuples.{triple_to, triples_same}
 use Rattle.lois_automata.specs.Adding.{IsMadeOfOne}
 use Rattle.lois_automata.specs.Built.{ArePairs, AreTargets}
 use Rattle.lois_automata.specs.Projections.{AddsOfOne, HasStepIn, pair_of, triple_of}
 use Rattle.lois_automata.specs.Reachability.{LeadsTo}
 use Rattle.lois_automata.proofs.Adding.{added_put, adds_nothing, one_among}
-use Rattle.lois_automata.proofs.Tuples.{triple_to, triples_same}
 use Rattle.lois_automata.proofs.Written.{pair_is, pair_term, triple_is}
 use Rattle.lois_minimise.specs.Classes.{IsTransition, IsStepMove, AreStepMoves, AreClassSteps, transition_of}
 

@@ -6,10 +6,7 @@ use Rattle.std.proofs.lemmas.Bool.{ne_eqb, cases_eq}
 use mathlib.Core.Logic.{◌⊎◌, inl, inr}
 use Rattle.lois_base.specs.Atom.{Atom, whole}
 use Rattle.lois_base.specs.Truth.{atom_at}
-
--- the last atom
-pub at_end : (c : List Atom) (a : Atom) (x : ℕ) → length c ≡ x → atom_at (c ++ a ∷ []) x ≡ a
-at_end c a x e = rw (sym e) (get_or-append_seam c a [] (whole 0))
+use Rattle.lois_base.proofs.Choices.{atom_at_end}
 
 -- an atom before it
 pub at_front : (c : List Atom) (a : Atom) (x i : ℕ) → length c ≡ x → i < x → atom_at (c ++ a ∷ []) i ≡ atom_at c i
@@ -24,6 +21,6 @@ Earlier c a x i = (i < x) × ((i == x) ≡ false) × (atom_at (c ++ a ∷ []) i 
 
 pub place : (c : List Atom) (a : Atom) (x i : ℕ) → length c ≡ x → i < x + 1 → Last c a x i ⊎ Earlier c a x i
 place c a x i e l = elim (cases_eq i x) [
-  | inl y ↦ inl (y, eq-eqb i x y, rw y (at_end c a x e))
+  | inl y ↦ inl (y, eq-eqb i x y, rw y (atom_at_end c a x e))
   | inr n ↦ let f : i < x = omega arith in inr (f, ne_eqb i x n, at_front c a x i e f)
 ]

@@ -10,8 +10,9 @@ use Rattle.lois_base.specs.declared.guards.Lit.{Lit}
 use Rattle.lois_base.specs.declared.guards.Op.TheVariants.{Eq}
 use Rattle.lois_base.proofs.Order.{equal_refl, equal_sym}
 use Rattle.lois_base.proofs.Truths.{op_respects}
+use Rattle.lois_base.proofs.Choices.{atom_at_end}
 use Rattle.lois_order.specs.Equations.{AreEquivalentCubes, Equates, renamed_level, renamed}
-use Rattle.lois_order.proofs.Choices.{at_end, at_front, place}
+use Rattle.lois_order.proofs.Choices.{at_front, place}
 use Rattle.lois_order.proofs.Projects.{Projects}
 use Rattle.lois_order.proofs.With.{contained_entails}
 
@@ -43,9 +44,9 @@ module _ (cube : List Lit) (x y : ℕ) (fits : CubeFits (x + 1) cube) (equation 
   same_atom : (c : List Atom) (a : Atom) → length c ≡ x → IsTrue (cube_holds (c ++ a ∷ []) cube) → IsTrue (equal a (atom_at c y))
   same_atom c a e h = elim equation.1 [
     | inl k ↦ let m : IsTrue (equal (atom_at (c ++ a ∷ []) x) (atom_at (c ++ a ∷ []) y)) = contained_entails cube (record { op = Eq; left = x; right = y }) k (c ++ a ∷ []) h in
-        rw (at_end c a x e, at_front c a x y e other_below) at m
+        rw (atom_at_end c a x e, at_front c a x y e other_below) at m
     | inr k ↦ let m : IsTrue (equal (atom_at (c ++ a ∷ []) y) (atom_at (c ++ a ∷ []) x)) = contained_entails cube (record { op = Eq; left = y; right = x }) k (c ++ a ∷ []) h in
-        equal_sym (atom_at c y) a (rw (at_end c a x e, at_front c a x y e other_below) at m)
+        equal_sym (atom_at c y) a (rw (atom_at_end c a x e, at_front c a x y e other_below) at m)
   ]
 
   pub substituted_projects : (r : List Lit) → AreEquivalentCubes (map (renamed x y) cube) r → Projects x cube r

@@ -4,6 +4,7 @@ use Rattle.std.specs.List.{list_all}
 use Rattle.std.specs.Char.{is_ascii_digit}
 use Rattle.std.proofs.lemmas.Bool.Decides.{nat_tests}
 use Rattle.std.proofs.lemmas.List.Folds.{list_all_at}
+use Rattle.lois_base.proofs.Booleans.{true_if_not_false}
 use Rattle.lois_script.specs.Grammar.{decimal_behind}
 
 -- the numbers with i digits are below it
@@ -29,13 +30,9 @@ power_small i h = grows i 8 h
 digit_between : (b : ℕ) → is_ascii_digit b ≡ true → (48 ≤ b) × (b ≤ 57)
 digit_between b h = (grind (arith, nat_tests), grind (arith, nat_tests))
 
-test_true : (b : Bool) → (b ≡ false → ⊥) → b ≡ true
-test_true true h = refl
-test_true false h = absurd (h refl)
-
 pub is_digit : (ds : List ℕ) (i : ℕ) → list_all is_ascii_digit ds ≡ true → i < length ds → (48 ≤ get_or ds i 0) × (get_or ds i 0 ≤ 57)
 is_digit ds i h bound =
-    digit_between (get_or ds i 0) (test_true (is_ascii_digit (get_or ds i 0)) (λ e. let no : true ≡ false = sym h ∙ list_all_at is_ascii_digit ds i 0 bound e in absurd (cc)))
+    digit_between (get_or ds i 0) (true_if_not_false (is_ascii_digit (get_or ds i 0)) (λ e. let no : true ≡ false = sym h ∙ list_all_at is_ascii_digit ds i 0 bound e in absurd (cc)))
 
 pub one_digit : (v i : ℕ) (ds : List ℕ) → i < length ds → decimal_behind v (drop i ds) ≡ decimal_behind (10 * v + (get_or ds i 0 - 48)) (drop (i + 1) ds)
 one_digit v i ds h = rw add-one (ap (decimal_behind v) (drop-cons ds i 0 h))

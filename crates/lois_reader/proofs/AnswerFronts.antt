@@ -2,6 +2,7 @@
 use Rattle.std.proofs.Common.{◌≡◌, ℕ, zero, suc, ◌<◌, Bool, true, false, cond, ◌&&◌, List, [], ◌∷◌, ◌++◌, length, Ok, refl, sym, ap, subst, ◌∙◌, append_assoc, arith, length-append}
 use Rattle.std.specs.Prelude.{codes, bytes_eq}
 use Rattle.std.specs.List.{AllByRecursion}
+use Rattle.lois_base.proofs.Booleans.{and_false}
 use Rattle.lois_answers.specs.ResultsText.{structure_text}
 use Rattle.lois_reader.specs.declared.scope.Scope.{Scope}
 use Rattle.lois_reader.specs.Draft.{ConstraintDraft, TermDraft, LineDraft, CaseDraft, ResultsDraft, IsWord, IsConstraintDraft, IsTermDraft, IsLineDraft, IsCaseDraft, IsResultsDraft}
@@ -86,13 +87,9 @@ unfolding behind_word behind_case assigned_end
 behind_name w t =
     elim (bytes_eq w (codes "case")) as (λ b. cond b (body_end t) (body_end t) ≡ body_end t) [ true ↦ refl | false ↦ refl ]
 
-no_end_line : (b : Bool) → (b && false) ≡ false
-no_end_line true = refl
-no_end_line false = refl
-
 entry_is : (w t r : List ℕ) → IsWord w → body_end t ≡ Ok r → entry_at (w ++ (codes " = " ++ t)) ≡ Ok (true, r)
 unfolding entry_at
-entry_is w t r form e = rw (word_front w (codes " = " ++ t) form refl, no_end_line (bytes_eq w (codes "end")), behind_name w t, e) refl
+entry_is w t r form e = rw (word_front w (codes " = " ++ t) form refl, and_false (bytes_eq w (codes "end")), behind_name w t, e) refl
 
 pub line_text : (s : Scope) (n : ℕ) (l : LineDraft) (r : List ℕ) → text_of_pieces (line_pieces s n l) ++ r ≡ l.name ++ (codes " = " ++ (text_of_pieces (term_pieces s n l.term) ++ (codes "\n" ++ r)))
 line_text s n l r =

@@ -19,6 +19,7 @@ use Rattle.lois_base.specs.Fits.{LitFits, CubeFits, ConstraintFits, Fits, PartsF
 use Rattle.lois_base.specs.Names.{IsName, is_letter, is_name_byte}
 use Rattle.lois_base.specs.Validity.{AdmitsLit, AdmitsCube, AdmitsConstraint, AdmitsTerm, AdmitsParts, AdmitsComp, AdmitsItems, HasBoundedWidths, PartsHaveBoundedWidths, CompHasBoundedWidths, ItemsHaveBoundedWidths, count_of_parts}
 use Rattle.lois_base.specs.declared.guards.Lit.{Lit}
+use Rattle.lois_base.proofs.Numbers.{less_true, less_false}
 use Rattle.lois_lexer.specs.Bytes.{is_word_byte}
 use Rattle.lois_answers.specs.Sound.{HasTags, PartsHaveTags, CompHasTags, ItemsHaveTags, AreDistinct}
 use Rattle.lois_answers.specs.TermText as texts
@@ -108,12 +109,6 @@ cube_draft ps ls = map (lit_draft ps) ls
 abbrev pub constraint_draft : List (List ℕ) → List (List Lit) → ConstraintDraft
 constraint_draft ps cs = map (cube_draft ps) cs
 
-pub lt_test : (a b : ℕ) → a < b → nat_lt a b ≡ true
-lt_test a b h = grind (arith, nat_tests)
-
-pub ge_test : (a b : ℕ) → b ≤ a → nat_lt a b ≡ false
-ge_test a b h = grind (arith, nat_tests)
-
 pub le_test : (a b : ℕ) → a ≤ b → nat_le a b ≡ true
 le_test a b h = grind (arith, nat_tests)
 
@@ -157,8 +152,8 @@ among_is ps i lt = (is_among_iff ps (get_or ps i [])).1 (i, lt, same_at ps i (ge
 
 pub operand_bytes : (s : Scope) (n i : ℕ) → (operand_piece s n (operand_draft s.names i)).bytes ≡ texts.level_or_name_text s.names i
 operand_bytes s n i =
-    ⊎_elim (λ lt. rw (lt_test i (length s.names) lt) (same_at s.names i [] (texts.level_text i) lt))
-    (λ le. rw (ge_test i (length s.names) le) (sym (get_or_past s.names i (texts.level_text i) le)))
+    ⊎_elim (λ lt. rw (less_true i (length s.names) lt) (same_at s.names i [] (texts.level_text i) lt))
+    (λ le. rw (less_false i (length s.names) le) (sym (get_or_past s.names i (texts.level_text i) le)))
     (cases_lt i (length s.names))
 
 -- levels that are no parameter's are usize numbers
@@ -167,8 +162,8 @@ Small ps n = (i : ℕ) → length ps ≤ i → i < n → i < 2 ^ 64
 
 operand_form : (ps : List (List ℕ)) (n i : ℕ) → Parameters ps → Small ps n → i < n → IsOperand (operand_draft ps i)
 operand_form ps n i good small lt =
-    ⊎_elim (λ below. rw (lt_test i (length ps) below) (all_at IsWord ps i good.words below))
-    (λ le. rw (ge_test i (length ps) le) (decimal_is_number i (small i le lt)))
+    ⊎_elim (λ below. rw (less_true i (length ps) below) (all_at IsWord ps i good.words below))
+    (λ le. rw (less_false i (length ps) le) (decimal_is_number i (small i le lt)))
     (cases_lt i (length ps))
 
 within_test : (a b v i : ℕ) → v ≡ i → a ≤ i → i < b → not (nat_le a v && nat_lt v b) ≡ false
@@ -176,14 +171,14 @@ within_test a b v i e le lt = grind (arith, nat_tests)
 
 operand_whole : (s : Scope) (n i : ℕ) → Small s.names n → i < n → (operand_piece s n (operand_draft s.names i)).broken ≡ false
 operand_whole s n i small lt =
-    ⊎_elim (λ below. rw (lt_test i (length s.names) below) (ap not (among_is s.names i below)))
-    (λ le. rw (ge_test i (length s.names) le) (within_test (length s.names) n (value (decimal i)) i (value_decimal i (small i le lt)) le lt))
+    ⊎_elim (λ below. rw (less_true i (length s.names) below) (ap not (among_is s.names i below)))
+    (λ le. rw (less_false i (length s.names) le) (within_test (length s.names) n (value (decimal i)) i (value_decimal i (small i le lt)) le lt))
     (cases_lt i (length s.names))
 
 operand_level : (s : Scope) (n i : ℕ) → Parameters s.names → Small s.names n → i < n → level_of s (operand_draft s.names i) ≡ i
 operand_level s n i good small lt =
-    ⊎_elim (λ below. rw (lt_test i (length s.names) below) (place_is s.names i good.distinct below))
-    (λ le. rw (ge_test i (length s.names) le) (value_decimal i (small i le lt)))
+    ⊎_elim (λ below. rw (less_true i (length s.names) below) (place_is s.names i good.distinct below))
+    (λ le. rw (less_false i (length s.names) le) (value_decimal i (small i le lt)))
     (cases_lt i (length s.names))
 
 -- ---- texts with something between them

@@ -278,10 +278,6 @@ pub items_good : (d : ℕ) (cs : CompDrafts) → AreCompDrafts d cs → AllByRec
 items_good d no_comps h = tt
 items_good d (more c cs) h = (h.0, items_good d cs h.1)
 
--- `)` and `}` end words, and close constraints
-pub paren_closes : (r : List ℕ) → Closes (codes ")" ++ r)
-paren_closes r = record { word_ends = refl; space = refl; op = refl }
-
 pub brace_closes : (r : List ℕ) → Closes (codes "}" ++ r)
 brace_closes r = record { word_ends = refl; space = refl; op = refl }
 

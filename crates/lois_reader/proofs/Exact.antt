@@ -157,9 +157,6 @@ part_of {p} {f} i = record {
   shorter = λ s r e. let below : length r < length s = i.shorter s r e in omega arith;
 }
 
-pub wider_item : {p : ℕ → Bool} {f : List ℕ → End} (q : ℕ → Bool) → ((b : ℕ) → p b ≡ true → q b ≡ true) → IsItem p f → IsItem q f
-wider_item q more i = record { exact = λ n k stops. i.exact n k (λ b s h. stops b s (more b h)); shorter = i.shorter }
-
 pub wider_part : {p : ℕ → Bool} {f : List ℕ → End} (q : ℕ → Bool) → ((b : ℕ) → p b ≡ true → q b ≡ true) → IsPart p f → IsPart q f
 wider_part q more i = record { exact = λ n k stops. i.exact n k (λ b s h. stops b s (more b h)); shorter = i.shorter }
 
@@ -230,7 +227,7 @@ fixed_refuses p c cs k none b s h = rw (differs p b c h none) refl
 
 -- ---- words and numbers
 
-word_refused : (b : ℕ) (s : List ℕ) → is_ascii_alphabetic b ≡ false → word_end (b ∷ s) ≡ Err (suc (length s))
+pub word_refused : (b : ℕ) (s : List ℕ) → is_ascii_alphabetic b ≡ false → word_end (b ∷ s) ≡ Err (suc (length s))
 unfolding word_end word_at
 word_refused b s e = rw e refl
 
@@ -378,9 +375,6 @@ many_same c item short (suc n) zero s a b = absurd (omega arith)
 many_same c item short (suc n) (suc m) s a b =
     ap (λ (e : End). cond (begins c s) e (Ok s))
     (bind_same (item s) (many_end (begins c) item n) (many_end (begins c) item m) (λ r e. let lt : length r < length s = short s r e in many_same c item short n m r (omega arith) (omega arith)))
-
-item_shortens : (c : ℕ) (item after : List ℕ → End) → TakesFirst c item after → ((x y : List ℕ) → after x ≡ Ok y → length y ≤ length x) → (t r : List ℕ) → item (c ∷ t) ≡ Ok r → length r < suc (length t)
-item_shortens c item after takes after_le t r e = let le : length r ≤ length t = after_le t r (sym (takes t) ∙ e) in omega arith
 
 many_takes : (c : ℕ) (item after : List ℕ → End) → Shortens item → TakesFirst c item after → TakesFirst c (many c item) (after ⨾ many c item)
 many_takes c item after short takes x =

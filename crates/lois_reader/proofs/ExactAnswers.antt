@@ -47,9 +47,6 @@ body_part : IsPart no_byte body_end
 unfolding body_end
 body_part = part_then (part_of (term_item 64)) (fixed_part (codes "\n")) (λ k s. line_feed_refuses is_word_byte k refl)
 
-equals_part : IsPart no_byte ((fixed_end (codes "= ")) ⨾ body_end)
-equals_part = part_then (fixed_part (codes "= ")) body_part (λ k s. refuses_none (body_end ⨾ k))
-
 when_words_part : IsPart no_byte ((fixed_end (codes "hen ")) ⨾ when_end)
 when_words_part = part_then (fixed_part (codes "hen ")) when_part (λ k s. refuses_none (when_end ⨾ k))
 

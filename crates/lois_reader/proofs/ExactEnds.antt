@@ -14,7 +14,7 @@ use Rattle.lois_reader.proofs.Fronts.{EndsWord, word_front, word_ends, word_begi
 use Rattle.lois_reader.proofs.Outcome.{bind_assoc}
 use Rattle.lois_reader.proofs.ConstraintOutcome.{Closes}
 use Rattle.lois_reader.proofs.Backs.{no_ok, same_ok, got, run_of, word_form, word_size, word_at_back}
-use Rattle.lois_reader.proofs.Exact.{bind_same, cond_then, behind, behind_any, behind_stop, passed_first, choice_at, refused_behind, accepted_text, Exact, Upto, Refuses, no_byte, refuses_none, same_reader, ◌⨾◌, IsPart, IsItem, part_of, wider_part, part_then, item_then, fixed_part, fixed_item, fixed_refuses, differs, word_item, number_item, choice_item, optional_part, many, many_part, many_refuses, or_byte, or_later}
+use Rattle.lois_reader.proofs.Exact.{bind_same, cond_then, behind, behind_any, behind_stop, passed_first, choice_at, refused_behind, accepted_text, Exact, Upto, Refuses, no_byte, refuses_none, same_reader, ◌⨾◌, IsPart, IsItem, part_of, wider_part, part_then, item_then, fixed_part, fixed_item, fixed_refuses, differs, word_item, number_item, choice_item, optional_part, many, many_part, many_refuses, or_byte, or_later, word_refused}
 
 -- ---- operands
 
@@ -32,23 +32,15 @@ level_takes : (x : List ℕ) → level_end (36 ∷ x) ≡ number_end x
 unfolding level_end
 level_takes x = refl
 
-word_refuses_first : (c : ℕ) (t : List ℕ) → is_ascii_alphabetic c ≡ false → word_end (c ∷ t) ≡ Err (suc (length t))
-unfolding word_end word_at
-word_refuses_first c t h = rw h refl
-
 pub operand_item : IsItem is_word_byte operand_end
 unfolding operand_end
-operand_item = choice_item 36 level_end level_takes number_in_word word_item (λ t. word_refuses_first 36 t refl)
+operand_item = choice_item 36 level_end level_takes number_in_word word_item (λ t. word_refused 36 t refl)
 
 pub op_item : IsItem no_byte op_end
 unfolding op_end
 op_item =
     choice_item 61 (fixed_end (codes "=")) (λ x. refl) (fixed_part [])
     (choice_item 33 (fixed_end (codes "!=")) (λ x. refl) (fixed_part (codes "=")) (fixed_item 60 []) (λ t. refl)) (λ t. refl)
-
-pub tag_item : IsItem is_word_byte tag_end
-unfolding tag_end
-tag_item = item_then (fixed_item 39 []) (part_of word_item) (λ k s. refuses_none (word_end ⨾ k))
 
 -- ---- constraints
 
@@ -542,7 +534,7 @@ tag_takes x = refl
 
 operand_refused : (c : ℕ) (x : List ℕ) → (c == 36) ≡ false → is_ascii_alphabetic c ≡ false → operand_end (c ∷ x) ≡ Err (suc (length x))
 unfolding operand_end
-operand_refused c x other none = rw other (word_refuses_first c x none)
+operand_refused c x other none = rw other (word_refused c x none)
 
 -- of a tuple and of a set, behind the bracket
 abbrev tuple_rest : (List ℕ → End) → List ℕ → End

@@ -86,11 +86,6 @@ pub isn't_ok : {A : Type 0} (e : ParseError) (read : Result A ℕ) → ErrorIs e
 isn't_ok (Left left) read failed sure = rw failed refl
 isn't_ok NoMemory read failed sure = absurd sure
 
-pub no_keyword : (e : ParseError) (k s : List ℕ) → ErrorIs e (word_at s) → IsTextError e → keyword k s ≡ None
-unfolding keyword
-no_keyword (Left left) k s failed sure = rw failed refl
-no_keyword NoMemory k s failed sure = absurd sure
-
 kinds_at_next : (ks : List FaultKind) (i left : ℕ) (d : FaultKind) (s : List ℕ) → i < length ks → fixed_end (kind_text (get_or ks i d)) s ≡ Err left → kinds_at (drop i ks) s ≡ kinds_at (drop (i + 1) ks) s
 kinds_at_next ks i left d s lt failed = rw (add-one, drop-cons ks i d lt, failed) refl
 

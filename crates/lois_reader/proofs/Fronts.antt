@@ -37,9 +37,6 @@ cut_is p w r all none =
     let n = run_is p w r all none in
     (take_at w r (prefix_len p (w ++ r)) (sym n), drop_at w r (prefix_len p (w ++ r)) (sym n))
 
-pair_is : {A B : Type 0} (a c : A) (b d : B) → a ≡ c → b ≡ d → (let x : A × B = (a, b) in x) ≡ (c, d)
-pair_is a c b d e f = cc
-
 pub word_front : (w r : List ℕ) → is_word_form w ≡ true → EndsWord r → word_at (w ++ r) ≡ Ok (w, r)
 unfolding word_at
 word_front [] r form none = absurd (false≢true form)

@@ -21,18 +21,11 @@ Lists test between item front = Comes (λ n s. with_front front (list_at test be
 abbrev pub Gathers : {A : Type 0} → (List ℕ → Bool) → (List ℕ → Result (A × List ℕ) ℕ) → List A → List ℕ → Result (List A × List ℕ) ℕ → Type 0
 Gathers test item front = Comes (λ n s. with_front front (many_at test item n s))
 
-no_front : {A : Type 0} (read : Result (List A × List ℕ) ℕ) → with_front [] read ≡ read
-no_front (Ok x) = refl
-no_front (Err left) = refl
-
 regroup : {A : Type 0} (front : List A) (a : A) (read : Result (List A × List ℕ) ℕ) → with_front front (read >>= λ y. Ok (a ∷ y.0, y.1)) ≡ with_front (front ++ a ∷ []) read
 regroup front a (Ok x) = ap (λ (xs : List _). Ok (xs, x.1)) (sym (append_assoc front (a ∷ []) x.0))
 regroup front a (Err left) = refl
 
 module _ {A : Type 0} (test : List ℕ → Bool) (between : List ℕ) (item : List ℕ → Result (A × List ℕ) ℕ) where
-  pub list_starts : (s : List ℕ) → Lists test between item [] s (list_at test between item (suc (length s)) s)
-  list_starts s = record { steps = suc (length s); enough = omega arith; same = no_front (list_at test between item (suc (length s)) s) }
-
   pub list_next : (front : List A) (s : List ℕ) (a : A) (after rest : List ℕ) (total : Result (List A × List ℕ) ℕ) → item s ≡ Ok (a, after) → test after ≡ true → fixed_end between after ≡ Ok rest → length rest < length s → Lists test between item front s total → Lists test between item (front ++ a ∷ []) rest total
   list_next front s a after rest total found here passed shorter h =
       let o = one_step (λ n s. with_front front (list_at test between item n s)) s total h in
@@ -61,21 +54,12 @@ module _ {A : Type 0} (test : List ℕ → Bool) (between : List ℕ) (item : Li
       sym o.2 ∙ step
 
 module _ {A : Type 0} (test : List ℕ → Bool) (item : List ℕ → Result (A × List ℕ) ℕ) where
-  pub many_starts : (s : List ℕ) → Gathers test item [] s (many_at test item (suc (length s)) s)
-  many_starts s = record { steps = suc (length s); enough = omega arith; same = no_front (many_at test item (suc (length s)) s) }
-
   pub many_next : (front : List A) (s : List ℕ) (a : A) (rest : List ℕ) (total : Result (List A × List ℕ) ℕ) → test s ≡ true → item s ≡ Ok (a, rest) → length rest < length s → Gathers test item front s total → Gathers test item (front ++ a ∷ []) rest total
   many_next front s a rest total here found shorter h =
       let o = one_step (λ n s. with_front front (many_at test item n s)) s total h in
       let le : length s ≤ o.0 = o.1 in
       let step : with_front front (many_at test item (suc o.0) s) ≡ with_front (front ++ a ∷ []) (many_at test item o.0 rest) = rw (here, found) (regroup front a (many_at test item o.0 rest)) in
       record { steps = o.0; enough = omega arith; same = sym step ∙ o.2 }
-
-  pub many_last : (front : List A) (s : List ℕ) (total : Result (List A × List ℕ) ℕ) → test s ≡ false → Gathers test item front s total → total ≡ Ok (front, s)
-  many_last front s total none h =
-      let o = one_step (λ n s. with_front front (many_at test item n s)) s total h in
-      let step : with_front front (many_at test item (suc o.0) s) ≡ Ok (front, s) = rw none (ap (λ (xs : List A). Ok (xs, s)) (append-nil front)) in
-      sym o.2 ∙ step
 
   pub many_halts : (e : ParseError) (front : List A) (s : List ℕ) (total : Result (List A × List ℕ) ℕ) → test s ≡ true → ErrorIs e (item s) → Gathers test item front s total → ErrorIs e total
   many_halts NoMemory front s total here failed h = tt
@@ -90,10 +74,6 @@ plus count read = read >>= λ m. Ok (count + m)
 
 abbrev pub LevelsCounted : ℕ → List ℕ → Result ℕ ℕ → Type 0
 LevelsCounted count = Comes (λ n s. plus count (level_count n s))
-
--- behind a part: a comma and further parts
-abbrev pub parts_further : ℕ → ℕ → List ℕ → Result ℕ ℕ
-parts_further d k r = cond (begins 44 r) (fixed_end (codes ", ") r >>= part_count (term_end d) k >>= (λ m. Ok (suc m))) (Ok 1)
 
 abbrev pub LevelsFollow : ℕ → List ℕ → End → Type 0
 LevelsFollow level = Comes (λ n s. levels_from n level s)

@@ -6,6 +6,7 @@ use Rattle.std.specs.List.{AllByRecursion, flat_map}
 use Rattle.std.proofs.lemmas.List.{append-nil}
 use Rattle.std.proofs.lemmas.List.Concat.{flat_map-cons}
 use Rattle.std.proofs.lemmas.List.Elements.{recursion_from_All}
+use Rattle.lois_base.proofs.Numbers.{less_true}
 use Rattle.lois_answers.specs.ResultsData.{LineD}
 use Rattle.lois_answers.specs.ResultsText as rt
 use Rattle.lois_answers.specs.Sound.{IsSoundLine, IsPlaceNumber, IsSoundTrace}
@@ -25,7 +26,7 @@ use Rattle.lois_reader.specs.Reading.{◌>>=◌}
 use Rattle.lois_reader.proofs.Outcome.{text_append}
 use Rattle.lois_reader.proofs.AnswerFronts.{head_rest}
 use Rattle.lois_reader.proofs.AnswerOutcome.{line_of}
-use Rattle.lois_reader.proofs.DraftOf.{Unbroken, unbroken_append, out_unbroken, Small, small_inside, value_decimal, decimal_is_number, term_draft, term_text, each_map, le_test, lt_test}
+use Rattle.lois_reader.proofs.DraftOf.{Unbroken, unbroken_append, out_unbroken, Small, small_inside, value_decimal, decimal_is_number, term_draft, term_text, each_map, le_test}
 use Rattle.lois_reader.proofs.ResultsBack.{line_draft, results_draft, each_flat, line_regroup, head_rest_text, results_text_is, parameters_of, head_whole, lines_form, lines_whole, lines_value, results_form, results_whole, results_value}
 use Rattle.lois_reader.proofs.TraceFronts.{trace_scope, number_pieces, choice_line, element_pieces, elements_of, trace_rest_is, trace_of, length_map, answer_of, answer_reading_is}
 use Rattle.lois_reader.proofs.Unbroken.{unbroken_split}
@@ -107,7 +108,7 @@ place_whole v n e h = rw (e, le_test 1 n h.0, le_test n 1048577 h.1) refl
 numbers_whole : (sample : List ℕ) → AllByRecursion (λ a. a < 2 ^ 64) sample → Unbroken (each number_pieces (map decimal sample))
 numbers_whole [] h = tt
 numbers_whole (a ∷ as_) h =
-    let e : nat_lt (value (decimal a)) (2 ^ 64) ≡ true = rw (value_decimal a h.0) (lt_test a (2 ^ 64) h.0) in
+    let e : nat_lt (value (decimal a)) (2 ^ 64) ≡ true = rw (value_decimal a h.0) (less_true a (2 ^ 64) h.0) in
     (refl, (ap not e, numbers_whole as_ h.1))
 
 element_lines : (s : Scope) (k : ℕ) (ls : List LineDraft) → Unbroken (each (line_pieces s k) ls) → Unbroken (each (element_pieces s k) ls)
@@ -170,10 +171,6 @@ sample_fits t =
     omega (arith, numbers_fit t.sample, fits)
 
 -- ---- answers
-
-abbrev pub answer_draft : Answer → AnswerDraft
-answer_draft (answers.Results r) = draft.results (results_draft r)
-answer_draft (answers.Trace t) = draft.trace (trace_draft t)
 
 -- Sound answers are read from their text, which lies in memory.
 pub answer_back : (a : Answer) → IsSoundAnswer a → length (tt_.answer_text a) < 2 ^ 64 → answer_reading (tt_.answer_text a) ≡ Ok a

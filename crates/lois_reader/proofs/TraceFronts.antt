@@ -191,9 +191,6 @@ place_out ds r form ends =
     ap place_at (append_assoc ds [] r) ∙ place_is ds r form ends
     ∙ given_out (nat_le 1 (value ds) && nat_lt (value ds) 1048578) (nat_le 1 (value ds) && nat_le (value ds) 1048577) (value ds) (length (ds ++ r)) (length ds + (0 + length r)) r (place_test (value ds)) (omega (arith, length-append ds r))
 
-abbrev Failed : Type 0
-Failed = ℕ × (ℕ × FaultKind)
-
 failure_at_is : (u : List ℕ) → failure_at u ≡ (fixed_end (codes "failed at ") u >>= λ first. place_at first >>= λ line. fixed_end (codes ":") line.1 >>= λ second. place_at second >>= λ column. fixed_end (codes ": ") column.1 >>= λ third. kind_at third >>= λ kind. fixed_end (codes "\n") kind.1 >>= λ rest. Ok ((line.0, (column.0, kind.0)), rest))
 unfolding failure_at
 failure_at_is u = refl

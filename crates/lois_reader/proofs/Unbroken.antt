@@ -13,6 +13,7 @@ use Rattle.std.proofs.lemmas.Slice.Eq.{bytes_eq-Decides}
 use Rattle.lois_base.specs.Data.{terms_of, comps_of, depth, depth_of_parts, depth_of_comp, depth_of_items}
 use Rattle.lois_base.specs.Fits.{LitFits, CubeFits, ConstraintFits, Fits, PartsFit, CompFits, ItemsFit}
 use Rattle.lois_base.specs.Validity.{is_admitted, AdmitsLit, AdmitsCube, AdmitsConstraint, AdmitsTerm, AdmitsParts, AdmitsComp, AdmitsItems, HasBoundedWidths, PartsHaveBoundedWidths, CompHasBoundedWidths, ItemsHaveBoundedWidths, count_of_parts}
+use Rattle.lois_base.proofs.Numbers.{zero_alone, less_true, less_false}
 use Rattle.lois_answers.specs.Sound.{HasTags, PartsHaveTags, CompHasTags, ItemsHaveTags}
 use Rattle.lois_reader.specs.declared.scope.Scope.{Scope}
 use Rattle.lois_reader.specs.Draft.{Operand, word, level, LitDraft, ConstraintDraft, TermDraft, atom, tag, tuple, set, TermDrafts, no_terms, term, CompDraft, comp, CompDrafts, no_comps, more, IsNumber, IsOperand, IsLitDraft, IsConstraintDraft, IsTermDraft, AreTermDrafts, IsCompDraft, AreCompDrafts, draft_width}
@@ -23,7 +24,7 @@ use Rattle.lois_reader.proofs.Forms.{word_is_name}
 use Rattle.lois_reader.proofs.Outcome.{size, size_append}
 use Rattle.lois_reader.proofs.ConstraintOutcome.{level_of, lit_of, cube_of, constraint_of}
 use Rattle.lois_reader.proofs.TermOutcome.{guard_of, value_of, values_of, item_of, items_of}
-use Rattle.lois_reader.proofs.DraftOf.{Unbroken, numerals, operand_draft, lit_draft, cube_draft, constraint_draft, lt_test, ge_test, numbers_from, guard_draft, term_draft, parts_draft, comp_draft, items_draft}
+use Rattle.lois_reader.proofs.DraftOf.{Unbroken, numerals, operand_draft, lit_draft, cube_draft, constraint_draft, numbers_from, guard_draft, term_draft, parts_draft, comp_draft, items_draft}
 
 -- ---- pieces
 
@@ -59,14 +60,11 @@ digits_back : (ds : List ℕ) → list_all is_ascii_digit ds ≡ true → all_as
 digits_back [] h = refl
 digits_back (d ∷ ds) h = let parts = and_parts (is_ascii_digit d) (list_all is_ascii_digit ds) h in and_from (is_ascii_digit d) (all_ascii_digits ds) parts.0 (digits_back ds parts.1)
 
-zero_first : (n d : ℕ) → (n == 1 || not (d == 48)) ≡ true → d ≡ 48 → n ≡ 1
-zero_first n d h e = grind (arith, nat_tests)
-
 -- a number is written in one way
 pub digits_of_value : (ds : List ℕ) → IsNumber ds → value ds < 2 ^ 64 → decimal (value ds) ≡ ds
 digits_of_value ds form lt =
     let parts = number_parts ds form in
-    decimal-digits_value numerals ds (digits_back ds parts.1) parts.0 (zero_first (length ds) (get_or ds 0 0) parts.2) lt
+    decimal-digits_value numerals ds (digits_back ds parts.1) parts.0 (zero_alone (length ds) (get_or ds 0 0) parts.2) lt
 
 -- the first place of a word that is among others
 word_found : (w : List ℕ) (xs : List (List ℕ)) → is_among xs w ≡ true → (position_or_len (bytes_eq w) xs < length xs) × (get_or xs (position_or_len (bytes_eq w) xs) [] ≡ w)
@@ -98,13 +96,13 @@ operand_good s n (word w) form room whole =
     let found = word_found w s.names (not-false (is_among s.names w) whole) in
     let lt : position_or_len (bytes_eq w) s.names < length s.names = found.0 in
     let le : length s.names ≤ n = room.named in
-    record { fits = omega arith; same = rw (lt_test (position_or_len (bytes_eq w) s.names) (length s.names) lt) (ap word found.1) }
+    record { fits = omega arith; same = rw (less_true (position_or_len (bytes_eq w) s.names) (length s.names) lt) (ap word found.1) }
 operand_good s n (level ds) form room whole =
     let tests = level_tests (length s.names) n (value ds) whole in
     let small : n < 2 ^ 64 = room.small in
     let below : value ds < n = tests.1 in
     let lt : value ds < 2 ^ 64 = omega arith in
-    record { fits = tests.1; same = rw (ge_test (value ds) (length s.names) tests.0) (ap level (digits_of_value ds form lt)) }
+    record { fits = tests.1; same = rw (less_false (value ds) (length s.names) tests.0) (ap level (digits_of_value ds form lt)) }
 
 -- ---- constraints
 

@@ -11,7 +11,7 @@ use Rattle.lois_base.proofs.Order.{equal_refl}
 use Rattle.lois_meaning.specs.Automata.{Automaton, IsAutomatonOf, JoinsStates, HasStep, Reads, Accepts}
 use Rattle.lois_meaning.specs.Kinds.{IsAtomValue, HasParts, IsSetOf}
 use Rattle.lois_meaning.proofs.Alike.{is_atom_same}
-use Rattle.lois_meaning.proofs.Operations.{triple_exists}
+use Rattle.lois_meaning.proofs.Operations.{triple_exists, triple_both}
 use Rattle.lois_registers.specs.Placed.{configuration_term}
 use Rattle.lois_registers.specs.Runs.{Configuration, IsConfigurationOf, first, IsStep, Leads, Runs, AcceptsAtoms}
 use Rattle.lois_registers.specs.Translation.{IsValueOf, IsStepValue, IsTranslation}
@@ -20,16 +20,12 @@ use Rattle.lois_registers.specs.declared.automata.RegStep.{RegStep}
 use Rattle.lois_registers.specs.declared.automata.Registers.{Registers}
 use Rattle.lois_registers.proofs.Configurations.{configured, value_is, value_move, value_alike, value_to, step_like, IsAlike}
 use Rattle.lois_registers.proofs.Contents.{placed_at, length_stored}
-use Rattle.lois_registers.proofs.Sets.{triple_parts}
 
 -- every configuration is a value
 pub value_exists : (p : Configuration) → (v : PointValue) × IsValueOf v p
 value_exists p =
     let at = placed_at (length p.contents) p.contents refl in
     (point (configuration_term p.state at.place) at.atoms, subst (λ z. IsValueOf (point (configuration_term p.state at.place) at.atoms) (configured p.state z)) at.same (value_is p.state at.place at.atoms))
-
-pub atom_exists : (x : Atom) → (v : PointValue) × IsAtomValue v x
-atom_exists x = (point (var 0) (x ∷ []), equal_refl x)
 
 -- a step keeps the number of registers, and leads to a listed state
 module _ (r : Registers) (valid : IsRegisters r) where
@@ -88,7 +84,7 @@ module _ (r : Registers) (valid : IsRegisters r) (m : Automaton) (sets : HasSets
     where
       of : IsStepValue r x → (x : Atom) × (q : Configuration) × IsAtomValue l x × Leads r p x q × IsValueOf u q
       of (p', q', a, c, k, d, own, (s, j, step), ci, ki, di, t') =
-          let parts = triple_parts x c k d v l u t' t in
+          let parts = triple_both x c k d v l u t' t in
           let like : IsAlike p' p = value_alike v p' p (value_move c v p' parts.0 ci) h in
           let moved : (q : Configuration) × IsStep s p a q × IsAlike q' q = step_like s p' p q' a a like (equal_refl a) step in (
             a,

@@ -13,7 +13,7 @@ use Rattle.lois_base.proofs.Members.{same_refl}
 use Rattle.lois_base.proofs.Order.{equal_refl, equal_sym, equal_trans}
 use Rattle.lois_base.proofs.Truths.{op_respects}
 use Rattle.lois_meaning.specs.Kinds.{IsAtomAt, IsTagTerm, IsTagValue, HasParts, AreSame, part_values}
-use Rattle.lois_meaning.proofs.Alike.{is_atom_same, is_tag_same, atoms_same, tags_same, atom_equal, parts_same, parts_both, tuples_same}
+use Rattle.lois_meaning.proofs.Alike.{is_atom_same, is_tag_same, atoms_same, tags_same, atom_equal, parts_same, parts_both, tuples_same, atom_one, tag_one}
 use Rattle.lois_registers.specs.Placed.{content_term, configuration_term}
 use Rattle.lois_registers.specs.declared.automata.RegStep.{RegStep}
 use Rattle.lois_registers.specs.Runs.{Configuration, LiteralHolds, stored_from, IsStep}
@@ -56,21 +56,6 @@ pub are_like_refl : (os : List (Option Atom)) → AreLike os os
 are_like_refl [] = tt
 are_like_refl (o ∷ os) = (like_refl o, are_like_refl os)
 
-like_sym : (o u : Option Atom) → IsLike o u → IsLike u o
-like_sym None None h = tt
-like_sym (Some a) (Some b) h = equal_sym a b h
-like_sym None (Some b) h = absurd h
-like_sym (Some a) None h = absurd h
-
-are_like_sym : (os us : List (Option Atom)) → AreLike os us → AreLike us os
-are_like_sym [] [] h = tt
-are_like_sym (o ∷ os) (u ∷ us) h = (like_sym o u h.0, are_like_sym os us h.1)
-are_like_sym [] (u ∷ us) h = absurd h
-are_like_sym (o ∷ os) [] h = absurd h
-
-pub alike_sym : (p q : Configuration) → IsAlike p q → IsAlike q p
-alike_sym p q h = record { state = sym h.state; contents = are_like_sym p.contents q.contents h.contents }
-
 -- contents as values
 content_move : (v w : PointValue) (o : Option Atom) → IsSame v w → IsContent v o → IsContent w o
 content_move v w None s h = is_tag_same v w (codes "none") s h
@@ -87,12 +72,6 @@ no_kind (tag n) c name a h k = k
 no_kind (var i) c name a h k = h
 no_kind (tup ts) c name a h k = h
 no_kind (coll ks) c name a h k = h
-
-atom_one : (t : TermD) (c : List Atom) (a b : Atom) → IsAtomAt t c a → IsAtomAt t c b → IsTrue (equal a b)
-atom_one (var i) c a b h k = equal_trans a (atom_at c i) b (equal_sym (atom_at c i) a h) k
-atom_one (tag n) c a b h k = absurd h
-atom_one (tup ts) c a b h k = absurd h
-atom_one (coll ks) c a b h k = absurd h
 
 content_like : (v : PointValue) (o u : Option Atom) → IsContent v o → IsContent v u → IsLike o u
 content_like v None None h k = tt
@@ -139,12 +118,6 @@ value_move v w p s (t, us, h, k, l) =
 pub values_same : (v w : PointValue) (p q : Configuration) → IsAlike p q → IsValueOf v p → IsValueOf w q → IsSame v w
 values_same v w p q a (t, us, h, k, l) (t', us', h', k', l') =
     tuples_same v w (t ∷ us) (t' ∷ us') h h' (tags_same t t' p.state k (subst (IsTagValue t') (sym a.state) k'), contents_same us us' p.contents q.contents a.contents l l')
-
-tag_one : (t : TermD) (n k : List ℕ) → IsTagTerm t n → IsTagTerm t k → n ≡ k
-tag_one (tag m) n k h l = sym h ∙ l
-tag_one (var i) n k h l = absurd h
-tag_one (tup ts) n k h l = absurd h
-tag_one (coll ks) n k h l = absurd h
 
 pub value_alike : (v : PointValue) (p q : Configuration) → IsValueOf v p → IsValueOf v q → IsAlike p q
 value_alike v p q (t, us, h, k, l) (t', us', h', k', l') =

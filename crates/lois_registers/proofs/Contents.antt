@@ -23,7 +23,7 @@ AreBelow n [] = Unit {0}
 AreBelow n (None ∷ os) = AreBelow n os
 AreBelow n (Some i ∷ os) = (i < n) × AreBelow n os
 
-below_more : (n m : ℕ) (os : List (Option ℕ)) → n ≤ m → AreBelow n os → AreBelow m os
+pub below_more : (n m : ℕ) (os : List (Option ℕ)) → n ≤ m → AreBelow n os → AreBelow m os
 below_more n m [] l h = tt
 below_more n m (None ∷ os) l h = below_more n m os l h
 below_more n m (Some i ∷ os) l h = (omega (arith, h.0), below_more n m os l h.1)
@@ -117,14 +117,6 @@ contains_numbers (suc n) i l = go (last_or_below i n l) (contains_numbers n i)
     go (inl h) f = Contains-append_left (numbers n) (n ∷ []) i (f h)
     go (inr h) f = subst (λ z. Contains (numbers n ++ n ∷ []) z) h (Contains-push (numbers n) n)
 
-pub numbers_below : (n i : ℕ) → Contains (numbers n) i → i < n
-numbers_below zero i (k, l, e) = absurd (omega (arith, l))
-numbers_below (suc n) i h = go (Contains-push_cases (numbers n) n i h) (numbers_below n i)
-  where
-    go : Contains (numbers n) i ⊎ (n ≡ i) → (Contains (numbers n) i → i < n) → i < suc n
-    go (inl k) f = omega (arith, f k)
-    go (inr e) f = omega (arith, e)
-
 module _ {X Y : Type 0} (f : X → Y) where
   pub contains_mapped : (xs : List X) (x : X) → Contains xs x → Contains (map f xs) (f x)
   contains_mapped xs x (k, l, e) = (k, omega (arith, length-map xs f), get_or-map f xs k x (f x) l ∙ ap f e)
@@ -172,9 +164,6 @@ place_is k os h = go (mapped_from (contents_from 0 k) (numbers (2 ^ k)) os h)
       count = length_contents 0 k p;
       below = subst (λ n. AreBelow n (contents_from 0 k p)) (zero-add (full (contents_from 0 k p))) (below_contents 0 k p);
     })
-
-pub below_later : (n m : ℕ) (os : List (Option ℕ)) → n ≤ m → AreBelow n os → AreBelow m os
-below_later n m os l h = below_more n m os l h
 
 -- storing at levels and storing atoms
 pub filled_stored : (e : List Atom) (i : ℕ) (stores : List ℕ) (m : ℕ) (os : List (Option ℕ)) → filled e (stored_from i stores m os) ≡ stored_from i stores (atom_at e m) (filled e os)

@@ -16,15 +16,6 @@ use Rattle.lois_base.specs.Names.{IsName, is_name_byte}
 use Rattle.lois_base.proofs.Viewed.{rest_at}
 use Rattle.lois_registers.specs.Texts.{text_of_words}
 
-pub behind_is : (text front : List ℕ) → take (length front) text ≡ front → text ≡ front ++ drop (length front) text
-behind_is text front e = sym (take-append-drop (length front) text) ∙ ap (λ z. z ++ drop (length front) text) e
-
-pub front_taken : (text front rest : List ℕ) → text ≡ front ++ rest → (length front ≤ length text) × (take (length front) text ≡ front)
-front_taken text front rest e = (
-  omega (arith, ap length e, length-append front rest),
-  ap (take (length front)) e ∙ take_at front rest (length front) refl,
-)
-
 -- ---- lines
 abbrev is_inside : ℕ → Bool
 is_inside b = not (nat_eq b 10)
@@ -125,13 +116,6 @@ cut_line text words n l found before is =
       },
       whole ∙ ap (λ z. text_of_words words ++ z) (sym (take_rest text (n + 1))),
     )
-
--- a text without the end of a line has no line
-pub no_line : (text : List ℕ) → ((k : ℕ) → k < length text → get_or text k 0 ≡ 10 → ⊥) → (words : List (List ℕ)) (more : List ℕ) → text ≡ text_of_words words ++ more → ⊥
-no_line text none words more e =
-    let line = join_with_byte 32 words in
-    let whole : text ≡ line ++ (10 ∷ more) = e ∙ spelled_more words more in
-    none (length line) (omega (arith, ap length whole, length-append line (10 ∷ more))) (ap (λ z. get_or z (length line) 0) whole ∙ get_or_at line 10 more 0 (length line) refl)
 
 -- names are clean
 name_part : (b : ℕ) → IsTrue (is_name_byte b) → IsTrue (is_word_part b)

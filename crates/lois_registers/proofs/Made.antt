@@ -23,9 +23,6 @@ made_append [] ls made more h i = subst (λ z. AreMade ls (z ++ more)) (sym h) i
 made_append (k ∷ ks) ls made more (inl (idle, h)) i = inl (idle, made_append ks ls made more h i)
 made_append (k ∷ ks) ls made more (inr (l, rest, e, is, h)) i = inr (l, rest ++ more, ap (λ z. z ++ more) e, is, made_append ks ls rest more h i)
 
-pub adds_none : (old : List CompD) → AddsMade [] old old
-adds_none old = ([], sym (append-nil old), refl)
-
 pub adds_more : (ks ls old new newer : List CompD) → AddsMade ks old new → AddsMade ls new newer → AddsMade (ks ++ ls) old newer
 adds_more ks ls old new newer (made, e, h) (more, f, i) = (
   made ++ more,

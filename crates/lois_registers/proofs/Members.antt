@@ -4,6 +4,7 @@ use Rattle.std.specs.List.{Contains, flat_map}
 use Rattle.lois_base.specs.Atom.{Atom}
 use Rattle.lois_base.specs.Data.{TermD, CompD, comps_of}
 use Rattle.lois_base.specs.Values.{MakesAt, MemberAt}
+use Rattle.lois_base.proofs.Appended.{member_append}
 
 module _ {X : Type 0} (x : X) (xs : List X) where
   pub contains_first : Contains (x ∷ xs) x
@@ -17,14 +18,6 @@ module _ {X : Type 0} (x : X) (xs : List X) where
   contains_cases y (suc k, l, e) = inr (k, omega (arith, l), e)
 
 module _ (w : TermD) (x c : List Atom) where
-  pub member_append : (ks ls : List CompD) → MemberAt w x (comps_of (ks ++ ls)) c ↔ (MemberAt w x (comps_of ks) c ⊎ MemberAt w x (comps_of ls) c)
-  member_append [] ls = (λ h. inr h, λ h. elim h [ inl a ↦ absurd a | inr b ↦ b ])
-  member_append (k ∷ ks) ls =
-      let rest = member_append ks ls in (
-        λ h. elim h [ inl a ↦ inl (inl a) | inr b ↦ elim (rest.0 b) [ inl i ↦ inl (inr i) | inr j ↦ inr j ] ],
-        λ h. elim h [ inl a ↦ elim a [ inl i ↦ inl i | inr j ↦ inr (rest.1 (inl j)) ] | inr b ↦ inr (rest.1 (inr b)) ],
-      )
-
   module _ {X : Type 0} (f : X → CompD) where
     pub member_map : (xs : List X) → MemberAt w x (comps_of (map f xs)) c → (a : X) × Contains xs a × MakesAt w x (f a) c
     member_map [] h = absurd h

@@ -11,6 +11,7 @@ use Rattle.lois_base.proofs.Order.{equal_refl}
 use Rattle.lois_meaning.specs.Automata.{IsTriple}
 use Rattle.lois_meaning.specs.Kinds.{IsAtomValue, HasParts, AreSame}
 use Rattle.lois_meaning.proofs.Alike.{is_atom_same, atoms_same, parts_same, parts_both, tuples_same}
+use Rattle.lois_meaning.proofs.Tuples.{triple_to, triples_same}
 use Rattle.lois_registers.specs.Placed.{full, placements, configuration_comp, configuration_term, configurations, step_comp, step_comps, step_item}
 use Rattle.lois_registers.specs.Runs.{Configuration, LiteralHolds, IsStep, stored_from}
 use Rattle.lois_registers.specs.Translation.{IsValueOf}
@@ -52,23 +53,6 @@ module _ (k : ℕ) (names : List (List ℕ)) (v : PointValue) where
           contents = subst (AreLike p.contents) (sym at.same) (are_like_refl p.contents);
         }) h (value_is p.state at.place at.atoms),
       )
-
--- triples
-triple_move : (y z p q r : PointValue) → IsSame y z → IsTriple y p q r → IsTriple z p q r
-triple_move y z p q r h (a, b, c, k, i, j, m) =
-    let moved : (ws : List PointValue) × HasParts z ws × AreSame (a ∷ b ∷ c ∷ []) ws = parts_same y z (a ∷ b ∷ c ∷ []) h k in
-    go moved.0 moved.1 moved.2
-  where
-    go : (ws : List PointValue) → HasParts z ws → AreSame (a ∷ b ∷ c ∷ []) ws → IsTriple z p q r
-    go (d ∷ e ∷ f ∷ []) k s = (d, e, f, k, same_trans p a d i s.0, same_trans q b e j s.1.0, same_trans r c f m s.1.1.0)
-    go [] k s = absurd s
-    go (d ∷ []) k s = absurd s.1
-    go (d ∷ e ∷ []) k s = absurd s.1.1
-    go (d ∷ e ∷ f ∷ g ∷ ws) k s = absurd s.1.1.1
-
-pub triple_one : (x y p l q : PointValue) → IsTriple x p l q → IsTriple y p l q → IsSame x y
-triple_one x y p l q (a, b, c, h, i, j, k) (a', b', c', h', i', j', k') =
-    tuples_same x y (a ∷ b ∷ c ∷ []) (a' ∷ b' ∷ c' ∷ []) h h' (same_trans a p a' (same_sym p a i) i', (same_trans b l b' (same_sym l b j) j', (same_trans c q c' (same_sym q c k) k', tt)))
 
 -- a step of these from a configuration with k registers, as a value
 pub record IsStepOf (k : ℕ) (steps : List RegStep) (v : PointValue) : Type 0 where
@@ -132,7 +116,7 @@ module _ (k : ℕ) (steps : List RegStep) (v : PointValue) where
             first_is = value_is step.from os e;
             letter_is = equal_refl (atom_at e (full os));
             second_is = value_is step.to (stored_from 1 step.stored (full os) os) e;
-            triple = triple_move u v (point (configuration_term step.from os) e) (point (var (full os)) e) (point (configuration_term step.to (stored_from 1 step.stored (full os) os)) e) (same_sym v u s) written;
+            triple = triple_to u v (point (configuration_term step.from os) e) (point (var (full os)) e) (point (configuration_term step.to (stored_from 1 step.stored (full os) os)) e) (same_sym v u s) written;
           }
 
   pub step_in : IsStepOf k steps v → IsIn v (point (coll (comps_of (step_comps (placements k) steps))) [])
@@ -159,17 +143,8 @@ module _ (k : ℕ) (steps : List RegStep) (v : PointValue) where
       let three : IsSame h.second d = values_same h.second d h.target (configured s.to (filled e after)) (record { state = h.leads.to; contents = subst (AreLike h.target.contents) (sym target) (are_like_refl h.target.contents) }) h.second_is (value_is s.to after e) in (
         point (step_item s os) e,
         flat_member (step_item s os) e [] (λ step. map (step_comp step) (placements k)) steps s h.listed among,
-        triple_one v (point (step_item s os) e) h.first h.letter h.second h.triple (c, l, d, refl, one, two, three),
+        triples_same v (point (step_item s os) e) h.first h.letter h.second h.first h.letter h.second (same_refl h.first) (same_refl h.letter) (same_refl h.second) h.triple (c, l, d, refl, one, two, three),
       )
-
--- the parts of a triple are the same, however it is taken apart
-pub triple_parts : (x p l q p' l' q' : PointValue) → IsTriple x p l q → IsTriple x p' l' q' → IsSame p p' × IsSame l l' × IsSame q q'
-triple_parts x p l q p' l' q' (a, b, c, h, i, j, k) (a', b', c', h', i', j', k') =
-    let both : AreSame (a ∷ b ∷ c ∷ []) (a' ∷ b' ∷ c' ∷ []) = parts_both x x (a ∷ b ∷ c ∷ []) (a' ∷ b' ∷ c' ∷ []) (same_refl x) h h' in (
-      same_trans p a p' i (same_trans a a' p' both.0 (same_sym p' a' i')),
-      same_trans l b l' j (same_trans b b' l' both.1.0 (same_sym l' b' j')),
-      same_trans q c q' k (same_trans c c' q' both.1.1.0 (same_sym q' c' k')),
-    )
 
 -- the letters
 pub letter_from : (v : PointValue) → IsIn v (point (coll (comps_of (comp 1 ([] ∷ []) (var 0) ∷ []))) []) → (x : Atom) × IsAtomValue v x

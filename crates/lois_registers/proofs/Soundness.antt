@@ -14,7 +14,7 @@ use Rattle.lois_registers.specs.Placed.{full, placements, content_term, configur
 use Rattle.lois_registers.specs.Runs.{stored_from}
 use Rattle.lois_registers.specs.Valid.{IsRegStep, IsLiteral}
 use Rattle.lois_registers.specs.declared.automata.RegStep.{RegStep}
-use Rattle.lois_registers.proofs.Contents.{AreBelow, below_later, below_stored, length_stored, full_few, IsPlace, place_is}
+use Rattle.lois_registers.proofs.Contents.{AreBelow, below_stored, length_stored, full_few, IsPlace, place_is, below_more}
 use Rattle.lois_registers.proofs.Guards.{placed_sound}
 use Rattle.lois_registers.proofs.Made.{each_made, fits_made, admits_made, widths_made, tags_made, depth_made, items_fit, items_admit, items_widths, items_tags, items_depth}
 use Rattle.lois_registers.proofs.Members.{Each, each_flat, each_map}
@@ -127,7 +127,7 @@ module _ (o : Bool) (k : ℕ) (some : 1 ≤ k) (few : k ≤ 4) where
   step_sound states names s valid os place =
       let n = full os + 1 in
       let m = full os in
-      let below : AreBelow n os = below_later m n os (omega arith) place.below in
+      let below : AreBelow n os = below_more m n os (omega arith) place.below in
       let after : List (Option ℕ) = stored_from 1 s.stored m os in
       let count : length after ≡ k = length_stored 1 s.stored m os ∙ place.count in
       let within : m < n = omega arith in

@@ -15,17 +15,12 @@ use Rattle.lois_base.specs.declared.values.Comp.{Comp}
 use Rattle.lois_base.specs.declared.values.Term.{Term}
 use Rattle.lois_base.proofs.Order.{equal_refl}
 use Rattle.lois_base.proofs.Same.{same_at_sym}
+use Rattle.lois_base.proofs.Numbers.{less_true, less_false}
 use Rattle.lois_relate.specs.Alike.{LevelsMatch, LitsMatch, CubesMatch, GuardsMatch, TermsAlike, PartsAlike, CompsAlike, ItemsAlike, IsListed}
 use Rattle.lois_relate.specs.Built.{Defines}
 use Rattle.lois_relate.specs.Named.{atoms_named}
 use Rattle.lois_relate.proofs.Names.{length-chosen, atom_chosen}
 use Rattle.lois_relate.proofs.Sets.{sets_same}
-
-level_true : (i n : ℕ) → i < n → nat_lt i n ≡ true
-level_true i n l = lt-ltb i n l
-
-level_false : (i n : ℕ) → n ≤ i → nat_lt i n ≡ false
-level_false i n l = grind (arith, nat_tests)
 
 module _ (sn tn : List ℕ) (c : List Atom) where
   -- with atoms e for the binders inside of the terms
@@ -60,10 +55,10 @@ module _ (sn tn : List ℕ) (c : List Atom) where
     where
       go : i < length sn ⊎ length sn ≤ i → atom_at (left e) i ≡ atom_at (right e) j
       go (inl l) =
-          let p : Named i j = subst (λ b. MatchBool b (Named i j) (Inner i j)) (level_true i (length sn) l) h in
+          let p : Named i j = subst (λ b. MatchBool b (Named i j) (Inner i j)) (less_true i (length sn) l) h in
           named_at sn e i l ∙ ap (λ k. atom_at c k) p.1 ∙ sym (named_at tn e j p.0)
       go (inr l) =
-          let p : Inner i j = subst (λ b. MatchBool b (Named i j) (Inner i j)) (level_false i (length sn) l) h in
+          let p : Inner i j = subst (λ b. MatchBool b (Named i j) (Inner i j)) (less_false i (length sn) l) h in
           inner_at sn e i l ∙ ap (λ k. atom_at e k) p.1 ∙ sym (inner_at tn e j p.0)
 
   lit_same : (e : List Atom) (l m : Lit) → LitsMatch sn tn l m → lit_holds (left e) l ≡ lit_holds (right e) m

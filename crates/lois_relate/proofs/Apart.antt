@@ -30,14 +30,6 @@ part_same ts us vs ws i t u m k l r e f c d h =
 pub widths_apart : (ts us : List Term) (vs ws : List TermD) → map tree ts ≡ vs → map tree us ≡ ws → (length ts ≡ length us → ⊥) → (c d : List Atom) → SamePartsAt (terms_of vs) c (terms_of ws) d → ⊥
 widths_apart ts us vs ws m k differ c d h = differ (as_many_items ts us vs ws m k (parts_as_many vs ws c d h))
 
--- ---- comprehensions
-pub without_cubes : (m : ℕ) (g : List (List Lit)) (t s : TermD) → length g ≡ 0 → LeavesOut (comp m g t) s
-without_cubes m [] t s none = λ c d h same. absurd (false≢true h)
-without_cubes m (k ∷ g) t s none = absurd (cc)
-
-pub apart_item : (m : ℕ) (g : List (List Lit)) (t s : TermD) → AreNeverSame t s → LeavesOut (comp m g t) s
-apart_item m g t s apart = λ c d h same. apart c d same
-
 pub no_item : (k : CompD) (s : TermD) (c d : List Atom) → LeavesOut k s → OneIsAt k c s d → ⊥
 no_item (comp m g t) s c d out (e, ext, same) = out (c ++ e) d ext.guard same
 

@@ -137,15 +137,6 @@ both_appended g fs gs rs e p =
       operators = λ o h k. admits_appended o gs fs h k;
     }))
 
-pub both_paired : (f g r : FormulaD) (rs : List FormulaD) → rs ≡ f ∷ g ∷ [] → r ≡ all (formulas_of rs) → IsBoth f g r
-both_paired f g r rs p k =
-    let whole_is : all (formulas_of (f ∷ g ∷ [])) ≡ r = ap (λ z. all (formulas_of z)) (sym p) ∙ sym k in
-    subst (IsBoth f g) whole_is (record {
-      truth = λ c. (λ h. (h.0, h.1.0), λ h. (h.0, (h.1, tt)));
-      levels = λ n h h'. (h, (h', tt));
-      operators = λ o h h'. (h, (h', tt));
-    })
-
 pub either_pushed : (f g r : FormulaD) (fs rs : List FormulaD) → f ≡ any (formulas_of fs) → rs ≡ fs ++ g ∷ [] → r ≡ any (formulas_of rs) → IsEither f g r
 either_pushed f g r fs rs e p k =
     let whole_is : any (formulas_of (fs ++ g ∷ [])) ≡ r = ap (λ z. any (formulas_of z)) (sym p) ∙ sym k in
@@ -154,18 +145,6 @@ either_pushed f g r fs rs e p k =
       levels = λ n h h'. fit_pushed n g fs h h';
       operators = λ o h h'. admits_pushed o g fs h h';
     }))
-
-pub either_paired : (f g r : FormulaD) (rs : List FormulaD) → rs ≡ f ∷ g ∷ [] → r ≡ any (formulas_of rs) → IsEither f g r
-either_paired f g r rs p k =
-    let whole_is : any (formulas_of (f ∷ g ∷ [])) ≡ r = ap (λ z. any (formulas_of z)) (sym p) ∙ sym k in
-    subst (IsEither f g) whole_is (record {
-      truth = λ c. (
-        λ h. elim h [ inl q ↦ inl q | inr q ↦ elim q [ inl x ↦ inr x | inr x ↦ absurd x ] ],
-        λ h. elim h [ inl q ↦ inl q | inr q ↦ inr (inl q) ],
-      );
-      levels = λ n h h'. (h, (h', tt));
-      operators = λ o h h'. (h, (h', tt));
-    })
 
 -- ---- negation
 pub negation_of_never : (f r : FormulaD) → f ≡ any no_formulas → r ≡ all no_formulas → IsNegation f r
@@ -180,13 +159,6 @@ negation_of_always f r e k = subst (IsNegation f) (sym k) (record {
   truth = λ c. (λ h p. h, λ h. h (subst (FormulaHolds c) (sym e) tt));
   levels = λ n h. tt;
   operators = λ o h. tt;
-})
-
-pub negation_is : (f r : FormulaD) → r ≡ neg f → IsNegation f r
-negation_is f r k = subst (IsNegation f) (sym k) (record {
-  truth = λ c. (λ h. h, λ h. h);
-  levels = λ n h. h;
-  operators = λ o h. h;
 })
 
 pub is_implied : (f g d r : FormulaD) → IsNegation f d → IsEither d g r → IsImplied f g r

@@ -18,13 +18,6 @@ pub record AnySoFar (n : ℕ) (Rest Whole : List Atom → Type 0) (A : Bool → 
   pub operators : (o : Bool) → A o → AdmitsFormula o f
 
 module _ (n : ℕ) (Rest Whole : List Atom → Type 0) (A : Bool → Type 0) where
-  pub all_begin : (f : FormulaD) → f ≡ all no_formulas → ((c : List Atom) → Rest c ↔ Whole c) → AllSoFar n Rest Whole A f
-  all_begin f e same = subst (AllSoFar n Rest Whole A) (sym e) (record {
-    truth = λ c k. (λ h. (same c).0 h.1, λ h. (tt, (same c).1 h));
-    levels = tt;
-    operators = λ o h. tt;
-  })
-
   pub all_go_on : (Q Rest' : List Atom → Type 0) (A' : Bool → Type 0) (f g r : FormulaD) → AllSoFar n Rest Whole A f → ((c : List Atom) → Rest c ↔ (Q c × Rest' c)) → Defines n Q A' g → ((o : Bool) → A o → A' o) → IsBoth f g r → AllSoFar n Rest' Whole A r
   all_go_on Q Rest' A' f g r so_far split says admits both = record {
     truth = λ c k. (

@@ -81,11 +81,6 @@ entered_more names r r' n level l e f =
     let push : level_range n (level + 1 - n) ≡ level_range n (level - n) ++ level ∷ [] = ap (λ z. level_range n z) k ∙ levels_from-push (level - n) n ∙ ap (λ z. level_range n (level - n) ++ z ∷ []) j in
     f ∙ ap (λ z. z ++ level ∷ []) e ∙ append_assoc names (level_range n (level - n)) (level ∷ []) ∙ ap (λ z. names ++ z) (sym push)
 
-pub entered_none : (names : List ℕ) (n : ℕ) → names ≡ names ++ level_range n (n - n)
-entered_none names n =
-    let k : n - n ≡ 0 = omega arith in
-    sym (append-nil names) ∙ ap (λ z. names ++ level_range n z) (sym k)
-
 -- ---- literals
 pub atom_chosen : (names : List ℕ) (c : List Atom) (i : ℕ) → i < length names → atom_at (atoms_named names c) i ≡ atom_at c (get_or names i 0)
 atom_chosen names c i l = get_or-map (λ j. atom_at c j) names i 0 (whole 0) l

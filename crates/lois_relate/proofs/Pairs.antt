@@ -32,10 +32,6 @@ module _ (n : ℕ) (sn tn : List ℕ) (k : ℕ) (h : List (List Lit)) (s : TermD
   FoundSoFar rest whole =
       AnySoFar (n + k) (Found rest) (Found whole) (λ o. AdmitsComp o (comp k h s) × AdmitsItems o whole)
 
-  pub found_begins : (whole : CompsD) (f : FormulaD) → f ≡ any no_formulas → FoundSoFar whole whole f
-  found_begins whole f e =
-      any_begin (n + k) (Found whole) (Found whole) (λ o. AdmitsComp o (comp k h s) × AdmitsItems o whole) f e (λ c. (λ x. x, λ x. x))
-
   pub found_goes_on : (whole rest rest' : CompsD) (q : CompD) → rest ≡ more q rest' → (f g r : FormulaD) → FoundSoFar rest whole f → DefinesItem n sn (comp k h s) tn q g → ((o : Bool) → AdmitsItems o whole → AdmitsComp o q) → IsEither f g r → FoundSoFar rest' whole r
   found_goes_on whole rest rest' q e f g r so_far says admits either =
       any_go_on (n + k) (Found rest) (Found whole) (λ o. AdmitsComp o (comp k h s) × AdmitsItems o whole) (λ c. IsTrue (holds (atoms_named (sn ++ level_range n k) c) h) × OneIsAt q (atoms_named tn c) s (atoms_named (sn ++ level_range n k) c)) (Found rest') (λ o. AdmitsComp o (comp k h s) × AdmitsComp o q) f g r so_far (λ c. split c (some_is_split rest rest' q e (atoms_named tn c) s (atoms_named (sn ++ level_range n k) c))) says (λ o a. (a.0, admits o a.1)) either
@@ -45,14 +41,6 @@ module _ (n : ℕ) (sn tn : List ℕ) (k : ℕ) (h : List (List Lit)) (s : TermD
         λ x. elim (parts.0 x.1) [ inl p ↦ inl (x.0, p) | inr p ↦ inr (x.0, p) ],
         λ x. elim x [ inl p ↦ (p.0, parts.1 (inl p.1)) | inr p ↦ (p.0, parts.1 (inr p.1)) ],
       )
-
-  pub found_ends : (whole rest : CompsD) (f : FormulaD) → rest ≡ no_comps → FoundSoFar rest whole f → DefinesFound n sn (comp k h s) tn whole f
-  found_ends whole rest f e so_far =
-      any_end (n + k) (Found rest) (Found whole) (λ o. AdmitsComp o (comp k h s) × AdmitsItems o whole) f (λ c x. subst (λ z. SomeIsAt z (atoms_named tn c) s (atoms_named (sn ++ level_range n k) c)) e x.1) so_far
-
-  pub found_cut : (whole rest : CompsD) (f : FormulaD) → f ≡ all no_formulas → FoundSoFar rest whole f → DefinesFound n sn (comp k h s) tn whole f
-  found_cut whole rest f e so_far =
-      any_cut (n + k) (Found rest) (Found whole) (λ o. AdmitsComp o (comp k h s) × AdmitsItems o whole) f e so_far
 
   module _ (sn_below : AreBelow n sn) (tn_below : AreBelow n tn) where
     pub each_found : (qs : CompsD) (f r : FormulaD) → DefinesFound n sn (comp k h s) tn qs f → IsForEach n k (sn ++ level_range n k) h f r → Defines n (λ c. EachInAt (comp k h s) (atoms_named sn c) qs (atoms_named tn c)) (λ o. AdmitsComp o (comp k h s) × AdmitsItems o qs) r

@@ -22,9 +22,6 @@ terms_are ts i t l is = ap (λ xs. terms_of (map tree xs)) (rest_is ts i t l is)
 pub comps_are : (cs : List Comp) (i : ℕ) (k : Comp) → i < length cs → k ≡ get_or cs i k → comps_from cs i ≡ more (comp_of k) (comps_from cs (i + 1))
 comps_are cs i k l is = ap (λ xs. comps_of (map comp_of xs)) (rest_is cs i k l is)
 
-pub no_terms_left : (ts : List Term) (i : ℕ) → length ts ≤ i → terms_from ts i ≡ no_terms
-no_terms_left ts i l = ap (λ xs. terms_of (map tree xs)) (drop_all i ts l)
-
 pub no_comps_left : (cs : List Comp) (i : ℕ) → length cs ≤ i → comps_from cs i ≡ no_comps
 no_comps_left cs i l = ap (λ xs. comps_of (map comp_of xs)) (drop_all i cs l)
 

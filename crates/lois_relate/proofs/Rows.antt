@@ -4,6 +4,7 @@ use Rattle.std.proofs.lemmas.List.{map-append}
 use Rattle.std.specs.Prelude.{slice_get}
 use Rattle.lois_base.specs.Data.{CompD}
 use Rattle.lois_base.specs.FormulaData.{FormulaD}
+use Rattle.lois_base.proofs.Lists.{same_item}
 use Rattle.lois_relate.specs.Compared.{DefinesPaired, IsCached, IsRow, AreRows}
 
 module _ {X : Type 0} (y : X) where
@@ -19,9 +20,6 @@ one_longer xs x ys i l e = omega (arith, ap length e, length-append xs (x ∷ []
 
 pub mapped_pushed : {X Y : Type 0} (f : X → Y) (xs ys : List X) (x : X) → ys ≡ xs ++ x ∷ [] → map f ys ≡ map f xs ++ f x ∷ []
 mapped_pushed f xs ys x e = ap (map f) e ∙ map-append f xs (x ∷ [])
-
-same_item : {X : Type 0} (x y : X) → Some x ≡ Some y → x ≡ y
-same_item x y h = cc
 
 -- ---- one more
 module _ (n : ℕ) (ks : List CompD) (tn : List ℕ) (qs : List CompD) (sn : List ℕ) where

@@ -13,6 +13,7 @@ use Rattle.lois_base.specs.declared.guards.Lit.{Lit}
 use Rattle.lois_base.specs.declared.values.Comp.{Comp}
 use Rattle.lois_base.proofs.Order.{test}
 use Rattle.lois_base.proofs.Same.{same_at_sym}
+use Rattle.lois_base.proofs.Choices.{no_atoms}
 use Rattle.lois_relate.specs.Built.{Defines, IsBoth, IsImplied}
 use Rattle.lois_relate.specs.Named.{atoms_named}
 use Rattle.lois_relate.specs.Singles.{IsSingleItem}
@@ -20,10 +21,6 @@ use Rattle.lois_relate.proofs.Sets.{sets_same}
 
 abbrev alone : List (List Lit) → TermD → CompsD
 alone g t = more (comp 0 g t) no_comps
-
-no_atoms : (e : List Atom) → length e ≡ 0 → e ≡ []
-no_atoms [] l = refl
-no_atoms (a ∷ e) l = absurd (omega arith)
 
 -- what is to hold where the item with the guard g is there
 each_alone : (g : List (List Lit)) (t : TermD) (d : List Atom) (h : List (List Lit)) (s : TermD) (d' : List Atom) → EachInAt (comp 0 g t) d (alone h s) d' ↔ (IsTrue (holds d g) → IsTrue (holds d' h) × SameAt t d s d')
@@ -116,9 +113,6 @@ single_length (k ∷ (q ∷ ks)) h = absurd h
 
 pub not_single : (ks : List Comp) (vs : List CompD) → map comp_of ks ≡ vs → (length ks ≡ 1 → ⊥) → IsSingleItem (comps_of vs) → ⊥
 not_single ks vs m differ h = differ (single_length ks (subst (λ z. IsSingleItem (comps_of z)) (sym m) h))
-
-pub not_bare : (ks : List Comp) (vs : List CompD) (k : Comp) → map comp_of ks ≡ vs → length ks ≡ 1 → k ≡ get_or ks 0 k → (k.binders ≡ 0 → ⊥) → IsSingleItem (comps_of vs) → ⊥
-not_bare ks vs k m l e differ h = differ (subst (λ z. IsSingleItem (comps_of z)) (only_comp ks vs k m l e) h)
 
 pub bare_say : (n : ℕ) (sn tn : List ℕ) (m k : ℕ) (g h : List (List Lit)) (t s : TermD) (f : FormulaD) → m ≡ 0 → k ≡ 0 → Defines n (λ c. SameAt (coll (alone g t)) (atoms_named sn c) (coll (alone h s)) (atoms_named tn c)) (λ o. AdmitsComp o (comp 0 g t) × AdmitsComp o (comp 0 h s)) f → Defines n (λ c. SameAt (coll (more (comp m g t) no_comps)) (atoms_named sn c) (coll (more (comp k h s) no_comps)) (atoms_named tn c)) (λ o. AdmitsComp o (comp m g t) × AdmitsComp o (comp k h s)) f
 bare_say n sn tn m k g h t s f e d says =

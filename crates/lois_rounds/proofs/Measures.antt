@@ -16,7 +16,7 @@ use Rattle.lois_rounds.specs.Rounds.{OnlyWeakens, OnlyStrengthens, Changes}
 use Rattle.lois_rounds.proofs.Counts.{count_lists, IsSample, Within, count_at_most, count_equal}
 
 -- whether the constraint holds at a list of numbers
-abbrev at_sample : List (List Lit) → List ℕ → Bool
+abbrev pub at_sample : List (List Lit) → List ℕ → Bool
 at_sample g s = holds (sampled s) g
 
 abbrev member_count : Bool → MemberD → ℕ

@@ -18,10 +18,6 @@ pub record IsRun (leads : FamilyD → FamilyD → Type 0) (start family : Family
   pub reached : LeadsAfter leads rounds start family
   pub first : (n : ℕ) (f : FamilyD) → n < rounds → FamilyFits f → LeadsAfter leads n start f → LeavesEquivalent leads f → ⊥
 
-run_none : (leads : FamilyD → FamilyD → Type 0) (start : FamilyD) → IsRun leads start start
-run_none leads start =
-    record { rounds = 0; reached = refl; first = λ n f l fits after leaves. absurd (omega arith) }
-
 -- a family that some rounds lead to, beside one that a further round changes: no round leaves it equivalent
 module _ (leads : FamilyD → FamilyD → Type 0) (respects : RespectsEquivalence leads) where
   changes_too : (f g h : FamilyD) → Changes leads f g → AreEquivalent h f → FamilyFits h → LeavesEquivalent leads h → ⊥
@@ -52,10 +48,6 @@ pub record IsUnderWay (leads now : FamilyD → FamilyD → Type 0) (admits admit
   pub same_leads : LeadAlike leads now
   pub same_operators : (ordered : Bool) → admits ordered ↔ admits_now ordered
 
-pub under_way_none : (leads : FamilyD → FamilyD → Type 0) (admits : Bool → Type 0) (start : FamilyD) → IsUnderWay leads leads admits admits start start
-under_way_none leads admits start =
-    record { run = run_none leads start; kept = refl; operators = λ o h k. k; same_leads = λ f g. (λ h. h, λ h. h); same_operators = λ o. (λ h. h, λ h. h) }
-
 module _ (leads now : FamilyD → FamilyD → Type 0) (admits admits_now : Bool → Type 0) (start f : FamilyD) (way : IsUnderWay leads now admits admits_now start f) where
   -- what a round changes now it would have changed before
   pub changes_before : (g : FamilyD) → Changes now f g → Changes leads f g
@@ -80,13 +72,4 @@ module _ (leads now : FamilyD → FamilyD → Type 0) (admits admits_now : Bool 
             λ x y. (λ h. (same_leads x y).0 ((way.same_leads x y).0 h), λ h. (way.same_leads x y).1 ((same_leads x y).1 h));
         same_operators =
             λ o. (λ h. (same_operators o).0 ((way.same_operators o).0 h), λ h. (way.same_operators o).1 ((same_operators o).1 h));
-      }
-
-  pub under_way_all : LeavesEquivalent now f → IsFirstUnchanged leads start f
-  under_way_all leaves =
-      record {
-        rounds = way.run.rounds;
-        reached = way.run.reached;
-        unchanged = (leaves.0, (way.same_leads f leaves.0).1 leaves.1, leaves.2);
-        first = way.run.first;
       }

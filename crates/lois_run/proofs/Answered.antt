@@ -98,9 +98,6 @@ module _ (text : List ℕ) where
   pub refused_is_checked : (r : Refusal) → IsReadOf text (NotRead r) → AnswersText Check text (Refused r)
   refused_is_checked r (why, none, number) = refused_check r why none
 
-  pub not_results_is_answered : (k : ℕ) (place : Place) → IsNoAnswerAt text k → IsPlaceOf text k place → AnswersText Reread text (Refused (NotResults place))
-  not_results_is_answered k place refused at = record { cause = (k, refused, at); promise = λ l answer h. absurd (refused.none answer h); kind = tt }
-
   module _ (s : ScriptD) (spells : Spells text s) (scoped : IsWellScoped s) where
     -- the text spells no other script
     only_one : (other : ScriptD) → Spells text other → other ≡ s

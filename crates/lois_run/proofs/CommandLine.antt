@@ -150,9 +150,6 @@ module _ (n : Text) (s : Shape) (met : subcommand_met names idle n ≡ Some n) (
   unfolding defaults_fault
   fault_is rest = rw (all_walked rest, no_walk_fault rest, found) refl
 
-  found_is : (rest : List Text) → subcommand_of program (n ∷ rest) ≡ Some (s.name, rows_after s.rules [] rest)
-  found_is rest = rw (all_walked rest, found) refl
-
 -- ---- what the words come to
 
 pub data Verdict (ws : List Text) : Type 0 where

@@ -7,29 +7,14 @@ use Rattle.std.proofs.lemmas.Map.Views.{Contains-from_any}
 use Rattle.std.proofs.lemmas.Slice.Eq.{bytes_eq-Decides}
 use Rattle.lois_base.specs.Names.{IsName, begins_with_letter, is_name_byte}
 use Rattle.lois_base.specs.declared.limits.TheConstants.{LONGEST_NAME}
+use Rattle.lois_base.proofs.Booleans.{and_true, never_both, or_second}
+use Rattle.lois_base.proofs.Order.{same_truth}
 use Rattle.lois_lexer.specs.Words.{reserved}
 use Rattle.lois_run.specs.Words.{is_free}
-
-same_truth : (a b : Bool) → (IsTrue a → IsTrue b) → (IsTrue b → IsTrue a) → a ≡ b
-same_truth true b f g = sym (f refl)
-same_truth false true f g = g refl
-same_truth false false f g = refl
-
-both : (a b : Bool) → IsTrue a → IsTrue b → IsTrue (a && b)
-both true b h k = k
-both false b h k = h
 
 denied : (b : Bool) → (IsTrue b → ⊥) → IsTrue (not b)
 denied true h = absurd (h refl)
 denied false h = refl
-
-refused : (b : Bool) → IsTrue (not b) → IsTrue b → ⊥
-refused true h k = cc h
-refused false h k = cc k
-
-either : (a b : Bool) → IsTrue b → IsTrue (a || b)
-either true b h = refl
-either false b h = h
 
 listed : (word : List ℕ) → IsTrue (list_any (bytes_eq word) reserved) → Contains reserved word
 listed word h = Contains-from_any (λ x y e. (bytes_eq-Decides x y).0 e) word reserved h
@@ -37,7 +22,7 @@ listed word h = Contains-from_any (λ x y e. (bytes_eq-Decides x y).0 e) word re
 found : (word : List ℕ) (words : List (List ℕ)) → Contains words word → IsTrue (list_any (bytes_eq word) words)
 found word [] (k, l, e) = absurd (omega (arith, l))
 found word (x ∷ xs) (zero, l, e) = let same : bytes_eq word x ≡ true = (bytes_eq-Decides word x).1 (sym e) in rw same refl
-found word (x ∷ xs) (suc k, l, e) = either (bytes_eq word x) (list_any (bytes_eq word) xs) (found word xs (k, omega (arith, l), e))
+found word (x ∷ xs) (suc k, l, e) = or_second (bytes_eq word x) (list_any (bytes_eq word) xs) (found word xs (k, omega (arith, l), e))
 
 module _ (word : List ℕ) where
   abbrev begin : Bool
@@ -60,12 +45,12 @@ module _ (word : List ℕ) where
       (λ h.
       let p = and_parts name (not known) h in
       let n = named.0 p.0 in
-      both ((begin && short) && all) (not word_is) (both (begin && short) all (both begin short n.letter (fits n)) n.bytes) (denied word_is (λ k. refused known p.1 (told.1 (listed word k)))))
+      and_true ((begin && short) && all) (not word_is) (and_true (begin && short) all (and_true begin short n.letter (fits n)) n.bytes) (denied word_is (λ k. never_both known p.1 (told.1 (listed word k)))))
       (λ h.
       let p = and_parts ((begin && short) && all) (not word_is) h in
       let q = and_parts (begin && short) all p.0 in
       let r = and_parts begin short q.0 in
-      both name (not known) (named.1 (record { short = leb-true (length word) LONGEST_NAME r.1; letter = r.0; bytes = q.1 })) (denied known (λ k. refused word_is p.1 (found word reserved (told.0 k)))))
+      and_true name (not known) (named.1 (record { short = leb-true (length word) LONGEST_NAME r.1; letter = r.0; bytes = q.1 })) (denied known (λ k. never_both word_is p.1 (found word reserved (told.0 k)))))
 
   -- a word that has the form of a name is free unless it is a word of the language; another isn't
   pub formed : (name known : Bool) → IsTrue name ↔ IsName word → IsTrue known ↔ Contains reserved word → IsTrue name → not known ≡ is_free word

@@ -40,24 +40,6 @@ use Rattle.lois_run.specs.declared.outcomes.Refusal.TheVariants.{NotRegisters}
 use Rattle.lois_run.specs.declared.words.Command.TheVariants.{Equal, Registers, Census}
 
 module _ (text : List ℕ) where
-  compared : (a b : List ℕ) (r : Results) (x : Comparison) → IsResultsOf text r → IsComparison (length r.parameters) a b r.cases x → Compares a b text (compared_outcome r.parameters x)
-  compared a b r x read found = record { results = r; read = read; comparison = x; found = found; told = refl }
-
-  pub compared_is_answered : (a b : List ℕ) (r : Results) (x : Comparison) → IsResultsOf text r → IsComparison (length r.parameters) a b r.cases x → AnswersText (Equal a b) text (compared_outcome r.parameters x)
-  compared_is_answered a b r Alike read found = let all = compared a b r Alike read found in record { cause = all; promise = λ l s h. inl all; kind = tt }
-  compared_is_answered a b r (Unlike k d name) read found = let all = compared a b r (Unlike k d name) read found in record { cause = all; promise = λ l s h. inl all; kind = tt }
-  compared_is_answered a b r (Unfit (unfit.NoLine name k)) read found = let all = compared a b r (Unfit (unfit.NoLine name k)) read found in record { cause = all; promise = λ l s h. inl all; kind = tt }
-  compared_is_answered a b r (Unfit (unfit.NotDeterministic name k)) read found = let all = compared a b r (Unfit (unfit.NotDeterministic name k)) read found in record { cause = all; promise = λ l s h. inl all; kind = tt }
-
-  counted : (name : List ℕ) (r : Results) (x : Answer) → IsResultsOf text r → IsCounted r.order r name x → Lists name text (listed_outcome x)
-  counted name r x read found = record { results = r; read = read; answer = x; found = found; told = refl }
-
-  pub counted_is_answered : (name : List ℕ) (r : Results) (x : Answer) → IsResultsOf text r → IsCounted r.order r name x → AnswersText (Census name) text (listed_outcome x)
-  counted_is_answered name r (Listed cs) read found = let all = counted name r (Listed cs) read found in record { cause = all; promise = λ l s h. inl all; kind = tt }
-  counted_is_answered name r (Uncounted uncounted.HasParameters) read found = let all = counted name r (Uncounted uncounted.HasParameters) read found in record { cause = all; promise = λ l s h. inl all; kind = tt }
-  counted_is_answered name r (Uncounted (uncounted.NoLine n k)) read found = let all = counted name r (Uncounted (uncounted.NoLine n k)) read found in record { cause = all; promise = λ l s h. inl all; kind = tt }
-  counted_is_answered name r (Uncounted (uncounted.NotASet n k)) read found = let all = counted name r (Uncounted (uncounted.NotASet n k)) read found in record { cause = all; promise = λ l s h. inl all; kind = tt }
-
   no_results : (place : Place) → IsNoResults text place → (r : Results) → IsResultsOf text r → ⊥
   no_results place (k, none, at) r h = none.none r h
 

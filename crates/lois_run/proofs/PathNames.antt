@@ -13,11 +13,8 @@ use Rattle.lois_answers.specs.declared.faults.FaultKind.{FaultKind}
 use Rattle.lois_meaning.specs.Runs.{StmtFails, ListFails, ScriptFails}
 use Rattle.lois_meaning.specs.Store.{NamedValues, AreSameNamed}
 use Rattle.lois_context.specs.Slots.{line_values}
-use Rattle.lois_interp.proofs.FreeNames.{AreFree, free_name}
+use Rattle.lois_interp.proofs.FreeNames.{AreFree, free_name, none_free}
 use Rattle.lois_interp.proofs.Spelled.{spelled_prints}
-
-none_free : (path : NamedValues) → path ≡ [] → AreFree path
-none_free path e = subst AreFree (sym e) tt
 
 mutual
   stmt_free : (a : StmtD) (n : ℕ) → StmtPrints a n → (s : NamedValues) (at : ℕ) (k : FaultKind) (path : NamedValues) → StmtFails a s at k path → AreFree path

@@ -295,9 +295,6 @@ module _ {S : Type 0} (left : S → Option (List ℕ)) (takes : TakeRelation S) 
   pub gave_nothing : (most : ℕ) (at : S) → GaveAtMost left takes most at at
   gave_nothing most at = record { bytes = []; calls = inl no_take; few = omega arith; taken = nothing_taken most (left at) }
 
-  pub gave_up : (from to : S) → GivesUp takes LONGEST_TEXT from unread.NoMemory to → TookAtMost LONGEST_TEXT (left from) (left to) → GaveAtMost left takes LONGEST_TEXT from to
-  gave_up from to (bytes, calls, few) took = record { bytes = bytes; calls = inl calls; few = few; taken = took }
-
   to_end : (from to : S) (bytes : List ℕ) → ReadsToEnd takes (LONGEST_TEXT + 1) from bytes to → TakesPieces takes (LONGEST_TEXT + 1) from bytes to
   to_end from to bytes (mid, asked, calls, room, some, last) =
       subst (λ bs. TakesPieces takes (LONGEST_TEXT + 1) from bs to) (append-nil bytes) (one_more_take bytes [] asked mid to calls room last)

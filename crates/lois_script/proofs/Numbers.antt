@@ -9,6 +9,7 @@ use Rattle.std.proofs.lemmas.Bool.{and_parts, leb-true}
 use Rattle.std.proofs.lemmas.Bool.Decides.{nat_tests}
 use Rattle.std.proofs.lemmas.Str.Parse.{IsNumeralModel, numerals_by_fold, digits_value_short}
 use Rattle.std.proofs.lemmas.Fmt.{decimal-digits_value}
+use Rattle.lois_base.proofs.Numbers.{zero_alone}
 use Rattle.lois_lexer.specs.declared.TokenKind.{TokenKind}
 use Rattle.lois_lexer.specs.declared.TokenKind.TheVariants.{Number}
 use Rattle.lois_lexer.specs.Forms.{HasForm, is_within_limits}
@@ -33,13 +34,10 @@ some_digit : (ds : List ℕ) → HasForm Number ds → 0 < length ds
 some_digit [] h = absurd h
 some_digit (d ∷ ds) h = omega arith
 
-alone : (n d : ℕ) → (n == 1 || not (d == 48)) ≡ true → d ≡ 48 → n ≡ 1
-alone n d h e = grind (arith, nat_tests)
-
 short_number : (ds : List ℕ) → IsTrue (is_within_limits Number ds) → (length ds ≤ 9) × (get_or ds 0 0 ≡ 48 → length ds ≡ 1)
 short_number ds h =
     let parts = and_parts (nat_le (length ds) 9) (length ds == 1 || not (get_or ds 0 0 == 48)) h in
-    (leb-true (length ds) 9 parts.0, alone (length ds) (get_or ds 0 0) parts.1)
+    (leb-true (length ds) 9 parts.0, zero_alone (length ds) (get_or ds 0 0) parts.1)
 
 -- a number is written with the digits that it was read from
 pub number_again : (ds : List ℕ) → IsToken Number ds → text.decimal (decimal ds) ≡ ds

@@ -41,9 +41,6 @@ tree_Atoms p = ap tree (sym (rolls-Atoms p)) ∙ fold-roll-Expr CondD ExprD Bind
 pub tree_Var : (p : Pos) (n : Name) → tree (Var p n) ≡ var p.offset n
 tree_Var p n = ap tree (sym (rolls-Var p n)) ∙ fold-roll-Expr CondD ExprD BindingD (List BindingD) (List CondD) (List ExprD) cond_step expr_step binding_step bindings_step conds_step exprs_step (Expr-F.Var p n)
 
-pub tree_Tag : (p : Pos) (n : Name) → tree (Tag p n) ≡ tag p.offset n
-tree_Tag p n = ap tree (sym (rolls-Tag p n)) ∙ fold-roll-Expr CondD ExprD BindingD (List BindingD) (List CondD) (List ExprD) cond_step expr_step binding_step bindings_step conds_step exprs_step (Expr-F.Tag p n)
-
 pub tree_Tuple : (p : Pos) (es : Exprs) → tree (Tuple p es) ≡ tuple p.offset (exprs_of (exprs_list es))
 tree_Tuple p es = ap tree (sym (rolls-Tuple p es)) ∙ fold-roll-Expr CondD ExprD BindingD (List BindingD) (List CondD) (List ExprD) cond_step expr_step binding_step bindings_step conds_step exprs_step (Expr-F.Tuple p es)
 
@@ -85,12 +82,6 @@ cond_Empty e = ap cond_tree (sym (rolls-Empty e)) ∙ fold-roll-Cond CondD ExprD
 
 pub cond_Not : (c : _) → cond_tree (Not c) ≡ not (cond_tree c.value)
 cond_Not c = ap cond_tree (sym (rolls-Not c)) ∙ fold-roll-Cond CondD ExprD BindingD (List BindingD) (List CondD) (List ExprD) cond_step expr_step binding_step bindings_step conds_step exprs_step (Cond-F.Not c)
-
-pub cond_All : (cs : Conds) → cond_tree (All cs) ≡ all (conds_of (conds_list cs))
-cond_All cs = ap cond_tree (sym (rolls-All cs)) ∙ fold-roll-Cond CondD ExprD BindingD (List BindingD) (List CondD) (List ExprD) cond_step expr_step binding_step bindings_step conds_step exprs_step (Cond-F.All cs)
-
-pub cond_Any : (cs : Conds) → cond_tree (Any cs) ≡ any (conds_of (conds_list cs))
-cond_Any cs = ap cond_tree (sym (rolls-Any cs)) ∙ fold-roll-Cond CondD ExprD BindingD (List BindingD) (List CondD) (List ExprD) cond_step expr_step binding_step bindings_step conds_step exprs_step (Cond-F.Any cs)
 
 pub cond_Exists : (b : _) (c : _) → cond_tree (Exists b c) ≡ exists (binding_tree b.value) (cond_tree c.value)
 cond_Exists b c = ap cond_tree (sym (rolls-Exists b c)) ∙ fold-roll-Cond CondD ExprD BindingD (List BindingD) (List CondD) (List ExprD) cond_step expr_step binding_step bindings_step conds_step exprs_step (Cond-F.Exists b c)

@@ -18,14 +18,6 @@ use Rattle.lois_base.proofs.Renamed.{Renames, same_renamed}
 use Rattle.lois_base.proofs.RenamedForm.{fits_renamed}
 use Rattle.lois_shortest_word.specs.Shortened.{lowered}
 
-pub parts_of : (name : ℕ → ℕ) (ts : List TermD) → terms_of (map (rename name) ts) ≡ rename_parts name (terms_of ts)
-parts_of name [] = refl
-parts_of name (t ∷ ts) = ap (term (rename name t)) (parts_of name ts)
-
-pub items_of : (name : ℕ → ℕ) (cs : List CompD) → comps_of (map (rename_comp name) cs) ≡ rename_items name (comps_of cs)
-items_of name [] = refl
-items_of name (c ∷ cs) = ap (more (rename_comp name c)) (items_of name cs)
-
 pub lowered_below : (gone i : ℕ) → i ≤ gone → lowered gone i ≡ i
 lowered_below gone i l = grind (arith, nat_tests)
 

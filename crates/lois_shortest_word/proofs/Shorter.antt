@@ -16,22 +16,16 @@ use Rattle.lois_base.specs.Values.{PointValue}
 use Rattle.lois_base.specs.declared.guards.Lit.{Lit}
 use Rattle.lois_base.proofs.Members.{same_trans}
 use Rattle.lois_base.proofs.RenamedForm.{admits_renamed, widths_renamed}
+use Rattle.lois_base.proofs.Lists.{parts_renamed}
 use Rattle.lois_meaning.specs.Automata.{Automaton, Accepts}
 use Rattle.lois_meaning.specs.Kinds.{AreSame}
+use Rattle.lois_meaning.proofs.Alike.{are_same_refl, are_same_trans}
 use Rattle.lois_shortest_word.specs.Shortened.{lowered, IsWithoutLevel, IsShortenedWord}
 use Rattle.lois_shortest_word.specs.Walks.{HaveAtLeast, IsWordOf}
 use Rattle.lois_shortest_word.specs.Words.{values_at, first_sampled, AreUsedBetween}
 use Rattle.lois_shortest_word.specs.declared.words.Word.{Word}
-use Rattle.lois_shortest_word.proofs.Lowered.{parts_of, lowered_above, length_removed, same_lowered, fits_lowered, part_renamed}
-use Rattle.lois_shortest_word.proofs.Readings.{accepts_alike, same_words}
-
-all_same : (us vs ws : List PointValue) → AreSame us vs → AreSame vs ws → AreSame us ws
-all_same [] [] [] h k = tt
-all_same [] [] (w ∷ ws) h k = absurd k
-all_same [] (v ∷ vs) ws h k = absurd h
-all_same (u ∷ us) [] ws h k = absurd h
-all_same (u ∷ us) (v ∷ vs) [] h k = absurd k
-all_same (u ∷ us) (v ∷ vs) (w ∷ ws) h k = (same_trans u v w h.0 k.0, all_same us vs ws h.1 k.1)
+use Rattle.lois_shortest_word.proofs.Lowered.{lowered_above, length_removed, same_lowered, fits_lowered, part_renamed}
+use Rattle.lois_shortest_word.proofs.Readings.{accepts_alike}
 
 first_left : (s : List ℕ) (n gone : ℕ) → n ≤ gone → gone < length s → take n (remove s gone) ≡ take n s
 first_left [] n gone l below = absurd (omega arith)
@@ -59,7 +53,7 @@ shortened_none n w count levels = record {
   count = count;
   first = refl;
   levels = levels;
-  values = same_words (values_at (sampled w.sample) w.letters);
+  values = are_same_refl (values_at (sampled w.sample) w.letters);
   long = refl;
   operators = λ o h. h;
   widths = λ h. h;
@@ -71,7 +65,7 @@ module _ (n gone : ℕ) (w v r : Word) (from : n ≤ gone) (below : gone < lengt
     count = omega (arith, count);
     first = ap sampled (ap (take n) is.sample ∙ first_left v.sample n gone from below) ∙ was.first;
     levels = subst (λ z. All (Fits (length z)) r.letters) (sym is.sample) (subst (All (Fits (length (remove v.sample gone)))) (sym is.letters) (fits_left v.sample gone below v.letters unused was.levels));
-    values = all_same (values_at (sampled w.sample) w.letters) (values_at (sampled v.sample) v.letters) (values_at (sampled r.sample) r.letters) was.values
+    values = are_same_trans (values_at (sampled w.sample) w.letters) (values_at (sampled v.sample) v.letters) (values_at (sampled r.sample) r.letters) was.values
         (subst (λ z. AreSame (values_at (sampled v.sample) v.letters) (values_at (sampled z) r.letters)) (sym is.sample)
         (subst (λ z. AreSame (values_at (sampled v.sample) v.letters) (values_at (sampled (remove v.sample gone)) z)) (sym is.letters) (values_left v.sample gone below v.letters unused)));
     long = ap length is.letters ∙ length-map v.letters (rename (lowered gone)) ∙ was.long;
@@ -89,7 +83,7 @@ module _ (n gone : ℕ) (w v r : Word) (from : n ≤ gone) (below : gone < lengt
       let old : OccursInPart (suc i) (terms_of v.letters) = was (suc i) (omega arith) (omega (arith, count)) in
       let name : lowered gone (suc i) ≡ i = lowered_above gone (suc i) (omega arith) ∙ omega arith in
       subst (λ z. OccursInPart i (terms_of z)) (sym is.letters)
-      (subst (OccursInPart i) (sym (parts_of (lowered gone) v.letters))
+      (subst (OccursInPart i) (sym (parts_renamed (lowered gone) v.letters))
       (subst (λ z. OccursInPart z (rename_parts (lowered gone) (terms_of v.letters))) name (part_renamed (lowered gone) (suc i) (terms_of v.letters) old)))
 
 pub used_here : (level : ℕ) (w : Word) → OccursInPart level (terms_of w.letters) → AreUsedBetween (suc level) (length w.sample) w.letters → AreUsedBetween level (length w.sample) w.letters

@@ -16,11 +16,11 @@ use Rattle.lois_base.proofs.Members.{same_refl, same_sym, in_same}
 use Rattle.lois_algebra.specs.Gathered.{IsAmong, IsCompMember, IsPut}
 use Rattle.lois_meaning.specs.Automata.{Automaton}
 use Rattle.lois_meaning.proofs.Automata.{triple_same}
+use Rattle.lois_meaning.proofs.Tuples.{triple_to}
 use Rattle.lois_automata.specs.Adding.{IsMadeOfOne}
 use Rattle.lois_automata.specs.Built.{HoldsWhereMember}
 use Rattle.lois_automata.specs.Projections.{triple_of, automaton_at, HasStepIn}
 use Rattle.lois_automata.proofs.Adding.{added_put, adds_nothing, one_among}
-use Rattle.lois_automata.proofs.Tuples.{triple_to}
 use Rattle.lois_automata.proofs.Written.{triple_is, triple_here, triple_term}
 use Rattle.lois_shortest_word.specs.Layers.{AcceptsIn, IsLayer, AreLayers, AreSources, IsSourceTo, AddsSource}
 

@@ -80,9 +80,6 @@ module _ (n by : ℕ) (ts : List TermD) (t : TermD) (rs : List TermD) (long : Is
 
 -- ---- the way
 module _ (s l t i f : CompsD) (n : ℕ) (u : List (List Lit)) where
-  abbrev m : List Atom → Automaton
-  m = automaton_at s l t i f
-
   pub none_shorter : HaveAtLeast n u (automaton_at s l t i f) 0
   none_shorter c k h word acc = omega arith
 

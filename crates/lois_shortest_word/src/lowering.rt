@@ -49,7 +49,7 @@ fn lowered_constraint(
 }
 
 #[cycle(lowering)]
-#[tactic(auto, using(crate::proofs::Lowered::parts_of, crate::proofs::Lowered::items_of))]
+#[tactic(auto, using(lois_base::proofs::Lists::parts_renamed, lois_base::proofs::Lists::items_renamed))]
 fn lowered_term(alloc: Global, t: &Term, gone: usize) -> Result<Term, NoMemory>
     ensures { IfOk result (λ r. tree r ≡ rename (lowered gone) (tree t.now)) }
 {

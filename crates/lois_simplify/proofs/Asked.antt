@@ -11,6 +11,7 @@ use Rattle.lois_base.specs.Fits.{LitFits, CubeFits, ConstraintFits}
 use Rattle.lois_base.specs.Truth.{atom_at, holds, sampled}
 use Rattle.lois_base.specs.declared.guards.Lit.{Lit}
 use Rattle.lois_base.specs.declared.guards.Op.TheVariants.{Ne}
+use Rattle.lois_base.proofs.Order.{numbers_differ}
 use Rattle.lois_deciders.specs.Satisfaction.{IsConstraintSample, ConstraintIsSatisfiable}
 use Rattle.lois_simplify.specs.Fixed.{IsFixed, CanBeApart}
 
@@ -46,16 +47,6 @@ pub is_fixed : (n b a : ℕ) (h r : List (List Lit)) → ((d : List Atom) → ho
 is_fixed n b a h r both none c l o =
     true_of_not (equal (atom_at c b) (atom_at c a))
     (λ e. none (c, l, both c ∙ (ap (λ t. t && holds c (apart b a)) o ∙ (apart_holds c b a ∙ e))))
-
-numbers_same : (m n : ℕ) → IsTrue (equal (whole m) (whole n)) → m ≡ n
-numbers_same m n h = grind (arith, ints)
-
-numbers_differ : (m n : ℕ) → (m ≡ n → ⊥) → IsFalse (equal (whole m) (whole n))
-numbers_differ m n d = go (equal (whole m) (whole n)) refl
-  where
-    go : (t : Bool) → equal (whole m) (whole n) ≡ t → IsFalse t
-    go false e = refl
-    go true e = absurd (d (numbers_same m n e))
 
 -- the sample itself has different numbers there
 pub sample_is_apart : (n b a : ℕ) (h : List (List Lit)) (s : List ℕ) → IsConstraintSample n h s → b < n → a < n → (get_or s b 0 ≡ get_or s a 0 → ⊥) → CanBeApart n h b a

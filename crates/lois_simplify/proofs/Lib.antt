@@ -7,7 +7,6 @@ pub mod IrredundantComps
 pub mod Members
 pub mod OneRound
 pub mod Pass
-pub mod Renaming
 pub mod Seen
 pub mod Shortened
 pub mod Single

@@ -57,9 +57,6 @@ module _ (e : List Atom) where
         ]
       ]
 
-  pub one_turned_holds : (l : Lit) → IsFalse (lit_holds e l) → IsTrue (list_any (lit_holds e) (alternatives l))
-  one_turned_holds l fails = alternatives_hold e l ∙ ap not fails
-
   -- ---- cubes
   before_or_behind : (p q : List (List Lit)) → IsTrue (holds e (p ++ q)) → IsTrue (holds e p) ⊎ IsTrue (holds e q)
   before_or_behind p q h = or_cases (holds e p) (holds e q) (sym (holds_append e p q) ∙ h)

@@ -62,7 +62,7 @@ fn moved_constraint(
 
 // The term with the level `gone` at `to`, and the levels above it one down.
 #[cycle(moving)]
-#[tactic(auto, using(crate::proofs::Renaming::parts_of, crate::proofs::Renaming::items_of))]
+#[tactic(auto, using(lois_base::proofs::Lists::parts_renamed, lois_base::proofs::Lists::items_renamed))]
 fn moved_term(alloc: Global, t: &Term, gone: usize, to: usize) -> Result<Term, NoMemory>
     ensures { IfOk result (λ r. tree r ≡ rename (moved gone to) (tree t.now)) }
 {

@@ -42,10 +42,6 @@ named_at x [] i y below is same = absurd (omega (arith, below))
 named_at x (z ∷ ys) zero y below is same = inl (subst (λ w. IsTrue (bytes_eq w x)) is same)
 named_at x (z ∷ ys) (suc i) y below is same = inr (named_at x ys i y (omega (arith, below)) is same)
 
-pub counted : (es : List ExprD) → count_of (exprs_of es) ≡ length es
-counted [] = refl
-counted (e ∷ es) = ap suc (counted es)
-
 -- with an order every operator is admitted
 pub context_admitted : (k : Context) → AdmitsContext true k
 context_admitted k = record {

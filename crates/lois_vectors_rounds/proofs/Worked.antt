@@ -4,7 +4,7 @@ use Rattle.std.proofs.lemmas.List.{drop_more}
 use Rattle.std.proofs.lemmas.List.Elements.{All-nil, All-cons, All-head, All-tail, All-append, All-map, AllZip-get_or}
 use Rattle.std.proofs.lemmas.Bool.{cases_lt}
 use Rattle.std.specs.List.{All, AllZip}
-use Rattle.lois_base.proofs.Both.{holds_append, holds_both}
+use Rattle.lois_base.proofs.Both.{holds_append, holds_both, all_both}
 use Rattle.lois_base.proofs.Samples.{ranks, length_ranks, ranks_small, ranks_alike}
 use Rattle.lois_base.proofs.Truths.{holds_ordered}
 use Rattle.lois_base.specs.Atom.{Atom, whole}
@@ -82,14 +82,6 @@ chains_weaken f g fits led = weakened_equivalent f (chained true f) g (chained_w
 
 pub chains_strengthen : OnlyStrengthens (Chains false)
 chains_strengthen f g fits led = equivalent_weakened g (chained false f) f led (chained_stronger None f)
-
--- ---- the levels stay below the sizes
-all_both : (P : Lit → Type 0) (g h : List (List Lit)) → All (All P) g → All (All P) h → All (All P) (both g h)
-all_both P [] h a b = All-nil (All P)
-all_both P (k ∷ g) h a b =
-    All-append (All P) (map (λ d. k ++ d) h) (both g h)
-    (All-map (All P) (λ d. k ++ d) h (λ i d l. All-append P k (get_or h i d) (All-head (All P) k g a) (b i d l)))
-    (all_both P g h (All-tail (All P) k g a) b)
 
 joined_fits : (grows : Bool) (n : ℕ) (g h : List (List Lit)) → ConstraintFits n g → ConstraintFits n h → ConstraintFits n (joined grows g h)
 joined_fits true n g h a b = All-append (CubeFits n) g h a b

@@ -8,16 +8,17 @@ use Rattle.lois_relate.specs.Built.{IsForSome}
 use Rattle.lois_relate.proofs.AlikeSame.{always_says}
 use Rattle.lois_relate.proofs.Loops.{any_go_on}
 use Rattle.lois_relate.proofs.Parts.{terms_from, terms_are, comps_from, comps_are, is_part_of, is_comp_of}
-use Rattle.lois_algebra.proofs.Deep.{never_says, tuple_deep, parts_deeper_split, members_deeper_split, one_deeper_says, none_deeper_says}
+use Rattle.lois_relate.proofs.Apart.{nowhere_says}
+use Rattle.lois_algebra.proofs.Deep.{tuple_deep, parts_deeper_split, members_deeper_split, one_deeper_says, none_deeper_says}
 use Rattle.lois_algebra.proofs.depth.+deepening.Goals as goal
 
 pub deeper-returns-in-Var : goal.deeper-returns-in-Var
 deeper-returns-in-Var t c =
-    never_says c.args.size _ _ (view c.false_formula.result) c.false_formula.ensures (λ a h. subst (λ z. DeeperAt (tree z) a c.args.limit) c.in-Var.is h)
+    nowhere_says c.args.size _ _ (view c.false_formula.result) c.false_formula.ensures (λ a h. subst (λ z. DeeperAt (tree z) a c.args.limit) c.in-Var.is h)
 
 pub deeper-returns-in-Tag : goal.deeper-returns-in-Tag
 deeper-returns-in-Tag t c =
-    never_says c.args.size _ _ (view c.false_formula-in-Tag.result) c.false_formula-in-Tag.ensures (λ a h. subst (λ z. DeeperAt (tree z) a c.args.limit) c.in-Tag.is h)
+    nowhere_says c.args.size _ _ (view c.false_formula-in-Tag.result) c.false_formula-in-Tag.ensures (λ a h. subst (λ z. DeeperAt (tree z) a c.args.limit) c.in-Tag.is h)
 
 pub deeper-returns-then-limit-eq0 : goal.deeper-returns-then-limit-eq0
 deeper-returns-then-limit-eq0 t c =

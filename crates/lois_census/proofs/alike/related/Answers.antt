@@ -1,7 +1,8 @@
 use Rattle.std.proofs.Common.{◌≡◌, true, false, sym, ◌∙◌, arith}
 use Rattle.lois_base.specs.Atom.{whole}
 use Rattle.lois_base.specs.Truth.{atom_at}
-use Rattle.lois_census.proofs.Standing.{same_stand, apart_stand, below_stand, above_stand, same_numbers, other_numbers, lower_number, higher_number}
+use Rattle.lois_base.proofs.Order.{numbers_differ}
+use Rattle.lois_census.proofs.Standing.{same_stand, apart_stand, below_stand, above_stand, same_numbers, lower_number, higher_number}
 use Rattle.lois_census.proofs.alike.related.Goals as goal
 
 pub returns-then-number-other-clause-truth : goal.returns-then-number-other-clause-truth
@@ -11,7 +12,7 @@ returns-then-number-other-clause-truth g c = λ u.
 pub returns-then-not-admits-clause-truth : goal.returns-then-not-admits-clause-truth
 returns-then-not-admits-clause-truth g c = λ u.
     let none : g.T.Structure.ordered ≡ false = sym c.admits.ensures ∙ c.if-not-admits.true in
-    apart_stand g.T.Structure.ordered (whole c.args.number) (whole c.args.other) (atom_at u c.args.left) (atom_at u c.args.right) none (other_numbers c.args.number c.args.other c.if-number-other.false)
+    apart_stand g.T.Structure.ordered (whole c.args.number) (whole c.args.other) (atom_at u c.args.left) (atom_at u c.args.right) none (numbers_differ c.args.number c.args.other c.if-number-other.false)
 
 pub returns-then-number-other-2-clause-truth : goal.returns-then-number-other-2-clause-truth
 returns-then-number-other-2-clause-truth g c = λ u.

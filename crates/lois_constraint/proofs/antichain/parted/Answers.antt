@@ -6,9 +6,10 @@ use Rattle.std.proofs.lemmas.Iterator.Consumers.{YieldsList-end}
 use Rattle.std.specs.List.{All}
 use Rattle.lois_base.specs.Truth.{cube_holds, holds}
 use Rattle.lois_base.specs.declared.guards.Lit.{Lit}
+use Rattle.lois_base.proofs.Lists.{all_before, all_last}
 use Rattle.lois_constraint.specs.Entailment.{CubeIsSatisfiable, AreIncomparable, IsPruned}
 use Rattle.lois_constraint.specs.Rules.{CubeObeys, ConstraintObeys}
-use Rattle.lois_constraint.proofs.Pruned.{all_before, all_last, front_pruned, front_apart, kept_pruned, within_grows, others_grow}
+use Rattle.lois_constraint.proofs.Pruned.{front_pruned, front_apart, kept_pruned, within_grows, others_grow}
 use Rattle.lois_constraint.proofs.antichain.parted.Goals as goal
 
 pub loop-cube-preserved-in-Continue-1 : goal.loop-cube-preserved-in-Continue-1

@@ -4,8 +4,8 @@ use Rattle.std.proofs.lemmas.Iterator.Adapters.{YieldsList-from_vec}
 use Rattle.std.proofs.lemmas.Iterator.Consumers.{YieldsList-end}
 use Rattle.lois_base.specs.Truth.{cube_holds, holds}
 use Rattle.lois_base.specs.declared.guards.Lit.{Lit}
+use Rattle.lois_base.proofs.Lists.{all_before, all_last}
 use Rattle.lois_constraint.specs.Rules.{CubeObeys}
-use Rattle.lois_constraint.proofs.Pruned.{all_before, all_last}
 use Rattle.lois_constraint.proofs.Tightened.{met_grows}
 use Rattle.lois_constraint.proofs.antichain.with_met.Goals as goal
 

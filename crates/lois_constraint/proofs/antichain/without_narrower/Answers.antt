@@ -3,9 +3,10 @@ use Rattle.std.proofs.lemmas.List.Elements.{All-push}
 use Rattle.std.specs.List.{All}
 use Rattle.lois_base.specs.Truth.{cube_holds, holds}
 use Rattle.lois_base.specs.declared.guards.Lit.{Lit}
+use Rattle.lois_base.proofs.Lists.{all_before, all_last}
 use Rattle.lois_constraint.specs.Entailment.{CubeIsSatisfiable, Entails, AreIncomparable, IsPruned}
 use Rattle.lois_constraint.specs.Rules.{CubeObeys, ConstraintObeys}
-use Rattle.lois_constraint.proofs.Pruned.{all_before, all_last, front_pruned, front_apart, kept_pruned, kept_holds, dropped_holds}
+use Rattle.lois_constraint.proofs.Pruned.{front_pruned, front_apart, kept_pruned, kept_holds, dropped_holds}
 use Rattle.lois_constraint.proofs.antichain.without_narrower.Goals as goal
 
 pub loop-other-preserved-in-Continue-1 : goal.loop-other-preserved-in-Continue-1

@@ -5,14 +5,15 @@ use Rattle.lois_base.specs.Fits.{CubeFits, ConstraintFits}
 use Rattle.lois_base.specs.Truth.{cube_holds, holds}
 use Rattle.lois_base.specs.Validity.{AdmitsCube, AdmitsConstraint}
 use Rattle.lois_base.specs.declared.guards.Lit.{Lit}
-use Rattle.lois_elim.proofs.Truth.{or_nothing, alone_obeys}
+use Rattle.lois_base.proofs.Booleans.{or_false}
+use Rattle.lois_elim.proofs.Truth.{alone_obeys}
 use Rattle.lois_elim.proofs.elimination.of_cube.Goals as goal
 
 pub returns-clause-truth : goal.returns-clause-truth
 returns-clause-truth c =
     let only : List (List Lit) = c.push.new.self in
     let is : only ≡ c.args.cube ∷ [] = c.in_ok-push.ensures.ok ∙ ap (λ x. x ++ c.args.cube ∷ []) c.new-only.ensures in
-    IfOk-weaker c.prune.result (λ r. (e : List Atom) → holds e r ≡ holds e only) (λ r. (e : List Atom) → holds e r ≡ cube_holds e c.args.cube) (λ r same e. same e ∙ (ap (holds e) is ∙ or_nothing (cube_holds e c.args.cube))) c.prune.ensures.truth
+    IfOk-weaker c.prune.result (λ r. (e : List Atom) → holds e r ≡ holds e only) (λ r. (e : List Atom) → holds e r ≡ cube_holds e c.args.cube) (λ r same e. same e ∙ (ap (holds e) is ∙ or_false (cube_holds e c.args.cube))) c.prune.ensures.truth
 
 pub returns-clause-levels : goal.returns-clause-levels
 returns-clause-levels c =

@@ -1,6 +1,7 @@
 use Rattle.std.proofs.Common.{inl, subst}
 use Rattle.std.proofs.lemmas.Result.{IfErr-weaker}
 use Rattle.lois_base.specs.Tree.{tree}
+use Rattle.lois_deciders.proofs.Oracle.{on_ok}
 use Rattle.lois_automata.specs.Machines.{IsDeterministicAt, IsCompleteAt, IsCompleteDeterministicAt}
 use Rattle.lois_automata.specs.Throughout.{HoldsThroughout, IsVerdictOn}
 use Rattle.lois_answers.specs.declared.faults.FaultKind.TheVariants.{NotDeterministic, NotComplete}
@@ -8,7 +9,7 @@ use Rattle.lois_meaning.specs.Faults.{IsNoAutomaton, IsInvalidOperand}
 use Rattle.lois_script.specs.declared.syntax.Operation.TheVariants.{Minimise}
 use Rattle.lois_eval.specs.Automata.{IsFailureOfVerdict, IsValueFault}
 use Rattle.lois_eval.specs.Throughout.{IfFault}
-use Rattle.lois_eval.proofs.Automata.{is_whole, not_deterministic, not_complete, value_fault_weaker, on_holds, on_weaker}
+use Rattle.lois_eval.proofs.Automata.{is_whole, not_deterministic, not_complete, value_fault_weaker, on_holds}
 use Rattle.lois_eval.proofs.FaultsAt.{if_fault}
 use Rattle.lois_eval.proofs.LoopExit.{passed_on}
 use Rattle.lois_eval.proofs.machine_checks.check_whole.Goals as goal
@@ -34,7 +35,7 @@ returns-clause-whole g c =
     let k = c.args.context.now in
     let t = tree c.args.value.now in
     let single = subst (IsVerdictOn k.size k.«when» (IsDeterministicAt t)) c.in_ok-passed.ensures.holds c.in_ok-single.ensures.verdict in
-    on_weaker c.passed-2.result (HoldsThroughout k.size k.«when» (IsCompleteAt t)) (HoldsThroughout k.size k.«when» (IsCompleteDeterministicAt t)) (λ total. is_whole k.size k.«when» t single total)
+    on_ok c.passed-2.result (HoldsThroughout k.size k.«when» (IsCompleteAt t)) (HoldsThroughout k.size k.«when» (IsCompleteDeterministicAt t)) (λ total. is_whole k.size k.«when» t single total)
     (on_holds c.passed-2.result c.in_ok-total.total (IsVerdictOn k.size k.«when» (IsCompleteAt t)) c.passed-2.ensures.holds c.in_ok-total.ensures.verdict)
 
 pub returns-clause-fault : goal.returns-clause-fault

@@ -1,4 +1,5 @@
 use Rattle.std.proofs.Common.{◌≡◌, IfErr, refl, sym, subst}
+use Rattle.lois_base.proofs.Lists.{all_one}
 use Rattle.lois_script.specs.Limits.{Spells}
 use Rattle.lois_script.specs.Scope.{IsWellScoped}
 use Rattle.lois_script.specs.View.{script_tree}
@@ -8,7 +9,6 @@ use Rattle.lois_interp.specs.Failed.{FailsWithin}
 use Rattle.lois_interp.specs.Interpreted.{AreResultsOf, IsFailureOf}
 use Rattle.lois_interp.specs.Run.{block_run}
 use Rattle.lois_interp.specs.WellScoped.{BlockIsWellScoped}
-use Rattle.lois_interp.proofs.Lists.{all_one}
 use Rattle.lois_interp.proofs.Opened.{parameters_distinct, body_placed}
 use Rattle.lois_interp.proofs.ScriptRuns.{interpreted, failure_of}
 use Rattle.lois_eval.proofs.LoopExit.{passed_on}

@@ -8,9 +8,6 @@ use Rattle.lois_run.specs.declared.outcomes.Outcome.TheVariants.{Completed, Made
 use Rattle.lois_run.proofs.MadeRuns.{made_completes}
 use Rattle.lois_run.proofs.made.run_make.Goals as goal
 
-abbrev Counted : ℕ → Outcome → Type 0
-Counted n o = (r : Results) × (o ≡ Completed r) × HasMadeCounts n r
-
 -- no source is read, so nothing comes but this
 sure : {P : Type 0} (o : Outcome) → IsRunOrFault P ⊥ o → P
 sure o (inl p) = p

@@ -4,18 +4,19 @@ use Rattle.lois_base.proofs.Viewed.{one_more}
 use Rattle.lois_eval.specs.WellFormed.{AreWellFormed, CondsAreWellFormed}
 use Rattle.lois_script.specs.View.{tree, cond_tree, binding_tree, exprs_of, exprs_list, conds_of}
 use Rattle.lois_script.proofs.Views.{tree_Tuple, tree_Apply, binding_is}
-use Rattle.lois_vectors_expressions.proofs.Placed.{LeadTo, all_one_more, conds_one_more, leads_further, counted}
+use Rattle.lois_eval.proofs.Parts.{count_of-more}
+use Rattle.lois_vectors_expressions.proofs.Placed.{LeadTo, all_one_more, conds_one_more, leads_further}
 use Rattle.lois_vectors_expressions.proofs.standing.+standing.Goals as goal
 
 pub stands-returns-else-len-gt8 : goal.stands-returns-else-len-gt8
 stands-returns-else-len-gt8 t c =
-    let count = counted (exprs_list c.in-Tuple.parts) in
+    let count = count_of-more (exprs_list c.in-Tuple.parts) in
     IfSome_then c.all_stand.result c.all_stand.ensures
     (λ x h. rw (c.in-Tuple.is, tree_Tuple c.in-Tuple.field-0 c.in-Tuple.parts) (omega (arith, count, c.len.ensures.counted, c.if-len-lt2.false), omega (arith, count, c.len-else-len-lt2.ensures.counted, c.if-len-gt8.false), h))
 
 pub stands-returns-else-len-operands : goal.stands-returns-else-len-operands
 stands-returns-else-len-operands t c =
-    let count = counted (exprs_list c.in-Apply.parts) in
+    let count = count_of-more (exprs_list c.in-Apply.parts) in
     IfSome_then c.all_stand-in-Apply.result c.all_stand-in-Apply.ensures
     (λ x h. rw (c.in-Apply.is, tree_Apply c.in-Apply.field-0 c.in-Apply.operation c.in-Apply.parts) (omega (arith, count, c.len-in-Apply.ensures.counted, c.if-len-operands.false, c.operands.ensures), h))
 
