@@ -4,7 +4,7 @@ pub mod Both
 pub mod Choices
 pub mod Connectives
 pub mod Depths
-pub mod Numbers
+pub mod NumberTests
 pub mod FormulaViews
 pub mod Gaps
 pub mod Levels

@@ -19,7 +19,7 @@ use Rattle.lois_base.specs.Fits.{LitFits, CubeFits, ConstraintFits, Fits, PartsF
 use Rattle.lois_base.specs.Names.{IsName, is_letter, is_name_byte}
 use Rattle.lois_base.specs.Validity.{AdmitsLit, AdmitsCube, AdmitsConstraint, AdmitsTerm, AdmitsParts, AdmitsComp, AdmitsItems, HasBoundedWidths, PartsHaveBoundedWidths, CompHasBoundedWidths, ItemsHaveBoundedWidths, count_of_parts}
 use Rattle.lois_base.specs.declared.guards.Lit.{Lit}
-use Rattle.lois_base.proofs.Numbers.{less_true, less_false}
+use Rattle.lois_base.proofs.NumberTests.{less_true, less_false}
 use Rattle.lois_lexer.specs.Bytes.{is_word_byte}
 use Rattle.lois_answers.specs.Sound.{HasTags, PartsHaveTags, CompHasTags, ItemsHaveTags, AreDistinct}
 use Rattle.lois_answers.specs.TermText as texts

@@ -6,7 +6,7 @@ use Rattle.std.specs.List.{AllByRecursion, flat_map}
 use Rattle.std.proofs.lemmas.List.{append-nil}
 use Rattle.std.proofs.lemmas.List.Concat.{flat_map-cons}
 use Rattle.std.proofs.lemmas.List.Elements.{recursion_from_All}
-use Rattle.lois_base.proofs.Numbers.{less_true}
+use Rattle.lois_base.proofs.NumberTests.{less_true}
 use Rattle.lois_answers.specs.ResultsData.{LineD}
 use Rattle.lois_answers.specs.ResultsText as rt
 use Rattle.lois_answers.specs.Sound.{IsSoundLine, IsPlaceNumber, IsSoundTrace}

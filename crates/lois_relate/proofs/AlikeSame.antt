@@ -15,7 +15,7 @@ use Rattle.lois_base.specs.declared.values.Comp.{Comp}
 use Rattle.lois_base.specs.declared.values.Term.{Term}
 use Rattle.lois_base.proofs.Order.{equal_refl}
 use Rattle.lois_base.proofs.Same.{same_at_sym}
-use Rattle.lois_base.proofs.Numbers.{less_true, less_false}
+use Rattle.lois_base.proofs.NumberTests.{less_true, less_false}
 use Rattle.lois_relate.specs.Alike.{LevelsMatch, LitsMatch, CubesMatch, GuardsMatch, TermsAlike, PartsAlike, CompsAlike, ItemsAlike, IsListed}
 use Rattle.lois_relate.specs.Built.{Defines}
 use Rattle.lois_relate.specs.Named.{atoms_named}

@@ -1,6 +1,6 @@
 -- Facts on numbers that several crates use.
 use Rattle.std.proofs.Common.{◌≡◌, ℕ, ◌<◌, ◌≤◌, true, false, nat_lt, ◌==◌, ◌||◌, not, arith}
-use Rattle.std.proofs.lemmas.Bool.{nat_tests}
+use Rattle.std.proofs.lemmas.Bool.Decides.{nat_tests}
 
 -- a number is 0 or doesn't begin with the digit 0, whose byte is 48
 pub zero_alone : (n d : ℕ) → (n == 1 || not (d == 48)) ≡ true → d ≡ 48 → n ≡ 1
