@@ -8,5 +8,5 @@ mod shifting;
 
 pub use guarding::with_guard;
 pub use placing::{Placed, instantiate};
-pub use reading::{binds_nothing, is_within_depth, occurs};
+pub use reading::{binds_nothing, height, is_within_depth, occurs};
 pub use shifting::shift_term;

@@ -146,3 +146,41 @@ fn are_items_within_depth(comps: &Comps, limit: usize) -> bool
     }
     true
 }
+
+/// How deep the term is written: 0 for an atom or a tag, else one more than the deepest part or item. No value of the term is deeper.
+#[cycle(height)]
+pub fn height(t: &Term) -> usize
+    requires { depth (tree t.now) < 2 ^ 64 }
+    ensures exact { result ≡ depth (tree t.now) }
+    ensures values { (c : List Atom) → IsDeeper (point (tree t.now) c) result → ⊥ }
+{
+    match t {
+        Term::Var(_) | Term::Tag(_) => 0,
+        Term::Tup(parts) => greatest_height_of_parts(parts) + 1,
+        Term::Coll(comps) => greatest_height_of_items(comps) + 1,
+    }
+}
+
+#[cycle(height)]
+fn greatest_height_of_parts(terms: &Terms) -> usize
+    requires { depth_of_terms terms.now < 2 ^ 64 }
+    ensures { result ≡ depth_of_terms terms.now }
+{
+    let mut greatest = 0;
+    for part in terms.as_slice() {
+        greatest = greatest.max(height(part));
+    }
+    greatest
+}
+
+#[cycle(height)]
+fn greatest_height_of_items(comps: &Comps) -> usize
+    requires { depth_of_comps comps.now < 2 ^ 64 }
+    ensures { result ≡ depth_of_comps comps.now }
+{
+    let mut greatest = 0;
+    for comp in comps.as_slice() {
+        greatest = greatest.max(height(&comp.item));
+    }
+    greatest
+}
