@@ -35,7 +35,8 @@ pub in_order : map (λ word. word.now) RESERVED ≡ map word_of KEYWORDS ++ code
 in_order = refl
 
 keyword_at : (bytes : List ℕ) → entry_at KEYWORDS (position_or_len (λ word. bytes_eq word.now bytes) RESERVED) ≡ find (λ k. bytes_eq (word_of k) bytes) KEYWORDS
-keyword_at bytes = found_at KEYWORDS (codes "case" ∷ codes "end" ∷ []) bytes
+keyword_at bytes =
+    ap (λ words. entry_at KEYWORDS (position_or_len (λ word. bytes_eq word bytes) words)) in_order ∙ found_at KEYWORDS (codes "case" ∷ codes "end" ∷ []) bytes
 
 beyond : (ks : List Keyword) (n : ℕ) → length ks ≤ n → entry_at ks n ≡ None
 beyond [] n h = refl
