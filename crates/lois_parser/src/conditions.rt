@@ -5,7 +5,7 @@ ghost use Rattle.lois_script.specs.View.{binding_tree, cond_tree, conds_list};
 ghost use Rattle.lois_parser.specs.Ahead.{ahead};
 ghost use Rattle.lois_descent.specs.Descent as descent;
 ghost use Rattle.lois_descent.specs.Descent.{inner_expr, inner_cond, expr_here, cond_here, base_here, unit_here, conjunction_here};
-ghost use Rattle.lois_parser.specs.Nests.{Nests, GivesCond, ConsumesTokens};
+ghost use Rattle.lois_parser.specs.Nests.{Nests, GivesCond, ConsumesTokens, GivesConds};
 ghost use Rattle.lois_descent.specs.Reading.{ResultIs};
 ghost use Rattle.lois_descent.specs.declared.lexemes.UnitForm.TheVariants as units;
 
@@ -40,7 +40,7 @@ impl<
     /// A conjunction, and those behind it, each behind `or`.
     fn more_conjunctions(&self, first: Cond, at: Rest<'a>) -> Result<(Conds, Rest<'a>), ParseError>
         requires nested { Nests self.now.depth_left (E.pre self.now.expr) (E.post self.now.expr) (C.pre self.now.cond) (C.post self.now.cond) }
-        ensures read { ResultIs (λ x. (conds_list x.0, ahead x.1)) result (descent.more_conjunctions (conjunction_here self.now.depth_left) (cond_tree first) (ahead at.entry)) }
+        ensures read { GivesConds (descent.more_conjunctions (conjunction_here self.now.depth_left) (cond_tree first)) at.entry result }
         ensures shorter { IfOk result (λ x. length (ahead x.1) ≤ length (ahead at.entry)) }
     {
         let mut conditions = Conds::new(self.alloc);
@@ -72,7 +72,7 @@ impl<
     /// A unit, and those behind it, each behind `and`.
     fn more_units(&self, first: Cond, at: Rest<'a>) -> Result<(Conds, Rest<'a>), ParseError>
         requires nested { Nests self.now.depth_left (E.pre self.now.expr) (E.post self.now.expr) (C.pre self.now.cond) (C.post self.now.cond) }
-        ensures read { ResultIs (λ x. (conds_list x.0, ahead x.1)) result (descent.more_units (unit_here self.now.depth_left) (cond_tree first) (ahead at.entry)) }
+        ensures read { GivesConds (descent.more_units (unit_here self.now.depth_left) (cond_tree first)) at.entry result }
         ensures shorter { IfOk result (λ x. length (ahead x.1) ≤ length (ahead at.entry)) }
     {
         let mut conditions = Conds::new(self.alloc);
@@ -135,7 +135,10 @@ impl<
     #[tactic(auto, unfolding(lois_descent::specs::Descent::quantified))]
     fn quantified(&self, at: Rest<'a>) -> Result<((Binding, Cond), Rest<'a>), ParseError>
         requires nested { Nests self.now.depth_left (E.pre self.now.expr) (E.post self.now.expr) (C.pre self.now.cond) (C.post self.now.cond) }
-        ensures read { ResultIs (λ x. ((binding_tree x.0.0, cond_tree x.0.1), ahead x.1)) result (descent.quantified (expr_here self.now.depth_left) (base_here self.now.depth_left) (ahead at.entry)) }
+        ensures read { ResultIs
+            (λ x. ((binding_tree x.0.0, cond_tree x.0.1), ahead x.1))
+            result
+            (descent.quantified (expr_here self.now.depth_left) (base_here self.now.depth_left) (ahead at.entry)) }
         ensures shorter { ConsumesTokens at.entry result }
     {
         let (binding, colon) = self.binding(at.behind())?;

@@ -5,7 +5,7 @@ ghost use Rattle.lois_script.specs.View.{tree, binding_tree, exprs_list, binding
 ghost use Rattle.lois_parser.specs.Ahead.{ahead};
 ghost use Rattle.lois_descent.specs.Descent as descent;
 ghost use Rattle.lois_descent.specs.Descent.{inner_expr, inner_cond, expr_here};
-ghost use Rattle.lois_parser.specs.Nests.{Nests, GivesExpr, GivesCond, ConsumesTokens};
+ghost use Rattle.lois_parser.specs.Nests.{Nests, GivesExpr, GivesCond, ConsumesTokens, GivesBinding, GivesBindings, GivesExprs};
 ghost use Rattle.lois_descent.specs.Reading.{ResultIs};
 
 use crate::grammar::Grammar;
@@ -67,7 +67,7 @@ impl<
     fn parts(&self, first: Expr, at: Rest<'a>) -> Result<(Exprs, Rest<'a>), ParseError>
         requires depth_left { 0 < self.now.depth_left }
         requires nested { Nests self.now.depth_left (E.pre self.now.expr) (E.post self.now.expr) (C.pre self.now.cond) (C.post self.now.cond) }
-        ensures read { ResultIs (λ x. (exprs_list x.0, ahead x.1)) result (descent.parts (inner_expr self.now.depth_left) (tree first) (ahead at.entry)) }
+        ensures read { GivesExprs (descent.parts (inner_expr self.now.depth_left) (tree first)) at.entry result }
         ensures shorter { IfOk result (λ x. length (ahead x.1) ≤ length (ahead at.entry)) }
     {
         let mut parts = Exprs::new(self.alloc);
@@ -181,7 +181,7 @@ impl<
     fn more_expressions(&self, first: Expr, at: Rest<'a>) -> Result<(Exprs, Rest<'a>), ParseError>
         requires depth_left { 0 < self.now.depth_left }
         requires nested { Nests self.now.depth_left (E.pre self.now.expr) (E.post self.now.expr) (C.pre self.now.cond) (C.post self.now.cond) }
-        ensures read { ResultIs (λ x. (exprs_list x.0, ahead x.1)) result (descent.listed (inner_expr self.now.depth_left) (tree first) (ahead at.entry)) }
+        ensures read { GivesExprs (descent.listed (inner_expr self.now.depth_left) (tree first)) at.entry result }
         ensures shorter { IfOk result (λ x. length (ahead x.1) ≤ length (ahead at.entry)) }
     {
         let mut items = Exprs::new(self.alloc);
@@ -219,7 +219,7 @@ impl<
     ) -> Result<(Bindings, Rest<'a>), ParseError>
         requires depth_left { 0 < self.now.depth_left }
         requires nested { Nests self.now.depth_left (E.pre self.now.expr) (E.post self.now.expr) (C.pre self.now.cond) (C.post self.now.cond) }
-        ensures read { ResultIs (λ x. (bindings_list x.0, ahead x.1)) result (descent.listed (descent.binding (inner_expr self.now.depth_left)) (binding_tree first) (ahead at.entry)) }
+        ensures read { GivesBindings (descent.listed (descent.binding (inner_expr self.now.depth_left)) (binding_tree first)) at.entry result }
         ensures shorter { IfOk result (λ x. length (ahead x.1) ≤ length (ahead at.entry)) }
     {
         let mut bindings = Bindings::new(self.alloc);
@@ -237,7 +237,7 @@ impl<
     #[tactic(auto, unfolding(lois_descent::specs::Descent::binding))]
     pub(crate) fn binding(&self, at: Rest<'a>) -> Result<(Binding, Rest<'a>), ParseError>
         requires nested { Nests self.now.depth_left (E.pre self.now.expr) (E.post self.now.expr) (C.pre self.now.cond) (C.post self.now.cond) }
-        ensures read { ResultIs (λ x. (binding_tree x.0, ahead x.1)) result (descent.binding (expr_here self.now.depth_left) (ahead at.entry)) }
+        ensures read { GivesBinding (descent.binding (expr_here self.now.depth_left)) at.entry result }
         ensures shorter { ConsumesTokens at.entry result }
     {
         let (name, word) = at.name(self.alloc)?;
@@ -258,7 +258,7 @@ impl<
     fn inner_binding(&self, at: Rest<'a>) -> Result<(Binding, Rest<'a>), ParseError>
         requires depth_left { 0 < self.now.depth_left }
         requires nested { Nests self.now.depth_left (E.pre self.now.expr) (E.post self.now.expr) (C.pre self.now.cond) (C.post self.now.cond) }
-        ensures read { ResultIs (λ x. (binding_tree x.0, ahead x.1)) result (descent.binding (inner_expr self.now.depth_left) (ahead at.entry)) }
+        ensures read { GivesBinding (descent.binding (inner_expr self.now.depth_left)) at.entry result }
         ensures shorter { ConsumesTokens at.entry result }
     {
         let (name, word) = at.name(self.alloc)?;

@@ -5,7 +5,7 @@ ghost use Rattle.lois_script.specs.View.{binding_tree};
 ghost use Rattle.lois_parser.specs.Ahead.{ahead};
 ghost use Rattle.lois_descent.specs.Descent as descent;
 ghost use Rattle.lois_descent.specs.Descent.{expr_of, cond_of, block_of};
-ghost use Rattle.lois_parser.specs.Nests.{GivesExpr, GivesCond, GivesStmts, ConsumesTokens};
+ghost use Rattle.lois_parser.specs.Nests.{GivesExpr, GivesCond, GivesStmts, ConsumesTokens, GivesBinding};
 ghost use Rattle.lois_descent.specs.Reading.{ResultIs};
 
 use crate::grammar::Grammar;
@@ -59,7 +59,7 @@ pub(crate) fn binding(
     at: Rest<'_>,
     depth_left: usize,
 ) -> Result<(Binding, Rest<'_>), ParseError>
-    ensures read { ResultIs (λ x. (binding_tree x.0, ahead x.1)) result (descent.binding (expr_of depth_left) (ahead at.entry)) }
+    ensures read { GivesBinding (descent.binding (expr_of depth_left)) at.entry result }
     ensures shorter { ConsumesTokens at.entry result }
 {
     Grammar {

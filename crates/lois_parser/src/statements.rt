@@ -5,7 +5,7 @@ ghost use Rattle.lois_script.specs.View.{stmt_tree, stmts_list};
 ghost use Rattle.lois_parser.specs.Ahead.{ahead};
 ghost use Rattle.lois_descent.specs.Descent as descent;
 ghost use Rattle.lois_descent.specs.Descent.{cond_of, inner_block};
-ghost use Rattle.lois_parser.specs.Nests.{Blocks, GivesCond, GivesStmts, ConsumesTokens};
+ghost use Rattle.lois_parser.specs.Nests.{Blocks, GivesCond, GivesStmts, ConsumesTokens, GivesStmt};
 ghost use Rattle.lois_descent.specs.Reading.{ResultIs};
 
 use crate::nesting::{binding, condition, expression};
@@ -72,7 +72,7 @@ impl<'a, B: Fn(Global, Rest<'a>, usize) -> Result<(Stmts, Rest<'a>), ParseError>
     #[tactic(auto, unfolding(lois_descent::specs::Descent::statement))]
     fn statement(&self, at: Rest<'a>) -> Result<(Stmt, Rest<'a>), ParseError>
         requires nested { Blocks self.now.depth_left (B.pre self.now.block) (B.post self.now.block) }
-        ensures read { ResultIs (λ x. (stmt_tree x.0, ahead x.1)) result (descent.statement self.now.depth_left (inner_block self.now.depth_left) (ahead at.entry)) }
+        ensures read { GivesStmt (descent.statement self.now.depth_left (inner_block self.now.depth_left)) at.entry result }
         ensures shorter { ConsumesTokens at.entry result }
     {
         match at.lexeme().stmt_form() {
@@ -91,7 +91,7 @@ impl<'a, B: Fn(Global, Rest<'a>, usize) -> Result<(Stmts, Rest<'a>), ParseError>
     /// From `let` on.
     #[tactic(auto, unfolding(lois_descent::specs::Descent::let_statement))]
     fn let_statement(&self, at: Rest<'a>) -> Result<(Stmt, Rest<'a>), ParseError>
-        ensures read { ResultIs (λ x. (stmt_tree x.0, ahead x.1)) result (descent.let_statement self.now.depth_left (ahead at.entry)) }
+        ensures read { GivesStmt (descent.let_statement self.now.depth_left) at.entry result }
         ensures shorter { ConsumesTokens at.entry result }
     {
         let (name, equal) = at.behind().name(self.alloc)?;
@@ -103,7 +103,7 @@ impl<'a, B: Fn(Global, Rest<'a>, usize) -> Result<(Stmts, Rest<'a>), ParseError>
     /// From the name on.
     #[tactic(auto, unfolding(lois_descent::specs::Descent::assignment))]
     fn assignment(&self, at: Rest<'a>) -> Result<(Stmt, Rest<'a>), ParseError>
-        ensures read { ResultIs (λ x. (stmt_tree x.0, ahead x.1)) result (descent.assignment self.now.depth_left (ahead at.entry)) }
+        ensures read { GivesStmt (descent.assignment self.now.depth_left) at.entry result }
         ensures shorter { ConsumesTokens at.entry result }
     {
         let (name, becomes) = at.name(self.alloc)?;
@@ -119,7 +119,7 @@ impl<'a, B: Fn(Global, Rest<'a>, usize) -> Result<(Stmts, Rest<'a>), ParseError>
     /// From `add` on.
     #[tactic(auto, unfolding(lois_descent::specs::Descent::addition))]
     fn addition(&self, at: Rest<'a>) -> Result<(Stmt, Rest<'a>), ParseError>
-        ensures read { ResultIs (λ x. (stmt_tree x.0, ahead x.1)) result (descent.addition self.now.depth_left (ahead at.entry)) }
+        ensures read { GivesStmt (descent.addition self.now.depth_left) at.entry result }
         ensures shorter { ConsumesTokens at.entry result }
     {
         let (value, to) = expression(self.alloc, at.behind(), self.depth_left)?;
@@ -133,7 +133,7 @@ impl<'a, B: Fn(Global, Rest<'a>, usize) -> Result<(Stmts, Rest<'a>), ParseError>
     #[tactic(auto, unfolding(lois_descent::specs::Descent::for_statement))]
     fn for_statement(&self, at: Rest<'a>) -> Result<(Stmt, Rest<'a>), ParseError>
         requires nested { Blocks self.now.depth_left (B.pre self.now.block) (B.post self.now.block) }
-        ensures read { ResultIs (λ x. (stmt_tree x.0, ahead x.1)) result (descent.for_statement self.now.depth_left (inner_block self.now.depth_left) (ahead at.entry)) }
+        ensures read { GivesStmt (descent.for_statement self.now.depth_left (inner_block self.now.depth_left)) at.entry result }
         ensures shorter { ConsumesTokens at.entry result }
     {
         let (binding, behind) = binding(self.alloc, at.behind(), self.depth_left)?;
@@ -146,7 +146,7 @@ impl<'a, B: Fn(Global, Rest<'a>, usize) -> Result<(Stmts, Rest<'a>), ParseError>
     #[tactic(auto, unfolding(lois_descent::specs::Descent::if_statement))]
     fn if_statement(&self, at: Rest<'a>) -> Result<(Stmt, Rest<'a>), ParseError>
         requires nested { Blocks self.now.depth_left (B.pre self.now.block) (B.post self.now.block) }
-        ensures read { ResultIs (λ x. (stmt_tree x.0, ahead x.1)) result (descent.if_statement self.now.depth_left (inner_block self.now.depth_left) (ahead at.entry)) }
+        ensures read { GivesStmt (descent.if_statement self.now.depth_left (inner_block self.now.depth_left)) at.entry result }
         ensures shorter { ConsumesTokens at.entry result }
     {
         let (condition, open) = condition(self.alloc, at.behind(), self.depth_left)?;
@@ -172,7 +172,7 @@ impl<'a, B: Fn(Global, Rest<'a>, usize) -> Result<(Stmts, Rest<'a>), ParseError>
     #[tactic(auto, unfolding(lois_descent::specs::Descent::while_statement))]
     fn while_statement(&self, at: Rest<'a>) -> Result<(Stmt, Rest<'a>), ParseError>
         requires nested { Blocks self.now.depth_left (B.pre self.now.block) (B.post self.now.block) }
-        ensures read { ResultIs (λ x. (stmt_tree x.0, ahead x.1)) result (descent.while_statement self.now.depth_left (inner_block self.now.depth_left) (ahead at.entry)) }
+        ensures read { GivesStmt (descent.while_statement self.now.depth_left (inner_block self.now.depth_left)) at.entry result }
         ensures shorter { ConsumesTokens at.entry result }
     {
         let (condition, word) = condition(self.alloc, at.behind(), self.depth_left)?;
@@ -184,7 +184,7 @@ impl<'a, B: Fn(Global, Rest<'a>, usize) -> Result<(Stmts, Rest<'a>), ParseError>
     /// From `assert` on.
     #[tactic(auto, unfolding(lois_descent::specs::Descent::assertion))]
     fn assertion(&self, at: Rest<'a>) -> Result<(Stmt, Rest<'a>), ParseError>
-        ensures read { ResultIs (λ x. (stmt_tree x.0, ahead x.1)) result (descent.assertion self.now.depth_left (ahead at.entry)) }
+        ensures read { GivesStmt (descent.assertion self.now.depth_left) at.entry result }
         ensures shorter { ConsumesTokens at.entry result }
     {
         let (condition, close) = condition(self.alloc, at.behind(), self.depth_left)?;
@@ -195,7 +195,7 @@ impl<'a, B: Fn(Global, Rest<'a>, usize) -> Result<(Stmts, Rest<'a>), ParseError>
     /// From `print` on.
     #[tactic(auto, unfolding(lois_descent::specs::Descent::printing))]
     fn printing(&self, at: Rest<'a>) -> Result<(Stmt, Rest<'a>), ParseError>
-        ensures read { ResultIs (λ x. (stmt_tree x.0, ahead x.1)) result (descent.printing (ahead at.entry)) }
+        ensures read { GivesStmt descent.printing at.entry result }
         ensures shorter { ConsumesTokens at.entry result }
     {
         let (name, close) = at.behind().name(self.alloc)?;
