@@ -314,7 +314,8 @@ unfoldable mutual
 
   pub cond_of : ℕ → Read CondD
   cond_of zero s = condition_at zero (expression zero closed closed) closed closed s
-  cond_of (suc depth_left) s = condition_at (suc depth_left) (expression (suc depth_left) (expr_of depth_left) (cond_of depth_left)) (expr_of depth_left) (cond_of depth_left) s
+  cond_of (suc depth_left) s =
+      condition_at (suc depth_left) (expression (suc depth_left) (expr_of depth_left) (cond_of depth_left)) (expr_of depth_left) (cond_of depth_left) s
 
 -- what stands in one bracket more
 unfoldable pub inner_expr : ℕ → Read ExprD

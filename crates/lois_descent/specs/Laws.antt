@@ -25,7 +25,8 @@ OneRefusal = (tokens : List PlacedToken) (this that : Refusal) → Refused token
 
 -- a text that spells a script within the limits isn't refused
 abbrev pub NeverBoth : Type 0
-NeverBoth = (text : List ℕ) (tokens : List Token) (s : ScriptD) (refusal : Refusal) → HasTokens text tokens → Spells text s → Refused (tokens_in text tokens) refusal → ⊥
+NeverBoth = (text : List ℕ) (tokens : List Token) (s : ScriptD) (refusal : Refusal) →
+    HasTokens text tokens → Spells text s → Refused (tokens_in text tokens) refusal → ⊥
 
 -- What the descent gives for all the tokens: a script that they spell, within the limits; or how they are refused.
 abbrev pub IsCorrectResult : List PlacedToken → Result ScriptD ParseError → Type 0

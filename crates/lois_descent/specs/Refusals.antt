@@ -25,9 +25,11 @@ pub data Limit : Type 0 where
 -- Token k goes over the limit: it opens a bracket while 64 are open; or it is the comma behind the eighth part of a
 -- tuple; or it is the number of turns, over 1,000,000. No form but a tuple has eight expressions behind a `(`.
 abbrev pub GoesOver : Limit → List PlacedToken → ℕ → Type 0
-GoesOver nesting tokens k = (t : PlacedToken) × (after : List PlacedToken) × (drop k tokens ≡ t ∷ after) × IsTrue (opens t) × (open_behind 0 (take k tokens) ≡ 64)
+GoesOver nesting tokens k =
+    (t : PlacedToken) × (after : List PlacedToken) × (drop k tokens ≡ t ∷ after) × IsTrue (opens t) × (open_behind 0 (take k tokens) ≡ 64)
 GoesOver parts tokens k =
-    (j : ℕ) × (es : ExprsD) × (width es ≡ 8) × (TakesSymbol (codes "(") ▹ SpellsExprs es) (drop j tokens) (drop k tokens) × TakesSymbol (codes ",") (drop k tokens) (drop (suc k) tokens)
+    (j : ℕ) × (es : ExprsD) × (width es ≡ 8) × (TakesSymbol (codes "(") ▹ SpellsExprs es) (drop j tokens) (drop k tokens)
+    × TakesSymbol (codes ",") (drop k tokens) (drop (suc k) tokens)
 GoesOver turns tokens k =
     (j : ℕ) × (n : ℕ) × (k ≡ suc j) × (1000000 < n) × (TakesWord (codes "turns") ▹ TakesNumber n) (drop j tokens) (drop (suc k) tokens)
 

@@ -1,7 +1,7 @@
 //! Conditions.
 
 ghost use Rattle.std.specs.Prelude.{◌<◌, ◌≤◌, length, IfOk};
-ghost use Rattle.lois_script.specs.View.{binding_tree, cond_tree, conds_list};
+ghost use Rattle.lois_script.specs.View.{binding_tree, cond_tree};
 ghost use Rattle.lois_parser.specs.Ahead.{ahead};
 ghost use Rattle.lois_descent.specs.Descent as descent;
 ghost use Rattle.lois_descent.specs.Descent.{inner_expr, inner_cond, expr_here, cond_here, base_here, unit_here, conjunction_here};

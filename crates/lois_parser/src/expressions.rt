@@ -1,12 +1,11 @@
 //! Expressions.
 
 ghost use Rattle.std.specs.Prelude.{◌<◌, ◌≤◌, length, IfOk};
-ghost use Rattle.lois_script.specs.View.{tree, binding_tree, exprs_list, bindings_list};
+ghost use Rattle.lois_script.specs.View.{tree, binding_tree};
 ghost use Rattle.lois_parser.specs.Ahead.{ahead};
 ghost use Rattle.lois_descent.specs.Descent as descent;
 ghost use Rattle.lois_descent.specs.Descent.{inner_expr, inner_cond, expr_here};
 ghost use Rattle.lois_parser.specs.Nests.{Nests, GivesExpr, GivesCond, ConsumesTokens, GivesBinding, GivesBindings, GivesExprs};
-ghost use Rattle.lois_descent.specs.Reading.{ResultIs};
 
 use crate::grammar::Grammar;
 use crate::rest::{Rest, with};

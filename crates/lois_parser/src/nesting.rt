@@ -1,12 +1,9 @@
 //! Whole forms, each with the readers of what stands inside.
 
 ghost use Rattle.std.specs.Prelude.{◌<◌};
-ghost use Rattle.lois_script.specs.View.{binding_tree};
-ghost use Rattle.lois_parser.specs.Ahead.{ahead};
 ghost use Rattle.lois_descent.specs.Descent as descent;
 ghost use Rattle.lois_descent.specs.Descent.{expr_of, cond_of, block_of};
 ghost use Rattle.lois_parser.specs.Nests.{GivesExpr, GivesCond, GivesStmts, ConsumesTokens, GivesBinding};
-ghost use Rattle.lois_descent.specs.Reading.{ResultIs};
 
 use crate::grammar::Grammar;
 use crate::rest::Rest;

@@ -88,7 +88,10 @@ fn put_block(out: &mut Vec<u8>, body: &Stmts) -> Result<(), NoMemory>
 
 #[cycle(printing_statements)]
 fn put_else(out: &mut Vec<u8>, body: &Stmts) -> Result<(), NoMemory>
-    ensures { OnOk result (Appends out.old.items (else_clause (stmts_of (stmts_list body.now)) (written_stmts (stmts_of (stmts_list body.now)))) out.new.items) }
+    ensures { OnOk result (Appends
+        out.old.items
+        (else_clause (stmts_of (stmts_list body.now)) (written_stmts (stmts_of (stmts_list body.now))))
+        out.new.items) }
 {
     if body.len() == 0 {
         return Ok(());

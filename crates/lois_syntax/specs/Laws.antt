@@ -15,4 +15,5 @@ OneRefusal = (tokens : List PlacedToken) (this that : SyntaxError) → IsSyntaxR
 
 -- a text that spells a script within the limits isn't refused
 abbrev pub NeverBoth : Type 0
-NeverBoth = (text : List ℕ) (tokens : List Token) (s : ScriptD) (error : SyntaxError) → HasTokens text tokens → Spells text s → IsSyntaxRefusal (tokens_in text tokens) error → ⊥
+NeverBoth = (text : List ℕ) (tokens : List Token) (s : ScriptD) (error : SyntaxError) →
+    HasTokens text tokens → Spells text s → IsSyntaxRefusal (tokens_in text tokens) error → ⊥
