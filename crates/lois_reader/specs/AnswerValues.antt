@@ -133,7 +133,18 @@ trace_at s = do
   choice ← choice_at (length scope.0.names) failure.1
   elements ← elements_at scope.0 (length choice.0) choice.1
   rest ← fixed_end (codes "end\n") elements.1
-  Ok (record { order = scope.0.ordered; parameters = scope.0.names; line = failure.0.0; column = failure.0.1.0; kind = failure.0.1.1; sample = choice.0; elements = elements.0 }, rest)
+  Ok (
+    record {
+      order = scope.0.ordered;
+      parameters = scope.0.names;
+      line = failure.0.0;
+      column = failure.0.1.0;
+      kind = failure.0.1.1;
+      sample = choice.0;
+      elements = elements.0;
+    },
+    rest,
+  )
 
 unfoldable pub results_text_at : List ℕ → Result Results ℕ
 results_text_at s = fixed_end (codes "lois results 1") s >>= results_at >>= λ x. Ok x.0

@@ -42,7 +42,8 @@ is_among words w = list_any (bytes_eq w) words
 abbrev pub is_unreserved : List ℕ → Bool
 is_unreserved w = nat_le (length w) 64 && not (is_among reserved w)
 
--- A scope has the parameters, and whether the atoms are ordered. An operand inside n levels: a word is a parameter (so it is free), and a level is no parameter's and below n.
+-- A scope has the parameters, and whether the atoms are ordered. An operand inside n levels: a word is a parameter (so it
+-- is free), and a level is no parameter's and below n.
 abbrev pub operand_piece : Scope → ℕ → Operand → Piece
 operand_piece s n (word w) = ruled (is_among s.names w) w
 operand_piece s n (level ds) = ruled (nat_le (length s.names) (value ds) && nat_lt (value ds) n) (codes "$" ++ ds)

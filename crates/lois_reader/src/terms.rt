@@ -1,6 +1,6 @@
 //! What terms stand for.
 
-ghost use Rattle.std.specs.Prelude.{◌≡◌, ◌+◌, ◌<◌, ◌≤◌, ◌^◌, [], ◌∷◌, length, IfOk, IsTrue, suc};
+ghost use Rattle.std.specs.Prelude.{◌≡◌, ◌+◌, ◌<◌, ◌≤◌, ◌^◌, length, IfOk, IsTrue, suc};
 ghost use Rattle.lois_base.specs.Tree.{tree, comp_of};
 ghost use Rattle.lois_lexer.specs.Forms.{is_word_form};
 ghost use Rattle.lois_reader.specs.Ends.{term_end};
@@ -295,7 +295,10 @@ fn closed_comps_at<'a>(
     brackets: usize,
     bytes: &'a [u8],
 ) -> Result<(Term, &'a [u8]), ParseError>
-    ensures term { ResultIs (λ x. (tree x.0, x.1.now)) result (closed_comps_at (comp_at (term_end brackets) (term_at brackets scope.now) scope.now levels) bytes.now) }
+    ensures term { ResultIs
+        (λ x. (tree x.0, x.1.now))
+        result
+        (closed_comps_at (comp_at (term_end brackets) (term_at brackets scope.now) scope.now levels) bytes.now) }
     ensures shorter { IfOk result (λ x. length x.1.now < length bytes.now) }
 {
     let (comps, rest) = comps_at(alloc, scope, levels, brackets, bytes)?;

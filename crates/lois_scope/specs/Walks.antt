@@ -70,4 +70,6 @@ pub record Enters (b : BindingD) (c : CondD) (old new : SeenD) : Type 0 where
   pub ordered : new.state.ordered ≡ old.state.ordered
   pub within : IsWithin new.state
   pub scope : IsAlike (scope_of new.state) (with_binder b (entered (scope_of old.state)))
-  pub first : KeepsLeast (λ rule at. BindingBreaks b (scope_of old.state) rule at ⊎ CondBreaks c (with_binder b (entered (scope_of old.state))) rule at) old.kept new.kept
+  pub first : KeepsLeast
+      (λ rule at. BindingBreaks b (scope_of old.state) rule at ⊎ CondBreaks c (with_binder b (entered (scope_of old.state))) rule at)
+      old.kept new.kept

@@ -132,7 +132,9 @@ pub fn check(alloc: Global, script: Script) -> Result<Scoped, ScopeError>
 }
 
 fn first_break(alloc: Global, script: &Script) -> Result<Option<Break>, NoMemory>
-    ensures first { IfOk result (λ found. MatchOption found (IsWellScoped (script_tree script.now)) (λ b. BreaksFirst (script_tree script.now) (rule_view b.rule) b.pos.offset)) }
+    ensures first { IfOk result (λ found. MatchOption found
+        (IsWellScoped (script_tree script.now))
+        (λ b. BreaksFirst (script_tree script.now) (rule_view b.rule) b.pos.offset)) }
 {
     let mut walk = Walk {
         names: Names::new(alloc),

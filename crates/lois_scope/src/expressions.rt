@@ -50,7 +50,10 @@ impl<'a> Walk<'a> {
     // Each binder is in scope at the names and in the sets of those after it.
     #[cycle(expressions)]
     fn bindings(&mut self, bindings: &'a Bindings) -> Result<(), NoMemory>
-        ensures walked { OnOk result (AdvancesScope (BindingsBreak (bindings_of (bindings_list bindings.now))) (bound (bindings_of (bindings_list bindings.now))) (seen self.old) (seen self.new)) }
+        ensures walked { OnOk result (AdvancesScope
+            (BindingsBreak (bindings_of (bindings_list bindings.now)))
+            (bound (bindings_of (bindings_list bindings.now)))
+            (seen self.old) (seen self.new)) }
     {
         for binding in bindings.as_slice() {
             self.binding(binding)?;

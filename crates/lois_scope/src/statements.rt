@@ -14,7 +14,10 @@ use lois_script::{Binding, Cond, Params, Stmt, Stmts};
 impl<'a> Walk<'a> {
     /// Each parameter is in scope at the names of those after it.
     pub(crate) fn parameters(&mut self, parameters: &'a Params) -> Result<(), NoMemory>
-        ensures walked { OnOk result (AdvancesScope (ParametersBreak (params_list parameters.now)) (with_parameters (params_list parameters.now)) (seen self.old) (seen self.new)) }
+        ensures walked { OnOk result (AdvancesScope
+            (ParametersBreak (params_list parameters.now))
+            (with_parameters (params_list parameters.now))
+            (seen self.old) (seen self.new)) }
     {
         for parameter in parameters.as_slice() {
             self.declared(&parameter.name, parameter.pos);
@@ -40,7 +43,10 @@ impl<'a> Walk<'a> {
     #[cycle(statements)]
     fn statement(&mut self, statement: &'a Stmt) -> Result<(), NoMemory>
         requires within { IsWithin (state_of self.old) }
-        ensures walked { OnOk result (AdvancesScope (StmtBreaks (stmt_tree statement.now)) (scope_behind (stmt_tree statement.now)) (seen self.old) (seen self.new)) }
+        ensures walked { OnOk result (AdvancesScope
+            (StmtBreaks (stmt_tree statement.now))
+            (scope_behind (stmt_tree statement.now))
+            (seen self.old) (seen self.new)) }
     {
         match statement {
             Stmt::Let(pos, name, value) => {
