@@ -1,12 +1,9 @@
 -- The members of lists of comprehensions, as these lists are put together.
-use Rattle.std.proofs.Common.{◌≡◌, ℕ, Bool, ◌⊎◌, inl, inr, ◌↔◌, List, [], ◌∷◌, ◌++◌, length, sym, subst, arith}
-use Rattle.std.proofs.lemmas.Bool.{false≢true}
+use Rattle.std.proofs.Common.{◌≡◌, max, Bool, ◌⊎◌, inl, inr, ◌↔◌, List, [], ◌∷◌, ◌++◌, sym, subst, arith}
 use Rattle.lois_base.specs.Atom.{Atom}
-use Rattle.lois_base.specs.Data.{TermD, coll, CompD, comp, CompsD, comps_of}
-use Rattle.lois_base.specs.Fits.{ItemsFit}
+use Rattle.lois_base.specs.Data.{coll, CompD, CompsD, comps_of, depth_of_comps}
 use Rattle.lois_base.specs.Validity.{AdmitsItems, ItemsHaveBoundedWidths}
 use Rattle.lois_base.specs.Values.{PointValue, point, IsIn}
-use Rattle.lois_base.specs.declared.guards.Lit.{Lit}
 use Rattle.lois_base.proofs.Lists.{items_fit_append}
 use Rattle.lois_relate.proofs.Sets.{some_is_member}
 use Rattle.lois_algebra.specs.Gathered.{IsAmong, IsCompMember, IsPut}
@@ -43,6 +40,10 @@ pub widths-append : (ks ls : List CompD) → ItemsHaveBoundedWidths (comps_of ks
 widths-append [] ls h g = g
 widths-append (k ∷ ks) ls h g = (h.0, widths-append ks ls h.1 g)
 
+pub depth_append : (ks ls : List CompD) → depth_of_comps (ks ++ ls) ≡ max (depth_of_comps ks) (depth_of_comps ls)
+depth_append [] ls = omega arith
+depth_append (k ∷ ks) ls = omega (arith, depth_append ks ls)
+
 -- ---- one more comprehension
 pub is_put_pushed : (k : CompD) (ks after : List CompD) → after ≡ ks ++ k ∷ [] → IsPut k (comps_of ks) (comps_of after)
 is_put_pushed k ks after e = subst (λ z. IsPut k (comps_of ks) (comps_of z)) (sym e) (record {
@@ -50,4 +51,5 @@ is_put_pushed k ks after e = subst (λ z. IsPut k (comps_of ks) (comps_of z)) (s
   levels = λ n h g. items_fit_append n ks (k ∷ []) h (g, tt);
   operators = λ o h g. admits_items-append o ks (k ∷ []) h (g, tt);
   widths = λ h g. widths-append ks (k ∷ []) h (g, tt);
+  depth = omega (arith, depth_append ks (k ∷ []));
 })
