@@ -3,12 +3,10 @@ use Rattle.std.proofs.Common.{ℕ, ◌+◌, ◌-◌, ◌<◌, ◌≤◌, List, [
 use Rattle.std.specs.Prelude.{IsTrue}
 use Rattle.lois_lexer.specs.declared.TokenKind.{TokenKind}
 use Rattle.lois_lexer.specs.declared.Token.{Token}
-use Rattle.lois_lexer.specs.declared.LexError.{LexError}
 use Rattle.lois_lexer.specs.Forms.{is_within_limits}
 use Rattle.lois_lexer.specs.Tokens.{Longest, IsTrivia, IsCut}
 use Rattle.lois_lexer.specs.Tokens.IsTrivia.{one_blank, one_comment}
 use Rattle.lois_lexer.specs.Tokens.IsCut.{past_gap, past_token}
-use Rattle.lois_lexer.specs.Refusals.{IsWrongAt, IsLexicalRefusal}
 use Rattle.lois_lexer.proofs.Forms.{form_nonempty}
 use Rattle.lois_lexer.proofs.Slices.{rest_is}
 

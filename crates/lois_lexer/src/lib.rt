@@ -11,8 +11,8 @@ ghost use Rattle.std.specs.Prelude.{◌≡◌, ◌≤◌, length};
 pub use lexing::{lex, one_reading, written_is_read};
 pub use places::place_of;
 use std::alloc::AllocFailed;
-use std::error::Error;
 use std::fmt;
+use thiserror::Error;
 pub use words::{RESERVED, is_reserved};
 
 /// What a token is. A `Word` is one of the reserved words, and a `Name` has their form without being one.
@@ -54,7 +54,7 @@ pub struct Place {
 }
 
 /// Why a text has no tokens, with the offset of the first byte at fault.
-#[derive(Clone, Copy, Debug, PartialEq, Eq)]
+#[derive(Clone, Copy, Debug, PartialEq, Eq, Error)]
 pub enum LexError {
     /// A byte begins no token, blank or comment, or may not stand in its comment.
     BadByte(usize),
@@ -104,8 +104,6 @@ impl fmt::Display for LexError {
         f.write_str(self.text())
     }
 }
-
-impl Error for LexError {}
 
 impl<T: Drop> From<AllocFailed<T>> for LexError {
     ghost from_gives = { λ _ e. e ≡ NoMemory };
