@@ -5,6 +5,7 @@ use Rattle.lois_base.specs.Data.{coll, CompD, CompsD, comps_of, depth_of_comps}
 use Rattle.lois_base.specs.Validity.{AdmitsItems, ItemsHaveBoundedWidths}
 use Rattle.lois_base.specs.Values.{PointValue, point, IsIn}
 use Rattle.lois_base.proofs.Lists.{items_fit_append}
+use Rattle.lois_terms.proofs.Heights.{depth_append}
 use Rattle.lois_relate.proofs.Sets.{some_is_member}
 use Rattle.lois_algebra.specs.Gathered.{IsAmong, IsCompMember, IsPut}
 
@@ -39,10 +40,6 @@ admits_items-append o (k ∷ ks) ls h g = (h.0, admits_items-append o ks ls h.1 
 pub widths-append : (ks ls : List CompD) → ItemsHaveBoundedWidths (comps_of ks) → ItemsHaveBoundedWidths (comps_of ls) → ItemsHaveBoundedWidths (comps_of (ks ++ ls))
 widths-append [] ls h g = g
 widths-append (k ∷ ks) ls h g = (h.0, widths-append ks ls h.1 g)
-
-pub depth_append : (ks ls : List CompD) → depth_of_comps (ks ++ ls) ≡ max (depth_of_comps ks) (depth_of_comps ls)
-depth_append [] ls = omega arith
-depth_append (k ∷ ks) ls = omega (arith, depth_append ks ls)
 
 -- ---- one more comprehension
 pub is_put_pushed : (k : CompD) (ks after : List CompD) → after ≡ ks ++ k ∷ [] → IsPut k (comps_of ks) (comps_of after)

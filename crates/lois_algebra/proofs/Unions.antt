@@ -11,9 +11,10 @@ use Rattle.lois_base.proofs.Members.{same_as_atom}
 use Rattle.lois_base.proofs.Order.{equal_refl}
 use Rattle.lois_base.proofs.Lists.{items_fit_append}
 use Rattle.lois_base.proofs.Choices.{atom_at_end}
+use Rattle.lois_terms.proofs.Heights.{depth_append}
 use Rattle.lois_algebra.specs.Gathered.{IsAmong}
 use Rattle.lois_algebra.specs.Sets.{IsUnion, HasAllAtoms, IsAtom}
-use Rattle.lois_algebra.proofs.Among.{among_in, among_append, admits_items-append, depth_append, widths-append}
+use Rattle.lois_algebra.proofs.Among.{among_in, among_append, admits_items-append, widths-append}
 
 module _ (s t r : TermD) (ks ls all : List CompD) (left : s ≡ coll (comps_of ks)) (right : t ≡ coll (comps_of ls)) (joined : all ≡ ks ++ ls) (is : r ≡ coll (comps_of all)) where
   whole_is : r ≡ coll (comps_of (ks ++ ls))
