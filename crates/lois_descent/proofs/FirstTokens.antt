@@ -1,5 +1,5 @@
 -- The first token of a part of the grammar tells its form.
-use Rattle.std.proofs.Common.{◌≡◌, ℕ, Bool, true, false, cond as pick, ◌&&◌, ◌||◌, List, [], ◌∷◌, codes, refl, sym, ap, ◌∙◌, subst}
+use Rattle.std.proofs.Common.{◌≡◌, ℕ, Bool, true, false, ◌&&◌, List, [], ◌∷◌, refl, sym, ap, ◌∙◌, subst}
 use Rattle.std.specs.Str.{bytes_eq}
 use Rattle.std.proofs.lemmas.Bool.{false≢true}
 use Rattle.lois_lexer.specs.declared.TokenKind.{TokenKind}
@@ -8,6 +8,11 @@ use Rattle.lois_script.specs.declared.syntax.Operation.{Operation}
 use Rattle.lois_script.specs.declared.syntax.Operation.TheVariants.{Union, Inter, Minus, Flatten, Reach, Product, Complement, Minimise}
 use Rattle.lois_script.specs.Tree.{ExprD, atoms, var, tag, tuple, listed, each, part, apply, StmtD, «let», assign, add, for, if, while, assert, print}
 use Rattle.lois_script.specs.Grammar.{PlacedToken, operation_word, SpellsExpr, SpellsStmt}
+use Rattle.lois_descent.specs.Lexemes.{lexeme_from}
+use Rattle.lois_descent.specs.declared.lexemes.Lexeme.{Lexeme}
+use Rattle.lois_descent.specs.declared.lexemes.Lexeme.TheVariants as lexemes
+use Rattle.lois_descent.specs.declared.lexemes.Keyword.TheVariants as words
+use Rattle.lois_descent.specs.declared.lexemes.Punctuator.TheVariants as punctuators
 use Rattle.lois_descent.proofs.Lengths.{Tokens}
 
 abbrev is_symbol_kind : TokenKind → Bool
@@ -41,36 +46,38 @@ never_avoids p t b m e h a =
 pub one_token : (t u : PlacedToken) (b m n : Tokens) → b ≡ t ∷ m → b ≡ u ∷ n → (t ≡ u) × (m ≡ n)
 one_token t u b m n e f = (cc, cc)
 
-abbrev word_class : List ℕ → ℕ
-word_class w =
-    pick (bytes_eq w (codes "atoms")) 0 (
-    pick (bytes_eq w (codes "part")) 5 (
-    pick (bytes_eq w (codes "union") || bytes_eq w (codes "inter") || bytes_eq w (codes "minus") || bytes_eq w (codes "flatten") || bytes_eq w (codes "reach") || bytes_eq w (codes "product") || bytes_eq w (codes "complement") || bytes_eq w (codes "minimise")) 6 (
-    pick (bytes_eq w (codes "true")) 8 (
-    pick (bytes_eq w (codes "false")) 9 (
-    pick (bytes_eq w (codes "empty")) 10 (
-    pick (bytes_eq w (codes "not")) 11 (
-    pick (bytes_eq w (codes "exists")) 12 (
-    pick (bytes_eq w (codes "forall")) 13 (
-    pick (bytes_eq w (codes "let")) 14 (
-    pick (bytes_eq w (codes "add")) 15 (
-    pick (bytes_eq w (codes "for")) 16 (
-    pick (bytes_eq w (codes "if")) 17 (
-    pick (bytes_eq w (codes "while")) 18 (
-    pick (bytes_eq w (codes "assert")) 19 (
-    pick (bytes_eq w (codes "print")) 20 21)))))))))))))))
+abbrev keyword_class : Lexeme → ℕ
+keyword_class (lexemes.Word words.Atoms) = 0
+keyword_class (lexemes.Word words.Part) = 5
+keyword_class (lexemes.Word (words.Apply op)) = 6
+keyword_class (lexemes.Word words.True) = 8
+keyword_class (lexemes.Word words.False) = 9
+keyword_class (lexemes.Word words.Empty) = 10
+keyword_class (lexemes.Word words.Not) = 11
+keyword_class (lexemes.Word words.Exists) = 12
+keyword_class (lexemes.Word words.Forall) = 13
+keyword_class (lexemes.Word words.Let) = 14
+keyword_class (lexemes.Word words.Add) = 15
+keyword_class (lexemes.Word words.For) = 16
+keyword_class (lexemes.Word words.If) = 17
+keyword_class (lexemes.Word words.While) = 18
+keyword_class (lexemes.Word words.Assert) = 19
+keyword_class (lexemes.Word words.Print) = 20
+keyword_class _ = 21
 
-abbrev symbol_class : List ℕ → ℕ
-symbol_class s =
-    pick (bytes_eq s (codes "(")) 3 (pick (bytes_eq s (codes "{")) 4 (pick (bytes_eq s (codes "[")) 7 21))
+abbrev symbol_class : Lexeme → ℕ
+symbol_class (lexemes.Symbol punctuators.OpenRound) = 3
+symbol_class (lexemes.Symbol punctuators.OpenCurly) = 4
+symbol_class (lexemes.Symbol punctuators.OpenSquare) = 7
+symbol_class _ = 21
 
 -- a number for each token that begins an expression (up to 6), a condition (up to 13) or a statement
 abbrev pub token_class : TokenKind → List ℕ → ℕ
 token_class Name bytes = 1
 token_class Tag bytes = 2
 token_class Number bytes = 21
-token_class Word bytes = word_class bytes
-token_class Symbol bytes = symbol_class bytes
+token_class Word bytes = keyword_class (lexeme_from Word bytes)
+token_class Symbol bytes = symbol_class (lexeme_from Symbol bytes)
 
 abbrev pub first_class : Tokens → ℕ
 first_class [] = 21

@@ -1,3 +1,4 @@
+pub mod Keywords
 pub mod Language
 pub mod Descends
 pub mod DescendsExpressions

@@ -1,11 +1,11 @@
 //! What a token is to the grammar.
 
 ghost use Rattle.std.specs.Prelude.{◌≡◌};
-ghost use Rattle.std.specs.List.{find};
+ghost use Rattle.std.specs.List.{find, position};
 ghost use Rattle.std.specs.Str.{bytes_eq};
 ghost use Rattle.lois_descent.specs.Lexemes.{word_of, punctuator_text, as_tag, lexeme_from, accepts, relation_of, unit_form, expr_form, base_form, stmt_form, connective, optional_start, has_two_operands};
 
-use lois_lexer::TokenKind;
+use lois_lexer::{RESERVED, TokenKind};
 use lois_script::Operation;
 
 /// A token as the grammar sees it.
@@ -72,6 +72,7 @@ pub enum Punctuator {
     Below,
 }
 
+/// What the reserved words mean, in the order of `RESERVED`. Its last two, `case` and `end`, have no meaning in scripts.
 pub const KEYWORDS: [Keyword; 34] = [
     Keyword::Atoms,
     Keyword::Equality,
@@ -98,11 +99,11 @@ pub const KEYWORDS: [Keyword; 34] = [
     Keyword::Forall,
     Keyword::Subset,
     Keyword::Empty,
-    Keyword::Part,
     Keyword::Apply(Operation::Union),
     Keyword::Apply(Operation::Inter),
     Keyword::Apply(Operation::Minus),
     Keyword::Apply(Operation::Flatten),
+    Keyword::Part,
     Keyword::Apply(Operation::Reach),
     Keyword::Apply(Operation::Product),
     Keyword::Apply(Operation::Complement),
@@ -125,50 +126,20 @@ pub const PUNCTUATORS: [Punctuator; 13] = [
     Punctuator::Below,
 ];
 
-impl Keyword {
-    /// How the word is spelled.
-    pub fn spelling(self) -> &'static [u8]
-        ensures { result.now ≡ word_of self }
-    {
-        match self {
-            Keyword::Atoms => b"atoms",
-            Keyword::Equality => b"equality",
-            Keyword::Order => b"order",
-            Keyword::Parameter => b"parameter",
-            Keyword::Let => b"let",
-            Keyword::Add => b"add",
-            Keyword::To => b"to",
-            Keyword::For => b"for",
-            Keyword::In => b"in",
-            Keyword::Where => b"where",
-            Keyword::If => b"if",
-            Keyword::Else => b"else",
-            Keyword::While => b"while",
-            Keyword::Turns => b"turns",
-            Keyword::Assert => b"assert",
-            Keyword::Print => b"print",
-            Keyword::True => b"true",
-            Keyword::False => b"false",
-            Keyword::Not => b"not",
-            Keyword::And => b"and",
-            Keyword::Or => b"or",
-            Keyword::Exists => b"exists",
-            Keyword::Forall => b"forall",
-            Keyword::Subset => b"subset",
-            Keyword::Empty => b"empty",
-            Keyword::Part => b"part",
-            Keyword::Apply(operation) => operation.word(),
-        }
-    }
+/// Where the word stands in the table.
+fn place_in(table: &[&[u8]], word: &[u8]) -> Option<usize>
+    ensures { result ≡ position (λ entry. bytes_eq entry.now word.now) table.now }
+{
+    table.iter().position(|entry| *entry == word)
+}
 
+impl Keyword {
     /// The word with this spelling, if it has a meaning in scripts.
     pub fn from_bytes(bytes: &[u8]) -> Option<Keyword>
         ensures { result ≡ find (λ k. bytes_eq (word_of k) bytes.now) KEYWORDS }
     {
-        KEYWORDS
-            .iter()
-            .copied()
-            .find(|keyword| keyword.spelling() == bytes)
+        let place = place_in(&RESERVED, bytes)?;
+        KEYWORDS.get(place).copied()
     }
 }
 
