@@ -1,6 +1,6 @@
 # shellcheck shell=bash disable=SC2154
-# Sourced by ./lois, ./unproved, ./install and scripts/prove.sh, once `top` is the checkout's folder. A program is a crate
-# of crates/ with a src/main.rt.
+# Sourced by ./lois, ./unproved, ./install and scripts/prove.sh, once `top` is the checkout's folder. A program is a
+# crate of crates/ with a src/main.rt.
 
 # The kit that the repository is written for, as `rt version` begins.
 kit=rattle-kit-13f

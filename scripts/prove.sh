@@ -1,9 +1,9 @@
 #!/usr/bin/env bash
 # Proves and builds a program of crates/ where it isn't built yet, or is older than its sources: crates/NAME/out/NAME.
 #   scripts/prove.sh NAME
-# `rt ci` does it in a copy of the program's crates, without edits and crates of tests. It keeps beside the kit what it has
-# proved. So the gate (.ci/run) doesn't prove that again, nor this script what the gate or an interrupted run has proved.
-# Standard error has a line for each crate that is done, or one line that is rewritten where it is a terminal.
+# `rt ci` does it in a copy of the program's crates, without edits and crates of tests. It keeps beside the kit what it
+# has proved. So the gate (.ci/run) doesn't prove that again, nor this script what the gate or an interrupted run has
+# proved. Standard error has a line for each crate that is done, or one line that is rewritten where it is a terminal.
 set -u
 top=$(dirname -- "$(dirname -- "$(realpath -- "${BASH_SOURCE[0]}")")")
 . "$top/scripts/programs.sh"
@@ -17,7 +17,7 @@ make_out "$out"
 
 work=$(mktemp -d) || exit 70
 job=
-trap '[ -z "$job" ] || kill "$job" 2>/dev/null; rm -rf "$work"' EXIT
+trap '[ -z "$job" ] || { kill "$job"; wait "$job"; } 2>/dev/null; rm -rf "$work"' EXIT
 trap 'exit 130' INT
 trap 'exit 143' TERM HUP
 
@@ -71,7 +71,7 @@ wait $teller
 cp "$work/log" "$out/build.log"
 if [ $status -ne 0 ] || [ ! -x "$copy/crates/$name/out/$name" ]; then
   grep -a 'NOT PROVED\|^rt: FAILED' "$work/log" >&2
-  fail "the program could not be built; $out/build.log says why"
+  fail "the program could not be built: rt ci ended with status $status, and $out/build.log has what it said"
 fi
 # by another name first, so that a program that runs isn't written over
 if ! { cp "$copy/crates/$name/out/$name" "$out/$name.new" && touch -r "$work/begun" "$out/$name.new" &&

@@ -1,6 +1,7 @@
 #!/usr/bin/env bash
-# Runs the tests of the built program, crates/lois/out/lois, or of the one that LOIS names (LOIS=path tests/all.sh). It builds
-# nothing. A failure shows the script, the output and what was expected. The last line is `N passed, M failed` of all.
+# Runs the tests of the built program, crates/lois/out/lois, or of the one that LOIS names (LOIS=path tests/all.sh). It
+# builds nothing. A failure shows the script, the output and what was expected. The last line is `N passed, M failed`
+# of all.
 #   tests/all.sh [SEED]
 # SEED makes the random scripts and texts. Where it isn't given it is the day, so each day has others.
 set -u

@@ -1,10 +1,11 @@
 #!/usr/bin/env bash
-# Runs the scripts of examples/ and those that stand in docs/LANGUAGE.md, and compares what the program answers with what is
-# written there: for examples/ byte for byte, for the manual the lines behind `>`, each as a whole and in their order.
-# What is asked of an example's answer stands beside it, and so does what becomes of a register automaton.
-# It runs the built program, or the one that LOIS names (LOIS=path tests/examples.sh), and ends with `N passed, M failed`.
-# A change of the program may spell the same values in another way. Then `./lois run < NAME.lois > NAME.out` makes the new text,
-# which tests/reference/ judges: `cd tests && python3 -m reference judge ../examples/NAME.lois ../examples/NAME.out 0 --normal`.
+# Runs the scripts of examples/ and those that stand in docs/LANGUAGE.md, and compares what the program answers with
+# what is written there: for examples/ byte for byte, for the manual the lines behind `>`, each as a whole and in their
+# order. What is asked of an example's answer stands beside it, and so does what becomes of a register automaton. It
+# runs the built program, or the one that LOIS names (LOIS=path tests/examples.sh), and ends with `N passed, M failed`.
+# A change of the program may spell the same values in another way. Then `./lois run < NAME.lois > NAME.out` makes the
+# new text, which tests/reference/ judges: `cd tests && python3 -m reference judge ../examples/NAME.lois
+# ../examples/NAME.out 0 --normal`.
 set -u
 cd "$(dirname "${BASH_SOURCE[0]}")/.." || exit 70
 . tests/built_program.sh
@@ -31,7 +32,7 @@ try_example() {
   local script=$1 answer=${1%.lois}.out wanted faults=0
   wanted=$(sed -n 's/^# Ends with status \([0-9]\)\.$/\1/p' "$script")
   "$lois" run <"$script" >"$work/answer"
-  [ $? -eq "${wanted:-0}" ] || complain "$script doesn't end with status ${wanted:-0}" "$script" "$work/answer" "$answer"
+  [ $? -eq "${wanted:-0}" ] || complain "$script: not status ${wanted:-0}" "$script" "$work/answer" "$answer"
   cmp -s "$work/answer" "$answer" || complain "$script doesn't answer $answer" "$script" "$work/answer" "$answer"
   "$lois" reread <"$answer" >"$work/again" || complain "$answer is refused by reread" "$answer" "$work/again" "$answer"
   cmp -s "$work/again" "$answer" || complain "$answer is changed by reread" "$answer" "$work/again" "$answer"
@@ -53,7 +54,7 @@ try_words() {
   local words=$1 text=$2 given=$3 faults=0
   # shellcheck disable=SC2086
   "$lois" $words <"$text" >"$work/answer"
-  [ $? -eq "$(status_of "$(cat "$given")")" ] || complain "$words ends with another status" "$text" "$work/answer" "$given"
+  [ $? -eq "$(status_of "$(cat "$given")")" ] || complain "$words: another status" "$text" "$work/answer" "$given"
   cmp -s "$work/answer" "$given" || complain "$words of $text doesn't give $given" "$text" "$work/answer" "$given"
   count
 }
@@ -84,8 +85,8 @@ try_shown() {
   # the command may be several words
   # shellcheck disable=SC2086
   "$lois" $command <"$work/script" >"$work/answer"
-  [ $? -eq "$(status_of "$3")" ] || complain "the manual's script ends with another status" "$work"/{script,answer,shown}
-  stand_in "$work/shown" "$work/answer" || complain "the manual's script has another answer" "$work"/{script,answer,shown}
+  [ $? -eq "$(status_of "$3")" ] || complain "the manual's script: another status" "$work"/{script,answer,shown}
+  stand_in "$work/shown" "$work/answer" || complain "the manual's script: another answer" "$work"/{script,answer,shown}
   count
 }
 

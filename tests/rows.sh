@@ -1,17 +1,17 @@
 #!/usr/bin/env bash
-# Runs the worked rows of tests/rows/ and compares what the program answers with what is written there. Answers that may be
-# spelled in several ways are judged by tests/reference/, where python3 is there.
-# It runs the built program, or the one that LOIS names (LOIS=path tests/rows.sh), and ends with `N passed, M failed`. A row is
+# Runs the worked rows of tests/rows/ and compares what the program answers with what is written there. Answers that
+# may be spelled in several ways are judged by tests/reference/, where python3 is there. It runs the built program, or
+# the one that LOIS names (LOIS=path tests/rows.sh), and ends with `N passed, M failed`. A row is
 #   === what it shows
 #   $ the program's words
 #   its input
 #   --- the status, and what is asked of the answer
 #   a text
-# with one of: nothing, where the status is all; `exactly`, where the answer is the text; `begins`, where it begins with it;
-# `same values`, where the text is a right answer, and the answer is too; `failed at` a place with a cause, which the answer has
-# as a line. `each cut: REFUSAL`: each first part of the input that isn't all of it is refused at its end. `each cut but N..`:
-# each is refused somewhere but those of N bytes, which end with 0. In an input, `*N 'TEXT'` on a line is TEXT N times with no
-# newline, and a backslash at the end of a line stands for no newline.
+# with one of: nothing, where the status is all; `exactly`, where the answer is the text; `begins`, where it begins
+# with it; `same values`, where the text is a right answer, and the answer is too; `failed at` a place with a cause,
+# which the answer has as a line. `each cut: REFUSAL`: each first part of the input that isn't all of it is refused at
+# its end. `each cut but N..`: each is refused somewhere but those of N bytes, which end with 0. In an input, `*N
+# 'TEXT'` on a line is TEXT N times with no newline, and a backslash at the end of a line stands for no newline.
 set -u
 cd "$(dirname "${BASH_SOURCE[0]}")/.." || exit 70
 . tests/built_program.sh
@@ -28,7 +28,15 @@ awk -v folder="$work/rows" '
     printf "" >input; printf "" >text
   }
   FNR == 1 { part = "" }
-  /^=== / { close(input); close(text); begin(); print substr($0, 5) >(row "/name"); close(row "/name"); part = "words"; next }
+  /^=== / {
+    close(input)
+    close(text)
+    begin()
+    print substr($0, 5) >(row "/name")
+    close(row "/name")
+    part = "words"
+    next
+  }
   part == "words" { print substr($0, 3) >(row "/words"); close(row "/words"); part = "input"; next }
   /^--- / { print substr($0, 5) >(row "/asked"); close(row "/asked"); part = "text"; next }
   part == "input" && /^\*[0-9]+ \047.*\047$/ {
@@ -57,7 +65,8 @@ complain() {
   show "$row/text"
 }
 
-# Has the reference judge an answer, later on and beside others: the row's folder, the input, the answer and the status.
+# Has the reference judge an answer, later on and beside others: the row's folder, the input, the answer and the
+# status.
 to_judge=()
 judge() {
   to_judge+=("$row" "$1" "$2" "$3")
@@ -77,7 +86,8 @@ try_cuts() {
     case $asked in
       'each cut: '*)
         # (with a byte at its end, which has the place)
-        wanted="refused at $({ cat "$row/cut" && echo .; } | awk 'END { print NR ":" length($0) }'): ${asked#each cut: }"
+        wanted=$({ cat "$row/cut" && echo .; } | awk 'END { print NR ":" length($0) }')
+        wanted="refused at $wanted: ${asked#each cut: }"
         [ "$status $(cat "$row/answer")" = "5 $wanted" ] || complain "its first $count bytes: $wanted"
         ;;
       'each cut but '*)
