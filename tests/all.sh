@@ -8,8 +8,7 @@ set -u
 cd "$(dirname "${BASH_SOURCE[0]}")/.." || exit 70
 seed=${1:-$(date -u +%Y%m%d)}
 export LOIS=${LOIS:-crates/lois/out/lois}
-passed=0
-failed=0
+. tests/counts.sh
 
 if [ ! -x "$LOIS" ]; then
   echo "tests/all.sh: $LOIS isn't there: .ci/run and ./lois build it"
@@ -20,22 +19,10 @@ LOIS=$(realpath "$LOIS")
 work=$(mktemp -d)
 trap 'rm -rf "$work"' EXIT
 
-# Runs a suite and adds what its last line counts. One with no such line is a single test, by its status.
 suite() {
-  local name=$1 status last begin=$SECONDS
-  echo "== $name"
-  "${@:2}" 2>&1 | tee "$work/said"
-  status=${PIPESTATUS[0]}
-  last=$(tail -n 1 "$work/said")
-  if [[ $last =~ ^([0-9]+)\ passed,\ ([0-9]+)\ failed ]]; then
-    passed=$((passed + BASH_REMATCH[1]))
-    failed=$((failed + BASH_REMATCH[2]))
-    [ "$status" -eq 0 ] || [ "${BASH_REMATCH[2]}" -ne 0 ] || failed=$((failed + 1))
-  elif [ "$status" -eq 0 ]; then
-    passed=$((passed + 1))
-  else
-    failed=$((failed + 1))
-  fi
+  local begin=$SECONDS
+  echo "== $1"
+  count_suite "$work/said" "${@:2}"
   echo "($((SECONDS - begin)) s)"
 }
 
@@ -56,5 +43,4 @@ suite 'the first calls' tests/first_run.sh
 for name in documents unused twice trusted; do
   [ ! -x "tests/$name.sh" ] || suite "tests/$name.sh" "tests/$name.sh"
 done
-echo "$passed passed, $failed failed"
-[ $failed -eq 0 ]
+tell_counts
