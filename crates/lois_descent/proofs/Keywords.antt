@@ -31,7 +31,8 @@ found_at (k ∷ ks) more bytes =
     found_by k ks (position_or_len (λ word. bytes_eq word bytes) (map word_of ks ++ more)) (find (λ k. bytes_eq (word_of k) bytes) ks) (bytes_eq (word_of k) bytes) (found_at ks more bytes)
 
 keyword_at : (bytes : List ℕ) → entry_at KEYWORDS (position_or_len (λ word. bytes_eq word.now bytes) RESERVED) ≡ find (λ k. bytes_eq (word_of k) bytes) KEYWORDS
-keyword_at bytes = found_at KEYWORDS (codes "case" ∷ codes "end" ∷ []) bytes
+keyword_at bytes =
+    ap (λ words. entry_at KEYWORDS (position_or_len (λ word. bytes_eq word bytes) words)) in_order ∙ found_at KEYWORDS (codes "case" ∷ codes "end" ∷ []) bytes
 
 beyond : (ks : List Keyword) (n : ℕ) → length ks ≤ n → entry_at ks n ≡ None
 beyond [] n h = refl

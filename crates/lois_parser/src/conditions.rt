@@ -10,7 +10,7 @@ ghost use Rattle.lois_descent.specs.Reading.{ResultIs};
 ghost use Rattle.lois_descent.specs.declared.lexemes.UnitForm.TheVariants as units;
 
 use crate::grammar::Grammar;
-use crate::rest::Rest;
+use crate::rest::{Rest, with};
 use crate::trees::{compared, every, exists};
 use lois_descent::lexemes::{BaseForm, Terminal, UnitForm};
 use lois_descent::parse_error::ParseError;
@@ -139,8 +139,8 @@ impl<
         ensures shorter { ConsumesTokens at.entry result }
     {
         let (binding, colon) = self.binding(at.behind())?;
-        let (condition, end) = self.base(colon.pass(Terminal::Colon)?)?;
-        Ok(((binding, condition), end))
+        let (binding, behind) = colon.pass_with(binding, Terminal::Colon)?;
+        with(binding, self.base(behind))
     }
 
     /// A condition that stands by itself anywhere.
@@ -191,8 +191,8 @@ impl<
         ensures shorter { ConsumesTokens at.entry result }
     {
         let (left, middle) = self.expression(at)?;
-        let (relation, behind) = middle.relation()?;
-        let (right, end) = self.expression(behind)?;
+        let ((left, relation), behind) = with(left, middle.relation())?;
+        let ((left, right), end) = with(left, self.expression(behind))?;
         Ok((compared(relation, middle.pos(), left, right), end))
     }
 }

@@ -9,7 +9,7 @@ ghost use Rattle.lois_parser.specs.Nests.{Nests, GivesExpr, GivesCond, ConsumesT
 ghost use Rattle.lois_descent.specs.Reading.{ResultIs};
 
 use crate::grammar::Grammar;
-use crate::rest::Rest;
+use crate::rest::{Rest, with};
 use crate::trees::{each_item, more_operands, one_operand};
 use lois_base::limits::GREATEST_WIDTH;
 use lois_descent::lexemes::{ExprForm, OptionalStart, Terminal, has_two_operands};
@@ -59,7 +59,7 @@ impl<
         if parts.len() == 1 {
             return Err(ParseError::NoScript(close.len()));
         }
-        let end = close.pass(Terminal::CloseRound)?;
+        let (parts, end) = close.pass_with(parts, Terminal::CloseRound)?;
         Ok((Expr::Tuple(at.pos(), parts), end))
     }
 
@@ -93,8 +93,9 @@ impl<
     {
         let inside = at.behind().enter_call(self.depth_left)?;
         let (tuple, comma) = self.inner_expression(inside)?;
-        let (index, close) = comma.pass(Terminal::Comma)?.number()?;
-        let end = close.pass(Terminal::CloseRound)?;
+        let (tuple, behind) = comma.pass_with(tuple, Terminal::Comma)?;
+        let ((tuple, index), close) = with(tuple, behind.number())?;
+        let (tuple, end) = close.pass_with(tuple, Terminal::CloseRound)?;
         let tuple = Box::new(self.alloc, tuple)?;
         Ok((Expr::Part(at.pos(), tuple, index), end))
     }
@@ -138,8 +139,8 @@ impl<
         let (left, comma) = self.inner_expression(inside)?;
         let (left, behind) = comma.pass_with(left, Terminal::Comma)?;
         let operands = one_operand(self.alloc, left)?;
-        let (right, close) = self.inner_expression(behind)?;
-        let (right, end) = close.pass_with(right, Terminal::CloseRound)?;
+        let ((operands, right), close) = with(operands, self.inner_expression(behind))?;
+        let ((operands, right), end) = close.pass_with((operands, right), Terminal::CloseRound)?;
         let operands = more_operands(operands, right)?;
         Ok((Expr::Apply(at.pos(), operation, operands), end))
     }
@@ -172,7 +173,7 @@ impl<
         ensures shorter { IfOk result (λ x. length (ahead x.1) ≤ length (ahead at.entry)) }
     {
         let (items, close) = self.more_expressions(first, at)?;
-        let end = close.pass(Terminal::CloseCurly)?;
+        let (items, end) = close.pass_with(items, Terminal::CloseCurly)?;
         Ok((Expr::Listed(pos, items), end))
     }
 
@@ -202,10 +203,11 @@ impl<
         ensures read { GivesExpr (descent.each pos.offset (inner_expr self.now.depth_left) (inner_cond self.now.depth_left) (tree item)) at.entry result }
         ensures shorter { IfOk result (λ x. length (ahead x.1) ≤ length (ahead at.entry)) }
     {
-        let (first, behind) = self.inner_binding(at.behind())?;
-        let (bindings, behind) = self.more_bindings(first, behind)?;
-        let (condition, close) = self.inner_guard(behind)?;
-        let (condition, end) = close.pass_with(condition, Terminal::CloseCurly)?;
+        let ((item, first), behind) = with(item, self.inner_binding(at.behind()))?;
+        let ((item, bindings), behind) = with(item, self.more_bindings(first, behind))?;
+        let ((front, condition), close) = with((item, bindings), self.inner_guard(behind))?;
+        let ((front, condition), end) = close.pass_with((front, condition), Terminal::CloseCurly)?;
+        let (item, bindings) = front;
         Ok((each_item(self.alloc, pos, item, bindings, condition)?, end))
     }
 

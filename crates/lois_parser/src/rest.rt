@@ -1,6 +1,6 @@
 //! The tokens that are still to come.
 
-ghost use Rattle.std.specs.Prelude.{◌≡◌, ◌<◌, ◌≤◌, true, IfOk, IsTrue, length, drop};
+ghost use Rattle.std.specs.Prelude.{◌≡◌, ◌<◌, ◌≤◌, true, IfOk, IsTrue, length, drop, IfErr, Ok, Err};
 ghost use Rattle.lois_base.specs.Names.{IsName};
 ghost use Rattle.lois_lexer.specs.Tokens.{HasTokens};
 ghost use Rattle.lois_script.specs.Grammar.{decimal};
@@ -248,4 +248,16 @@ fn value(digits: &[u8]) -> u32
         value = 10 * value + u32::from(*digit - b'0');
     }
     value
+}
+
+/// What was read before, and what was read now. So no tree is alive at the question mark of the call.
+pub(crate) fn with<'a, T: Drop, U: Drop>(
+    before: T,
+    read: Result<(U, Rest<'a>), ParseError>,
+) -> Result<((T, U), Rest<'a>), ParseError>
+    ensures ok { IfOk result (λ x. (x.0.0 ≡ before) × (read.entry ≡ Ok (x.0.1, x.1))) }
+    ensures stopped { IfErr result (λ e. read.entry ≡ Err e) }
+{
+    let (now, end) = read?;
+    Ok(((before, now), end))
 }

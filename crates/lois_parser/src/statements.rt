@@ -9,7 +9,7 @@ ghost use Rattle.lois_parser.specs.Nests.{Blocks, GivesCond, GivesStmts, Consume
 ghost use Rattle.lois_descent.specs.Reading.{ResultIs};
 
 use crate::nesting::{binding, condition, expression};
-use crate::rest::Rest;
+use crate::rest::{Rest, with};
 use lois_base::limits::MOST_TURNS;
 use lois_descent::lexemes::{Keyword, Lexeme, OptionalStart, StmtForm, Terminal};
 use lois_descent::parse_error::ParseError;
@@ -33,8 +33,7 @@ impl<'a, B: Fn(Global, Rest<'a>, usize) -> Result<(Stmts, Rest<'a>), ParseError>
         ensures shorter { ConsumesTokens at.entry result }
     {
         let (all, close) = self.while_open(at)?;
-        let end = close.pass(Terminal::CloseCurly)?;
-        Ok((all, end))
+        close.pass_with(all, Terminal::CloseCurly)
     }
 
     /// The statements up to `}`.
@@ -124,8 +123,9 @@ impl<'a, B: Fn(Global, Rest<'a>, usize) -> Result<(Stmts, Rest<'a>), ParseError>
         ensures shorter { ConsumesTokens at.entry result }
     {
         let (value, to) = expression(self.alloc, at.behind(), self.depth_left)?;
-        let (name, close) = to.pass(Terminal::To)?.name(self.alloc)?;
-        let end = close.pass(Terminal::Semicolon)?;
+        let (value, behind) = to.pass_with(value, Terminal::To)?;
+        let ((value, name), close) = with(value, behind.name(self.alloc))?;
+        let ((value, name), end) = close.pass_with((value, name), Terminal::Semicolon)?;
         Ok((Stmt::Add(value, name.pos, name.name), end))
     }
 
@@ -137,8 +137,8 @@ impl<'a, B: Fn(Global, Rest<'a>, usize) -> Result<(Stmts, Rest<'a>), ParseError>
         ensures shorter { ConsumesTokens at.entry result }
     {
         let (binding, behind) = binding(self.alloc, at.behind(), self.depth_left)?;
-        let (condition, open) = self.guard(behind)?;
-        let (((binding, condition), body), end) = self.block_with((binding, condition), open)?;
+        let ((binding, condition), open) = with(binding, self.guard(behind))?;
+        let (((binding, condition), body), end) = with((binding, condition), self.block(open))?;
         Ok((Stmt::For(binding, condition, body), end))
     }
 
@@ -150,8 +150,8 @@ impl<'a, B: Fn(Global, Rest<'a>, usize) -> Result<(Stmts, Rest<'a>), ParseError>
         ensures shorter { ConsumesTokens at.entry result }
     {
         let (condition, open) = condition(self.alloc, at.behind(), self.depth_left)?;
-        let ((condition, body), behind) = self.block_with(condition, open)?;
-        let (((condition, body), other), end) = self.else_with((condition, body), behind)?;
+        let ((condition, body), behind) = with(condition, self.block(open))?;
+        let (((condition, body), other), end) = with((condition, body), self.else_block(behind))?;
         Ok((Stmt::If(condition, body, other), end))
     }
 
@@ -176,8 +176,8 @@ impl<'a, B: Fn(Global, Rest<'a>, usize) -> Result<(Stmts, Rest<'a>), ParseError>
         ensures shorter { ConsumesTokens at.entry result }
     {
         let (condition, word) = condition(self.alloc, at.behind(), self.depth_left)?;
-        let ((condition, turns), open) = turns_with(condition, word)?;
-        let (((condition, turns), body), end) = self.block_with((condition, turns), open)?;
+        let ((condition, turns), open) = with(condition, turns(word))?;
+        let ((condition, body), end) = with(condition, self.block(open))?;
         Ok((Stmt::While(at.pos(), condition, turns, body), end))
     }
 
@@ -215,36 +215,6 @@ impl<'a, B: Fn(Global, Rest<'a>, usize) -> Result<(Stmts, Rest<'a>), ParseError>
         }
     }
 
-    /// `else` and a block, or neither, with what was read before.
-    fn else_with<T: Drop>(
-        &self,
-        before: T,
-        at: Rest<'a>,
-    ) -> Result<((T, Stmts), Rest<'a>), ParseError>
-        requires nested { Blocks self.now.depth_left (B.pre self.now.block) (B.post self.now.block) }
-        ensures same { IfOk result (λ x. x.0.0 ≡ before) }
-        ensures read { ResultIs (λ x. (stmts_list x.0.1, ahead x.1)) result (descent.else_block self.now.depth_left (inner_block self.now.depth_left) (ahead at.entry)) }
-        ensures shorter { IfOk result (λ x. length (ahead x.1) ≤ length (ahead at.entry)) }
-    {
-        let (other, end) = self.else_block(at)?;
-        Ok(((before, other), end))
-    }
-
-    /// A block, from its `{` on, with what was read before.
-    fn block_with<T: Drop>(
-        &self,
-        before: T,
-        at: Rest<'a>,
-    ) -> Result<((T, Stmts), Rest<'a>), ParseError>
-        requires nested { Blocks self.now.depth_left (B.pre self.now.block) (B.post self.now.block) }
-        ensures same { IfOk result (λ x. x.0.0 ≡ before) }
-        ensures read { ResultIs (λ x. (stmts_list x.0.1, ahead x.1)) result (descent.block self.now.depth_left (inner_block self.now.depth_left) (ahead at.entry)) }
-        ensures shorter { ConsumesTokens at.entry result }
-    {
-        let (body, end) = self.block(at)?;
-        Ok(((before, body), end))
-    }
-
     /// A block, from its `{` on.
     #[tactic(auto, unfolding(lois_descent::specs::Descent::block))]
     fn block(&self, at: Rest<'a>) -> Result<(Stmts, Rest<'a>), ParseError>
@@ -267,16 +237,6 @@ impl<'a, B: Fn(Global, Rest<'a>, usize) -> Result<(Stmts, Rest<'a>), ParseError>
     {
         (self.block)(self.alloc, at, self.depth_left - 1)
     }
-}
-
-/// `turns` and their number, with what was read before.
-fn turns_with<T: Drop>(before: T, at: Rest<'_>) -> Result<((T, u32), Rest<'_>), ParseError>
-    ensures same { IfOk result (λ x. x.0.0 ≡ before) }
-    ensures read { ResultIs (λ x. (x.0.1, ahead x.1)) result (descent.turns (ahead at.entry)) }
-    ensures shorter { ConsumesTokens at.entry result }
-{
-    let (turns, end) = turns(at)?;
-    Ok(((before, turns), end))
 }
 
 /// `turns` and their number.

@@ -12,12 +12,12 @@ use crate::walk::Walk;
 use lois_base::NoMemory;
 use lois_script::{Pos, Script};
 use std::alloc::Global;
-use std::error::Error;
 use std::fmt;
 use std::marker::Model;
+use thiserror::Error;
 
 /// Why a script is not well scoped: the first place in the text that breaks a rule, and there the first rule of these.
-#[derive(Debug, Drop)]
+#[derive(Debug, Drop, Error)]
 pub enum ScopeError {
     /// A used name is not in scope.
     Unknown(Pos),
@@ -75,8 +75,6 @@ impl fmt::Display for ScopeError {
         f.write_str(self.text())
     }
 }
-
-impl Error for ScopeError {}
 
 /// A well-scoped script.
 #[derive(Drop)]

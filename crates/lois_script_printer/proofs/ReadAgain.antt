@@ -10,7 +10,7 @@ use Rattle.lois_lexer.specs.Laws.{Written}
 use Rattle.lois_lexer.proofs.OneReading.{tokens_of_cut}
 use Rattle.lois_lexer.proofs.Written.{written_is_read}
 use Rattle.lois_script.specs.Tree.{ExprD, atoms, var, tag, tuple, listed, each, part, apply, ExprsD, no_exprs, expr, BindingD, binding, BindingsD, no_bindings, bind, CondD, truth, falsity, same, differ, below, member, included, empty, not, all, any, exists, every, CondsD, no_conds, cond, StmtD, «let», assign, add, for, if, while, assert, print, StmtsD, no_stmts, stmt, ParamD, ScriptD}
-use Rattle.lois_script.specs.Grammar.{PlacedToken, token_at_place, Spelling, IsWide, AreMany, operation_word, HasArity, Enclosed, is_base, is_unit, is_conjunction, WhereClause, Block, ElseClause, SpellsExpr, SpellsExprs, SpellsListed, SpellsMoreExprs, SpellsBinding, SpellsBindings, SpellsMoreBindings, SpellsCond, SpellsUnits, SpellsMoreUnits, SpellsConjunctions, SpellsMoreConjunctions, SpellsStmt, SpellsStmts, SpellsMoreNames, SpellsParameters, structure_word, SpellsScript}
+use Rattle.lois_script.specs.Grammar.{PlacedToken, token_at_place, Spelling, ◌▹◌, Takes, TakesWord, TakesSymbol, IsWide, AreMany, operation_word, HasArity, Enclosed, is_base, is_unit, is_conjunction, WhereClause, Block, ElseClause, SpellsExpr, SpellsExprs, SpellsListed, SpellsMoreExprs, SpellsBinding, SpellsBindings, SpellsMoreBindings, SpellsCond, SpellsUnits, SpellsMoreUnits, SpellsConjunctions, SpellsMoreConjunctions, SpellsStmt, SpellsStmts, SpellsMoreNames, SpellsParameters, structure_word, SpellsScript}
 use Rattle.lois_script.specs.Limits.{open_after, IsNestedWithin, StmtsAreWithin}
 use Rattle.lois_script_printer.specs.Printed.{followed_by_blank, enclosed, where_clause, block, else_clause, written_expr, written_exprs, written_more_exprs, written_binding, written_bindings, written_more_bindings, written_cond, written_units, written_more_units, written_conjunctions, written_more_conjunctions, written_stmt, written_stmts, written_more_names, written_parameters, written_script, printed_script}
 use Rattle.lois_script_printer.specs.Unplaced.{unplaced_expr, unplaced_exprs, unplaced_binding, unplaced_bindings, unplaced_cond, unplaced_conds, unplaced_stmt, unplaced_stmts, unplaced_param, unplaced, IsSpelled, SpellsUnplaced}
@@ -159,40 +159,43 @@ conjunctions_spelled no_conds b a h s = absurd h
 conjunctions_spelled (cond c rest) b a h s = s
 
 -- a relation: the sign stands between two expressions
-record Sides (kind : TokenKind) (sign : List ℕ) (n : ℕ) (e f : ExprD) (ts : List PlacedToken) (rest : List Written) : Type 0 where
-  one : ExprD
-  other : ExprD
-  place : ℕ
-  before : List PlacedToken
-  behind : List PlacedToken
-  after : List PlacedToken
-  spells_one : SpellsExpr one ts before
-  sign_is : before ≡ record { kind = kind; bytes = sign; place = place } ∷ behind
-  spells_other : SpellsExpr other behind after
-  same_one : unplaced_expr one ≡ unplaced_expr e
-  same_other : unplaced_expr other ≡ unplaced_expr f
-  left : Are after rest
-  nested : IsNestedWithin n after → IsNestedWithin n ts
-
-again_sides : (kind : TokenKind) (sign : List ℕ) (e f : ExprD) → ExprAgain e → ExprAgain f → (n : ℕ) → n ≤ 64 → ((p : ℕ) → open_after n (record { kind = kind; bytes = sign; place = p }) ≡ n) → ExprPrints e n → ExprPrints f n → (ts : List PlacedToken) (rest : List Written) → Are ts (written_expr e (followed_by_blank kind sign (written_expr f rest))) → Sides kind sign n e f ts rest
-again_sides kind sign e f again_e again_f n low flat h k ts rest is =
+again_related : (kind : TokenKind) (sign : List ℕ) (make : ℕ → ExprD → ExprD → CondD) → ((p : ℕ) (e f : ExprD) → unplaced_cond (make p e f) ≡ make 0 (unplaced_expr e) (unplaced_expr f)) →
+    ((p : ℕ) (e f : ExprD) (b a : List PlacedToken) → (SpellsExpr e ▹ Takes kind sign p ▹ SpellsExpr f) b a → SpellsCond (make p e f) b a) →
+    (p : ℕ) (e f : ExprD) → ExprAgain e → ExprAgain f → (n : ℕ) → n ≤ 64 → ((p : ℕ) → open_after n (record { kind = kind; bytes = sign; place = p }) ≡ n) → ExprPrints e n → ExprPrints f n →
+    (ts : List PlacedToken) (rest : List Written) → Are ts (written_expr e (followed_by_blank kind sign (written_expr f rest))) → Again SpellsCond unplaced_cond n (make p e f) ts rest
+again_related kind sign make unplaces spelled p e f again_e again_f n low flat h k ts rest is =
     let a = again_e n low h ts _ is in
     let s = first kind sign a.after _ a.left in
     let b = again_f n low k s.after rest s.left in
     record {
-      one = a.tree;
-      other = b.tree;
-      place = s.place;
-      before = a.after;
-      behind = s.after;
+      tree = make s.place a.tree b.tree;
       after = b.after;
-      spells_one = a.spells;
-      sign_is = s.is;
-      spells_other = b.spells;
-      same_one = a.same_tree;
-      same_other = b.same_tree;
+      spells = spelled s.place a.tree b.tree ts b.after (a.after, a.spells, (s.after, s.is, b.spells));
+      same_tree = unplaces s.place a.tree b.tree ∙ (λ i. make 0 (a.same_tree i) (b.same_tree i)) ∙ sym (unplaces p e f);
       left = b.left;
       nested = λ d. a.nested (nest n n a.after s.after s.is (flat s.place) low (b.nested d));
+    }
+
+abbrev BindingAgain : BindingD → Type 0
+BindingAgain x = (n : ℕ) → n ≤ 64 → BindingPrints x n → (ts : List PlacedToken) (rest : List Written) → Are ts (written_binding x rest) → Again SpellsBinding unplaced_binding n x ts rest
+
+-- a quantifier: its word, a binding, and a condition
+again_quantified : (quantifier : List ℕ) (make : BindingD → CondD → CondD) → ((x : BindingD) (c : CondD) → unplaced_cond (make x c) ≡ make (unplaced_binding x) (unplaced_cond c)) →
+    ((x : BindingD) (c : CondD) (b a : List PlacedToken) → (TakesWord quantifier ▹ SpellsBinding x ▹ TakesSymbol (codes ":") ▹ Enclosed (is_base c) (SpellsCond c)) b a → SpellsCond (make x c) b a) →
+    (x : BindingD) (c : CondD) → BindingAgain x → CondAgain c → (n : ℕ) → n ≤ 64 → ((p : ℕ) → open_after n (record { kind = Word; bytes = quantifier; place = p }) ≡ n) → BindingPrints x n → EnclosedPrints (is_base c) n (CondPrints c) →
+    (ts : List PlacedToken) (rest : List Written) → Are ts (followed_by_blank Word quantifier (written_binding x (followed_by_blank Symbol (codes ":") (enclosed (is_base c) (written_cond c) rest)))) → Again SpellsCond unplaced_cond n (make x c) ts rest
+again_quantified quantifier make unplaces spelled x c again_x again_c n low flat bound h ts rest is =
+    let w = first Word quantifier ts _ is in
+    let b = again_x n low bound w.after _ w.left in
+    let m = first Symbol (codes ":") b.after _ b.left in
+    let a = again_in is_base is_base_un c again_c (is_base c) refl n low h m.after rest m.left in
+    record {
+      tree = make b.tree a.tree;
+      after = a.after;
+      spells = spelled b.tree a.tree ts a.after (w.after, (w.place, w.is), (b.after, b.spells, (m.after, (m.place, m.is), a.spells)));
+      same_tree = unplaces b.tree a.tree ∙ (λ i. make (b.same_tree i) (a.same_tree i)) ∙ sym (unplaces x c);
+      left = a.left;
+      nested = λ k. nest n n ts w.after w.is (flat w.place) low (b.nested (nest n n b.after m.after m.is refl low (a.nested k)));
     }
 
 mutual
@@ -358,55 +361,15 @@ mutual
       let t = first Word (codes "false") ts rest is in
       record { tree = falsity; after = t.after; spells = (t.place, t.is); same_tree = refl; left = t.left; nested = nest n n ts t.after t.is refl low }
   again_cond (same e f) n low (h, k) ts rest is =
-      let s = again_sides Symbol (codes "=") e f (again_expr e) (again_expr f) n low (λ p. refl) h k ts rest is in
-      record {
-        tree = same s.one s.other;
-        after = s.after;
-        spells = (s.before, s.spells_one, (s.behind, (s.place, s.sign_is), s.spells_other));
-        same_tree = λ i. same (s.same_one i) (s.same_other i);
-        left = s.left;
-        nested = s.nested;
-      }
+      again_related Symbol (codes "=") (λ p. same) (λ p e f. refl) (λ p e f b a s. (s.0, s.1, (s.2.0, (p, s.2.1), s.2.2))) 0 e f (again_expr e) (again_expr f) n low (λ p. refl) h k ts rest is
   again_cond (differ e f) n low (h, k) ts rest is =
-      let s = again_sides Symbol (codes "!=") e f (again_expr e) (again_expr f) n low (λ p. refl) h k ts rest is in
-      record {
-        tree = differ s.one s.other;
-        after = s.after;
-        spells = (s.before, s.spells_one, (s.behind, (s.place, s.sign_is), s.spells_other));
-        same_tree = λ i. differ (s.same_one i) (s.same_other i);
-        left = s.left;
-        nested = s.nested;
-      }
+      again_related Symbol (codes "!=") (λ p. differ) (λ p e f. refl) (λ p e f b a s. (s.0, s.1, (s.2.0, (p, s.2.1), s.2.2))) 0 e f (again_expr e) (again_expr f) n low (λ p. refl) h k ts rest is
   again_cond (below p e f) n low (h, k) ts rest is =
-      let s = again_sides Symbol (codes "<") e f (again_expr e) (again_expr f) n low (λ p. refl) h k ts rest is in
-      record {
-        tree = below s.place s.one s.other;
-        after = s.after;
-        spells = (s.before, s.spells_one, (s.behind, s.sign_is, s.spells_other));
-        same_tree = λ i. below 0 (s.same_one i) (s.same_other i);
-        left = s.left;
-        nested = s.nested;
-      }
+      again_related Symbol (codes "<") (below) (λ p e f. refl) (λ p e f b a s. s) p e f (again_expr e) (again_expr f) n low (λ p. refl) h k ts rest is
   again_cond (member e f) n low (h, k) ts rest is =
-      let s = again_sides Word (codes "in") e f (again_expr e) (again_expr f) n low (λ p. refl) h k ts rest is in
-      record {
-        tree = member s.one s.other;
-        after = s.after;
-        spells = (s.before, s.spells_one, (s.behind, (s.place, s.sign_is), s.spells_other));
-        same_tree = λ i. member (s.same_one i) (s.same_other i);
-        left = s.left;
-        nested = s.nested;
-      }
+      again_related Word (codes "in") (λ p. member) (λ p e f. refl) (λ p e f b a s. (s.0, s.1, (s.2.0, (p, s.2.1), s.2.2))) 0 e f (again_expr e) (again_expr f) n low (λ p. refl) h k ts rest is
   again_cond (included e f) n low (h, k) ts rest is =
-      let s = again_sides Word (codes "subset") e f (again_expr e) (again_expr f) n low (λ p. refl) h k ts rest is in
-      record {
-        tree = included s.one s.other;
-        after = s.after;
-        spells = (s.before, s.spells_one, (s.behind, (s.place, s.sign_is), s.spells_other));
-        same_tree = λ i. included (s.same_one i) (s.same_other i);
-        left = s.left;
-        nested = s.nested;
-      }
+      again_related Word (codes "subset") (λ p. included) (λ p e f. refl) (λ p e f b a s. (s.0, s.1, (s.2.0, (p, s.2.1), s.2.2))) 0 e f (again_expr e) (again_expr f) n low (λ p. refl) h k ts rest is
   again_cond (empty e) n low (o, h) ts rest is =
       let w = first Word (codes "empty") ts _ is in
       let t = first Symbol (codes "(") w.after _ w.left in
@@ -454,31 +417,9 @@ mutual
         nested = a.nested;
       }
   again_cond (exists x c) n low (bound, h) ts rest is =
-      let w = first Word (codes "exists") ts _ is in
-      let b = again_binding x n low bound w.after _ w.left in
-      let m = first Symbol (codes ":") b.after _ b.left in
-      let a = again_in is_base is_base_un c (again_cond c) (is_base c) refl n low h m.after rest m.left in
-      record {
-        tree = exists b.tree a.tree;
-        after = a.after;
-        spells = (w.after, (w.place, w.is), (b.after, b.spells, (m.after, (m.place, m.is), a.spells)));
-        same_tree = λ i. exists (b.same_tree i) (a.same_tree i);
-        left = a.left;
-        nested = λ k. nest n n ts w.after w.is refl low (b.nested (nest n n b.after m.after m.is refl low (a.nested k)));
-      }
+      again_quantified (codes "exists") exists (λ x c. refl) (λ x c b a s. s) x c (again_binding x) (again_cond c) n low (λ p. refl) bound h ts rest is
   again_cond (every x c) n low (bound, h) ts rest is =
-      let w = first Word (codes "forall") ts _ is in
-      let b = again_binding x n low bound w.after _ w.left in
-      let m = first Symbol (codes ":") b.after _ b.left in
-      let a = again_in is_base is_base_un c (again_cond c) (is_base c) refl n low h m.after rest m.left in
-      record {
-        tree = every b.tree a.tree;
-        after = a.after;
-        spells = (w.after, (w.place, w.is), (b.after, b.spells, (m.after, (m.place, m.is), a.spells)));
-        same_tree = λ i. every (b.same_tree i) (a.same_tree i);
-        left = a.left;
-        nested = λ k. nest n n ts w.after w.is refl low (b.nested (nest n n b.after m.after m.is refl low (a.nested k)));
-      }
+      again_quantified (codes "forall") every (λ x c. refl) (λ x c b a s. s) x c (again_binding x) (again_cond c) n low (λ p. refl) bound h ts rest is
 
   again_units : (cs : CondsD) (n : ℕ) → n ≤ 64 → UnitsPrint cs n → (ts : List PlacedToken) (rest : List Written) → Are ts (written_units cs rest) → Again SomeUnits unplaced_conds n cs ts rest
   again_units no_conds n low h ts rest is =

@@ -1,4 +1,4 @@
-//! From the tokens of a text to its script.
+//! From the tokens of a text to its script, and back to a text.
 #![tactic(auto)]
 
 pub mod laws;
@@ -8,13 +8,14 @@ ghost use Rattle.std.specs.Prelude.{◌≡◌};
 ghost use Rattle.lois_syntax.specs.declared.SyntaxError.TheVariants.{NoMemory};
 
 use lois_base::NoMemory;
+pub use lois_script_printer::print_script;
 pub use script::read_script;
 use std::alloc::AllocFailed;
-use std::error::Error;
 use std::fmt;
+use thiserror::Error;
 
 /// Why tokens are no script, with the number of the token at fault, counted from 0.
-#[derive(Clone, Copy, Debug, PartialEq, Eq)]
+#[derive(Clone, Copy, Debug, PartialEq, Eq, Error)]
 pub enum SyntaxError {
     /// The first token with which no script goes on; or the number of tokens, where a script would go on behind them.
     NoScript(usize),
@@ -68,8 +69,6 @@ impl fmt::Display for SyntaxError {
         f.write_str(self.text())
     }
 }
-
-impl Error for SyntaxError {}
 
 impl From<NoMemory> for SyntaxError {
     ghost from_gives = { λ _ e. e ≡ NoMemory };

@@ -3,32 +3,32 @@ use Rattle.lois_reader.specs.Refusal.{IsResultsOf}
 use Rattle.lois_reader.proofs.Verdict.{results_hold, results_those, results_none, results_place, accepted_value}
 use Rattle.lois_reader.proofs.reading.read_results.Goals as goal
 
-pub returns-in-Ok-clause-sound : goal.returns-in-Ok-clause-sound
-returns-in-Ok-clause-sound c =
-    let short : length c.args.text.now < 2 ^ 64 = omega arith in
-    (results_hold c.args.text.now c.in-Ok.results short c.in-Ok.ensures).0
+pub returns-in-Ok : goal.returns-in-Ok
+returns-in-Ok c =
+    let text = c.args.text.now in
+    let short : length text < 2 ^ 64 = omega arith in
+    let held = results_hold text c.in-Ok.results short c.in-Ok.ensures in
+    record {
+      sound = held.0;
+      text = held.1;
+      exact = λ other holds. results_those text c.in-Ok.results other short c.in-Ok.ensures holds;
+      accepts = λ other holds. tt;
+      none = tt;
+      place = tt;
+      inside = tt;
+    }
 
-pub returns-in-Ok-clause-text : goal.returns-in-Ok-clause-text
-returns-in-Ok-clause-text c =
-    let short : length c.args.text.now < 2 ^ 64 = omega arith in
-    (results_hold c.args.text.now c.in-Ok.results short c.in-Ok.ensures).1
-
-pub returns-in-Err-clause-none : goal.returns-in-Err-clause-none
-returns-in-Err-clause-none c =
-    let short : length c.args.text.now < 2 ^ 64 = omega arith in
-    results_none c.args.text.now c.in-Err.halt c.error_of.result short c.in-Err.ensures c.error_of.ensures.error
-
-pub returns-in-Err-clause-place : goal.returns-in-Err-clause-place
-returns-in-Err-clause-place c =
-    let short : length c.args.text.now < 2 ^ 64 = omega arith in
-    results_place c.args.text.now c.in-Err.halt c.error_of.result short c.in-Err.ensures c.error_of.ensures.error
-
-pub returns-in-Ok-clause-exact : goal.returns-in-Ok-clause-exact
-returns-in-Ok-clause-exact c =
-    let short : length c.args.text.now < 2 ^ 64 = omega arith in
-    λ other holds. results_those c.args.text.now c.in-Ok.results other short c.in-Ok.ensures holds
-
-pub returns-in-Err-clause-accepts : goal.returns-in-Err-clause-accepts
-returns-in-Err-clause-accepts c =
-    let short : length c.args.text.now < 2 ^ 64 = omega arith in
-    λ other holds. accepted_value (IsResultsOf c.args.text.now) c.error_of.result (results_none c.args.text.now c.in-Err.halt c.error_of.result short c.in-Err.ensures c.error_of.ensures.error) other holds
+pub returns-in-Err : goal.returns-in-Err
+returns-in-Err c =
+    let text = c.args.text.now in
+    let short : length text < 2 ^ 64 = omega arith in
+    let none = results_none text c.in-Err.halt c.error_of.result short c.in-Err.ensures c.error_of.ensures.error in
+    record {
+      sound = tt;
+      text = tt;
+      exact = λ other holds. tt;
+      accepts = λ other holds. accepted_value (IsResultsOf text) c.error_of.result none other holds;
+      none = none;
+      place = results_place text c.in-Err.halt c.error_of.result short c.in-Err.ensures c.error_of.ensures.error;
+      inside = c.error_of.ensures.inside;
+    }
