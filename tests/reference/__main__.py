@@ -75,7 +75,7 @@ def suite(args):
 
 def selftest(args):
     """Plants wrong answers in right ones, and says whether each is found."""
-    from .suite import run_selftest
+    from .selftest import run_selftest
     return run_selftest()
 
 

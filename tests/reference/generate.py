@@ -1,11 +1,11 @@
 """Made cases: scripts, results, register automata, and changed texts of these. Each is made of a seed and nothing else."""
 import random
+import re
 
 from .lexer import WORDS
 
 TAGS = ("p", "q", "red", "x1", "end", "none")
 ATOM, TAG, PAIR, ANY = "atom", "tag", "pair", "any"
-RELATIONS = {"=": ("=",), "<": ("<",)}
 
 
 def set_type(of):
@@ -142,6 +142,10 @@ class Scripts:
             return self.pick("true", "false", "true")
         if depth > 0 and roll < 0.2:
             return "[" + self.cond(depth - 1) + "]"
+        parameters = [n for n, t, made in self.scope if t == ATOM and made is None]
+        if len(parameters) > 1 and self.chance(0.4):
+            first, second = self.rng.sample(parameters, 2)
+            return f"{first} {self.pick('=', '!=', '<') if self.order else self.pick('=', '!=')} {second}"
         if self.order and self.known(ATOM) and roll < 0.45:
             return f"{self.expr(ATOM, 1)} < {self.expr(ATOM, 1)}"
         if roll < 0.65:
@@ -164,8 +168,8 @@ class Scripts:
     def statement(self, depth, loops):
         """A statement."""
         self.left -= 1
-        form = self.rng.choices(("let", "assign", "add", "for", "if", "while", "assert", "print", "count"),
-                                (5, 2, 8, 5, 4, 2, 2, 2, 1))[0]
+        form = self.rng.choices(("let", "assign", "add", "for", "if", "while", "assert", "print", "count", "fault"),
+                                (5, 2, 8, 6, 4, 2, 3, 2, 1, 2 if self.binding else 0.6))[0]
         if form in ("for", "if", "while", "count") and (depth <= 0 or self.left < 0):
             form = "add"
         return getattr(self, "make_" + form)(depth, loops)
@@ -209,22 +213,48 @@ class Scripts:
         return text + (" else " + self.block(depth - 1, loops) if self.chance(0.5) else "")
 
     def make_while(self, depth, loops):
-        """A repeated block."""
-        return f"while {self.cond(1)} turns {self.pick(0, 1, 2, 3, 1000000)} {self.block(depth - 1, loops)}"
+        """A repeated block: seldom any one; else one that goes on until nothing is new."""
+        sets = [(n, t) for n, t, made in self.scope if made == loops and isinstance(t, tuple)]
+        if not sets or self.chance(0.07):
+            return f"while {self.cond(1)} turns {self.pick(0, 1, 2, 3, 9)} {self.block(depth - 1, loops)}"
+        name, of = self.rng.choice(sets)
+        return self.repeated(f"{name}", of, name, self.pick(3, 4, 5, 6), depth, loops)
 
     def make_count(self, depth, loops):
         """A block that is repeated a few times, or values that become too deep."""
-        name = self.fresh()
-        self.scope.append((name, set_type(ANY), loops))
         if self.chance(0.15):
+            name = self.fresh()
+            self.scope.append((name, set_type(ANY), loops))
             return f"let {name} = {{}}; while true turns {self.pick(61, 62, 63, 64, 70)} {{ {name} := {{{name}}}; }}"
+        return self.repeated("{{{}}}", ANY, None, self.pick(2, 2, 2, 2, 3, 3, 1000000, 1), depth, loops)
+
+    def repeated(self, goal, of, value, turns, depth, loops):
+        """A new name that takes a value in each turn (None: the set of itself), until it is the goal. The block doesn't change
+        it, since it isn't known there."""
+        name = self.fresh()
+        self.scope.append((name, "hidden", None))
         body = self.block(depth - 1, loops)[1:]
-        return f"let {name} = {{}}; while {name} != {{{{{{}}}}}} turns {self.pick(2, 2, 3, 1)} {{ {name} := {{{name}}}; {body}"
+        self.scope[[n for n, _, _ in self.scope].index(name)] = (name, of, loops)
+        start = f"{{{value}}}" if value else "{}"
+        return f"let {name} = {start}; while {name} != {goal} turns {turns} {{ {name} := {value or f'{{{name}}}'}; {body}"
 
     def make_assert(self, depth, loops):
         """An assertion, mostly one that says little."""
         c = self.cond(1)
         return f"assert {c};" if self.chance(0.3) else f"assert {self.base(0)} or not [{c}] or [{c}];"
+
+    def make_fault(self, depth, loops):
+        """What fails, if a condition on the names in scope holds."""
+        name, atom, other = self.fresh(), self.atom(1), self.atom(1)
+        bad = self.pick(f"assert {self.base(1)};", f"let {name} = part({atom}, 1);", f"let {name} = part(('p, {atom}), {self.pick(0, 3)});",
+                        f"for {name} in {atom} {{ }}", f"let {name} = flatten({{{atom}, {{}}}});", f"assert {other} in {atom};",
+                        f"let {name} = reach(({atom}, {{}}, {{}}, {{}}, {{}}));", f"while {atom} = {atom} turns 2 {{ }}",
+                        f"let {name} = complement(({{{atom}, {other}}}, {{}}, {{}}, {{{atom}, {other}}}, {{}}));",
+                        f"let {name} = minimise(({{{atom}}}, {{{other}}}, {{}}, {{{atom}}}, {{}}));",
+                        f"assert {'{} <' if self.order else '{} subset'} {atom};",
+                        f"let {name} = {'{' * 40}{atom}{'}' * 40}; let {name}d = {'{' * 23}{name}{'}' * 23}; let {name}e = {{{name}d}};",
+                        f"let {name} = {{part({name}x, 2) for {name}x in {{({atom}, {other}), {self.expr(ANY, 1)}}}}};")
+        return f"if {self.cond(1)} {{ {bad} }}"
 
     def make_print(self, depth, loops):
         """A line."""
@@ -513,7 +543,7 @@ def changed(rng, source):
         at = rng.randint(0, len(text))
         lines = text.splitlines(keepends=True) or [""]
         k = rng.randrange(len(lines))
-        change = rng.randrange(11)
+        change = rng.randrange(13)
         if change == 0:
             text = text[:at] + text[at + 1:]
         elif change == 1:
@@ -535,6 +565,12 @@ def changed(rng, source):
             j = rng.randrange(len(lines))
             lines[k], lines[j] = lines[j], lines[k]
             text = "".join(lines)
+        elif change in (10, 11):
+            names = re.findall(r"\b[a-zA-Z]\w*", text) or ["a"]
+            ends = [i + 1 for i, c in enumerate(text) if c in ";{}"] or [0]
+            put = rng.choice(("print N;", "N := N;", "add N to N;", "let N = {};", "if N < N { }", "for N in N { N := {}; print N; }"))
+            j = rng.choice(ends)
+            text = text[:j] + re.sub("N", lambda _: rng.choice(names), put) + text[j:]
         else:
             text = text[:at] if rng.random() < 0.8 else text + text
     return text.encode("latin-1")
