@@ -286,7 +286,7 @@ class Scripts:
             lines[1:] = ["parameter " + names[0] + ";"] if names else []
             lines += self.automata()
         while self.left > 0:
-            lines.append(self.statement(2, 0))
+            lines.append(self.statement(self.pick(1, 2, 3), 0))
         lines += [f"print {n};" for n, _, made in self.scope if made is not None and self.chance(0.7)]
         return laid_out(self.rng, lines)
 
@@ -452,7 +452,7 @@ def header(version, order, parameters):
 
 def make_script(rng):
     """A script."""
-    return Scripts(rng, rng.choice((3, 5, 7, 9, 12))).script()
+    return Scripts(rng, rng.choice((3, 5, 7, 9, 12, 16, 20))).script()
 
 
 def make_answer(rng):

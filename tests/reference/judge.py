@@ -3,7 +3,7 @@ from .answers import read_answer
 from .choices import guard_levels, levels_of, longer, meets, scaled, unscaled, value_at
 from .lexer import Refused, place_of, refusal_text
 from .meaning import STATUS, Failing, script_ends, script_fails
-from .parser import parse, printed
+from .parser import parse
 from .scope import check_scope
 from .values import SPREAD, included, spelled
 
@@ -42,7 +42,7 @@ def well_scoped(source):
 def judge_check(source, output, status):
     """An answer of `check`."""
     try:
-        expect(output, status, printed(well_scoped(source)), 0)
+        expect(output, status, well_scoped(source).printed, 0)
     except Refused as r:
         expect(output, status, refusal_text(source, r), 5)
 

@@ -60,7 +60,7 @@ def runs(binders, store, points, faults):
     """The stores that the binders lead to, up to automorphisms that fix the points, each with its own points."""
     if not binders:
         return [(store, points)]
-    over = set_of(binders[0].over, store, faults)
+    over = set_of(binders[0].value, store, faults)
     found = []
     for member in members(over, points) if over else ():
         found += runs(binders[1:], {**store, binders[0].name: member}, merged(points, member.atoms), faults)
@@ -113,7 +113,7 @@ def comprehension(e, store, faults):
     """The set of the values of the item where the condition is true."""
     points, items = points_of(e, store), []
     for inner, _ in runs(e.binders, store, points, faults):
-        if holds(e.where, inner, faults):
+        if holds(e.cond, inner, faults):
             items.append(evaluate(e.parts[0], inner, faults))
     return None if faults else closure(items, points)
 
@@ -146,7 +146,7 @@ def truth_of(c, store, faults):
         truths = [holds(p, store, faults) for p in c.parts]
         return {"not": not truths[0], "all": all(truths), "any": any(truths)}[c.kind]
     if c.kind in ("exists", "forall"):
-        truths = [holds(c.parts[0], inner, faults) for inner, _ in runs((c.binder,), store, points_of(c, store), faults)]
+        truths = [holds(c.parts[0], inner, faults) for inner, _ in runs(c.binders, store, points_of(c, store), faults)]
         return any(truths) if c.kind == "exists" else all(truths)
     if c.kind == "empty":
         m = machine(c.parts[0], store, faults)
@@ -246,10 +246,10 @@ def turns(s, store, lines):
 def elements(s, store):
     """The atoms that a `for` mentions, and up to automorphisms that fix them its elements, each with the store of its run."""
     faults, found = set(), []
-    value = set_of(s.binder.over, store, faults)
+    value = set_of(s.binders[0].value, store, faults)
     points = points_of(s, store)
     for member in members(sure(value, faults), points):
-        inner, path = {**store, s.binder.name: member}, ((s.binder.name, member),)
+        inner, path = {**store, s.binders[0].name: member}, ((s.binders[0].name, member),)
         truth = holds(s.cond, inner, faults)
         if sure(truth, faults, path):
             found.append((member, inner))
@@ -264,7 +264,7 @@ def loop_ends(s, store):
         try:
             after = block_ends(s.body, inner, None)
         except Failing as f:
-            raise Failing(f.pos, f.cause, ((s.binder.name, member), *f.path)) from None
+            raise Failing(f.pos, f.cause, ((s.binders[0].name, member), *f.path)) from None
         for name, orbits in gathered.items():
             new = members(after[name], merged(points, member.atoms))
             orbits |= {orbit(v, points) for v in new}
@@ -303,10 +303,10 @@ def fails(s, store, goal):
     elif s.kind == "while":
         return while_fails(s, store, goal)
     elif s.kind == "for":
-        value = set_of(s.binder.over, store, faults)
+        value = set_of(s.binders[0].value, store, faults)
         if path:
             name, element = path[0]
-            if faults or name != s.binder.name or not contains(value, element):
+            if faults or name != s.binders[0].name or not contains(value, element):
                 return False
             inner = {**store, name: element}
             if holds(s.cond, inner, faults) and not faults:

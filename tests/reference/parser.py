@@ -3,85 +3,66 @@
 The grammar is LL(1): the next token always decides the form, and a form that ends is followed by whatever its caller
 expects. So the first token that no branch takes is the first one with which no script goes on.
 """
-from dataclasses import dataclass, fields
+from dataclasses import dataclass
 from functools import lru_cache
+from typing import NamedTuple
 
 from .lexer import Refused, check_length, tokens
 
-LISTS = {"union": 2, "inter": 2, "minus": 2, "product": 2, "flatten": 1, "reach": 1, "complement": 1, "minimise": 1}
+OPERANDS = {"union": 2, "inter": 2, "minus": 2, "product": 2, "flatten": 1, "reach": 1, "complement": 1, "minimise": 1}
 
 
 @dataclass(eq=False)
 class Node:
-    """A form of the tree. `pos` is the offset of its first token, unless its class says another; `kind` tells the form."""
+    """A form of the tree. `pos` is the offset of its first token where no other is named.
+
+    Expressions: atoms; var, tag (name); tuple, listed (parts); each (parts: the item; binders; cond); part (parts: one;
+    number); union, inter, minus, product, flatten, reach, complement, minimise (parts: the operands).
+    Conditions: true, false; =, !=, <, in, subset (parts: two expressions; the place is the relation's); empty (parts: one);
+    not, all, any (parts: conditions); exists, forall (binders: one; parts: one condition).
+    Statements: let, assign (name, value; the name's place); add (value, name; the name's place); for (binders: one; cond, body);
+    if (cond, body, other); while (cond, number, body); assert (cond); print (name; its place is `name_pos`).
+    A binder (name, value) is a name in a set, of a comprehension, a quantifier or a `for`; the place is the name's.
+    """
     kind: str
     pos: int
-
-
-@dataclass(eq=False)
-class Expr(Node):
-    """atoms; var, tag (name); tuple, listed (parts); each (parts: the item; binders, where); part (parts: one; number);
-    union, inter, minus, product, flatten, reach, complement, minimise (parts: the operands)."""
     name: str = ""
     parts: tuple = ()
     binders: tuple = ()
-    where: object = None
-    number: int = 0
-
-
-@dataclass(eq=False)
-class Binder(Node):
-    """A name in a set: of a comprehension, a quantifier or a `for`. The place is the name's."""
-    name: str
-    over: Expr
-
-
-@dataclass(eq=False)
-class Cond(Node):
-    """true, false; =, !=, <, in, subset (parts: two expressions; the place is the relation's); empty (parts: one);
-    not, all, any (parts: conditions); exists, forall (binder; parts: one condition)."""
-    parts: tuple = ()
-    binder: object = None
-
-
-@dataclass(eq=False)
-class Stmt(Node):
-    """let, assign (name, value; place: the name's); add (value, name; place: the name's); for (binder, cond, body);
-    if (cond, body, other); while (cond, number, body); assert (cond); print (name, and its place)."""
-    name: str = ""
-    value: object = None
-    binder: object = None
     cond: object = None
+    value: object = None
     number: int = 0
     body: tuple = ()
     other: tuple = ()
     name_pos: int = 0
 
+    def inner(self):
+        """The forms that this one is made of."""
+        return [n for n in (self.value, self.cond, *self.parts, *self.binders, *self.body, *self.other) if n]
 
-@dataclass(eq=False)
-class Script:
-    """Whether atoms are ordered, the parameters as pairs of a place and a name, and the statements."""
+
+class Script(NamedTuple):
+    """Whether atoms are ordered, the parameters as pairs of a place and a name, the statements, and the printed form."""
     order: bool
     parameters: tuple
     body: tuple
+    printed: str
 
 
 @lru_cache(maxsize=None)
 def names_in(node):
     """All names that occur somewhere in a form."""
-    if isinstance(node, tuple):
-        return frozenset().union(*map(names_in, node))
-    if not isinstance(node, Node):
-        return frozenset()
-    own = {node.name} if getattr(node, "name", "") and node.kind != "tag" else set()
-    return own.union(*(names_in(getattr(node, f.name)) for f in fields(node) if f.name not in ("kind", "pos", "name")))
+    own = {node.name} if node.name and node.kind != "tag" else set()
+    return frozenset(own.union(*map(names_in, node.inner())))
 
 
 class Parser:
-    """Reads tokens from the left, one by one."""
+    """Reads tokens from the left, one by one. `dropped` are those that the printed form leaves out, `ends` those before the end
+    of a line in it; `brackets` has for a condition in brackets the tokens of one pair of them."""
 
     def __init__(self, source):
         self.tokens, self.at, self.open = tokens(source), 0, 0
+        self.dropped, self.ends, self.brackets = set(), set(), {}
 
     @property
     def next(self):
@@ -124,28 +105,48 @@ class Parser:
             items.append(item())
         return tuple(items)
 
+    def enclosed(self, *items):
+        """Items with commas between them, in round brackets."""
+        self.take("(")
+        found = [items[0]()]
+        for item in items[1:]:
+            self.take(",")
+            found.append(item())
+        self.take(")")
+        return found
+
     def script(self):
         """script = "atoms" structure ";" [parameters] {statement}"""
         self.take("atoms")
         order = self.take("equality", "order").text == "order"
-        self.take(";")
+        self.end()
         parameters = ()
         if self.has("parameter"):
             self.advance()
             parameters = self.several(lambda: self.take_kind("name"))
-            self.take(";")
+            self.end()
         body = []
         while self.next.kind != "end":
             body.append(self.statement())
-        return Script(order, tuple((p.start, p.text) for p in parameters), tuple(body))
+        return Script(order, tuple((p.start, p.text) for p in parameters), tuple(body), self.printed())
+
+    def printed(self):
+        """The printed form: the tokens, LF behind `;` and the braces of blocks, a space behind every other one."""
+        return "".join(token.text + ("\n" if i in self.ends else " ")
+                       for i, token in enumerate(self.tokens[:-1]) if i not in self.dropped)
+
+    def end(self, text=";"):
+        """A token before the end of a line."""
+        self.ends.add(self.at)
+        self.take(text)
 
     def block(self):
         """block = "{" {statement} "}" """
-        self.take("{")
+        self.end("{")
         body = []
         while not self.has("}"):
             body.append(self.statement())
-        self.take("}")
+        self.end("}")
         return tuple(body)
 
     def statement(self):
@@ -153,229 +154,165 @@ class Parser:
         if self.next.kind == "name":
             name = self.advance()
             self.take(":=")
-            return self.ended(Stmt("assign", name.start, name.text, self.expr()))
-        first = self.take("let", "add", "for", "if", "while", "assert", "print")
-        if first.text == "let":
-            name = self.take_kind("name")
-            self.take("=")
-            return self.ended(Stmt("let", name.start, name.text, self.expr()))
+            made = Node("assign", name.start, name.text, value=self.expr())
+        else:
+            first = self.take("let", "add", "for", "if", "while", "assert", "print")
+            if first.text in ("for", "if", "while"):
+                return self.compound(first)
+            made = self.simple(first)
+        self.end()
+        return made
+
+    def simple(self, first):
+        """A statement behind its first word, without the semicolon."""
+        if first.text == "assert":
+            return Node("assert", first.start, cond=self.cond())
         if first.text == "add":
             value = self.expr()
             self.take("to")
             name = self.take_kind("name")
-            return self.ended(Stmt("add", name.start, name.text, value))
+            return Node("add", name.start, name.text, value=value)
+        name = self.take_kind("name")
+        if first.text == "print":
+            return Node("print", first.start, name.text, name_pos=name.start)
+        self.take("=")
+        return Node("let", name.start, name.text, value=self.expr())
+
+    def compound(self, first):
+        """A statement with blocks, behind its first word."""
         if first.text == "for":
-            return Stmt("for", first.start, binder=self.binder(), cond=self.where(), body=self.block())
-        if first.text == "if":
-            cond, body, other = self.cond(), self.block(), ()
-            if self.has("else"):
-                self.advance()
-                other = self.block()
-            return Stmt("if", first.start, cond=cond, body=body, other=other)
+            return Node("for", first.start, binders=(self.binder(),), cond=self.where(), body=self.block())
+        cond, number, other = self.cond(), 0, ()
         if first.text == "while":
-            cond = self.cond()
             self.take("turns")
             if self.next.kind == "number" and int(self.next.text) > 1_000_000:
                 self.refuse("turns over 1000000")
-            return Stmt("while", first.start, cond=cond, number=int(self.take_kind("number").text), body=self.block())
-        if first.text == "assert":
-            return self.ended(Stmt("assert", first.start, cond=self.cond()))
-        name = self.take_kind("name")
-        return self.ended(Stmt("print", first.start, name.text, name_pos=name.start))
+            number = int(self.take_kind("number").text)
+        body, start = self.block(), self.at
+        if first.text == "if" and self.has("else"):
+            self.advance()
+            other = self.block()
+            self.drop(start, not other)
+        return Node(first.text, first.start, cond=cond, number=number, body=body, other=other)
 
-    def ended(self, statement):
-        """A statement with the semicolon behind it."""
-        self.take(";")
-        return statement
+    def drop(self, start, needless):
+        """Leaves the tokens from `start` on out of the printed form if they are needless."""
+        self.dropped |= set(range(start, self.at)) if needless else set()
 
     def binder(self):
         """name "in" expr"""
         name = self.take_kind("name")
         self.take("in")
-        return Binder("binder", name.start, name.text, self.expr())
+        return Node("binder", name.start, name.text, value=self.expr())
 
     def where(self):
         """["where" condition]; without one the condition is `true`."""
-        if self.has("where"):
-            self.advance()
-            return self.cond()
-        return Cond("true", self.next.start)
+        start = self.at
+        if not self.has("where"):
+            return Node("true", self.next.start)
+        self.advance()
+        cond = self.cond()
+        self.drop(start, cond.kind == "true")
+        return cond
+
+    def number(self):
+        """A number."""
+        return int(self.take_kind("number").text)
 
     def expr(self):
         """One expression of any form."""
         start = self.next.start
         if self.next.kind in ("name", "tag"):
             token = self.advance()
-            return Expr("var" if token.kind == "name" else "tag", start, token.text.lstrip("'"))
-        word = self.take("atoms", "(", "{", "part", *LISTS).text
+            return Node("var" if token.kind == "name" else "tag", start, token.text.lstrip("'"))
+        word = self.take("atoms", "(", "{", "part", *OPERANDS).text
+        if word == "atoms":
+            return Node("atoms", start)
         if word == "(":
             return self.tuple(start)
         if word == "{":
             return self.braces(start)
-        if word == "atoms":
-            return Expr("atoms", start)
-        self.take("(")
-        parts, number = [self.expr()], 0
         if word == "part":
-            self.take(",")
-            number = int(self.take_kind("number").text)
-        elif LISTS[word] == 2:
-            self.take(",")
-            parts.append(self.expr())
-        self.take(")")
-        return Expr(word, start, parts=tuple(parts), number=number)
+            whole, number = self.enclosed(self.expr, self.number)
+            return Node("part", start, parts=(whole,), number=number)
+        return Node(word, start, parts=tuple(self.enclosed(*[self.expr] * OPERANDS[word])))
 
     def tuple(self, start):
         """expr "," expr {"," expr} ")", at most eight of them"""
         parts = [self.expr()]
-        self.take(",")
-        parts.append(self.expr())
-        while self.has(","):
+        while len(parts) == 1 or self.has(","):
             if len(parts) == 8:
                 self.refuse("tuple over 8")
-            self.advance()
+            self.take(",")
             parts.append(self.expr())
         self.take(")")
-        return Expr("tuple", start, parts=tuple(parts))
+        return Node("tuple", start, parts=tuple(parts))
 
     def braces(self, start):
         """What stands behind the brace of a listed set or of a comprehension."""
-        if self.has("}"):
+        parts = [] if self.has("}") else [self.expr()]
+        if parts and self.has("for"):
             self.advance()
-            return Expr("listed", start)
-        item = self.expr()
-        if self.has("for"):
-            self.advance()
-            made = Expr("each", start, parts=(item,), binders=self.several(self.binder), where=self.where())
+            made = Node("each", start, parts=tuple(parts), binders=self.several(self.binder), cond=self.where())
         else:
-            items = [item]
-            while self.has(","):
+            while parts and self.has(","):
                 self.advance()
-                items.append(self.expr())
-            made = Expr("listed", start, parts=tuple(items))
+                parts.append(self.expr())
+            made = Node("listed", start, parts=tuple(parts))
         self.take("}")
         return made
 
     def cond(self):
         """condition = all {"or" all}; one alone is itself"""
-        parts = self.several(self.conjunction, "or")
-        return parts[0] if len(parts) == 1 else Cond("any", parts[0].pos, parts)
+        return self.joined("any", self.several(lambda: self.joined("all", self.several(self.unit, "and")), "or"))
 
-    def conjunction(self):
-        """all = unit {"and" unit}"""
-        parts = self.several(self.unit, "and")
-        return parts[0] if len(parts) == 1 else Cond("all", parts[0].pos, parts)
+    def joined(self, kind, parts):
+        """Two or more conditions as one. In it the printed form has brackets around `any`, and in an `all` around `all`."""
+        if len(parts) == 1:
+            return parts[0]
+        for part in parts:
+            self.keep_brackets(part, ("any",) if kind == "any" else ("any", "all"))
+        return Node(kind, parts[0].pos, parts=parts)
+
+    def keep_brackets(self, cond, kinds):
+        """Leaves a pair of brackets around a condition of one of these kinds; where they are read all are dropped."""
+        if cond.kind in kinds:
+            self.dropped -= set(self.brackets[cond])
 
     def unit(self):
         """unit = base | "not" base | ("exists" | "forall") name "in" expr ":" base"""
-        start = self.next.start
-        if self.has("not"):
-            self.advance()
-            return Cond("not", start, (self.base(),))
-        if self.has("exists", "forall"):
-            kind, binder = self.advance().text, self.binder()
+        start, binders = self.next.start, ()
+        if not self.has("not", "exists", "forall"):
+            return self.base()
+        kind = self.advance().text
+        if kind != "not":
+            binders = (self.binder(),)
             self.take(":")
-            return Cond(kind, start, (self.base(),), binder)
-        return self.base()
+        inside = self.base()
+        self.keep_brackets(inside, ("not", "all", "any", "exists", "forall"))
+        return Node(kind, start, parts=(inside,), binders=binders)
 
     def base(self):
         """base = "true" | "false" | "empty" "(" expr ")" | "[" condition "]" | expr relation expr"""
-        start = self.next.start
+        start, first = self.next.start, self.at
         if self.has("true", "false"):
-            return Cond(self.advance().text, start)
+            return Node(self.advance().text, start)
         if self.has("["):
             self.advance()
             inside = self.cond()
             self.take("]")
+            self.brackets[inside] = (first, self.at - 1)
+            self.dropped |= {first, self.at - 1}
             return inside
         if self.has("empty"):
             self.advance()
-            self.take("(")
-            operand = self.expr()
-            self.take(")")
-            return Cond("empty", start, (operand,))
+            return Node("empty", start, parts=tuple(self.enclosed(self.expr)))
         left = self.expr()
         relation = self.take("=", "!=", "<", "in", "subset")
-        return Cond(relation.text, relation.start, (left, self.expr()))
+        return Node(relation.text, relation.start, parts=(left, self.expr()))
 
 
 def parse(source):
     """The script that a text of at most 1,048,576 bytes spells, or Refused."""
     check_length(source)
     return Parser(source).script()
-
-
-def printed(script):
-    """The printed form: all tokens, LF behind `;` and the braces of blocks, a space behind every other one."""
-    out = ["atoms ", "order " if script.order else "equality ", ";\n"]
-    if script.parameters:
-        out += ["parameter ", ", ".join(name + " " for _, name in script.parameters), ";\n"]
-    return "".join(out) + "".join(map(printed_stmt, script.body))
-
-
-def printed_block(body):
-    """The printed form of a block."""
-    return "{\n" + "".join(map(printed_stmt, body)) + "}\n"
-
-
-def printed_stmt(s):
-    """The printed form of a statement."""
-    if s.kind == "let":
-        return f"let {s.name} = {printed_expr(s.value)};\n"
-    if s.kind == "assign":
-        return f"{s.name} := {printed_expr(s.value)};\n"
-    if s.kind == "add":
-        return f"add {printed_expr(s.value)}to {s.name} ;\n"
-    if s.kind == "for":
-        return f"for {printed_binder(s.binder)}{printed_where(s.cond)}{printed_block(s.body)}"
-    if s.kind == "if":
-        return f"if {printed_cond(s.cond)}{printed_block(s.body)}" + ("else " + printed_block(s.other) if s.other else "")
-    if s.kind == "while":
-        return f"while {printed_cond(s.cond)}turns {s.number} {printed_block(s.body)}"
-    if s.kind == "assert":
-        return f"assert {printed_cond(s.cond)};\n"
-    return f"print {s.name} ;\n"
-
-
-def printed_binder(b):
-    """The printed form of a name in a set."""
-    return f"{b.name} in {printed_expr(b.over)}"
-
-
-def printed_where(c):
-    """The printed form of a `where`, which is left out where the condition is `true`."""
-    return "" if c.kind == "true" else "where " + printed_cond(c)
-
-
-def printed_expr(e):
-    """The printed form of an expression."""
-    parts = ", ".join(map(printed_expr, e.parts))
-    if e.kind in ("atoms", "var", "tag"):
-        return {"atoms": "atoms ", "var": e.name + " ", "tag": "'" + e.name + " "}[e.kind]
-    if e.kind == "tuple":
-        return f"( {parts}) "
-    if e.kind == "listed":
-        return f"{{ {parts}}} "
-    if e.kind == "each":
-        return f"{{ {parts}for {', '.join(map(printed_binder, e.binders))}{printed_where(e.where)}}} "
-    return f"{e.kind} ( {parts}, {e.number} ) " if e.kind == "part" else f"{e.kind} ( {parts}) "
-
-
-def printed_cond(c, bracketed=()):
-    """The printed form of a condition; those of the kinds that are bracketed stand in brackets."""
-    if c.kind in bracketed:
-        return f"[ {printed_cond(c)}] "
-    if c.kind in ("true", "false"):
-        return c.kind + " "
-    if c.kind == "empty":
-        return f"empty ( {printed_expr(c.parts[0])}) "
-    if c.kind == "any":
-        return "or ".join(printed_cond(p, ("any",)) for p in c.parts)
-    if c.kind == "all":
-        return "and ".join(printed_cond(p, ("any", "all")) for p in c.parts)
-    inside = "".join(printed_cond(p, ("not", "all", "any", "exists", "forall")) for p in c.parts if isinstance(p, Cond))
-    if c.kind == "not":
-        return "not " + inside
-    if c.binder:
-        return f"{c.kind} {printed_binder(c.binder)}: {inside}"
-    return f"{printed_expr(c.parts[0])}{c.kind} {printed_expr(c.parts[1])}"
