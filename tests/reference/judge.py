@@ -1,11 +1,13 @@
 """Whether an answer to a script is right (docs/DEFINITIONS.md: AreResultsOf, NamesFailure, Why a text is refused)."""
+from collections import Counter
+
 from .answers import read_answer
 from .choices import guard_levels, levels_of, longer, meets, scaled, unscaled, value_at
 from .lexer import Refused, place_of, refusal_text
 from .meaning import STATUS, Failing, script_ends, script_fails
 from .parser import parse
 from .scope import check_scope
-from .values import SPREAD, included, spelled
+from .values import SPREAD, merged, orbits_over, spelled
 
 
 class Wrong(Exception):
@@ -102,7 +104,8 @@ def judge_choice(script, source, answer, choice):
     demand([n for n, _ in found] == [n for n, _ in lines], f"the lines at {where} are {[n for n, _ in lines]}")
     atoms = dict(zip(choice, names))
     for (name, value), (_, term) in zip(lines, found):
-        demand(value_at(term, choice) == value, f"at {where} the line is {name} = {spelled(value, atoms, len(names))}")
+        if value_at(term, choice) != value:
+            raise Wrong(f"at {where} the line is {name} = {spelled(value, atoms, len(names))}")
 
 
 def judge_trace(script, source, answer, status):
@@ -162,27 +165,39 @@ def choices_of(levels, used, guards, order):
         yield tuple(choice[rank[i]] if i in rank else 0 for i in range(levels))
 
 
+def needed(term, choice):
+    """The numbers of the pieces of a set that have a member at a choice which no other piece has."""
+    values = [value_at(("set", (comp,)), choice) for comp in term[1]]
+    points = merged(*(v.atoms for v in values))
+    orbits = [orbits_over(v, points) for v in values]
+    count = Counter(o for some in orbits for o in some)
+    return {i for i, some in enumerate(orbits) if any(count[o] == 1 for o in some)}
+
+
 def demand_normal(term, under, levels, order):
     """Inside of so many levels, where the guards `under` hold: each piece of a set is met somewhere, each binder occurs in its
     item and differs somewhere from each earlier level, and somewhere the piece has a member that the others lack."""
     if term[0] == "tuple":
         for part in term[1]:
             demand_normal(part, under, levels, order)
-    for number, comp in enumerate(term[1] if term[0] == "set" else ()):
+    if term[0] != "set":
+        return
+    needless = set(range(len(term[1])))
+    for choice in choices_of(levels, levels_of(term).union(*map(guard_levels, under)), under, order) if needless else ():
+        needless -= needed(term, choice)
+        if not needless:
+            break
+    demand(not needless, f"needless pieces: {sorted(needless)} of {term}")
+    for number, comp in enumerate(term[1], 1):
         demand_normalised(comp.guard)
         inside, guards = levels + comp.binders, (*under, comp.guard)
-        used = set().union(*map(guard_levels, guards))
-        binders = range(levels, inside)
-        demand(set(binders) <= levels_of(comp.item), f"a binder of piece {number + 1} isn't in its item")
+        binders, used = range(levels, inside), set().union(*map(guard_levels, guards))
+        demand(set(binders) <= levels_of(comp.item), f"a binder of piece {number} isn't in its item")
         met, fixed = False, {(i, b) for b in binders for i in range(b) if i in used and b in used}
         for choice in choices_of(inside, used, guards, order):
             met, fixed = True, {(i, b) for i, b in fixed if choice[i] == choice[b]}
             if not fixed:
                 break
-        demand(met, f"piece {number + 1} is empty")
-        demand(not fixed, f"a binder of piece {number + 1} is fixed")
-        others = ("set", term[1][:number] + term[1][number + 1:])
-        demand(any(not included(value_at(("set", (comp,)), c), value_at(others, c))
-                   for c in choices_of(levels, levels_of(term).union(*map(guard_levels, under)), under, order)),
-               f"piece {number + 1} is needless")
+        demand(met, f"piece {number} is empty")
+        demand(not fixed, f"a binder of piece {number} is fixed")
         demand_normal(comp.item, guards, inside, order)

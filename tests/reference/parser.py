@@ -187,7 +187,7 @@ class Parser:
             self.take("turns")
             if self.next.kind == "number" and int(self.next.text) > 1_000_000:
                 self.refuse("turns over 1000000")
-            number = int(self.take_kind("number").text)
+            number = self.number()
         body, start = self.block(), self.at
         if first.text == "if" and self.has("else"):
             self.advance()
