@@ -135,6 +135,14 @@ class Scripts:
             return f"{word} {binder}: {inside}"
         return self.base(depth)
 
+    def relation(self):
+        """A condition on two atoms that may hold or not, where there are such."""
+        atoms = [n for n, t, made in self.scope if t == ATOM and made is None]
+        if len(atoms) < 2:
+            return self.base(1)
+        first, second = self.rng.sample(atoms, 2)
+        return f"{first} {self.pick('=', '!=', '<') if self.order else self.pick('=', '!=')} {second}"
+
     def base(self, depth):
         """A condition where the grammar asks for a base."""
         roll = self.rng.random()
@@ -142,10 +150,8 @@ class Scripts:
             return self.pick("true", "false", "true")
         if depth > 0 and roll < 0.2:
             return "[" + self.cond(depth - 1) + "]"
-        parameters = [n for n, t, made in self.scope if t == ATOM and made is None]
-        if len(parameters) > 1 and self.chance(0.4):
-            first, second = self.rng.sample(parameters, 2)
-            return f"{first} {self.pick('=', '!=', '<') if self.order else self.pick('=', '!=')} {second}"
+        if 0.2 < roll < 0.4 and len(self.known(ATOM)) > 1:
+            return self.relation()
         if self.order and self.known(ATOM) and roll < 0.45:
             return f"{self.expr(ATOM, 1)} < {self.expr(ATOM, 1)}"
         if roll < 0.65:
@@ -168,8 +174,8 @@ class Scripts:
     def statement(self, depth, loops):
         """A statement."""
         self.left -= 1
-        form = self.rng.choices(("let", "assign", "add", "for", "if", "while", "assert", "print", "count", "fault"),
-                                (5, 2, 8, 6, 4, 2, 3, 2, 1, 2 if self.binding else 0.6))[0]
+        form = self.rng.choices(("let", "assign", "add", "for", "if", "while", "assert", "print", "count", "fault", "split"),
+                                (5, 2, 8, 6, 5, 1, 3, 2, 0.7, 2 if self.binding else 0.5, 2))[0]
         if form in ("for", "if", "while", "count") and (depth <= 0 or self.left < 0):
             form = "add"
         return getattr(self, "make_" + form)(depth, loops)
@@ -209,7 +215,8 @@ class Scripts:
 
     def make_if(self, depth, loops):
         """Two blocks."""
-        text = f"if {self.cond(1)} {self.block(depth - 1, loops)}"
+        cond = self.relation() if self.chance(0.4) else self.cond(1)
+        text = f"if {cond} {self.block(depth - 1, loops)}"
         return text + (" else " + self.block(depth - 1, loops) if self.chance(0.5) else "")
 
     def make_while(self, depth, loops):
@@ -242,6 +249,16 @@ class Scripts:
         """An assertion, mostly one that says little."""
         c = self.cond(1)
         return f"assert {c};" if self.chance(0.3) else f"assert {self.base(0)} or not [{c}] or [{c}];"
+
+    def make_split(self, depth, loops):
+        """Runs that go different ways at different choices."""
+        names = [(n, t[1]) for n, t, made in self.scope if made == loops and isinstance(t, tuple)]
+        if not names:
+            return self.make_let(depth, loops)
+        (name, of), other = self.rng.choice(names), self.rng.choice(names)
+        ways = [f"add {self.expr(of, 1)} to {name};", f"{name} := {self.expr(set_type(of), 2)};", f"add 'way to {other[0]};"]
+        first, second = self.rng.sample(ways, 2)
+        return f"if {self.relation()} {{ {first} }}" + self.pick("", f" else {{ {second} }}")
 
     def make_fault(self, depth, loops):
         """What fails, if a condition on the names in scope holds."""
@@ -277,7 +294,7 @@ class Scripts:
 
     def script(self):
         """A whole script."""
-        names = self.rng.sample(("a", "b", "c"), self.pick(0, 1, 1, 2, 2, 3) if self.left < 12 else self.pick(0, 1, 2))
+        names = self.rng.sample(("a", "b", "c"), self.pick(0, 1, 2, 2, 2, 3) if self.left < 12 else self.pick(0, 1, 2))
         self.scope = [(n, ATOM, None) for n in names]
         lines = ["atoms " + ("order" if self.order else "equality") + ";"]
         lines += ["parameter " + ", ".join(names) + ";"] if names else []
