@@ -2,12 +2,13 @@
 import argparse
 import sys
 
-from . import census, equal, judge, registers
-from .answers import read_answer
+from . import judge
 from .choices import longer, unscaled
 from .lexer import Refused, refusal_text
-from .meaning import Failing, script_ends
-from .values import Budget, Undecided, spelled
+from .meaning import STATUS, Failing, script_ends
+from .selftest import run_selftest
+from .suite import judge_answer, run_suite
+from .values import Undecided, spelled
 
 sys.setrecursionlimit(100_000)
 
@@ -36,7 +37,7 @@ def run(args):
             lines = script_ends(script, choice)
         except Failing as f:
             print(judge.said(source, names, choice, f))
-            return judge.STATUS[f.cause]
+            return STATUS[f.cause]
         ranks = unscaled(choice)
         pairs = [f"{a}{'=' if i == j else '!=' if not script.order else '<'}{b}" for a, i in zip(names, ranks)
                  for b, j in zip(names, ranks) if (a < b and (i == j or not script.order)) or (script.order and i < j)]
@@ -48,35 +49,17 @@ def run(args):
 
 def judged(args):
     """Judges an answer, and says whether it is right."""
-    source, output = read(args.source), read(args.output)
-    Budget.start(args.seconds)
+    words = [args.command] + [getattr(args, name) for name in ("a", "b") if hasattr(args, name)]
     try:
-        {"judge": lambda: judge.judge_run(source, output, args.status, args.normal),
-         "check": lambda: judge.judge_check(source, output, args.status),
-         "reread": lambda: judge.judge_reread(source, output, args.status),
-         "equal": lambda: equal.judge_equal(args.a, args.b, source, output, args.status),
-         "census": lambda: census.judge_census(args.a, source, output, args.status),
-         "registers": lambda: registers.judge_registers(source, output, args.status)}[args.command]()
+        judge_answer(words, read(args.source), read(args.output), args.status, args.seconds, getattr(args, "normal", False))
     except judge.Wrong as w:
         print(w)
         return 1
-    except (Undecided, MemoryError, RecursionError) as u:
+    except (Undecided, RecursionError) as u:
         print(f"undecided: {u}")
         return 2
     print("right")
     return 0
-
-
-def suite(args):
-    """Runs a program on made scripts, texts and cases, and judges what it writes."""
-    from .suite import run_suite
-    return run_suite(args)
-
-
-def selftest(args):
-    """Plants wrong answers in right ones, and says whether each is found."""
-    from .selftest import run_selftest
-    return run_selftest()
 
 
 def main():
@@ -100,15 +83,15 @@ def main():
         command.add_argument("--seconds", type=float, default=20, help="how long it may take (20)")
         if name == "judge":
             command.add_argument("--normal", action="store_true", help="cases have to be normal")
-    command = commands.add_parser("suite", help="judges a program on made cases", description=suite.__doc__)
+    command = commands.add_parser("suite", help="judges a program on made cases", description=run_suite.__doc__)
     command.add_argument("--program", required=True, help="the program's path")
     for name, count, about in (("scripts", 150, "random scripts"), ("texts", 300, "changed texts"),
                                ("further", 60, "cases of each of equal, registers, census"), ("seed", 1, "what is made"),
                                ("jobs", 1, "processes side by side")):
         command.add_argument("--" + name, type=int, default=count, help=f"{about} ({count})")
-    commands.add_parser("selftest", help="tries whether planted errors are found", description=selftest.__doc__)
+    commands.add_parser("selftest", help="tries whether planted errors are found", description=run_selftest.__doc__)
     args = parser.parse_args()
-    return {"run": run, "suite": suite, "selftest": selftest}.get(args.command, judged)(args)
+    return {"run": run, "suite": run_suite, "selftest": run_selftest}.get(args.command, judged)(args)
 
 
 if __name__ == "__main__":

@@ -66,7 +66,7 @@ def judge_difference(results, number, first, second, shortest, output, status):
     text, case = output.decode("latin-1"), results.cases[number - 1]
     form = re.fullmatch(r"differ in case (\d+)\nchoice((?: (?:0|[1-9]\d*))*)\n((?:letter [^\n]*\n)*)accepted by (\w+)\n", text)
     demand(form, "the output is no difference")
-    demand(int(form[1]) == number, f"the first case that differs is {number}")
+    demand(form[1] == str(number), f"the first case that differs is {number}")
     sample, count = scaled(map(int, form[2].split())), len(results.parameters)
     demand(len(sample) >= count and meets(case.when, sample[:count]), "the case doesn't admit the choice")
     try:

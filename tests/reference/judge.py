@@ -82,12 +82,12 @@ def judge_run(source, output, status, normal=False):
 
 def said(source, names, choice, failing):
     """A failure, for people."""
-    line, column = place_of(source, failing.pos)
-    where = dict.fromkeys(())
-    for value in [v for _, v in failing.path]:
-        where.update({a: f"atom({a / SPREAD:g})" for a in value.atoms})
-    path = "".join(f"\nfor {n} = {spelled(v, where, 0)}" for n, v in failing.path)
-    return f"failed at {line}:{column}: {failing.cause}\nat {dict(zip(names, unscaled(choice)))}{path}"
+    atoms = dict(zip(choice, names))
+    for _, value in failing.path:
+        atoms.update({a: f"atom({a / SPREAD:g})" for a in value.atoms if a not in atoms})
+    where = "failed at %d:%d: " % place_of(source, failing.pos) + failing.cause
+    path = "".join(f"\nfor {name} = {spelled(value, atoms, len(names))}" for name, value in failing.path)
+    return f"{where}\nchoice {dict(zip(names, unscaled(choice)))}{path}"
 
 
 def judge_choice(script, source, answer, choice):

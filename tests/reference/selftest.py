@@ -83,8 +83,8 @@ def is_right(words, source, output, status):
     return True
 
 
-def run_selftest():
-    """Each right answer has to be right, and each with a planted error wrong."""
+def run_selftest(_):
+    """Plants errors in right answers, and says whether each is found: right answers have to be right, others wrong."""
     passed, failed = 0, 0
     for words, source, output, status, errors in PLANTED:
         tries = [("the right answer", output, status, True)]

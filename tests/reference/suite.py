@@ -10,16 +10,16 @@ from .values import Budget, Undecided
 SECONDS = 10  # for the program and for the judge, each
 
 
-def judge_answer(words, source, output, status):
-    """Judges an answer to a command, or raises Wrong or Undecided."""
-    Budget.start(SECONDS)
-    judges = {"run": lambda: judge.judge_run(source, output, status, normal=True),
+def judge_answer(words, source, output, status, seconds=SECONDS, normal=True):
+    """Judges an answer to a command's words (`judge` stands for `run`), or raises Wrong or Undecided."""
+    Budget.start(seconds)
+    judges = {"run": lambda: judge.judge_run(source, output, status, normal),
               "check": lambda: judge.judge_check(source, output, status),
               "reread": lambda: judge.judge_reread(source, output, status),
               "equal": lambda: equal.judge_equal(*words[1:], source, output, status),
               "census": lambda: census.judge_census(*words[1:], source, output, status),
               "registers": lambda: registers.judge_registers(source, output, status)}
-    judges[words[0]]()
+    judges["run" if words[0] == "judge" else words[0]]()
 
 
 def run_case(what):
@@ -42,7 +42,7 @@ def run_case(what):
 
 
 def run_suite(args):
-    """All cases that the command line asks for."""
+    """Runs a program on made scripts, changed texts and cases of the further commands, and judges what it writes."""
     counts = [("scripts", args.scripts), ("texts", args.texts)] + [(k, args.further) for k in ("equal", "registers", "census")]
     cases = [(args.program, kind, args.seed, number) for kind, count in counts for number in range(count)]
     found, statuses = Counter(), Counter()
