@@ -81,6 +81,9 @@ class Scripts:
         """A set of members of a type."""
         if depth <= 0:
             return self.pick("{}", "atoms") if of == ATOM else "{" + self.expr(of, 0) + "}"
+        if of == ANY and self.chance(0.08):
+            return self.pick("reach({})", "reach({})", "part(minimise({}), 1)", "part(product({}, ({{'s0}}, atoms, {{}}, {{'s0}}, {{}})), 1)",
+                             "part(complement({}), 5)").format(self.machine())
         form = self.rng.choices(("listed", "atoms", "each", "operation", "flatten"), (4, 4, 6, 4, 1))[0]
         if form == "atoms" and of == ATOM:
             return "atoms"
@@ -92,6 +95,11 @@ class Scripts:
         if form == "flatten":
             return f"flatten({self.expr(set_type(set_type(of)), depth - 1)})"
         return "{" + ", ".join(self.expr(of, depth - 1) for _ in range(self.pick(0, 1, 1, 2, 2, 3))) + "}"
+
+    def machine(self):
+        """A small automaton."""
+        names = self.known(ATOM)
+        return Machine(self.rng, self.order, self.rng.sample(names, min(len(names), 1)), 1).script()
 
     def bound(self, depth):
         """A name in a set, which is in scope from here on."""
@@ -146,8 +154,10 @@ class Scripts:
     def base(self, depth):
         """A condition where the grammar asks for a base."""
         roll = self.rng.random()
-        if roll < 0.06:
+        if roll < 0.05:
             return self.pick("true", "false", "true")
+        if roll < 0.06:
+            return f"empty({self.machine()})"
         if depth > 0 and roll < 0.2:
             return "[" + self.cond(depth - 1) + "]"
         if 0.2 < roll < 0.4 and len(self.known(ATOM)) > 1:
@@ -290,6 +300,8 @@ class Scripts:
             if word == "product(m, n)":
                 word = f"product(m, {m.changed().script()})"
             lines.append(f"let e{len(lines)} = {word}; print e{len(lines)};")
+            if word == "reach(m)":
+                self.scope.append((f"e{len(lines) - 1}", set_type(ANY), 0))
         return lines
 
     def script(self):
@@ -314,19 +326,20 @@ def laid_out(rng, lines):
 
 
 class Machine:
-    """An automaton by rules: from states of a kind with atoms x, by letters of a kind with atoms y, under a test. The same
+    """An automaton by rules: from states of a kind with atoms r0, r1, by letters of a kind with atoms l0, under a test. The same
     rules are a script's expression or a term of results."""
 
-    def __init__(self, rng, order, parameters):
+    def __init__(self, rng, order, parameters, widest=2):
         self.rng, self.order, self.parameters = rng, order, list(parameters)
-        self.states = [("s0", 0)] + [(f"s{i + 1}", rng.choice((0, 1, 1, 2) if i == 0 else (0, 1))) for i in range(rng.randint(1, 2))]
+        widths = ((0, 1, 1, widest), (0, 1))
+        self.states = [("s0", 0)] + [(f"s{i + 1}", rng.choice(widths[i])) for i in range(rng.randint(1, 2))]
         self.letters = rng.choice(([(None, 1)], [(None, 1)], [("put", 1), ("get", 0)], [("l", 0)]))
         self.final = [s for s, _ in self.states if rng.random() < 0.5]
         self.rules = [r for s in self.states for l in self.letters for r in self.rules_for(s, l)]
 
     def rules_for(self, state, letter):
         """Rules for all pairs of a state and a letter, mostly one for each pair."""
-        xs, ys = [f"x{i}" for i in range(state[1])], [f"y{i}" for i in range(letter[1])]
+        xs, ys = [f"r{i}" for i in range(state[1])], [f"l{i}" for i in range(letter[1])]
         tests = [()]
         others = xs + self.parameters
         if ys and others and self.rng.random() < 0.8:
@@ -360,7 +373,7 @@ class Machine:
                 del m.rules[i]
             elif m.rules and change == "turn":
                 state, letter, test, _ = m.rules[i]
-                atoms = [f"x{k}" for k in range(state[1])] + [f"y{k}" for k in range(letter[1])]
+                atoms = [f"r{k}" for k in range(state[1])] + [f"l{k}" for k in range(letter[1])]
                 m.rules[i] = state, letter, test, m.goal(atoms)
             elif change == "letters":
                 m.letters = m.letters + [("more", 0)]
@@ -380,10 +393,10 @@ class Machine:
 
         steps = []
         for (s, w), (l, v), test, (g, atoms) in self.rules:
-            xs, ys = [f"x{i}" for i in range(w)], [f"y{i}" for i in range(v)]
+            xs, ys = [f"r{i}" for i in range(w)], [f"l{i}" for i in range(v)]
             steps.append(((item(s, xs), item(l, ys), item(g, atoms)), xs + ys, test))
-        return (kinds(self.states, "x"), kinds(self.letters, "y"), steps, [(item("s0", ()), [], ())],
-                kinds([s for s in self.states if s[0] in self.final], "x"))
+        return (kinds(self.states, "r"), kinds(self.letters, "l"), steps, [(item("s0", ()), [], ())],
+                kinds([s for s in self.states if s[0] in self.final], "r"))
 
     def script(self):
         """The automaton as an expression of a script."""

@@ -1,5 +1,6 @@
 """Whole runs: a program is run on made cases, and what it writes is judged."""
 import multiprocessing
+import os
 import subprocess
 import sys
 from collections import Counter
@@ -43,6 +44,9 @@ def run_case(what):
 
 def run_suite(args):
     """Runs a program on made scripts, changed texts and cases of the further commands, and judges what it writes."""
+    if not os.access(args.program, os.X_OK):
+        print(f"there is no program {args.program}")
+        return 2
     counts = [("scripts", args.scripts), ("texts", args.texts)] + [(k, args.further) for k in ("equal", "registers", "census")]
     cases = [(args.program, kind, args.seed, number) for kind, count in counts for number in range(count)]
     found, statuses = Counter(), Counter()
