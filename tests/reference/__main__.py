@@ -22,8 +22,8 @@ def read(path):
 
 
 def run(args):
-    """Writes what a script prints at each choice of its parameters, or that it is refused or where it fails. Each choice is
-    one up to automorphisms, and has a case of its own; the sets are written by their orbits of the order."""
+    """Writes what a script prints at each choice of its parameters, or that it is refused or where it fails. Each
+    choice is one up to automorphisms, and has a case of its own; the sets are written by their orbits of the order."""
     source = read(args.script)
     try:
         script = judge.well_scoped(source)
@@ -51,7 +51,8 @@ def judged(args):
     """Judges an answer, and says whether it is right."""
     words = [args.command] + [getattr(args, name) for name in ("a", "b") if hasattr(args, name)]
     try:
-        judge_answer(words, read(args.source), read(args.output), args.status, args.seconds, getattr(args, "normal", False))
+        judge_answer(words, read(args.source), read(args.output), args.status, args.seconds,
+                     getattr(args, "normal", False))
     except judge.Wrong as w:
         print(w)
         return 1
@@ -64,7 +65,8 @@ def judged(args):
 
 def main():
     """Reads the words of the command line."""
-    parser = argparse.ArgumentParser(prog="python3 -m reference", description="An interpreter of LOIS that judges answers.")
+    parser = argparse.ArgumentParser(prog="python3 -m reference",
+                                     description="An interpreter of LOIS that judges answers.")
     commands = parser.add_subparsers(dest="command", required=True)
     command = commands.add_parser("run", help="writes what a script prints or how it fails", description=run.__doc__)
     command.add_argument("script")
@@ -74,8 +76,8 @@ def main():
                                ("census", ["a", "source"], "an answer of `census A` to results"),
                                ("reread", ["source"], "an answer of `reread` to a text"),
                                ("check", ["source"], "an answer of `check` to a script")):
-        command = commands.add_parser(name, help="judges " + about, description=f"Judges {about}. Exits with 0 and `right`, with 1 "
-                                      "and what is wrong, or with 2 and `undecided: why`.")
+        command = commands.add_parser(name, help="judges " + about, description=f"Judges {about}. Exits with 0 and "
+                                      "`right`, with 1 and what is wrong, or with 2 and `undecided: why`.")
         for word in words:
             command.add_argument(word)
         command.add_argument("output")
@@ -86,8 +88,8 @@ def main():
     command = commands.add_parser("suite", help="judges a program on made cases", description=run_suite.__doc__)
     command.add_argument("--program", required=True, help="the program's path")
     for name, count, about in (("scripts", 150, "random scripts"), ("texts", 300, "changed texts"),
-                               ("further", 60, "cases of each of equal, registers, census"), ("seed", 1, "what is made"),
-                               ("jobs", 1, "processes side by side")):
+                               ("further", 60, "cases of each of equal, registers, census"),
+                               ("seed", 1, "what is made"), ("jobs", 1, "processes side by side")):
         command.add_argument("--" + name, type=int, default=count, help=f"{about} ({count})")
     commands.add_parser("selftest", help="tries whether planted errors are found", description=run_selftest.__doc__)
     args = parser.parse_args()

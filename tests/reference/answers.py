@@ -12,8 +12,9 @@ NUMBER = re.compile(r"0|[1-9][0-9]*")
 
 
 class Comp(NamedTuple):
-    """A piece of a set: as many binders, a guard, an item. A guard is a tuple of cubes: one of them has to hold; a cube is a
-    tuple of literals, which all have to; a literal has two levels and = (0), != (1) or < (2) between: (left, right, op)."""
+    """A piece of a set: as many binders, a guard, an item. A guard is a tuple of cubes: one of them has to hold; a
+    cube is a tuple of literals, which all have to; a literal has two levels and = (0), != (1) or < (2) between: (left,
+    right, op)."""
     binders: int
     guard: tuple
     item: tuple
@@ -42,8 +43,9 @@ class Answer:
 
 
 class Reader:
-    """Reads an answer byte by byte. What isn't of its shape is refused at the first byte with which no text of the shape goes
-    on. The rules beside the shape note the places that break them; the first of these is named when the shape is known."""
+    """Reads an answer byte by byte. What isn't of its shape is refused at the first byte with which no text of the
+    shape goes on. The rules beside the shape note the places that break them; the first of these is named when the
+    shape is known."""
 
     def __init__(self, text):
         self.text, self.at, self.open, self.broken = text, 0, 0, []
@@ -109,7 +111,8 @@ class Reader:
         return answer
 
     def cases(self):
-        """{"case when " constraint nl {name " = " term nl}} "end" nl. A line may be named `case` or `end` by its shape."""
+        """{"case when " constraint nl {name " = " term nl}} "end" nl. A line may be named `case` or `end` by its
+        shape."""
         cases = []
         while True:
             start, word = self.at, None

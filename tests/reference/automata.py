@@ -1,14 +1,14 @@
 """Automata whose five sets are unions of orbits (docs/LANGUAGE.md, Automata).
 
-All five are left as they are by the automorphisms that fix the automaton's support. So what holds of one state, pair of
-states or step holds of its whole orbit over the support, and graphs of states become finite graphs of orbits: a path lifts,
-since an automorphism that takes a step's source to another state of its orbit takes the step along.
+All five are left as they are by the automorphisms that fix the automaton's support. So what holds of one state, pair
+of states or step holds of its whole orbit over the support, and graphs of states become finite graphs of orbits: a
+path lifts, since an automorphism that takes a step's source to another state of its orbit takes the step along.
 """
 from functools import lru_cache
 from typing import NamedTuple
 
-from .values import (Shape, Value, closure, combined, contains, included, members, merged, orbit, orbits_over, pack, united,
-                     unpack)
+from .values import (Shape, Value, closure, combined, contains, included, members, merged, orbit, orbits_over, pack,
+                     united, unpack)
 
 DEAD = Value(Shape.of("dead"), ())  # where a word has no path; no value of the language
 
@@ -63,7 +63,8 @@ def moves(m):
 
 
 def only_member(value):
-    """The member of a set that has exactly one, or None. An orbit has one member where its atoms are among the points."""
+    """The member of a set that has exactly one, or None. An orbit has one member where its atoms are among the
+    points."""
     orbits = list(value.orbits)
     if len(orbits) != 1 or any(place % 2 == 0 for place in orbits[0][1]):
         return None
@@ -71,8 +72,9 @@ def only_member(value):
 
 
 def is_deterministic(m):
-    """One initial state, and at most one target for each state and letter. By rigidity an automorphism that fixes a pair
-    fixes its atoms: so a pair has one target where its orbit has one step's orbit, and the target no atoms but the pair's."""
+    """One initial state, and at most one target for each state and letter. By rigidity an automorphism that fixes a
+    pair fixes its atoms: so a pair has one target where its orbit has one step's orbit, and the target no atoms but
+    the pair's."""
     return only_member(m.initial) is not None and all(
         len(found) == 1 and set(found[0][1].atoms) <= set(found[0][0].atoms + m.points) for found in moves(m).values())
 
@@ -85,8 +87,8 @@ def is_complete(m):
 
 
 def target(m, table, state, letter):
-    """The target of a step of a deterministic automaton, DEAD where there is none: the automorphism that takes the pair in
-    the table to this one takes the target along, and moves its atoms as it moves the pair's."""
+    """The target of a step of a deterministic automaton, DEAD where there is none: the automorphism that takes the
+    pair in the table to this one takes the target along, and moves its atoms as it moves the pair's."""
     pair = pack(state, letter)
     found = table.get(orbit(pair, m.points))
     if not found:
@@ -101,7 +103,8 @@ def product(m, n):
     points = merged(m.points, n.points)
 
     def pairs(first, second):
-        return closure([pack(p, q) for p in members(first, points) for q in members(second, merged(points, p.atoms))], points)
+        return closure([pack(p, q) for p in members(first, points)
+                        for q in members(second, merged(points, p.atoms))], points)
 
     by_letter = {}
     for step in members(n.steps, n.points):
@@ -115,8 +118,8 @@ def product(m, n):
             q, k, s = unpack(other)
             if k == l:
                 steps.append(pack(pack(p, q), l, pack(r, s)))
-    return pack(pairs(m.states, n.states), combined(m.letters, n.letters, frozenset.intersection), closure(steps, points),
-                pairs(m.initial, n.initial), pairs(m.final, n.final))
+    return pack(pairs(m.states, n.states), combined(m.letters, n.letters, frozenset.intersection),
+                closure(steps, points), pairs(m.initial, n.initial), pairs(m.final, n.final))
 
 
 def complement(m):
@@ -125,8 +128,8 @@ def complement(m):
 
 
 def pairs_apart(m, states):
-    """The orbits of pairs of states from which different words are accepted, of a deterministic and complete automaton: those
-    that differ in being final, and then those from which a letter leads to such a pair."""
+    """The orbits of pairs of states from which different words are accepted, of a deterministic and complete
+    automaton: those that differ in being final, and then those from which a letter leads to such a pair."""
     table, leads, apart = moves(m), {}, set()
     for p in members(states, m.points):
         for q in members(states, merged(m.points, p.atoms)):
@@ -172,8 +175,8 @@ def accepts(m, word):
 
 
 def shortest_difference(m, n):
-    """A shortest list of values that exactly one of two deterministic automata accepts, or None: a search in rounds through
-    the pairs of states, of which one of each orbit over both supports is looked at."""
+    """A shortest list of values that exactly one of two deterministic automata accepts, or None: a search in rounds
+    through the pairs of states, of which one of each orbit over both supports is looked at."""
     points, tables = merged(m.points, n.points), (moves(m), moves(n))
     letters = combined(m.letters, n.letters, frozenset.union)
     seen, new = set(), [(only_member(m.initial), only_member(n.initial), ())]

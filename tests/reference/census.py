@@ -11,8 +11,9 @@ from .values import Budget
 
 
 def orbit_shapes(term, sample, order):
-    """The shapes in the orbit of a term at a sample. A shape is what automorphisms that keep the order make of a value. Where
-    only equality matters the sample's atoms may be moved in any way: up to those automorphisms, to each other."""
+    """The shapes in the orbit of a term at a sample. A shape is what automorphisms that keep the order make of a
+    value. Where only equality matters the sample's atoms may be moved in any way: up to those automorphisms, to each
+    other."""
     atoms = sorted({sample[i] for i in levels_of(term) if i < len(sample)})
     shapes = set()
     for moved in [atoms] if order else permutations(atoms):
@@ -45,7 +46,8 @@ def judge_census(name, source, output, status):
 
 
 def judge_orbits(number, shapes, order, text):
-    """The orbits of the case of this number, which a text begins with, are exactly these shapes, each once; what is left."""
+    """The orbits of the case of this number, which a text begins with, are exactly these shapes, each once; what is
+    left."""
     head = re.match(rf"case {number}\norbits (0|[1-9]\d*)\n", text)
     demand(head, f"case {number} is expected")
     text, left = text[head.end():], set(shapes)

@@ -1,5 +1,9 @@
 """Choices of atoms, and the terms of answers at them."""
+import operator
+
 from .values import SPREAD, Budget, all_atoms, atom, closure, members, merged, pack, tag
+
+RELATIONS = (operator.eq, operator.ne, operator.lt)
 
 
 def scaled(numbers):
@@ -14,14 +18,16 @@ def unscaled(choice):
 
 def meets(guard, choice):
     """Whether a guard holds at a choice, or may hold at a longer one where the choice is too short for some level."""
-    return any(all(max(l, r) >= len(choice) or (choice[l] == choice[r], choice[l] != choice[r], choice[l] < choice[r])[op]
-                   for l, r, op in cube) for cube in guard)
+    known = len(choice)
+    return any(all(l >= known or r >= known or RELATIONS[op](choice[l], choice[r]) for l, r, op in cube)
+               for cube in guard)
 
 
 def longer(choice, count, guards, points, order=True):
-    """The choices with so many further atoms at which the guards hold: one of each orbit by the automorphisms that fix the
-    points, which are those of the choice that matter. An atom lies at one of the points and those before it, or in a gap
-    between them. Where only equality matters there is but one gap, since all bijections are automorphisms then."""
+    """The choices with so many further atoms at which the guards hold: one of each orbit by the automorphisms that fix
+    the points, which are those of the choice that matter. An atom lies at one of the points and those before it, or in
+    a gap between them. Where only equality matters there is but one gap, since all bijections are automorphisms
+    then."""
     Budget.spend(1)
     if not all(meets(g, choice) for g in guards):
         return
@@ -53,8 +59,8 @@ def guard_levels(guard):
 
 
 def value_at(term, choice):
-    """The value of a term at a choice of atoms. A set is kept by the automorphisms that fix the atoms at the levels that it
-    uses, so one choice of its binders from each orbit will do."""
+    """The value of a term at a choice of atoms. A set is kept by the automorphisms that fix the atoms at the levels
+    that it uses, so one choice of its binders from each orbit will do."""
     Budget.spend(1)
     if term[0] == "level":
         return atom(choice[term[1]])

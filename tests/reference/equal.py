@@ -1,4 +1,5 @@
-"""Answers of `equal A B`: whether two lines accept the same words (docs/DEFINITIONS.md, IsComparison, IsDifference)."""
+"""Answers of `equal A B`: whether two lines accept the same words (docs/DEFINITIONS.md, IsComparison,
+IsDifference)."""
 import re
 
 from . import automata
@@ -64,7 +65,8 @@ def judge_difference(results, number, first, second, shortest, output, status):
     """A word that is said to tell the lines of the case of this number apart; the shortest ones have this length."""
     demand(status == 10, f"status {status}: a word of length {shortest} tells the lines apart in case {number}")
     text, case = output.decode("latin-1"), results.cases[number - 1]
-    form = re.fullmatch(r"differ in case (\d+)\nchoice((?: (?:0|[1-9]\d*))*)\n((?:letter [^\n]*\n)*)accepted by (\w+)\n", text)
+    form = re.fullmatch(r"differ in case (\d+)\nchoice((?: (?:0|[1-9]\d*))*)\n((?:letter [^\n]*\n)*)"
+                        r"accepted by (\w+)\n", text)
     demand(form, "the output is no difference")
     demand(form[1] == str(number), f"the first case that differs is {number}")
     sample, count = scaled(map(int, form[2].split())), len(results.parameters)
@@ -73,7 +75,8 @@ def judge_difference(results, number, first, second, shortest, output, status):
         terms = [read_term(line[7:], results.order, results.parameters, len(sample)) for line in form[3].splitlines()]
     except Refused:
         raise Wrong("a letter is no term") from None
-    demand(set(range(count, len(sample))) <= set().union(*map(levels_of, terms)), "a number is for no level of a letter")
+    used = set().union(*map(levels_of, terms))
+    demand(set(range(count, len(sample))) <= used, "a number is for no level of a letter")
     word = [value_at(term, sample) for term in terms]
     a, b = (machine_at(case, name, sample[:count]) for name in (first, second))
     demand(all(contains(a.letters, l) or contains(b.letters, l) for l in word), "a letter is in neither alphabet")

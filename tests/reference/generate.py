@@ -1,4 +1,5 @@
-"""Made cases: scripts, results, register automata, and changed texts of these. Each is made of a seed and nothing else."""
+"""Made cases: scripts, results, register automata, and changed texts of these. Each is made of a seed and nothing
+else."""
 import random
 import re
 
@@ -14,7 +15,8 @@ def set_type(of):
 
 
 class Scripts:
-    """Makes a script: statements over typed names, so that most of them end or fail only where something was planted."""
+    """Makes a script: statements over typed names, so that most of them end or fail only where something was
+    planted."""
 
     def __init__(self, rng, size):
         self.rng, self.left, self.order, self.count = rng, size, rng.random() < 0.5, 0
@@ -32,7 +34,8 @@ class Scripts:
         """A name that isn't in scope."""
         while True:
             self.count += 1
-            name = self.pick("s", "x", "y", "set_", "Long", "v") + str(self.rng.randint(0, 9) if self.chance(0.5) else self.count)
+            number = self.rng.randint(0, 9) if self.chance(0.5) else self.count
+            name = self.pick("s", "x", "y", "set_", "Long", "v") + str(number)
             if all(name != n for n, _, _ in self.scope):
                 return name
 
@@ -82,7 +85,8 @@ class Scripts:
         if depth <= 0:
             return self.pick("{}", "atoms") if of == ATOM else "{" + self.expr(of, 0) + "}"
         if of == ANY and self.chance(0.08):
-            return self.pick("reach({})", "reach({})", "part(minimise({}), 1)", "part(product({}, ({{'s0}}, atoms, {{}}, {{'s0}}, {{}})), 1)",
+            return self.pick("reach({})", "reach({})", "part(minimise({}), 1)",
+                             "part(product({}, ({{'s0}}, atoms, {{}}, {{'s0}}, {{}})), 1)",
                              "part(complement({}), 5)").format(self.machine())
         form = self.rng.choices(("listed", "atoms", "each", "operation", "flatten"), (4, 4, 6, 4, 1))[0]
         if form == "atoms" and of == ATOM:
@@ -184,7 +188,8 @@ class Scripts:
     def statement(self, depth, loops):
         """A statement."""
         self.left -= 1
-        form = self.rng.choices(("let", "assign", "add", "for", "if", "while", "assert", "print", "count", "fault", "split"),
+        form = self.rng.choices(("let", "assign", "add", "for", "if", "while", "assert", "print", "count", "fault",
+                                 "split"),
                                 (5, 2, 8, 6, 5, 1, 3, 2, 0.7, 2 if self.binding else 0.5, 2))[0]
         if form in ("for", "if", "while", "count") and (depth <= 0 or self.left < 0):
             form = "add"
@@ -207,7 +212,8 @@ class Scripts:
 
     def make_add(self, depth, loops):
         """A further member of a set."""
-        names = [(n, t) for n, t, made in self.scope if made is not None and (isinstance(t, tuple) or self.chance(0.01))]
+        names = [(n, t) for n, t, made in self.scope
+                 if made is not None and (isinstance(t, tuple) or self.chance(0.01))]
         if not names:
             return self.make_let(depth, loops)
         name, of = self.rng.choice(names)
@@ -246,14 +252,15 @@ class Scripts:
         return self.repeated("{{{}}}", ANY, None, self.pick(2, 2, 2, 2, 3, 3, 1000000, 1), depth, loops)
 
     def repeated(self, goal, of, value, turns, depth, loops):
-        """A new name that takes a value in each turn (None: the set of itself), until it is the goal. The block doesn't change
-        it, since it isn't known there."""
+        """A new name that takes a value in each turn (None: the set of itself), until it is the goal. The block
+        doesn't change it, since it isn't known there."""
         name = self.fresh()
         self.scope.append((name, "hidden", None))
         body = self.block(depth - 1, loops)[1:]
         self.scope[[n for n, _, _ in self.scope].index(name)] = (name, of, loops)
         start = f"{{{value}}}" if value else "{}"
-        return f"let {name} = {start}; while {name} != {goal} turns {turns} {{ {name} := {value or f'{{{name}}}'}; {body}"
+        value = value or f"{{{name}}}"
+        return f"let {name} = {start}; while {name} != {goal} turns {turns} {{ {name} := {value}; {body}"
 
     def make_assert(self, depth, loops):
         """An assertion, mostly one that says little."""
@@ -266,21 +273,25 @@ class Scripts:
         if not names:
             return self.make_let(depth, loops)
         (name, of), other = self.rng.choice(names), self.rng.choice(names)
-        ways = [f"add {self.expr(of, 1)} to {name};", f"{name} := {self.expr(set_type(of), 2)};", f"add 'way to {other[0]};"]
+        ways = [f"add {self.expr(of, 1)} to {name};", f"{name} := {self.expr(set_type(of), 2)};",
+                f"add 'way to {other[0]};"]
         first, second = self.rng.sample(ways, 2)
         return f"if {self.relation()} {{ {first} }}" + self.pick("", f" else {{ {second} }}")
 
     def make_fault(self, depth, loops):
         """What fails, if a condition on the names in scope holds."""
-        name, atom, other = self.fresh(), self.atom(1), self.atom(1)
-        bad = self.pick(f"assert {self.base(1)};", f"let {name} = part({atom}, 1);", f"let {name} = part(('p, {atom}), {self.pick(0, 3)});",
-                        f"for {name} in {atom} {{ }}", f"let {name} = flatten({{{atom}, {{}}}});", f"assert {other} in {atom};",
-                        f"let {name} = reach(({atom}, {{}}, {{}}, {{}}, {{}}));", f"while {atom} = {atom} turns 2 {{ }}",
+        name, atom, other, deep = self.fresh(), self.atom(1), self.atom(1), self.pick(24, 25)
+        bad = self.pick(f"assert {self.base(1)};", f"let {name} = part({atom}, 1);",
+                        f"let {name} = part(('p, {atom}), {self.pick(0, 3)});",
+                        f"for {name} in {atom} {{ }}", f"let {name} = flatten({{{atom}, {{}}}});",
+                        f"assert {other} in {atom};",
+                        f"let {name} = reach(({atom}, {{}}, {{}}, {{}}, {{}}));",
+                        f"while {atom} = {atom} turns 2 {{ }}",
                         f"let {name} = complement(({{{atom}, {other}}}, {{}}, {{}}, {{{atom}, {other}}}, {{}}));",
                         f"let {name} = minimise(({{{atom}}}, {{{other}}}, {{}}, {{{atom}}}, {{}}));",
                         f"assert {'{} <' if self.order else '{} subset'} {atom};",
-                        f"let {name} = {'{' * 40}{atom}{'}' * 40}; let {name}d = {'{' * 23}{name}{'}' * 23}; let {name}e = {{{name}d}};",
-                        f"let {name} = {{part({name}x, 2) for {name}x in {{({atom}, {other}), {self.expr(ANY, 1)}}}}};")
+                        f"let {name} = {'{' * 40}{atom}{'}' * 40}; let {name}d = {'{' * deep}{name}{'}' * deep};",
+                        f"let {name} = {{part({name}x, 2) for {name}x in {{({atom}, {other}), {self.expr(ANY)}}}}};")
         return f"if {self.cond(1)} {{ {bad} }}"
 
     def make_print(self, depth, loops):
@@ -295,7 +306,8 @@ class Scripts:
         for _ in range(self.pick(1, 1, 2)):
             word = self.pick("reach(m)", "empty(m)", "complement(m)", "minimise(m)", "product(m, m)", "product(m, n)")
             if word == "empty(m)":
-                lines.append(f"let e{len(lines)} = {{}}; if {word} {{ add 'empty to e{len(lines)}; }} print e{len(lines)};")
+                name = f"e{len(lines)}"
+                lines.append(f"let {name} = {{}}; if {word} {{ add 'empty to {name}; }} print {name};")
                 continue
             if word == "product(m, n)":
                 word = f"product(m, {m.changed().script()})"
@@ -326,8 +338,8 @@ def laid_out(rng, lines):
 
 
 class Machine:
-    """An automaton by rules: from states of a kind with atoms r0, r1, by letters of a kind with atoms l0, under a test. The same
-    rules are a script's expression or a term of results."""
+    """An automaton by rules: from states of a kind with atoms r0, r1, by letters of a kind with atoms l0, under a
+    test. The same rules are a script's expression or a term of results."""
 
     def __init__(self, rng, order, parameters, widest=2):
         self.rng, self.order, self.parameters = rng, order, list(parameters)
@@ -361,9 +373,11 @@ class Machine:
         return name, tuple(self.rng.choice(atoms) for _ in range(width))
 
     def changed(self):
-        """An automaton that is often like this one: with another final state, a rule less or a rule turned; or split states."""
+        """An automaton that is often like this one: with another final state, a rule less or a rule turned; or split
+        states."""
         m = Machine(self.rng, self.order, self.parameters)
-        m.states, m.letters, m.final, m.rules = list(self.states), list(self.letters), list(self.final), list(self.rules)
+        m.states, m.letters = list(self.states), list(self.letters)
+        m.final, m.rules = list(self.final), list(self.rules)
         for _ in range(self.rng.choice((0, 1, 1, 2))):
             i = self.rng.randrange(len(m.rules)) if m.rules else 0
             change = self.rng.choice(("final", "less", "turn", "turn", "letters"))
@@ -412,7 +426,9 @@ class Machine:
             return "{" + text(item) + (f" for {binders}{where}" if atoms else "") + "}"
 
         def union(pieces):
-            return "{}" if not pieces else one(*pieces[0]) if len(pieces) == 1 else f"union({one(*pieces[0])}, {union(pieces[1:])})"
+            if len(pieces) < 2:
+                return one(*pieces[0]) if pieces else "{}"
+            return f"union({one(*pieces[0])}, {union(pieces[1:])})"
         return "(" + ", ".join(map(union, self.pieces())) + ")"
 
     def term(self):
@@ -449,9 +465,12 @@ class Terms:
         if not levels or self.rng.random() < 0.05:
             return "false"
         ops = ("=", "!=", "<") if self.order else ("=", "!=")
-        cubes = [" and ".join(self.level(self.rng.randrange(levels)) + self.rng.choice(ops) + self.level(self.rng.randrange(levels))
-                              for _ in range(self.rng.choice((1, 1, 2)))) for _ in range(self.rng.choice((1, 1, 1, 2)))]
-        return " or ".join(cubes)
+
+        def literal():
+            left, right = self.rng.randrange(levels), self.rng.randrange(levels)
+            return self.level(left) + self.rng.choice(ops) + self.level(right)
+        counts = [self.rng.choice((1, 1, 2)) for _ in range(self.rng.choice((1, 1, 1, 2)))]
+        return " or ".join(" and ".join(literal() for _ in range(count)) for count in counts)
 
     def term(self, levels, depth):
         """A term inside of so many levels."""
@@ -477,7 +496,8 @@ class Terms:
 
 def header(version, order, parameters):
     """The first three lines of an answer."""
-    return [f"lois results {version}", "atoms " + ("order" if order else "equality"), " ".join(["parameters", *parameters])]
+    structure = "atoms " + ("order" if order else "equality")
+    return [f"lois results {version}", structure, " ".join(["parameters", *parameters])]
 
 
 def make_script(rng):
@@ -491,7 +511,8 @@ def make_answer(rng):
     terms = Terms(rng, order, parameters)
     if rng.random() < 0.3:
         count = len(parameters) + rng.randint(0, 3)
-        cause = rng.choice(("assertion failed", "not a set", "not atoms", "not a tuple", "no such part", "not an automaton",
+        cause = rng.choice(("assertion failed", "not a set", "not atoms", "not a tuple", "no such part",
+                            "not an automaton",
                             "not deterministic", "not complete", "turn limit", "depth limit"))
         lines = header(2, order, parameters) + [f"failed at {rng.randint(1, 20)}:{rng.randint(1, 90)}: {cause}"]
         lines.append(" ".join(["choice", *(str(rng.randint(0, 12)) for _ in range(count))]))
@@ -500,7 +521,8 @@ def make_answer(rng):
         lines = header(1, order, parameters)
         for _ in range(rng.randint(0, 3)):
             lines.append("case when " + (terms.guard(len(parameters)) if rng.random() < 0.5 else "true"))
-            lines += [f"{rng.choice(('x', 'y1', 'ends', 'cases'))} = {terms.term(len(parameters), 4)}" for _ in range(rng.randint(0, 3))]
+            for _ in range(rng.randint(0, 3)):
+                lines.append(f"{rng.choice(('x', 'y1', 'ends', 'cases'))} = {terms.term(len(parameters), 4)}")
     return "\n".join(lines + ["end", ""]).encode()
 
 
@@ -538,7 +560,8 @@ def make_registers(rng):
     """A register automaton."""
     order, count = rng.random() < 0.5, rng.choice((1, 1, 2, 2, 3, 4))
     states = rng.sample(("p", "q", "let", "end", "s_1"), rng.randint(1, 3 if count < 3 else 2))
-    lines = ["lois registers 1", "atoms " + ("order" if order else "equality"), f"registers {count}", " ".join(["states", *states]),
+    lines = ["lois registers 1", "atoms " + ("order" if order else "equality"), f"registers {count}",
+             " ".join(["states", *states]),
              "initial " + rng.choice(states), " ".join(["final", *rng.sample(states, rng.randint(0, len(states)))])]
     operands = ["x"] + [f"r{i + 1}" for i in range(count)]
     for _ in range(rng.randint(0, 5)):
@@ -551,11 +574,15 @@ def make_registers(rng):
 
 
 # ---- changed texts
-PIECES = sorted(WORDS) + [";", ",", "(", ")", "[", "]", "{", "}", ":=", ":", "=", "!=", "<", "a", "x", "zz", "'t", "'", "!", "0", "1",
-                          "10", "007", "123456789", "1234567890", "1000000", "1000001", "$0", "$1", "$2", "$00", "$17", "#", "\t",
-                          "\r", "\n", " ", "  ", "\x00", "\x7f", "\xff", "n" * 64, "n" * 65, "'" + "t" * 64, "'" + "t" * 65,
+PIECES = sorted(WORDS) + [";", ",", "(", ")", "[", "]", "{", "}", ":=", ":", "=", "!=", "<", "a", "x", "zz", "'t",
+                          "'", "!", "0", "1",
+                          "10", "007", "123456789", "1234567890", "1000000", "1000001", "$0", "$1", "$2", "$00",
+                          "$17", "#", "\t",
+                          "\r", "\n", " ", "  ", "\x00", "\x7f", "\xff", "n" * 64, "n" * 65, "'" + "t" * 64,
+                          "'" + "t" * 65,
                           "{" * 61, "[" * 64, "(" * 65, "{'a, " * 5, "('a, 'b, 'c, 'd, 'e, 'f, 'g, 'h)",
-                          "('a, 'b, 'c, 'd, 'e, 'f, 'g, 'h, 'i)", "case when ", " for ", " if true", "parameters", "store", "step"]
+                          "('a, 'b, 'c, 'd, 'e, 'f, 'g, 'h, 'i)", "case when ", " for ", " if true", "parameters",
+                          "store", "step"]
 
 
 def cut_points(text):
@@ -564,7 +591,8 @@ def cut_points(text):
 
 
 def changed(rng, source):
-    """A text with one or a few changes: bytes, pieces and lines that are left out, doubled, moved, put in or turned; or cut."""
+    """A text with one or a few changes: bytes, pieces and lines that are left out, doubled, moved, put in or turned;
+    or cut."""
     text = source.decode("latin-1")
     for _ in range(rng.choice((1, 1, 1, 2, 3))):
         points = cut_points(text)
@@ -598,7 +626,8 @@ def changed(rng, source):
         elif change in (10, 11):
             names = re.findall(r"\b[a-zA-Z]\w*", text) or ["a"]
             ends = [i + 1 for i, c in enumerate(text) if c in ";{}"] or [0]
-            put = rng.choice(("print N;", "N := N;", "add N to N;", "let N = {};", "if N < N { }", "for N in N { N := {}; print N; }"))
+            put = rng.choice(("print N;", "N := N;", "add N to N;", "let N = {};", "if N < N { }",
+                              "for N in N { N := {}; print N; }"))
             j = rng.choice(ends)
             text = text[:j] + re.sub("N", lambda _: rng.choice(names), put) + text[j:]
         else:
@@ -607,8 +636,8 @@ def changed(rng, source):
 
 
 def case(kind, seed, number):
-    """The case of a kind and number: the words of the command and the text. Kinds are scripts, texts, equal, registers and
-    census."""
+    """The case of a kind and number: the words of the command and the text. Kinds are scripts, texts, equal, registers
+    and census."""
     rng = random.Random(f"{kind} {seed} {number}")
     if kind == "scripts":
         return ("run",), make_script(rng)

@@ -75,7 +75,8 @@ def judge_run(source, output, status, normal=False):
     for choice in longer((), len(names), (), (), script.order):
         judge_choice(script, source, answer, choice)
     for i, case in enumerate(answer.cases):
-        demand(any(True for _ in longer((), len(names), (case.when,), (), script.order)), f"case {i + 1} holds nowhere")
+        somewhere = any(True for _ in longer((), len(names), (case.when,), (), script.order))
+        demand(somewhere, f"case {i + 1} holds nowhere")
     if normal:
         judge_normal(answer)
 
@@ -91,7 +92,8 @@ def said(source, names, choice, failing):
 
 
 def judge_choice(script, source, answer, choice):
-    """Exactly one case holds at a choice, and its lines are, name by name and value by value, those that the script prints."""
+    """Exactly one case holds at a choice, and its lines are, name by name and value by value, those that the script
+    prints."""
     names = answer.parameters
     where = dict(zip(names, unscaled(choice)))
     try:
@@ -134,7 +136,8 @@ def some_failure(script, source, answer, choice):
 
 # ---- normal cases (docs/DEFINITIONS.md, IsNormalCase)
 def judge_normal(answer):
-    """No two cases have equal lines; constraints and guards are normalised; the terms are normal where their case holds."""
+    """No two cases have equal lines; constraints and guards are normalised; the terms are normal where their case
+    holds."""
     lines = [tuple(case.lines) for case in answer.cases]
     demand(len(set(lines)) == len(lines), "two cases have equal lines")
     for number, case in enumerate(answer.cases, 1):
@@ -147,8 +150,8 @@ def judge_normal(answer):
 
 
 def demand_normalised(guard):
-    """No literal joins a level to itself; `=` and `!=` have the lower level on the left; literals and cubes strictly increase;
-    no cube's literals contain all of another's."""
+    """No literal joins a level to itself; `=` and `!=` have the lower level on the left; literals and cubes strictly
+    increase; no cube's literals contain all of another's."""
     for cube in guard:
         demand(all(l != r and (op == 2 or l < r) for l, r, op in cube), f"literals of {guard}")
         demand(list(cube) == sorted(set(cube)), f"order of literals in {guard}")
@@ -175,15 +178,17 @@ def needed(term, choice):
 
 
 def demand_normal(term, under, levels, order):
-    """Inside of so many levels, where the guards `under` hold: each piece of a set is met somewhere, each binder occurs in its
-    item and differs somewhere from each earlier level, and somewhere the piece has a member that the others lack."""
+    """Inside of so many levels, where the guards `under` hold: each piece of a set is met somewhere, each binder
+    occurs in its item and differs somewhere from each earlier level, and somewhere the piece has a member that the
+    others lack."""
     if term[0] == "tuple":
         for part in term[1]:
             demand_normal(part, under, levels, order)
     if term[0] != "set":
         return
     needless = set(range(len(term[1])))
-    for choice in choices_of(levels, levels_of(term).union(*map(guard_levels, under)), under, order) if needless else ():
+    used = levels_of(term).union(*map(guard_levels, under))
+    for choice in choices_of(levels, used, under, order) if needless else ():
         needless -= needed(term, choice)
         if not needless:
             break

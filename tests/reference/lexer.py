@@ -2,8 +2,9 @@
 import re
 from typing import NamedTuple
 
-WORDS = frozenset("""atoms equality order parameter let add to for in where if else while turns assert print true false not
-and or exists forall subset empty union inter minus flatten part reach product complement minimise case end""".split())
+WORDS = frozenset("""atoms equality order parameter let add to for in where if else while turns assert print true false
+not and or exists forall subset empty union inter minus flatten part reach product complement minimise case
+end""".split())
 LIMIT = 1_048_576
 WORD = re.compile(r"[A-Za-z][A-Za-z0-9_]*")
 DIGITS = re.compile(r"[0-9]+")

@@ -1,8 +1,9 @@
 """What scripts mean, one store at a time (docs/LANGUAGE.md; docs/DEFINITIONS.md, What a script means).
 
-A loop, a comprehension or a quantifier runs over one member of each orbit by the automorphisms that fix the atoms of all names
-that it mentions. Whatever else it meets is the image of one of these runs by such an automorphism, since no form of the
-language tells a run from its image; so truths are the same there, and values are the images, which `closure` adds.
+A loop, a comprehension or a quantifier runs over one member of each orbit by the automorphisms that fix the atoms of
+all names that it mentions. Whatever else it meets is the image of one of these runs by such an automorphism, since no
+form of the language tells a run from its image; so truths are the same there, and values are the images, which
+`closure` adds.
 
 Failures are triples of a place, a cause and the path of the loops' elements, the outermost first.
 """
@@ -12,8 +13,8 @@ from .values import (Budget, all_atoms, atom, closure, combined, contains, inclu
                      orbits_over, pack, tag, united, unpack)
 
 DEEPEST = 64
-STATUS = {"assertion failed": 1, "not a set": 2, "not atoms": 2, "not a tuple": 2, "no such part": 2, "not an automaton": 2,
-          "not deterministic": 2, "not complete": 2, "turn limit": 3, "depth limit": 4}
+STATUS = {"assertion failed": 1, "not a set": 2, "not atoms": 2, "not a tuple": 2, "no such part": 2,
+          "not an automaton": 2, "not deterministic": 2, "not complete": 2, "turn limit": 3, "depth limit": 4}
 SETS = {"union": frozenset.union, "inter": frozenset.intersection, "minus": frozenset.difference}
 
 
@@ -57,9 +58,9 @@ def machine(e, store, faults, complete=False):
 
 
 def runs(binders, store, points, faults):
-    """The stores that the binders lead to, up to automorphisms that fix the points, each with its own points."""
+    """The stores that the binders lead to, up to automorphisms that fix the points."""
     if not binders:
-        return [(store, points)]
+        return [store]
     over = set_of(binders[0].value, store, faults)
     found = []
     for member in members(over, points) if over else ():
@@ -79,7 +80,8 @@ def evaluate(e, store, faults):
 
 
 def worth(e, store, faults):
-    """The same without a look at the depth; any value where `faults`, which is empty before, tells that some part fails."""
+    """The same without a look at the depth; any value where `faults`, which is empty before, tells that some part
+    fails."""
     if e.kind == "atoms":
         return all_atoms()
     if e.kind == "var":
@@ -112,7 +114,7 @@ def worth(e, store, faults):
 def comprehension(e, store, faults):
     """The set of the values of the item where the condition is true."""
     points, items = points_of(e, store), []
-    for inner, _ in runs(e.binders, store, points, faults):
+    for inner in runs(e.binders, store, points, faults):
         if holds(e.cond, inner, faults):
             items.append(evaluate(e.parts[0], inner, faults))
     return None if faults else closure(items, points)
@@ -146,7 +148,7 @@ def truth_of(c, store, faults):
         truths = [holds(p, store, faults) for p in c.parts]
         return {"not": not truths[0], "all": all(truths), "any": any(truths)}[c.kind]
     if c.kind in ("exists", "forall"):
-        truths = [holds(c.parts[0], inner, faults) for inner, _ in runs(c.binders, store, points_of(c, store), faults)]
+        truths = [holds(c.parts[0], inner, faults) for inner in runs(c.binders, store, points_of(c, store), faults)]
         return any(truths) if c.kind == "exists" else all(truths)
     if c.kind == "empty":
         m = machine(c.parts[0], store, faults)
@@ -168,7 +170,8 @@ def truth_of(c, store, faults):
 # ---- statements: how they end
 def added_names(body):
     """The names that statements add to, in whatever depth."""
-    return frozenset().union(*({s.name} if s.kind == "add" else added_names(s.body) | added_names(s.other) for s in body))
+    inner = (added_names(s.body) | added_names(s.other) | ({s.name} if s.kind == "add" else set()) for s in body)
+    return frozenset().union(*inner)
 
 
 def sure(value, faults, path=()):
@@ -227,8 +230,8 @@ def grown(s, store, faults):
 
 
 def turns(s, store, lines):
-    """For each look at the condition of a `while`: how many turns are done, and the store. A store that comes back does so
-    for ever: then the turns go on to their end at once."""
+    """For each look at the condition of a `while`: how many turns are done, and the store. A store that comes back
+    does so for ever: then the turns go on to their end at once."""
     seen = set()
     for done in range(s.number + 1):
         yield done, store
@@ -244,7 +247,8 @@ def turns(s, store, lines):
 
 
 def elements(s, store):
-    """The atoms that a `for` mentions, and up to automorphisms that fix them its elements, each with the store of its run."""
+    """The atoms that a `for` mentions, and up to automorphisms that fix them its elements, each with the store of its
+    run."""
     faults, found = set(), []
     value = set_of(s.binders[0].value, store, faults)
     points = points_of(s, store)
@@ -259,7 +263,8 @@ def elements(s, store):
 def loop_ends(s, store):
     """Each set has its old members and those that it has at the end of the run for some member."""
     points, found = elements(s, store)
-    gathered = {n: set(orbits_over(store[n], points)) for n in added_names(s.body) if n in store and store[n].kind == "set"}
+    outer = [n for n in added_names(s.body) if n in store and store[n].kind == "set"]
+    gathered = {n: set(orbits_over(store[n], points)) for n in outer}
     for member, inner in found:
         try:
             after = block_ends(s.body, inner, None)
@@ -285,8 +290,8 @@ def list_fails(body, store, goal):
 
 
 def fails(s, store, goal):
-    """Whether a statement fails at this place, for this cause, with this path of elements. They are concrete values, so the
-    run is that of these elements and of no others of their orbits."""
+    """Whether a statement fails at this place, for this cause, with this path of elements. They are concrete values,
+    so the run is that of these elements and of no others of their orbits."""
     pos, cause, path = goal
     faults = set()
     if s.kind in ("let", "assign"):

@@ -16,12 +16,13 @@ OPERANDS = {"union": 2, "inter": 2, "minus": 2, "product": 2, "flatten": 1, "rea
 class Node:
     """A form of the tree. `pos` is the offset of its first token where no other is named.
 
-    Expressions: atoms; var, tag (name); tuple, listed (parts); each (parts: the item; binders; cond); part (parts: one;
-    number); union, inter, minus, product, flatten, reach, complement, minimise (parts: the operands).
-    Conditions: true, false; =, !=, <, in, subset (parts: two expressions; the place is the relation's); empty (parts: one);
-    not, all, any (parts: conditions); exists, forall (binders: one; parts: one condition).
-    Statements: let, assign (name, value; the name's place); add (value, name; the name's place); for (binders: one; cond, body);
-    if (cond, body, other); while (cond, number, body); assert (cond); print (name; its place is `name_pos`).
+    Expressions: atoms; var, tag (name); tuple, listed (parts); each (parts: the item; binders; cond); part (parts:
+    one; number); union, inter, minus, product, flatten, reach, complement, minimise (parts: the operands).
+    Conditions: true, false; =, !=, <, in, subset (parts: two expressions; the place is the relation's); empty (parts:
+    one); not, all, any (parts: conditions); exists, forall (binders: one; parts: one condition).
+    Statements: let, assign (name, value; the name's place); add (value, name; the name's place); for (binders: one;
+    cond, body); if (cond, body, other); while (cond, number, body); assert (cond); print (name; its place is
+    `name_pos`).
     A binder (name, value) is a name in a set, of a comprehension, a quantifier or a `for`; the place is the name's.
     """
     kind: str
@@ -42,7 +43,8 @@ class Node:
 
 
 class Script(NamedTuple):
-    """Whether atoms are ordered, the parameters as pairs of a place and a name, the statements, and the printed form."""
+    """Whether atoms are ordered, the parameters as pairs of a place and a name, the statements, and the printed
+    form."""
     order: bool
     parameters: tuple
     body: tuple
@@ -57,8 +59,8 @@ def names_in(node):
 
 
 class Parser:
-    """Reads tokens from the left, one by one. `dropped` are those that the printed form leaves out, `ends` those before the end
-    of a line in it; `brackets` has for a condition in brackets the tokens of one pair of them."""
+    """Reads tokens from the left, one by one. `dropped` are those that the printed form leaves out, `ends` those
+    before the end of a line in it; `brackets` has for a condition in brackets the tokens of one pair of them."""
 
     def __init__(self, source):
         self.tokens, self.at, self.open = tokens(source), 0, 0
@@ -267,7 +269,8 @@ class Parser:
         return self.joined("any", self.several(lambda: self.joined("all", self.several(self.unit, "and")), "or"))
 
     def joined(self, kind, parts):
-        """Two or more conditions as one. In it the printed form has brackets around `any`, and in an `all` around `all`."""
+        """Two or more conditions as one. In it the printed form has brackets around `any`, and in an `all` around
+        `all`."""
         if len(parts) == 1:
             return parts[0]
         for part in parts:

@@ -13,7 +13,8 @@ STEP = re.compile(rf"step ({NAME}) ({NAME}) when (true|\S+(?: and \S+)*) store (
 
 
 class Step(NamedTuple):
-    """From a state to a state, where all tests (two registers, 0 being the letter, and a relation) hold; what is stored."""
+    """From a state to a state, where all tests (two registers, 0 being the letter, and a relation) hold; what is
+    stored."""
     source: str
     goal: str
     tests: tuple

@@ -8,8 +8,8 @@ RULES = {1: "unknown name", 2: "name declared again", 3: "assignment to outer va
 class Scope:
     """Walks over a script and notes each broken rule as a pair of a place and the rule's number.
 
-    `known` has for each name in scope in how many `for`s a `let` made it, or None where it isn't a variable: a parameter, or
-    the name of a `for`, a comprehension or a quantifier.
+    `known` has for each name in scope in how many `for`s a `let` made it, or None where it isn't a variable: a
+    parameter, or the name of a `for`, a comprehension or a quantifier.
     """
 
     def __init__(self, script):
@@ -49,7 +49,8 @@ class Scope:
         return known
 
     def forms(self, node, known):
-        """The expressions and conditions of a form; what is known behind its binders, which the sets before them don't know."""
+        """The expressions and conditions of a form; what is known behind its binders, which the sets before them don't
+        know."""
         if node.kind == "var":
             self.rule(1, node.name in known, node.pos)
         self.rule(5, node.kind != "<" or self.order, node.pos)

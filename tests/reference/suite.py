@@ -24,7 +24,8 @@ def judge_answer(words, source, output, status, seconds=SECONDS, normal=True):
 
 
 def run_case(what):
-    """Runs the program on one case: what the case is, whether it passed, failed or is undecided, and what to print of it."""
+    """Runs the program on one case: what the case is, whether it passed, failed or is undecided, and what to print of
+    it."""
     program, kind, seed, number = what
     sys.setrecursionlimit(100_000)
     words, source = generate.case(kind, seed, number)
@@ -38,7 +39,8 @@ def run_case(what):
         return kind, "undecided", str(u)
     except judge.Wrong as w:
         return kind, "failed", (f"---- {kind} {number} of seed {seed}: {' '.join(words)}\n{source.decode('latin-1')}\n"
-                                f"---- status {ran.returncode}, output\n{ran.stdout.decode('latin-1')}\n---- but\n{w}\n")
+                                f"---- status {ran.returncode}, output\n{ran.stdout.decode('latin-1')}\n"
+                                f"---- but\n{w}\n")
     return kind, "passed", ran.returncode
 
 
@@ -47,7 +49,8 @@ def run_suite(args):
     if not os.access(args.program, os.X_OK):
         print(f"there is no program {args.program}")
         return 2
-    counts = [("scripts", args.scripts), ("texts", args.texts)] + [(k, args.further) for k in ("equal", "registers", "census")]
+    counts = [("scripts", args.scripts), ("texts", args.texts)]
+    counts += [(kind, args.further) for kind in ("equal", "registers", "census")]
     cases = [(args.program, kind, args.seed, number) for kind, count in counts for number in range(count)]
     found, statuses = Counter(), Counter()
     with multiprocessing.Pool(args.jobs, maxtasksperchild=200) as pool:

@@ -1,19 +1,21 @@
 """Values over concrete atoms: a set is a finite union of orbits.
 
-The atoms are the fractions with their order. An automorphism is a bijection of the atoms that keeps the order; what it does
-with atoms it does with values. Some points are fixed by those that leave each of them in place. Three facts are used.
+The atoms are the fractions with their order. An automorphism is a bijection of the atoms that keeps the order; what it
+does with atoms it does with values. Some points are fixed by those that leave each of them in place. Three facts are
+used.
 
-- *Homogeneity.* Two increasing lists of atoms are taken to each other by an automorphism that fixes the points exactly where
-  they lie in the same way: at the same points, and as many in each gap between them. So a list is known, up to such
-  automorphisms, by its places: 2i + 1 at point i, and 2i in the gap below point i (Bojanczyk, Slightly Infinite Sets).
-- *Least supports.* Of each definable value there is a least finite set of atoms, its support, such that all automorphisms
-  that fix these leave the value as it is; it is the intersection of all sets that do so.
-- *Rigidity.* An automorphism that maps a finite set of atoms onto itself leaves each of them in place. So the support, in
-  increasing order, together with what the value is like when its atoms are only numbered, determines the value.
+- *Homogeneity.* Two increasing lists of atoms are taken to each other by an automorphism that fixes the points exactly
+  where they lie in the same way: at the same points, and as many in each gap between them. So a list is known, up to
+  such automorphisms, by its places: 2i + 1 at point i, and 2i in the gap below point i (Bojanczyk, Slightly Infinite
+  Sets).
+- *Least supports.* Of each definable value there is a least finite set of atoms, its support, such that all
+  automorphisms that fix these leave the value as it is; it is the intersection of all sets that do so.
+- *Rigidity.* An automorphism that maps a finite set of atoms onto itself leaves each of them in place. So the support,
+  in increasing order, together with what the value is like when its atoms are only numbered, determines the value.
 
-A value is therefore a pair: its support, and its shape, which has the atoms' numbers in the place of atoms. A set's shape has
-for each orbit of members (by the automorphisms that fix the support) the members' shape and the places of their atoms. Equal
-shapes are one object, so values are the same exactly where their pairs are equal.
+A value is therefore a pair: its support, and its shape, which has the atoms' numbers in the place of atoms. A set's
+shape has for each orbit of members (by the automorphisms that fix the support) the members' shape and the places of
+their atoms. Equal shapes are one object, so values are the same exactly where their pairs are equal.
 """
 import time
 from bisect import bisect_left
@@ -46,8 +48,9 @@ class Budget:
 
 
 class Shape:
-    """What a value is like, with numbered atoms. `form` is ("atom",), ("tag", name), ("tuple", pairs of a part's shape and
-    the numbers of its atoms), or ("set", count of atoms, frozenset of pairs of a member's shape and its atoms' places)."""
+    """What a value is like, with numbered atoms. `form` is ("atom",), ("tag", name), ("tuple", pairs of a part's shape
+    and the numbers of its atoms), or ("set", count of atoms, frozenset of pairs of a member's shape and its atoms'
+    places)."""
     known = {}
 
     def __init__(self, form):
@@ -122,14 +125,16 @@ def atoms_at(points, at):
 
 @lru_cache(maxsize=100_000)
 def finer(at, positions, count):
-    """All places to `count` points of increasing atoms whose places to those with the given positions among them are `at`."""
+    """All places to `count` points of increasing atoms whose places to those with the given positions among them are
+    `at`."""
     if not at:
         return ((),)
     i = at[0] // 2
     if at[0] % 2:
         choices = (2 * positions[i] + 1,)
     else:
-        choices = range(2 * positions[i - 1] + 2 if i else 0, (2 * positions[i] if i < len(positions) else 2 * count) + 1)
+        end = positions[i] if i < len(positions) else count
+        choices = range(2 * positions[i - 1] + 2 if i else 0, 2 * end + 1)
     return tuple((c, *rest) for rest in finer(at[1:], positions, count) for c in choices
                  if not rest or c < rest[0] or (c == rest[0] and c % 2 == 0))
 
@@ -189,8 +194,8 @@ def closure(values, points):
 
 
 def united(orbits, points):
-    """The set of these orbits over the points. Its support are the points that can't be dropped, one by one: supports are
-    closed under intersection."""
+    """The set of these orbits over the points. Its support are the points that can't be dropped, one by one: supports
+    are closed under intersection."""
     for i in reversed(range(len(points))):
         merged_orbits = without(orbits, i)
         if merged_orbits is not None:
