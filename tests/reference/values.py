@@ -129,14 +129,16 @@ def finer(at, positions, count):
     `at`."""
     if not at:
         return ((),)
-    i = at[0] // 2
+    i, found = at[0] // 2, []
     if at[0] % 2:
         choices = (2 * positions[i] + 1,)
     else:
         end = positions[i] if i < len(positions) else count
         choices = range(2 * positions[i - 1] + 2 if i else 0, 2 * end + 1)
-    return tuple((c, *rest) for rest in finer(at[1:], positions, count) for c in choices
-                 if not rest or c < rest[0] or (c == rest[0] and c % 2 == 0))
+    for rest in finer(at[1:], positions, count):
+        Budget.spend(len(choices))
+        found += [(c, *rest) for c in choices if not rest or c < rest[0] or (c == rest[0] and c % 2 == 0)]
+    return tuple(found)
 
 
 # ---- values
