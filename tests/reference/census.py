@@ -17,7 +17,7 @@ def orbit_shapes(term, sample, order):
     atoms = sorted({sample[i] for i in levels_of(term) if i < len(sample)})
     shapes = set()
     for moved in [atoms] if order else permutations(atoms):
-        Budget.spend(1)
+        Budget.check()
         to = dict(zip(atoms, moved))
         shapes.add(value_at(term, tuple(to.get(a, a) for a in sample)).shape)
     return shapes

@@ -28,7 +28,7 @@ def longer(choice, count, guards, points, order=True):
     the points, which are those of the choice that matter. An atom lies at one of the points and those before it, or in
     a gap between them. Where only equality matters there is but one gap, since all bijections are automorphisms
     then."""
-    Budget.spend(1)
+    Budget.check()
     if not all(meets(g, choice) for g in guards):
         return
     if not count:
@@ -61,7 +61,7 @@ def guard_levels(guard):
 def value_at(term, choice):
     """The value of a term at a choice of atoms. A set is kept by the automorphisms that fix the atoms at the levels
     that it uses, so one choice of its binders from each orbit will do."""
-    Budget.spend(1)
+    Budget.check()
     if term[0] == "level":
         return atom(choice[term[1]])
     if term[0] == "tag":

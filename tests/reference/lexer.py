@@ -6,9 +6,7 @@ WORDS = frozenset("""atoms equality order parameter let add to for in where if e
 not and or exists forall subset empty union inter minus flatten part reach product complement minimise case
 end""".split())
 LIMIT = 1_048_576
-WORD = re.compile(r"[A-Za-z][A-Za-z0-9_]*")
-DIGITS = re.compile(r"[0-9]+")
-SYMBOLS = (":=", "!=", ";", ",", "(", ")", "[", "]", "{", "}", ":", "=", "<")
+TOKEN = re.compile(r"'?[A-Za-z][A-Za-z0-9_]*|[0-9]+|:=|!=|[;,()\[\]{}:=<]")
 
 
 class Refused(Exception):
@@ -57,22 +55,19 @@ def comment_end(text, start):
 
 def token_at(text, at):
     """The longest token at an offset."""
-    tagged = text[at] == "'"
-    word = WORD.match(text, at + tagged)
-    if word:
-        if len(word.group()) > 64:
-            raise Refused(at, "long name")
-        kind = "tag" if tagged else "word" if word.group() in WORDS else "name"
-        return Token(kind, text[at:word.end()], at)
-    digits = DIGITS.match(text, at)
-    if digits:
-        if len(digits.group()) > 9 or (digits.group()[0] == "0" and digits.group() != "0"):
+    found = TOKEN.match(text, at)
+    if not found:
+        raise Refused(at, "bad byte")
+    token = found.group()
+    if token[0].isdigit():
+        if len(token) > 9 or (token[0] == "0" and token != "0"):
             raise Refused(at, "bad number")
-        return Token("number", digits.group(), at)
-    for symbol in SYMBOLS:
-        if text.startswith(symbol, at):
-            return Token("symbol", symbol, at)
-    raise Refused(at, "bad byte")
+        return Token("number", token, at)
+    if not token[-1].isalnum() and token[-1] != "_":
+        return Token("symbol", token, at)
+    if len(token.lstrip("'")) > 64:
+        raise Refused(at, "long name")
+    return Token("tag" if token[0] == "'" else "word" if token in WORDS else "name", token, at)
 
 
 def tokens(source):

@@ -70,7 +70,7 @@ def runs(binders, store, points, faults):
 
 def evaluate(e, store, faults):
     """The value of an expression, which is at most 64 deep; None where some part fails."""
-    Budget.spend(1)
+    Budget.check()
     own = set()
     value = worth(e, store, own)
     if not own:
@@ -133,7 +133,7 @@ def flattened(e, store, faults):
 
 def holds(c, store, faults):
     """The truth of a condition; None where some part fails. All parts are looked at."""
-    Budget.spend(1)
+    Budget.check()
     own = set()
     truth = truth_of(c, store, own)
     faults |= own

@@ -31,20 +31,19 @@ class Undecided(Exception):
 
 
 class Budget:
-    """How many steps are left, and until when."""
-    steps, until = 10 ** 12, float("inf")
+    """Until when a question may be looked at."""
+    until = float("inf")
 
     @classmethod
-    def start(cls, seconds, steps=10 ** 12):
-        """From now on so many seconds and steps may be used."""
-        cls.steps, cls.until = steps, time.monotonic() + seconds
+    def start(cls, seconds):
+        """From now on so many seconds may be used."""
+        cls.until = time.monotonic() + seconds
 
     @classmethod
-    def spend(cls, steps):
-        """Uses up some steps."""
-        cls.steps -= steps
-        if cls.steps < 0 or time.monotonic() > cls.until:
-            raise Undecided("over its budget of " + ("steps" if cls.steps < 0 else "seconds"))
+    def check(cls):
+        """Ends what takes longer."""
+        if time.monotonic() > cls.until:
+            raise Undecided("over its budget of seconds")
 
 
 class Shape:
@@ -136,7 +135,7 @@ def finer(at, positions, count):
         end = positions[i] if i < len(positions) else count
         choices = range(2 * positions[i - 1] + 2 if i else 0, 2 * end + 1)
     for rest in finer(at[1:], positions, count):
-        Budget.spend(len(choices))
+        Budget.check()
         found += [(c, *rest) for c in choices if not rest or c < rest[0] or (c == rest[0] and c % 2 == 0)]
     return tuple(found)
 
@@ -174,14 +173,14 @@ def orbits_over(value, points):
 def orbits_of_shape(shape, positions, count):
     """The same for a set of this shape whose atoms have these positions among so many points."""
     found = frozenset((s, c) for s, at in shape.form[2] for c in finer(at, positions, count))
-    Budget.spend(len(found))
+    Budget.check()
     return found
 
 
 def members(value, points):
     """One member of each orbit by the automorphisms that fix the points, which contain the set's support."""
     orbits = orbits_over(value, points)
-    Budget.spend(len(orbits))
+    Budget.check()
     return [Value(shape, atoms_at(points, at)) for shape, at in orbits]
 
 
