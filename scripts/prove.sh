@@ -32,7 +32,7 @@ while read -r line; do
   crate=crates/${line%%[: ]*}
   mkdir -p "$copy/$crate"
   for part in src specs proofs args data status stdin stdout; do
-    [ ! -e "$top/$crate/$part" ] || cp -r "$top/$crate/$part" "$copy/$crate"
+    [ ! -e "$top/$crate/$part" ] || cp -r --no-preserve=mode "$top/$crate/$part" "$copy/$crate"
   done
   crates=$((crates + 1))
 done <"$copy/crates.txt"
