@@ -52,7 +52,10 @@ def exists(top, folder, path):
     if any(os.path.exists(os.path.join(top, place, path + ending)) for place in places for ending in ("", ".antt")):
         return True
     # a file of a crate that the sentence names
-    return any(os.path.exists(os.path.join(top, "crates", crate, path)) for crate in os.listdir(os.path.join(top, "crates")))
+    crates = os.path.join(top, "crates")
+    return os.path.exists(os.path.join(crates, path)) or any(
+        os.path.exists(os.path.join(crates, crate, path + ending)) for crate in os.listdir(crates) for ending in ("", ".antt")
+    )
 
 
 def complaints_of(top, path, text, words):
