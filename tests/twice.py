@@ -19,8 +19,34 @@ PASSED = re.compile(r"^(?:pub )?(?:ghost )?(?:use|mod) |^(?:ensures|requires)\b|
 # words of Rust, of contracts and of antt, which are no names
 KEPT_WORDS = set("""fn pub let mut if else match for in while return Ok Err Some None self Self true false impl struct enum trait
 ensures requires ghost abbrev unfoldable record data where elim inl inr subst refl sym ap tt absurd""".split())
-# pairs of files whose runs have a reason in docs/DECISIONS.md, "What stands twice"
-WITH_REASON = set()
+# Runs that stay, as docs/DECISIONS.md says under "What stands twice": both places are of one group.
+GROUPS = {
+    "list types have the same methods": """lois_base/src/values lois_base/src/logic lois_base/src/words lois_base/src/guards lois_base/src/numbers
+        lois_answers/src/results lois_census/src/counting lois_census/src/orbits lois_context/src/slots lois_registers/src/automata
+        lois_rounds/src/families lois_script/src/script lois_script/src/syntax""",
+    "levels are moved in each crate's own trees": """lois_constraint/src/levels lois_simplify/src/moving lois_terms/src/shifting
+        lois_shortest_word/src/lowering""",
+    "deciders implement one trait": """lois_deciders/src/graph lois_deciders/src/plain lois_vectors_atoms/src/base lois_vectors_rows/src/asking""",
+    "readers stop with the same errors": "lois_reader/src/parse_error lois_registers/src/parse_error",
+    "a comprehension is made for each step": """lois_automata/src/conditions lois_automata/src/frontier lois_automata/src/pairing
+        lois_shortest_word/src/layers lois_shortest_word/src/steps lois_shortest_word/src/symbolic_states""",
+    "a tuple of five is made": "lois_automata/src/parts lois_registers/src/translating",
+    "tables of words": "lois_descent/src/lexemes lois_reader/src/answers",
+    "each part of a term is asked the same": "lois_answers/src/sound lois_terms/src/reading",
+    "two facts of one tree": "lois_interp/specs/WithinLimits lois_script/specs/Limits",
+    "tests make the same small values": """lois_vectors/src/tests lois_vectors_rows/src/calling lois_vectors_rows/src/spelling
+        lois_vectors_contexts/src/making lois_vectors_expressions/src/making lois_vectors_sets/src/making lois_vectors_statements/src/making
+        lois_vectors_atoms/src/constraint""",
+}
+# Two forms of one kind mirror one another in these files: a tuple and a set, intersection and difference, input and output.
+MIRRORS = """lois_algebra/src/depth lois_eval/src/evaluating lois_eval/src/machines lois_eval/src/relations lois_outside/src/standard
+    lois_parser/src/conditions lois_printer/src/terms lois_reader/src/terms lois_relate/src/building""".split()
+
+
+def has_reason(one, other):
+    """Whether two files belong to one group, or are one file of mirrors."""
+    names = {re.sub(r"^crates/|\.\w+$", "", path) for path in (one, other)}
+    return any(names <= set(group.split()) for group in GROUPS.values()) or len(names) == 1 and names <= set(MIRRORS)
 
 
 def counted_lines(path, text):
@@ -79,7 +105,7 @@ def pairs(top):
     for other, path, partner, line in sorted(found):
         listed.setdefault((other, path), []).append((partner, line))
     for (other, path), lines in sorted(listed.items()):
-        if (other, path) not in WITH_REASON:
+        if not has_reason(other, path):
             yield f"{other}:{lines[0][0]} ~ {path}:{lines[0][1]} ({len(lines) + LINES - 1} lines or more)"
 
 
