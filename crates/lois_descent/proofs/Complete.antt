@@ -2,10 +2,8 @@
 -- then is spelled behind it.
 use Rattle.std.proofs.Common.{◌≡◌, ℕ, suc, zero, ◌+◌, ◌≤◌, Bool, true, false, Option, Some, None, List, [], ◌∷◌, ◌++◌, inl, inr, refl, sym, ◌∙◌, subst, arith, codes, le-leb}
 use Rattle.std.specs.Prelude.{option_map}
-use Rattle.lois_lexer.specs.declared.TokenKind.TheVariants as kinds
-use Rattle.lois_script.specs.Grammar.{PlacedToken, Spelling, ◌▹◌, Bracketed, TakesSymbol, HasArity, operation_word, SpellsExpr, SpellsExprs, SpellsCond, SpellsMoreUnits, SpellsMoreConjunctions, Enclosed, is_unit, is_base, is_conjunction, SpellsStmt, SpellsStmts}
+use Rattle.lois_script.specs.Grammar.{PlacedToken, Spelling, ◌▹◌, Bracketed, TakesSymbol, HasArity, SpellsExpr, SpellsExprs, SpellsCond, SpellsMoreUnits, SpellsMoreConjunctions, Enclosed, is_unit, is_base, is_conjunction, SpellsStmt, SpellsStmts}
 use Rattle.lois_script.specs.Limits.{width, IsNarrow, AreNarrow, CondIsNarrow, CondsAreNarrow, StmtIsWithin, StmtsAreWithin}
-use Rattle.lois_descent.specs.Lexemes.{lexeme_from}
 use Rattle.lois_script.specs.Tree.{ExprD, atoms, var, tag, tuple, listed, each, part, apply, ExprsD, no_exprs, expr, binding, no_bindings, bind, CondD, truth, falsity, same, differ, below, member, included, empty, not, all, any, exists, every, CondsD, no_conds, cond, StmtD, «let», assign, add, for, if, while, assert, print, StmtsD, no_stmts, stmt}
 use Rattle.lois_script.specs.declared.syntax.Operation.{Operation}
 use Rattle.lois_script.specs.declared.syntax.Operation.TheVariants.{Union, Inter, Minus, Flatten, Reach, Product, Complement, Minimise}
@@ -21,20 +19,11 @@ use Rattle.lois_descent.specs.declared.lexemes.Punctuator.TheVariants as punctua
 use Rattle.lois_descent.specs.Steps.{One}
 use Rattle.lois_descent.proofs.Language.{AUnit, Operands, MoreParts, MoreItems, MoreBindings, AfterItem, AStatements, Turns, Ends, MoreCondition, AWhere, ACondition, AfterIf, MoreNames, Means, AllMean, BottomMeans, Completes, join}
 use Rattle.lois_descent.proofs.Language.{GoesOn}
+use Rattle.lois_descent.proofs.Keywords.{word_lexeme}
 
 abbrev pub Begun : Type 0 → (Lexeme → Option (List Item)) → Spelling
 Begun limits f [] after = ⊥
 Begun limits f (t ∷ r) after = GoesOn limits (f (lexeme_of t)) r after
-
-word_lexeme : (op : Operation) → lexeme_from kinds.Word (operation_word op) ≡ Word (words.Apply op)
-word_lexeme Union = refl
-word_lexeme Inter = refl
-word_lexeme Minus = refl
-word_lexeme Flatten = refl
-word_lexeme Reach = refl
-word_lexeme Product = refl
-word_lexeme Complement = refl
-word_lexeme Minimise = refl
 
 module _ (limits : Type 0) where
   begin : (f : Lexeme → Option (List Item)) (t : PlacedToken) (r before after : List PlacedToken) → before ≡ t ∷ r → GoesOn limits (f (lexeme_of t)) r after → Begun limits f before after

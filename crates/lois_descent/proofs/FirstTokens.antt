@@ -1,18 +1,17 @@
 -- The first token of a part of the grammar tells its form.
-use Rattle.std.proofs.Common.{◌≡◌, ℕ, Bool, true, false, ◌&&◌, List, [], ◌∷◌, refl, sym, ap, ◌∙◌, subst}
+use Rattle.std.proofs.Common.{◌≡◌, ℕ, Bool, true, false, ◌&&◌, List, [], ◌∷◌, sym, ap, ◌∙◌, subst}
 use Rattle.std.specs.Str.{bytes_eq}
 use Rattle.std.proofs.lemmas.Bool.{false≢true}
 use Rattle.lois_lexer.specs.declared.TokenKind.{TokenKind}
 use Rattle.lois_lexer.specs.declared.TokenKind.TheVariants.{Name, Word, Tag, Number, Symbol}
-use Rattle.lois_script.specs.declared.syntax.Operation.{Operation}
-use Rattle.lois_script.specs.declared.syntax.Operation.TheVariants.{Union, Inter, Minus, Flatten, Reach, Product, Complement, Minimise}
 use Rattle.lois_script.specs.Tree.{ExprD, atoms, var, tag, tuple, listed, each, part, apply, StmtD, «let», assign, add, for, if, while, assert, print}
-use Rattle.lois_script.specs.Grammar.{PlacedToken, operation_word, SpellsExpr, SpellsStmt}
+use Rattle.lois_script.specs.Grammar.{PlacedToken, SpellsExpr, SpellsStmt}
 use Rattle.lois_descent.specs.Lexemes.{lexeme_from}
 use Rattle.lois_descent.specs.declared.lexemes.Lexeme.{Lexeme}
 use Rattle.lois_descent.specs.declared.lexemes.Lexeme.TheVariants as lexemes
 use Rattle.lois_descent.specs.declared.lexemes.Keyword.TheVariants as words
 use Rattle.lois_descent.specs.declared.lexemes.Punctuator.TheVariants as punctuators
+use Rattle.lois_descent.proofs.Keywords.{word_lexeme}
 use Rattle.lois_descent.proofs.Lengths.{Tokens}
 
 abbrev is_symbol_kind : TokenKind → Bool
@@ -93,16 +92,6 @@ expr_class (each p e bs c) = 4
 expr_class (part p e n) = 5
 expr_class (apply p op es) = 6
 
-pub operation_first : (op : Operation) → token_class Word (operation_word op) ≡ 6
-operation_first Union = refl
-operation_first Inter = refl
-operation_first Minus = refl
-operation_first Flatten = refl
-operation_first Reach = refl
-operation_first Product = refl
-operation_first Complement = refl
-operation_first Minimise = refl
-
 pub expr_first : (e : ExprD) (b m : Tokens) → SpellsExpr e b m → first_class b ≡ expr_class e
 expr_first (atoms p) b m h = ap first_class h
 expr_first (var p x) b m h = ap first_class h
@@ -111,7 +100,7 @@ expr_first (tuple p es) b m (wide, h) = ap first_class h.1
 expr_first (listed p es) b m h = ap first_class h.1
 expr_first (each p e bs c) b m h = ap first_class h.1
 expr_first (part p e n) b m h = ap first_class h.1
-expr_first (apply p op es) b m (arity, h) = ap first_class h.1 ∙ operation_first op
+expr_first (apply p op es) b m (arity, h) = ap first_class h.1 ∙ ap keyword_class (word_lexeme op)
 
 abbrev pub stmt_class : StmtD → ℕ
 stmt_class («let» p x e) = 14

@@ -7,7 +7,13 @@ use Rattle.std.specs.Option.{option_copied}
 use Rattle.lois_lexer.specs.declared.words.TheConstants.{RESERVED}
 use Rattle.lois_descent.specs.declared.lexemes.TheConstants.{KEYWORDS}
 use Rattle.lois_descent.specs.declared.lexemes.Keyword.{Keyword}
-use Rattle.lois_descent.specs.Lexemes.{word_of}
+use Rattle.lois_descent.specs.declared.lexemes.Keyword.TheVariants.{Apply}
+use Rattle.lois_descent.specs.declared.lexemes.Lexeme.TheVariants.{Word}
+use Rattle.lois_descent.specs.Lexemes.{word_of, lexeme_from}
+use Rattle.lois_lexer.specs.declared.TokenKind.TheVariants as kinds
+use Rattle.lois_script.specs.declared.syntax.Operation.{Operation}
+use Rattle.lois_script.specs.declared.syntax.Operation.TheVariants.{Union, Inter, Minus, Flatten, Reach, Product, Complement, Minimise}
+use Rattle.lois_script.specs.Grammar.{operation_word}
 
 -- the entry at a place, if there is one
 abbrev pub entry_at : List Keyword → ℕ → Option Keyword
@@ -68,3 +74,16 @@ pub keyword_there : (bytes : List ℕ) (place : ℕ) → position (λ word. byte
 keyword_there bytes place h =
     let n = position_or_len (λ word. bytes_eq word.now bytes) RESERVED in
     ap (entry_at KEYWORDS) (sym (found_place n 36 place (nat_lt n 36) refl h)) ∙ keyword_at bytes
+
+pub word_lexeme : (op : Operation) → lexeme_from kinds.Word (operation_word op) ≡ Word (Apply op)
+word_lexeme Union = refl
+word_lexeme Inter = refl
+word_lexeme Minus = refl
+word_lexeme Flatten = refl
+word_lexeme Reach = refl
+word_lexeme Product = refl
+word_lexeme Complement = refl
+word_lexeme Minimise = refl
+
+pub one_operation : (o r : Operation) → operation_word o ≡ operation_word r → o ≡ r
+one_operation o r e = let same : Word (Apply o) ≡ Word (Apply r) = sym (word_lexeme o) ∙ ap (lexeme_from kinds.Word) e ∙ word_lexeme r in cc

@@ -1,12 +1,11 @@
 -- One expression and one condition: the parts without limits on their length.
-use Rattle.std.proofs.Common.{◌≡◌, ℕ, zero, suc, ◌<◌, Bool, true, false, cond as pick, List, ◌∷◌, length, codes, refl, sym, ap, ◌∙◌, subst, inl, inr, arith}
+use Rattle.std.proofs.Common.{◌≡◌, ℕ, zero, suc, ◌<◌, Bool, true, false, cond as pick, ◌∷◌, length, codes, refl, sym, ap, ◌∙◌, subst, inl, inr, arith}
 use Rattle.std.specs.Prelude.{nat_le}
 use Rattle.std.specs.Str.{bytes_eq}
 use Rattle.lois_lexer.specs.declared.TokenKind.TheVariants.{Word}
-use Rattle.lois_script.specs.declared.syntax.Operation.{Operation}
-use Rattle.lois_script.specs.declared.syntax.Operation.TheVariants.{Union, Inter, Minus, Flatten, Reach, Product, Complement, Minimise}
 use Rattle.lois_script.specs.Tree.{ExprD, atoms, var, tag, tuple, listed, each, part, apply, ExprsD, no_exprs, expr, BindingD, CondD, truth, falsity, same, differ, below, member, included, empty, not, all, any, exists, every}
-use Rattle.lois_script.specs.Grammar.{PlacedToken, ◌▹◌, TakesWord, TakesSymbol, TakesNumber, operation_word, WhereClause, SpellsExpr, SpellsExprs, SpellsListed, SpellsMoreExprs, SpellsBinding, SpellsBindings, SpellsCond}
+use Rattle.lois_script.specs.Grammar.{PlacedToken, ◌▹◌, TakesWord, TakesSymbol, TakesNumber, WhereClause, SpellsExpr, SpellsExprs, SpellsListed, SpellsMoreExprs, SpellsBinding, SpellsBindings, SpellsCond}
+use Rattle.lois_descent.proofs.Keywords.{one_operation}
 use Rattle.lois_descent.proofs.Lengths.{Tokens, expr_shrinks, binding_shrinks, bindings_shrink}
 use Rattle.lois_descent.proofs.FirstTokens.{is_symbol, Avoids, avoids, never_avoids, one_token, token_class, first_class, expr_class, expr_first}
 use Rattle.lois_descent.proofs.OneExpression.{is_comma, is_where, ends_before, Base, UnitCond, Condition, Decides, no_form, base_as_unit, number_once, exprs, binding_once, bindings, condition_once, where_once}
@@ -85,39 +84,6 @@ no_expr_at b m e h other =
     let this : expr_class e ≡ 21 = sym (expr_first e b m h) ∙ other in
     let begins : begin_class 21 ≡ 0 = ap begin_class (sym this) ∙ expr_begins e in
     absurd (omega arith)
-
-abbrev operation_number : List ℕ → ℕ
-operation_number w =
-    pick (bytes_eq w (codes "union")) 0 (
-    pick (bytes_eq w (codes "inter")) 1 (
-    pick (bytes_eq w (codes "minus")) 2 (
-    pick (bytes_eq w (codes "flatten")) 3 (
-    pick (bytes_eq w (codes "reach")) 4 (
-    pick (bytes_eq w (codes "product")) 5 (
-    pick (bytes_eq w (codes "complement")) 6 7))))))
-
-abbrev operation_at : ℕ → Operation
-operation_at zero = Union
-operation_at (suc zero) = Inter
-operation_at (suc (suc zero)) = Minus
-operation_at (suc (suc (suc zero))) = Flatten
-operation_at (suc (suc (suc (suc zero)))) = Reach
-operation_at (suc (suc (suc (suc (suc zero))))) = Product
-operation_at (suc (suc (suc (suc (suc (suc zero)))))) = Complement
-operation_at (suc (suc (suc (suc (suc (suc (suc n))))))) = Minimise
-
-operation_back : (o : Operation) → operation_at (operation_number (operation_word o)) ≡ o
-operation_back Union = refl
-operation_back Inter = refl
-operation_back Minus = refl
-operation_back Flatten = refl
-operation_back Reach = refl
-operation_back Product = refl
-operation_back Complement = refl
-operation_back Minimise = refl
-
-pub one_operation : (o r : Operation) → operation_word o ≡ operation_word r → o ≡ r
-one_operation o r e = sym (operation_back o) ∙ ap (λ w. operation_at (operation_number w)) e ∙ operation_back r
 
 -- what a clause begins with, where a closing symbol follows it
 where_avoids : (c : CondD) (b m : Tokens) {a : Tokens} {t : PlacedToken} (p : PlacedToken → Bool) → WhereClause c (SpellsCond c) b m → m ≡ t ∷ a → p t ≡ false → ((q : ℕ) → p (record { kind = Word; bytes = codes "where"; place = q }) ≡ false) → Avoids p b

@@ -158,6 +158,35 @@ conjunctions_spelled : (cs : CondsD) (b a : List PlacedToken) → AreMany cs →
 conjunctions_spelled no_conds b a h s = absurd h
 conjunctions_spelled (cond c rest) b a h s = s
 
+-- two parts, one behind the other
+joined : {X Y Z : Type 0} {S : X → Spelling} {T : Y → Spelling} {U : Z → Spelling} {un_x : X → X} {un_y : Y → Y} {un_z : Z → Z} (make : X → Y → Z) → ((x : X) (y : Y) → un_z (make x y) ≡ make (un_x x) (un_y y)) →
+    ((x : X) (y : Y) (b a : List PlacedToken) → (S x ▹ T y) b a → U (make x y) b a) → (n : ℕ) (x : X) (y : Y) (ts : List PlacedToken) (mid rest : List Written) (one : Again S un_x n x ts mid) →
+    Again T un_y n y one.after rest → Again U un_z n (make x y) ts rest
+joined make unplaces spelled n x y ts mid rest one other =
+    record {
+      tree = make one.tree other.tree;
+      after = other.after;
+      spells = spelled one.tree other.tree ts other.after (one.after, one.spells, other.spells);
+      same_tree = unplaces one.tree other.tree ∙ (λ i. make (one.same_tree i) (other.same_tree i)) ∙ sym (unplaces x y);
+      left = other.left;
+      nested = λ k. one.nested (other.nested k);
+    }
+
+-- likewise, behind a token that opens and closes nothing
+joined_behind : {X Y Z : Type 0} {S : X → Spelling} {T : Y → Spelling} {U : Z → Spelling} {un_x : X → X} {un_y : Y → Y} {un_z : Z → Z} (make : X → Y → Z) → ((x : X) (y : Y) → un_z (make x y) ≡ make (un_x x) (un_y y)) →
+    (kind : TokenKind) (sign : List ℕ) → ((p : ℕ) (x : X) (y : Y) (b a : List PlacedToken) → (Takes kind sign p ▹ S x ▹ T y) b a → U (make x y) b a) →
+    (n : ℕ) → n ≤ 64 → ((p : ℕ) → open_after n (record { kind = kind; bytes = sign; place = p }) ≡ n) → (x : X) (y : Y) (ts : List PlacedToken) (front mid rest : List Written) (f : First kind sign ts front) (one : Again S un_x n x f.after mid) →
+    Again T un_y n y one.after rest → Again U un_z n (make x y) ts rest
+joined_behind make unplaces kind sign spelled n low flat x y ts front mid rest f one other =
+    record {
+      tree = make one.tree other.tree;
+      after = other.after;
+      spells = spelled f.place one.tree other.tree ts other.after (f.after, f.is, (one.after, one.spells, other.spells));
+      same_tree = unplaces one.tree other.tree ∙ (λ i. make (one.same_tree i) (other.same_tree i)) ∙ sym (unplaces x y);
+      left = other.left;
+      nested = λ k. nest n n ts f.after f.is (flat f.place) low (one.nested (other.nested k));
+    }
+
 -- a relation: the sign stands between two expressions
 again_related : (kind : TokenKind) (sign : List ℕ) (make : ℕ → ExprD → ExprD → CondD) → ((p : ℕ) (e f : ExprD) → unplaced_cond (make p e f) ≡ make 0 (unplaced_expr e) (unplaced_expr f)) →
     ((p : ℕ) (e f : ExprD) (b a : List PlacedToken) → (SpellsExpr e ▹ Takes kind sign p ▹ SpellsExpr f) b a → SpellsCond (make p e f) b a) →
@@ -283,14 +312,7 @@ mutual
   again_exprs (expr e es) n low (h, more) ts rest is =
       let a = again_expr e n low h ts _ is in
       let b = again_more_exprs es n low more a.after rest a.left in
-      record {
-        tree = expr a.tree b.tree;
-        after = b.after;
-        spells = (a.after, a.spells, b.spells);
-        same_tree = λ i. expr (a.same_tree i) (b.same_tree i);
-        left = b.left;
-        nested = λ k. a.nested (b.nested k);
-      }
+      joined expr (λ x y. refl) (λ x y b a s. s) n e es ts _ rest a b
 
   again_more_exprs : (es : ExprsD) (n : ℕ) → n ≤ 64 → ExprsPrint es n → (ts : List PlacedToken) (rest : List Written) → Are ts (written_more_exprs es rest) → Again SpellsMoreExprs unplaced_exprs n es ts rest
   again_more_exprs no_exprs n low h ts rest is =
@@ -299,14 +321,7 @@ mutual
       let m = first Symbol (codes ",") ts _ is in
       let a = again_expr e n low h m.after _ m.left in
       let b = again_more_exprs es n low more a.after rest a.left in
-      record {
-        tree = expr a.tree b.tree;
-        after = b.after;
-        spells = (m.after, (m.place, m.is), (a.after, a.spells, b.spells));
-        same_tree = λ i. expr (a.same_tree i) (b.same_tree i);
-        left = b.left;
-        nested = λ k. nest n n ts m.after m.is refl low (a.nested (b.nested k));
-      }
+      joined_behind expr (λ x y. refl) Symbol (codes ",") (λ p x y b a s. (s.0, (p, s.1), s.2)) n low (λ p. refl) e es ts _ _ rest m a b
 
   again_binding : (x : BindingD) (n : ℕ) → n ≤ 64 → BindingPrints x n → (ts : List PlacedToken) (rest : List Written) → Are ts (written_binding x rest) → Again SpellsBinding unplaced_binding n x ts rest
   again_binding (binding p x e) n low (token, h) ts rest is =
@@ -328,14 +343,7 @@ mutual
   again_bindings (bind x xs) n low (h, more) ts rest is =
       let a = again_binding x n low h ts _ is in
       let b = again_more_bindings xs n low more a.after rest a.left in
-      record {
-        tree = bind a.tree b.tree;
-        after = b.after;
-        spells = (a.after, a.spells, b.spells);
-        same_tree = λ i. bind (a.same_tree i) (b.same_tree i);
-        left = b.left;
-        nested = λ k. a.nested (b.nested k);
-      }
+      joined bind (λ x y. refl) (λ x y b a s. s) n x xs ts _ rest a b
 
   again_more_bindings : (xs : BindingsD) (n : ℕ) → n ≤ 64 → BindingsPrint xs n → (ts : List PlacedToken) (rest : List Written) → Are ts (written_more_bindings xs rest) → Again SpellsMoreBindings unplaced_bindings n xs ts rest
   again_more_bindings no_bindings n low h ts rest is =
@@ -344,14 +352,7 @@ mutual
       let m = first Symbol (codes ",") ts _ is in
       let a = again_binding x n low h m.after _ m.left in
       let b = again_more_bindings xs n low more a.after rest a.left in
-      record {
-        tree = bind a.tree b.tree;
-        after = b.after;
-        spells = (m.after, (m.place, m.is), (a.after, a.spells, b.spells));
-        same_tree = λ i. bind (a.same_tree i) (b.same_tree i);
-        left = b.left;
-        nested = λ k. nest n n ts m.after m.is refl low (a.nested (b.nested k));
-      }
+      joined_behind bind (λ x y. refl) Symbol (codes ",") (λ p x y b a s. (s.0, (p, s.1), s.2)) n low (λ p. refl) x xs ts _ _ rest m a b
 
   again_cond : (c : CondD) (n : ℕ) → n ≤ 64 → CondPrints c n → (ts : List PlacedToken) (rest : List Written) → Are ts (written_cond c rest) → Again SpellsCond unplaced_cond n c ts rest
   again_cond truth n low h ts rest is =
@@ -427,14 +428,7 @@ mutual
   again_units (cond c cs) n low (h, more) ts rest is =
       let a = again_in is_unit is_unit_un c (again_cond c) (is_unit c) refl n low h ts _ is in
       let b = again_more_units cs n low more a.after rest a.left in
-      record {
-        tree = cond a.tree b.tree;
-        after = b.after;
-        spells = (a.after, a.spells, b.spells);
-        same_tree = λ i. cond (a.same_tree i) (b.same_tree i);
-        left = b.left;
-        nested = λ k. a.nested (b.nested k);
-      }
+      joined cond (λ x y. refl) (λ x y b a s. s) n c cs ts _ rest a b
 
   again_more_units : (cs : CondsD) (n : ℕ) → n ≤ 64 → UnitsPrint cs n → (ts : List PlacedToken) (rest : List Written) → Are ts (written_more_units cs rest) → Again SpellsMoreUnits unplaced_conds n cs ts rest
   again_more_units no_conds n low h ts rest is =
@@ -443,14 +437,7 @@ mutual
       let w = first Word (codes "and") ts _ is in
       let a = again_in is_unit is_unit_un c (again_cond c) (is_unit c) refl n low h w.after _ w.left in
       let b = again_more_units cs n low more a.after rest a.left in
-      record {
-        tree = cond a.tree b.tree;
-        after = b.after;
-        spells = (w.after, (w.place, w.is), (a.after, a.spells, b.spells));
-        same_tree = λ i. cond (a.same_tree i) (b.same_tree i);
-        left = b.left;
-        nested = λ k. nest n n ts w.after w.is refl low (a.nested (b.nested k));
-      }
+      joined_behind cond (λ x y. refl) Word (codes "and") (λ p x y b a s. (s.0, (p, s.1), s.2)) n low (λ p. refl) c cs ts _ _ rest w a b
 
   again_conjunctions : (cs : CondsD) (n : ℕ) → n ≤ 64 → ConjunctionsPrint cs n → (ts : List PlacedToken) (rest : List Written) → Are ts (written_conjunctions cs rest) → Again SomeConjunctions unplaced_conds n cs ts rest
   again_conjunctions no_conds n low h ts rest is =
@@ -458,14 +445,7 @@ mutual
   again_conjunctions (cond c cs) n low (h, more) ts rest is =
       let a = again_in is_conjunction is_conjunction_un c (again_cond c) (is_conjunction c) refl n low h ts _ is in
       let b = again_more_conjunctions cs n low more a.after rest a.left in
-      record {
-        tree = cond a.tree b.tree;
-        after = b.after;
-        spells = (a.after, a.spells, b.spells);
-        same_tree = λ i. cond (a.same_tree i) (b.same_tree i);
-        left = b.left;
-        nested = λ k. a.nested (b.nested k);
-      }
+      joined cond (λ x y. refl) (λ x y b a s. s) n c cs ts _ rest a b
 
   again_more_conjunctions : (cs : CondsD) (n : ℕ) → n ≤ 64 → ConjunctionsPrint cs n → (ts : List PlacedToken) (rest : List Written) → Are ts (written_more_conjunctions cs rest) → Again SpellsMoreConjunctions unplaced_conds n cs ts rest
   again_more_conjunctions no_conds n low h ts rest is =
@@ -474,14 +454,7 @@ mutual
       let w = first Word (codes "or") ts _ is in
       let a = again_in is_conjunction is_conjunction_un c (again_cond c) (is_conjunction c) refl n low h w.after _ w.left in
       let b = again_more_conjunctions cs n low more a.after rest a.left in
-      record {
-        tree = cond a.tree b.tree;
-        after = b.after;
-        spells = (w.after, (w.place, w.is), (a.after, a.spells, b.spells));
-        same_tree = λ i. cond (a.same_tree i) (b.same_tree i);
-        left = b.left;
-        nested = λ k. nest n n ts w.after w.is refl low (a.nested (b.nested k));
-      }
+      joined_behind cond (λ x y. refl) Word (codes "or") (λ p x y b a s. (s.0, (p, s.1), s.2)) n low (λ p. refl) c cs ts _ _ rest w a b
 
 abbrev StmtsAgain : StmtsD → Type 0
 StmtsAgain k = (n : ℕ) → n ≤ 64 → StmtsPrint k n → (ts : List PlacedToken) (rest : List Written) → Are ts (written_stmts k rest) → Again SpellsStmts unplaced_stmts n k ts rest
@@ -633,14 +606,7 @@ mutual
   again_stmts (stmt s k) n low (h, more) ts rest is =
       let a = again_stmt s n low h ts _ is in
       let b = again_stmts k n low more a.after rest a.left in
-      record {
-        tree = stmt a.tree b.tree;
-        after = b.after;
-        spells = (a.after, a.spells, b.spells);
-        same_tree = λ i. stmt (a.same_tree i) (b.same_tree i);
-        left = b.left;
-        nested = λ d. a.nested (b.nested d);
-      }
+      joined stmt (λ x y. refl) (λ x y b a s. s) n s k ts _ rest a b
 
 low_zero : 0 ≤ 64
 low_zero = omega arith
