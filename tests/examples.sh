@@ -1,38 +1,48 @@
 #!/usr/bin/env bash
-# Runs the scripts of examples/ and those that stand in docs/LANGUAGE.md, and compares what the program answers with what is
-# written there: for examples/ byte for byte, for the manual the lines behind `>`, each as a whole and in their order.
-# What is asked of an example's answer stands beside it, and so does what becomes of a register automaton.
-# It runs ./lois, or the program that LOIS names (LOIS=path tests/examples.sh), and ends with 0 where nothing differs.
-# A change of the program may spell the same values in another way. Then `./lois run < NAME.lois > NAME.out` makes the new text,
-# and tests/against_reference.sh judges what the program answers to examples/.
+# Runs the scripts of examples/ and those that stand in docs/LANGUAGE.md, and compares what the program answers with
+# what is written there: for examples/ byte for byte, for the manual the lines behind `>`, each as a whole and in their
+# order. What is asked of an example's answer stands beside it, and so does what becomes of a register automaton. It
+# runs the built program, or the one that LOIS names (LOIS=path tests/examples.sh), and ends with `N passed, M failed`.
+# A change of the program may spell the same values in another way. Then `./lois run < NAME.lois > NAME.out` makes the
+# new text, which tests/reference/ judges: `cd tests && python3 -m reference judge ../examples/NAME.lois
+# ../examples/NAME.out 0 --normal`.
 set -u
 cd "$(dirname "${BASH_SOURCE[0]}")/.." || exit 70
-lois=${LOIS:-./lois}
-work=$(mktemp -d)
-trap 'rm -rf "$work"' EXIT
-scripts=0
+. tests/built_program.sh
+passed=0
 failed=0
 
+# Says what is wrong, and what the program was asked, has answered and should have.
 complain() {
-  echo "examples: $1" >&2
-  failed=$((failed + 1))
+  faults=$((faults + 1))
+  printf 'FAILED %s\n' "$1"
+  head -c 2000 "$2"
+  echo 'answered:'
+  head -c 2000 "$3"
+  echo 'wanted:'
+  head -c 2000 "$4"
+}
+
+count() {
+  if [ $faults -eq 0 ]; then passed=$((passed + 1)); else failed=$((failed + 1)); fi
 }
 
 # An example ends with status 0 where it says nothing else, and its answer is read again and written as it is.
 try_example() {
-  local script=$1 answer=${1%.lois}.out wanted
+  local script=$1 answer=${1%.lois}.out wanted faults=0
   wanted=$(sed -n 's/^# Ends with status \([0-9]\)\.$/\1/p' "$script")
   "$lois" run <"$script" >"$work/answer"
-  [ $? -eq "${wanted:-0}" ] || complain "$script doesn't end with status ${wanted:-0}"
-  cmp -s "$work/answer" "$answer" || complain "$script doesn't answer $answer"
-  "$lois" reread <"$answer" >"$work/again" || complain "$answer is refused by reread"
-  cmp -s "$work/again" "$answer" || complain "$answer is changed by reread"
-  scripts=$((scripts + 1))
+  [ $? -eq "${wanted:-0}" ] || complain "$script: not status ${wanted:-0}" "$script" "$work/answer" "$answer"
+  cmp -s "$work/answer" "$answer" || complain "$script doesn't answer $answer" "$script" "$work/answer" "$answer"
+  "$lois" reread <"$answer" >"$work/again" || complain "$answer is refused by reread" "$answer" "$work/again" "$answer"
+  cmp -s "$work/again" "$answer" || complain "$answer is changed by reread" "$answer" "$work/again" "$answer"
+  count
 }
 
 # A script may name words that its answer is asked with, and what they give.
 try_asked() {
   local script=$1 line
+  # shellcheck disable=SC2016
   sed -n 's/^# Its answer, asked with `\(.*\)`, gives \(.*\)\.$/\2 \1/p' "$script" >"$work/asked"
   while IFS= read -r line; do
     try_words "${line#* }" "${script%.lois}.out" "examples/${line%% *}"
@@ -41,12 +51,12 @@ try_asked() {
 
 # The words, about a text, give what stands in a file.
 try_words() {
-  local words=$1 text=$2 given=$3
+  local words=$1 text=$2 given=$3 faults=0
   # shellcheck disable=SC2086
   "$lois" $words <"$text" >"$work/answer"
-  [ $? -eq "$(status_of "$(cat "$given")")" ] || complain "$words ends with another status: $text"
-  cmp -s "$work/answer" "$given" || complain "$words of $text doesn't give $given"
-  scripts=$((scripts + 1))
+  [ $? -eq "$(status_of "$(cat "$given")")" ] || complain "$words: another status" "$text" "$work/answer" "$given"
+  cmp -s "$work/answer" "$given" || complain "$words of $text doesn't give $given" "$text" "$work/answer" "$given"
+  count
 }
 
 # The status that lines of an answer go with.
@@ -69,14 +79,20 @@ stand_in() {
 }
 
 try_shown() {
-  local command=$1 script=$2 shown=$3
+  local command=$1 faults=0
+  printf '%s' "$2" >"$work/script"
+  printf '%s' "$3" >"$work/shown"
   # the command may be several words
   # shellcheck disable=SC2086
-  printf '%s' "$script" | "$lois" $command >"$work/answer"
-  [ $? -eq "$(status_of "$shown")" ] || complain "the manual's script ends with another status: $script"
-  printf '%s' "$shown" >"$work/shown"
-  stand_in "$work/shown" "$work/answer" || complain "the manual's script has another answer: $script"
-  scripts=$((scripts + 1))
+  "$lois" $command <"$work/script" >"$work/answer"
+  [ $? -eq "$(status_of "$3")" ] || complain "the manual's script: another status" "$work"/{script,answer,shown}
+  stand_in "$work/shown" "$work/answer" || complain "the manual's script: another answer" "$work"/{script,answer,shown}
+  count
+}
+
+lack_answer() {
+  printf 'FAILED the manual shows no answer of\n%s' "$1"
+  failed=$((failed + 1))
 }
 
 # The manual's blocks begin with ```lois, or with ```lois and the command. A script ends where lines behind `>` end.
@@ -91,7 +107,7 @@ try_manual() {
       '```lois') command=run ;;
       '```lois '*) command=${line#'```lois '} ;;
       '```'*)
-        [ -z "$script" ] || complain "the manual shows no answer of: $script"
+        [ -z "$script" ] || lack_answer "$script"
         command='' script=''
         ;;
       '> '*) [ -z "$command" ] || shown+=${line#> }$'\n' ;;
@@ -100,7 +116,6 @@ try_manual() {
   done <"$1"
 }
 
-printf 'atoms order;' | "$lois" run >/dev/null || exit 70
 for script in examples/*.lois; do
   try_example "$script"
   try_asked "$script"
@@ -109,5 +124,5 @@ for text in examples/*.registers; do
   try_words registers "$text" "$text.out"
 done
 try_manual docs/LANGUAGE.md
-echo "examples: $scripts scripts, $failed complaints"
-[ "$failed" -eq 0 ]
+echo "$passed passed, $failed failed"
+[ $failed -eq 0 ]

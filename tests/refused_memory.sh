@@ -1,4 +1,5 @@
 #!/usr/bin/env bash
+# shellcheck disable=SC2016
 # Refuses each allocation of the program in turn, once alone and once with all that come after it, on some of the worked rows, a
 # reread and a made script. Each run has to end with status 8 and nothing written, or with the row's own status and answer.
 # It writes a table and ends with 0 where all runs did. It is no part of the gate.
@@ -9,7 +10,6 @@
 set -u
 cd "$(dirname "${BASH_SOURCE[0]}")/.." || exit 70
 runs=${1:-5000}
-reference=${REFERENCE:-../shared/reference}
 failed=0
 
 if ! command -v cc >/dev/null; then
@@ -132,13 +132,12 @@ try_row() {
   done
 }
 
-# Answers to `run` may be spelled in several ways. The reference says whether this one is right, if it lies beside the checkout.
+# Answers to `run` may be spelled in several ways. tests/reference/ says whether this one is right, where python3 is there.
 judge() {
-  [ "${words[0]}" = run ] && [ -f "$reference/check_output.py" ] && command -v python3 >/dev/null || return
-  python3 "$reference/check_output.py" "$work/script" "$work/written" "$2" --v2 --normal >/dev/null || complain "$1 has a wrong answer"
+  [ "${words[0]}" = run ] && command -v python3 >/dev/null || return
+  (cd tests && python3 -m reference judge "$work/script" "$work/written" "$2" --normal >/dev/null) || complain "$1 has a wrong answer"
 }
 
-# shellcheck disable=SC2016
 echo '| Row | Allocations | Refused | Runs | Status 8, nothing written | Its own answer | Other |'
 echo '|---|---|---|---|---|---|---|'
 try_row 'all atoms' 0 'a = {$0 for $0}' run <<<'atoms equality; let a = atoms; print a;'

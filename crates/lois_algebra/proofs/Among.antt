@@ -1,13 +1,11 @@
 -- The members of lists of comprehensions, as these lists are put together.
-use Rattle.std.proofs.Common.{◌≡◌, ℕ, Bool, ◌⊎◌, inl, inr, ◌↔◌, List, [], ◌∷◌, ◌++◌, length, sym, subst, arith}
-use Rattle.std.proofs.lemmas.Bool.{false≢true}
+use Rattle.std.proofs.Common.{◌≡◌, max, Bool, ◌⊎◌, inl, inr, ◌↔◌, List, [], ◌∷◌, ◌++◌, sym, subst, arith}
 use Rattle.lois_base.specs.Atom.{Atom}
-use Rattle.lois_base.specs.Data.{TermD, coll, CompD, comp, CompsD, comps_of}
-use Rattle.lois_base.specs.Fits.{ItemsFit}
+use Rattle.lois_base.specs.Data.{coll, CompD, CompsD, comps_of, depth_of_comps}
 use Rattle.lois_base.specs.Validity.{AdmitsItems, ItemsHaveBoundedWidths}
 use Rattle.lois_base.specs.Values.{PointValue, point, IsIn}
-use Rattle.lois_base.specs.declared.guards.Lit.{Lit}
 use Rattle.lois_base.proofs.Lists.{items_fit_append}
+use Rattle.lois_terms.proofs.Heights.{depth_append}
 use Rattle.lois_relate.proofs.Sets.{some_is_member}
 use Rattle.lois_algebra.specs.Gathered.{IsAmong, IsCompMember, IsPut}
 
@@ -50,4 +48,5 @@ is_put_pushed k ks after e = subst (λ z. IsPut k (comps_of ks) (comps_of z)) (s
   levels = λ n h g. items_fit_append n ks (k ∷ []) h (g, tt);
   operators = λ o h g. admits_items-append o ks (k ∷ []) h (g, tt);
   widths = λ h g. widths-append ks (k ∷ []) h (g, tt);
+  depth = omega (arith, depth_append ks (k ∷ []));
 })

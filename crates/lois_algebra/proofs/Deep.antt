@@ -1,13 +1,13 @@
 -- Where values are deep, part by part and comprehension by comprehension.
-use Rattle.std.proofs.Common.{◌≡◌, ℕ, zero, suc, ◌+◌, ◌-◌, ◌<◌, Bool, ◌⊎◌, ◌↔◌, List, ◌++◌, length, length-append, sym, subst, arith}
+use Rattle.std.proofs.Common.{◌≡◌, ℕ, ◌+◌, ◌⊎◌, ◌↔◌, List, ◌++◌, length, length-append, sym, subst, arith}
 use Rattle.std.specs.Bool.{IsTrue}
 use Rattle.lois_base.specs.Atom.{Atom}
-use Rattle.lois_base.specs.Data.{TermD, tup, coll, TermsD, term, CompD, comp, CompsD, more}
+use Rattle.lois_base.specs.Data.{TermD, tup, TermsD, term, CompD, comp, CompsD, more}
 use Rattle.lois_base.specs.FormulaData.{FormulaD, lit, any, no_formulas, FormulaFits}
 use Rattle.lois_base.specs.FormulaTruth.{FormulaHolds}
 use Rattle.lois_base.specs.Fits.{LitFits}
 use Rattle.lois_base.specs.Truth.{lit_holds, holds}
-use Rattle.lois_base.specs.Validity.{AdmitsLit, AdmitsConstraint, AdmitsTerm, AdmitsParts, AdmitsComp, AdmitsItems}
+use Rattle.lois_base.specs.Validity.{AdmitsLit, AdmitsConstraint, AdmitsTerm, AdmitsComp}
 use Rattle.lois_base.specs.Values.{DeeperAt, SomePartDeeperAt, SomeMemberDeeperAt, OneDeeperAt}
 use Rattle.lois_base.specs.declared.guards.Lit.{Lit}
 use Rattle.lois_relate.specs.Built.{Defines, IsBoth, IsForSome}

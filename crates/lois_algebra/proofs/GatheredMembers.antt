@@ -1,9 +1,9 @@
 -- The members of the members of a set.
-use Rattle.std.proofs.Common.{◌≡◌, ℕ, ◌+◌, ◌<◌, ◌≤◌, ◌^◌, Bool, ◌&&◌, ◌⊎◌, inl, inr, ◌↔◌, List, ◌++◌, length, length-append, get_or, map, take, drop, refl, sym, ap, subst, ◌∙◌, arith}
+use Rattle.std.proofs.Common.{◌≡◌, ℕ, ◌+◌, ◌<◌, ◌≤◌, max, ◌^◌, Bool, ◌&&◌, ◌⊎◌, inl, inr, ◌↔◌, List, ◌++◌, length, length-append, get_or, map, take, drop, refl, sym, ap, subst, ◌∙◌, arith}
 use Rattle.std.specs.Bool.{IsTrue}
 use Rattle.std.proofs.lemmas.List.{append_assoc, take-append-drop, length-take-le}
 use Rattle.lois_base.specs.Atom.{Atom, whole}
-use Rattle.lois_base.specs.Data.{TermD, var, tag, tup, coll, CompD, comp, CompsD, no_comps, more, comps_of}
+use Rattle.lois_base.specs.Data.{TermD, var, tag, tup, coll, CompD, comp, CompsD, no_comps, more, comps_of, depth_of_items}
 use Rattle.lois_base.specs.Fits.{ConstraintFits, CompFits, Fits, ItemsFit}
 use Rattle.lois_base.specs.Tree.{tree, comp_of}
 use Rattle.lois_base.specs.Truth.{holds}
@@ -71,6 +71,7 @@ pub record ItemsSoFar (n m : ℕ) (g : List (List Lit)) (rest whole before after
   pub levels : ItemsFit n before → ItemsFit n after
   pub operators : (o : Bool) → AdmitsConstraint o g → AdmitsItems o whole → AdmitsItems o before → AdmitsItems o after
   pub widths : ItemsHaveBoundedWidths whole → ItemsHaveBoundedWidths before → ItemsHaveBoundedWidths after
+  pub depth : max (depth_of_items after) (depth_of_items rest) ≤ max (depth_of_items before) (depth_of_items whole)
 
 module _ (n m : ℕ) (g : List (List Lit)) where
   within_split : (rest rest' : CompsD) (q : CompD) → rest ≡ more q rest' → (c : List Atom) (w : PointValue) → IsAmongExtended m g rest c w ↔ (((e : List Atom) × IsExtension c m g e × IsCompMember q (c ++ e) w) ⊎ IsAmongExtended m g rest' c w)
@@ -85,6 +86,7 @@ module _ (n m : ℕ) (g : List (List Lit)) where
     levels = λ x. put.levels n (so_far.levels x) fits;
     operators = λ o x y z. put.operators o (so_far.operators o x y z) (admits o x y);
     widths = λ x y. put.widths (so_far.widths x y) (widths x);
+    depth = omega (arith, subst (λ z. max (depth_of_items after) (depth_of_items z) ≤ max (depth_of_items before) (depth_of_items whole)) e so_far.depth, put.depth);
   }
     where
       there : (c : List Atom) → length c ≡ n → (w : PointValue) → IsAmong after' c w ⊎ IsAmongExtended m g rest' c w → IsAmong before c w ⊎ IsAmongExtended m g whole c w
@@ -113,6 +115,7 @@ module _ (n m : ℕ) (g : List (List Lit)) where
     levels = so_far.levels;
     operators = so_far.operators;
     widths = so_far.widths;
+    depth = omega (arith, so_far.depth);
   }
 
 pub gathers_of_items : (n m : ℕ) (g : List (List Lit)) (t : TermD) (qs before after : CompsD) → t ≡ coll qs → GathersItems n m g qs before after → Gathers n (comp m g t) before after
@@ -121,6 +124,7 @@ gathers_of_items n m g t qs before after e items = subst (λ z. Gathers n (comp 
   levels = items.levels;
   operators = λ o h i. items.operators o h.0 h.1 i;
   widths = items.widths;
+  depth = omega (arith, items.depth);
 })
 
 -- ---- from one member to the next
@@ -129,6 +133,7 @@ pub record GatheredSoFar (n : ℕ) (rest whole after : CompsD) : Type 0 where
   pub levels : ItemsFit n after
   pub operators : (o : Bool) → AdmitsItems o whole → AdmitsItems o after
   pub widths : ItemsHaveBoundedWidths whole → ItemsHaveBoundedWidths after
+  pub depth : max (depth_of_items after) (depth_of_items rest) ≤ depth_of_items whole
 
 module _ (n : ℕ) where
   pub gathered_begin : (whole after : CompsD) → after ≡ no_comps → GatheredSoFar n whole whole after
@@ -137,6 +142,7 @@ module _ (n : ℕ) where
     levels = tt;
     operators = λ o h. tt;
     widths = λ h. tt;
+    depth = omega arith;
   })
 
   pub gathered_more : (rest rest' whole after after' : CompsD) (k : CompD) → rest ≡ more k rest' → GatheredSoFar n rest whole after → ((o : Bool) → AdmitsItems o whole → AdmitsComp o k) → (ItemsHaveBoundedWidths whole → CompHasBoundedWidths k) → Gathers n k after after' → GatheredSoFar n rest' whole after'
@@ -145,6 +151,7 @@ module _ (n : ℕ) where
     levels = gathers.levels so_far.levels;
     operators = λ o x. gathers.operators o (admits o x) (so_far.operators o x);
     widths = λ x. gathers.widths (widths x) (so_far.widths x);
+    depth = omega (arith, subst (λ z. max (depth_of_items after) (depth_of_items z) ≤ depth_of_items whole) e so_far.depth, gathers.depth);
   }
     where
       in_rest : (c : List Atom) (w : PointValue) → (IsInMember k c w ⊎ IsInSome rest' c w) → IsInSome rest c w

@@ -1,8 +1,8 @@
 -- The members of one set that are, or aren't, in another.
-use Rattle.std.proofs.Common.{◌≡◌, ℕ, ◌+◌, Bool, true, false, not, ◌&&◌, ◌⊎◌, inl, inr, ◌↔◌, List, ◌++◌, length, length-append, sym, subst, ◌∙◌, arith}
+use Rattle.std.proofs.Common.{◌≡◌, ℕ, ◌+◌, ◌≤◌, max, Bool, true, false, not, ◌&&◌, ◌⊎◌, inl, inr, ◌↔◌, List, ◌++◌, length, length-append, sym, subst, ◌∙◌, arith}
 use Rattle.std.specs.Bool.{IsTrue}
 use Rattle.lois_base.specs.Atom.{Atom}
-use Rattle.lois_base.specs.Data.{TermD, coll, comp, CompsD, no_comps, more}
+use Rattle.lois_base.specs.Data.{TermD, coll, comp, CompsD, no_comps, more, depth_of_items}
 use Rattle.lois_base.specs.Fits.{CompFits, ItemsFit}
 use Rattle.lois_base.specs.FormulaData.{FormulaD}
 use Rattle.lois_base.specs.Truth.{holds}
@@ -79,6 +79,7 @@ module _ (n : ℕ) (wanted : Bool) (t : TermD) where
     pub levels : ItemsFit n kept
     pub operators : (o : Bool) → AdmitsItems o whole → AdmitsTerm o t → AdmitsItems o kept
     pub widths : ItemsHaveBoundedWidths whole → ItemsHaveBoundedWidths kept
+    pub depth : max (depth_of_items kept) (depth_of_items rest) ≤ depth_of_items whole
 
   pub selected_begin : (whole kept : CompsD) → kept ≡ no_comps → SelectedSoFar whole whole kept
   selected_begin whole kept e = subst (SelectedSoFar whole whole) (sym e) (record {
@@ -86,6 +87,7 @@ module _ (n : ℕ) (wanted : Bool) (t : TermD) where
     levels = tt;
     operators = λ o h g. tt;
     widths = λ h. tt;
+    depth = omega arith;
   })
 
   pub selected_more : (rest rest' whole kept kept' : CompsD) (m : ℕ) (g h : List (List Lit)) (item : TermD) → rest ≡ more (comp m g item) rest' → SelectedSoFar rest whole kept → IsSelectedGuard n m wanted g item t h → CompFits n (comp m h item) → ((o : Bool) → AdmitsItems o whole → AdmitsTerm o t → AdmitsComp o (comp m h item)) → (ItemsHaveBoundedWidths whole → CompHasBoundedWidths (comp m h item)) → IsPut (comp m h item) kept kept' → SelectedSoFar rest' whole kept'
@@ -94,6 +96,7 @@ module _ (n : ℕ) (wanted : Bool) (t : TermD) where
     levels = put.levels n so_far.levels fits;
     operators = λ o x y. put.operators o (so_far.operators o x y) (admits o x y);
     widths = λ x. put.widths (so_far.widths x) (widths x);
+    depth = omega (arith, subst (λ z. max (depth_of_items kept) (depth_of_items z) ≤ depth_of_items whole) e so_far.depth, put.depth);
   }
     where
       one : (c : List Atom) → length c ≡ n → (w : PointValue) → IsCompMember (comp m h item) c w ↔ (IsCompMember (comp m g item) c w × HasTruthValue wanted (IsIn w (point t c)))

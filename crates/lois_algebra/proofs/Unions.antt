@@ -1,9 +1,8 @@
 -- Unions, and the set of all atoms.
-use Rattle.std.proofs.Common.{◌≡◌, ℕ, ◌-◌, Bool, ◌⊎◌, inl, inr, ◌↔◌, List, [], ◌∷◌, ◌++◌, length, refl, sym, ap, subst, ◌∙◌, arith}
-use Rattle.std.proofs.lemmas.List.{get_or-append_right}
+use Rattle.std.proofs.Common.{◌≡◌, ℕ, suc, max, Bool, ◌⊎◌, inl, inr, ◌↔◌, List, [], ◌∷◌, ◌++◌, length, refl, sym, ap, subst, ◌∙◌, arith}
 use Rattle.std.specs.Bool.{IsTrue}
-use Rattle.lois_base.specs.Atom.{Atom, equal, whole}
-use Rattle.lois_base.specs.Data.{TermD, var, coll, CompD, comp, no_comps, more, comps_of}
+use Rattle.lois_base.specs.Atom.{Atom, equal}
+use Rattle.lois_base.specs.Data.{TermD, var, coll, CompD, comp, no_comps, more, comps_of, depth, depth_of_comps}
 use Rattle.lois_base.specs.Fits.{Fits}
 use Rattle.lois_base.specs.Truth.{atom_at}
 use Rattle.lois_base.specs.Validity.{AdmitsTerm, HasBoundedWidths}
@@ -12,6 +11,7 @@ use Rattle.lois_base.proofs.Members.{same_as_atom}
 use Rattle.lois_base.proofs.Order.{equal_refl}
 use Rattle.lois_base.proofs.Lists.{items_fit_append}
 use Rattle.lois_base.proofs.Choices.{atom_at_end}
+use Rattle.lois_terms.proofs.Heights.{depth_append}
 use Rattle.lois_algebra.specs.Gathered.{IsAmong}
 use Rattle.lois_algebra.specs.Sets.{IsUnion, HasAllAtoms, IsAtom}
 use Rattle.lois_algebra.proofs.Among.{among_in, among_append, admits_items-append, widths-append}
@@ -42,6 +42,13 @@ module _ (s t r : TermD) (ks ls all : List CompD) (left : s ≡ coll (comps_of k
   pub union_widths : HasBoundedWidths s → HasBoundedWidths t → HasBoundedWidths r
   union_widths h g =
       subst HasBoundedWidths (sym whole_is) (widths-append ks ls (subst HasBoundedWidths left h) (subst HasBoundedWidths right g))
+
+  pub union_depth : depth r ≡ max (depth s) (depth t)
+  union_depth =
+      let whole : depth r ≡ suc (depth_of_comps (ks ++ ls)) = ap depth whole_is in
+      let first : depth s ≡ suc (depth_of_comps ks) = ap depth left in
+      let second : depth t ≡ suc (depth_of_comps ls) = ap depth right in
+      omega (arith, whole, first, second, depth_append ks ls)
 
 -- ---- all atoms
 abbrev pub atoms_term : ℕ → TermD

@@ -1,7 +1,7 @@
 -- Values among the members of lists of comprehensions, as these lists are put together.
-use Rattle.std.specs.Prelude.{◌≡◌, ℕ, Bool, List, ◌++◌, length, ◌⊎◌, ◌↔◌}
+use Rattle.std.specs.Prelude.{◌≡◌, ◌≤◌, max, ℕ, Bool, List, ◌++◌, length, ◌⊎◌, ◌↔◌}
 use Rattle.lois_base.specs.Atom.{Atom}
-use Rattle.lois_base.specs.Data.{coll, CompD, comp, CompsD, no_comps, more}
+use Rattle.lois_base.specs.Data.{coll, CompD, comp, CompsD, no_comps, more, depth_of_comp, depth_of_items}
 use Rattle.lois_base.specs.Fits.{CompFits, ItemsFit}
 use Rattle.lois_base.specs.Validity.{AdmitsConstraint, AdmitsComp, AdmitsItems, CompHasBoundedWidths, ItemsHaveBoundedWidths}
 use Rattle.lois_base.specs.Values.{PointValue, IsExtension, SomeIsAt, OneIsAt}
@@ -34,6 +34,7 @@ pub record IsPut (k : CompD) (before after : CompsD) : Type 0 where
   pub levels : (n : ℕ) → ItemsFit n before → CompFits n k → ItemsFit n after
   pub operators : (o : Bool) → AdmitsItems o before → AdmitsComp o k → AdmitsItems o after
   pub widths : ItemsHaveBoundedWidths before → CompHasBoundedWidths k → ItemsHaveBoundedWidths after
+  pub depth : depth_of_items after ≤ max (depth_of_items before) (depth_of_comp k)
 
 -- the list `after` has the members of `before` and those of the members that k makes
 pub record Gathers (n : ℕ) (k : CompD) (before after : CompsD) : Type 0 where
@@ -41,6 +42,7 @@ pub record Gathers (n : ℕ) (k : CompD) (before after : CompsD) : Type 0 where
   pub levels : ItemsFit n before → ItemsFit n after
   pub operators : (o : Bool) → AdmitsComp o k → AdmitsItems o before → AdmitsItems o after
   pub widths : CompHasBoundedWidths k → ItemsHaveBoundedWidths before → ItemsHaveBoundedWidths after
+  pub depth : depth_of_items after ≤ max (depth_of_items before) (depth_of_comp k)
 
 -- the same, of a comprehension whose item is the set with the comprehensions qs
 pub record GathersItems (n m : ℕ) (g : List (List Lit)) (qs before after : CompsD) : Type 0 where
@@ -48,3 +50,4 @@ pub record GathersItems (n m : ℕ) (g : List (List Lit)) (qs before after : Com
   pub levels : ItemsFit n before → ItemsFit n after
   pub operators : (o : Bool) → AdmitsConstraint o g → AdmitsItems o qs → AdmitsItems o before → AdmitsItems o after
   pub widths : ItemsHaveBoundedWidths qs → ItemsHaveBoundedWidths before → ItemsHaveBoundedWidths after
+  pub depth : depth_of_items after ≤ max (depth_of_items before) (depth_of_items qs)

@@ -1,7 +1,7 @@
 //! The members of the members of a set.
 
-ghost use Rattle.std.specs.Prelude.{◌+◌, Bool, IfOk, OnOk};
-ghost use Rattle.lois_base.specs.Data.{coll, comps_of};
+ghost use Rattle.std.specs.Prelude.{◌+◌, ◌≤◌, Bool, IfOk, OnOk};
+ghost use Rattle.lois_base.specs.Data.{coll, comps_of, depth, depth_of_comps};
 ghost use Rattle.lois_base.specs.Fits.{ConstraintFits, Fits, CompFits, ItemsFit};
 ghost use Rattle.lois_base.specs.Tree.{tree, comp_of};
 ghost use Rattle.lois_base.specs.Validity.{AdmitsTerm, AdmitsItems, HasBoundedWidths, ItemsHaveBoundedWidths};
@@ -23,6 +23,7 @@ pub fn collect_over(alloc: Global, s: &Term, size: usize) -> Result<Term, NoMemo
     ensures levels { IfOk result (λ r. Fits size (tree r)) }
     ensures operators { IfOk result (λ r. (ordered : Bool) → AdmitsTerm ordered (tree s.now) → AdmitsTerm ordered (tree r)) }
     ensures widths { IfOk result (λ r. HasBoundedWidths (tree s.now) → HasBoundedWidths (tree r)) }
+    ensures depth { IfOk result (λ r. depth (tree r) ≤ depth (tree s.now)) }
 {
     match s {
         Term::Coll(comps) => Ok(Term::Coll(collected(alloc, comps, size)?)),
@@ -37,6 +38,7 @@ fn collected(alloc: Global, comps: &Comps, size: usize) -> Result<Comps, NoMemor
     ensures levels { IfOk result (λ r. ItemsFit size (comps_of r)) }
     ensures operators { IfOk result (λ r. (ordered : Bool) → AdmitsItems ordered (comps_of comps.now) → AdmitsItems ordered (comps_of r)) }
     ensures widths { IfOk result (λ r. ItemsHaveBoundedWidths (comps_of comps.now) → ItemsHaveBoundedWidths (comps_of r)) }
+    ensures depth { IfOk result (λ r. depth_of_comps r ≤ depth_of_comps comps.now) }
 {
     let mut gathered = Comps::new(alloc);
     for comp in comps.as_slice() {

@@ -1,7 +1,7 @@
 //! The members of one set that are, or aren't, in another.
 
-ghost use Rattle.std.specs.Prelude.{ℕ, ◌+◌, Bool, true, false, IfOk};
-ghost use Rattle.lois_base.specs.Data.{coll, comps_of};
+ghost use Rattle.std.specs.Prelude.{ℕ, ◌+◌, ◌≤◌, Bool, true, false, IfOk};
+ghost use Rattle.lois_base.specs.Data.{coll, comps_of, depth, depth_of_comps};
 ghost use Rattle.lois_base.specs.Fits.{ConstraintFits, Fits, CompFits, ItemsFit};
 ghost use Rattle.lois_base.specs.Tree.{tree, comp_of};
 ghost use Rattle.lois_base.specs.Validity.{AdmitsConstraint, AdmitsTerm, AdmitsComp, AdmitsItems, HasBoundedWidths, ItemsHaveBoundedWidths};
@@ -29,6 +29,7 @@ pub fn inter<T: Structure>(alloc: Global, s: &Term, t: &Term, size: usize) -> Re
     ensures levels { IfOk result (λ r. Fits size (tree r)) }
     ensures operators { IfOk result (λ r. (ordered : Bool) → AdmitsTerm ordered (tree s.now) → AdmitsTerm ordered (tree t.now) → AdmitsTerm ordered (tree r)) }
     ensures widths { IfOk result (λ r. HasBoundedWidths (tree s.now) → HasBoundedWidths (tree r)) }
+    ensures depth { IfOk result (λ r. depth (tree r) ≤ depth (tree s.now)) }
 {
     match (s, t) {
         (Term::Coll(comps), Term::Coll(others)) => {
@@ -51,6 +52,7 @@ pub fn minus<T: Structure>(alloc: Global, s: &Term, t: &Term, size: usize) -> Re
     ensures levels { IfOk result (λ r. Fits size (tree r)) }
     ensures operators { IfOk result (λ r. (ordered : Bool) → AdmitsTerm ordered (tree s.now) → AdmitsTerm ordered (tree t.now) → AdmitsTerm ordered (tree r)) }
     ensures widths { IfOk result (λ r. HasBoundedWidths (tree s.now) → HasBoundedWidths (tree r)) }
+    ensures depth { IfOk result (λ r. depth (tree r) ≤ depth (tree s.now)) }
 {
     match (s, t) {
         (Term::Coll(comps), Term::Coll(others)) => {
@@ -76,6 +78,7 @@ fn selected<T: Structure>(
     ensures levels { IfOk result (λ r. ItemsFit size (comps_of r)) }
     ensures operators { IfOk result (λ r. (ordered : Bool) → AdmitsItems ordered (comps_of comps.now) → AdmitsItems ordered (comps_of others.now) → AdmitsItems ordered (comps_of r)) }
     ensures widths { IfOk result (λ r. ItemsHaveBoundedWidths (comps_of comps.now) → ItemsHaveBoundedWidths (comps_of r)) }
+    ensures depth { IfOk result (λ r. depth_of_comps r ≤ depth_of_comps comps.now) }
 {
     let mut kept = Comps::new(alloc);
     for comp in comps.as_slice() {

@@ -1,6 +1,7 @@
 //! Unions, and the set of all atoms.
 
-ghost use Rattle.std.specs.Prelude.{◌≡◌, ℕ, ◌+◌, ◌<◌, ◌^◌, ◌++◌, Bool, [], ◌∷◌, IfOk, OnOk};
+ghost use Rattle.std.specs.Prelude.{◌≡◌, ℕ, ◌+◌, ◌<◌, ◌^◌, max, ◌++◌, Bool, [], ◌∷◌, IfOk, OnOk};
+ghost use Rattle.lois_base.specs.Data.{depth};
 ghost use Rattle.lois_base.specs.Fits.{Fits};
 ghost use Rattle.lois_base.specs.Tree.{tree, comp_of};
 ghost use Rattle.lois_base.specs.Validity.{AdmitsTerm, HasBoundedWidths};
@@ -19,6 +20,7 @@ pub fn union(alloc: Global, s: &Term, t: &Term) -> Result<Term, NoMemory>
     ensures levels { IfOk result (λ r. (n : ℕ) → Fits n (tree s.now) → Fits n (tree t.now) → Fits n (tree r)) }
     ensures operators { IfOk result (λ r. (ordered : Bool) → AdmitsTerm ordered (tree s.now) → AdmitsTerm ordered (tree t.now) → AdmitsTerm ordered (tree r)) }
     ensures widths { IfOk result (λ r. HasBoundedWidths (tree s.now) → HasBoundedWidths (tree t.now) → HasBoundedWidths (tree r)) }
+    ensures depth { IfOk result (λ r. depth (tree r) ≡ max (depth (tree s.now)) (depth (tree t.now))) }
 {
     match (s, t) {
         (Term::Coll(comps), Term::Coll(others)) => {
@@ -47,6 +49,7 @@ pub fn all_atoms(alloc: Global, size: usize) -> Result<Term, NoMemory>
     ensures levels { IfOk result (λ r. Fits size (tree r)) }
     ensures operators { IfOk result (λ r. (ordered : Bool) → AdmitsTerm ordered (tree r)) }
     ensures widths { IfOk result (λ r. HasBoundedWidths (tree r)) }
+    ensures depth { IfOk result (λ r. depth (tree r) ≡ 1) }
 {
     let comp = Comp {
         binders: 1,

@@ -1,18 +1,15 @@
 -- Constraints that stand for memberships, and members of families.
-use Rattle.std.proofs.Common.{◌≡◌, ℕ, ◌+◌, not, ◌&&◌, ◌||◌, List, [], ◌∷◌, ◌++◌, length, length-append, append-nil, refl, sym, subst, ◌∙◌, arith}
+use Rattle.std.proofs.Common.{◌≡◌, ℕ, not, ◌&&◌, ◌||◌, List, [], ◌∷◌, ◌++◌, length, append-nil, refl, sym, subst, ◌∙◌}
 use Rattle.std.proofs.lemmas.Bool.{false≢true}
 use Rattle.lois_base.specs.Atom.{Atom}
-use Rattle.lois_base.specs.Data.{TermD, coll, CompsD}
+use Rattle.lois_base.specs.Data.{TermD}
 use Rattle.lois_base.specs.Fits.{ConstraintFits}
-use Rattle.lois_base.specs.FormulaData.{FormulaD}
 use Rattle.lois_base.specs.Truth.{holds}
 use Rattle.lois_base.specs.Values.{point, SameAt, IsSame}
 use Rattle.lois_base.specs.declared.guards.Lit.{Lit}
 use Rattle.lois_base.proofs.Truths.{holds_longer}
 use Rattle.lois_constraint.specs.Entailment.{IsPruned}
-use Rattle.lois_elim.specs.Bound.{AgreesWith}
 use Rattle.lois_base.proofs.Connectives.{both_true, either_true, not_true}
-use Rattle.lois_relate.specs.Relations.{HoldsWhereItemIn}
 use Rattle.lois_rounds.specs.Families.{MemberD}
 use Rattle.lois_terms.specs.Shifted.{IsShifted}
 use Rattle.lois_automata.specs.Built.{HoldsWhereMember, HoldsWhereAdmittedIn, IsFreshMember, IsJoinedMember}

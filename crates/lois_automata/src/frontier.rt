@@ -24,7 +24,7 @@ use lois_order::OrderAtoms;
 use lois_rounds::{Family, Round};
 use std::alloc::Global;
 
-/// Spreads over the moves of a set, from nodes to nodes. A move is a pair; other members of the set move nothing.
+/// Propagates along the moves of a set, from nodes to nodes. A move is a pair; other members of the set are ignored.
 #[derive(Drop)]
 pub struct FrontierRound {
     pub size: usize,

@@ -1,12 +1,12 @@
 -- What a formula stands for, by its form, and the formulas of a list, one by one.
 use Rattle.std.proofs.Common.{◌≡◌, ℕ, zero, suc, ◌<◌, ◌≤◌, List, [], ◌∷◌, length, get_or, map, ap, sym, subst, ◌∙◌, arith}
-use Rattle.lois_base.specs.FormulaData.{FormulaD, lit, all, any, neg, exists, forall, formulas_of, depth_of_formula, depth_of_formulas}
+use Rattle.lois_base.specs.FormulaData.{FormulaD, lit, all, any, neg, exists, formulas_of, depth_of_formula, depth_of_formulas}
 use Rattle.lois_base.specs.FormulaView.{view_step, views_step, view, views}
 use Rattle.lois_base.specs.declared.guards.Lit.{Lit}
 use Rattle.lois_base.specs.declared.logic.Formula.{Formula}
 use Rattle.lois_base.specs.declared.logic.Formula.TheFolds.{fold_out-Formulas, fold-roll-Formula}
 use Rattle.lois_base.specs.declared.logic.Formula.TheOpen.{Formula-F}
-use Rattle.lois_base.specs.declared.logic.Formula.TheVariants.{Lit as at_literal, All, Any, Not, Exists, Forall, rolls-Lit, rolls-All, rolls-Any, rolls-Not, rolls-Exists, rolls-Forall}
+use Rattle.lois_base.specs.declared.logic.Formula.TheVariants.{Lit as at_literal, All, Any, Not, Exists, rolls-Lit, rolls-All, rolls-Any, rolls-Not, rolls-Exists}
 use Rattle.lois_base.specs.declared.logic.Formulas.{Formulas}
 
 pub views_is : (fs : Formulas) → views fs ≡ map view fs.items.items

@@ -2,7 +2,7 @@
 use Rattle.std.proofs.Common.{◌≡◌, ℕ, zero, suc, List, ◌++◌, refl, subst}
 use mathlib.Core.Logic.{inl, inr}
 use Rattle.lois_base.specs.Atom.{Atom}
-use Rattle.lois_base.specs.Data.{TermD, var, tag, tup, coll, TermsD, no_terms, term, CompD, comp, CompsD, no_comps, more}
+use Rattle.lois_base.specs.Data.{TermD, var, tup, coll, TermsD, no_terms, term, CompD, comp, CompsD, no_comps, more}
 use Rattle.lois_base.specs.Values.{PointValue, point, MemberAt, SameAt, SamePartsAt, AllInAt, EachInAt, InAt, DeeperAt, SomePartDeeperAt, SomeMemberDeeperAt, OneDeeperAt, IsMemberOf, IsMember, IsSame, IsIn, IsIncluded, IsDeeper}
 use Rattle.lois_base.proofs.Same.{same_at_refl, same_at_sym, same_at_trans, all_in_is, is_all_in, is_some_is}
 

@@ -1,8 +1,7 @@
 -- The laws of specs/Laws.
-use Rattle.std.proofs.Common.{◌≡◌, Bool, List, ◌++◌, length, map, refl, sym, subst, ◌↔◌, arith}
+use Rattle.std.proofs.Common.{◌≡◌, Bool, List, ◌++◌, length, map, refl, sym, subst, ◌↔◌}
 use Rattle.std.proofs.lemmas.List.{length-map}
-use Rattle.std.specs.Bool.{IsTrue, IsFalse}
-use Rattle.lois_base.specs.Atom.{Atom, equal, below}
+use Rattle.lois_base.specs.Atom.{Atom}
 use Rattle.lois_base.specs.Data.{coll}
 use Rattle.lois_base.specs.FormulaData.{FormulaD, FormulaFits}
 use Rattle.lois_base.specs.FormulaTruth.{FormulaHolds}

@@ -2,8 +2,7 @@
 use Rattle.std.proofs.Common.{◌≡◌, ℕ, ◌+◌, ◌<◌, ◌≤◌, Bool, true, false, ◌&&◌, ◌||◌, List, [], ◌∷◌, ◌++◌, length, length-append, get_or, take, refl, sym, ap, ◌∙◌, subst, arith}
 use Rattle.std.specs.List.{All}
 use Rattle.std.proofs.lemmas.List.{get_or_append_left, get_or_default, get_or_push}
-use Rattle.std.specs.declared.option.Option.TheVariants.{Some}
-use Rattle.std.proofs.lemmas.List.Elements.{All-push, All-pop}
+use Rattle.std.proofs.lemmas.List.Elements.{All-push}
 use Rattle.std.proofs.lemmas.List.Quantifiers.{all_pairs_push}
 use Rattle.std.proofs.lemmas.List.Folds.{list_any-append}
 use Rattle.std.proofs.lemmas.List.Sorted.{All-permutation}
@@ -40,14 +39,14 @@ module _ (xs : List (List Lit)) (x : List Lit) (p : IsPruned (xs ++ x ∷ [])) w
 pub kept_pruned : (kept : List (List Lit)) (x : List Lit) → IsPruned kept → CubeIsSatisfiable x → All (λ k. AreIncomparable k x) kept → IsPruned (kept ++ x ∷ [])
 kept_pruned kept x p met apart = record { met = All-push CubeIsSatisfiable kept x p.met met; apart = all_pairs_push AreIncomparable kept x p.apart apart }
 
--- a new cube that entails none, and within which none lies
+-- a new cube that entails none, and that none entails
 pub pruned_more : (kept : List (List Lit)) (x : List Lit) → IsPruned kept → CubeIsSatisfiable x → All (λ k. Entails k x → ⊥) kept → All (λ k. Entails x k → ⊥) kept → IsPruned (kept ++ x ∷ [])
 pruned_more kept x p met out un = record {
   met = All-push CubeIsSatisfiable kept x p.met met;
   apart = all_pairs_push AreIncomparable kept x p.apart (λ k d l. (out k d l, un k d l));
 }
 
--- ---- the cubes so far, beside one within which the dropped ones lie
+-- ---- the cubes so far, beside one that the dropped ones entail
 one_kept : (h t p q : Bool) → (h || q) ≡ (t || q) → ((h || p) || q) ≡ ((t || p) || q)
 one_kept true true p q e = refl
 one_kept true false true q e = refl

@@ -140,7 +140,7 @@ impl ClosedCube {
         false
     }
 
-    /// Both cubes, or `None` where they can't be met. Nothing is copied where a literal of the one denies one of the other.
+    /// Both cubes, or `None` where they can't be met. Nothing is copied where a literal of the one refutes one of the other.
     pub(crate) fn meet(&self, alloc: Global, other: &Cube) -> Result<Option<Self>, NoMemory>
         ensures truth { IfOk result (λ o. (c : List Atom) → some_holds c o ≡ (cube_holds c self.now && cube_holds c other.now)) }
         ensures rules { IfOk result (λ o. (rule : Rule) → CubeObeys rule self.now → CubeObeys rule other.now → SomeObeys rule o) }

@@ -26,7 +26,7 @@ pub fn tighten(alloc: Global, cube: &Cube) -> Result<Option<Cube>, NoMemory>
     }
 }
 
-/// The constraint without the cubes that can't be met, those within another one, and the literals that
+/// The constraint without the cubes that can't be met, those that entail another one, and the literals that
 /// follow from others of their cube.
 pub fn prune(alloc: Global, c: &Constraint) -> Result<Constraint, NoMemory>
     ensures truth { IfOk result (λ r. (e : List Atom) → holds e r ≡ holds e c.now) }

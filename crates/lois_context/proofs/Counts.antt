@@ -9,7 +9,7 @@ use Rattle.lois_base.specs.Truth.{holds}
 use Rattle.lois_context.specs.Choices.{IsAdmitted}
 use Rattle.lois_context.specs.declared.contexts.Context.{Context}
 use Rattle.lois_context.proofs.Later.{first_or_later}
-use Rattle.lois_context.specs.Counted.{admits, times, AdmitAlike}
+use Rattle.lois_context.specs.Counted.{admits, times}
 
 both_true : (a b : Bool) → a ≡ true → IsTrue b → (a && b) ≡ true
 both_true true true p q = refl

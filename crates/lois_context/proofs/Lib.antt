@@ -7,3 +7,4 @@ pub mod Entered
 pub mod Joined
 pub mod Counts
 pub mod Merged
+pub mod SlotDepths

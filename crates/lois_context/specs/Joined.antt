@@ -1,9 +1,9 @@
 -- What a store is behind a loop: its sets have in addition what was added for each member.
 use Rattle.std.specs.Prelude.{◌≡◌, ℕ, ◌+◌, ◌-◌, ◌≤◌, ◌⊎◌, ◌↔◌, Bool, ◌&&◌, List, [], ◌∷◌, ◌++◌, length, map, drop}
 use Rattle.std.specs.declared.option.Option.TheVariants.{Some}
-use Rattle.std.specs.List.{Contains}
+use Rattle.std.specs.List.{All, Contains}
 use Rattle.lois_base.specs.Atom.{Atom}
-use Rattle.lois_base.specs.Data.{TermD, coll, CompD, comps_of}
+use Rattle.lois_base.specs.Data.{TermD, coll, CompD, comps_of, depth}
 use Rattle.lois_base.specs.Fits.{Fits, ItemsFit}
 use Rattle.lois_base.specs.Shift.{shift, shift_comp}
 use Rattle.lois_base.specs.Truth.{holds}
@@ -104,3 +104,7 @@ pub record HasJoined (ends : List Context) (x : List ℕ) (c : List Atom) (v : P
   pub value : PointValue
   pub held : looked_up x (store_at c store) ≡ Some value
   pub members : (w : PointValue) → IsIn w value ↔ (IsIn w v ⊎ IsAddedInside ends x c w)
+
+-- no slot of this name holds a term that is written more than n deep
+abbrev pub HoldsWithin : List ℕ → ℕ → List SlotD → Type 0
+HoldsWithin x n slots = All (λ s. s.name ≡ x → depth s.term ≤ n) slots

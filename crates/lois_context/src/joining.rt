@@ -9,7 +9,7 @@ ghost use Rattle.lois_base.specs.Tree.{tree, comp_of};
 ghost use Rattle.lois_base.specs.Values.{PointValue};
 ghost use Rattle.lois_meaning.specs.Store.{looked_up};
 ghost use Rattle.lois_context.specs.Choices.{IsAdmitted, AdmitsContext, ContextHasBoundedWidths};
-ghost use Rattle.lois_context.specs.Joined.{IsEnd, AreEndSlots, IsMovedOutOfLoop, IsJoinedSlot, AreJoinedSlots, AreJoined, HasJoined, IsWithMoved, IsGrownTerm, added_to};
+ghost use Rattle.lois_context.specs.Joined.{IsEnd, AreEndSlots, IsMovedOutOfLoop, IsJoinedSlot, AreJoinedSlots, AreJoined, HasJoined, IsWithMoved, IsGrownTerm, HoldsWithin, added_to};
 ghost use Rattle.lois_context.specs.Kept.{IsSlot, AreSlots, HasDistinctNames};
 ghost use Rattle.lois_context.specs.Slots.{comps_in, store_at};
 ghost use Rattle.lois_context.specs.SlotView.{slot_of};
@@ -31,6 +31,7 @@ pub fn join_loop(alloc: Global, before: Context, ends: Vec<Context>) -> Result<C
     ensures members { IfOk result (λ r. (c : List Atom) → IsAdmitted c before → (x : List ℕ) (v : PointValue) → looked_up x (store_at c before.store) ≡ Some v → HasJoined ends.items x c v r.store) }
     ensures operators { IfOk result (λ r. (ordered : Bool) → AdmitsContext ordered before → All (AdmitsContext ordered) ends.items → AdmitsContext ordered r) }
     ensures widths { IfOk result (λ r. ContextHasBoundedWidths before → All ContextHasBoundedWidths ends.items → ContextHasBoundedWidths r) }
+    ensures depth { IfOk result (λ r. (x : List ℕ) (n : ℕ) → HoldsWithin x n before.store → All (λ d. HoldsWithin x n d.store) ends.items → HoldsWithin x n r.store) }
 {
     let store = joined(alloc, before.store, &ends, before.size)?;
     Ok(Context {

@@ -18,7 +18,7 @@ abbrev pub ResultIs : {X Y : Type 0} → (X → Y) → Result X ParseError → R
 ResultIs view (Ok x) read = read ≡ Ok (view x)
 ResultIs view (Err e) read = ErrorIs e read
 
--- the refusal that a halt is, where there are so many tokens
+-- the refusal that a parse error is, where there are so many tokens
 abbrev pub refusal_of : ℕ → ParseError → Refusal
 refusal_of count (NoScript left) = errors.NoScript (count - left)
 refusal_of count (TooNested left) = errors.TooNested (count - left)

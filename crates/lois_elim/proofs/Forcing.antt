@@ -1,12 +1,9 @@
 -- What a formula's parts and its body force, it forces.
-use Rattle.std.proofs.Common.{◌≡◌, ℕ, zero, suc, ◌<◌, List, [], ◌∷◌, ◌++◌, length, length-append, get_or, map, sym, subst, arith}
-use Rattle.std.proofs.lemmas.List.{get_or_append_left}
-use Rattle.std.specs.Bool.{IsTrue}
-use Rattle.lois_base.specs.Atom.{Atom, equal, whole}
-use Rattle.lois_base.specs.FormulaData.{FormulaD, all, exists, formulas_of}
+use Rattle.std.proofs.Common.{◌≡◌, ℕ, zero, suc, ◌<◌, List, [], ◌∷◌, length, get_or, map, sym, subst, arith}
+use Rattle.lois_base.specs.Atom.{Atom}
+use Rattle.lois_base.specs.FormulaData.{FormulaD, all, formulas_of}
 use Rattle.lois_base.specs.FormulaTruth.{FormulaHolds, AllHold}
 use Rattle.lois_base.specs.FormulaView.{view}
-use Rattle.lois_base.specs.Truth.{atom_at}
 use Rattle.lois_base.specs.declared.logic.Formula.{Formula}
 use Rattle.lois_elim.specs.Names.{Forces}
 

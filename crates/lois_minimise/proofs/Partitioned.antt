@@ -1,4 +1,4 @@
--- A set shared between those of its members that are in another set, and those that aren't.
+-- A set partitioned into those of its members that are in another set, and those that are not.
 use Rattle.std.proofs.Common.{◌≡◌, ℕ, ◌+◌, Bool, true, false, not, ◌&&◌, ◌⊎◌, inl, inr, ◌↔◌, List, ◌++◌, length, refl, sym, ap, ◌∙◌}
 use Rattle.std.specs.Bool.{IsTrue}
 use Rattle.lois_base.specs.Atom.{Atom}

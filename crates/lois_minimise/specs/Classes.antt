@@ -30,7 +30,7 @@ IsDistinguishability a apart =
 abbrev pub IsSplit : PointValue → PointValue → PointValue → Type 0
 IsSplit final p q = (IsIn p final × (IsIn q final → ⊥)) ⊎ (IsIn q final × (IsIn p final → ⊥))
 
--- the nodes are shared between two sets: those of a third set t are inside, and the others outside
+-- the nodes are partitioned into two sets: those of a third set t are inside, and the others outside
 pub record IsPartition (nodes t inside outside : PointValue) : Type 0 where
   pub inner : (w : PointValue) → IsIn w inside ↔ (IsIn w nodes × IsIn w t)
   pub outer : (w : PointValue) → IsIn w outside ↔ (IsIn w nodes × (IsIn w t → ⊥))

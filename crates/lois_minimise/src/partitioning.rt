@@ -1,4 +1,4 @@
-//! A set shared between those of its members that are in another set, and those that aren't.
+//! A set partitioned into those of its members that are in another set, and those that are not.
 
 ghost use Rattle.std.specs.Prelude.{◌≡◌, Bool, List, length, IfOk, OnOk};
 ghost use Rattle.lois_base.specs.Atom.{Atom};

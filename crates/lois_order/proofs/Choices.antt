@@ -1,7 +1,6 @@
 -- A choice of atoms with one more atom.
-use Rattle.std.proofs.Common.{◌≡◌, ℕ, ◌+◌, ◌<◌, true, false, ◌==◌, List, [], ◌∷◌, ◌++◌, length, arith, eq-eqb, sym}
+use Rattle.std.proofs.Common.{◌≡◌, ℕ, ◌+◌, ◌<◌, true, false, ◌==◌, List, [], ◌∷◌, ◌++◌, length, arith, eq-eqb}
 use Rattle.std.proofs.Math.ListN.{get_or-append}
-use Rattle.std.proofs.Math.Seq.{get_or-append_seam}
 use Rattle.std.proofs.lemmas.Bool.{ne_eqb, cases_eq}
 use mathlib.Core.Logic.{◌⊎◌, inl, inr}
 use Rattle.lois_base.specs.Atom.{Atom, whole}

@@ -48,7 +48,7 @@ IsResultsOf text r = IsSound r × (results_text r ≡ text)
 abbrev pub IsAnswerOf : List ℕ → Answer → Type 0
 IsAnswerOf text a = IsSoundAnswer a × (answer_text a ≡ text)
 
--- the error of a halt, in a text of this length
+-- the error that a parse error becomes, in a text of this length
 abbrev pub IsErrorOfHalt : ℕ → ParseError → ResultError → Type 0
 IsErrorOfHalt len halts.NoMemory e = e ≡ NoMemory
 IsErrorOfHalt len (halts.Left left) e = e ≡ NotResults (len - left)

@@ -34,7 +34,7 @@ fn answer_of(alloc: Global, text: &[u8]) -> Result<Answer, ParseError>
     answer_text_at(alloc, text)
 }
 
-// The error of a halt in a text of this length.
+// The error that a parse error becomes in a text of this length.
 fn error_of(halt: ParseError, len: usize) -> ResultError
     ensures inside { IsOffsetInText len result }
     ensures error { IsErrorOfHalt len halt result }

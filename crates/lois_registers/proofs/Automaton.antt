@@ -4,7 +4,6 @@ use Rattle.std.specs.List.{Contains, AllZip}
 use Rattle.std.proofs.lemmas.List.{length-replicate}
 use Rattle.std.proofs.lemmas.List.Elements.{All-contains}
 use Rattle.lois_base.specs.Atom.{Atom}
-use Rattle.lois_base.specs.Data.{var}
 use Rattle.lois_base.specs.Values.{PointValue, point}
 use Rattle.lois_base.proofs.Members.{same_refl}
 use Rattle.lois_base.proofs.Order.{equal_refl}

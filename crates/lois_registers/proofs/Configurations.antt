@@ -10,7 +10,7 @@ use Rattle.lois_base.specs.Truth.{atom_at}
 use Rattle.lois_base.specs.Values.{PointValue, point, IsSame}
 use Rattle.lois_base.specs.declared.guards.Lit.{Lit}
 use Rattle.lois_base.proofs.Members.{same_refl}
-use Rattle.lois_base.proofs.Order.{equal_refl, equal_sym, equal_trans}
+use Rattle.lois_base.proofs.Order.{equal_refl, equal_sym}
 use Rattle.lois_base.proofs.Truths.{op_respects}
 use Rattle.lois_meaning.specs.Kinds.{IsAtomAt, IsTagTerm, IsTagValue, HasParts, AreSame, part_values}
 use Rattle.lois_meaning.proofs.Alike.{is_atom_same, is_tag_same, atoms_same, tags_same, atom_equal, parts_same, parts_both, tuples_same, atom_one, tag_one}

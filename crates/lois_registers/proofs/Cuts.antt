@@ -5,7 +5,7 @@ use Rattle.std.proofs.Math.Dec.{T}
 use Rattle.std.specs.Prelude.{Result, Ok, Err, IfErr, IsErrAnd}
 use Rattle.std.specs.Bool.{IsTrue}
 use Rattle.std.specs.List.{All, list_all, slice_split, join_with_byte}
-use Rattle.std.proofs.lemmas.List.{take-append-drop, take_at, take_rest, get_or_at, length-append}
+use Rattle.std.proofs.lemmas.List.{take-append-drop, take_rest}
 use Rattle.std.proofs.lemmas.List.Splits.{slice_split_none, slice_split_at, join_with_byte-slice_split}
 use Rattle.std.proofs.lemmas.List.Elements.{All-nil, All-cons, All-head, All-tail}
 use Rattle.lois_base.proofs.Connectives.{both_true}

@@ -1,5 +1,5 @@
 -- What is in a set of comprehensions that are listed.
-use Rattle.std.proofs.Common.{◌≡◌, zero, suc, List, [], ◌∷◌, ◌++◌, map, refl, sym, subst, ◌⊎◌, inl, inr, arith, ◌↔◌}
+use Rattle.std.proofs.Common.{◌≡◌, zero, suc, List, [], ◌∷◌, ◌++◌, map, refl, sym, subst, ◌⊎◌, inl, inr, arith}
 use Rattle.std.specs.List.{Contains, flat_map}
 use Rattle.lois_base.specs.Atom.{Atom}
 use Rattle.lois_base.specs.Data.{TermD, CompD, comps_of}
@@ -35,7 +35,7 @@ module _ (w : TermD) (x c : List Atom) where
   module _ {X : Type 0} (f : X → List CompD) where
     pub member_flat : (xs : List X) → MemberAt w x (comps_of (flat_map f xs)) c → (a : X) × Contains xs a × MemberAt w x (comps_of (f a)) c
     member_flat [] h = absurd h
-    member_flat (a ∷ xs) h = go ((member_append (f a) (flat_map f xs)).0 h) (λ j. member_flat xs j)
+    member_flat (a ∷ xs) h = go ((member_append w x c (f a) (flat_map f xs)).0 h) (λ j. member_flat xs j)
       where
         go : MemberAt w x (comps_of (f a)) c ⊎ MemberAt w x (comps_of (flat_map f xs)) c → (MemberAt w x (comps_of (flat_map f xs)) c → (b : X) × Contains xs b × MemberAt w x (comps_of (f b)) c) → (b : X) × Contains (a ∷ xs) b × MemberAt w x (comps_of (f b)) c
         go (inl i) more = (a, contains_first a xs, i)
@@ -46,8 +46,8 @@ module _ (w : TermD) (x c : List Atom) where
     flat_member (b ∷ xs) a i h = go (contains_cases b xs a i) (λ j. flat_member xs a j h)
       where
         go : (b ≡ a) ⊎ Contains xs a → (Contains xs a → MemberAt w x (comps_of (flat_map f xs)) c) → MemberAt w x (comps_of (flat_map f (b ∷ xs))) c
-        go (inl e) r = (member_append (f b) (flat_map f xs)).1 (inl (subst (λ z. MemberAt w x (comps_of (f z)) c) (sym e) h))
-        go (inr j) r = (member_append (f b) (flat_map f xs)).1 (inr (r j))
+        go (inl e) r = (member_append w x c (f b) (flat_map f xs)).1 (inl (subst (λ z. MemberAt w x (comps_of (f z)) c) (sym e) h))
+        go (inr j) r = (member_append w x c (f b) (flat_map f xs)).1 (inr (r j))
 
 -- a fact of each comprehension of a list, where the list's fact is one of the items one by one
 module _ (P : CompD → Type 0) where

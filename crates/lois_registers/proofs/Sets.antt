@@ -6,11 +6,11 @@ use Rattle.lois_base.specs.Atom.{Atom}
 use Rattle.lois_base.specs.Data.{TermD, var, coll, comp, comps_of}
 use Rattle.lois_base.specs.Truth.{atom_at}
 use Rattle.lois_base.specs.Values.{PointValue, point, IsSame, IsIn, MakesAt}
-use Rattle.lois_base.proofs.Members.{same_refl, same_sym, same_trans}
+use Rattle.lois_base.proofs.Members.{same_refl, same_sym}
 use Rattle.lois_base.proofs.Order.{equal_refl}
 use Rattle.lois_meaning.specs.Automata.{IsTriple}
-use Rattle.lois_meaning.specs.Kinds.{IsAtomValue, HasParts, AreSame}
-use Rattle.lois_meaning.proofs.Alike.{is_atom_same, atoms_same, parts_same, parts_both, tuples_same}
+use Rattle.lois_meaning.specs.Kinds.{IsAtomValue}
+use Rattle.lois_meaning.proofs.Alike.{is_atom_same, atoms_same}
 use Rattle.lois_meaning.proofs.Tuples.{triple_to, triples_same}
 use Rattle.lois_registers.specs.Placed.{full, placements, configuration_comp, configuration_term, configurations, step_comp, step_comps, step_item}
 use Rattle.lois_registers.specs.Runs.{Configuration, LiteralHolds, IsStep, stored_from}

@@ -1,6 +1,5 @@
 -- Terms that differ at all choices, and formulas that hold nowhere.
 use Rattle.std.proofs.Common.{◌≡◌, ℕ, zero, suc, ◌+◌, ◌<◌, Bool, List, [], ◌∷◌, ◌++◌, length, get_or, map, sym, subst, arith}
-use Rattle.std.proofs.lemmas.Bool.{false≢true}
 use Rattle.lois_base.specs.Atom.{Atom}
 use Rattle.lois_base.specs.Data.{TermD, terms_of, CompD, comp}
 use Rattle.lois_base.specs.FormulaData.{FormulaD, any, no_formulas}
@@ -9,7 +8,7 @@ use Rattle.lois_base.specs.Values.{SameAt, SamePartsAt, OneIsAt}
 use Rattle.lois_base.specs.declared.guards.Lit.{Lit}
 use Rattle.lois_base.specs.declared.values.Term.{Term}
 use Rattle.lois_base.proofs.Same.{same_at_sym}
-use Rattle.lois_relate.specs.Apart.{AreNeverSame, LeavesOut}
+use Rattle.lois_relate.specs.Apart.{LeavesOut}
 use Rattle.lois_relate.specs.Built.{Defines}
 use Rattle.lois_relate.specs.Compared.{DefinesPaired, DefinesItem}
 use Rattle.lois_relate.proofs.Parts.{as_many_items}

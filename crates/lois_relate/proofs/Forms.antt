@@ -4,7 +4,7 @@ use Rattle.std.proofs.lemmas.Bool.{eqb-true}
 use Rattle.std.proofs.lemmas.List.{append_assoc}
 use Rattle.std.specs.Bool.{IsTrue}
 use Rattle.lois_base.specs.Atom.{Atom, whole}
-use Rattle.lois_base.specs.FormulaData.{FormulaD, all, any, neg, exists, no_formulas, formulas_of, FormulaFits, FormulasFit}
+use Rattle.lois_base.specs.FormulaData.{FormulaD, all, any, exists, no_formulas, formulas_of, FormulaFits, FormulasFit}
 use Rattle.lois_base.specs.FormulaTruth.{FormulaHolds, AllHold, AnyHolds}
 use Rattle.lois_base.specs.Validity.{AdmitsFormula, AdmitsFormulas}
 use Rattle.lois_relate.specs.Built.{IsBoth, IsEither, IsNegation, IsImplied, IsForSome}

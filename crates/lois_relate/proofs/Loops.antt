@@ -44,13 +44,6 @@ module _ (n : ℕ) (Rest Whole : List Atom → Type 0) (A : Bool → Type 0) whe
     operators = so_far.operators;
   }
 
-  pub any_begin : (f : FormulaD) → f ≡ any no_formulas → ((c : List Atom) → Rest c ↔ Whole c) → AnySoFar n Rest Whole A f
-  any_begin f e same = subst (AnySoFar n Rest Whole A) (sym e) (record {
-    truth = λ c k. (λ h. elim h [ inl p ↦ absurd p | inr p ↦ (same c).0 p ], λ h. inr ((same c).1 h));
-    levels = tt;
-    operators = λ o h. tt;
-  })
-
   pub any_go_on : (Q Rest' : List Atom → Type 0) (A' : Bool → Type 0) (f g r : FormulaD) → AnySoFar n Rest Whole A f → ((c : List Atom) → Rest c ↔ (Q c ⊎ Rest' c)) → Defines n Q A' g → ((o : Bool) → A o → A' o) → IsEither f g r → AnySoFar n Rest' Whole A r
   any_go_on Q Rest' A' f g r so_far split says admits either = record {
     truth = λ c k. (there c k, λ h. back c k ((so_far.truth c k).1 h));
@@ -92,14 +85,6 @@ module _ (n : ℕ) (Rest Whole : List Atom → Type 0) (A : Bool → Type 0) whe
       λ h. (so_far.truth c k).0 (inl h),
       λ h. elim ((so_far.truth c k).1 h) [ inl p ↦ p | inr p ↦ absurd (rest c p) ],
     );
-    levels = so_far.levels;
-    operators = so_far.operators;
-  }
-
-  -- what is true already stays true
-  pub any_cut : (f : FormulaD) → f ≡ all no_formulas → AnySoFar n Rest Whole A f → Defines n Whole A f
-  any_cut f e so_far = record {
-    truth = λ c k. (λ h. (so_far.truth c k).0 (inl h), λ h. subst (FormulaHolds c) (sym e) tt);
     levels = so_far.levels;
     operators = so_far.operators;
   }

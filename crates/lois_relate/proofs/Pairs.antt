@@ -4,8 +4,8 @@ use Rattle.std.proofs.lemmas.Option.{slice_get_read, slice_get-map}
 use Rattle.std.specs.Bool.{IsTrue}
 use Rattle.std.specs.Prelude.{slice_get, option_map}
 use Rattle.lois_base.specs.Atom.{Atom}
-use Rattle.lois_base.specs.Data.{TermD, CompD, comp, CompsD, more, no_comps}
-use Rattle.lois_base.specs.FormulaData.{FormulaD, any, all, no_formulas}
+use Rattle.lois_base.specs.Data.{TermD, CompD, comp, CompsD, more}
+use Rattle.lois_base.specs.FormulaData.{FormulaD}
 use Rattle.lois_base.specs.Tree.{comp_of}
 use Rattle.lois_base.specs.Truth.{holds}
 use Rattle.lois_base.specs.Validity.{AdmitsConstraint, AdmitsTerm, AdmitsComp, AdmitsItems}
@@ -16,7 +16,7 @@ use Rattle.lois_relate.specs.Built.{Defines, IsBoth, IsEither, IsForSome}
 use Rattle.lois_relate.specs.Compared.{IsForEach, DefinesPaired, DefinesItem, DefinesFound}
 use Rattle.lois_relate.specs.Named.{atoms_named, AreBelow, level_range}
 use Rattle.lois_relate.proofs.Binders.{each_says, paired_one}
-use Rattle.lois_relate.proofs.Loops.{AnySoFar, any_begin, any_go_on, any_end, any_cut}
+use Rattle.lois_relate.proofs.Loops.{AnySoFar, any_go_on}
 use Rattle.lois_relate.proofs.Names.{below_entered, below_more}
 use Rattle.lois_relate.proofs.Steps.{some_is_split}
 

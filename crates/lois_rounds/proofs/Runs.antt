@@ -1,8 +1,8 @@
 -- What a number of rounds leads to, and what holds while rounds are made.
-use Rattle.std.proofs.Common.{◌≡◌, ◌↔◌, ℕ, zero, suc, ◌<◌, inl, inr, Bool, refl, sym, ◌∙◌, subst, arith}
+use Rattle.std.proofs.Common.{◌≡◌, ◌↔◌, ℕ, zero, suc, ◌<◌, inl, inr, Bool, sym, ◌∙◌, subst, arith}
 use Rattle.std.proofs.lemmas.Bool.{cases_lt}
 use Rattle.lois_rounds.specs.Families.{FamilyD, FamilyFits, AdmitsFamily, sizes, AreEquivalent}
-use Rattle.lois_rounds.specs.Rounds.{RespectsEquivalence, LeadAlike, LeavesEquivalent, LeadsAfter, IsFirstUnchanged, Changes}
+use Rattle.lois_rounds.specs.Rounds.{RespectsEquivalence, LeadAlike, LeavesEquivalent, LeadsAfter, Changes}
 use Rattle.lois_rounds.specs.Equivalences.{equivalent_refl, equivalent_sym, equivalent_trans}
 
 -- as many rounds lead to equivalent families

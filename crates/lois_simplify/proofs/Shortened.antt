@@ -1,5 +1,5 @@
 -- Cubes and literals that are left out where others have what they hold.
-use Rattle.std.proofs.Common.{◌≡◌, ℕ, ◌+◌, ◌<◌, ◌⊎◌, inl, inr, ◌||◌, not, Bool, true, false, List, [], ◌∷◌, ◌++◌, length, get_or, take, refl, sym, ap, ◌∙◌, subst, arith}
+use Rattle.std.proofs.Common.{◌≡◌, ℕ, ◌+◌, ◌<◌, ◌⊎◌, inl, inr, ◌||◌, Bool, true, false, List, [], ◌∷◌, ◌++◌, length, get_or, take, refl, sym, ap, ◌∙◌, subst, arith}
 use Rattle.std.proofs.lemmas.Bool.{and_parts, and_from, or_cases, or_left, or_right}
 use Rattle.std.proofs.lemmas.List.{take_more}
 use Rattle.std.specs.Bool.{IsTrue, IsFalse}
@@ -12,8 +12,6 @@ use Rattle.lois_base.specs.Truth.{lit_holds, cube_holds, holds}
 use Rattle.lois_base.specs.Validity.{AdmitsLit, AdmitsCube, AdmitsConstraint}
 use Rattle.lois_base.specs.declared.guards.Lit.{Lit}
 use Rattle.lois_base.proofs.Both.{cubes_append, holds_append}
-use Rattle.lois_constraint.proofs.NegatedLiterals.{alternatives_hold}
-use Rattle.lois_constraint.specs.Alternatives.{alternatives}
 use Rattle.lois_simplify.specs.Shortened.{CubeEntailsUnder, IsWeakenedCube, IsShortened}
 
 -- what all obey, all but one obey

@@ -1,5 +1,6 @@
 //! Lines of results that are compared, and sets whose orbits are listed.
 
+use crate::automata::EQUAL_ENDS;
 use crate::calling::{Told, USAGE, asked, called};
 use std::alloc::Global;
 use std::process::Abort;
@@ -185,7 +186,7 @@ type Shape = (
     usize,
 );
 
-const SHAPES: [Shape; 7] = [
+const SHAPES: [Shape; 8] = [
     (
         EVERY_WORD,
         &["equal", "a", "b"],
@@ -249,6 +250,16 @@ const SHAPES: [Shape; 7] = [
         "\n",
         "\nchoice ",
         2,
+    ),
+    // the classes of the states of a minimal automaton
+    (
+        EQUAL_ENDS,
+        &["census", "q"],
+        0,
+        "case 1\norbits 3\norbit {",
+        "\n",
+        "\nchoice",
+        3,
     ),
 ];
 

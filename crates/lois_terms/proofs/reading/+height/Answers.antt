@@ -1,5 +1,4 @@
-use Rattle.std.proofs.Common.{◌≡◌, ◌+◌, ◌≤◌, arith}
-use Rattle.lois_base.specs.Data.{depth}
+use Rattle.std.proofs.Common.{◌+◌, arith}
 use Rattle.lois_base.specs.Tree.{tree}
 use Rattle.lois_terms.proofs.Heights.{not_deeper}
 use Rattle.lois_terms.proofs.reading.+height.Goals as goal

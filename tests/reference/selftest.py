@@ -1,0 +1,121 @@
+"""Wrong answers, planted in right ones: each has to be found."""
+from .judge import Wrong
+from .suite import judge_answer
+
+PAIRS = (b"atoms equality; parameter a; let s = {(x, a) for x in atoms where x != a}; if a in {a} { add 'p to s; }"
+         b" print s; print a;")
+CASES = b"atoms equality; parameter a, b; let s = {}; if a = b { add 'eq to s; } else { add a to s; } print s;"
+FAILS = (b"atoms order; parameter a, b;\nfor x in {a, b} { for y in atoms where b < y {\n assert not b < x; } }\n"
+         b"let t = flatten({a}); let u = union('p, a);")
+HEAD = "lois results 1\natoms equality\nparameters\ncase when true\n"
+EQUAL = (HEAD + "a = ({'p}, {$0 for $0}, {('p, $0, 'p) for $0}, {'p}, {'p})\n"
+         "b = ({'p, 'q}, {$0 for $0}, {('p, $0, 'q) for $0}, {'p}, {'p, 'q})\nend\n").encode()
+TWO = ("lois results 1\natoms equality\nparameters a b\ncase when true\n"
+       "m = ({'s, 't}, {$2 for $2}, {('s, $2, 't) for $2 if $2=a}, {'s}, {'t})\n"
+       "n = ({'s, 't}, {$2 for $2}, {('s, $2, 't) for $2 if $2=b}, {'s}, {'t})\nend\n").encode()
+CENSUS = b"lois results 1\natoms order\nparameters\ncase when true\ns = {($0, $1) for $0 $1, 'p}\nend\n"
+UNORDERED = b"lois results 1\natoms equality\nparameters\ncase when true\ns = {($0, {$1}) for $0 $1}\nend\n"
+REGISTERS = (b"lois registers 1\natoms order\nregisters 1\nstates p q\ninitial p\nfinal q\n"
+             b"step p q when true store 1\nstep q p when r1<x store none\nend\n")
+STATES = "{('p, 'none), ('p, $0) for $0, ('q, 'none), ('q, $0) for $0}"
+MACHINE = ("lois results 1\natoms order\nparameters\ncase when true\nautomaton = (" + STATES + ", {$0 for $0}, "
+           "{(('p, 'none), $0, ('q, $0)) for $0, (('p, $0), $1, ('q, $1)) for $0 $1, "
+           "(('q, $0), $1, ('p, $0)) for $0 $1 if $0<$1}, {('p, 'none)}, {('q, 'none), ('q, $0) for $0})\nend\n")
+
+# the command, the text, the right answer and its status, and for each planted error its name, a piece of the answer,
+# what takes its place, and another status if there is one
+PLANTED = [
+    (("run",), PAIRS, "lois results 1\natoms equality\nparameters a\ncase when true\n"
+     "s = {($1, a) for $1 if a!=$1, 'p}\na = a\nend\n", 0, [
+         ("a member too many", "'p}", "'p, 'q}"), ("an orbit of members too many", " if a!=$1", ""),
+         ("a member missing", ", 'p}", "}"), ("another member", "($1, a)", "(a, $1)"),
+         ("a line too few", "a = a\n", ""),
+         ("a line of another name", "a = a", "b = a"), ("lines turned", "s = {($1, a) for $1 if a!=$1, 'p}\na = a",
+                                                         "a = a\ns = {($1, a) for $1 if a!=$1, 'p}"),
+         ("another atom", "a = a", "a = 'a"), ("another structure", "equality", "order"),
+         ("no parameter", "rs a", "rs b"),
+         ("a needless piece", "'p}", "'p, (a, a) if a!=a}"), ("a guard that isn't normal", "a!=$1", "$1!=a"),
+         ("another status", "", "", 1), ("a text that isn't one", "end\n", "end")]),
+    (("run",), CASES, "lois results 1\natoms equality\nparameters a b\ncase when a=b\ns = {'eq}\n"
+     "case when a!=b\ns = {a}\nend\n", 0, [
+        ("a case twice", "case when a!=b", "case when a=b\ns = {'eq}\ncase when a!=b"),
+        ("a case missing", "case when a!=b\ns = {a}\n", ""),
+        ("a case too wide", "a=b", "true"), ("a case that holds nowhere", "end", "case when false\nend"),
+        ("values turned", "s = {a}", "s = {b}"), ("two cases of equal lines", "s = {a}", "s = {'eq}")]),
+    (("run",), FAILS, "lois results 2\natoms order\nparameters a b\nfailed at 3:2: assertion failed\nchoice 1 0 2\n"
+     "for x = a\nfor y = $2\nend\n", 1, [
+         ("a wrong line", "3:2", "2:2"), ("a wrong column", "3:2", "3:9"),
+         ("a wrong cause", "assertion failed", "turn limit", 3),
+         ("a wrong choice", "choice 1 0 2", "choice 0 1 2"), ("a wrong element", "x = a", "x = b"),
+         ("an element that isn't in the set", "x = a", "x = $2"),
+         ("an element that the condition keeps away", "y = $2", "y = b"),
+         ("an element missing", "for y = $2\n", ""),
+         ("elements turned", "for x = a\nfor y = $2", "for y = $2\nfor x = a"),
+         ("another name", "for x", "for z"), ("another status", "", "", 2),
+         ("what isn't reached", "3:2: assertion failed",
+                                                                              "4:17: not a set", 2)]),
+    (("run",), b"atoms order; let s = {}; print x;", "refused at 1:32: unknown name\n", 5, [
+        ("another place of a refusal", "1:32", "1:26"), ("another refusal", "unknown name", "not a script"),
+        ("a status", "", "", 0)]),
+    (("check",), b"atoms order;assert[1 < 2];", "refused at 1:20: not a script\n", 5, [("another place", "20", "22")]),
+    (("check",), b"atoms order;if true{}else{}", "atoms order ;\nif true {\n}\n", 0,
+     [("another form", "}\n", "}\nelse {\n}\n")]),
+    (("reread",), CENSUS, CENSUS.decode(), 0, [("another text", "'p", "'q"),
+                                               ("a refusal", CENSUS.decode(), "refused", 5)]),
+    (("reread",), CENSUS[:50], "refused at 4:13: not results\n", 5, [("another place", "4:13", "4:11")]),
+    (("equal", "a", "b"), EQUAL, "differ in case 1\nchoice 0 1\nletter $0\nletter $1\naccepted by a\n", 10, [
+        ("a longer word", "letter $1", "letter $1\nletter $1"), ("a word that tells nothing", "letter $1\n", ""),
+        ("the wrong side", "by a", "by b"), ("no difference", "", "equal\n", 0),
+        ("a letter that is none", "$0\n", "'p\n"),
+        ("a number for nothing", "choice 0 1", "choice 0 1 2"), ("another case", "case 1", "case 2")]),
+    (("equal", "a", "a"), EQUAL, "equal\n", 0, [("a difference", "equal\n",
+                                                 "differ in case 1\nchoice\naccepted by a\n", 10)]),
+    (("equal", "a", "c"), EQUAL, "refused: no line c in case 1\n", 5, [("another reason", "no line c", "no line a")]),
+    (("equal", "m", "n"), TWO, "differ in case 1\nchoice 0 1\nletter a\naccepted by m\n", 10, [
+        ("a choice without a difference", "choice 0 1", "choice 0 0"), ("the other letter", "letter a", "letter b")]),
+    (("census", "s"), CENSUS, "case 1\norbits 4\norbit 'p\nchoice\norbit ($0, $1)\nchoice 0 1\n"
+     "orbit ($0, $1)\nchoice 1 0\norbit ($0, $0)\nchoice 0\n", 0, [
+         ("an orbit twice", "choice 1 0", "choice 0 1"),
+         ("an orbit missing", "orbits 4\norbit 'p\nchoice\n", "orbits 3\n"),
+         ("an orbit too many", "orbits 4", "orbits 5\norbit 'p\nchoice"), ("no member", "'p", "'q"),
+         ("another case", "case 1", "case 2")]),
+    (("census", "s"), UNORDERED, "case 1\norbits 2\norbit ($0, {$1})\nchoice 4 2\norbit ($1, {$0})\nchoice 7 7\n", 0, [
+        ("an orbit of the order", "orbits 2", "orbits 3\norbit ($0, {$1})\nchoice 2 4"),
+        ("an orbit twice", "choice 7 7", "choice 7 8"),
+        ("an orbit missing", "orbits 2\norbit ($0, {$1})\nchoice 4 2\n", "orbits 1\n")]),
+    (("registers",), REGISTERS, MACHINE, 0, [
+        ("a step turned", "(('q, $0), $1, ('p, $0))", "(('p, $0), $1, ('q, $0))"),
+        ("a guard turned", "$0<$1", "$1<$0"),
+        ("a step missing", "(('p, 'none), $0, ('q, $0)) for $0, ", ""),
+        ("a final state missing", "{('q, 'none), ('q", "{('q"),
+        ("another first state", "{('p, 'none)}", "{('q, 'none)}")]),
+    (("registers",), REGISTERS[:-4], "refused at 9:1: not a register automaton\n", 5,
+     [("another place", "9:1", "8:1")]),
+]
+
+
+def is_right(words, source, output, status):
+    """Whether the answer is judged right."""
+    try:
+        judge_answer(words, source, output.encode(), status)
+    except Wrong:
+        return False
+    return True
+
+
+def run_selftest(_):
+    """Plants errors in right answers, and says whether each is found: right answers have to be right, others wrong."""
+    passed, failed = 0, 0
+    for words, source, output, status, errors in PLANTED:
+        tries = [("the right answer", output, status, True)]
+        for name, piece, other, *code in errors:
+            text = output.replace(piece, other, 1) if piece else other or output
+            tries.append((name, text, code[0] if code else status, False))
+        for name, text, code, right in tries:
+            if is_right(words, source, text, code) == right and (right or (text, code) != (output, status)):
+                passed += 1
+            else:
+                failed += 1
+                print(f"{' '.join(words)}: {name} is judged {'wrong' if right else 'right'}:\n{text}")
+    print(f"{passed} passed, {failed} failed")
+    return 1 if failed else 0

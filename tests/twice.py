@@ -1,0 +1,138 @@
+"""Pairs of ten equal lines, names aside, in src/, in specs/ and in *.md.
+
+    twice.py [CHECKOUT]          lists them, a line for each pair of places, and ends with 1 where there are any
+    twice.py --selftest          plants a copy of a function, its names changed, and ends with 0 where it is found
+
+Two runs of lines are equal where one renaming of names turns the one into the other: each name of the first has one partner
+in the second, and the other way round. Blank lines, comments, imports, clauses, attributes and lines of punctuation alone don't count. In
+Markdown lines are compared as they are.
+"""
+import os
+import re
+import shutil
+import sys
+import tempfile
+
+LINES = 10
+NAME = re.compile(r"[A-Za-z_][\w'-]*")
+PASSED = re.compile(r"^(?:pub )?(?:ghost )?(?:use|mod) |^(?:ensures|requires)\b|^#\[|^(?://|--)|^[\s{}()\[\];,]*$|^}.*[{(]$|^\|[-| ]*$")
+# words of Rust, of contracts and of antt, which are no names
+KEPT_WORDS = set("""fn pub let mut if else match for in while return Ok Err Some None self Self true false impl struct enum trait
+ensures requires ghost abbrev unfoldable record data where elim inl inr subst refl sym ap tt absurd""".split())
+# Runs that stay, as docs/DECISIONS.md says under "What stands twice": both places are of one group.
+GROUPS = {
+    "list types have the same methods": """lois_base/src/values lois_base/src/logic lois_base/src/words lois_base/src/guards lois_base/src/numbers
+        lois_answers/src/results lois_census/src/counting lois_census/src/orbits lois_context/src/slots lois_registers/src/automata
+        lois_rounds/src/families lois_script/src/script lois_script/src/syntax""",
+    "levels are moved in each crate's own trees": """lois_constraint/src/levels lois_simplify/src/moving lois_terms/src/shifting
+        lois_shortest_word/src/lowering""",
+    "deciders implement one trait": """lois_deciders/src/graph lois_deciders/src/plain lois_vectors_atoms/src/base lois_vectors_rows/src/asking""",
+    "readers stop with the same errors": "lois_reader/src/parse_error lois_registers/src/parse_error",
+    "a comprehension is made for each step": """lois_automata/src/conditions lois_automata/src/frontier lois_automata/src/pairing
+        lois_shortest_word/src/layers lois_shortest_word/src/steps lois_shortest_word/src/symbolic_states""",
+    "a tuple of five is made": "lois_automata/src/parts lois_registers/src/translating",
+    "tables of words": "lois_descent/src/lexemes lois_reader/src/answers",
+    "each part of a term is asked the same": "lois_answers/src/sound lois_terms/src/reading",
+    "two facts of one tree": "lois_interp/specs/WithinLimits lois_script/specs/Limits",
+    "tests make the same small values": """lois_vectors/src/tests lois_vectors_rows/src/calling lois_vectors_rows/src/spelling
+        lois_vectors_contexts/src/making lois_vectors_expressions/src/making lois_vectors_sets/src/making lois_vectors_statements/src/making
+        lois_vectors_atoms/src/constraint""",
+}
+# Two forms of one kind mirror one another in these files: a tuple and a set, intersection and difference, input and output.
+MIRRORS = """lois_algebra/src/depth lois_eval/src/evaluating lois_eval/src/machines lois_eval/src/relations lois_outside/src/standard
+    lois_parser/src/conditions lois_printer/src/terms lois_reader/src/terms lois_relate/src/building""".split()
+
+
+def has_reason(one, other):
+    """Whether two files belong to one group, or are one file of mirrors."""
+    names = {re.sub(r"^crates/|\.\w+$", "", path) for path in (one, other)}
+    return any(names <= set(group.split()) for group in GROUPS.values()) or len(names) == 1 and names <= set(MIRRORS)
+
+
+def counted_lines(path, text):
+    """The lines that count, each with its number."""
+    for number, line in enumerate(text.split("\n"), 1):
+        line = " ".join(line.split())
+        if line and not PASSED.match(line):
+            yield number, line
+
+
+def shape(lines):
+    """The lines with names replaced by the numbers of their first places, so that a renaming changes nothing."""
+    numbers = {}
+
+    def numbered(word):
+        if word.group(0) in KEPT_WORDS:
+            return word.group(0)
+        return f"${numbers.setdefault(word.group(0), len(numbers))}"
+
+    return "\n".join(NAME.sub(numbered, line) for line in lines)
+
+
+def places(top):
+    """Each file with the lines that count, by its kind: src, specs or md."""
+    for folder, folders, files in os.walk(top):
+        folders[:] = sorted(name for name in folders if name not in ("out", ".git", "unfinished"))
+        for name in sorted(files):
+            path = os.path.relpath(os.path.join(folder, name), top)
+            kind = "md" if name.endswith(".md") else "src" if "/src/" in path and name.endswith(".rt") \
+                else "specs" if "/specs/" in path and name.endswith(".antt") else None
+            if kind:
+                with open(os.path.join(top, path), encoding="utf-8") as file:
+                    yield kind, path, list(counted_lines(path, file.read()))
+
+
+def has_enough(window, kind):
+    """Whether the lines say more than punctuation and single words, so that being equal tells something."""
+    return kind == "md" or sum(len(line) for line in window) >= 200
+
+
+def pairs(top):
+    seen = {}
+    for kind, path, lines in places(top):
+        for first in range(len(lines) - LINES + 1):
+            window = [line for _, line in lines[first:first + LINES]]
+            if has_enough(window, kind):
+                form = (kind, "\n".join(window) if kind == "md" else shape(window))
+                seen.setdefault(form, []).append((path, lines[first][0], first))
+    found = set()
+    for runs in seen.values():
+        for index, (path, line, first) in enumerate(runs):
+            for other, partner, start in runs[:index]:
+                if other != path or abs(first - start) >= LINES:
+                    found.add((other, path, partner, line))
+    listed = {}
+    for other, path, partner, line in sorted(found):
+        listed.setdefault((other, path), []).append((partner, line))
+    for (other, path), lines in sorted(listed.items()):
+        if not has_reason(other, path):
+            yield f"{other}:{lines[0][0]} ~ {path}:{lines[0][1]} ({len(lines) + LINES - 1} lines or more)"
+
+
+def selftest(top):
+    work = tempfile.mkdtemp()
+    try:
+        shutil.copytree(os.path.join(top, "crates/lois_order"), os.path.join(work, "crates/lois_order"), ignore=shutil.ignore_patterns("out"))
+        with open(os.path.join(work, "crates/lois_order/src/rule.rt"), encoding="utf-8") as file:
+            copy = file.read().replace("cube", "block").replace("size", "number")
+        os.makedirs(os.path.join(work, "crates/planted/src"))
+        with open(os.path.join(work, "crates/planted/src/lib.rt"), "w", encoding="utf-8") as file:
+            file.write(copy)
+        found = [line for line in pairs(work) if "planted" in line]
+        print("twice: the planted copy is " + ("found" if found else "not found"))
+        return 0 if found else 1
+    finally:
+        shutil.rmtree(work)
+
+
+def main():
+    top = os.path.dirname(os.path.dirname(os.path.abspath(__file__)))
+    if sys.argv[1:] == ["--selftest"]:
+        return selftest(top)
+    found = list(pairs(sys.argv[1] if sys.argv[1:] else top))
+    print("\n".join(found + [f"{len(found)} pairs"]))
+    return 1 if found else 0
+
+
+if __name__ == "__main__":
+    sys.exit(main())
