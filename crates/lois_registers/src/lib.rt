@@ -2,7 +2,6 @@
 #![tactic(auto)]
 
 ghost use Rattle.lois_registers.specs.declared.RegistersError.TheVariants.{NoMemory};
-ghost use Rattle.std.specs.Prelude.{◌≡◌};
 
 mod automata;
 mod fixed;

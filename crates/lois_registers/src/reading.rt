@@ -1,6 +1,6 @@
 //! The reader of register automata.
 
-ghost use Rattle.std.specs.Prelude.{◌≡◌, ◌≤◌, ℕ, List, ◌++◌, length, map, IfOk, IfErr, OnOk};
+ghost use Rattle.std.specs.Prelude.{◌≡◌, ◌≤◌, ◌++◌, length, map, IfOk, IfErr};
 ghost use Rattle.std.specs.List.{All, flat_map};
 ghost use Rattle.lois_base.specs.Names.{IsName};
 ghost use Rattle.lois_registers.specs.Places.{IsRegistersOf, IsFaultPlace, IsOnlyPlace, SpellsNoRegisters, StopsIn};
@@ -33,7 +33,8 @@ fn steps<'a>(
     ensures few { IfOk result (λ x. length x.0 ≤ 256) }
     ensures valid { IfOk result (λ x. All (IsRegStep frame.entry.order frame.entry.registers frame.entry.states.now) x.0) }
     ensures read { IfOk result (λ x. text.now ≡ flat_map text_of_words (map step_words x.0) ++ x.1.now) }
-    ensures all { IfOk result (λ x. (length x.0 ≡ 256) ⊎ BeginsWithNoLine (IsRegStep frame.entry.order frame.entry.registers frame.entry.states.now) step_words x.1.now) }
+    ensures all { IfOk result (λ x. (length x.0 ≡ 256)
+        ⊎ BeginsWithNoLine (IsRegStep frame.entry.order frame.entry.registers frame.entry.states.now) step_words x.1.now) }
 {
     let mut steps = RegSteps::new(alloc);
     let mut rest = text;

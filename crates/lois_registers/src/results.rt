@@ -1,6 +1,6 @@
 //! The results text's value for a translated register automaton.
 
-ghost use Rattle.std.specs.Prelude.{◌≡◌, List, [], ◌∷◌, codes, IfOk};
+ghost use Rattle.std.specs.Prelude.{◌≡◌, [], ◌∷◌, codes, IfOk};
 ghost use Rattle.lois_answers.specs.Sound.{IsSound};
 ghost use Rattle.lois_base.specs.Data.{TermD};
 ghost use Rattle.lois_registers.specs.Translation.{IsTranslatedTo};
@@ -16,7 +16,9 @@ pub fn translate_to_results(alloc: Global, r: &Registers) -> Result<Results, NoM
     requires valid { IsRegisters r.now }
     ensures order { IfOk result (λ s. s.order ≡ r.now.order) }
     ensures parameters { IfOk result (λ s. s.parameters ≡ []) }
-    ensures case { IfOk result (λ s. (t : TermD) × (s.cases ≡ record { when = [] ∷ []; lines = record { name = codes "automaton"; term = t } ∷ [] } ∷ []) × IsTranslatedTo r.now t) }
+    ensures case { IfOk result (λ s. (t : TermD)
+        × (s.cases ≡ record { when = [] ∷ []; lines = record { name = codes "automaton"; term = t } ∷ [] } ∷ [])
+        × IsTranslatedTo r.now t) }
     ensures sound { IfOk result IsSound }
 {
     let term = translate(alloc, r)?;

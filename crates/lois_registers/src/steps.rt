@@ -1,6 +1,6 @@
 //! The lines of the steps.
 
-ghost use Rattle.std.specs.Prelude.{◌≡◌, ℕ, ◌+◌, ◌≤◌, Bool, List, ◌∷◌, ◌++◌, map, length, take, drop, ◌<◌, IfOk, IfErr, IfSome, IfNone, IsTrue};
+ghost use Rattle.std.specs.Prelude.{◌≡◌, ℕ, ◌+◌, ◌≤◌, List, ◌∷◌, ◌++◌, map, length, take, drop, ◌<◌, IfOk, IfErr, IfSome, IfNone, IsTrue};
 ghost use Rattle.std.specs.List.{All};
 ghost use Rattle.lois_answers.specs.TermText.{literal_text, op_text};
 ghost use Rattle.lois_base.specs.Names.{IsName};
@@ -187,7 +187,11 @@ fn stored(alloc: Global, registers: u32, words: &[&[u8]]) -> Result<Option<Store
 /// Where the word stands first.
 fn first_of(words: &[&[u8]], word: &[u8]) -> Option<usize>
     ensures inside { IfSome result (λ n. n < length words.now) }
-    ensures cut { IfSome result (λ n. IsCutAt word.now (map (λ w. w.now) words.now) (map (λ w. w.now) (take n words.now)) (map (λ w. w.now) (drop (n + 1) words.now))) }
+    ensures cut { IfSome result (λ n. IsCutAt
+        word.now
+        (map (λ w. w.now) words.now)
+        (map (λ w. w.now) (take n words.now))
+        (map (λ w. w.now) (drop (n + 1) words.now))) }
     ensures none { IfNone result ((before after : List (List ℕ)) → map (λ w. w.now) words.now ≡ before ++ word.now ∷ after → ⊥) }
 {
     for (i, other) in words.iter().enumerate() {
@@ -244,8 +248,11 @@ pub fn step_line<'a>(
 ) -> Result<(RegStep, &'a [u8]), ParseError>
     requires count { IsCount frame.registers }
     requires form { All IsName frame.states.now }
-    ensures read { IfOk result (λ x. IsRegStep frame.entry.order frame.entry.registers frame.entry.states.now x.0 × (text.now ≡ text_of_words (step_words x.0) ++ x.1.now)) }
-    ensures left { IfErr result (IsLeftAt text.now (BeginsWithNoLine (IsRegStep frame.entry.order frame.entry.registers frame.entry.states.now) step_words text.now)) }
+    ensures read { IfOk result (λ x. IsRegStep frame.entry.order frame.entry.registers frame.entry.states.now x.0
+        × (text.now ≡ text_of_words (step_words x.0) ++ x.1.now)) }
+    ensures left { IfErr result (IsLeftAt
+        text.now
+        (BeginsWithNoLine (IsRegStep frame.entry.order frame.entry.registers frame.entry.states.now) step_words text.now)) }
 {
     let (words, rest) = line_words(alloc, text)?;
     match step(alloc, frame, &words)? {
