@@ -1,6 +1,6 @@
 //! Where atoms stand as numbers do.
 
-ghost use Rattle.std.specs.Prelude.{◌≡◌, ℕ, ◌+◌, ◌<◌, ◌^◌, ◌↔◌, List, length, IfOk, IsTrue, slice_index};
+ghost use Rattle.std.specs.Prelude.{ℕ, ◌+◌, ◌<◌, ◌^◌, ◌↔◌, List, length, IfOk, IsTrue};
 ghost use Rattle.lois_base.specs.Atom.{Atom, whole};
 ghost use Rattle.lois_base.specs.Fits.{LitFits};
 ghost use Rattle.lois_base.specs.FormulaView.{view};

@@ -1,6 +1,6 @@
 //! The orbits of the set of a name in each case of results.
 
-ghost use Rattle.std.specs.Prelude.{◌≡◌, ℕ, [], ◌↔◌, IfOk, OnOk, IfSome, IfNone, IsTrue};
+ghost use Rattle.std.specs.Prelude.{◌≡◌, [], ◌↔◌, IfOk, OnOk, IfSome, IfNone, IsTrue};
 ghost use Rattle.std.specs.List.{All};
 ghost use Rattle.lois_answers.specs.CaseView.{case_of};
 ghost use Rattle.lois_answers.specs.Sound.{IsSound, IsSoundCase};

@@ -1,6 +1,6 @@
 //! The text of censuses.
 
-ghost use Rattle.std.specs.Prelude.{◌≡◌, ◌++◌, length, IfOk, OnOk};
+ghost use Rattle.std.specs.Prelude.{◌≡◌, ◌++◌, IfOk, OnOk};
 ghost use Rattle.std.specs.List.{All, flat_map};
 ghost use Rattle.lois_census.specs.CensusText.{orbit_text, census_text, censuses_text};
 ghost use Rattle.lois_census.specs.CensusView.{entry_of};
