@@ -29,10 +29,10 @@ fn operand(registers: u32, text: &[u8]) -> Option<(usize, &[u8])>
 {
     match text {
         [b'x', rest @ ..] => Some((0, rest)),
-        [b'r', digit, rest @ ..] => match number(*digit, registers) {
-            Some(level) => Some((level as usize, rest)),
-            None => None,
-        },
+        [b'r', digit, rest @ ..] => {
+            let level = number(*digit, registers)?;
+            Some((level as usize, rest))
+        }
         _ => None,
     }
 }
