@@ -36,6 +36,10 @@ found_at [] more bytes = refl
 found_at (k ∷ ks) more bytes =
     found_by k ks (position_or_len (λ word. bytes_eq word bytes) (map word_of ks ++ more)) (find (λ k. bytes_eq (word_of k) bytes) ks) (bytes_eq (word_of k) bytes) (found_at ks more bytes)
 
+-- each reserved word but the last two is that of the keyword at its place
+in_order : map (λ word. word.now) RESERVED ≡ map word_of KEYWORDS ++ codes "case" ∷ codes "end" ∷ []
+in_order = refl
+
 keyword_at : (bytes : List ℕ) → entry_at KEYWORDS (position_or_len (λ word. bytes_eq word.now bytes) RESERVED) ≡ find (λ k. bytes_eq (word_of k) bytes) KEYWORDS
 keyword_at bytes =
     ap (λ words. entry_at KEYWORDS (position_or_len (λ word. bytes_eq word bytes) words)) in_order ∙ found_at KEYWORDS (codes "case" ∷ codes "end" ∷ []) bytes
