@@ -7,6 +7,7 @@ not and or exists forall subset empty union inter minus flatten part reach produ
 end""".split())
 LIMIT = 1_048_576
 TOKEN = re.compile(r"'?[A-Za-z][A-Za-z0-9_]*|[0-9]+|:=|!=|[;,()\[\]{}:=<]")
+COMMENT = re.compile(r"#[\t\r -~]*")
 
 
 class Refused(Exception):
@@ -43,16 +44,6 @@ def check_length(text):
         raise Refused(None, f"input over {LIMIT} bytes")
 
 
-def comment_end(text, start):
-    """The offset behind the comment at this offset; its bytes are tabs, carriage returns and printable ASCII."""
-    for at in range(start, len(text)):
-        if text[at] == "\n":
-            return at
-        if text[at] not in "\t\r" and not " " <= text[at] <= "~":
-            raise Refused(at, "bad byte")
-    return len(text)
-
-
 def token_at(text, at):
     """The longest token at an offset."""
     found = TOKEN.match(text, at)
@@ -77,7 +68,9 @@ def tokens(source):
         if text[at] in " \t\n\r":
             at += 1
         elif text[at] == "#":
-            at = comment_end(text, at)
+            at = COMMENT.match(text, at).end()
+            if text[at:at + 1] not in ("", "\n"):
+                raise Refused(at, "bad byte")
         else:
             found.append(token_at(text, at))
             at += len(found[-1].text)

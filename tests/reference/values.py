@@ -195,8 +195,8 @@ def closure(values, points):
 
 
 def united(orbits, points):
-    """The set of these orbits over the points. Its support are the points that can't be dropped, one by one: supports
-    are closed under intersection."""
+    """The set of these orbits over the points. Its support is found by dropping points one by one: those that can't be
+    dropped are in each support, since supports are closed under intersection."""
     for i in reversed(range(len(points))):
         merged_orbits = without(orbits, i)
         if merged_orbits is not None:
