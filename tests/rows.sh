@@ -128,8 +128,12 @@ try_row() {
 
 # One of the answers to judge, in a process of its own; what is wrong of it goes to a file.
 judge_one() {
-  local row=$1 input=$2 answer=$3 status=$4
-  (cd tests && python3 -m reference judge "$input" "$answer" "$status" --normal) >"$answer.judged" 2>&1 && return
+  local row=$1 input=$2 answer=$3 status=$4 words
+  read -ra words <"$row/words"
+  if [ "${words[0]}" = run ]; then
+    words=(judge --normal)
+  fi
+  (cd tests && python3 -m reference "${words[@]}" "$input" "$answer" "$status") >"$answer.judged" 2>&1 && return
   {
     printf 'FAILED %s: the reference refuses this answer:\n' "$(cat "$row/name")"
     show "$answer"
