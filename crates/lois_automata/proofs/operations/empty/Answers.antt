@@ -28,7 +28,7 @@ returns-clause-empty g c =
     let among : IsIntersection n states (coll accepting) found = subst (λ z. IsIntersection n states (coll accepting) z) (ap tree c.in-Coll.is) c.in_ok-found.ensures.members in
     IfOk-weaker c.negate.result (λ r. (d : List Atom) → holds d r ≡ not (holds d some)) _ (λ r is.
     (empty_throughout n c.args.under.now (tree c.args.a.now) found (comps_of sets.states.now) (comps_of sets.letters.now) (comps_of sets.steps.now) (comps_of sets.initial.now) (comps_of sets.accepting.now) c.in-Some.ensures.some
-    accepting states found r c.in_ok-states.ensures.reachable_set (ap comps_of c.in_ok-copy.ensures) among (not_where n (λ d. (x : PointValue) × IsIn x (point found d)) some r c.in_ok-some.ensures.truth is)).0) c.negate.ensures.truth
+    accepting states found r c.in_ok-states.ensures.reached (ap comps_of c.in_ok-copy.ensures) among (not_where n (λ d. (x : PointValue) × IsIn x (point found d)) some r c.in_ok-some.ensures.truth is)).0) c.negate.ensures.truth
 
 pub returns-clause-accepts : goal.returns-clause-accepts
 returns-clause-accepts g c =
@@ -41,7 +41,7 @@ returns-clause-accepts g c =
     let among : IsIntersection n states (coll accepting) found = subst (λ z. IsIntersection n states (coll accepting) z) (ap tree c.in-Coll.is) c.in_ok-found.ensures.members in
     IfOk-weaker c.negate.result (λ r. (d : List Atom) → holds d r ≡ not (holds d some)) _ (λ r is.
     (empty_throughout n c.args.under.now (tree c.args.a.now) found (comps_of sets.states.now) (comps_of sets.letters.now) (comps_of sets.steps.now) (comps_of sets.initial.now) (comps_of sets.accepting.now) c.in-Some.ensures.some
-    accepting states found r c.in_ok-states.ensures.reachable_set (ap comps_of c.in_ok-copy.ensures) among (not_where n (λ d. (x : PointValue) × IsIn x (point found d)) some r c.in_ok-some.ensures.truth is)).1) c.negate.ensures.truth
+    accepting states found r c.in_ok-states.ensures.reached (ap comps_of c.in_ok-copy.ensures) among (not_where n (λ d. (x : PointValue) × IsIn x (point found d)) some r c.in_ok-some.ensures.truth is)).1) c.negate.ensures.truth
 
 pub returns-clause-levels : goal.returns-clause-levels
 returns-clause-levels g c =

@@ -12,11 +12,11 @@ use Rattle.lois_automata.specs.Throughout.{HoldsThroughout}
 use Rattle.lois_automata.proofs.FiveMachine.{is_reach}
 use Rattle.lois_automata.proofs.operations.reach.Goals as goal
 
-pub returns-in_default-clause-reachable_set : goal.returns-in_default-clause-reachable_set
-returns-in_default-clause-reachable_set g c = λ d l u. absurd (c.in_default.ensures.none d (c.requires.automaton d l u))
+pub returns-in_default-clause-reached : goal.returns-in_default-clause-reached
+returns-in_default-clause-reached g c = λ d l u. absurd (c.in_default.ensures.none d (c.requires.automaton d l u))
 
-pub returns-clause-reachable_set : goal.returns-clause-reachable_set
-returns-clause-reachable_set g c =
+pub returns-clause-reached : goal.returns-clause-reached
+returns-clause-reached g c =
     let n = c.args.size in
     let sets = c.in-Some.sets in
     let e : tree c.args.a.now ≡ five_of (comps_of sets.states.now) (comps_of sets.letters.now) (comps_of sets.steps.now) (comps_of sets.initial.now) (comps_of sets.accepting.now) = c.in-Some.ensures.some in

@@ -7,11 +7,11 @@ use Rattle.lois_equal.proofs.differing.equal.Goals as goal
 
 pub returns-clause-same : goal.returns-clause-same
 returns-clause-same g c =
-    (shorter_found c.args.size c.args.under.now (tree c.args.a.now) (tree c.args.b.now) c.in_ok-first.first c.in_ok-second.second c.shorter.result c.in_ok-first.ensures.none c.in_ok-first.ensures.difference_of c.in_ok-second.ensures.none c.in_ok-second.ensures.difference_of c.shorter.ensures).0
+    (shorter_found c.args.size c.args.under.now (tree c.args.a.now) (tree c.args.b.now) c.in_ok-first.first c.in_ok-second.second c.shorter.result c.in_ok-first.ensures.none c.in_ok-first.ensures.found c.in_ok-second.ensures.none c.in_ok-second.ensures.found c.shorter.ensures).0
 
 pub returns-clause-differs : goal.returns-clause-differs
 returns-clause-differs g c =
-    (shorter_found c.args.size c.args.under.now (tree c.args.a.now) (tree c.args.b.now) c.in_ok-first.first c.in_ok-second.second c.shorter.result c.in_ok-first.ensures.none c.in_ok-first.ensures.difference_of c.in_ok-second.ensures.none c.in_ok-second.ensures.difference_of c.shorter.ensures).1
+    (shorter_found c.args.size c.args.under.now (tree c.args.a.now) (tree c.args.b.now) c.in_ok-first.first c.in_ok-second.second c.shorter.result c.in_ok-first.ensures.none c.in_ok-first.ensures.found c.in_ok-second.ensures.none c.in_ok-second.ensures.found c.shorter.ensures).1
 
 pub returns-clause-operators : goal.returns-clause-operators
 returns-clause-operators g c =

@@ -18,4 +18,4 @@ returns-clause-pairs g c =
     let other = tree c.in_ok-other.other in
     IfOk-weaker c.union.result (λ r. IsUnion one other (tree r)) _ (λ r all d l.
     subst (λ z. AreSplitPairs (point nodes d) (point (coll (comps_of z)) d) (point (tree r) d)) c.in_ok-copy.ensures
-    (are_split_pairs n nodes (coll (comps_of copied)) one other (tree r) (comps_of shares.inside) (comps_of shares.outside) d l (c.in_ok-shares.ensures.partition_by d l) c.in_ok-one.ensures.members c.in_ok-other.ensures.members all)) c.union.ensures.members
+    (are_split_pairs n nodes (coll (comps_of copied)) one other (tree r) (comps_of shares.inside) (comps_of shares.outside) d l (c.in_ok-shares.ensures.shared d l) c.in_ok-one.ensures.members c.in_ok-other.ensures.members all)) c.union.ensures.members

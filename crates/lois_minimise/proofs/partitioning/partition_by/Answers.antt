@@ -45,8 +45,8 @@ loop-one-preserved g c =
       covers_more n (comps_of c.args.items.now) (comps_from items i) (comps_from items (i + 1)) (comp_of k) _ _ (comps_are items i k c.loop-one-test.true c.one-item.is) (still_shared n (comp_of k) t _ _ _ _ added) (λ d w l. added.each d l w) before.2,
     )
 
-pub returns-clause-partition_by : goal.returns-clause-partition_by
-returns-clause-partition_by g c =
+pub returns-clause-shared : goal.returns-clause-shared
+returns-clause-shared g c =
     let t = tree c.args.t.now in
     let n = c.args.size in
     let items = c.as_slice-one-items.result.now in
