@@ -18,3 +18,4 @@ mod oracle;
 mod relations;
 
 pub use evaluating::{decide, eval};
+pub use faults::{fault, fault_under};
