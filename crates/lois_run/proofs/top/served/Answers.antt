@@ -12,7 +12,7 @@ returns-in-Make-clause-outcome g c =
     let from = c.args.source.now in
     IfOk-weaker c.run_make.result _ _ (λ o is words kinds asks has.
     subst (IsOutcomeOf words kinds g.S.Source.left g.S.Source.faults g.S.Source.takes from from) (sym is)
-    (made_is_told words kinds g.S.Source.left g.S.Source.faults g.S.Source.takes from from c.args.command asks has c.in-Make.count c.in-Make.field-1 c.in-Make.is refl)) c.run_make.ensures.run_make
+    (made_is_told words kinds g.S.Source.left g.S.Source.faults g.S.Source.takes from from c.args.command asks has c.in-Make.count c.in-Make.field-1 c.in-Make.is refl)) c.run_make.ensures.made
 
 pub returns-in-Make-clause-no_memory : goal.returns-in-Make-clause-no_memory
 returns-in-Make-clause-no_memory g c =
