@@ -31,7 +31,7 @@ abbrev pub CompletedWith : ℕ → Outcome → Results → Type 0
 CompletedWith n o r = (o ≡ Completed r) × AreResultsOf (made_tree n) r × HasMadeCounts n r
 
 counted : (n : ℕ) (o : Outcome) → IsCompleted o → IsRight (made_script n) (made_tree n) o → (r : Results) × CompletedWith n o r
-counted n (Completed r) is right = (r, refl, right.results, results_have_made_counts n r right.results)
+counted n (Completed r) is right = (r, (refl, right.results, results_have_made_counts n r right.results))
 counted n _ is right = absurd is
 
 -- What keeps the headline for the made script completes, with the made script's counts, or is a read fault.
