@@ -40,7 +40,7 @@ else
   echo "tests/all.sh: skipped what tests/reference/ judges, since python3 isn't there"
 fi
 suite 'the first calls' tests/first_run.sh
-for name in documents unused twice trusted; do
+for name in documents editors unused twice trusted; do
   [ ! -x "tests/$name.sh" ] || suite "tests/$name.sh" "tests/$name.sh"
 done
 tell_counts

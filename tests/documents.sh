@@ -1,5 +1,6 @@
 #!/usr/bin/env bash
-# Runs tests/documents.py on the checkout, and its self test. The last line is `N passed, M failed`.
+# Runs tests/documents.py on the checkout, and its self test, and mandoc on the manual page where it is there. The last
+# line is `N passed, M failed`.
 set -u
 cd "$(dirname "${BASH_SOURCE[0]}")/.." || exit 70
 . tests/counts.sh
@@ -11,4 +12,9 @@ work=$(mktemp -d)
 trap 'rm -rf "$work"' EXIT
 count_suite "$work/said" python3 tests/documents.py --selftest
 count_suite "$work/said" python3 tests/documents.py
+if command -v mandoc >/dev/null; then
+  count_suite "$work/said" mandoc -T lint docs/lois.1
+else
+  echo "tests/documents.sh: the manual page: skipped, since mandoc isn't there"
+fi
 tell_counts

@@ -1,8 +1,9 @@
 #!/usr/bin/env bash
-# Runs the scripts of examples/ and those that stand in docs/LANGUAGE.md, and compares what the program answers with
-# what is written there: for examples/ byte for byte, for the manual the lines behind `>`, each as a whole and in their
-# order. What is asked of an example's answer stands beside it, and so does what becomes of a register automaton. It
-# runs the built program, or the one that LOIS names (LOIS=path tests/examples.sh), and ends with `N passed, M failed`.
+# Runs the scripts of examples/ and those that stand in docs/LANGUAGE.md and docs/IDIOMS.md, and compares what the
+# program answers with what is written there: for examples/ byte for byte, for the manual the lines behind `>`, each as a
+# whole and in their order. What is asked of an example's answer stands beside it, and so does what becomes of a register
+# automaton. Where Python is there tests/reference/ judges the whole answers to the manual's scripts. It runs the built
+# program, or the one that LOIS names (LOIS=path tests/examples.sh), and ends with `N passed, M failed`.
 # A change of the program may spell the same values in another way. Then `./lois run < NAME.lois > NAME.out` makes the
 # new text, which tests/reference/ judges: `cd tests && python3 -m reference judge ../examples/NAME.lois
 # ../examples/NAME.out 0 --normal`.
@@ -78,15 +79,26 @@ stand_in() {
     END { exit !(lines > 0 && found == lines) }' "$1" "$2"
 }
 
+# The reference finds the answer right, with its status. An answer to a script has to be a normal one.
+try_judged() {
+  local words=$1 status=$2
+  [ "$words" != run ] || words='judge --normal'
+  # shellcheck disable=SC2086
+  (cd tests && python3 -m reference $words --seconds 60 "$work/script" "$work/answer" "$status") >"$work/judged" ||
+    complain "the manual's script: the reference says $(head -n 1 "$work/judged")" "$work"/{script,answer,judged}
+}
+
 try_shown() {
-  local command=$1 faults=0
+  local command=$1 status faults=0
   printf '%s' "$2" >"$work/script"
   printf '%s' "$3" >"$work/shown"
   # the command may be several words
   # shellcheck disable=SC2086
   "$lois" $command <"$work/script" >"$work/answer"
-  [ $? -eq "$(status_of "$3")" ] || complain "the manual's script: another status" "$work"/{script,answer,shown}
+  status=$?
+  [ $status -eq "$(status_of "$3")" ] || complain "the manual's script: another status" "$work"/{script,answer,shown}
   stand_in "$work/shown" "$work/answer" || complain "the manual's script: another answer" "$work"/{script,answer,shown}
+  ! command -v python3 >/dev/null || try_judged "$command" $status
   count
 }
 
@@ -124,5 +136,6 @@ for text in examples/*.registers; do
   try_words registers "$text" "$text.out"
 done
 try_manual docs/LANGUAGE.md
+try_manual docs/IDIOMS.md
 echo "$passed passed, $failed failed"
 [ $failed -eq 0 ]
