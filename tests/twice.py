@@ -33,6 +33,7 @@ GROUPS = {
     "a tuple of five is made": "lois_automata/src/parts lois_registers/src/translating",
     "tables of words": "lois_descent/src/lexemes lois_reader/src/answers",
     "each part of a term is asked the same": "lois_answers/src/sound lois_terms/src/reading",
+    "a fault of depth, asked of an oracle and of a decider": "lois_eval/src/checks lois_interp/src/checks",
     "two facts of one tree": "lois_interp/specs/WithinLimits lois_script/specs/Limits",
     "tests make the same small values": """lois_vectors/src/tests lois_vectors_rows/src/calling lois_vectors_rows/src/spelling
         lois_vectors_contexts/src/making lois_vectors_expressions/src/making lois_vectors_sets/src/making lois_vectors_statements/src/making

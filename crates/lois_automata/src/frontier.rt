@@ -61,7 +61,7 @@ impl Round for FrontierRound {
         // the slices are taken for what their clauses tell: levels are below sizes
         let _members = family.as_slice();
         let frontier = frontier_of(&self.known, &self.frontier, family);
-        let _news = frontier.as_slice();
+        let _frontier = frontier.as_slice();
         let held = set_of_family(alloc, &self.nodes, frontier)?;
         let targets = targets_from::<OrderAtoms>(alloc, &self.moves, &held, self.size)?;
         let fresh = fresh_family::<OrderAtoms>(

@@ -28,6 +28,11 @@ handed_ok (Ok x) (Ok y) One Two Three P Q a b c i to = to x y a b c i
 handed_ok (Ok x) (Err t) One Two Three P Q a b c i to = absurd a
 handed_ok (Err s) given One Two Three P Q a b c i to = tt
 
+-- what is handed on as it is
+pub err_weaker : {A : Type 0} (r : Result A Stop) (P Q : Fault → Type 0) → ((f : Fault) → P f → Q f) → IfErr r (λ t. IfFault t P) → IfErr r (λ t. IfFault t Q)
+err_weaker (Ok x) P Q to h = tt
+err_weaker (Err s) P Q to h = if_fault s P Q to h
+
 -- an error that `?` hands on
 pub passed_on : {A : Type 0} (r : Result A Stop) (s : Stop) (P Q : Fault → Type 0) → IsErrAnd r (λ t. t ≡ s) → ((f : Fault) → P f → Q f) → IfFault s P → IfErr r (λ t. IfFault t Q)
 passed_on (Ok x) s P Q same to h = absurd same

@@ -81,8 +81,12 @@ fn check_depth<T: Structure, D: Oracle<T>>(
     }
 }
 
-// Where the value of the term is too deep.
-fn too_deep<T: Structure>(alloc: Global, term: &Term, size: usize) -> Result<Constraint, NoMemory>
+/// Where the value of the term, which uses the first `size` levels, is deeper than values may be. Errors: `NoMemory`.
+pub fn too_deep<T: Structure>(
+    alloc: Global,
+    term: &Term,
+    size: usize,
+) -> Result<Constraint, NoMemory>
     requires levels { Fits size (tree term.now) }
     requires operators { AdmitsTerm T.ordered (tree term.now) }
     ensures truth { IfOk result (λ r. (c : List Atom) → length c ≡ size → IsTrue (holds c r) ↔ IsDeeper (point (tree term.now) c) depth_limit) }

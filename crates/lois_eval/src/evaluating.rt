@@ -345,7 +345,7 @@ fn gathered_here<T: Structure, D: Oracle<T>>(
 {
     let wanted = decided::<T, D>(alloc, condition, context, decider)?;
 
-    // read, since the member stands over that many levels
+    // for the prover: a size that is read is less than 2^64, as the levels below a comprehension have to be
     let _size = context.size;
     let Some(here) = decider.keep(alloc, context, &wanted)? else {
         return Ok(Comps::new(alloc));

@@ -9,8 +9,8 @@ use lois_meaning::{Fault, Stop};
 use lois_script::Pos;
 use std::alloc::Global;
 
-/// The fault of this kind at the place, under a sample.
-pub(crate) fn fault(alloc: Global, pos: Pos, kind: FaultKind, sample: Vec<u64>) -> Stop
+/// The fault of this kind at the place, under a sample. It names no elements.
+pub fn fault(alloc: Global, pos: Pos, kind: FaultKind, sample: Vec<u64>) -> Stop
     ensures { IfFault result (IsFaultWith pos kind sample.items) }
 {
     Stop::Fault(Fault {
@@ -21,8 +21,8 @@ pub(crate) fn fault(alloc: Global, pos: Pos, kind: FaultKind, sample: Vec<u64>) 
     })
 }
 
-/// The same under a copy of these numbers.
-pub(crate) fn fault_under(alloc: Global, pos: Pos, kind: FaultKind, sample: &Numbers) -> Stop
+/// The same under a copy of these numbers, or `NoMemory`.
+pub fn fault_under(alloc: Global, pos: Pos, kind: FaultKind, sample: &Numbers) -> Stop
     ensures { IfFault result (IsFaultWith pos kind sample.now) }
 {
     match Vec::from_slice(alloc, sample.as_slice()) {

@@ -77,7 +77,7 @@ pub(crate) fn composed<T: Structure, D: Oracle<T>>(
     match e {
         Expr::Tuple(_, _) => Ok(Term::Tup(values)),
         Expr::Listed(_, _) => {
-            // read, since each member stands over that many levels
+            // for the prover: a size that is read is less than 2^64, as the levels below a comprehension have to be
             let _size = context.size;
             Ok(set_of(alloc, &values)?)
         }

@@ -17,4 +17,6 @@ mod operations;
 mod oracle;
 mod relations;
 
+pub use checks::too_deep;
 pub use evaluating::{decide, eval};
+pub use faults::{fault, fault_under};

@@ -30,9 +30,11 @@ use Rattle.lois_eval.specs.WellFormed.{IsWellFormedIn, IsWellFormed}
 use Rattle.lois_eval.specs.Throughout.{IsValueThroughout, IsFaultOf}
 use Rattle.lois_eval.specs.Checks.{IsFaultWith}
 use Rattle.lois_eval.proofs.FaultsAt.{own_sample}
-use Rattle.lois_eval.specs.Checks.{IsFaultWith}
 use Rattle.lois_interp.specs.Elements.{SetFails}
 use Rattle.lois_interp.specs.Entered.{StandsInside, IsEntered}
+use Rattle.lois_base.specs.Tree.{tree}
+use Rattle.lois_base.specs.declared.values.Term.{Term}
+use Rattle.lois_base.specs.declared.values.Term.TheVariants.{Var, Tag, Tup, Coll}
 
 each_entry : (k : Context) (x : List ℕ) (ks : List CompD) (ds : List Context) → AreMemberContexts k x ks ds → All (λ d. (q : CompD) × Contains ks q × IsMemberContext k x q d) ds
 each_entry k x ks ds h = all_entries k x (Contains ks) (λ d. (q : CompD) × Contains ks q × IsMemberContext k x q d) (λ q d there e. (q, there, e)) ks ds (All-contains_itself ks) h
@@ -90,3 +92,9 @@ no_set_fails e k at t f gives none place h =
       failure = inr (ap (λ z. z.offset) h.place ∙ place, point t (sampled f.sample.items), gives (sampled f.sample.items) adm, (h.kind, none));
       elements = h.elements;
     }
+
+pub not_coll : (t : Term) → ((ks : List CompD) → t ≡ Coll ks → ⊥) → IsSetTerm (tree t) → ⊥
+not_coll (Var i) h s = s
+not_coll (Tag n) h s = s
+not_coll (Tup ts) h s = s
+not_coll (Coll ks) h s = h ks refl

@@ -1,7 +1,7 @@
--- The contexts inside of a loop, one after another.
+-- The contexts inside of a loop, one after another, and what a fault names there.
 use Rattle.std.proofs.Common.{◌≡◌, ℕ, ◌-◌, ◌≤◌, inl, inr, Bool, true, false, List, [], ◌∷◌, ◌++◌, length, take, drop, Option, Some, None, IfSome, refl, sym, ap, ◌∙◌, subst, arith}
 use Rattle.std.specs.List.{All, Contains}
-use Rattle.std.proofs.lemmas.List.{map-append, length-map, length-drop, take-append-drop}
+use Rattle.std.proofs.lemmas.List.{map-append, length-map, length-drop, take-append-drop, length-take}
 use Rattle.std.proofs.lemmas.List.Elements.{Contains-append_left, Contains-append_right, Contains-append_cases, Contains-push, All-contains, All-cons, All-append, All-nil}
 use Rattle.lois_base.specs.Atom.{Atom, whole}
 use Rattle.lois_base.specs.Data.{TermD, depth}
@@ -9,7 +9,7 @@ use Rattle.lois_base.specs.Fits.{Fits}
 use Rattle.lois_base.specs.Shift.{shift, shift_level}
 use Rattle.lois_base.specs.Truth.{sampled}
 use Rattle.lois_base.specs.Validity.{AdmitsTerm, HasBoundedWidths}
-use Rattle.lois_base.specs.Values.{point, IsSame}
+use Rattle.lois_base.specs.Values.{point, IsSame, PointValue}
 use Rattle.lois_base.proofs.Members.{same_sym}
 use Rattle.lois_base.proofs.RenamedForm.{depth_renamed, admits_renamed, widths_renamed}
 use Rattle.lois_base.proofs.Lists.{all_one, all_right}
@@ -30,20 +30,24 @@ use Rattle.lois_context.proofs.Carried.{raised_same}
 use Rattle.lois_context.proofs.Counts.{times_of, times_some}
 use Rattle.lois_simplify.proofs.Members.{contains_none}
 use Rattle.lois_eval.specs.WellFormed.{IsWellFormedIn}
-use Rattle.lois_eval.specs.Throughout.{IsFaultOf}
+use Rattle.lois_eval.specs.Throughout.{IsFaultOf, IfFault}
 use Rattle.lois_interp.specs.Assigned.{ListAssigns}
 use Rattle.lois_interp.specs.Decided.{listed_context, IsTrueSide, IsDecided}
-use Rattle.lois_interp.specs.Elements.{NamesElement}
+use Rattle.lois_interp.specs.Elements.{NamesElement, StopNamesElement}
 use Rattle.lois_interp.specs.Failed.{AreElements, FailsWithin}
-use Rattle.lois_interp.specs.Looped.{IsPassed, LoopRuns, FailsInside, Holds}
+use Rattle.lois_interp.specs.Looped.{IsPassed, LoopRuns, FailsInside, Holds, HoldsElement}
 use Rattle.lois_interp.specs.Reached.{IsReachedContext, RunsAs}
-use Rattle.lois_interp.specs.Run.{block_run, turn_run}
+use Rattle.lois_interp.specs.Run.{block_run, turn_run, Run}
 use Rattle.lois_interp.specs.Slots.{AreKept}
 use Rattle.lois_interp.specs.WellScoped.{BlockIsWellScoped, TurnIsWellScoped}
 use Rattle.lois_interp.proofs.ForFails.{bare_within}
 use Rattle.lois_interp.proofs.Kept.{as_reached}
 use Rattle.lois_interp.proofs.Lists.{only_one, of_one, all_left}
 use Rattle.lois_interp.proofs.Parted.{turn_cond, turn_block, side_placed, side_fails}
+use Rattle.lois_meaning.specs.declared.faults.Stop.{Stop}
+use Rattle.lois_meaning.specs.declared.faults.Stop.TheVariants.{Fault as Faulted, NoMemory}
+use Rattle.lois_meaning.proofs.Stores.{some_same}
+use Rattle.lois_context.specs.Kept.{IsSlot}
 
 module _ (c : CondD) (body : StmtsD) where
   -- ---- no context, and one more
@@ -195,3 +199,22 @@ module _ (c : CondD) (body : StmtsD) where
     where
       held_has : (P : TermD → Type 0) → All (λ (q : SlotD). P q.term) d.store → P item
       held_has P all = subst P held.slot.2 (All-contains (λ (q : SlotD). P q.term) d.store held.slot.0 all held.slot.1)
+
+-- a name holds one term
+pub holds_one : (x : List ℕ) (ss : List SlotD) (t u : TermD) → Holds x ss t → Holds x ss u → t ≡ u
+holds_one x ss t u h k = ap (λ (v : PointValue). v.term_of) (some_same (point t []) (point u []) (sym (h.value []) ∙ k.value []))
+
+pub named_stop : (x : List ℕ) (item : TermD) (c : CondD) (body : StmtsD) (k : Context) (s r : Stop) → HoldsElement x k.store → Holds x k.store item → IfFault s (FailsWithin (turn_run c body) k) → StopNamesElement x item k.size s r → IfFault r (FailsInside x c body k)
+named_stop x item c body k (Faulted f) (Faulted g) element held h so =
+    member_named c body x item k f g held (subst (λ z. depth z ≤ 64) (holds_one x k.store element.item item element.held held) element.brackets) h so
+named_stop x item c body k (Faulted f) NoMemory element held h so = tt
+named_stop x item c body k NoMemory (Faulted g) element held h so = absurd so
+named_stop x item c body k NoMemory NoMemory element held h so = tt
+
+pub long_enough : (run : Run) (k : Context) (f : Fault) → FailsWithin run k f → k.size ≤ length f.sample.items
+long_enough run k f h =
+    let e = h.admitted.0 in
+    omega (arith, length-map (take k.size f.sample.items) whole, length-take k.size f.sample.items)
+
+pub held_fits : (x : List ℕ) (k : Context) (t : TermD) → Holds x k.store t → Fits k.size t
+held_fits x k t h = subst (λ z. Fits k.size z) h.slot.2 (All-contains (IsSlot k.size) k.store h.slot.0 k.slots h.slot.1).0

@@ -13,18 +13,15 @@ pub mod ForRuns
 pub mod ForFails
 pub mod SplitSides
 pub mod EnteredMembers
-pub mod Helpers
 pub mod Sizes
 pub mod Inside
 pub mod ForTurns
 pub mod IfRuns
 pub mod WhileRuns
-pub mod Added
 pub mod PutOnce
 pub mod LeafRuns
 pub mod Extended
 pub mod LeafContexts
-pub mod Yielded
 pub mod Tidying
 pub mod Spelled
 pub mod Contents
@@ -34,3 +31,4 @@ pub mod Opened
 pub mod FreeNames
 pub mod OneCase
 pub mod ScriptRuns
+pub mod Nowhere

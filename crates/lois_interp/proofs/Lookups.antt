@@ -1,8 +1,16 @@
--- What is found under a name.
-use Rattle.std.proofs.Common.{◌≡◌, ℕ, zero, suc, Bool, true, false, List, [], ◌∷◌, ◌++◌, length, take, map, Some, refl, sym, ap, ◌∙◌, if◌then◌else◌, bytes_eq}
+-- What is found under a name, and the loop that looks for it.
+use Rattle.std.proofs.Common.{◌≡◌, ℕ, zero, suc, Bool, true, false, List, [], ◌∷◌, ◌++◌, length, take, map, Some, refl, sym, ap, ◌∙◌, if◌then◌else◌, bytes_eq, ◌+◌, ◌<◌, ◌≤◌, get_or, drop, None, subst, arith, add-one}
 use Rattle.std.proofs.lemmas.Slice.Eq.{bytes_eq-Decides}
-use Rattle.lois_base.specs.Values.{PointValue}
+use Rattle.lois_base.specs.Values.{PointValue, point}
 use Rattle.lois_meaning.specs.Store.{named, name_of, NamedValues, looked_up, stored}
+use Rattle.lois_base.specs.Atom.{Atom}
+use Rattle.lois_base.specs.Data.{TermD}
+use Rattle.lois_base.specs.Tree.{tree}
+use Rattle.lois_base.proofs.Viewed.{contains_item}
+use Rattle.lois_context.specs.Slots.{SlotD, store_at}
+use Rattle.lois_context.specs.SlotView.{slot_of}
+use Rattle.lois_context.specs.declared.slots.Slot.{Slot}
+use Rattle.lois_interp.specs.Looped.{Holds}
 
 -- what the first part of a store holds, the whole holds
 pub looked_up_take : (y : List ℕ) (k : ℕ) (s : NamedValues) (v : PointValue) → looked_up y (take k s) ≡ Some v → looked_up y s ≡ Some v
@@ -54,3 +62,42 @@ held_still y x m (b ∷ s) v h = go (bytes_eq b.name x) refl (bytes_eq b.name y)
     go true is q e later k = named_so q is e k
     go false is q e later k =
         let r = other q later k in (r.0, ap (λ z. if z then Some b.holds else looked_up y (stored x m s)) e ∙ r.1)
+
+module _ (x : List ℕ) (y : List Atom) where
+  here : (items : List Slot) (i : ℕ) (s : Slot) → i < length items → s ≡ get_or items i s → bytes_eq s.name x ≡ true → looked_up x (store_at y (map slot_of (drop i items))) ≡ Some (point (tree s.term) y)
+  here [] i s l e h = absurd (omega arith)
+  here (q ∷ items) zero s l e h =
+      ap (λ p. if p then Some (point (tree q.term) y) else looked_up x (store_at y (map slot_of items))) (ap (λ (z : Slot). bytes_eq z.name x) (sym e) ∙ h) ∙ ap (λ (z : Slot). Some (point (tree z.term) y)) (sym e)
+  here (q ∷ items) (suc i) s l e h = here items i s (omega arith) e h
+
+  next : (items : List Slot) (i : ℕ) (s : Slot) → i < length items → s ≡ get_or items i s → bytes_eq s.name x ≡ false → looked_up x (store_at y (map slot_of (drop i items))) ≡ looked_up x (store_at y (map slot_of (drop (suc i) items)))
+  next [] i s l e h = absurd (omega arith)
+  next (q ∷ items) zero s l e h =
+      ap (λ p. if p then Some (point (tree q.term) y) else looked_up x (store_at y (map slot_of items))) (ap (λ (z : Slot). bytes_eq z.name x) (sym e) ∙ h)
+  next (q ∷ items) (suc i) s l e h = next items i s (omega arith) e h
+
+  over : (items : List Slot) (i : ℕ) → length items ≤ i → looked_up x (store_at y (map slot_of (drop i items))) ≡ None
+  over [] zero l = refl
+  over [] (suc i) l = refl
+  over (q ∷ items) zero l = absurd (omega arith)
+  over (q ∷ items) (suc i) l = over items i (omega arith)
+
+-- the loop that looks for a name
+abbrev pub StillLooks : List ℕ → List SlotD → List Slot → ℕ → Type 0
+StillLooks x store items i = (y : List Atom) → looked_up x (store_at y (map slot_of (drop i items))) ≡ looked_up x (store_at y store)
+
+pub found_holds : (x : List ℕ) (store : List SlotD) (items : List Slot) (i : ℕ) (s : Slot) → map slot_of items ≡ store → i < length items → s ≡ get_or items i s → bytes_eq s.name x ≡ true → StillLooks x store items i → Holds x store (tree s.term)
+found_holds x store items i s e l is same looks = record {
+  value = λ y. sym (looks y) ∙ here x y items i s l is same;
+  slot = (slot_of s, contains_item slot_of items store i s e l is, refl);
+}
+
+pub looks_on : (x : List ℕ) (store : List SlotD) (items : List Slot) (i : ℕ) (s : Slot) → i < length items → s ≡ get_or items i s → bytes_eq s.name x ≡ false → StillLooks x store items i → StillLooks x store items (i + 1)
+looks_on x store items i s l is other looks y =
+    subst (λ n. looked_up x (store_at y (map slot_of (drop n items))) ≡ looked_up x (store_at y store)) (sym (add-one i)) (sym (next x y items i s l is other) ∙ looks y)
+
+pub not_missed : (x : List ℕ) (store : List SlotD) (items : List Slot) (i : ℕ) (t : TermD) → length items ≤ i → StillLooks x store items i → Holds x store t → ⊥
+not_missed x store items i t l looks h =
+    let none : looked_up x (store_at [] store) ≡ None = sym (looks []) ∙ over x [] items i l in
+    let some = h.value [] in
+    cc

@@ -1,6 +1,6 @@
 -- Lists of statements, and blocks.
-use Rattle.std.proofs.Common.{◌≡◌, ℕ, zero, suc, ◌+◌, ◌⊎◌, inl, inr, Bool, List, [], ◌∷◌, ◌++◌, length, take, map, cond, IsTrue, refl, sym, ap, ◌∙◌, subst, append-nil}
-use Rattle.std.specs.List.{All, Contains}
+use Rattle.std.proofs.Common.{◌≡◌, ℕ, zero, suc, ◌+◌, ◌⊎◌, inl, inr, Bool, List, [], ◌∷◌, ◌++◌, length, take, map, cond, IsTrue, refl, sym, ap, ◌∙◌, subst, append-nil, false, bytes_eq}
+use Rattle.std.specs.List.{All, Contains, AllByRecursion, IsDistinct}
 use Rattle.std.proofs.lemmas.List.{append_assoc, take-map, length-map, map-append}
 use Rattle.std.proofs.lemmas.List.Elements.{Contains-append_left, Contains-append_right, Contains-push, All-contains, All-head, All-tail, All-cons, All-nil}
 use Rattle.lois_base.specs.Atom.{Atom}
@@ -43,6 +43,7 @@ use Rattle.lois_interp.specs.WellScoped.{declared_name, StmtIsWellScoped, BlockI
 use Rattle.lois_interp.proofs.Compose.{from_both, fails_later}
 use Rattle.lois_interp.proofs.Kept.{as_named}
 use Rattle.lois_interp.proofs.Lists.{only_one, of_one}
+use Rattle.lois_context.specs.Kept.{HasDistinctNames}
 
 -- ---- the statements before an index, and one more
 pub ends_snoc : (done : List StmtD) (a : StmtD) (s t u l m : NamedValues) → ListEnds (stmts_of done) s t l → StmtEnds a t u m → ListEnds (stmts_of (done ++ a ∷ [])) s u (l ++ m)
@@ -89,17 +90,14 @@ order_one (assert p c) s = refl
 order_one (print p q x) s = refl
 
 names_all : (l : List StmtD) (s : ScopeD) → map declared_name (behind_all l s).names ≡ names_behind_all l (map declared_name s.names)
-unfolding behind_all
 names_all [] s = refl
 names_all (a ∷ l) s = names_all l (scope_behind a s) ∙ ap (names_behind_all l) (names_one a s)
 
 order_all : (l : List StmtD) (s : ScopeD) → (behind_all l s).ordered ≡ s.ordered
-unfolding behind_all
 order_all [] s = refl
 order_all (a ∷ l) s = order_all l (scope_behind a s) ∙ order_one a s
 
 breaks_at : (done : List StmtD) (a : StmtD) (rest : List StmtD) (s : ScopeD) (rule : RuleD) (at : ℕ) → StmtBreaks a (behind_all done s) rule at → StmtsBreak (stmts_of (done ++ a ∷ rest)) s rule at
-unfolding behind_all
 breaks_at [] a rest s rule at h = inl h
 breaks_at (b ∷ done) a rest s rule at h = inr (breaks_at done a rest (scope_behind b s) rule at h)
 
@@ -274,3 +272,21 @@ block_cut l k n ds cs e h cut = record {
   operators = λ o placed. cut_all_have (AdmitsContext o) (cut_admits o) n ds cs cut (h.operators o placed);
   widths = λ w. cut_all_have ContextHasBoundedWidths cut_widths n ds cs cut (h.widths w);
 }
+
+-- ---- the first slots
+pub distinct_front : (n : ℕ) (ss : List SlotD) → HasDistinctNames ss → HasDistinctNames (take n ss)
+unfolding IsDistinct
+distinct_front zero ss h = tt
+distinct_front (suc n) [] h = h
+distinct_front (suc n) (s ∷ ss) h = (apart n ss h.0, distinct_front n ss h.1)
+  where
+    apart : (n : ℕ) (ss : List SlotD) → AllByRecursion (λ y. bytes_eq s.name y ≡ false) (map slot_name ss) → AllByRecursion (λ y. bytes_eq s.name y ≡ false) (map slot_name (take n ss))
+    apart zero ss h = tt
+    apart (suc n) [] h = h
+    apart (suc n) (q ∷ ss) h = (h.0, apart n ss h.1)
+
+pub cut_more : (n : ℕ) (ks ds : List Context) (k d : Context) → AreTruncatedContexts n ks ds → IsTruncatedContext n k d → AreTruncatedContexts n (ks ++ k ∷ []) (ds ++ d ∷ [])
+cut_more n [] [] k d h one = (one, tt)
+cut_more n (q ∷ ks) (r ∷ ds) k d h one = (h.0, cut_more n ks ds k d h.1 one)
+cut_more n [] (r ∷ ds) k d h one = absurd h
+cut_more n (q ∷ ks) [] k d h one = absurd h

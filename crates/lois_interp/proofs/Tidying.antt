@@ -27,7 +27,7 @@ use Rattle.lois_context.proofs.Joined.{of_listed}
 use Rattle.lois_interp.specs.Members.{ArePutBehind}
 use Rattle.lois_interp.specs.Slots.{IsKeptTerm}
 use Rattle.lois_interp.specs.Tidied.{AreParts, IsTidied, IsTidiedSlot, AreTidied, counts_in, AreCounted}
-use Rattle.lois_interp.proofs.Added.{append_same}
+use Rattle.lois_interp.proofs.PutOnce.{append_same}
 use Rattle.lois_interp.proofs.Longer.{IsLongerTerm, AreLonger}
 
 -- ---- one term

@@ -11,6 +11,7 @@ use Rattle.lois_context.specs.Choices.{IsAdmitted, ContextHasBoundedWidths}
 use Rattle.lois_context.specs.Kept.{LinesFit}
 use Rattle.lois_context.specs.Slots.{store_at, line_values}
 use Rattle.lois_context.specs.declared.contexts.Context.{Context}
+use Rattle.lois_eval.specs.Throughout.{Failure}
 use Rattle.lois_eval.specs.WellFormed.{IsWellFormedIn}
 use Rattle.lois_interp.specs.Run.{Run}
 
@@ -30,6 +31,10 @@ pub record FailsWithin (run : Run) (k : Context) (f : Fault) : Type 0 where
   pub failed : run.fails (store_at (sampled (take k.size f.sample.items)) k.store) f.pos.offset f.kind path
   pub named : AreSameNamed path (line_values (sampled f.sample.items) f.elements)
   pub elements : AreElements run.stands k (length f.sample.items) f.elements
+
+-- the run fails with this place and kind, along some path
+abbrev pub FailsAlongSome : Run → Failure
+FailsAlongSome run s at kind = (path : NamedValues) × run.fails s at kind path
 
 -- the fault is one of a run from one of the contexts
 abbrev pub FailsFrom : Run → List Context → Fault → Type 0

@@ -11,6 +11,7 @@ use Rattle.lois_constraint.specs.Normalised.{IsNormalised}
 use Rattle.lois_simplify.specs.Irredundant.{HasNormalGuards}
 use Rattle.lois_answers.specs.ResultsData.{LineD, CaseD}
 use Rattle.lois_answers.specs.Sound.{IsSound}
+use Rattle.lois_answers.specs.declared.faults.FaultKind.{FaultKind}
 use Rattle.lois_answers.specs.declared.results.Results.{Results}
 use Rattle.lois_script.specs.Tree.{ParamD, ScriptD}
 use Rattle.lois_meaning.specs.Runs.{ScriptEnds, ScriptFails}
@@ -69,6 +70,10 @@ pub record AreResultsOf (s : ScriptD) (r : Results) : Type 0 where
   pub choices : (choice : List Atom) → IsChoiceOf s choice → IsRightAt s r.cases choice
   pub normal : All (IsNormalCase (length s.parameters)) r.cases
   pub different : AllPairs (λ x y. x ≡ y → ⊥) (map lines_of r.cases)
+
+-- at no choice of the parameters
+abbrev pub ScriptFailsNowhere : ScriptD → Type 0
+ScriptFailsNowhere s = (choice : List Atom) → IsChoiceOf s choice → (at : ℕ) (kind : FaultKind) (path : NamedValues) → ScriptFails s choice at kind path → ⊥
 
 -- The sample begins with a choice of the parameters, under which the script fails with this place and kind along a path that
 -- the elements name at the whole sample.

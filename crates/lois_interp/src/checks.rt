@@ -1,51 +1,27 @@
 //! What is asked of the values that a statement needs.
 
-ghost use Rattle.std.specs.Prelude.{◌≡◌, ◌↔◌, List, length, IfOk, OnOk, IfErr, IsTrue};
+ghost use Rattle.std.specs.Prelude.{◌≡◌, List, OnOk, IfErr};
 ghost use Rattle.lois_base.specs.Atom.{Atom};
-ghost use Rattle.lois_base.specs.Fits.{Fits, ConstraintFits};
+ghost use Rattle.lois_base.specs.Fits.{Fits};
 ghost use Rattle.lois_base.specs.Tree.{tree};
-ghost use Rattle.lois_base.specs.Truth.{holds};
 ghost use Rattle.lois_base.specs.Validity.{AdmitsTerm};
-ghost use Rattle.lois_base.specs.Values.{point, IsDeeper};
+ghost use Rattle.lois_base.specs.Values.{point};
 ghost use Rattle.lois_deciders.specs.OnlyAsked.{HasOnlyAsked};
-ghost use Rattle.lois_meaning.specs.Store.{depth_limit, IsShallow};
+ghost use Rattle.lois_meaning.specs.Store.{IsShallow};
 ghost use Rattle.lois_context.specs.Choices.{IsAdmitted};
-ghost use Rattle.lois_eval.specs.Checks.{IsFaultWith, IsDepthFault};
+ghost use Rattle.lois_eval.specs.Checks.{IsDepthFault};
 ghost use Rattle.lois_eval.specs.Throughout.{IfFault};
 
-use lois_algebra::depth_formula;
-use lois_answers::{FaultKind, Lines};
+use lois_answers::FaultKind;
 use lois_base::limits::GREATEST_DEPTH;
-use lois_base::{Constraint, Decider, NoMemory, Numbers, Structure, Term};
+use lois_base::{Decider, Structure, Term};
 use lois_context::Context;
 use lois_deciders::Chosen;
-use lois_elim::quantifier_free;
-use lois_meaning::{Fault, Stop};
+use lois_eval::{fault, too_deep};
+use lois_meaning::Stop;
 use lois_script::Pos;
 use lois_terms::is_within_depth;
 use std::alloc::Global;
-
-/// The fault of this kind at the place, under a sample.
-pub(crate) fn fault(alloc: Global, pos: Pos, kind: FaultKind, sample: Vec<u64>) -> Stop
-    ensures { IfFault result (IsFaultWith pos kind sample.items) }
-{
-    Stop::Fault(Fault {
-        pos,
-        kind,
-        sample,
-        elements: Lines::new(alloc),
-    })
-}
-
-/// The same under a copy of these numbers.
-pub(crate) fn fault_under(alloc: Global, pos: Pos, kind: FaultKind, sample: &Numbers) -> Stop
-    ensures { IfFault result (IsFaultWith pos kind sample.now) }
-{
-    match Vec::from_slice(alloc, sample.as_slice()) {
-        Ok(numbers) => fault(alloc, pos, kind, numbers),
-        Err(_) => Stop::NoMemory,
-    }
-}
 
 /// Errors: a fault at the place where the value of the term is too deep at some choice that the context admits.
 pub(crate) fn check_depth<T: Structure>(
@@ -71,15 +47,4 @@ pub(crate) fn check_depth<T: Structure>(
         Some(met) => Err(fault(alloc, pos, FaultKind::DepthLimit, met.sample.into_vec())),
         None => Ok(()),
     }
-}
-
-// Where the value of the term is too deep.
-fn too_deep<T: Structure>(alloc: Global, term: &Term, size: usize) -> Result<Constraint, NoMemory>
-    requires levels { Fits size (tree term.now) }
-    requires operators { AdmitsTerm T.ordered (tree term.now) }
-    ensures truth { IfOk result (λ r. (c : List Atom) → length c ≡ size → IsTrue (holds c r) ↔ IsDeeper (point (tree term.now) c) depth_limit) }
-    ensures levels { IfOk result (ConstraintFits size) }
-{
-    let formula = depth_formula(alloc, term, GREATEST_DEPTH, size)?;
-    quantifier_free::<T>(alloc, &formula, size)
 }

@@ -16,12 +16,12 @@ ghost use Rattle.lois_interp.specs.Elements.{SetFails, NamesElement, StopNamesEl
 ghost use Rattle.lois_interp.specs.Entered.{IsEntered};
 ghost use Rattle.lois_interp.specs.Looped.{Holds};
 
-use crate::checks::fault_under;
 use crate::values::normal_value;
 use lois_answers::{FaultKind, Line, Lines};
 use lois_base::{Decider, Name, NoMemory, Structure, Term};
 use lois_context::{Context, Store, enter_loop};
 use lois_deciders::Chosen;
+use lois_eval::fault_under;
 use lois_meaning::{Fault, Stop};
 use lois_script::Expr;
 use lois_terms::shift_term;

@@ -6,7 +6,7 @@ ghost use Rattle.lois_deciders.specs.OnlyAsked.{HasOnlyAsked};
 ghost use Rattle.lois_script.specs.Limits.{Spells};
 ghost use Rattle.lois_script.specs.View.{params_list, script_tree};
 ghost use Rattle.lois_eval.specs.Throughout.{IfFault};
-ghost use Rattle.lois_interp.specs.Interpreted.{AreResultsOf, IsFailureOf, parameter_name};
+ghost use Rattle.lois_interp.specs.Interpreted.{AreResultsOf, ScriptFailsNowhere, IsFailureOf, parameter_name};
 ghost use Rattle.lois_interp.specs.Opened.{IsOpening, opening_slots};
 
 use crate::cases::results;
@@ -33,6 +33,7 @@ pub fn interpret<T: Structure>(
     requires spelled { (text : List ℕ) × Spells text (script_tree script.now) }
     requires structure { (script_tree script.now).ordered ≡ T.ordered }
     ensures results { IfOk result (AreResultsOf (script_tree script.now)) }
+    ensures nowhere { IfOk result (λ r. ScriptFailsNowhere (script_tree script.now)) }
     ensures fault { IfErr result (λ s. IfFault s (IsFailureOf (script_tree script.now))) }
 
     // whatever is answered

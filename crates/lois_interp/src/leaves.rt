@@ -18,7 +18,7 @@ ghost use Rattle.lois_interp.specs.Run.{stmt_run};
 ghost use Rattle.lois_interp.specs.WellScoped.{StmtIsWellScoped};
 
 use crate::blocks::one;
-use crate::checks::{check_depth, fault, fault_under};
+use crate::checks::check_depth;
 use crate::elements::item_of;
 use crate::members::with_member;
 use crate::values::normal_value;
@@ -26,7 +26,7 @@ use lois_answers::{FaultKind, Line};
 use lois_base::{Comps, Decider, Name, NoMemory, Structure, Term};
 use lois_context::{Context, Shared, Slot};
 use lois_deciders::Chosen;
-use lois_eval::decide;
+use lois_eval::{decide, fault, fault_under};
 use lois_meaning::Stop;
 use lois_script::{Cond, Expr, Pos, Stmt};
 use std::alloc::Global;

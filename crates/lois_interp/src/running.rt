@@ -12,11 +12,11 @@ ghost use Rattle.lois_context.specs.Merged.{AreDisjoint};
 ghost use Rattle.lois_context.specs.Slots.{IsNew};
 ghost use Rattle.lois_context.specs.declared.contexts.Context.{Context};
 ghost use Rattle.lois_eval.specs.WellFormed.{IsWellFormedIn, IsWellFormed, CondIsWellFormed};
-ghost use Rattle.lois_eval.specs.Throughout.{IsFaultOf, IfFault};
+ghost use Rattle.lois_eval.specs.Throughout.{FailsNowhere, IsFaultOf, IfFault};
 ghost use Rattle.lois_interp.specs.Decided.{IsDecided, listed_context};
 ghost use Rattle.lois_interp.specs.Elements.{SetFails};
 ghost use Rattle.lois_interp.specs.Entered.{IsEntered};
-ghost use Rattle.lois_interp.specs.Failed.{FailsWithin, FailsFrom};
+ghost use Rattle.lois_interp.specs.Failed.{FailsWithin, FailsAlongSome, FailsFrom};
 ghost use Rattle.lois_interp.specs.Leaves.{IsLeaf};
 ghost use Rattle.lois_interp.specs.Looped.{LoopRuns, FailsInside, HoldsElement};
 ghost use Rattle.lois_interp.specs.Reached.{RunsFrom, RunsAs, HaveDifferentContents};
@@ -52,6 +52,7 @@ pub fn run_block<T: Structure>(
     requires { IsWellFormedIn (BlockIsWellScoped (stmts_of (stmts_list body.now))) T.ordered context }
     ensures runs { IfOk result (λ r. RunsAs (block_run (stmts_of (stmts_list body.now))) context r.items) }
     ensures different { IfOk result (λ r. HaveDifferentContents r.items) }
+    ensures nowhere { IfOk result (λ r. FailsNowhere context (FailsAlongSome (block_run (stmts_of (stmts_list body.now))))) }
     ensures fault { IfErr result (λ s. IfFault s (FailsWithin (block_run (stmts_of (stmts_list body.now))) context)) }
 
     // whatever is answered
@@ -107,10 +108,7 @@ fn run_stmts<T: Structure, S: Oracle<T>>(
     let outside = context.store.len();
     let mut contexts = one(alloc, context)?;
     for stmt in body.as_slice() {
-        contexts = match run_each::<T, S>(alloc, stmt, contexts, steps) {
-            Ok(next) => next,
-            Err(stop) => return Err(stop),
-        };
+        contexts = run_each::<T, S>(alloc, stmt, contexts, steps)?;
     }
     let cut = cut_all(alloc, contexts, outside)?;
     Ok(merge_equal(alloc, cut)?)
@@ -133,10 +131,8 @@ fn run_each<T: Structure, S: Oracle<T>>(
 {
     let mut next = Vec::new(alloc);
     for context in contexts {
-        match run_stmt::<T, S>(alloc, stmt, context, steps) {
-            Ok(ends) => append(&mut next, ends)?,
-            Err(stop) => return Err(stop),
-        }
+        let ends = run_stmt::<T, S>(alloc, stmt, context, steps)?;
+        append(&mut next, ends)?;
     }
     Ok(merge_equal(alloc, next)?)
 }
@@ -183,14 +179,8 @@ fn run_for<T: Structure, S: Oracle<T>>(
     ensures fault { IfErr result (λ s. IfFault s (FailsWithin (stmt_run (for (binding_tree binding.now) (cond_tree guard.now) (stmts_of (stmts_list body.now)))) context)) }
     ensures asked { S.reaches steps.old steps.new }
 {
-    let inside = match steps.enter(alloc, &binding.from, &binding.name, &context) {
-        Ok(inside) => inside,
-        Err(stop) => return Err(stop),
-    };
-    let ends = match run_inside::<T, S>(alloc, &binding.name, guard, body, inside, steps) {
-        Ok(ends) => ends,
-        Err(stop) => return Err(stop),
-    };
+    let inside = steps.enter(alloc, &binding.from, &binding.name, &context)?;
+    let ends = run_inside::<T, S>(alloc, &binding.name, guard, body, inside, steps)?;
     let behind = steps.join(alloc, context, ends)?;
     Ok(one(alloc, behind)?)
 }
@@ -214,10 +204,8 @@ fn run_inside<T: Structure, S: Oracle<T>>(
 {
     let mut ends = Vec::new(alloc);
     for context in inside {
-        match run_member::<T, S>(alloc, name, guard, body, context, steps) {
-            Ok(more) => append(&mut ends, more)?,
-            Err(stop) => return Err(stop),
-        }
+        let more = run_member::<T, S>(alloc, name, guard, body, context, steps)?;
+        append(&mut ends, more)?;
     }
     Ok(ends)
 }
@@ -262,10 +250,7 @@ fn run_passing<T: Structure, S: Oracle<T>>(
     ensures fault { IfErr result (λ s. IfFault s (FailsWithin (turn_run (cond_tree guard.now) (stmts_of (stmts_list body.now))) context)) }
     ensures asked { S.reaches steps.old steps.new }
 {
-    let sides = match steps.sides(alloc, guard, context) {
-        Ok(sides) => sides,
-        Err(stop) => return Err(stop),
-    };
+    let sides = steps.sides(alloc, guard, context)?;
     let Split { yes, .. } = sides;
     match yes {
         Some(passing) => run_stmts::<T, S>(alloc, body, passing, steps),
@@ -288,22 +273,14 @@ fn run_if<T: Structure, S: Oracle<T>>(
     ensures fault { IfErr result (λ s. IfFault s (FailsWithin (stmt_run ((if) (cond_tree condition.now) (stmts_of (stmts_list yes.now)) (stmts_of (stmts_list no.now)))) context)) }
     ensures asked { S.reaches steps.old steps.new }
 {
-    let sides = match steps.sides(alloc, condition, context) {
-        Ok(sides) => sides,
-        Err(stop) => return Err(stop),
-    };
+    let sides = steps.sides(alloc, condition, context)?;
     let Split {
         yes: passing,
         no: failing,
     } = sides;
-    let mut ends = match run_side::<T, S>(alloc, yes, passing, steps) {
-        Ok(ends) => ends,
-        Err(stop) => return Err(stop),
-    };
-    match run_side::<T, S>(alloc, no, failing, steps) {
-        Ok(others) => append(&mut ends, others)?,
-        Err(stop) => return Err(stop),
-    }
+    let mut ends = run_side::<T, S>(alloc, yes, passing, steps)?;
+    let others = run_side::<T, S>(alloc, no, failing, steps)?;
+    append(&mut ends, others)?;
     Ok(ends)
 }
 
@@ -350,10 +327,7 @@ fn run_while<T: Structure, S: Oracle<T>>(
         if going.is_empty() {
             return Ok(done);
         }
-        let behind = match run_turn::<T, S>(alloc, condition, body, going, steps) {
-            Ok(behind) => behind,
-            Err(stop) => return Err(stop),
-        };
+        let behind = run_turn::<T, S>(alloc, condition, body, going, steps)?;
         let Turn {
             left,
             going: further,
@@ -361,10 +335,8 @@ fn run_while<T: Structure, S: Oracle<T>>(
         append(&mut done, left)?;
         going = further;
     }
-    match leave_all::<T, S>(alloc, pos, condition, going, steps) {
-        Ok(last) => append(&mut done, last)?,
-        Err(stop) => return Err(stop),
-    }
+    let last = leave_all::<T, S>(alloc, pos, condition, going, steps)?;
+    append(&mut done, last)?;
     Ok(done)
 }
 
@@ -387,16 +359,11 @@ fn run_turn<T: Structure, S: Oracle<T>>(
     let mut left = Vec::new(alloc);
     let mut going = Vec::new(alloc);
     for context in contexts {
-        let sides = match steps.sides(alloc, condition, context) {
-            Ok(sides) => sides,
-            Err(stop) => return Err(stop),
-        };
+        let sides = steps.sides(alloc, condition, context)?;
         let Split { yes, no } = sides;
         put(&mut left, no)?;
-        match run_side::<T, S>(alloc, body, yes, steps) {
-            Ok(more) => append(&mut going, more)?,
-            Err(stop) => return Err(stop),
-        }
+        let more = run_side::<T, S>(alloc, body, yes, steps)?;
+        append(&mut going, more)?;
     }
     let going = merge_equal(alloc, going)?;
     Ok(Turn { left, going })

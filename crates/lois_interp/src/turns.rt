@@ -11,11 +11,11 @@ ghost use Rattle.lois_interp.specs.Run.{leave_run};
 ghost use Rattle.lois_interp.specs.WellScoped.{CondIsWellScoped};
 
 use crate::blocks::{append, put};
-use crate::checks::fault_under;
 use crate::oracle::Oracle;
 use lois_answers::FaultKind;
 use lois_base::Structure;
 use lois_context::{Context, Split};
+use lois_eval::fault_under;
 use lois_meaning::Stop;
 use lois_script::{Cond, Pos};
 use std::alloc::Global;

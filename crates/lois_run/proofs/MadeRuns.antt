@@ -3,6 +3,7 @@ use Rattle.std.proofs.Common.{◌≡◌, ℕ, ◌≤◌, ◌⊎◌, refl, arith}
 use mathlib.Core.Logic.{inl, inr}
 use Rattle.lois_base.specs.declared.limits.TheConstants.{LONGEST_TEXT}
 use Rattle.lois_answers.specs.declared.results.Results.{Results}
+use Rattle.lois_interp.specs.Interpreted.{AreResultsOf}
 use Rattle.lois_make.specs.MadeCounts.{HasMadeCounts}
 use Rattle.lois_make.specs.MadeScript.{made_script}
 use Rattle.lois_make.specs.MadeTree.{made_tree}
@@ -25,15 +26,19 @@ made_is_to_run n few = record {
   scoped = made_is_well_scoped n;
 }
 
-counted : (n : ℕ) (o : Outcome) → IsCompleted o → IsRight (made_script n) (made_tree n) o → (r : Results) × (o ≡ Completed r) × HasMadeCounts n r
-counted n (Completed r) is right = (r, refl, results_have_made_counts n r right.results)
+-- it completed with these results of the made script, and they have its counts
+abbrev pub CompletedWith : ℕ → Outcome → Results → Type 0
+CompletedWith n o r = (o ≡ Completed r) × AreResultsOf (made_tree n) r × HasMadeCounts n r
+
+counted : (n : ℕ) (o : Outcome) → IsCompleted o → IsRight (made_script n) (made_tree n) o → (r : Results) × CompletedWith n o r
+counted n (Completed r) is right = (r, (refl, right.results, results_have_made_counts n r right.results))
 counted n _ is right = absurd is
 
 -- What keeps the headline for the made script completes, with the made script's counts, or is a read fault.
 pub made_completes : (n : ℕ) → n ≤ 10000 → (fault : Type 0) (o : Outcome) → Headline (made_script n) fault o →
-    IsRunOrFault ((r : Results) × (o ≡ Completed r) × HasMadeCounts n r) fault o
+    IsRunOrFault ((r : Results) × CompletedWith n o r) fault o
 made_completes n few fault o h = go (h.completes (made_tree n) (made_is_to_run n few) (made_fails_nowhere n))
   where
-    go : IsRunOrFault (IsCompleted o) fault o → IsRunOrFault ((r : Results) × (o ≡ Completed r) × HasMadeCounts n r) fault o
+    go : IsRunOrFault (IsCompleted o) fault o → IsRunOrFault ((r : Results) × CompletedWith n o r) fault o
     go (inl is) = inl (counted n o is (h.right (made_tree n) (made_is_spelled n)))
     go (inr read) = inr read

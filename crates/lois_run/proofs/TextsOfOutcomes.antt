@@ -10,7 +10,7 @@ use Rattle.lois_outside.specs.Calls.{TakesPieces, no_take, one_more_take}
 use Rattle.lois_outside.specs.Faults.{Rose}
 use Rattle.lois_outside.specs.Reading.{TookAtMost, TookExactly, ReadsToEnd, GivesUp}
 use Rattle.lois_outside.specs.declared.reading.ReadError.TheVariants as unread
-use Rattle.lois_run.specs.Causes.{TakeRelation, Serves, HasRead, HasTaken, HasCause, IsMadeBy, ReadsText, Promises, IsOutcomeOf, GaveAtMost, IsOfText, AnswersText}
+use Rattle.lois_run.specs.Causes.{TakeRelation, Serves, HasRead, HasTaken, HasCause, HasMadeResults, IsMadeBy, ReadsText, Promises, IsOutcomeOf, GaveAtMost, IsOfText, AnswersText}
 use Rattle.lois_answers.specs.declared.faults.FaultKind.{FaultKind}
 use Rattle.lois_answers.specs.declared.faults.FaultKind.TheVariants.{Assertion, TurnLimit, DepthLimit, NotASet, NotAtoms, NotATuple, NoSuchPart, NotAutomaton, NotDeterministic, NotComplete}
 use Rattle.lois_run.specs.Outcomes.{made_counts, failure_status, status_of}
@@ -130,20 +130,20 @@ module _ {S : Type 0} (words : List (List ℕ)) (kinds : List Kind) (left : S �
     known P p (Some text) = p text
 
     -- `make` that has its decider
-    pub made_is_told : (n : ℕ) (kind : Option Kind) → command ≡ Make n kind → from ≡ to → IsOutcomeOf words kinds left faults takes from to (WasMade (made_counts n))
-    made_is_told n kind is same = record {
+    pub made_is_told : (n : ℕ) (kind : Option Kind) → command ≡ Make n kind → from ≡ to → HasMadeResults n → IsOutcomeOf words kinds left faults takes from to (WasMade (made_counts n))
+    made_is_told n kind is same made = record {
       usage = (λ e. absurd (made_is_not_usage (made_counts n) e), λ lacking. absurd (no_usage lacking));
       read_fault = λ e. absurd (made_is_not_fault (made_counts n) e);
       read = (same, λ c a. for_command (λ d. IsMadeBy d (made_counts n)) counts c a);
       taken = ap left same;
-      cause = λ c a. known (λ text. HasCause c text (WasMade (made_counts n))) (λ text. for_command (λ d. HasCause d text (WasMade (made_counts n))) (subst (λ d. HasCause d text (WasMade (made_counts n))) (sym is) refl) c a) before;
+      cause = λ c a. known (λ text. HasCause c text (WasMade (made_counts n))) (λ text. for_command (λ d. HasCause d text (WasMade (made_counts n))) (subst (λ d. HasCause d text (WasMade (made_counts n))) (sym is) (refl, made)) c a) before;
       made = λ m k a served. ap (λ j. WasMade (made_counts j)) (number_of (sym is ∙ one_command command (Make m k) words asks a));
       promise = λ c a served. known (λ text. Promises c text (Rose faults_before faults_after) (WasMade (made_counts n)))
           (λ text. for_command (λ d. Promises d text (Rose faults_before faults_after) (WasMade (made_counts n))) (subst (λ d. Promises d text (Rose faults_before faults_after) (WasMade (made_counts n))) (sym is) refl) c a) before;
     }
       where
         counts : IsMadeBy command (made_counts n)
-        counts = subst (λ d. IsMadeBy d (made_counts n)) (sym is) refl
+        counts = subst (λ d. IsMadeBy d (made_counts n)) (sym is) (refl, made)
 
         number_of : {m : ℕ} {k : Option Kind} → Make n kind ≡ Make m k → n ≡ m
         number_of e = cc e

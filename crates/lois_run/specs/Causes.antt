@@ -13,6 +13,9 @@ use Rattle.lois_outside.specs.Reading.{TookAtMost, TookExactly, ReadsToEnd, Give
 use Rattle.lois_outside.specs.Writing.{AppendsProperPrefix, FailsWriting}
 use Rattle.lois_outside.specs.declared.reading.ReadError.TheVariants as unread
 use Rattle.lois_answers.specs.declared.results.Results.{Results}
+use Rattle.lois_interp.specs.Interpreted.{AreResultsOf}
+use Rattle.lois_make.specs.MadeCounts.{HasMadeCounts}
+use Rattle.lois_make.specs.MadeTree.{made_tree}
 use Rattle.lois_reader.specs.Refusal.{IsAnswerOf, IsResultsOf}
 use Rattle.lois_registers.specs.Places.{IsRegistersOf}
 use Rattle.lois_registers.specs.declared.automata.Registers.{Registers as Automaton}
@@ -63,9 +66,13 @@ abbrev pub ReadsText : Command → Type 0
 ReadsText (Make n kind) = ⊥
 ReadsText _ = Unit {0}
 
--- the counts are those of as many loops as `make` was asked for
+-- results of the made script with n loops, and what they come to
+abbrev pub HasMadeResults : ℕ → Type 0
+HasMadeResults n = (r : Results) × AreResultsOf (made_tree n) r × HasMadeCounts n r
+
+-- The counts are those of as many loops as `make` was asked for, and the made script has results, which come to them.
 abbrev pub IsMadeBy : Command → Made → Type 0
-IsMadeBy (Make n kind) counts = counts ≡ made_counts n
+IsMadeBy (Make n kind) counts = (counts ≡ made_counts n) × HasMadeResults n
 IsMadeBy _ counts = ⊥
 
 -- Why the outcome comes, of the text that was to be read. A text that is no well-scoped script never completes, and never fails. Read

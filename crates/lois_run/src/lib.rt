@@ -11,5 +11,6 @@ mod texts;
 mod top;
 mod words;
 
+pub use lois_make::make_script;
 pub use outcomes::{Made, Outcome, Refusal};
 pub use top::{lois, outcome};

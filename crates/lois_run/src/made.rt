@@ -3,6 +3,7 @@
 ghost use Rattle.std.specs.Prelude.{◌≡◌, ◌≤◌, [], ◌∷◌, IfOk, IsSome};
 ghost use Rattle.lois_answers.specs.ResultsData.{CaseD, LineD};
 ghost use Rattle.lois_context.specs.Slots.{comps_in};
+ghost use Rattle.lois_run.specs.Causes.{HasMadeResults};
 ghost use Rattle.lois_run.specs.Outcomes.{made_counts};
 ghost use Rattle.lois_run.specs.declared.outcomes.Outcome.TheVariants.{Made as WasMade};
 
@@ -24,6 +25,7 @@ pub(crate) fn run_make(
     requires few { count ≤ 10000 }
     requires decider { IsSome chosen }
     ensures made { IfOk result (λ o. o ≡ WasMade (made_counts count)) }
+    ensures results { IfOk result (λ o. HasMadeResults count) }
 {
     let Some(mut chosen) = chosen else {
         unreachable!();

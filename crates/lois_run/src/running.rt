@@ -82,6 +82,7 @@ fn trace(alloc: Global, text: &[u8], script: &Scoped, fault: Fault) -> Result<Tr
 fn numbers_are_small(numbers: &[u64])
     ensures { All (λ a. a < 2 ^ 64) numbers.now }
 {
+    // for the prover: where the list is read, each of its items is a `u64`
     let _count = numbers.len();
 }
 

@@ -1,7 +1,7 @@
 use Rattle.std.proofs.Common.{List, ◌++◌, ◌∷◌, [], sym, subst}
 use Rattle.lois_context.specs.declared.contexts.Context.{Context}
 use Rattle.lois_interp.specs.Merged.{AreTruncatedContexts}
-use Rattle.lois_interp.proofs.Helpers.{cut_more}
+use Rattle.lois_interp.proofs.Sequence.{cut_more}
 use Rattle.lois_interp.proofs.blocks.cut_all.Goals as goal
 
 pub loop-context-preserved : goal.loop-context-preserved

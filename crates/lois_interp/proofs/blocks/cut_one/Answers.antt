@@ -1,7 +1,6 @@
 use Rattle.std.proofs.Common.{sym, subst}
 use Rattle.lois_context.specs.Kept.{IsSlot, AreSlots, HasDistinctNames}
-use Rattle.lois_interp.proofs.Helpers.{distinct_front}
-use Rattle.lois_interp.proofs.Sequence.{all_front}
+use Rattle.lois_interp.proofs.Sequence.{all_front, distinct_front}
 use Rattle.lois_interp.proofs.blocks.cut_one.Goals as goal
 
 pub invariant_of-result-clause-slots : goal.invariant_of-result-clause-slots

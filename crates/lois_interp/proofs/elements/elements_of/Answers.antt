@@ -4,8 +4,7 @@ use Rattle.lois_script.specs.View.{tree}
 use Rattle.lois_eval.specs.Throughout.{IsFaultOf}
 use Rattle.lois_eval.specs.Checks.{IsFaultWith}
 use Rattle.lois_interp.specs.Elements.{SetFails}
-use Rattle.lois_interp.proofs.EnteredMembers.{no_set_fails}
-use Rattle.lois_interp.proofs.Helpers.{not_coll}
+use Rattle.lois_interp.proofs.EnteredMembers.{no_set_fails, not_coll}
 use Rattle.lois_eval.proofs.FaultsAt.{if_fault}
 use Rattle.lois_interp.proofs.elements.elements_of.Goals as goal
 

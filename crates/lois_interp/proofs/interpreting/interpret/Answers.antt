@@ -10,6 +10,7 @@ use Rattle.lois_interp.specs.Interpreted.{AreResultsOf, IsFailureOf}
 use Rattle.lois_interp.specs.Run.{block_run}
 use Rattle.lois_interp.specs.WellScoped.{BlockIsWellScoped}
 use Rattle.lois_interp.proofs.Opened.{parameters_distinct, body_placed}
+use Rattle.lois_interp.proofs.Nowhere.{script_fails_nowhere}
 use Rattle.lois_interp.proofs.ScriptRuns.{interpreted, failure_of}
 use Rattle.lois_eval.proofs.LoopExit.{passed_on}
 use Rattle.lois_interp.proofs.interpreting.interpret.Goals as goal
@@ -63,3 +64,6 @@ returns-clause-results g c =
     let made_of = c.in_ok-results.ensures in
     subst (λ x. AreResultsOf (script_tree x) made) same
     (interpreted text s spelled scoped o c.in_ok-opening.ensures c.in_ok-ends.ends.items c.in_ok-ends.ensures.runs c.in_ok-printed.printed.items c.in_ok-merged.merged.items c.in_ok-printed.ensures.printed c.in_ok-merged.ensures made.cases made_of.cases made made_of.order made_of.parameters refl)
+
+pub returns-clause-nowhere : goal.returns-clause-nowhere
+returns-clause-nowhere g c = script_fails_nowhere _ _ (returns-clause-results g c)

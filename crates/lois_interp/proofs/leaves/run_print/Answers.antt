@@ -7,7 +7,7 @@ use Rattle.lois_interp.specs.Reached.{RunsAs}
 use Rattle.lois_interp.specs.Run.{stmt_run}
 use Rattle.lois_interp.proofs.LeafContexts.{held_named, print_named}
 use Rattle.lois_interp.proofs.LeafRuns.{print_runs}
-use Rattle.lois_interp.proofs.Yielded.{held_fits}
+use Rattle.lois_interp.proofs.Inside.{held_fits}
 use Rattle.lois_interp.proofs.leaves.run_print.Goals as goal
 
 pub item_of-requires : goal.item_of-requires

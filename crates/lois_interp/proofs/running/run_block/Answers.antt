@@ -1,9 +1,17 @@
 use Rattle.std.proofs.Common.{inl, inr, rules}
+use Rattle.std.proofs.lemmas.Result.{IfOk-weaker}
 use Rattle.lois_deciders.specs.OnlyAsked.{HasOnlyAsked}
 use Rattle.lois_deciders.specs.declared.chosen.Chosen.{Chosen}
 use Rattle.lois_deciders.proofs.OnlyAsked.{only_asked_nothing, only_asked_then}
 use Rattle.lois_deciders.proofs.Reached.{reached_keeps, kept_between}
+use Rattle.lois_script.specs.View.{stmts_of, stmts_list}
+use Rattle.lois_interp.proofs.Nowhere.{block_fails_nowhere}
 use Rattle.lois_interp.proofs.running.run_block.Goals as goal
+
+pub returns-clause-nowhere : goal.returns-clause-nowhere
+returns-clause-nowhere g c =
+    let body = stmts_of (stmts_list c.args.body.now) in let k = c.args.context in
+    IfOk-weaker c.run_stmts.result _ _ (λ r runs. block_fails_nowhere body k r.items runs) c.run_stmts.ensures.runs
 
 pub returns-clause-only_asked : goal.returns-clause-only_asked
 returns-clause-only_asked g c =

@@ -24,15 +24,18 @@ unreachable-requires-in_default-2 g c =
     let n = c.args.count in let o = c.in_ok-results.field-0 in
     let text : c.deref.result.now ≡ made_script n = cc (c.deref.ensures.value, c.in_ok-text.ensures.text) in
     let counted = sure o (made_completes n c.requires.few ⊥ o (subst (λ t. Headline t ⊥ o) text (c.in_ok-results.ensures.answer None).promise)) in
-    c.in_default-2.not-Completed counted.0 counted.1
+    c.in_default-2.not-Completed counted.0 counted.1.0
 
 pub returns : goal.returns
 returns g c =
     let n = c.args.count in let o = c.in_ok-results.field-0 in
     let text : c.deref.result.now ≡ made_script n = cc (c.deref.ensures.value, c.in_ok-text.ensures.text) in
     let counted = sure o (made_completes n c.requires.few ⊥ o (subst (λ t. Headline t ⊥ o) text (c.in_ok-results.ensures.answer None).promise)) in
-    let counts = subst (HasMadeCounts n) (same_results o counted.0 c.in-Completed.results counted.1 c.in-Completed.is) counted.2 in
+    let counts = subst (HasMadeCounts n) (same_results o counted.0 c.in-Completed.results counted.1.0 c.in-Completed.is) counted.1.2 in
     let bytes : c.len.result ≡ 37 + 74 * n = omega (arith, c.len.ensures, c.deref.ensures.len, ap length c.deref.ensures.value, c.in_ok-text.ensures.bytes) in
     let cases = c.len-2.ensures.counted ∙ ap length counts.cases in
     let comprehensions = c.comprehensions_of.ensures counts.one counts.line counts.cases counts.lines ∙ counts.comprehensions in
-    record { made = λ i. WasMade (record { statements = n; bytes = bytes i; cases = cases i; comprehensions = comprehensions i }) }
+    record {
+      made = λ i. WasMade (record { statements = n; bytes = bytes i; cases = cases i; comprehensions = comprehensions i });
+      results = (counted.0, counted.1.1, counted.1.2);
+    }

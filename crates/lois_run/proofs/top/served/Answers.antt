@@ -3,6 +3,7 @@ use Rattle.std.proofs.lemmas.Result.{IfOk-weaker}
 use Rattle.std.specs.Io.KnownBytes.{Consumes}
 use Rattle.lois_base.specs.declared.limits.TheConstants.{LONGEST_TEXT}
 use Rattle.lois_outside.specs.Reading.{ReadsToEnd}
+use Rattle.lois_eval.proofs.LoopExit.{both_ok}
 use Rattle.lois_run.specs.Causes.{IsOutcomeOf}
 use Rattle.lois_run.proofs.TextsOfOutcomes.{reads_text, text_is_told, fault_is_told, long_is_told, made_is_told, gave_nothing, gave_text, whatever_error}
 use Rattle.lois_run.proofs.top.served.Goals as goal
@@ -10,9 +11,9 @@ use Rattle.lois_run.proofs.top.served.Goals as goal
 pub returns-in-Make-clause-outcome : goal.returns-in-Make-clause-outcome
 returns-in-Make-clause-outcome g c =
     let from = c.args.source.now in
-    IfOk-weaker c.run_make.result _ _ (λ o is words kinds asks has.
+    both_ok c.run_make.result _ _ _ c.run_make.ensures.made c.run_make.ensures.results (λ o is made words kinds asks has.
     subst (IsOutcomeOf words kinds g.S.Source.left g.S.Source.faults g.S.Source.takes from from) (sym is)
-    (made_is_told words kinds g.S.Source.left g.S.Source.faults g.S.Source.takes from from c.args.command asks has c.in-Make.count c.in-Make.field-1 c.in-Make.is refl)) c.run_make.ensures.run_make
+    (made_is_told words kinds g.S.Source.left g.S.Source.faults g.S.Source.takes from from c.args.command asks has c.in-Make.count c.in-Make.field-1 c.in-Make.is refl made))
 
 pub returns-in-Make-clause-no_memory : goal.returns-in-Make-clause-no_memory
 returns-in-Make-clause-no_memory g c =

@@ -37,7 +37,7 @@ targets_from-requires-clause-held_levels c =
     let over = sym c.is_over_nodes.ensures ∙ c.if-not-is_over_nodes.false in
     let settled : IsSettled x f g = c.frontier_of-frontier.ensures x self.settled in
     let g_over = news_over x f g settled over in
-    subst (λ z. Fits self.size z) (sym c.in_ok-held.ensures) (held_fits self.size (comps_of self.nodes) g g_over c.as_slice-news.ensures.fits self.nodes_fit)
+    subst (λ z. Fits self.size z) (sym c.in_ok-held.ensures) (held_fits self.size (comps_of self.nodes) g g_over c.as_slice-frontier.ensures.fits self.nodes_fit)
 
 pub targets_from-requires-clause-operators : goal.targets_from-requires-clause-operators
 targets_from-requires-clause-operators c = items_admitted (comps_of c.args.self.now.moves)
