@@ -1,7 +1,7 @@
 """What the documents name exists: links, files, functions and definitions; lines and documents are short.
 
-    documents.py                  checks README.md, docs/*.md, examples/README.md and the crates' READMEs, and ends with 1 where something is wrong
-    documents.py --selftest       plants a dead link, a file and a name that don't exist, and ends with 0 where each is found
+    documents.py                  checks README.md, docs/*.md, examples/README.md, the crates' READMEs and the manual page, and ends with 1 where something is wrong
+    documents.py --selftest       plants a dead link, a file and a name that don't exist, and words that the manual page lacks, and ends with 0 where each is found
 """
 import os
 import re
@@ -90,6 +90,25 @@ def complaints_of(top, path, text, words):
                 yield f"{where}: nothing is called {word}"
 
 
+def commands_and_statuses(readme):
+    """What README.md lists of them, and the names of deciders."""
+    section = readme.split("## Commands and statuses\n")[1].split("\n## ")[0]
+    return [*re.findall(r"(?m)^- `(\w+)", section), *re.findall(r"(?:^- |\. |  )(\d+): ", section, re.M),
+            *re.findall(r"`(?:--decider )?(plain|graph|memo)`", section)]
+
+
+def complaints_of_page(readme, page):
+    """The manual page has each command, status and decider of README.md, and no other command or status."""
+    wanted = commands_and_statuses(readme)
+    items = re.findall(r"(?m)^\.It (?:Cm )?(\w+)", page)
+    for word in dict.fromkeys(wanted):
+        if word not in items and not re.search(rf"(?m)^\.Cm {word}\b", page):
+            yield f"docs/lois.1: no {word}"
+    for word in items:
+        if word not in wanted and word != "Fl":
+            yield f"docs/lois.1: README.md has no {word}"
+
+
 def complaints(top):
     words = words_of_sources(top)
     size = 0
@@ -98,6 +117,9 @@ def complaints(top):
             text = file.read()
         size += len(text.encode())
         yield from complaints_of(top, path, text, words)
+        if path == "README.md":
+            with open(os.path.join(top, "docs/lois.1"), encoding="ascii") as file:
+                yield from complaints_of_page(text, file.read())
     if size > MOST_BYTES:
         yield f"the documents have {size} bytes, more than {MOST_BYTES}"
 
@@ -105,8 +127,10 @@ def complaints(top):
 def selftest(top):
     text = "See [it](docs/NOWHERE.md), `tests/no_such_file.sh` and `no_such_function`.\n" + "x" * 121 + "\n"
     found = list(complaints_of(top, "README.md", text, words_of_sources(top) - {"no_such_function"}))
-    print(f"documents: {len(found)} of 4 planted faults are found")
-    return 0 if len(found) == 4 else 1
+    readme = "## Commands and statuses\n\n- `run` runs.\n- `go` goes.\n\nBy `graph`.\n\n- 0: so. 1: not so.\n"
+    found += complaints_of_page(readme, ".It Cm run\n.It 0\n.It 2\n")
+    print(f"documents: {len(found)} of 8 planted faults are found")
+    return 0 if len(found) == 8 else 1
 
 
 def main():
