@@ -6,7 +6,6 @@ use Rattle.lois_base.specs.Truth.{sampled}
 use Rattle.lois_base.specs.declared.deciding.Kind.{Kind}
 use Rattle.lois_base.specs.declared.memory.NoMemory.{NoMemory}
 use Rattle.lois_lexer.specs.Tokens.{HasTokens}
-use Rattle.lois_lexer.specs.declared.Place.{Place}
 use Rattle.lois_lexer.specs.declared.Token.{Token}
 use Rattle.lois_script.specs.Limits.{Spells}
 use Rattle.lois_script.specs.Scope.{IsWellScoped}
@@ -24,18 +23,17 @@ use Rattle.lois_syntax.specs.declared.SyntaxError.{SyntaxError}
 use Rattle.lois_syntax.specs.declared.SyntaxError.TheVariants.{NoScript, TooNested, WideTuple, TurnsTooMany, NoMemory as SyntaxMemory}
 use Rattle.lois_syntax.proofs.OneStatement.{one_script_of_text}
 use Rattle.lois_run.specs.Causes.{AnswersText}
-use Rattle.lois_run.specs.Headline.{Completes, NamesFailure, FailsSomewhere, IsToRun, Headline}
+use Rattle.lois_run.specs.Headline.{Completes, NamesFailure, FailsSomewhere, Headline}
 use Rattle.lois_run.specs.Outcomes.{HasCauseNumber, HasText}
-use Rattle.lois_run.specs.Places.{IsPlaceOf}
 use Rattle.lois_run.specs.Read.{IsReadOf, SpellsNone}
-use Rattle.lois_run.specs.Refusals.{SyntaxTells, ScopeTells, IsRefusedAs, IsNoAnswerAt}
+use Rattle.lois_run.specs.Refusals.{SyntaxTells, ScopeTells, IsRefusedAs}
 use Rattle.lois_run.specs.Run.{IsRunOf}
 use Rattle.lois_run.specs.declared.outcomes.Outcome.{Outcome}
 use Rattle.lois_run.specs.declared.outcomes.Outcome.TheVariants.{Completed, Failed, Refused}
 use Rattle.lois_run.specs.declared.outcomes.Refusal.{Refusal}
-use Rattle.lois_run.specs.declared.outcomes.Refusal.TheVariants.{Lexical, Syntax, Scope, NotResults}
+use Rattle.lois_run.specs.declared.outcomes.Refusal.TheVariants.{Lexical, Syntax, Scope}
 use Rattle.lois_run.specs.declared.reading.Read.TheVariants.{Refused as NotRead}
-use Rattle.lois_run.specs.declared.words.Command.TheVariants.{Run, Check, Reread}
+use Rattle.lois_run.specs.declared.words.Command.TheVariants.{Run, Check}
 
 -- ---- refusals
 

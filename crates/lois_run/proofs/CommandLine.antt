@@ -6,7 +6,7 @@ use Rattle.std.proofs.lemmas.Bool.Decides.{nat_tests}
 use Rattle.std.proofs.lemmas.Slice.Eq.{bytes_eq-Decides}
 use Rattle.clap.specs.Lexer.{long_of, short_of}
 use Rattle.clap.specs.Simple.{Shape, built, label_of, names_of}
-use Rattle.clap.specs.Walk.{Held, Names, Text, Walk, answers_to, arg_by_index, idle, nothing_held, subcommand_met, walk, walk_from, walked, rows_after}
+use Rattle.clap.specs.Walk.{Held, Names, Text, Walk, answers_to, arg_by_index, idle, nothing_held, subcommand_met, walk, walk_from, walked}
 use Rattle.clap.specs.Faults.{defaults_fault, fault_of, level_fault, stray_fault, turn_fault, walk_fault}
 use Rattle.clap.specs.Kinds.{Kinds, or_else}
 use Rattle.clap.specs.declared.error.kind.ErrorKind.TheVariants as kind

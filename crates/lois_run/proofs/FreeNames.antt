@@ -1,5 +1,5 @@
 -- Whether a word is a name that is no word of the language.
-use Rattle.std.proofs.Common.{◌≡◌, ℕ, zero, suc, Bool, true, false, ◌&&◌, ◌||◌, not, List, [], ◌∷◌, length, bytes_eq, refl, sym, ◌∙◌, nat_le, arith, ◌↔◌}
+use Rattle.std.proofs.Common.{◌≡◌, ℕ, zero, suc, Bool, true, false, ◌&&◌, not, List, [], ◌∷◌, length, bytes_eq, refl, sym, ◌∙◌, nat_le, arith, ◌↔◌}
 use Rattle.std.specs.Bool.{IsTrue}
 use Rattle.std.specs.List.{Contains, list_all, list_any}
 use Rattle.std.proofs.lemmas.Bool.{and_parts, le-leb, leb-true}

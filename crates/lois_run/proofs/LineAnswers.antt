@@ -1,5 +1,5 @@
 -- What the commands about results and register automata answer.
-use Rattle.std.proofs.Common.{◌≡◌, ℕ, suc, Bool, List, [], ◌∷◌, codes, length, filter, refl, sym, subst, inl}
+use Rattle.std.proofs.Common.{◌≡◌, ℕ, suc, Bool, List, [], ◌∷◌, codes, length, filter, sym, subst, inl}
 use Rattle.std.specs.List.{All, AllZip}
 use Rattle.std.proofs.lemmas.List.Elements.{All-head, All-tail, All-cons, All-nil, All-filter}
 use Rattle.lois_answers.specs.ResultsData.{CaseD}
@@ -30,7 +30,7 @@ use Rattle.lois_registers.specs.Translation.{IsTranslatedTo}
 use Rattle.lois_registers.specs.declared.RegistersError.TheVariants.{NotRegisters as NoRegisters}
 use Rattle.lois_registers.specs.declared.automata.Registers.{Registers as Automaton}
 use Rattle.lois_run.specs.Causes.{AnswersText}
-use Rattle.lois_run.specs.Lines.{Compares, Lists, IsResultsRead, compared_outcome, listed_outcome}
+use Rattle.lois_run.specs.Lines.{IsResultsRead, compared_outcome, listed_outcome}
 use Rattle.lois_run.specs.Refusals.{IsNoResults}
 use Rattle.lois_run.specs.declared.lines.ResultsRead.TheVariants.{Refused as NotRead}
 use Rattle.lois_run.specs.declared.outcomes.Outcome.TheVariants.{Refused, Translated}

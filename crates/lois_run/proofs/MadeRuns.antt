@@ -1,7 +1,6 @@
 -- What running the made script comes to, by the headline.
-use Rattle.std.proofs.Common.{◌≡◌, ℕ, ◌≤◌, ◌⊎◌, refl, arith}
+use Rattle.std.proofs.Common.{◌≡◌, ℕ, ◌≤◌, refl, arith}
 use mathlib.Core.Logic.{inl, inr}
-use Rattle.lois_base.specs.declared.limits.TheConstants.{LONGEST_TEXT}
 use Rattle.lois_answers.specs.declared.results.Results.{Results}
 use Rattle.lois_interp.specs.Interpreted.{AreResultsOf}
 use Rattle.lois_make.specs.MadeCounts.{HasMadeCounts}

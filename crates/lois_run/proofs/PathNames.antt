@@ -1,9 +1,8 @@
 -- The names of a path are those of loops of the script, and none is a word of the language.
-use Rattle.std.proofs.Common.{◌≡◌, ℕ, suc, inl, inr, List, [], ◌∷◌, length, sym, subst}
+use Rattle.std.proofs.Common.{ℕ, suc, inl, inr, List, [], ◌∷◌, sym, subst}
 use Rattle.std.specs.List.{All}
 use Rattle.std.proofs.lemmas.List.Elements.{All-nil, All-cons}
 use Rattle.lois_base.specs.Atom.{Atom}
-use Rattle.lois_lexer.specs.declared.TokenKind.TheVariants.{Name}
 use Rattle.lois_script.specs.Limits.{Spells}
 use Rattle.lois_script.specs.Tree.{binding, StmtD, «let», assign, add, for, if, while, assert, print, StmtsD, no_stmts, stmt, ScriptD}
 use Rattle.lois_script.proofs.Printable.{StmtPrints, StmtsPrint}

@@ -1,5 +1,4 @@
-use Rattle.std.proofs.Common.{◌≡◌, [], ◌∷◌, length, get_or, map, sym, ap, ◌∙◌, subst, arith}
-use Rattle.std.proofs.lemmas.List.{length-map}
+use Rattle.std.proofs.Common.{◌≡◌, [], ◌∷◌, map, sym, ap, ◌∙◌, arith}
 use Rattle.lois_base.specs.Data.{coll, comps_of}
 use Rattle.lois_base.specs.Tree.{tree}
 use Rattle.lois_base.proofs.Viewed.{item_at}

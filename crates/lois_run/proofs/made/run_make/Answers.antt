@@ -1,4 +1,4 @@
-use Rattle.std.proofs.Common.{◌≡◌, ℕ, ◌+◌, ◌*◌, inl, inr, None, length, sym, ap, ◌∙◌, subst, arith}
+use Rattle.std.proofs.Common.{◌≡◌, ◌+◌, ◌*◌, inl, inr, None, length, sym, ap, ◌∙◌, subst, arith}
 use Rattle.lois_answers.specs.declared.results.Results.{Results}
 use Rattle.lois_make.specs.MadeCounts.{HasMadeCounts}
 use Rattle.lois_make.specs.MadeScript.{made_script}

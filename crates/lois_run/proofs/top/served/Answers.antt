@@ -1,4 +1,4 @@
-use Rattle.std.proofs.Common.{◌≡◌, ◌+◌, ◌≤◌, ℕ, List, length, Err, sym, ap, subst, refl, arith}
+use Rattle.std.proofs.Common.{◌+◌, ◌≤◌, ℕ, List, length, Err, sym, ap, subst, refl, arith}
 use Rattle.std.proofs.lemmas.Result.{IfOk-weaker}
 use Rattle.std.specs.Io.KnownBytes.{Consumes}
 use Rattle.lois_base.specs.declared.limits.TheConstants.{LONGEST_TEXT}
