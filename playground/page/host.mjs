@@ -2,7 +2,7 @@
 // gives. A call runs the program once, with its words and its standard input, in a memory of its own.
 
 const PAGE = 65536;
-const MORE_PAGES = 256;
+const MORE_PAGES = 16;
 const HEADER = 16;
 const SIGNAL_WAS_DEFAULT = 0n;
 const BAD_DESCRIPTOR = 9;
@@ -48,7 +48,9 @@ class Heap {
     const room = Math.floor((this.#most - have) / PAGE);
     const needed = Math.ceil((end - have) / PAGE);
     if (needed > room) return false;
-    for (const pages of [Math.min(needed + MORE_PAGES, room), needed]) {
+    // some more, so that a memory of n bytes is grown some log n times
+    const more = Math.max(MORE_PAGES, Math.floor(have / PAGE / 4));
+    for (const pages of [Math.min(needed + more, room), needed]) {
       try {
         this.#memory.grow(BigInt(pages));
         return true;

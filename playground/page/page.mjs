@@ -220,20 +220,23 @@ async function listExamples() {
   examples.addEventListener('change', () => examples.value && takeExample(examples.value));
 }
 
-async function takeExample(name) {
-  element('examples').value = name;
-  editor.text = await (await fetched(`examples/${name}.lois`)).text();
-  history.replaceState(null, '', location.pathname + location.search);
+function take(script, example) {
+  element('examples').value = example;
+  running?.stop();
+  editor.text = script;
   clear();
-  if (program && !running) sayReady();
+  if (program) sayReady();
+}
+
+async function takeExample(name) {
+  take(await (await fetched(`examples/${name}.lois`)).text(), name);
+  history.replaceState(null, '', location.pathname + location.search);
 }
 
 async function takeAddress() {
   const script = await address.read(location.hash);
-  if (script === null) return false;
-  element('examples').value = '';
-  if (script !== editor.text) editor.text = script;
-  return true;
+  if (script !== null) take(script, '');
+  return script !== null;
 }
 
 function sayReady() {
@@ -271,6 +274,7 @@ element('stop').addEventListener('click', () => running?.stop());
 element('share').addEventListener('click', share);
 element('go').addEventListener('click', () => editor.goToMark());
 element('whole').addEventListener('click', showWhole);
+element('script').addEventListener('input', () => (element('examples').value = ''));
 addEventListener('hashchange', takeAddress);
 addEventListener('keydown', (event) => {
   if (event.key === 'Escape') running?.stop();
