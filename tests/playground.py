@@ -1,7 +1,8 @@
 """Tries the page of playground/out in a headless Chromium: playground.py CHROMIUM [FOLDER].
 
 Each state is also looked at for what is cut or lies over another thing, and a picture of it is kept in FOLDER where it
-is given. The browser is driven by its debugging protocol over two pipes. The last line is `N passed, M failed`.
+is given; docs/playground.png is made of the one of that name there. The browser is driven by its debugging protocol over two
+pipes. The last line is `N passed, M failed`.
 """
 import base64
 import contextlib
@@ -26,13 +27,16 @@ LIMIT = 1 << 20
 SECONDS = 120
 WIDE = (1280, 900)
 NARROW = (360, 740)
+# of the picture for README.md
+SMALL = (960, 600)
 CTRL, SHIFT = 2, 8
 
 # What is wrong with how the page lies: a list of complaints.
 LAID_OUT = """(() => {
   const found = [];
   const root = document.documentElement;
-  if (root.scrollWidth > innerWidth) found.push(`the page is ${root.scrollWidth} wide in ${innerWidth}`);
+  const width = root.clientWidth;
+  if (root.scrollWidth > width) found.push(`the page is ${root.scrollWidth} wide in ${width}`);
   const shown = [...document.querySelectorAll('button, select, textarea, h1, h2, label, p, pre, table, output')].filter(
     (it) => it.checkVisibility() && it.getBoundingClientRect().width > 0);
   const nameOf = (it) => it.id || `${it.localName} ${it.textContent.slice(0, 20)}`;
@@ -40,7 +44,7 @@ LAID_OUT = """(() => {
     if (it.localName !== 'textarea' && it.localName !== 'select' && it.scrollWidth > it.clientWidth + 1 && it.clientWidth)
       found.push(`${nameOf(it)} is cut: ${it.scrollWidth} in ${it.clientWidth}`);
     const box = it.getBoundingClientRect();
-    if (box.left < -1 || box.right > innerWidth + 1) found.push(`${nameOf(it)} is beyond the edge`);
+    if (box.left < -1 || box.right > width + 1) found.push(`${nameOf(it)} is beyond the edge`);
   }
   // what is scrolled out of its pane lies over nothing
   const visible = (it) => {
@@ -57,9 +61,9 @@ LAID_OUT = """(() => {
     for (const other of shown.slice(number + 1)) {
       if (one.contains(other) || other.contains(one)) continue;
       const [a, b] = [visible(one), visible(other)];
-      const width = Math.min(a.right, b.right) - Math.max(a.left, b.left);
-      const height = Math.min(a.bottom, b.bottom) - Math.max(a.top, b.top);
-      if (width > 1 && height > 1) found.push(`${nameOf(one)} and ${nameOf(other)} lie over each other`);
+      const across = Math.min(a.right, b.right) - Math.max(a.left, b.left);
+      const down = Math.min(a.bottom, b.bottom) - Math.max(a.top, b.top);
+      if (across > 1 && down > 1) found.push(`${nameOf(one)} and ${nameOf(other)} lie over each other`);
     }
   }
   return found;
@@ -99,7 +103,7 @@ class Browser:
             fcntl.fcntl(end, fcntl.F_DUPFD_CLOEXEC, 10) for end in (*os.pipe(), *os.pipe())
         )
         words = [program, "--headless=new", "--remote-debugging-pipe", f"--user-data-dir={folder}", "--no-first-run"]
-        words += ["--disable-gpu", "--hide-scrollbars", "--disable-background-networking", "about:blank"]
+        words += ["--disable-gpu", "--disable-background-networking", "about:blank"]
         # Chromium's sandbox doesn't start for root
         words[1:1] = ["--no-sandbox"] if os.geteuid() == 0 else []
         # it reads from descriptor 3 and writes to 4
@@ -167,9 +171,8 @@ class Browser:
     def size(self, width, height):
         self.call("Emulation.setDeviceMetricsOverride", width=width, height=height, deviceScaleFactor=1, mobile=False)
 
-    def dark(self, on):
-        features = [{"name": "prefers-color-scheme", "value": "dark" if on else "light"}]
-        self.call("Emulation.setEmulatedMedia", features=features)
+    def colours(self, name):
+        self.call("Emulation.setEmulatedMedia", features=[{"name": "prefers-color-scheme", "value": name}])
 
     def end(self):
         with contextlib.suppress(Exception):
@@ -205,21 +208,24 @@ class Trial:
 
     def state(self, name):
         """Looks at how the page lies now, wide and narrow, light and dark, and takes pictures."""
-        for width, height in (WIDE, NARROW):
+        for width, height in (NARROW, WIDE):
             self.browser.size(width, height)
             self.same(f"{name}, {width} wide: nothing is cut or over another", self.browser.value(LAID_OUT), [])
-            for dark in (False, True):
-                if not self.pictures:
-                    continue
-                self.browser.dark(dark)
-                path = os.path.join(self.pictures, f"{name}-{width}-{'dark' if dark else 'light'}.png")
-                self.picture(path, captureBeyondViewport=True)
-            self.browser.dark(False)
-        self.browser.size(*WIDE)
+            for colours in ("dark", "light") if self.pictures else ():
+                self.browser.colours(colours)
+                self.picture(os.path.join(self.pictures, f"{name}-{width}-{colours}.png"), width, height)
 
-    def picture(self, path, **how):
+    def picture(self, path, width, height):
+        """Takes a picture of the whole page, without its bars for scrolling."""
+        self.browser.call("Emulation.setScrollbarsHidden", hidden=True)
+        # (only another size lays the page out anew)
+        for other in (1, 0):
+            self.browser.size(width + other, height)
+            self.browser.value("new Promise((end) => requestAnimationFrame(() => requestAnimationFrame(end)))")
+        data = self.browser.call("Page.captureScreenshot", format="png", captureBeyondViewport=True)["data"]
+        self.browser.call("Emulation.setScrollbarsHidden", hidden=False)
         with open(path, "wb") as file:
-            file.write(base64.b64decode(self.browser.call("Page.captureScreenshot", format="png", **how)["data"]))
+            file.write(base64.b64decode(data))
 
     def write(self, script):
         self.browser.value(
@@ -308,10 +314,14 @@ def examples(trial):
             trial.holds(f"{name}: {asked} ends with {wanted}", figures.startswith(f"status {wanted},"), (words, figures))
         if name in ("cases", "two_queues", "orbits_of_sets", "max_register"):
             trial.state(name)
+        if name == "cases" and trial.pictures:
+            trial.picture(os.path.join(trial.pictures, "playground.png"), *SMALL)
+            trial.browser.size(*WIDE)
 
 
 def take_example(trial, name):
     """Chooses an example in the list, and waits for its script."""
+    trial.write("")
     trial.browser.value(
         f"(it => {{ it.value = {json.dumps(name)}; it.dispatchEvent(new Event('change')); }})(document.getElementById('examples'))"
     )

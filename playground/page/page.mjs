@@ -98,6 +98,8 @@ function showAnswer(where, command, found) {
     const figures = `status ${status}, ${time}, ${sizeOf(memory)} of memory`;
     show(where, toneOf(status), wordsOf(command, status), figures, shown);
   }
+  // (on a narrow screen the answer is below the script)
+  element(`${where}status`).scrollIntoView({ block: 'nearest' });
 }
 
 function showWhole() {
