@@ -44,14 +44,15 @@ sources_of() {
   done < <(crates_below "$1")
 }
 
-# The sum of what the program `name` is made of, and of further files of the checkout. The toolchain isn't part of it, so
-# that a built program needs none.
+# The sum of what the program `name` is made of, and of further files of the checkout. The toolchain isn't part of it,
+# so that a built program needs none.
 sum_of_sources() {
   local sources
   mapfile -t sources < <(sources_of "$name")
   (
     cd "$top" || exit
-    find "${sources[@]#"$top/"}" scripts/module.sh "$@" -type f -print0 | LC_ALL=C sort -z | xargs -0 sha256sum | sha256sum
+    find "${sources[@]#"$top/"}" scripts/module.sh "$@" -type f -print0 |
+      LC_ALL=C sort -z | xargs -0 sha256sum | sha256sum
   )
 }
 

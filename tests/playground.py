@@ -1,8 +1,8 @@
 """Tries the page of playground/out in a headless Chromium: playground.py CHROMIUM [FOLDER].
 
 Each state is also looked at for what is cut or lies over another thing, and a picture of it is kept in FOLDER where it
-is given; docs/playground.png is made of the one of that name there. The browser is driven by its debugging protocol over two
-pipes. The last line is `N passed, M failed`.
+is given; docs/playground.png is made of the one of that name there. The browser is driven by its debugging protocol
+over two pipes. The last line is `N passed, M failed`.
 """
 import base64
 import contextlib
@@ -117,6 +117,7 @@ class Browser:
         self.session = self.call("Target.attachToTarget", targetId=target, flatten=True)["sessionId"]
         for domain in ("Page", "Runtime", "Log"):
             self.call(f"{domain}.enable")
+        self.call("Emulation.setFocusEmulationEnabled", enabled=True)
 
     def message(self):
         while b"\0" not in self.buffer:
@@ -381,7 +382,8 @@ def large(trial):
     _, figures, text = trial.run(script.decode() + " ")
     trial.same("a byte over 1 MiB", (figures.split(",")[0], text), ("status 5", "refused: input over 1048576 bytes\n"))
     for name, text, run, check in hostile_shapes.scripts():
-        if name.startswith("64 deep"):
+        # (this one takes minutes)
+        if name != "one line, members":
             # the editor, as each text area, has no carriage returns
             text = text.replace(b"\r\n", b"\n").decode()
             trial.completes(name, text, run.decode())
@@ -443,6 +445,12 @@ def addresses(trial):
     trial.press("share")
     trial.browser.until("document.getElementById('shared').textContent !== ''")
     trial.state("shared")
+    permissions = ["clipboardReadWrite", "clipboardSanitizedWrite"]
+    trial.browser.call("Browser.grantPermissions", permissions=permissions, origin=trial.address.rstrip("/"))
+    trial.press("share")
+    trial.browser.until("document.getElementById('shared').textContent === 'Copied'")
+    found = trial.browser.value("navigator.clipboard.readText().then((text) => text === location.href)")
+    trial.same("the address is in the clipboard", found, True)
     address = trial.browser.value("location.hash")
     trial.open(address)
     trial.same("a shared script is the same", trial.browser.value(in_editor), other)
@@ -472,6 +480,15 @@ def keyboard(trial):
     trial.holds("Tab goes around all controls", {"examples", "run", "check", "memory", "share", "script", "text"} <= set(reached), reached)
 
 
+def outside(trial):
+    """The page's policy refuses what would send anything elsewhere; each refusal is an error of the page's log."""
+    given = trial.browser.value(
+        "new Promise((end) => { addEventListener('securitypolicyviolation', (it) => end(it.effectiveDirective));"
+        " fetch('http://localhost:1/').catch(() => setTimeout(() => end('sent'), 1000)); })"
+    )
+    trial.same("nothing is sent elsewhere", given, "connect-src")
+
+
 def main(program, pictures=None):
     if pictures:
         os.makedirs(pictures, exist_ok=True)
@@ -497,6 +514,7 @@ def main(program, pictures=None):
                     except (RuntimeError, TimeoutError, TypeError, AttributeError) as fault:
                         trial.holds(part.__name__, False, repr(fault))
                 trial.same("the page throws nothing", browser.complaints, [])
+                outside(trial)
             finally:
                 browser.end()
     finally:

@@ -1,11 +1,11 @@
 // What an answer of the program says: its status in words, the place that it names, and its lines.
 
 const FAILED = 'Failed: ';
-const WORDS = {
-  run: ['Completed: the script ran at every choice of its parameters'],
-  check: ['Well scoped: the text is a script, and this is its printed form'],
-  equal: ['The two accept the same words'],
-  census: ['The orbits are listed'],
+const COMPLETED = {
+  run: 'Completed: the script ran at every choice of its parameters',
+  check: 'Well scoped: the text is a script, and this is its printed form',
+  equal: 'The two accept the same words',
+  census: 'The orbits are listed',
 };
 const WORDS_OF_ALL = {
   1: `${FAILED}at some choice an assertion is false`,
@@ -20,7 +20,8 @@ const WORDS_OF_ALL = {
 export const toneOf = (status) => (status === 0 ? 'good' : status === 10 ? 'other' : 'bad');
 
 /** The status in words. */
-export const wordsOf = (command, status) => (status === 0 ? WORDS[command][0] : WORDS_OF_ALL[status]) ?? `Status ${status}`;
+export const wordsOf = (command, status) =>
+  (status === 0 ? COMPLETED[command] : WORDS_OF_ALL[status]) ?? `Status ${status}`;
 
 /** The line and the column, counted from 1 and in bytes, and the cause, of a refusal or a failure. */
 export function placeOf(text) {
