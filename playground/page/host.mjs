@@ -5,6 +5,8 @@ const PAGE = 65536;
 const MORE_PAGES = 16;
 const HEADER = 16;
 const SIGNAL_WAS_DEFAULT = 0n;
+// what the C library tells of a processor, in a leaf: here that it has each feature
+const LEAF_BYTES = 32;
 const BAD_DESCRIPTOR = 9;
 const NO_SEEKING = 29;
 const M64 = (1n << 64n) - 1n;
@@ -35,6 +37,7 @@ class Heap {
     // what a refused call points to, as the kit's own heap does
     this.nowhere = Math.ceil(base / 16) * 16;
     this.#end = this.nowhere + 16;
+    this.leaf = this.take(LEAF_BYTES);
   }
 
   get view() {
@@ -111,7 +114,18 @@ export function call(module, words, input, most) {
     new Uint8Array(heap.view.buffer).copyWithin(Number(to), Number(from), Number(from) + Number(length));
     return to;
   };
+  const write = (descriptor, from, length) => {
+    if (descriptor !== 1) return fault(BAD_DESCRIPTOR);
+    written.push(bytes(from, length).slice());
+    return length;
+  };
   const env = {
+    // the proved module asks, before it runs, for what a processor of x86-64-v2 has; what it was retargeted to has it
+    __x86_get_cpuid_feature_leaf: () => {
+      bytes(heap.leaf, LEAF_BYTES).fill(255);
+      return BigInt(heap.leaf);
+    },
+    __write: write,
     __sysv_signal: () => SIGNAL_WAS_DEFAULT,
     __multi3: (to, low, high, otherLow, otherHigh) => answerWide(to, wide(low, high) * wide(otherLow, otherHigh)),
     __ashlti3: (to, low, high, count) => answerWide(to, wide(low, high) << BigInt(count)),
@@ -155,11 +169,7 @@ export function call(module, words, input, most) {
       at += part.length;
       return BigInt(part.length);
     },
-    write: (descriptor, from, length) => {
-      if (descriptor !== 1) return fault(BAD_DESCRIPTOR);
-      written.push(bytes(from, length).slice());
-      return length;
-    },
+    write,
   };
   const { exports } = new WebAssembly.Instance(module, { env });
   heap = new Heap(exports.memory, Number(exports.__heap_base.value), most);

@@ -246,10 +246,9 @@ function sayReady() {
 }
 
 function sayWhatIsTrusted({ proved, kit }) {
-  const sources = "the program's sources are proved: its answers are those of the language";
   element('trusted').textContent = proved
-    ? `Proved: ${sources} (${kit}).`
-    : `This page has an unproved build (${kit}). In the proved build ${sources}.`;
+    ? `Proved: that the sources of the program give the answers of the language (by ${kit}).`
+    : `This page has an unproved build (by ${kit}). The proved build is made of the same sources.`;
   element('notice').hidden = proved;
   element('notice').textContent =
     'This module is not proved: it was built from the sources of the program without a check of their contracts.';
