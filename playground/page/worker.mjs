@@ -3,7 +3,8 @@
 import { call } from './host.mjs';
 
 const kindOf = (fault) => {
-  if (fault instanceof RangeError) return /stack/i.test(fault.message) ? 'stack' : 'memory';
+  if (/stack|recursion/i.test(fault.message)) return 'stack';
+  if (fault instanceof RangeError) return 'memory';
   return fault instanceof WebAssembly.RuntimeError ? 'trap' : 'host';
 };
 
