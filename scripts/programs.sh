@@ -1,6 +1,6 @@
 # shellcheck shell=bash disable=SC2154
-# Sourced by ./lois, ./unproved, ./install and scripts/prove.sh, once `top` is the checkout's folder. A program is a
-# crate of crates/ with a src/main.rt.
+# Sourced by ./lois, ./unproved, ./install, playground/build and scripts/prove.sh, once `top` is the checkout's folder.
+# A program is a crate of crates/ with a src/main.rt.
 
 # The kit that the repository is written for, as `rt version` begins.
 kit=rattle-kit-13f
@@ -42,6 +42,18 @@ sources_of() {
       [ ! -d "$top/crates/${line%%[: ]*}/$part" ] || printf '%s\n' "$top/crates/${line%%[: ]*}/$part"
     done
   done < <(crates_below "$1")
+}
+
+# The sum of what the program `name` is made of, and of further files of the checkout. The toolchain isn't part of it,
+# so that a built program needs none.
+sum_of_sources() {
+  local sources
+  mapfile -t sources < <(sources_of "$name")
+  (
+    cd "$top" || exit
+    find "${sources[@]#"$top/"}" scripts/module.sh "$@" -type f -print0 |
+      LC_ALL=C sort -z | xargs -0 sha256sum | sha256sum
+  )
 }
 
 # Whether the proved program stands there and is no older than what it is made of.

@@ -1,6 +1,7 @@
 #!/usr/bin/env bash
 # Proves and builds a program of crates/ where it isn't built yet, or is older than its sources: crates/NAME/out/NAME.
-#   scripts/prove.sh NAME
+#   scripts/prove.sh NAME [FOLDER]
+# Where FOLDER is given the copy is made there and stays, with all that was built, also where the program stands there.
 # `rt ci` does it in a copy of the program's crates, without edits and crates of tests. It keeps beside the kit what it
 # has proved. So the gate (.ci/run) doesn't prove that again, nor this script what the gate or an interrupted run has
 # proved. Standard error has a line for each crate that is done, or one line that is rewritten where it is a terminal.
@@ -11,7 +12,7 @@ name=$1
 out=$top/crates/$name/out
 
 wait_for_turn "$top/scripts/prove.sh"
-! is_current "$name" || exit 0
+[ $# -gt 1 ] || ! is_current "$name" || exit 0
 needs_rt
 make_out "$out"
 
@@ -23,7 +24,7 @@ trap 'exit 143' TERM HUP
 
 # What is changed from here on makes the program old.
 touch "$work/begun"
-copy=$work/copy
+copy=${2:-$work/copy}
 mkdir -p "$copy/.git"
 cp "$top/HANDLES" "$copy"
 crates_below "$name" >"$copy/crates.txt"

@@ -43,4 +43,5 @@ suite 'the first calls' tests/first_run.sh
 for name in documents editors unused twice trusted; do
   [ ! -x "tests/$name.sh" ] || suite "tests/$name.sh" "tests/$name.sh"
 done
+[ ! -f playground/out/lois.wasm ] || suite 'the page' tests/playground.sh
 tell_counts

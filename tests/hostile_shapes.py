@@ -263,4 +263,5 @@ def main(folder):
         write(os.path.join(folder, "results cut"), cut, text, {"reread": reread})
 
 
-main(sys.argv[1])
+if __name__ == "__main__":
+    main(sys.argv[1])
