@@ -4,12 +4,12 @@
 # reread and a made script. Each run has to end with status 8 and nothing written, or with the row's own status and answer.
 # It writes a table and ends with 0 where all runs did. It is no part of the gate.
 #   tests/refused_memory.sh [RUNS]
-# RUNS (5,000 where it isn't given) are the most runs of a row and a way of refusing: where a row has more allocations, the first
+# RUNS (7,000 where it isn't given) are the most runs of a row and a way of refusing: where a row has more allocations, the first
 # half of them is refused one by one, and of what is behind them each k-th one, for the least k that fits.
 # It runs ./lois, or the program that LOIS names. A library between the program and the C library refuses, and counts.
 set -u
 cd "$(dirname "${BASH_SOURCE[0]}")/.." || exit 70
-runs=${1:-5000}
+runs=${1:-7000}
 failed=0
 
 if ! command -v cc >/dev/null; then
