@@ -9,9 +9,9 @@ Markdown lines are compared as they are.
 """
 import os
 import re
-import shutil
 import sys
-import tempfile
+
+import finding
 
 LINES = 10
 NAME = re.compile(r"[A-Za-z_][\w'-]*")
@@ -110,30 +110,14 @@ def pairs(top):
             yield f"{other}:{lines[0][0]} ~ {path}:{lines[0][1]} ({len(lines) + LINES - 1} lines or more)"
 
 
-def selftest(top):
-    work = tempfile.mkdtemp()
-    try:
-        shutil.copytree(os.path.join(top, "crates/lois_order"), os.path.join(work, "crates/lois_order"), ignore=shutil.ignore_patterns("out"))
-        with open(os.path.join(work, "crates/lois_order/src/rule.rt"), encoding="utf-8") as file:
-            copy = file.read().replace("cube", "block").replace("size", "number")
-        os.makedirs(os.path.join(work, "crates/planted/src"))
-        with open(os.path.join(work, "crates/planted/src/lib.rt"), "w", encoding="utf-8") as file:
-            file.write(copy)
-        found = [line for line in pairs(work) if "planted" in line]
-        print("twice: the planted copy is " + ("found" if found else "not found"))
-        return 0 if found else 1
-    finally:
-        shutil.rmtree(work)
-
-
-def main():
-    top = os.path.dirname(os.path.dirname(os.path.abspath(__file__)))
-    if sys.argv[1:] == ["--selftest"]:
-        return selftest(top)
-    found = list(pairs(sys.argv[1] if sys.argv[1:] else top))
-    print("\n".join(found + [f"{len(found)} pairs"]))
-    return 1 if found else 0
+def plant(work):
+    with open(os.path.join(work, finding.CRATE, "src/rule.rt"), encoding="utf-8") as file:
+        copy = file.read().replace("cube", "block").replace("size", "number")
+    os.makedirs(os.path.join(work, "crates/planted/src"))
+    with open(os.path.join(work, "crates/planted/src/lib.rt"), "w", encoding="utf-8") as file:
+        file.write(copy)
+    return "planted"
 
 
 if __name__ == "__main__":
-    sys.exit(main())
+    sys.exit(finding.main(pairs, "pairs", plant))

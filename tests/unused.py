@@ -8,9 +8,9 @@ answers a goal of the prover is used by the prover itself, and isn't looked at.
 """
 import os
 import re
-import shutil
 import sys
-import tempfile
+
+import finding
 
 START = re.compile(r"^( *)((?:pub |abbrev |unfoldable )*)(?:record |data )?([^\s(){}\[\],;:.]+) :(?: |$)")
 CONTINUES = re.compile(r"^\s*(?:[|\])}(◌]|where|unfolding)")
@@ -96,27 +96,11 @@ def unused(top):
                 yield f"{path}:{first + 1}: {name} ({end - first} lines)"
 
 
-def selftest(top):
-    work = tempfile.mkdtemp()
-    try:
-        shutil.copytree(os.path.join(top, "crates", "lois_order"), os.path.join(work, "crates", "lois_order"), ignore=shutil.ignore_patterns("out"))
-        with open(os.path.join(work, "crates/lois_order/proofs/Each.antt"), "a", encoding="utf-8") as file:
-            file.write("\npub planted_lemma : 0 ≡ 0\nplanted_lemma = refl\n")
-        found = [line for line in unused(work) if "planted_lemma" in line]
-        print("unused: the planted lemma is " + ("found" if found else "not found"))
-        return 0 if found else 1
-    finally:
-        shutil.rmtree(work)
-
-
-def main():
-    top = os.path.dirname(os.path.dirname(os.path.abspath(__file__)))
-    if sys.argv[1:] == ["--selftest"]:
-        return selftest(top)
-    found = list(unused(sys.argv[1] if sys.argv[1:] else top))
-    print("\n".join(found + [f"{len(found)} unused"]))
-    return 1 if found else 0
+def plant(work):
+    with open(os.path.join(work, finding.CRATE, "proofs/Each.antt"), "a", encoding="utf-8") as file:
+        file.write("\npub planted_lemma : 0 ≡ 0\nplanted_lemma = refl\n")
+    return "planted_lemma"
 
 
 if __name__ == "__main__":
-    sys.exit(main())
+    sys.exit(finding.main(unused, "unused", plant))
