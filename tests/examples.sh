@@ -3,7 +3,7 @@
 # program answers with what is written there: for examples/ byte for byte, for the manual the lines behind `>`, each as a
 # whole and in their order. What is asked of an example's answer stands beside it, and so does what becomes of a register
 # automaton. Where Python is there tests/reference/ judges the whole answers to the manual's scripts. It runs the built
-# program, or the one that LOIS names (LOIS=path tests/examples.sh), and ends with `N passed, M failed`.
+# programs, or those that LOIS and ASK name (LOIS=path tests/examples.sh), and ends with `N passed, M failed`.
 # A change of the program may spell the same values in another way. Then `./lois run < NAME.lois > NAME.out` makes the
 # new text, which tests/reference/ judges: `cd tests && python3 -m reference judge ../examples/NAME.lois
 # ../examples/NAME.out 0 --normal`.
@@ -54,7 +54,7 @@ try_asked() {
 try_words() {
   local words=$1 text=$2 given=$3 faults=0
   # shellcheck disable=SC2086
-  "$lois" $words <"$text" >"$work/answer"
+  "$(program_for $words)" $words <"$text" >"$work/answer"
   [ $? -eq "$(status_of "$(cat "$given")")" ] || complain "$words: another status" "$text" "$work/answer" "$given"
   cmp -s "$work/answer" "$given" || complain "$words of $text doesn't give $given" "$text" "$work/answer" "$given"
   count
@@ -64,7 +64,7 @@ try_words() {
 status_of() {
   case $1 in
     *'refused'*) echo 5 ;;
-    *'differ in case'*) echo 10 ;;
+    *'differ in case'* | none*) echo 10 ;;
     *': assertion failed'*) echo 1 ;;
     *': turn limit'*) echo 3 ;;
     *': depth limit'*) echo 4 ;;
@@ -94,7 +94,7 @@ try_shown() {
   printf '%s' "$3" >"$work/shown"
   # the command may be several words
   # shellcheck disable=SC2086
-  "$lois" $command <"$work/script" >"$work/answer"
+  "$(program_for $command)" $command <"$work/script" >"$work/answer"
   status=$?
   [ $status -eq "$(status_of "$3")" ] || complain "the manual's script: another status" "$work"/{script,answer,shown}
   stand_in "$work/shown" "$work/answer" || complain "the manual's script: another answer" "$work"/{script,answer,shown}

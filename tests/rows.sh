@@ -1,9 +1,9 @@
 #!/usr/bin/env bash
 # Runs the worked rows of tests/rows/ and compares what the program answers with what is written there. Answers that
-# may be spelled in several ways are judged by tests/reference/, where python3 is there. It runs the built program, or
-# the one that LOIS names (LOIS=path tests/rows.sh), and ends with `N passed, M failed`. A row is
+# may be spelled in several ways are judged by tests/reference/, where python3 is there. It runs the built programs, or
+# those that LOIS and ASK name (LOIS=path tests/rows.sh), and ends with `N passed, M failed`. A row is
 #   === what it shows
-#   $ the program's words
+#   $ the program's words, of lois or of lois_ask
 #   its input
 #   --- the status, and what is asked of the answer
 #   a text
@@ -73,7 +73,7 @@ judge() {
 }
 
 run() {
-  "$lois" "${words[@]}" <"$1" >"$row/answer" 2>&1
+  "$(program_for "${words[0]:-}")" "${words[@]}" <"$1" >"$row/answer" 2>&1
   status=$?
 }
 

@@ -74,6 +74,8 @@ def main():
                                ("equal", ["a", "b", "source"], "an answer of `equal A B` to results"),
                                ("registers", ["source"], "an answer of `registers` to a text"),
                                ("census", ["a", "source"], "an answer of `census A` to results"),
+                               ("word", ["a", "source"], "an answer of `lois_ask word A` to results"),
+                               ("within", ["a", "b", "source"], "an answer of `lois_ask within A B` to results"),
                                ("reread", ["source"], "an answer of `reread` to a text"),
                                ("check", ["source"], "an answer of `check` to a script")):
         command = commands.add_parser(name, help="judges " + about, description=f"Judges {about}. Exits with 0 and "
@@ -87,8 +89,9 @@ def main():
             command.add_argument("--normal", action="store_true", help="cases have to be normal")
     command = commands.add_parser("suite", help="judges a program on made cases", description=run_suite.__doc__)
     command.add_argument("--program", required=True, help="the program's path")
+    command.add_argument("--ask", help="the path of lois_ask, where its questions are asked too")
     for name, count, about in (("scripts", 150, "random scripts"), ("texts", 300, "changed texts"),
-                               ("further", 60, "cases of each of equal, registers, census"),
+                               ("further", 60, "cases of each further command"),
                                ("seed", 1, "what is made"), ("jobs", 1, "processes side by side")):
         command.add_argument("--" + name, type=int, default=count, help=f"{about} ({count})")
     commands.add_parser("selftest", help="tries whether planted errors are found", description=run_selftest.__doc__)

@@ -61,6 +61,19 @@ def judge_equal(first, second, source, output, status):
     expect(output, status, "equal\n", 0)
 
 
+def told_word(results, case, numbers, letters):
+    """The choice, the word and whether each further number is for a level of a letter, of an answer that gives these
+    numbers and lines of letters for a case that has to admit the choice."""
+    sample, count = scaled(map(int, numbers.split())), len(results.parameters)
+    demand(len(sample) >= count and meets(case.when, sample[:count]), "the case doesn't admit the choice")
+    try:
+        terms = [read_term(line[7:], results.order, results.parameters, len(sample)) for line in letters.splitlines()]
+    except Refused:
+        raise Wrong("a letter is no term") from None
+    used = set(range(count, len(sample))) <= set().union(*map(levels_of, terms))
+    return sample[:count], [value_at(term, sample) for term in terms], used
+
+
 def judge_difference(results, number, first, second, shortest, output, status):
     """A word that is said to tell the lines of the case of this number apart; the shortest ones have this length."""
     demand(status == 10, f"status {status}: a word of length {shortest} tells the lines apart in case {number}")
@@ -69,16 +82,9 @@ def judge_difference(results, number, first, second, shortest, output, status):
                         r"accepted by (\w+)\n", text)
     demand(form, "the output is no difference")
     demand(form[1] == str(number), f"the first case that differs is {number}")
-    sample, count = scaled(map(int, form[2].split())), len(results.parameters)
-    demand(len(sample) >= count and meets(case.when, sample[:count]), "the case doesn't admit the choice")
-    try:
-        terms = [read_term(line[7:], results.order, results.parameters, len(sample)) for line in form[3].splitlines()]
-    except Refused:
-        raise Wrong("a letter is no term") from None
-    used = set().union(*map(levels_of, terms))
-    demand(set(range(count, len(sample))) <= used, "a number is for no level of a letter")
-    word = [value_at(term, sample) for term in terms]
-    a, b = (machine_at(case, name, sample[:count]) for name in (first, second))
+    choice, word, used = told_word(results, case, form[2], form[3])
+    demand(used, "a number is for no level of a letter")
+    a, b = (machine_at(case, name, choice) for name in (first, second))
     demand(all(contains(a.letters, l) or contains(b.letters, l) for l in word), "a letter is in neither alphabet")
     taken = automata.accepts(a, word), automata.accepts(b, word)
     demand(taken[0] != taken[1], "the word tells nothing apart")

@@ -346,6 +346,7 @@ class Machine:
         widths = ((0, 1, 1, widest), (0, 1))
         self.states = [("s0", 0)] + [(f"s{i + 1}", rng.choice(widths[i])) for i in range(rng.randint(1, 2))]
         self.letters = rng.choice(([(None, 1)], [(None, 1)], [("put", 1), ("get", 0)], [("l", 0)]))
+        self.initial = ["s0"]
         self.final = [s for s, _ in self.states if rng.random() < 0.5]
         self.rules = [r for s in self.states for l in self.letters for r in self.rules_for(s, l)]
 
@@ -397,6 +398,13 @@ class Machine:
             m.states, m.final = [(again.get(s, s), w) for s, w in m.states], [again.get(s, s) for s in m.final]
         return m
 
+    def guess(self):
+        """Further targets of some rules, and sometimes further initial states: with several paths for a word."""
+        more = [(s, l, test, self.goal([f"r{i}" for i in range(s[1])] + [f"l{i}" for i in range(l[1])]))
+                for s, l, test, _ in self.rules if self.rng.random() < 0.4]
+        self.rules = self.rules + more
+        self.initial = self.initial + [s for s, _ in self.states[1:] if self.rng.random() < 0.2]
+
     def pieces(self):
         """The five sets, each as a list of triples of an item, its atoms and its test."""
         def item(name, atoms):
@@ -409,8 +417,8 @@ class Machine:
         for (s, w), (l, v), test, (g, atoms) in self.rules:
             xs, ys = [f"r{i}" for i in range(w)], [f"l{i}" for i in range(v)]
             steps.append(((item(s, xs), item(l, ys), item(g, atoms)), xs + ys, test))
-        return (kinds(self.states, "r"), kinds(self.letters, "l"), steps, [(item("s0", ()), [], ())],
-                kinds([s for s in self.states if s[0] in self.final], "r"))
+        return (kinds(self.states, "r"), kinds(self.letters, "l"), steps,
+                *(kinds([s for s in self.states if s[0] in some], "r") for some in (self.initial, self.final)))
 
     def script(self):
         """The automaton as an expression of a script."""
@@ -526,8 +534,8 @@ def make_answer(rng):
     return "\n".join(lines + ["end", ""]).encode()
 
 
-def make_equal(rng):
-    """Two names, and results with automata of these names."""
+def make_equal(rng, guesses=False):
+    """Two names, and results with automata of these names; those of the first may have several paths for a word."""
     order, parameters = rng.random() < 0.4, rng.choice(([], [], ["a"], ["a", "b"]))
     lines = header(1, order, parameters)
     cases = ["a=b", "a!=b"] if len(parameters) == 2 else ["true"]
@@ -535,13 +543,16 @@ def make_equal(rng):
         m = Machine(rng, order, parameters[:1])
         m.parameters = parameters
         n = m.changed() if rng.random() < 0.85 else Machine(rng, order, parameters)
+        if guesses and rng.random() < 0.6:
+            m.guess()
         lines.append("case when " + case)
         if rng.random() < 0.05:
             lines.append("m = 'early")
         lines += [f"m = {m.term()}", f"n = {n.term()}"][:2 if rng.random() < 0.96 else 1]
         if rng.random() < 0.03:
             lines.append("n = " + Terms(rng, order, parameters).set(len(parameters), 2))
-    return rng.choice((("m", "n"), ("m", "n"), ("n", "m"))), "\n".join(lines + ["end", ""]).encode()
+    names = ("m", "n") if guesses or rng.random() < 0.7 else ("n", "m")
+    return names, "\n".join(lines + ["end", ""]).encode()
 
 
 def make_census(rng):
@@ -636,8 +647,8 @@ def changed(rng, source):
 
 
 def case(kind, seed, number):
-    """The case of a kind and number: the words of the command and the text. Kinds are scripts, texts, equal, registers
-    and census."""
+    """The case of a kind and number: the words of the command and the text. Kinds are scripts, texts, equal, registers,
+    census, word and within."""
     rng = random.Random(f"{kind} {seed} {number}")
     if kind == "scripts":
         return ("run",), make_script(rng)
@@ -648,6 +659,7 @@ def case(kind, seed, number):
     if kind == "registers":
         words, source = ("registers",), make_registers(rng)
     else:
-        names, source = make_equal(rng) if kind == "equal" else make_census(rng)
+        names, source = make_census(rng) if kind == "census" else make_equal(rng, kind != "equal")
+        names = names[:1] if kind == "word" else names
         words = (kind, *names)
     return words, changed(rng, source) if rng.random() < 0.15 else source

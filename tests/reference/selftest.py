@@ -13,6 +13,9 @@ EQUAL = (HEAD + "a = ({'p}, {$0 for $0}, {('p, $0, 'p) for $0}, {'p}, {'p})\n"
 TWO = ("lois results 1\natoms equality\nparameters a b\ncase when true\n"
        "m = ({'s, 't}, {$2 for $2}, {('s, $2, 't) for $2 if $2=a}, {'s}, {'t})\n"
        "n = ({'s, 't}, {$2 for $2}, {('s, $2, 't) for $2 if $2=b}, {'s}, {'t})\nend\n").encode()
+LATE = (HEAD + "a = ({'p}, {$0 for $0}, {('p, $0, 'p) for $0}, {'p}, {'p})\n"
+        "b = ({'p, 'q}, {$0 for $0}, {('p, $0, 'q) for $0}, {'p}, {'q})\nd = ({'p}, {}, {}, {}, {'p})\n"
+        "g = ({'p, 'q}, {$0 for $0}, {('p, $0, 'q) for $0}, {'p, 'q}, {'q})\ns = {'p}\nend\n").encode()
 CENSUS = b"lois results 1\natoms order\nparameters\ncase when true\ns = {($0, $1) for $0 $1, 'p}\nend\n"
 UNORDERED = b"lois results 1\natoms equality\nparameters\ncase when true\ns = {($0, {$1}) for $0 $1}\nend\n"
 REGISTERS = (b"lois registers 1\natoms order\nregisters 1\nstates p q\ninitial p\nfinal q\n"
@@ -73,6 +76,20 @@ PLANTED = [
     (("equal", "a", "c"), EQUAL, "refused: no line c in case 1\n", 5, [("another reason", "no line c", "no line a")]),
     (("equal", "m", "n"), TWO, "differ in case 1\nchoice 0 1\nletter a\naccepted by m\n", 10, [
         ("a choice without a difference", "choice 0 1", "choice 0 0"), ("the other letter", "letter a", "letter b")]),
+    (("word", "b"), LATE, "accepted in case 1\nchoice 0\nletter $0\n", 0, [
+        ("a longer word", "letter $0", "letter $0\nletter $0"), ("a word that isn't accepted", "letter $0\n", ""),
+        ("no word", "", "none\n", 10), ("a number for nothing", "choice 0", "choice 0 1"),
+        ("a letter that is none", "$0\n", "'p\n"), ("another case", "case 1", "case 2")]),
+    (("word", "d"), LATE, "none\n", 10, [("a word", "none\n", "accepted in case 1\nchoice\n", 0)]),
+    (("word", "s"), LATE, "refused: s in case 1 is no automaton\n", 5,
+     [("another reason", "s in case 1 is no automaton", "no line s in case 1")]),
+    (("within", "b", "a"), LATE, "within\n", 0,
+     [("a word", "within\n", "differ in case 1\nchoice 0\nletter $0\naccepted by b\n", 10)]),
+    (("within", "a", "b"), LATE, "differ in case 1\nchoice\naccepted by a\n", 10, [
+        ("a word of both", "choice\n", "choice 0\nletter $0\n"), ("no word", "", "within\n", 0),
+        ("a longer word", "choice\n", "choice 0\nletter $0\nletter $0\n"), ("the other one", "by a", "by b")]),
+    (("within", "b", "g"), LATE, "refused: g in case 1 is no deterministic automaton\n", 5,
+     [("another reason", "no deterministic automaton", "no automaton")]),
     (("census", "s"), CENSUS, "case 1\norbits 4\norbit 'p\nchoice\norbit ($0, $1)\nchoice 0 1\n"
      "orbit ($0, $1)\nchoice 1 0\norbit ($0, $0)\nchoice 0\n", 0, [
          ("an orbit twice", "choice 1 0", "choice 0 1"),

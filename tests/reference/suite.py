@@ -5,10 +5,11 @@ import subprocess
 import sys
 from collections import Counter
 
-from . import census, equal, generate, judge, registers
+from . import census, equal, generate, judge, languages, registers
 from .values import Budget, Undecided
 
 SECONDS = 10  # for the program and for the judge, each
+QUESTIONS = ("word", "within")  # which the program lois_ask answers
 
 
 def judge_answer(words, source, output, status, seconds=SECONDS, normal=True):
@@ -19,6 +20,8 @@ def judge_answer(words, source, output, status, seconds=SECONDS, normal=True):
               "reread": lambda: judge.judge_reread(source, output, status),
               "equal": lambda: equal.judge_equal(*words[1:], source, output, status),
               "census": lambda: census.judge_census(*words[1:], source, output, status),
+              "word": lambda: languages.judge_question(words[1], None, source, output, status),
+              "within": lambda: languages.judge_question(*words[1:], source, output, status),
               "registers": lambda: registers.judge_registers(source, output, status)}
     judges["run" if words[0] == "judge" else words[0]]()
 
@@ -26,7 +29,8 @@ def judge_answer(words, source, output, status, seconds=SECONDS, normal=True):
 def run_case(what):
     """Runs the program on one case: what the case is, whether it passed, failed or is undecided, and what to print of
     it."""
-    program, kind, seed, number = what
+    programs, kind, seed, number = what
+    program = programs[kind in QUESTIONS]
     sys.setrecursionlimit(100_000)
     words, source = generate.case(kind, seed, number)
     try:
@@ -46,12 +50,13 @@ def run_case(what):
 
 def run_suite(args):
     """Runs a program on made scripts, changed texts and cases of the further commands, and judges what it writes."""
-    if not os.access(args.program, os.X_OK):
-        print(f"there is no program {args.program}")
-        return 2
+    for program in filter(None, (args.program, args.ask)):
+        if not os.access(program, os.X_OK):
+            print(f"there is no program {program}")
+            return 2
     counts = [("scripts", args.scripts), ("texts", args.texts)]
-    counts += [(kind, args.further) for kind in ("equal", "registers", "census")]
-    cases = [(args.program, kind, args.seed, number) for kind, count in counts for number in range(count)]
+    counts += [(kind, args.further) for kind in ("equal", "registers", "census", *(QUESTIONS if args.ask else ()))]
+    cases = [((args.program, args.ask), kind, args.seed, number) for kind, count in counts for number in range(count)]
     found, statuses = Counter(), Counter()
     with multiprocessing.Pool(args.jobs, maxtasksperchild=200) as pool:
         for kind, result, text in pool.imap_unordered(run_case, cases, chunksize=4):

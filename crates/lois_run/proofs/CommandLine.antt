@@ -17,31 +17,13 @@ use Rattle.clap.specs.declared.parser.matches.ArgMatches.{ArgMatches}
 use Rattle.clap.proofs.FaultLemmas.{stopped_fault}
 use Rattle.clap.proofs.OnLiterals.{clap_on_literals}
 use Rattle.lois_script.proofs.Lookup.{turned}
-use Rattle.lois_run.specs.CommandLine.{is_dashed, is_option, seen_behind, are_expected, program, command_found}
-use Rattle.lois_run.specs.Words.{command_alone, command_of, command_with_names, command_with_number, free_name, kind_chosen, number_first, number_last, number_named, one_name, option_named, two_names}
+use Rattle.lois_command.proofs.ClapWalk.{HasFault, dashed_free, later, level_fails, or_fault, or_later, plain_apart, plain_long, plain_short, stray, stray_at, stray_fails, walk_at, walk_fails}
+use Rattle.lois_command.specs.CommandWords.{is_dashed}
+use Rattle.lois_run.specs.CommandLine.{is_option, seen_behind, are_expected, program, command_found}
+use Rattle.lois_command.specs.FreeNames.{free_name}
+use Rattle.lois_run.specs.Words.{command_alone, command_of, command_with_names, command_with_number, kind_chosen, number_first, number_last, number_named, one_name, option_named, two_names}
 use Rattle.lois_run.specs.declared.words.Command.{Command}
 use Rattle.lois_run.specs.declared.words.Command.TheVariants.{Run, Check, Reread, Registers, Census}
-
-abbrev pub HasFault : Kinds → Type 0
-HasFault kinds = kinds ≡ [] → ⊥
-
-or_fault : (a b : Kinds) → HasFault a → HasFault (or_else a b)
-or_fault [] b h = λ e. h refl
-or_fault (k ∷ ks) b h = λ e. cc e
-
--- ---- words
-
-plain_long : (w : List ℕ) → is_dashed w ≡ false → long_of w ≡ None
-plain_long [] d = refl
-plain_long (x ∷ xs) d = rw d refl
-
-plain_short : (w : List ℕ) → is_dashed w ≡ false → short_of w ≡ None
-plain_short [] d = refl
-plain_short (x ∷ xs) d = rw d refl
-
-plain_apart : (w t : List ℕ) → is_dashed w ≡ false → bytes_eq w (45 ∷ t) ≡ false
-plain_apart [] t d = refl
-plain_apart (x ∷ xs) t d = rw d refl
 
 option_split : (w : List ℕ) → is_option w ≡ true → (w ≡ codes "--decider") ⊎ ((v : List ℕ) × (w ≡ codes "--decider=" ++ v))
 option_split w h = go (bytes_eq w (codes "--decider")) (starts_with nat_eq w (codes "--decider=")) refl refl h
@@ -71,30 +53,6 @@ once w ws h = go (is_dashed w) refl
     go : (b : Bool) → is_dashed w ≡ b → (is_dashed w ≡ false) × (are_expected true ws ≡ true)
     go true e = cc ((dashed_next true w ws e h).0)
     go false e = (e, plain_next true w ws e h)
-
--- ---- the walk over the words of one level
-
--- where words went to positional arguments before
-abbrev walk_at : ℕ → Held → Walk
-walk_at position h = record (walk_from h) { position = position }
-
--- a word that starts with no hyphen, names no subcommand and goes to no positional argument
-stray : (s : Shape) (names : Names) (position : ℕ) (h : Held) (w : Text) → is_dashed w ≡ false → subcommand_met names idle w ≡ None → arg_by_index s.rules position ≡ None → turn_fault s names (walk_at position h) w ≡ stray_fault s
-stray s names position h w d none nowhere = rw (none, plain_apart w (45 ∷ []) d, plain_long w d, plain_short w d, nowhere) refl
-
-stray_fails : (s : Shape) → HasFault (stray_fault s)
-stray_fails s = go s.is_leaf
-  where
-    go : (b : Bool) → HasFault (if b then kind.UnknownArgument ∷ [] else kind.UnknownArgument ∷ kind.InvalidSubcommand ∷ [])
-    go true = λ e. cc e
-    go false = λ e. cc e
-
-walk_fails : (s : Shape) (names : Names) (w : Walk) (word : Text) (rest : List Text) → HasFault (turn_fault s names w word) → HasFault (walk_fault s names w (word ∷ rest))
-unfolding walk_fault
-walk_fails s names w word rest h = or_fault _ _ h
-
-level_fails : (s : Shape) (names : Names) (words : List Text) (has : Bool) (below : Kinds) → HasFault (walk_fault s names (walk_from nothing_held) words) → HasFault (level_fault s names nothing_held words has below)
-level_fails s names words has below h = or_fault _ _ h
 
 -- ---- the program
 
@@ -173,20 +131,6 @@ module _ (n : Text) (s : Shape) (is : (rest : List Text) → fault_of program (n
       go : (b : Bool) → is_dashed o ≡ b → HasFault (turn_fault s [] (walk_from nothing_held) o)
       go true d = unknown (dashed_next false o more d h).1
       go false d = subst HasFault (sym (stray s [] 1 nothing_held o d refl (ap (λ rules. arg_by_index rules 1) none))) (stray_fails s)
-
--- ---- the walk over the words behind `run` or `make`
-
-or_later : (a b : Kinds) → HasFault b → HasFault (or_else a b)
-or_later [] b h = h
-or_later (k ∷ ks) b h = λ e. cc e
-
--- a word that no argument takes, wherever it stands
-stray_at : (s : Shape) (position : ℕ) (h : Held) (k : Text) (more : List Text) → arg_by_index s.rules position ≡ None → is_dashed k ≡ false → HasFault (walk_fault s [] (walk_at position h) (k ∷ more))
-stray_at s position h k more nowhere d = walk_fails s [] (walk_at position h) k more (subst HasFault (sym (stray s [] position h k d refl nowhere)) (stray_fails s))
-
-later : (s : Shape) (w next : Walk) (o : Text) (rest : List Text) → walked s.rules [] w o ≡ next → HasFault (walk_fault s [] next rest) → HasFault (walk_fault s [] w (o ∷ rest))
-unfolding walk_fault
-later s w next o rest is fails = or_later _ _ (subst (λ (x : Walk). HasFault (walk_fault s [] x rest)) (sym is) fails)
 
 -- ---- `run`
 
@@ -491,10 +435,6 @@ registers_verdict (o ∷ more) h =
     refuses (leaf_fails (codes "registers") (slice_index_or subs 5 top) (fault_is (codes "registers") (slice_index_or subs 5 top) refl refl refl) refl o more h) refl
 
 -- ---- `equal` and `census`, which take names alone
-
-dashed_free : (w : Text) → is_dashed w ≡ true → free_name w ≡ None
-dashed_free [] d = refl
-dashed_free (b ∷ bs) d = let hyphen : b ≡ 45 = grind (arith, nat_tests) in rw hyphen refl
 
 no_second : (first : Option Text) → command_with_names first None ≡ None
 no_second None = refl

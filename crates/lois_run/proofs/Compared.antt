@@ -10,7 +10,7 @@ use Rattle.lois_equal.specs.declared.comparing.Comparison.{Comparison}
 use Rattle.lois_equal.specs.declared.comparing.Comparison.TheVariants.{Alike, Differ, Refused as Unlike}
 use Rattle.lois_equal.specs.declared.comparing.ComparisonFault.{ComparisonFault}
 use Rattle.lois_equal.specs.declared.comparing.ComparisonFault.TheVariants.{NoLine, NotDeterministic}
-use Rattle.lois_run.proofs.Firsts.{all_here, one_first}
+use Rattle.lois_command.proofs.Firsts.{all_here, one_first}
 use Rattle.lois_run.specs.Lines.{compared_outcome}
 use Rattle.lois_run.specs.declared.outcomes.Outcome.TheVariants.{Refused}
 use Rattle.lois_run.specs.declared.outcomes.Refusal.{Refusal}

@@ -9,7 +9,7 @@ use Rattle.lois_census.specs.declared.counting.Answer.{Answer}
 use Rattle.lois_census.specs.declared.counting.Answer.TheVariants.{Listed, Refused as Uncounted}
 use Rattle.lois_census.specs.declared.counting.Refusal.{Refusal as Cause}
 use Rattle.lois_census.specs.declared.counting.Refusal.TheVariants.{HasParameters, NoLine, NotASet}
-use Rattle.lois_run.proofs.Firsts.{all_here, one_first}
+use Rattle.lois_command.proofs.Firsts.{all_here, one_first}
 use Rattle.lois_run.specs.Lines.{listed_outcome}
 use Rattle.lois_run.specs.declared.outcomes.Outcome.TheVariants.{Refused}
 use Rattle.lois_run.specs.declared.outcomes.Refusal.{Refusal}

@@ -1,12 +1,10 @@
 pub mod Numbers
-pub mod FreeNames
 pub mod CommandLine
 pub mod TextsOfOutcomes
 pub mod PathNames
 pub mod Traced
 pub mod Answered
 pub mod LineAnswers
-pub mod Firsts
 pub mod Compared
 pub mod Counted
 pub mod Sure

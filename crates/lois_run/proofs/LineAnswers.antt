@@ -30,24 +30,22 @@ use Rattle.lois_registers.specs.Translation.{IsTranslatedTo}
 use Rattle.lois_registers.specs.declared.RegistersError.TheVariants.{NotRegisters as NoRegisters}
 use Rattle.lois_registers.specs.declared.automata.Registers.{Registers as Automaton}
 use Rattle.lois_run.specs.Causes.{AnswersText}
-use Rattle.lois_run.specs.Lines.{IsResultsRead, compared_outcome, listed_outcome}
-use Rattle.lois_run.specs.Refusals.{IsNoResults}
-use Rattle.lois_run.specs.declared.lines.ResultsRead.TheVariants.{Refused as NotRead}
+use Rattle.lois_command.specs.NoResults.{IsNoResults}
+use Rattle.lois_run.specs.Lines.{compared_outcome, listed_outcome}
 use Rattle.lois_run.specs.declared.outcomes.Outcome.TheVariants.{Refused, Translated}
-use Rattle.lois_run.specs.declared.outcomes.Refusal.{Refusal}
-use Rattle.lois_run.specs.Places.{IsPlaceOf}
-use Rattle.lois_run.specs.declared.outcomes.Refusal.TheVariants.{NotRegisters}
+use Rattle.lois_command.specs.Places.{IsPlaceOf}
+use Rattle.lois_run.specs.declared.outcomes.Refusal.TheVariants.{NotRegisters, NotResults}
 use Rattle.lois_run.specs.declared.words.Command.TheVariants.{Equal, Registers, Census}
 
 module _ (text : List ℕ) where
   no_results : (place : Place) → IsNoResults text place → (r : Results) → IsResultsOf text r → ⊥
   no_results place (k, none, at) r h = none.none r h
 
-  pub no_comparison : (a b : List ℕ) (refusal : Refusal) → IsResultsRead text (NotRead refusal) → AnswersText (Equal a b) text (Refused refusal)
-  no_comparison a b refusal (place, is, none) = subst (λ x. AnswersText (Equal a b) text (Refused x)) (sym is) (record { cause = none; promise = λ l r h. absurd (no_results place none r h); kind = tt })
+  pub no_comparison : (a b : List ℕ) (place : Place) → IsNoResults text place → AnswersText (Equal a b) text (Refused (NotResults place))
+  no_comparison a b place none = record { cause = none; promise = λ l r h. absurd (no_results place none r h); kind = tt }
 
-  pub no_census : (name : List ℕ) (refusal : Refusal) → IsResultsRead text (NotRead refusal) → AnswersText (Census name) text (Refused refusal)
-  no_census name refusal (place, is, none) = subst (λ x. AnswersText (Census name) text (Refused x)) (sym is) (record { cause = none; promise = λ l r h. absurd (no_results place none r h); kind = tt })
+  pub no_census : (name : List ℕ) (place : Place) → IsNoResults text place → AnswersText (Census name) text (Refused (NotResults place))
+  no_census name place none = record { cause = none; promise = λ l r h. absurd (no_results place none r h); kind = tt }
 
   pub translated_is_answered : (r : Automaton) (s : Results) → IsRegistersOf text r → s.order ≡ r.order → s.parameters ≡ []
       → ((t : TermD) × (s.cases ≡ record { «when» = [] ∷ []; lines = record { name = codes "automaton"; term = t } ∷ [] } ∷ []) × IsTranslatedTo r t) → IsSound s

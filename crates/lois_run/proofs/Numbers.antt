@@ -9,7 +9,8 @@ use Rattle.std.proofs.lemmas.Bool.{and_parts, le-leb, leb-true, lt-leb}
 use Rattle.std.proofs.lemmas.Str.Parse.{IsNumeralModel, numerals_by_fold, parse_plain}
 use Rattle.lois_script.specs.Grammar.{decimal, decimal_behind}
 use Rattle.lois_base.specs.declared.deciding.Kind.{Kind}
-use Rattle.lois_run.specs.Words.{Requests, command_alone, command_of, command_with_number, is_loop_count, number_first, number_last, number_named, option_named, command_with_names, free_name, one_name, two_names}
+use Rattle.lois_command.specs.FreeNames.{free_name}
+use Rattle.lois_run.specs.Words.{Requests, command_alone, command_of, command_with_number, is_loop_count, number_first, number_last, number_named, option_named, command_with_names, one_name, two_names}
 use Rattle.lois_run.specs.declared.words.Command.{Command}
 use Rattle.lois_run.specs.declared.words.Command.TheVariants.{Run, Check, Reread, Make, Registers, Census}
 

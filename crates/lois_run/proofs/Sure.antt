@@ -14,7 +14,6 @@ use Rattle.lois_script.specs.Tree.{ScriptD}
 use Rattle.lois_answers.specs.declared.results.Results.{Results}
 use Rattle.lois_census.specs.Refusals.{IsCensusAnswer as IsCounted}
 use Rattle.lois_equal.specs.Comparing.{IsComparison}
-use Rattle.lois_reader.proofs.Determined.{results_are_told}
 use Rattle.lois_reader.specs.Pieces.{Piece, answer_pieces, results_pieces}
 use Rattle.lois_reader.specs.Refusal.{IsAnswerOf, IsResultsOf}
 use Rattle.lois_reader.specs.Shape.{HasAnswerShape, SpellsAnswer, HasResultsShape, SpellsResults, LeavesShapeAt}
@@ -30,12 +29,13 @@ use Rattle.lois_syntax.specs.declared.SyntaxError.TheVariants.{NoScript, TooNest
 use Rattle.lois_run.specs.Causes.{IsRefusedBy, HasCause, IsOfText}
 use Rattle.lois_run.specs.Laws.{RefusalsAreSure}
 use Rattle.lois_run.specs.Read.{SpellsNone}
-use Rattle.lois_run.specs.Places.{IsPlaceOf}
+use Rattle.lois_command.specs.NoResults.{IsNoResults}
+use Rattle.lois_command.proofs.OnePlace.{one_place, one_end, at_once, results_once, same_results}
 use Rattle.lois_registers.proofs.Unique.{one_place as one_line}
 use Rattle.lois_run.proofs.Compared.{compared_once}
 use Rattle.lois_run.proofs.Counted.{counted_once}
 use Rattle.lois_run.specs.Lines.{Compares, Lists, compared_outcome}
-use Rattle.lois_run.specs.Refusals.{token_place, IsLexical, LexicalTells, IsSyntax, SyntaxTells, IsScope, ScopeTells, IsRefusedAs, IsNoneAt, IsAtPlace, IsNoAnswer, IsNoAnswerAt, IsNoResults, IsNoResultsAt, IsNoRegisters, IsNoRegistersAt}
+use Rattle.lois_run.specs.Refusals.{token_place, IsLexical, LexicalTells, IsSyntax, SyntaxTells, IsScope, ScopeTells, IsRefusedAs, IsNoAnswer, IsNoAnswerAt, IsNoRegisters, IsNoRegistersAt}
 use Rattle.lois_run.specs.declared.outcomes.Outcome.{Outcome}
 use Rattle.lois_run.specs.declared.outcomes.Outcome.TheVariants.{Completed, Failed, Reread as WrittenAgain, Checked, Made as WasMade, Same, Differ, Translated, Census as Listed, Refused, ReadFault, Usage}
 use Rattle.lois_run.specs.declared.outcomes.Refusal.{Refusal}
@@ -43,9 +43,6 @@ use Rattle.lois_run.specs.declared.outcomes.Refusal.TheVariants.{TooLong, Lexica
 use Rattle.lois_run.specs.declared.words.Command.TheVariants.{Run, Check, Reread, Make, Equal, Registers, Census}
 
 -- ---- one number, one place
-
-one_place : (text : List ℕ) (at : ℕ) (p q : Place) → IsPlaceOf text at p → IsPlaceOf text at q → p ≡ q
-one_place text at p q a b = λ i. record { line = (a.line ∙ sym b.line) i; column = (a.column ∙ sym b.column) i }
 
 lexical_once : (text : List ℕ) (number at n m : ℕ) (p q : Place) → IsLexical text number at (Lexical n p) → IsLexical text number at (Lexical m q) → Lexical n p ≡ Lexical m q
 lexical_once text number at n m p q a b = λ i. Lexical ((a.0 ∙ sym b.0) i) (one_place text at p q a.1 b.1 i)
@@ -143,33 +140,11 @@ module _ (text : List ℕ) where
 
   -- ---- nothing of a kind has the text
 
-  module _ {V D : Type 0} (Holds : V → Type 0) (Shape : List ℕ → Type 0) (SpelledBy : List ℕ → D → Type 0) (pieces : D → List Piece) where
-    left_once : (k m : ℕ) → LeavesShapeAt Shape text k → LeavesShapeAt Shape text m → k ≡ m
-    left_once k m h g =
-        ⊎_elim (λ less. absurd (h.longest m less g.within g.begins))
-        (λ most. ⊎_elim (λ less. absurd (g.longest k less h.within h.begins)) (λ least. omega arith) (cases_lt m k)) (cases_lt k m)
-
-    some_once : (k m : ℕ) → Some k ≡ Some m → k ≡ m
-    some_once k m e = cc e
-
-    one_end : (has_shape : (d : D) → SpelledBy text d → Shape text) (k m : ℕ) → IsNoneAt Holds Shape SpelledBy pieces text k → IsNoneAt Holds Shape SpelledBy pieces text m → k ≡ m
-    one_end has_shape k m h g =
-        ⊎_elim
-        (λ left. ⊎_elim (λ leaves. left_once k m left leaves) (λ breaks. absurd (left.outside (has_shape breaks.draft breaks.spelled))) g.place)
-        (λ broken. ⊎_elim (λ leaves. absurd (leaves.outside (has_shape broken.draft broken.spelled))) (λ breaks. some_once k m (sym (broken.first broken.draft broken.spelled) ∙ breaks.first broken.draft broken.spelled)) g.place)
-        h.place
-
-  at_once : (At : List ℕ → ℕ → Type 0) → ((k m : ℕ) → At text k → At text m → k ≡ m) → (p q : Place) → IsAtPlace At text p → IsAtPlace At text q → q ≡ p
-  at_once At once p q (k, none, here) (m, never, there) = one_place text k q p (subst (λ x. IsPlaceOf text x q) (once m k never none) there) here
-
   same_answer : (p q : Place) → IsNoAnswer text p → IsNoAnswer text q → q ≡ p
-  same_answer = at_once IsNoAnswerAt (one_end (IsAnswerOf text) HasAnswerShape SpellsAnswer answer_pieces (λ d h. (d, h)))
+  same_answer = at_once text IsNoAnswerAt (one_end text (IsAnswerOf text) HasAnswerShape SpellsAnswer answer_pieces (λ d h. (d, h)))
 
   same_registers : (p q : Place) → IsNoRegisters text p → IsNoRegisters text q → q ≡ p
-  same_registers = at_once IsNoRegistersAt (λ k m h g. one_line text k m h.1 g.1)
-
-  same_results : (p q : Place) → IsNoResults text p → IsNoResults text q → q ≡ p
-  same_results = at_once IsNoResultsAt (one_end (IsResultsOf text) HasResultsShape SpellsResults results_pieces (λ d h. (d, h)))
+  same_registers = at_once text IsNoRegistersAt (λ k m h g. one_line text k m h.1 g.1)
 
   -- ---- whatever else a text comes to
 
@@ -227,9 +202,6 @@ module _ (text : List ℕ) where
 
   -- ---- what is said of results
 
-  results_once : (r s : Results) → IsResultsOf text r → IsResultsOf text s → r ≡ s
-  results_once r s h g = results_are_told r s h.0 g.0 (h.1 ∙ sym g.1)
-
   -- the text isn't that of results, or something is said of its results
   abbrev NoneOr : (Outcome → Type 0) → Outcome → Type 0
   NoneOr Tells o = ((p : Place) × (o ≡ Refused (NotResults p)) × IsNoResults text p) ⊎ Tells o
@@ -237,7 +209,7 @@ module _ (text : List ℕ) where
   module _ (Tells : Outcome → Type 0) (of_results : (o : Outcome) → Tells o → (r : Results) × IsResultsOf text r)
       (once : (r : Refusal) (o : Outcome) → Tells (Refused r) → Tells o → o ≡ Refused r) where
     surely_told : (r : Refusal) (o : Outcome) → NoneOr Tells (Refused r) → NoneOr Tells o → o ≡ Refused r
-    surely_told r o (inl (p, is, none)) (inl (q, e, never)) = e ∙ (ap (λ x. Refused (NotResults x)) (same_results p q none never) ∙ sym is)
+    surely_told r o (inl (p, is, none)) (inl (q, e, never)) = e ∙ (ap (λ x. Refused (NotResults x)) (same_results text p q none never) ∙ sym is)
     surely_told r o (inl (p, is, (k, none, here))) (inr h) = let results = of_results o h in absurd (none.none results.0 results.1)
     surely_told r o (inr h) (inl (q, e, (k, never, there))) = let results = of_results (Refused r) h in absurd (never.none results.0 results.1)
     surely_told r o (inr h) (inr g) = once r o h g
@@ -279,14 +251,14 @@ module _ (text : List ℕ) where
 
   surely_compared : (first second : List ℕ) (r : Refusal) (o : Outcome) → Compares first second text (Refused r) → Compares first second text o → o ≡ Refused r
   surely_compared first second r o h g =
-      let same = results_once g.results h.results g.read h.read in
+      let same = results_once text g.results h.results g.read h.read in
       let found : IsComparison (length h.results.parameters) first second h.results.cases g.comparison = subst (λ (x : Results). IsComparison (length x.parameters) first second x.cases g.comparison) same g.found in
       let told : o ≡ compared_outcome h.results.parameters g.comparison = g.told ∙ ap (λ (x : Results). compared_outcome x.parameters g.comparison) same in
       told ∙ (compared_once (length h.results.parameters) first second h.results.cases h.results.parameters h.comparison g.comparison r h.found found h.told ∙ sym h.told)
 
   surely_listed : (name : List ℕ) (r : Refusal) (o : Outcome) → Lists name text (Refused r) → Lists name text o → o ≡ Refused r
   surely_listed name r o h g =
-      let same = results_once g.results h.results g.read h.read in
+      let same = results_once text g.results h.results g.read h.read in
       let found = subst (λ (x : Results). IsCounted x.order x name g.answer) same g.found in
       g.told ∙ (counted_once h.results name h.results.order h.answer g.answer r h.found found h.told ∙ sym h.told)
 

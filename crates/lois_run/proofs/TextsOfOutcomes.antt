@@ -6,11 +6,12 @@ use Rattle.std.proofs.lemmas.Bool.{false≢true}
 use Rattle.lois_base.specs.declared.deciding.Kind.{Kind}
 use Rattle.lois_base.specs.declared.memory.NoMemory.{NoMemory}
 use Rattle.std.specs.Io.KnownBytes.{Consumes, IsAtEnd}
-use Rattle.lois_outside.specs.Calls.{TakesPieces, no_take, one_more_take}
 use Rattle.lois_outside.specs.Faults.{Rose}
 use Rattle.lois_outside.specs.Reading.{TookAtMost, TookExactly, ReadsToEnd, GivesUp}
 use Rattle.lois_outside.specs.declared.reading.ReadError.TheVariants as unread
-use Rattle.lois_run.specs.Causes.{TakeRelation, Serves, HasRead, HasTaken, HasCause, HasMadeResults, IsMadeBy, ReadsText, Promises, IsOutcomeOf, GaveAtMost, IsOfText, AnswersText}
+use Rattle.lois_command.specs.Calls.{TakeRelation, GaveAtMost}
+use Rattle.lois_command.proofs.Given.{gave_nothing, more, exactly, given}
+use Rattle.lois_run.specs.Causes.{Serves, HasRead, HasTaken, HasCause, HasMadeResults, IsMadeBy, ReadsText, Promises, IsOutcomeOf, IsOfText, AnswersText}
 use Rattle.lois_answers.specs.declared.faults.FaultKind.{FaultKind}
 use Rattle.lois_answers.specs.declared.faults.FaultKind.TheVariants.{Assertion, TurnLimit, DepthLimit, NotASet, NotAtoms, NotATuple, NoSuchPart, NotAutomaton, NotDeterministic, NotComplete}
 use Rattle.lois_run.specs.Outcomes.{made_counts, failure_status, status_of}
@@ -288,58 +289,31 @@ module _ {S : Type 0} (words : List (List ℕ)) (kinds : List Kind) (left : S �
 -- ---- how much was read at most
 
 module _ {S : Type 0} (left : S → Option (List ℕ)) (takes : TakeRelation S) where
-  nothing_taken : (most : ℕ) (at : Option (List ℕ)) → TookAtMost most at at
-  nothing_taken most None = ([], tt, omega arith)
-  nothing_taken most (Some xs) = ([], refl, omega arith)
-
-  pub gave_nothing : (most : ℕ) (at : S) → GaveAtMost left takes most at at
-  gave_nothing most at = record { bytes = []; calls = inl no_take; few = omega arith; taken = nothing_taken most (left at) }
-
-  to_end : (from to : S) (bytes : List ℕ) → ReadsToEnd takes (LONGEST_TEXT + 1) from bytes to → TakesPieces takes (LONGEST_TEXT + 1) from bytes to
-  to_end from to bytes (mid, asked, calls, room, some, last) =
-      subst (λ bs. TakesPieces takes (LONGEST_TEXT + 1) from bs to) (append-nil bytes) (one_more_take bytes [] asked mid to calls room last)
-
-  pub gave_text : (most : ℕ) (from to : S) (bytes : List ℕ) → ReadsToEnd takes (LONGEST_TEXT + 1) from bytes to → length bytes ≤ most → Consumes (left from) (left to) bytes → GaveAtMost left takes most from to
-  gave_text most from to bytes calls few took = record { bytes = bytes; calls = inl (to_end from to bytes calls); few = few; taken = (bytes, took, few) }
-
-  more : (few most : ℕ) (a b : Option (List ℕ)) → few ≤ most → TookAtMost few a b → TookAtMost most a b
-  more few most a b le (bytes, took, count) = (bytes, took, omega (arith, le, count))
-
-  exactly : (n : ℕ) (a b : Option (List ℕ)) → TookExactly n a b → TookAtMost n a b
-  exactly n a b (bytes, took, count) = (bytes, took, omega (arith, count))
-
-  given : (from to : S) (text : List ℕ) → ReadsToEnd takes (LONGEST_TEXT + 1) from text to → length text ≤ LONGEST_TEXT → TookAtMost LONGEST_TEXT (left from) (left to) → GaveAtMost left takes (LONGEST_TEXT + 1) from to
-  given from to text calls few took = record { bytes = text; calls = inl (to_end from to text calls); few = omega (arith, few); taken = more LONGEST_TEXT (LONGEST_TEXT + 1) (left from) (left to) (omega arith) took }
-
   of_outcome : (words : List (List ℕ)) (from to : S) (o : Outcome) → HasRead takes words from to o → HasTaken (left from) (left to) o → GaveAtMost left takes (LONGEST_TEXT + 1) from to
-  of_outcome words from to (Refused TooLong) read took = record { bytes = read.0; calls = inl read.1; few = omega (arith, read.2); taken = exactly 1048577 (left from) (left to) took }
-  of_outcome words from to (Refused (Lexical n p)) read took = given from to read.0 read.1 read.2 took.0
-  of_outcome words from to (Refused (Syntax n p)) read took = given from to read.0 read.1 read.2 took.0
-  of_outcome words from to (Refused (Scope n p)) read took = given from to read.0 read.1 read.2 took.0
-  of_outcome words from to (Refused (NotResults p)) read took = given from to read.0 read.1 read.2 took.0
-  of_outcome words from to (Refused (NotRegisters p)) read took = given from to read.0 read.1 read.2 took.0
-  of_outcome words from to (Refused (NoLine n k)) read took = given from to read.0 read.1 read.2 took.0
-  of_outcome words from to (Refused (NotFit n k)) read took = given from to read.0 read.1 read.2 took.0
-  of_outcome words from to (Refused HasParameters) read took = given from to read.0 read.1 read.2 took.0
-  of_outcome words from to (Refused (NoSet n k)) read took = given from to read.0 read.1 read.2 took.0
-  of_outcome words from to (Completed r) read took = given from to read.0 read.1 read.2 took.0
-  of_outcome words from to (Failed t) read took = given from to read.0 read.1 read.2 took.0
-  of_outcome words from to (WrittenAgain answer) read took = given from to read.0 read.1 read.2 took.0
-  of_outcome words from to (Checked script) read took = given from to read.0 read.1 read.2 took.0
-  of_outcome words from to Same read took = given from to read.0 read.1 read.2 took.0
-  of_outcome words from to (Differ k d name parameters) read took = given from to read.0 read.1 read.2 took.0
-  of_outcome words from to (Translated r) read took = given from to read.0 read.1 read.2 took.0
-  of_outcome words from to (Listed cs) read took = given from to read.0 read.1 read.2 took.0
-  of_outcome words from to ReadFault (bytes, mid, asked, calls, few, room, last) took = record { bytes = bytes; calls = inr (mid, asked, calls, last); few = omega (arith, few); taken = more LONGEST_TEXT (LONGEST_TEXT + 1) (left from) (left to) (omega arith) took }
-  of_outcome words from to (WasMade counts) (same, by) took = subst (GaveAtMost left takes (LONGEST_TEXT + 1) from) same (gave_nothing (LONGEST_TEXT + 1) from)
-  of_outcome words from to Usage same took = subst (GaveAtMost left takes (LONGEST_TEXT + 1) from) same (gave_nothing (LONGEST_TEXT + 1) from)
+  of_outcome words from to (Refused TooLong) read took = record { bytes = read.0; calls = inl read.1; few = omega (arith, read.2); taken = exactly left takes 1048577 (left from) (left to) took }
+  of_outcome words from to (Refused (Lexical n p)) read took = given left takes from to read.0 read.1 read.2 took.0
+  of_outcome words from to (Refused (Syntax n p)) read took = given left takes from to read.0 read.1 read.2 took.0
+  of_outcome words from to (Refused (Scope n p)) read took = given left takes from to read.0 read.1 read.2 took.0
+  of_outcome words from to (Refused (NotResults p)) read took = given left takes from to read.0 read.1 read.2 took.0
+  of_outcome words from to (Refused (NotRegisters p)) read took = given left takes from to read.0 read.1 read.2 took.0
+  of_outcome words from to (Refused (NoLine n k)) read took = given left takes from to read.0 read.1 read.2 took.0
+  of_outcome words from to (Refused (NotFit n k)) read took = given left takes from to read.0 read.1 read.2 took.0
+  of_outcome words from to (Refused HasParameters) read took = given left takes from to read.0 read.1 read.2 took.0
+  of_outcome words from to (Refused (NoSet n k)) read took = given left takes from to read.0 read.1 read.2 took.0
+  of_outcome words from to (Completed r) read took = given left takes from to read.0 read.1 read.2 took.0
+  of_outcome words from to (Failed t) read took = given left takes from to read.0 read.1 read.2 took.0
+  of_outcome words from to (WrittenAgain answer) read took = given left takes from to read.0 read.1 read.2 took.0
+  of_outcome words from to (Checked script) read took = given left takes from to read.0 read.1 read.2 took.0
+  of_outcome words from to Same read took = given left takes from to read.0 read.1 read.2 took.0
+  of_outcome words from to (Differ k d name parameters) read took = given left takes from to read.0 read.1 read.2 took.0
+  of_outcome words from to (Translated r) read took = given left takes from to read.0 read.1 read.2 took.0
+  of_outcome words from to (Listed cs) read took = given left takes from to read.0 read.1 read.2 took.0
+  of_outcome words from to ReadFault (bytes, mid, asked, calls, few, room, last) took = record { bytes = bytes; calls = inr (mid, asked, calls, last); few = omega (arith, few); taken = more left takes LONGEST_TEXT (LONGEST_TEXT + 1) (left from) (left to) (omega arith) took }
+  of_outcome words from to (WasMade counts) (same, by) took = subst (GaveAtMost left takes (LONGEST_TEXT + 1) from) same (gave_nothing left takes (LONGEST_TEXT + 1) from)
+  of_outcome words from to Usage same took = subst (GaveAtMost left takes (LONGEST_TEXT + 1) from) same (gave_nothing left takes (LONGEST_TEXT + 1) from)
 
   pub gave_for : {words : List (List ℕ)} {kinds : List Kind} {faults : S → ℕ} (from to : S) (o : Outcome) → IsOutcomeOf words kinds left faults takes from to o → GaveAtMost left takes (LONGEST_TEXT + 1) from to
   gave_for {words} from to o h = of_outcome words from to o h.read h.taken
-
-  pub whatever_error : {X E : Type 0} (most : ℕ) (from to : S) (r : Result X E) → GaveAtMost left takes most from to → IfErr r (λ e. GaveAtMost left takes most from to)
-  whatever_error most from to (Ok x) h = tt
-  whatever_error most from to (Err e) h = h
 
 -- ---- no outcome has the status of a write fault
 

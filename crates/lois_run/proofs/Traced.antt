@@ -24,7 +24,7 @@ use Rattle.lois_context.specs.Slots.{line_values}
 use Rattle.lois_interp.specs.Interpreted.{parameter_name, IsFailureOf}
 use Rattle.lois_interp.proofs.FreeNames.{are_parameters}
 use Rattle.lois_run.specs.Headline.{NamesFailure}
-use Rattle.lois_run.specs.Places.{IsPlaceOf}
+use Rattle.lois_command.specs.Places.{IsPlaceOf}
 use Rattle.lois_run.proofs.PathNames.{path_free, named_free}
 
 -- a line and a column of a text that is no longer than a script may be

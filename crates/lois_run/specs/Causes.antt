@@ -1,16 +1,14 @@
 -- When each outcome comes, and what the sink is told.
-use Rattle.std.specs.Prelude.{◌≡◌, ◌+◌, ◌≤◌, ◌⊎◌, ◌↔◌, ℕ, List, [], length, Option, None, IfSome}
-use Rattle.std.specs.Io.KnownBytes.{Appends, IsAtEnd}
+use Rattle.std.specs.Prelude.{◌≡◌, ◌+◌, ◌≤◌, ◌⊎◌, ◌↔◌, ℕ, List, length, Option, IfSome}
+use Rattle.std.specs.Io.KnownBytes.{IsAtEnd}
 use Rattle.lois_base.specs.declared.deciding.Kind.{Kind}
 use Rattle.lois_script.specs.Limits.{Spells}
 use Rattle.lois_script.specs.Scope.{IsWellScoped}
 use Rattle.lois_script.specs.Tree.{ScriptD}
 use Rattle.lois_script.specs.View.{script_tree}
 use Rattle.lois_answers.specs.declared.faults.Answer.{Answer}
-use Rattle.lois_outside.specs.Calls.{TakesPieces, Writes}
 use Rattle.lois_outside.specs.Faults.{Rose}
 use Rattle.lois_outside.specs.Reading.{TookAtMost, TookExactly, ReadsToEnd, GivesUp}
-use Rattle.lois_outside.specs.Writing.{AppendsProperPrefix, FailsWriting}
 use Rattle.lois_outside.specs.declared.reading.ReadError.TheVariants as unread
 use Rattle.lois_answers.specs.declared.results.Results.{Results}
 use Rattle.lois_interp.specs.Interpreted.{AreResultsOf}
@@ -20,10 +18,12 @@ use Rattle.lois_reader.specs.Refusal.{IsAnswerOf, IsResultsOf}
 use Rattle.lois_registers.specs.Places.{IsRegistersOf}
 use Rattle.lois_registers.specs.declared.automata.Registers.{Registers as Automaton}
 use Rattle.lois_base.specs.declared.limits.TheConstants.{LONGEST_TEXT}
+use Rattle.lois_command.specs.Calls.{TakeRelation, Puts, TextIsWritten}
+use Rattle.lois_command.specs.NoResults.{IsNoResults}
 use Rattle.lois_run.specs.Headline.{Headline, Completes, NamesFailure}
 use Rattle.lois_run.specs.Outcomes.{status_of, outcome_text, made_counts}
 use Rattle.lois_run.specs.Lines.{Compares, Lists, Translates}
-use Rattle.lois_run.specs.Refusals.{IsRefusedAs, IsNoAnswer, IsNoResults, IsNoRegisters}
+use Rattle.lois_run.specs.Refusals.{IsRefusedAs, IsNoAnswer, IsNoRegisters}
 use Rattle.lois_run.specs.Words.{Requests, IsUsage}
 use Rattle.lois_run.specs.declared.outcomes.Made.{Made}
 use Rattle.lois_run.specs.declared.outcomes.Outcome.{Outcome}
@@ -129,10 +129,6 @@ Promises Registers text fault o = Translating text fault o
 Promises (commands.Census name) text fault o = AboutResults (Lists name text) text fault o
 Promises (Make n kind) text fault o = o ≡ WasMade (made_counts n)
 
--- one call of a source: how many bytes it asked for, and what it was given, or `None` where it failed
-abbrev pub TakeRelation : Type 0 → Type 1
-TakeRelation S = S → ℕ → Option (List ℕ) → S → Type 0
-
 -- the outcome has its cause in the text, and keeps what the command that the words ask for promises of it
 abbrev pub Serves : List (List ℕ) → List ℕ → Outcome → Type 0
 Serves words text o = (command : Command) → Requests command words → HasCause command text o × Promises command text ⊥ o
@@ -161,29 +157,9 @@ pub record IsOutcomeOf {S : Type 0} (words : List (List ℕ)) (kinds : List Kind
   -- unless it is usage, the outcome keeps what the command promises
   pub promise : (command : Command) → Requests command words → (IsUsage words kinds → ⊥) → IfSome (left from) (λ text. Promises command text (Rose (faults from) (faults to)) o)
 
--- calls that gave these bytes, of which the last one may have failed
-abbrev pub Gave : {S : Type 0} → TakeRelation S → S → List ℕ → S → Type 0
-Gave {S} takes from bytes to =
-    TakesPieces takes (LONGEST_TEXT + 1) from bytes to ⊎
-    ((mid : S) × (asked : ℕ) × TakesPieces takes (LONGEST_TEXT + 1) from bytes mid × takes mid asked None to)
-
--- the source has given at most so many bytes, by its calls and by what it has left
-pub record GaveAtMost {S : Type 0} (left : S → Option (List ℕ)) (takes : TakeRelation S) (most : ℕ) (from to : S) : Type 0 where
-  pub bytes : List ℕ
-  pub calls : Gave takes from bytes to
-  pub few : length bytes ≤ most
-  pub taken : TookAtMost most (left from) (left to)
-
--- one call of a sink: the piece that it was handed, and how many of its bytes it took, or `None` where it failed
-abbrev pub Puts : Type 0 → Type 1
-Puts K = K → List ℕ → Option ℕ → K → Type 0
-
--- The status is the outcome's, and the sink has its text whole; or it is 7, the sink's count of faults rose, and the sink
--- has a first part of the text, but not all of it. The same of the calls, where the sink doesn't tell what it holds.
+-- the status is the outcome's, and its text is written
 abbrev pub OutcomeIsWritten : {K : Type 0} → (K → Option (List ℕ)) → (K → ℕ) → Puts K → K → K → Outcome → ℕ → Type 0
-OutcomeIsWritten {K} held faults puts from to o status =
-    ((status ≡ status_of o) × Appends (held from) (held to) (outcome_text o) × Writes puts from (outcome_text o) [] to) ⊎
-    ((status ≡ 7) × Rose (faults from) (faults to) × AppendsProperPrefix (held from) (held to) (outcome_text o) × FailsWriting puts from (outcome_text o) to)
+OutcomeIsWritten {K} held faults puts from to o status = TextIsWritten held faults puts from to (outcome_text o) (status_of o) status
 
 -- a text comes to one of these
 abbrev pub IsOfText : Outcome → Type 0

@@ -1,5 +1,5 @@
 -- The command line as clap is told of it, which words clap is asked about, and what is read of what clap found.
-use Rattle.std.specs.Prelude.{◌&&◌, ◌||◌, ◌==◌, Bool, true, false, not, List, [], ◌∷◌, Option, Some, None, option_map, option_and_then, codes, if◌then◌else◌, bytes_eq, nat_eq, ℕ}
+use Rattle.std.specs.Prelude.{◌&&◌, ◌||◌, Bool, true, false, not, List, [], ◌∷◌, Option, Some, None, option_map, option_and_then, codes, if◌then◌else◌, bytes_eq, nat_eq, ℕ}
 use Rattle.std.specs.List.{starts_with}
 use Rattle.std.specs.Option.{option_map_or}
 use Rattle.clap.specs.Simple.{on_top}
@@ -7,13 +7,11 @@ use Rattle.clap.specs.Walk.{Row}
 use Rattle.clap.specs.Words.{App, Rule, first_of, new_app, new_rule, with_rule, with_subcommand}
 use Rattle.clap.specs.declared.builder.action.ArgAction.TheVariants.{Set}
 use Rattle.lois_base.specs.declared.deciding.Kind.{Kind}
-use Rattle.lois_run.specs.Words.{kind_named, number_named, free_name, command_with_number, command_with_names}
+use Rattle.lois_command.specs.CommandWords.{is_dashed}
+use Rattle.lois_command.specs.FreeNames.{free_name}
+use Rattle.lois_run.specs.Words.{kind_named, number_named, command_with_number, command_with_names}
 use Rattle.lois_run.specs.declared.words.Command.{Command}
 use Rattle.lois_run.specs.declared.words.Command.TheVariants.{Run, Check, Reread, Registers, Census}
-
-abbrev pub is_dashed : List ℕ → Bool
-is_dashed [] = false
-is_dashed (b ∷ bs) = b == 45
 
 -- the option as one word, or as the first of two
 abbrev pub is_option : List ℕ → Bool

@@ -16,7 +16,7 @@ use Rattle.lois_meaning.specs.Runs.{ScriptFails}
 use Rattle.lois_meaning.specs.Store.{NamedValues, AreSameNamed}
 use Rattle.lois_context.specs.Slots.{line_values}
 use Rattle.lois_interp.specs.Interpreted.{parameter_name, IsChoiceOf, AreResultsOf}
-use Rattle.lois_run.specs.Places.{IsPlaceOf}
+use Rattle.lois_command.specs.Places.{IsPlaceOf}
 use Rattle.lois_run.specs.declared.outcomes.Outcome.{Outcome}
 use Rattle.lois_run.specs.declared.outcomes.Outcome.TheVariants.{Completed, Failed, ReadFault}
 

@@ -1,6 +1,5 @@
 pub mod Words
 pub mod CommandLine
-pub mod Places
 pub mod Texts
 pub mod Refusals
 pub mod Read

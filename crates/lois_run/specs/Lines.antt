@@ -15,13 +15,9 @@ use Rattle.lois_census.specs.declared.counting.Refusal.TheVariants as unlisted
 use Rattle.lois_registers.specs.Places.{IsRegistersOf}
 use Rattle.lois_registers.specs.Translation.{IsTranslatedTo}
 use Rattle.lois_registers.specs.declared.automata.Registers.{Registers}
-use Rattle.lois_run.specs.Refusals.{IsNoResults}
 use Rattle.lois_run.specs.declared.outcomes.Outcome.{Outcome}
 use Rattle.lois_run.specs.declared.outcomes.Outcome.TheVariants.{Same, Differ, Census, Refused}
-use Rattle.lois_run.specs.declared.outcomes.Refusal.TheVariants.{NotResults, NoLine, NotDeterministic, HasParameters, NotASet}
-use Rattle.lois_run.specs.declared.lines.ResultsRead.{ResultsRead}
-use Rattle.lois_run.specs.declared.lines.ResultsRead.TheVariants.{Results as Read, Refused as NotRead}
-use Rattle.lois_lexer.specs.declared.Place.{Place}
+use Rattle.lois_run.specs.declared.outcomes.Refusal.TheVariants.{NoLine, NotDeterministic, HasParameters, NotASet}
 
 -- what is found where the lines of two names are compared, as an outcome
 abbrev pub compared_outcome : List (List ℕ) → Comparison → Outcome
@@ -63,8 +59,3 @@ pub record Translates (text : List ℕ) (s : Results) : Type 0 where
   pub parameters : s.parameters ≡ []
   pub case : s.cases ≡ record { «when» = [] ∷ []; lines = record { name = codes "automaton"; term = term } ∷ [] } ∷ []
   pub sound : IsSound s
-
--- ---- what a private contract says
-abbrev pub IsResultsRead : List ℕ → ResultsRead → Type 0
-IsResultsRead text (Read r) = IsResultsOf text r
-IsResultsRead text (NotRead refusal) = (place : Place) × (refusal ≡ NotResults place) × IsNoResults text place

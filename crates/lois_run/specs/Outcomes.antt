@@ -18,7 +18,8 @@ use Rattle.lois_script.specs.View.{script_tree}
 use Rattle.lois_reader.specs.Refusal.{IsSoundAnswer}
 use Rattle.lois_script_printer.specs.Printed.{printed_script}
 use Rattle.lois_script_printer.specs.Unplaced.{IsSpelled}
-use Rattle.lois_run.specs.Texts.{lexical_text, syntax_text, scope_text, placed_text, refused_case_text}
+use Rattle.lois_command.specs.Texts.{placed_text, refused_case_text}
+use Rattle.lois_run.specs.Texts.{lexical_text, syntax_text, scope_text}
 use Rattle.lois_run.specs.declared.outcomes.Made.{Made}
 use Rattle.lois_run.specs.declared.outcomes.Outcome.{Outcome}
 use Rattle.lois_run.specs.declared.outcomes.Outcome.TheVariants.{Completed, Failed, Reread, Checked, Made as WasMade, Same, Differ, Translated, Census, Refused, ReadFault, Usage}

@@ -8,10 +8,9 @@ use Rattle.lois_lexer.specs.declared.Place.{Place}
 use Rattle.lois_lexer.specs.declared.Token.{Token}
 use Rattle.lois_script.specs.Limits.{Spells}
 use Rattle.lois_script.specs.Tree.{ScriptD}
-use Rattle.lois_reader.specs.Pieces.{Piece, answer_pieces, results_pieces}
-use Rattle.lois_reader.specs.Refusal.{NoValueHolds, IsAnswerOf, IsResultsOf, IsOffsetInText, IsErrorPlace}
-use Rattle.lois_reader.specs.Shape.{HasAnswerShape, SpellsAnswer, HasResultsShape, SpellsResults}
-use Rattle.lois_reader.specs.declared.ResultError.TheVariants as results
+use Rattle.lois_reader.specs.Pieces.{answer_pieces}
+use Rattle.lois_reader.specs.Refusal.{IsAnswerOf}
+use Rattle.lois_reader.specs.Shape.{HasAnswerShape, SpellsAnswer}
 use Rattle.lois_scope.specs.Refusals.{IsScopeRefusal as ScopeRefuses}
 use Rattle.lois_scope.specs.declared.checking.ScopeError.{ScopeError}
 use Rattle.lois_scope.specs.declared.checking.ScopeError.TheVariants.{Unknown, Again, OuterAssign, PrintInLoop, OrderInEquality}
@@ -20,7 +19,8 @@ use Rattle.lois_syntax.specs.declared.SyntaxError.{SyntaxError}
 use Rattle.lois_syntax.specs.declared.SyntaxError.TheVariants.{NoScript, TooNested, WideTuple, TurnsTooMany}
 use Rattle.lois_registers.specs.Places.{SpellsNoRegisters as HasNoRegisters, IsFaultPlace as IsRegistersPlace}
 use Rattle.lois_registers.specs.declared.RegistersError.TheVariants.{NotRegisters as NoRegisters}
-use Rattle.lois_run.specs.Places.{IsPlaceOf}
+use Rattle.lois_command.specs.NoResults.{IsNoneAt, IsAtPlace}
+use Rattle.lois_command.specs.Places.{IsPlaceOf}
 use Rattle.lois_run.specs.declared.outcomes.Refusal.{Refusal}
 use Rattle.lois_run.specs.declared.outcomes.Refusal.TheVariants.{Lexical, Syntax, Scope}
 
@@ -72,33 +72,16 @@ IsRefusedAs text (Scope n place) =
     (s : ScriptD) × (error : ScopeError) × Spells text s × ScopeRefuses s error × ScopeTells text error (Scope n place)
 IsRefusedAs text _ = ⊥
 
--- Nothing of a kind has the text. It is refused at k: where it leaves the shape of all texts of the kind, or, where it is of that
--- shape, at the first side rule that it breaks.
-pub record IsNoneAt {V D : Type 0} (Holds : V → Type 0) (Shape : List ℕ → Type 0) (SpelledBy : List ℕ → D → Type 0) (pieces : D → List Piece) (text : List ℕ) (k : ℕ) : Type 0 where
-  pub none : NoValueHolds Holds (results.NotResults k)
-  pub place : IsErrorPlace Shape SpelledBy pieces text (results.NotResults k)
-  pub inside : IsOffsetInText (length text) (results.NotResults k)
-
--- no sound results and no sound trace; no sound results
+-- no sound results and no sound trace
 abbrev pub IsNoAnswerAt : List ℕ → ℕ → Type 0
 IsNoAnswerAt text k = IsNoneAt (IsAnswerOf text) HasAnswerShape SpellsAnswer answer_pieces text k
-
-abbrev pub IsNoResultsAt : List ℕ → ℕ → Type 0
-IsNoResultsAt text k = IsNoneAt (IsResultsOf text) HasResultsShape SpellsResults results_pieces text k
 
 -- no register automaton, at the first line that is at fault
 abbrev pub IsNoRegistersAt : List ℕ → ℕ → Type 0
 IsNoRegistersAt text k = HasNoRegisters text (NoRegisters k) × IsRegistersPlace text (NoRegisters k)
 
--- so at a line and a column
-abbrev pub IsAtPlace : (List ℕ → ℕ → Type 0) → List ℕ → Place → Type 0
-IsAtPlace At text place = (k : ℕ) × At text k × IsPlaceOf text k place
-
 abbrev pub IsNoAnswer : List ℕ → Place → Type 0
 IsNoAnswer = IsAtPlace IsNoAnswerAt
-
-abbrev pub IsNoResults : List ℕ → Place → Type 0
-IsNoResults = IsAtPlace IsNoResultsAt
 
 abbrev pub IsNoRegisters : List ℕ → Place → Type 0
 IsNoRegisters = IsAtPlace IsNoRegistersAt

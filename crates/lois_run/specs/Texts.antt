@@ -1,10 +1,8 @@
 -- The words that a refusal is told by.
-use Rattle.std.specs.Prelude.{ℕ, List, ◌++◌, codes, if◌then◌else◌, ◌==◌}
-use Rattle.std.specs.Fmt.{decimal}
+use Rattle.std.specs.Prelude.{ℕ, List, if◌then◌else◌, ◌==◌}
 use Rattle.lois_script.specs.declared.syntax.Pos.{Pos}
 use Rattle.lois_lexer.specs.Causes.{cause_text as lexical_cause}
 use Rattle.lois_lexer.specs.declared.LexError.TheVariants.{BadByte, LongName, BadNumber}
-use Rattle.lois_lexer.specs.declared.Place.{Place}
 use Rattle.lois_scope.specs.Causes.{cause_text as scope_cause}
 use Rattle.lois_scope.specs.declared.checking.ScopeError.TheVariants.{Unknown, Again, OuterAssign, PrintInLoop, OrderInEquality}
 use Rattle.lois_syntax.specs.Causes.{cause_text as syntax_cause}
@@ -29,10 +27,3 @@ scope_text n =
     (if (n == 2) then (scope_cause (Again place_zero)) else
     (if (n == 3) then (scope_cause (OuterAssign place_zero)) else
     (if (n == 4) then (scope_cause (PrintInLoop place_zero)) else (scope_cause (OrderInEquality place_zero)))))
-
-abbrev pub placed_text : Place → List ℕ → List ℕ
-placed_text place cause = codes "refused at " ++ decimal place.line ++ codes ":" ++ decimal place.column ++ codes ": " ++ cause
-
--- a refusal that names a line of results and the case
-abbrev pub refused_case_text : List ℕ → List ℕ → ℕ → List ℕ → List ℕ
-refused_case_text before name case behind = codes "refused: " ++ before ++ name ++ codes " in case " ++ decimal case ++ behind

@@ -1,16 +1,14 @@
 -- The words that the program takes, each the list of its bytes: `run`, `check`, `reread`, `make` with a number from
 -- 1 to 10,000, `equal` with two names, `registers`, and `census` with a name. `run` and `make` take the option
 -- `--decider plain`, `--decider=plain` or the like, `make` behind the number or before it.
-use Rattle.std.specs.Prelude.{◌≡◌, ◌&&◌, Bool, true, false, IsTrue, not, List, [], ◌∷◌, Option, Some, None, option_map, option_and_then, codes, if◌then◌else◌, bytes_eq, nat_eq, nat_le, length, ℕ}
+use Rattle.std.specs.Prelude.{◌≡◌, ◌&&◌, Bool, true, false, IsTrue, not, List, [], ◌∷◌, Option, Some, None, option_map, option_and_then, codes, if◌then◌else◌, bytes_eq, nat_eq, nat_le, ℕ}
 use Rattle.std.specs.Char.{is_ascii_digit}
-use Rattle.std.specs.List.{All, list_all, list_any, starts_with}
+use Rattle.std.specs.List.{All, list_all, starts_with}
 use Rattle.std.specs.Option.{option_or}
-use Rattle.lois_base.specs.Names.{begins_with_letter, is_name_byte}
 use Rattle.lois_base.specs.declared.deciding.Kind.{Kind}
 use Rattle.lois_base.specs.declared.deciding.Kind.TheVariants.{Plain, Graph, Memo}
-use Rattle.lois_base.specs.declared.limits.TheConstants.{LONGEST_NAME}
 use Rattle.lois_deciders.specs.Choice.{IsUnwanted}
-use Rattle.lois_lexer.specs.Words.{reserved}
+use Rattle.lois_command.specs.FreeNames.{free_name}
 use Rattle.lois_script.specs.Grammar.{decimal}
 use Rattle.lois_run.specs.declared.words.Command.{Command}
 use Rattle.lois_run.specs.declared.words.Command.TheVariants.{Run, Check, Reread, Make, Equal, Registers, Census}
@@ -33,13 +31,6 @@ is_loop_count word = list_all is_ascii_digit word && not (starts_with nat_eq wor
 
 abbrev pub number_named : List ℕ → Option ℕ
 number_named word = if (is_loop_count word) then (Some (decimal word)) else None
-
--- a name that is no word of the language
-abbrev pub is_free : List ℕ → Bool
-is_free word = begins_with_letter word && nat_le (length word) LONGEST_NAME && list_all is_name_byte word && not (list_any (bytes_eq word) reserved)
-
-abbrev pub free_name : List ℕ → Option (List ℕ)
-free_name word = if (is_free word) then (Some word) else None
 
 abbrev pub command_with_names : Option (List ℕ) → Option (List ℕ) → Option Command
 command_with_names first second = option_and_then (λ one. option_map (λ other. Equal one other) second) first

@@ -7,40 +7,20 @@ ghost use Rattle.lois_equal.specs.Comparing.{IsComparison, IfDiffer};
 ghost use Rattle.lois_equal.specs.Differing.{AreBounded};
 ghost use Rattle.lois_run.specs.Causes.{AnswersText};
 ghost use Rattle.lois_run.specs.Outcomes.{HasText};
-ghost use Rattle.lois_run.specs.Lines.{IsResultsRead, compared_outcome, listed_outcome};
+ghost use Rattle.lois_run.specs.Lines.{compared_outcome, listed_outcome};
 ghost use Rattle.lois_run.specs.declared.words.Command.TheVariants.{Equal, Registers, Census};
 
-use crate::reading::place_at;
 use crate::{Outcome, Refusal};
 use lois_answers::Results;
 use lois_base::{Name, Names, NoMemory};
 use lois_census::{Answer, census_of};
+use lois_command::{ResultsRead, place_at, results_of};
 use lois_deciders::Chosen;
 use lois_equal::{Comparison, ComparisonFault, compare};
 use lois_equality::EqualityAtoms;
 use lois_order::OrderAtoms;
-use lois_reader::{ResultError, read_results};
 use lois_registers::{RegistersError, read_registers, translate_to_results};
 use std::alloc::Global;
-
-// What a text is that is to be results.
-#[derive(Drop)]
-enum ResultsRead {
-    Results(Results),
-    Refused(Refusal),
-}
-
-fn results_of(alloc: Global, text: &[u8]) -> Result<ResultsRead, NoMemory>
-    ensures { IfOk result (IsResultsRead text.now) }
-{
-    match read_results(alloc, text) {
-        Ok(results) => Ok(ResultsRead::Results(results)),
-        Err(ResultError::NotResults(offset)) => Ok(ResultsRead::Refused(Refusal::NotResults(
-            place_at(text, offset),
-        ))),
-        Err(ResultError::NoMemory) => Err(NoMemory),
-    }
-}
 
 /// What a results text comes to whose lines of two names are to be compared in each case.
 pub(crate) fn compare_text(
@@ -55,7 +35,7 @@ pub(crate) fn compare_text(
 {
     let results = match results_of(alloc, text)? {
         ResultsRead::Results(results) => results,
-        ResultsRead::Refused(refusal) => return Ok(Outcome::Refused(refusal)),
+        ResultsRead::NotResults(place) => return Ok(Outcome::Refused(Refusal::NotResults(place))),
     };
     let comparison = compared(alloc, &results, first, second, chosen)?;
     Ok(compared_outcome(results.parameters, comparison))
@@ -109,7 +89,7 @@ pub(crate) fn count_text(
 {
     let results = match results_of(alloc, text)? {
         ResultsRead::Results(results) => results,
-        ResultsRead::Refused(refusal) => return Ok(Outcome::Refused(refusal)),
+        ResultsRead::NotResults(place) => return Ok(Outcome::Refused(Refusal::NotResults(place))),
     };
     let answer = counted(alloc, &results, name, chosen)?;
     Ok(counted_outcome(answer))

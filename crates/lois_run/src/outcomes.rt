@@ -6,10 +6,11 @@ ghost use Rattle.lois_answers.specs.ResultsText.{lined};
 ghost use Rattle.lois_answers.specs.TraceText.{answer_text};
 ghost use Rattle.lois_reader.specs.Refusal.{IsSoundAnswer};
 
-use crate::texts::{case_line, lexical_text, refused_line, scope_text, syntax_text, text_line};
+use crate::texts::{lexical_text, scope_text, syntax_text};
 use lois_answers::{Answer, FaultKind, Results, Trace};
 use lois_base::{Name, Names, NoMemory};
 use lois_census::{Censuses, print_censuses};
+use lois_command::{case_line, refused_line, text_line};
 use lois_equal::{Difference, print_difference};
 use lois_lexer::Place;
 use lois_printer::{append, append_count, print_results, print_trace};

@@ -4,13 +4,14 @@ ghost use Rattle.std.specs.Prelude.{◌≡◌, IfOk, MatchResult};
 ghost use Rattle.lois_lexer.specs.declared.LexError.{LexError};
 ghost use Rattle.lois_scope.specs.declared.checking.ScopeError.{ScopeError};
 ghost use Rattle.lois_syntax.specs.declared.SyntaxError.{SyntaxError};
-ghost use Rattle.lois_run.specs.Places.{IsPlaceOf};
+ghost use Rattle.lois_command.specs.Places.{IsPlaceOf};
 ghost use Rattle.lois_run.specs.Refusals.{token_place, LexicalTells, SyntaxTells, ScopeTells};
 ghost use Rattle.lois_run.specs.Read.{IsReadOf};
 
 use crate::Refusal;
 use lois_base::NoMemory;
-use lois_lexer::{LexError, Place, Token, lex, place_of};
+use lois_command::place_at;
+use lois_lexer::{LexError, Place, Token, lex};
 use lois_scope::{ScopeError, Scoped, check};
 use lois_syntax::{SyntaxError, read_script};
 use std::alloc::Global;
@@ -40,13 +41,6 @@ pub(crate) fn read_text(alloc: Global, text: &[u8]) -> Result<Read, NoMemory>
         Ok(scoped) => Ok(Read::Script(scoped)),
         Err(error) => Ok(Read::Refused(scope_refusal(text, error)?)),
     }
-}
-
-/// An offset behind the end stands for the end.
-pub(crate) fn place_at(text: &[u8], offset: usize) -> Place
-    ensures { IsPlaceOf text.now offset result }
-{
-    place_of(text, offset.min(text.len()))
 }
 
 // The place of a token's first byte, or the end of the text where there is no such token.

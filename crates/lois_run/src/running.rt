@@ -12,9 +12,9 @@ ghost use Rattle.lois_script.specs.Limits.{Spells};
 ghost use Rattle.lois_script.specs.View.{script_tree};
 
 use crate::Outcome;
-use crate::reading::place_at;
 use lois_answers::{Lines, Results, Trace, tags_are_names};
 use lois_base::{NoMemory, Numbers};
+use lois_command::place_at;
 use lois_deciders::Chosen;
 use lois_equality::EqualityAtoms;
 use lois_interp::{interpret, parameter_names};

@@ -3,7 +3,8 @@
 ghost use Rattle.std.specs.Prelude.{◌≡◌, ℕ, ◌+◌, ◌≤◌, ◌⊎◌, ◌↔◌, ◌&&◌, List, Option, is_none, IfOk, IfErr, IsSome, IsTrue, Ok, length, map, string_bytes};
 ghost use Rattle.lois_base.specs.declared.deciding.Kind.{Kind};
 ghost use Rattle.lois_outside.specs.Faults.{Rose};
-ghost use Rattle.lois_run.specs.Causes.{AnswersText, ReadsText, IsOutcomeOf, GaveAtMost, OutcomeIsWritten};
+ghost use Rattle.lois_command.specs.Calls.{GaveAtMost};
+ghost use Rattle.lois_run.specs.Causes.{AnswersText, ReadsText, IsOutcomeOf, OutcomeIsWritten};
 ghost use Rattle.lois_base.specs.declared.limits.TheConstants.{LONGEST_TEXT};
 ghost use Rattle.lois_run.specs.Outcomes.{HasText};
 ghost use Rattle.lois_run.specs.Words.{Requests, IsUsage, LacksDecider, wanted_kind, asks_decider};
@@ -12,12 +13,13 @@ ghost use Rattle.lois_run.specs.declared.words.Command.TheVariants.{Run, Check, 
 
 use crate::lines::{compare_text, count_text, translate_text};
 use crate::made::run_make;
-use crate::reading::{Read, place_at, read_text};
+use crate::reading::{Read, read_text};
 use crate::running::run;
 use crate::words::{Command, parse_command};
 use crate::{Outcome, Refusal};
 use lois_base::limits::LONGEST_TEXT;
 use lois_base::{Decider, Kind, NoMemory};
+use lois_command::place_at;
 use lois_deciders::Chosen;
 use lois_outside::{ReadError, Sink, Source, read_all, write_all};
 use lois_reader::{ResultError, read_answer};

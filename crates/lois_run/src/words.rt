@@ -3,13 +3,14 @@
 ghost use Rattle.std.specs.Prelude.{◌≡◌, false, IfOk, map, option_map, option_and_then, string_bytes};
 ghost use Rattle.clap.specs.Words.{app_of, rule_of, subcommand_rows_of};
 ghost use Rattle.clap.specs.declared.builder.command.Command.TheViews.{out-Command};
-ghost use Rattle.lois_run.specs.CommandLine.{are_expected, seen_behind, is_dashed, is_option, decider_option, run_command, make_command, equal_command, census_command, bare_program, with_script_commands, with_answer_commands, program, kind_given, script_command, command_named, command_found};
-ghost use Rattle.lois_run.specs.Words.{command_of, kind_named, number_named, free_name, is_free, command_with_names};
+ghost use Rattle.lois_run.specs.CommandLine.{are_expected, seen_behind, is_option, decider_option, run_command, make_command, equal_command, census_command, bare_program, with_script_commands, with_answer_commands, program, kind_given, script_command, command_named, command_found};
+ghost use Rattle.lois_command.specs.FreeNames.{free_name};
+ghost use Rattle.lois_run.specs.Words.{command_of, kind_named, number_named, command_with_names};
 
 use clap::error::ErrorKind;
 use clap::{Arg, ArgAction, ArgMatches};
-use lois_base::{Kind, Name, NoMemory, is_name};
-use lois_lexer::is_reserved;
+use lois_base::{Kind, Name, NoMemory};
+use lois_command::{free_name, is_dashed};
 use std::alloc::{AllocError, Global};
 
 /// What the program is asked for.
@@ -70,12 +71,6 @@ fn seen_behind(seen: bool, word: &str) -> Option<bool>
     } else {
         None
     }
-}
-
-fn is_dashed(word: &str) -> bool
-    ensures { result ≡ is_dashed word.now }
-{
-    matches!(word.as_bytes(), [b'-', ..])
 }
 
 fn is_option(word: &str) -> bool
@@ -230,26 +225,6 @@ fn census_named(alloc: Global, first: Option<&str>) -> Result<Option<Command>, N
         return Ok(None);
     };
     Ok(Some(Command::Census(name)))
-}
-
-// The name that the word spells, unless it is a word of the language or was not given.
-fn free_name(alloc: Global, word: Option<&str>) -> Result<Option<Name>, NoMemory>
-    ensures { IfOk result (λ o. option_map (λ n. n) o ≡ option_and_then free_name (option_map (λ w. w.now) word.entry)) }
-{
-    let Some(word) = word else {
-        return Ok(None);
-    };
-    if !is_free(word) {
-        return Ok(None);
-    }
-    Ok(Some(Name::from_bytes(alloc, word.as_bytes())?))
-}
-
-fn is_free(word: &str) -> bool
-    ensures { result ≡ is_free word.now }
-{
-    let bytes = word.as_bytes();
-    is_name(bytes) && !is_reserved(bytes)
 }
 
 // The command of a subcommand about scripts, or `reread`.

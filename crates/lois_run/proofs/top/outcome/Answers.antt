@@ -3,7 +3,8 @@ use Rattle.std.proofs.lemmas.Result.{IfOk-weaker}
 use Rattle.lois_base.specs.declared.limits.TheConstants.{LONGEST_TEXT}
 use Rattle.lois_run.specs.Words.{asks_decider}
 use Rattle.lois_run.proofs.Numbers.{made_limits}
-use Rattle.lois_run.proofs.TextsOfOutcomes.{has_decider, has_its_decider, lacks_decider, lacks_its_decider, usage_is_told, gave_nothing, whatever_error}
+use Rattle.lois_command.proofs.Given.{gave_nothing, whatever_error}
+use Rattle.lois_run.proofs.TextsOfOutcomes.{has_decider, has_its_decider, lacks_decider, lacks_its_decider, usage_is_told}
 use Rattle.lois_run.proofs.top.outcome.Goals as goal
 
 pub returns-in_err-command-clause-no_memory : goal.returns-in_err-command-clause-no_memory

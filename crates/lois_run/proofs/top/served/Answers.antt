@@ -5,7 +5,8 @@ use Rattle.lois_base.specs.declared.limits.TheConstants.{LONGEST_TEXT}
 use Rattle.lois_outside.specs.Reading.{ReadsToEnd}
 use Rattle.lois_eval.proofs.LoopExit.{both_ok}
 use Rattle.lois_run.specs.Causes.{IsOutcomeOf}
-use Rattle.lois_run.proofs.TextsOfOutcomes.{reads_text, text_is_told, fault_is_told, long_is_told, made_is_told, gave_nothing, gave_text, whatever_error}
+use Rattle.lois_command.proofs.Given.{gave_nothing, gave_text, whatever_error}
+use Rattle.lois_run.proofs.TextsOfOutcomes.{reads_text, text_is_told, fault_is_told, long_is_told, made_is_told}
 use Rattle.lois_run.proofs.top.served.Goals as goal
 
 pub returns-in-Make-clause-outcome : goal.returns-in-Make-clause-outcome

@@ -1,19 +1,13 @@
-use Rattle.std.proofs.Common.{◌≡◌, List, ℕ, Option, Some, None, codes, option_map, box_value, Box, ap, ap₂, sym, ◌∙◌}
+use Rattle.std.proofs.Common.{◌≡◌, List, ℕ, Some, codes, ap, sym, ◌∙◌}
 use Rattle.std.proofs.lemmas.Result.{IfOk-weaker}
 use Rattle.clap.specs.Matches.{found_of}
-use Rattle.clap.specs.Simple.{subcommand_rows, subcommand_rows_of}
+use Rattle.clap.specs.Simple.{subcommand_rows_of}
 use Rattle.clap.specs.Walk.{Row, rows_of}
-use Rattle.clap.specs.declared.parser.matches.ArgMatches.TheViews.{out-ArgMatches, out-SubCommand}
-use Rattle.clap.specs.declared.parser.matches.SubCommand.{SubCommand}
+use Rattle.clap.specs.declared.parser.matches.ArgMatches.TheViews.{out-ArgMatches}
 use Rattle.clap.proofs.WalkLemmas.{first_value-rows}
-use Rattle.lois_base.proofs.Lists.{same_item}
+use Rattle.lois_command.proofs.ClapWalk.{entered_is}
 use Rattle.lois_run.specs.CommandLine.{command_named, command_found}
 use Rattle.lois_run.proofs.words.command_found.Goals as goal
-
--- the name and the rows of a subcommand, from both
-entered_is : {Z : Type 0} (o : Option (Box SubCommand Z)) (name : List ℕ) (rows : List Row) → Some name ≡ option_map (λ b. (out-SubCommand (box_value b)).name.now) o → Some rows ≡ option_map (λ p. p.1) (subcommand_rows o) → subcommand_rows o ≡ Some (name, rows)
-entered_is None name rows e f = cc e
-entered_is (Some b) name rows e f = sym (ap₂ (λ (n : List ℕ) (r : List Row). Some (n, r)) (same_item name _ e) (same_item rows _ f))
 
 three : {X Y : Type 0} (f : X → X → X → Y) (a a' b b' d d' : X) → a ≡ a' → b ≡ b' → d ≡ d' → f a b d ≡ f a' b' d'
 three f a a' b b' d d' e g h = ap (λ x. f x b d) e ∙ (ap (λ x. f a' x d) g ∙ ap (f a' b') h)

@@ -10,7 +10,7 @@ use Rattle.lois_base.specs.declared.limits.TheConstants.{LONGEST_NAME}
 use Rattle.lois_base.proofs.Booleans.{and_true, never_both, or_second}
 use Rattle.lois_base.proofs.Order.{same_truth}
 use Rattle.lois_lexer.specs.Words.{reserved}
-use Rattle.lois_run.specs.Words.{is_free}
+use Rattle.lois_command.specs.FreeNames.{is_free}
 
 denied : (b : Bool) → (IsTrue b → ⊥) → IsTrue (not b)
 denied true h = absurd (h refl)

@@ -1,7 +1,7 @@
 use Rattle.std.proofs.Common.{ap, ◌∙◌}
-use Rattle.lois_run.specs.Words.{is_free}
-use Rattle.lois_run.proofs.FreeNames.{formed, unformed}
-use Rattle.lois_run.proofs.words.is_free.Goals as goal
+use Rattle.lois_command.specs.FreeNames.{is_free}
+use Rattle.lois_command.proofs.FreeNames.{formed, unformed}
+use Rattle.lois_command.proofs.names.is_free.Goals as goal
 
 pub returns-then-is_name : goal.returns-then-is_name
 returns-then-is_name c =

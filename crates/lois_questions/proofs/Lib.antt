@@ -1,0 +1,4 @@
+pub mod CommandLine
+pub mod TextsOfOutcomes
+pub mod AnswersWritten
+pub mod Sure

@@ -1,0 +1,5 @@
+use Rattle.lois_questions.proofs.Sure.{refusals_are_sure}
+use Rattle.lois_questions.proofs.laws.refusals_are_sure.Goals as goal
+
+pub returns : goal.returns
+returns c = refusals_are_sure

@@ -1,0 +1,13 @@
+-- Refusals exclude every other answer.
+use Rattle.std.specs.Prelude.{◌≡◌, ℕ, List}
+use Rattle.lois_questions.specs.Causes.{HasCause, IsOfText}
+use Rattle.lois_questions.specs.declared.command_line.Question.{Question}
+use Rattle.lois_questions.specs.declared.outcomes.Outcome.{Outcome}
+use Rattle.lois_questions.specs.declared.outcomes.Outcome.TheVariants.{Refused}
+use Rattle.lois_questions.specs.declared.outcomes.Refusal.{Refusal}
+
+-- what is refused for its cause comes to that refusal, and to nothing else that has a cause in the text
+abbrev pub RefusalsAreSure : Type 0
+RefusalsAreSure =
+    (question : Question) (text : List ℕ) (refusal : Refusal) (o : Outcome) → IsOfText (Refused refusal) → HasCause question text (Refused refusal)
+    → IsOfText o → HasCause question text o → o ≡ Refused refusal
