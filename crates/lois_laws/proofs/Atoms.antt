@@ -18,7 +18,7 @@ use Rattle.lois_registers.specs.Runs.{Configuration, Runs, AcceptsAtoms, first}
 use Rattle.lois_registers.specs.Translation.{IsTranslatedTo}
 use Rattle.lois_registers.specs.declared.automata.Registers.{Registers}
 use Rattle.lois_shortest_word.specs.Words.{AcceptsAt, values_at}
-use Rattle.lois_laws.specs.DataWords.{AcceptsAtomsOnlyFirst, TellAtomsApart, IsSide, EqualIsOfDataWords, DifferenceIsOfDataWords}
+use Rattle.lois_laws.specs.DataWords.{AcceptsAtomsOnlyFirst, TellAtomsApart, AcceptsAtomsOnlyOne, EqualIsOfDataWords, DifferenceIsOfDataWords}
 
 abbrev AreEqualAtoms : List Atom → List Atom → Type 0
 AreEqualAtoms = AllZip (λ x y. IsTrue (equal x y))
@@ -83,7 +83,7 @@ difference_is_of_data_words r q t u d one other difference = (side d.left differ
     word : List PointValue
     word = values_at (sampled d.sample) d.word
 
-    side : (left : Bool) → IsAcceptedByOne left t u [] word → (xs : List Atom) × AllZip IsAtomValue word xs × IsSide left r q xs
+    side : (left : Bool) → IsAcceptedByOne left t u [] word → (xs : List Atom) × AllZip IsAtomValue word xs × AcceptsAtomsOnlyOne left r q xs
     side true h = alone_back r q t u one other word h
     side false h = alone_back q r u t other one word h
 

@@ -21,8 +21,7 @@ equal_is_of_the_run s r a b results answer c choice =
     let other = found c b right.one right.lines.printed alike.1 alike.3 right.lines.values in (
       one.0,
       other.0,
-      (right.lines.printed, right.lines.ends, one.1),
-      (right.lines.printed, right.lines.ends, other.1),
+      ((right.lines.printed, right.lines.ends, one.1), (right.lines.printed, right.lines.ends, other.1)),
       λ word apart. alike.4 c (as_many s r results c choice) right.here word (told_same one.0 other.0 (point alike.0 c) (point alike.1 c) word (same_sym (point alike.0 c) one.0 one.2) (same_sym (point alike.1 c) other.0 other.2) apart),
     )
 
@@ -39,7 +38,6 @@ difference_is_of_the_run s r a b name k d results answer =
     let other = found c b first.here right.lines.printed apart.second apart.second_line values in (
       one.0,
       other.0,
-      (right.lines.printed, right.lines.ends, one.1),
-      (right.lines.printed, right.lines.ends, other.1),
+      ((right.lines.printed, right.lines.ends, one.1), (right.lines.printed, right.lines.ends, other.1)),
       told_by d.left apart.first apart.second c one.0 other.0 (values_at (sampled d.sample) d.word) one.2 other.2 apart.difference.apart,
     )

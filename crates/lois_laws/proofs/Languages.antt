@@ -51,8 +51,7 @@ within_is_of_the_run s r a b results answer c choice =
     let other = found c b right.one right.lines.printed within.1 within.3 right.lines.values in (
       one.0,
       other.0,
-      (right.lines.printed, right.lines.ends, one.1),
-      (right.lines.printed, right.lines.ends, other.1),
+      ((right.lines.printed, right.lines.ends, one.1), (right.lines.printed, right.lines.ends, other.1)),
       λ word alone. within.4 c (as_many s r results c choice) right.here word (only_first_same one.0 other.0 (point within.0 c) (point within.1 c) word (same_sym (point within.0 c) one.0 one.2) (same_sym (point within.1 c) other.0 other.2) alone),
     )
 
@@ -70,7 +69,6 @@ beyond_is_of_the_run s r a b name k d results answer =
     let other = found c b first.here right.lines.printed own.1 own.3 values in (
       one.0,
       other.0,
-      (right.lines.printed, right.lines.ends, one.1),
-      (right.lines.printed, right.lines.ends, other.1),
+      ((right.lines.printed, right.lines.ends, one.1), (right.lines.printed, right.lines.ends, other.1)),
       only_first_same (point own.0 c) (point own.1 c) one.0 other.0 (values_at (sampled d.sample) d.word) one.2 other.2 excess.accepted,
     )

@@ -6,7 +6,7 @@ use Rattle.lois_base.specs.Values.{PointValue, point, IsSame}
 use Rattle.lois_base.proofs.Members.{same_sym}
 use Rattle.lois_equal.specs.Differing.{IsAcceptedByOne}
 use Rattle.lois_meaning.proofs.Automata.{automaton_same, automaton_to}
-use Rattle.lois_laws.specs.Printed.{AcceptsWord, AcceptsWordOnlyFirst, AreToldApart, IsToldBy}
+use Rattle.lois_laws.specs.Printed.{AcceptsWord, AcceptsWordOnlyFirst, AreToldApart, AcceptsWordOnlyOne}
 
 pub accepts_same : (v w : PointValue) (word : List PointValue) → IsSame v w → AcceptsWord v word → AcceptsWord w word
 accepts_same v w word s (a, is, h) =
@@ -20,6 +20,6 @@ pub told_same : (v w x y : PointValue) (word : List PointValue) → IsSame v x �
 told_same v w x y word s t (inl h) = inl (only_first_same v w x y word s t h)
 told_same v w x y word s t (inr h) = inr (only_first_same w v y x word t s h)
 
-pub told_by : (left : Bool) (t u : TermD) (c : List Atom) (v w : PointValue) (word : List PointValue) → IsSame (point t c) v → IsSame (point u c) w → IsAcceptedByOne left t u c word → IsToldBy left v w word
+pub told_by : (left : Bool) (t u : TermD) (c : List Atom) (v w : PointValue) (word : List PointValue) → IsSame (point t c) v → IsSame (point u c) w → IsAcceptedByOne left t u c word → AcceptsWordOnlyOne left v w word
 told_by true t u c v w word s k h = only_first_same (point t c) (point u c) v w word s k h
 told_by false t u c v w word s k h = only_first_same (point u c) (point t c) w v word k s h

@@ -12,22 +12,27 @@ use Rattle.lois_registers.specs.Translation.{IsTranslatedTo}
 use Rattle.lois_registers.specs.declared.automata.Registers.{Registers}
 use Rattle.lois_shortest_word.specs.Words.{values_at}
 
+-- the first register automaton accepts the list of atoms, and the second doesn't
 abbrev pub AcceptsAtomsOnlyFirst : Registers → Registers → List Atom → Type 0
 AcceptsAtomsOnlyFirst r q xs = AcceptsAtoms r xs × (AcceptsAtoms q xs → ⊥)
 
+-- exactly one of the two accepts it
 abbrev pub TellAtomsApart : Registers → Registers → List Atom → Type 0
 TellAtomsApart r q xs = AcceptsAtomsOnlyFirst r q xs ⊎ AcceptsAtomsOnlyFirst q r xs
 
-abbrev pub IsSide : Bool → Registers → Registers → List Atom → Type 0
-IsSide true r q xs = AcceptsAtomsOnlyFirst r q xs
-IsSide false r q xs = AcceptsAtomsOnlyFirst q r xs
+-- the first alone where `left` says so, and otherwise the second alone
+abbrev pub AcceptsAtomsOnlyOne : Bool → Registers → Registers → List Atom → Type 0
+AcceptsAtomsOnlyOne true r q xs = AcceptsAtomsOnlyFirst r q xs
+AcceptsAtomsOnlyOne false r q xs = AcceptsAtomsOnlyFirst q r xs
 
 -- no word tells the two terms apart: no list of atoms is accepted by one of the two register automata alone
 abbrev pub EqualIsOfDataWords : Type 0
-EqualIsOfDataWords = (r q : Registers) (t u : TermD) → IsTranslatedTo r t → IsTranslatedTo q u → HaveSameLanguage 0 ([] ∷ []) t u → (xs : List Atom) → TellAtomsApart r q xs → ⊥
+EqualIsOfDataWords = (r q : Registers) (t u : TermD) → IsTranslatedTo r t → IsTranslatedTo q u → HaveSameLanguage 0 ([] ∷ []) t u →
+    (xs : List Atom) → TellAtomsApart r q xs → ⊥
 
 -- a difference is a list of atoms that one of them alone accepts, and no shorter list is one
 abbrev pub DifferenceIsOfDataWords : Type 0
-DifferenceIsOfDataWords = (r q : Registers) (t u : TermD) (d : Difference) → IsTranslatedTo r t → IsTranslatedTo q u → IsDistinguishingWord 0 ([] ∷ []) t u d →
-    ((xs : List Atom) × AllZip IsAtomValue (values_at (sampled d.sample) d.word) xs × IsSide d.left r q xs) ×
+DifferenceIsOfDataWords = (r q : Registers) (t u : TermD) (d : Difference) → IsTranslatedTo r t → IsTranslatedTo q u →
+    IsDistinguishingWord 0 ([] ∷ []) t u d →
+    ((xs : List Atom) × AllZip IsAtomValue (values_at (sampled d.sample) d.word) xs × AcceptsAtomsOnlyOne d.left r q xs) ×
     ((ys : List Atom) → TellAtomsApart r q ys → length d.word ≤ length ys)

@@ -20,16 +20,23 @@ printed_as name lines = last_value (filter (λ (b : NamedValue). bytes_eq b.name
 abbrev pub PrintsAs : ScriptD → List Atom → List ℕ → PointValue → Type 0
 PrintsAs s c name v = (lines : NamedValues) × ScriptEnds s c lines × (printed_as name lines ≡ Some v)
 
+-- so of two names at one choice
+abbrev pub PrintBoth : ScriptD → List Atom → List ℕ → List ℕ → PointValue → PointValue → Type 0
+PrintBoth s c a b v w = PrintsAs s c a v × PrintsAs s c b w
+
+-- the value is an automaton that accepts the word
 abbrev pub AcceptsWord : PointValue → List PointValue → Type 0
 AcceptsWord v word = (a : Automaton) × IsAutomatonOf v a × Accepts a word
 
+-- the first accepts the word, and the second doesn't
 abbrev pub AcceptsWordOnlyFirst : PointValue → PointValue → List PointValue → Type 0
 AcceptsWordOnlyFirst v w word = AcceptsWord v word × (AcceptsWord w word → ⊥)
 
+-- exactly one of the two accepts the word
 abbrev pub AreToldApart : PointValue → PointValue → List PointValue → Type 0
 AreToldApart v w word = AcceptsWordOnlyFirst v w word ⊎ AcceptsWordOnlyFirst w v word
 
 -- the first alone accepts the word where `left` says so, and otherwise the second alone
-abbrev pub IsToldBy : Bool → PointValue → PointValue → List PointValue → Type 0
-IsToldBy true v w word = AcceptsWordOnlyFirst v w word
-IsToldBy false v w word = AcceptsWordOnlyFirst w v word
+abbrev pub AcceptsWordOnlyOne : Bool → PointValue → PointValue → List PointValue → Type 0
+AcceptsWordOnlyOne true v w word = AcceptsWordOnlyFirst v w word
+AcceptsWordOnlyOne false v w word = AcceptsWordOnlyFirst w v word
