@@ -23,7 +23,7 @@ use Rattle.lois_equal.specs.Distinguishing.{AcceptsOnlyFirst, HasLetterAt}
 pub accepts_of : (t : TermD) (c : List Atom) (a : Automaton) → IsAutomatonOf (point t c) a → (word : List PointValue) → AcceptsAt t c word → Accepts a word
 accepts_of t c a is word h = automaton_same (point t c) (point t c) h.0 a (same_refl (point t c)) h.1 is word h.2
 
-letter_of : (t : TermD) (c : List Atom) (a : Automaton) → IsAutomatonOf (point t c) a → (x : PointValue) → HasLetterAt t c x → IsIn x a.letters
+pub letter_of : (t : TermD) (c : List Atom) (a : Automaton) → IsAutomatonOf (point t c) a → (x : PointValue) → HasLetterAt t c x → IsIn x a.letters
 letter_of t c a is x h = same_in x h.0.letters a.letters (automaton_both (point t c) (point t c) h.0 a (same_refl (point t c)) h.1 is).letters h.2
 
 -- the values of an accepted word are letters
@@ -35,7 +35,7 @@ module _ (t : TermD) (c : List Atom) (a : Automaton) (is : IsAutomatonOf (point 
 pub all_letters : (t : TermD) (c : List Atom) (P : PointValue → Type 0) → ((x : PointValue) → HasLetterAt t c x → P x) → (word : List PointValue) → AcceptsAt t c word → All P word
 all_letters t c P each word (a, is, (p, i, (q, j, reads))) = all_read t c a is P each word p q reads
 
-are_letters : (a : Automaton) (word : List PointValue) → All (λ x. IsIn x a.letters) word → AreLetters a word
+pub are_letters : (a : Automaton) (word : List PointValue) → All (λ x. IsIn x a.letters) word → AreLetters a word
 are_letters a [] h = tt
 are_letters a (l ∷ word) h = (All-head (λ x. IsIn x a.letters) l word h, are_letters a word (All-tail (λ x. IsIn x a.letters) l word h))
 

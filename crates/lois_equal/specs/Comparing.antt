@@ -91,6 +91,11 @@ IfDiffer P Alike = Unit {0}
 IfDiffer P (Differ k d name) = P d
 IfDiffer P (Refused r) = Unit {0}
 
+-- the answer says whether the value is a deterministic automaton at each choice that u admits
+abbrev pub DecidesDeterminism : ℕ → List (List Lit) → TermD → Bool → Type 0
+DecidesDeterminism n u t true = HoldsThroughout n u (IsDeterministicAt t)
+DecidesDeterminism n u t false = IsSomewhereNotDeterministic n u t
+
 -- ---- what private contracts say
 -- no reason that a case can't be compared; the reason
 abbrev pub IsReasonOrNone : ℕ → List ℕ → List ℕ → CaseD → Option ComparisonFault → Type 0
@@ -105,11 +110,6 @@ HasFaultNumber k (Some r) = number_of r ≡ k
 abbrev pub IsFirstReason : ℕ → List ℕ → List ℕ → List CaseD → Option ComparisonFault → Type 0
 IsFirstReason n a b cases None = All (AreComparable n a b) cases
 IsFirstReason n a b cases (Some r) = IsFirst (AreComparable n a b) (IsReason n a b r) (number_of r) cases
-
--- the answer says whether the value is a deterministic automaton at each choice that u admits
-abbrev pub DecidesDeterminism : ℕ → List (List Lit) → TermD → Bool → Type 0
-DecidesDeterminism n u t true = HoldsThroughout n u (IsDeterministicAt t)
-DecidesDeterminism n u t false = IsSomewhereNotDeterministic n u t
 
 -- of cases that can all be compared: the first in which the lines differ
 abbrev pub IsFirstDifference : ℕ → List ℕ → List ℕ → List CaseD → Comparison → Type 0

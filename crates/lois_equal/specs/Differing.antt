@@ -44,12 +44,7 @@ pub record IsDistinguishingWord (n : ℕ) (u : List (List Lit)) (t s : TermD) (d
   pub shortest : HoldsThroughout n u (λ c. (word : List PointValue) → TellsApart t s c word → length d.word ≤ length word)
   pub used : AreUsedBetween n (length d.sample) d.word
 
--- each term admits the operators and has tuples of 2 to 8 parts
-pub record AreBounded (o : Bool) (ts : List TermD) : Type 0 where
-  pub operators : All (AdmitsTerm o) ts
-  pub widths : All HasBoundedWidths ts
-
--- ---- what private contracts say
+-- at no choice of n atoms that u admits t accepts a list of values that s doesn't
 abbrev pub IsLanguageIncluded : ℕ → List (List Lit) → TermD → TermD → Type 0
 IsLanguageIncluded n u t s = HoldsThroughout n u (λ c. (word : List PointValue) → AcceptsOnlyFirst t s c word → ⊥)
 
@@ -62,6 +57,12 @@ pub record IsShortestDifference (n : ℕ) (u : List (List Lit)) (t s : TermD) (w
   pub shortest : HoldsThroughout n u (λ c. (word : List PointValue) → AcceptsOnlyFirst t s c word → length w.letters ≤ length word)
   pub used : AreUsedBetween n (length w.sample) w.letters
 
+-- each term admits the operators and has tuples of 2 to 8 parts
+pub record AreBounded (o : Bool) (ts : List TermD) : Type 0 where
+  pub operators : All (AdmitsTerm o) ts
+  pub widths : All HasBoundedWidths ts
+
+-- ---- what private contracts say
 -- the word, with the side that accepts it
 abbrev pub sided : Word → Bool → Equality
 sided w left = Differs (record { sample = w.sample; word = w.letters; left = left })

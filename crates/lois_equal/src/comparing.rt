@@ -118,8 +118,9 @@ fn incomparable_in<T: Structure>(
     Ok(None)
 }
 
-// Whether the value is a deterministic automaton at each choice that `under` admits.
-fn is_deterministic<T: Structure>(
+/// Whether the value is a deterministic automaton at each choice that `under` admits. Errors: `NoMemory`, also where a level would
+/// pass the greatest usize.
+pub fn is_deterministic<T: Structure>(
     alloc: Global,
     t: &Term,
     under: &Constraint,

@@ -8,6 +8,7 @@ mod differing;
 mod sink_steps;
 mod texts;
 
-pub use comparing::{Comparison, ComparisonFault, compare};
+pub use comparing::{Comparison, ComparisonFault, compare, is_deterministic};
+pub use difference::shortest_difference;
 pub use differing::{Difference, Equality, equal};
-pub use texts::print_difference;
+pub use texts::{append_letters, print_difference};

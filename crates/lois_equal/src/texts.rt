@@ -37,8 +37,9 @@ pub fn print_difference(
     Ok(text)
 }
 
-// A line for each letter, inside `size` levels.
-fn append_letters(
+/// A line for each letter, inside `size` levels, at the end of the text. The parameters are the names of the first levels. Errors:
+/// `NoMemory`.
+pub fn append_letters(
     alloc: Global,
     text: &mut Vec<u8>,
     parameters: &Names,

@@ -1,0 +1,12 @@
+use Rattle.std.proofs.Common.{take}
+use Rattle.std.specs.List.{All}
+use Rattle.lois_answers.specs.CaseView.{case_of}
+use Rattle.lois_deciders.specs.OnlyAsked.{HasOnlyAsked}
+use Rattle.lois_languages.specs.Faults.{HasAutomaton}
+use Rattle.lois_languages.proofs.witnesses.first_without_automaton.Given as goal
+
+abbrev pub invariant-loop-index : goal.invariant-loop-index
+invariant-loop-index g l = record {
+  sofar : All (λ x. HasAutomaton l.size l.name (case_of x)) (take l.index l.case-items);
+  only_asked : HasOnlyAsked (λ b. (goal.Decider-dyn g (b.vtable, b.value)).kind_of b.value) (λ b. (goal.Decider-dyn g (b.vtable, b.value)).questions b.value) l.fn.chosen l.chosen;
+}

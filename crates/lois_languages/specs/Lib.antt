@@ -1,0 +1,4 @@
+pub mod Faults
+pub mod Witnesses
+pub mod Inclusions
+pub mod WordText

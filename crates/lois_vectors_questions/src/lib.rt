@@ -1,0 +1,5 @@
+//! Tests of the questions about answers, through the public calls of their crates.
+#![tactic(auto)]
+
+#[cfg(test)]
+mod languages;
