@@ -1,5 +1,5 @@
 -- What clap makes of the words is what they ask.
-use Rattle.std.proofs.Common.{◌≡◌, inl, inr, ℕ, Bool, true, false, List, [], ◌∷◌, ◌++◌, Option, Some, None, codes, refl, sym, ap, ◌∙◌, subst, bytes_eq, find, fold, slice_index_or, append-nil, append_assoc, arith}
+use Rattle.std.proofs.Common.{◌≡◌, inl, inr, Bool, true, false, List, [], ◌∷◌, ◌++◌, Option, Some, None, codes, refl, sym, ap, ◌∙◌, subst, bytes_eq, find, fold, slice_index_or, append-nil, append_assoc, arith}
 use Rattle.std.proofs.lemmas.Bool.Decides.{nat_tests}
 use Rattle.std.proofs.lemmas.Slice.Eq.{bytes_eq-Decides}
 use Rattle.clap.specs.Simple.{Shape, built, label_of, names_of}
@@ -18,7 +18,6 @@ use Rattle.lois_command.specs.FreeNames.{free_name}
 use Rattle.lois_script.proofs.Lookup.{turned}
 use Rattle.lois_questions.specs.CommandLine.{program, question_found}
 use Rattle.lois_questions.specs.Words.{one_name, question_of, question_with_name, question_with_names, two_names}
-use Rattle.lois_questions.specs.declared.command_line.Question.{Question}
 
 plain_next : (w : Text) (ws : List Text) → are_plain (w ∷ ws) ≡ true → (is_dashed w ≡ false) × (are_plain ws ≡ true)
 plain_next w ws h = go (is_dashed w) refl

@@ -1,10 +1,9 @@
 -- The outcome of a call, by what became of the reading.
 use Rattle.std.proofs.Common.{◌≡◌, ℕ, ◌+◌, ◌≤◌, List, ◌++◌, length, refl, sym, ap, ◌∙◌, subst, ◌⊎◌, inl, inr, Option, Some, None, arith, length-append, append-nil}
-use Rattle.std.specs.Prelude.{IfSome}
+use Rattle.std.specs.Prelude.{IfSome, IsNone}
 use Rattle.std.specs.Io.KnownBytes.{Consumes, IsAtEnd}
 use Rattle.lois_base.specs.declared.deciding.Kind.{Kind}
 use Rattle.lois_base.specs.declared.limits.TheConstants.{LONGEST_TEXT}
-use Rattle.lois_answers.specs.declared.results.Results.{Results}
 use Rattle.lois_outside.specs.Faults.{Rose}
 use Rattle.lois_outside.specs.Reading.{TookAtMost, TookExactly, ReadsToEnd, GivesUp}
 use Rattle.lois_outside.specs.declared.reading.ReadError.TheVariants as unread
@@ -23,6 +22,18 @@ one_question q r words a b = some_is (sym a ∙ b)
   where
     some_is : Some q ≡ Some r → q ≡ r
     some_is e = cc e
+
+-- ---- the decider that was handed in
+
+pub none_chosen : {X : Type 0} (chosen : Option X) → ((x : X) → chosen ≡ Some x → ⊥) → IsNone chosen
+none_chosen None h = refl
+none_chosen (Some x) h = absurd (h x refl)
+
+pub some_chosen : {X : Type 0} (chosen : Option X) (x : X) → chosen ≡ Some x → IsNone chosen → ⊥
+some_chosen None x e h = cc e
+some_chosen (Some y) x e h = cc h
+
+-- ---- by what became of the reading
 
 known : (P : List ℕ → Type 0) → ((text : List ℕ) → P text) → (at : Option (List ℕ)) → IfSome at P
 known P p None = tt

@@ -1,6 +1,6 @@
 //! The words of the command line.
 
-ghost use Rattle.std.specs.Prelude.{◌≡◌, IfOk, map, option_map, option_and_then, string_bytes};
+ghost use Rattle.std.specs.Prelude.{◌≡◌, false, IfOk, map, option_map, option_and_then, string_bytes};
 ghost use Rattle.clap.specs.Words.{app_of, subcommand_rows_of};
 ghost use Rattle.clap.specs.declared.builder.command.Command.TheViews.{out-Command};
 ghost use Rattle.lois_command.specs.CommandWords.{are_plain};
@@ -24,10 +24,7 @@ pub(crate) enum Question {
 }
 
 /// What these words ask; `None` where they are none that the program takes.
-pub(crate) fn parse_question(
-    alloc: Global,
-    words: &[String],
-) -> Result<Option<Question>, NoMemory>
+pub(crate) fn parse_question(alloc: Global, words: &[String]) -> Result<Option<Question>, NoMemory>
     ensures { IfOk result (λ o. o ≡ question_of (map string_bytes words.now)) }
 {
     if !are_plain(words) {
