@@ -5,7 +5,6 @@ use lois_deciders::GraphDecider;
 use lois_outside::{MemorySink, MemorySource};
 use lois_questions::lois_ask;
 use std::alloc::{AllocError, Global};
-use std::process::Abort;
 use std::test::Fail;
 
 // `a` takes any word, `d` the empty one alone; `s` is no automaton.
@@ -35,6 +34,11 @@ const ROWS: [AskingRow; 9] = [
     (&["--help"], 9, "usage: lois_ask word A|within A B\n"),
 ];
 
+const NO_TEXT: AskingRow = (&["word", "a"], 5, "refused at 1:1: not results\n");
+
+// The first call of the source fails.
+const FAULT: AskingRow = (&["word", "a"], 6, "");
+
 fn words_of(alloc: Global, words: &[&str]) -> Result<Vec<String>, AllocError> {
     let mut owned = Vec::new(alloc);
     for word in words {
@@ -60,18 +64,15 @@ fn comes_to(alloc: Global, row: AskingRow, text: &[u8], failing: &[u64]) -> Resu
 }
 
 #[test]
-fn questions_are_answered(rt: &impl Abort, alloc: Global) -> Result<(), Fail> {
+fn questions_are_answered(rt: HostRuntime) -> Result<(), Fail> {
+    let alloc = rt.alloc();
     for row in ROWS {
-        assert!(rt; comes_to(alloc, row, TEXT.as_bytes(), &[])?);
+        let told = comes_to(alloc, row, TEXT.as_bytes(), &[])?;
+        assert!(rt; told, "{}", row.2);
     }
-    assert!(rt;
-        comes_to(
-            alloc,
-            (&["word", "a"], 5, "refused at 1:1: not results\n"),
-            b"",
-            &[]
-        )?
-    );
-    assert!(rt; comes_to(alloc, (&["word", "a"], 6, ""), TEXT.as_bytes(), &[0])?);
+    let empty = comes_to(alloc, NO_TEXT, b"", &[])?;
+    assert!(rt; empty);
+    let unread = comes_to(alloc, FAULT, TEXT.as_bytes(), &[0])?;
+    assert!(rt; unread);
     Ok(())
 }
