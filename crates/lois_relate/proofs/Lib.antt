@@ -13,3 +13,5 @@ pub mod Turned
 pub mod Rows
 pub mod Pairs
 pub mod Apart
+pub mod Places
+pub mod Inclusions

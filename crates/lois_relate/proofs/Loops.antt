@@ -65,6 +65,14 @@ module _ (n : ℕ) (Rest Whole : List Atom → Type 0) (A : Bool → Type 0) whe
         | inr p ↦ inr p
       ]
 
+  -- what is true already stays true
+  pub any_cut : (f : FormulaD) → f ≡ all no_formulas → AnySoFar n Rest Whole A f → Defines n Whole A f
+  any_cut f e so_far = record {
+    truth = λ c k. (λ h. (so_far.truth c k).0 (inl h), λ h. subst (FormulaHolds c) (sym e) tt);
+    levels = so_far.levels;
+    operators = so_far.operators;
+  }
+
   -- a part that holds nowhere is passed over
   pub any_pass : (Q Rest' : List Atom → Type 0) (f : FormulaD) → AnySoFar n Rest Whole A f → ((c : List Atom) → Rest c ↔ (Q c ⊎ Rest' c)) → ((c : List Atom) → Q c → ⊥) → AnySoFar n Rest' Whole A f
   any_pass Q Rest' f so_far split never = record {

@@ -1,13 +1,17 @@
 -- What is known of the items of two sets before their inclusions are asked for.
-use Rattle.std.specs.Prelude.{◌≡◌, ℕ, ◌+◌, Some, List, ◌++◌, length, ◌↔◌, Bool, IsTrue, slice_get}
+use Rattle.std.specs.Global.{Vec}
+use Rattle.std.specs.Prelude.{◌≡◌, ℕ, ◌+◌, Some, List, ◌++◌, length, ◌↔◌, Bool, IsTrue, slice_get, Contains}
+use Rattle.std.specs.List.{All}
 use Rattle.lois_base.specs.Atom.{Atom}
 use Rattle.lois_base.specs.Data.{CompD, comp, CompsD}
 use Rattle.lois_base.specs.FormulaData.{FormulaD, FormulaFits}
 use Rattle.lois_base.specs.FormulaTruth.{FormulaHolds}
+use Rattle.lois_base.specs.FormulaView.{view}
 use Rattle.lois_base.specs.Truth.{holds}
 use Rattle.lois_base.specs.Validity.{AdmitsConstraint, AdmitsComp, AdmitsItems, AdmitsFormula}
 use Rattle.lois_base.specs.Values.{SameAt, SomeIsAt, OneIsAt}
 use Rattle.lois_base.specs.declared.guards.Lit.{Lit}
+use Rattle.lois_relate.specs.declared.comparing.Pair.{Pair}
 use Rattle.lois_relate.specs.Built.{Defines}
 use Rattle.lois_relate.specs.Named.{atoms_named, level_range}
 
@@ -48,21 +52,25 @@ abbrev pub DefinesFound : ℕ → List ℕ → CompD → List ℕ → CompsD →
 DefinesFound n sn (comp k h s) tn qs =
     Defines (n + k) (λ c. IsTrue (holds (atoms_named (sn ++ level_range n k) c) h) × SomeIsAt qs (atoms_named tn c) s (atoms_named (sn ++ level_range n k) c)) (λ o. AdmitsComp o (comp k h s) × AdmitsItems o qs)
 
--- row i has f at place j
-abbrev pub IsTableEntry : List (List FormulaD) → ℕ → ℕ → FormulaD → Type 0
-IsTableEntry rows i j f = (row : List FormulaD) × (slice_get rows i ≡ Some row) × (slice_get row j ≡ Some f)
+-- row i has f for the place j
+abbrev pub IsTableEntry : List (Vec Pair) → ℕ → ℕ → FormulaD → Type 0
+IsTableEntry rows i j f = (row : Vec Pair) × (slice_get rows i ≡ Some row) × (p : Pair) × Contains row.items p × (p.place ≡ j) × (view p.there ≡ f)
 
--- what each row has at that place says where the comprehension q is paired with the row's
-abbrev pub IsCached : ℕ → List CompD → List ℕ → CompD → List ℕ → List (List FormulaD) → ℕ → Type 0
+-- what each row has for that place says where the comprehension q is paired with the row's
+abbrev pub IsCached : ℕ → List CompD → List ℕ → CompD → List ℕ → List (Vec Pair) → ℕ → Type 0
 IsCached n ks tn q sn rows j =
     (i : ℕ) (k : CompD) (f : FormulaD) → slice_get ks i ≡ Some k → IsTableEntry rows i j f → DefinesPaired n sn q tn k f
 
--- what the row of the comprehension k has at a place says where it is paired with the one at that place
-abbrev pub IsRow : ℕ → CompD → List ℕ → List CompD → List ℕ → List FormulaD → Type 0
-IsRow n k tn qs sn row =
-    (j : ℕ) (q : CompD) (f : FormulaD) → slice_get qs j ≡ Some q → slice_get row j ≡ Some f → DefinesPaired n sn q tn k f
+-- the pair says where the comprehension k is paired with the one at its place
+abbrev pub SaysPaired : ℕ → CompD → List ℕ → List CompD → List ℕ → Pair → Type 0
+SaysPaired n k tn qs sn p =
+    (q : CompD) → slice_get qs p.place ≡ Some q → DefinesPaired n sn q tn k (view p.there)
 
--- the rows of the comprehensions ks, each beside all of qs
-abbrev pub AreRows : ℕ → List CompD → List ℕ → List CompD → List ℕ → List (List FormulaD) → Type 0
+-- the row of the comprehension k
+abbrev pub IsRow : ℕ → CompD → List ℕ → List CompD → List ℕ → List Pair → Type 0
+IsRow n k tn qs sn = All (SaysPaired n k tn qs sn)
+
+-- the rows of the comprehensions ks, each beside some of qs
+abbrev pub AreRows : ℕ → List CompD → List ℕ → List CompD → List ℕ → List (Vec Pair) → Type 0
 AreRows n ks tn qs sn rows =
-    (i : ℕ) (k : CompD) (row : List FormulaD) → slice_get ks i ≡ Some k → slice_get rows i ≡ Some row → IsRow n k tn qs sn row
+    (i : ℕ) (k : CompD) (row : Vec Pair) → slice_get ks i ≡ Some k → slice_get rows i ≡ Some row → IsRow n k tn qs sn row.items

@@ -5,3 +5,4 @@ pub mod Alike
 pub mod Singles
 pub mod Compared
 pub mod Apart
+pub mod Candidates

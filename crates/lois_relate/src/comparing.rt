@@ -1,12 +1,13 @@
 //! Comparisons of items, used in both directions.
 
-ghost use Rattle.std.specs.Prelude.{◌≡◌, ◌+◌, ◌<◌, ◌^◌, map, IfOk, IfSome};
+ghost use Rattle.std.specs.Prelude.{◌≡◌, ◌+◌, ◌<◌, ◌^◌, IfOk, IfSome, Contains};
 ghost use Rattle.lois_base.specs.FormulaData.{FormulaFits};
-ghost use Rattle.lois_base.specs.FormulaView.{view, views};
+ghost use Rattle.lois_base.specs.FormulaView.{view};
+ghost use Rattle.lois_relate.specs.declared.comparing.Pair.{Pair};
 ghost use Rattle.lois_relate.specs.Compared.{IsEquivalentFormula, IsLevelSwap, IsTableEntry, turned_names};
 
 use crate::naming::{extend_names, guard_formula, inner_size};
-use lois_base::{Formula, Formulas, NoMemory};
+use lois_base::{Formula, NoMemory};
 use lois_elim::quantifier_free;
 use lois_order::OrderAtoms;
 use std::alloc::Global;
@@ -18,22 +19,39 @@ pub struct Comparison {
     pub back: Formula,
 }
 
-/// What is known of one comprehension beside those of a set: for each of these a row, and the place in all rows.
+/// Where a comprehension is paired with the one at a place of another set.
+#[derive(Drop)]
+pub struct Pair {
+    pub place: usize,
+    pub there: Formula,
+}
+
+/// What is known of one comprehension beside those of a set: for each of these a row of pairs, by ascending places, and the place of the comprehension.
 #[derive(Clone, Copy)]
 pub struct PairCache<'a> {
-    pub rows: &'a [Formulas],
+    pub rows: &'a [Vec<Pair>],
     pub place: usize,
 }
 
 impl<'a> PairCache<'a> {
     /// The formula that is known for the comprehension.
     pub fn of(self, comp: usize) -> Option<&'a Formula>
-        ensures { IfSome result (λ f. IsTableEntry (map views self.entry.rows.now) comp self.entry.place (view f.now)) }
+        ensures { IfSome result (λ f. IsTableEntry self.entry.rows.now comp self.entry.place (view f.now)) }
     {
         match self.rows.get(comp) {
-            Some(row) => row.get(self.place),
+            Some(row) => paired_at(row.as_slice(), self.place),
             None => None,
         }
+    }
+}
+
+// What the row has for the place.
+fn paired_at(row: &[Pair], place: usize) -> Option<&Formula>
+    ensures { IfSome result (λ f. (p : Pair) × Contains row.now p × (p.place ≡ place) × (view p.there ≡ view f.now)) }
+{
+    match row.binary_search_by_key(&place, |pair| pair.place) {
+        Ok(found) => Some(&row[found].there),
+        Err(_) => None,
     }
 }
 

@@ -2,6 +2,7 @@
 #![tactic(auto)]
 
 pub mod building;
+mod candidates;
 mod clashes;
 mod comparing;
 mod matching;
@@ -9,4 +10,7 @@ mod naming;
 mod relating;
 
 pub use clashes::clash;
-pub use relating::{equal_formula, included_formula, item_formula, member_formula};
+pub use relating::{
+    equal_formula, included_formula, item_formula, item_formula_among, item_formula_indexed,
+    member_formula,
+};

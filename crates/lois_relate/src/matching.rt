@@ -1,10 +1,12 @@
 //! Terms that are written alike, so that they have the same value everywhere.
 
-ghost use Rattle.std.specs.Prelude.{IsTrue, ◌↔◌};
+ghost use Rattle.std.specs.Prelude.{map, length, IsTrue, ◌↔◌};
 ghost use Rattle.lois_base.specs.Data.{terms_of, comps_of};
 ghost use Rattle.lois_base.specs.Tree.{tree, comp_of};
 ghost use Rattle.lois_relate.specs.Alike.{LevelsMatch, LitsMatch, CubesMatch, GuardsMatch, TermsAlike, PartsAlike, CompsAlike, ItemsAlike, IsListed};
+ghost use Rattle.lois_relate.specs.Named.{AreBelow};
 
+use crate::candidates::Candidates;
 use lois_base::{Comp, Comps, Constraint, Cube, Lit, Term, Terms};
 
 // Whether both levels have one name, or are the same binder inside of the terms.
@@ -115,12 +117,13 @@ fn comps_match(comp: &Comp, s_names: &[usize], other: &Comp, t_names: &[usize]) 
         && terms_match(&comp.item, s_names, &other.item, t_names)
 }
 
-// Whether the set has a comprehension that is written as this one is.
-pub fn is_listed(comp: &Comp, s_names: &[usize], others: &Comps, t_names: &[usize]) -> bool
-    ensures { IsTrue result ↔ IsListed s_names.now t_names.now (comp_of comp.now) (comps_of others.now) }
+// Whether one of the candidates is written as this comprehension is.
+pub fn is_listed(comp: &Comp, s_names: &[usize], others: Candidates<'_>, t_names: &[usize]) -> bool
+    requires { AreBelow (length others.comps.now) others.places.now }
+    ensures { IsTrue result → IsListed s_names.now t_names.now (comp_of comp.now) (comps_of (map comp_of others.entry.comps.now)) }
 {
-    for other in others.as_slice() {
-        if comps_match(comp, s_names, other, t_names) {
+    for place in others.places {
+        if comps_match(comp, s_names, &others.comps[*place], t_names) {
             return true;
         }
     }

@@ -1,16 +1,19 @@
 //! Equality, membership and inclusion, by recursion on both terms.
 
+ghost use Rattle.std.specs.List.{All};
 ghost use Rattle.std.specs.Prelude.{◌≡◌, ℕ, ◌+◌, ◌<◌, Bool, [], ◌∷◌, ◌++◌, length, map, IfOk, IfSome, IfNone, IsTrue};
 ghost use Rattle.lois_base.specs.Atom.{equal};
 ghost use Rattle.lois_base.specs.Data.{coll, more, no_comps, terms_of, comps_of};
 ghost use Rattle.lois_base.specs.Fits.{ConstraintFits, Fits, PartsFit, CompFits, ItemsFit};
 ghost use Rattle.lois_base.specs.FormulaData.{FormulaFits};
-ghost use Rattle.lois_base.specs.FormulaView.{view, views};
+ghost use Rattle.lois_base.specs.FormulaView.{view};
 ghost use Rattle.lois_base.specs.Truth.{atom_at};
 ghost use Rattle.lois_base.specs.Tree.{tree, comp_of};
 ghost use Rattle.lois_base.specs.Validity.{AdmitsTerm, AdmitsParts, AdmitsComp, AdmitsItems, AdmitsFormula};
 ghost use Rattle.lois_base.specs.Values.{SameAt, SamePartsAt, AllInAt, EachInAt, SomeIsAt, OneIsAt};
 ghost use Rattle.lois_terms.specs.Guarded.{IsColl};
+ghost use Rattle.lois_terms.specs.Shapes.{item_shape};
+ghost use Rattle.lois_relate.specs.Candidates.{comps_at, AreCandidates};
 ghost use Rattle.lois_relate.specs.Built.{Defines};
 ghost use Rattle.lois_relate.specs.Compared.{IsForEach, DefinesPaired, DefinesItem, DefinesFound, IsCached, IsRow, AreRows};
 ghost use Rattle.lois_relate.specs.Named.{atoms_named, AreBelow, level_range};
@@ -21,11 +24,13 @@ use crate::building::{
     conjunction, disjunction, false_formula, for_some, implication, is_false_formula,
     is_true_formula, negation, true_formula,
 };
+use crate::candidates::{Candidates, IndexedComps, all_places};
 use crate::clashes::leaves_out;
-use crate::comparing::{Comparison, PairCache, both_ways};
+use crate::comparing::{Comparison, Pair, PairCache, both_ways};
 use crate::matching::{is_listed, sets_match};
 use crate::naming::{extend_names, guard_formula, inner_size};
-use lois_base::{Comp, Comps, Formula, Formulas, Lit, NoMemory, Op, Term, Terms};
+use lois_base::{Comp, Comps, Formula, Lit, NoMemory, Op, Term, Terms};
+use lois_terms::{Index, index_by_shape};
 use std::alloc::Global;
 
 /// A formula that holds at each choice of `size` atoms exactly where the two terms have the same value. It has `<` only where a term has it. Errors: `NoMemory`, also where a level would pass the greatest usize.
@@ -53,7 +58,15 @@ pub fn member_formula(alloc: Global, s: &Term, t: &Term, size: usize) -> Result<
     let levels = extend_names(alloc, &[], 0, size)?;
     let own = levels.as_slice();
     match t {
-        Term::Coll(comps) => member(alloc, s, own, comps.as_slice(), own, size),
+        Term::Coll(comps) => {
+            let items = comps.as_slice();
+            let places = all_places(alloc, items.len())?;
+            let all = Candidates {
+                comps: items,
+                places: places.as_slice(),
+            };
+            member(alloc, s, own, all, own, size)
+        }
         _ => unreachable!(),
     }
 }
@@ -72,11 +85,59 @@ pub fn item_formula(
     ensures levels { IfOk result (λ f. FormulaFits (size + binders) (view f)) }
     ensures operators { IfOk result (λ f. (ordered : Bool) → AdmitsTerm ordered (tree item.now) → AdmitsItems ordered (comps_of (map comp_of others.now)) → AdmitsFormula ordered (view f)) }
 {
+    let places = all_places(alloc, others.len())?;
+    item_formula_among(alloc, item, others, places.as_slice(), size, binders)
+}
+
+/// As `item_formula`, with the index of the others' shapes, so that only those are looked at that may have the item: for a set that is asked often.
+pub fn item_formula_indexed(
+    alloc: Global,
+    item: &Term,
+    others: &[Comp],
+    index: &Index,
+    size: usize,
+    binders: usize,
+) -> Result<Formula, NoMemory>
+    requires element { Fits (size + binders) (tree item.now) }
+    requires levels { ItemsFit size (comps_of (map comp_of others.now)) }
+    requires shapes { index.now ≡ map item_shape (map comp_of others.now) }
+    ensures truth { IfOk result (λ f. HoldsWhereItemIn size binders (tree item.now) (comps_of (map comp_of others.now)) (view f)) }
+    ensures levels { IfOk result (λ f. FormulaFits (size + binders) (view f)) }
+    ensures operators { IfOk result (λ f. (ordered : Bool) → AdmitsTerm ordered (tree item.now) → AdmitsItems ordered (comps_of (map comp_of others.now)) → AdmitsFormula ordered (view f)) }
+{
+    let all = IndexedComps {
+        comps: others,
+        index,
+    };
+    let places = all.candidates(item);
+    item_formula_among(alloc, item, others, places, size, binders)
+}
+
+/// As `item_formula`, of those of the others that stand at the places.
+pub fn item_formula_among(
+    alloc: Global,
+    item: &Term,
+    others: &[Comp],
+    places: &[usize],
+    size: usize,
+    binders: usize,
+) -> Result<Formula, NoMemory>
+    requires element { Fits (size + binders) (tree item.now) }
+    requires levels { ItemsFit size (comps_of (map comp_of others.now)) }
+    requires places { All (λ i. i < length others.now) places.now }
+    ensures truth { IfOk result (λ f. HoldsWhereItemIn size binders (tree item.now) (comps_at (map comp_of others.now) places.now) (view f)) }
+    ensures levels { IfOk result (λ f. FormulaFits (size + binders) (view f)) }
+    ensures operators { IfOk result (λ f. (ordered : Bool) → AdmitsTerm ordered (tree item.now) → AdmitsItems ordered (comps_of (map comp_of others.now)) → AdmitsFormula ordered (view f)) }
+{
     let inner = inner_size(size, binders)?;
     let levels = extend_names(alloc, &[], 0, size)?;
     let own = levels.as_slice();
     let longer = extend_names(alloc, own, size, binders)?;
-    member(alloc, item, longer.as_slice(), others, own, inner)
+    let among = Candidates {
+        comps: others,
+        places,
+    };
+    member(alloc, item, longer.as_slice(), among, own, inner)
 }
 
 /// A formula that holds at each choice of `size` atoms exactly where each member of the set `s` is in the set `t`. It has `<` only where a term has it. Errors: `NoMemory`, also where a level would pass the greatest usize.
@@ -93,7 +154,13 @@ pub fn included_formula(alloc: Global, s: &Term, t: &Term, size: usize) -> Resul
     let own = levels.as_slice();
     match (s, t) {
         (Term::Coll(comps), Term::Coll(others)) => {
-            included(alloc, &[], comps, own, others, own, size)
+            let other_items = others.as_slice();
+            let index = index_by_shape(alloc, other_items)?;
+            let all = IndexedComps {
+                comps: other_items,
+                index: &index,
+            };
+            included(alloc, &[], comps, own, all, own, size)
         }
         _ => unreachable!(),
     }
@@ -203,19 +270,24 @@ fn same_sets(
             return same_singles(alloc, one, s_names, other, t_names, size);
         }
     }
-    let there = sets_compared(alloc, comps, s_names, others, t_names, size)?;
+    let other_items = others.as_slice();
+    let other_index = index_by_shape(alloc, other_items)?;
+    let other_set = IndexedComps {
+        comps: other_items,
+        index: &other_index,
+    };
+    let there = sets_compared(alloc, comps, s_names, other_set, t_names, size)?;
     if is_false_formula(&there.included) {
         return Ok(there.included);
     }
-    let back = included(
-        alloc,
-        there.rows.as_slice(),
-        others,
-        t_names,
-        comps,
-        s_names,
-        size,
-    )?;
+    let items = comps.as_slice();
+    let index = index_by_shape(alloc, items)?;
+    let set = IndexedComps {
+        comps: items,
+        index: &index,
+    };
+    let rows = there.rows.as_slice();
+    let back = included(alloc, rows, others, t_names, set, s_names, size)?;
     conjunction(alloc, there.included, back)
 }
 
@@ -263,25 +335,30 @@ fn same_singles(
 #[cycle(relating)]
 fn included(
     alloc: Global,
-    rows: &[Formulas],
+    rows: &[Vec<Pair>],
     comps: &Comps,
     s_names: &[usize],
-    others: &Comps,
+    others: IndexedComps<'_>,
     t_names: &[usize],
     size: usize,
 ) -> Result<Formula, NoMemory>
     requires left { ItemsFit (length s_names.now) (comps_of comps.now) }
     requires left_names { AreBelow size s_names.now }
-    requires right { ItemsFit (length t_names.now) (comps_of others.now) }
+    requires right { ItemsFit (length t_names.now) (comps_of (map comp_of others.comps.now)) }
     requires right_names { AreBelow size t_names.now }
-    requires rows { AreRows size others.now t_names.now comps.now s_names.now (map views rows.now) }
-    ensures { IfOk result (λ f. Defines size (λ c. AllInAt (comps_of comps.now) (atoms_named s_names.now c) (comps_of others.now) (atoms_named t_names.now c)) (λ o. AdmitsItems o (comps_of comps.now) × AdmitsItems o (comps_of others.now)) (view f)) }
+    requires shapes { others.index.now ≡ map item_shape (map comp_of others.comps.now) }
+    requires rows { AreRows size (map comp_of others.comps.now) t_names.now comps.now s_names.now rows.now }
+    ensures { IfOk result (λ f. Defines size (λ c. AllInAt (comps_of comps.now) (atoms_named s_names.now c) (comps_of (map comp_of others.entry.comps.now)) (atoms_named t_names.now c)) (λ o. AdmitsItems o (comps_of comps.now) × AdmitsItems o (comps_of (map comp_of others.entry.comps.now))) (view f)) }
 {
     let mut met = true_formula(alloc);
     let items = comps.as_slice();
     for (place, comp) in items.iter().enumerate() {
         let known = PairCache { rows, place };
-        let one = each_in(alloc, known, comp, s_names, others, t_names, size)?;
+        let near = Candidates {
+            comps: others.comps,
+            places: others.candidates(&comp.item),
+        };
+        let one = each_in(alloc, known, comp, s_names, near, t_names, size)?;
         met = conjunction(alloc, met, one)?;
         if is_false_formula(&met) {
             return Ok(met);
@@ -297,30 +374,24 @@ fn each_in(
     known: PairCache<'_>,
     comp: &Comp,
     s_names: &[usize],
-    others: &Comps,
+    others: Candidates<'_>,
     t_names: &[usize],
     size: usize,
 ) -> Result<Formula, NoMemory>
     requires left { CompFits (length s_names.now) (comp_of comp.now) }
     requires left_names { AreBelow size s_names.now }
-    requires right { ItemsFit (length t_names.now) (comps_of others.now) }
+    requires right { ItemsFit (length t_names.now) (comps_of (map comp_of others.comps.now)) }
     requires right_names { AreBelow size t_names.now }
-    requires known { IsCached size others.now t_names.now (comp_of comp.now) s_names.now (map views known.rows.now) known.place }
-    ensures { IfOk result (λ f. Defines size (λ c. EachInAt (comp_of comp.now) (atoms_named s_names.now c) (comps_of others.now) (atoms_named t_names.now c)) (λ o. AdmitsComp o (comp_of comp.now) × AdmitsItems o (comps_of others.now)) (view f)) }
+    requires places { AreBelow (length others.comps.now) others.places.now }
+    requires candidates { AreCandidates (map comp_of others.comps.now) (tree comp.now.item) others.places.now }
+    requires known { IsCached size (map comp_of others.comps.now) t_names.now (comp_of comp.now) s_names.now known.rows.now known.place }
+    ensures { IfOk result (λ f. Defines size (λ c. EachInAt (comp_of comp.now) (atoms_named s_names.now c) (comps_of (map comp_of others.entry.comps.now)) (atoms_named t_names.now c)) (λ o. AdmitsComp o (comp_of comp.now) × AdmitsItems o (comps_of (map comp_of others.entry.comps.now))) (view f)) }
 {
     if is_listed(comp, s_names, others, t_names) {
         return Ok(true_formula(alloc));
     }
     let longer = extend_names(alloc, s_names, size, comp.binders)?;
-    let found = found_in(
-        alloc,
-        known,
-        comp,
-        s_names,
-        others.as_slice(),
-        t_names,
-        size,
-    )?;
+    let found = found_in(alloc, known, comp, s_names, others, t_names, size)?;
     none_missing(alloc, found, comp, longer.as_slice())
 }
 
@@ -346,20 +417,23 @@ fn found_in(
     known: PairCache<'_>,
     comp: &Comp,
     s_names: &[usize],
-    others: &[Comp],
+    others: Candidates<'_>,
     t_names: &[usize],
     size: usize,
 ) -> Result<Formula, NoMemory>
     requires left { CompFits (length s_names.now) (comp_of comp.now) }
     requires left_names { AreBelow size s_names.now }
-    requires right { ItemsFit (length t_names.now) (comps_of (map comp_of others.now)) }
+    requires right { ItemsFit (length t_names.now) (comps_of (map comp_of others.comps.now)) }
     requires right_names { AreBelow size t_names.now }
-    requires known { IsCached size (map comp_of others.now) t_names.now (comp_of comp.now) s_names.now (map views known.rows.now) known.place }
-    ensures { IfOk result (λ f. DefinesFound size s_names.now (comp_of comp.now) t_names.now (comps_of (map comp_of others.now)) (view f)) }
+    requires places { AreBelow (length others.comps.now) others.places.now }
+    requires candidates { AreCandidates (map comp_of others.comps.now) (tree comp.now.item) others.places.now }
+    requires known { IsCached size (map comp_of others.comps.now) t_names.now (comp_of comp.now) s_names.now known.rows.now known.place }
+    ensures { IfOk result (λ f. DefinesFound size s_names.now (comp_of comp.now) t_names.now (comps_of (map comp_of others.entry.comps.now)) (view f)) }
 {
     let mut found = false_formula(alloc);
-    for (i, other) in others.iter().enumerate() {
-        let one = one_found(alloc, known.of(i), comp, s_names, other, t_names, size)?;
+    for place in others.places {
+        let other = &others.comps[*place];
+        let one = one_found(alloc, known.of(*place), comp, s_names, other, t_names, size)?;
         found = disjunction(alloc, found, one)?;
         if is_true_formula(&found) {
             return Ok(found);
@@ -399,23 +473,25 @@ fn one_found(
     conjunction(alloc, guard_formula(alloc, &comp.guard, names)?, one)
 }
 
-// Where the value is in the set of the comprehensions.
+// Where the value is in the set of the comprehensions at the places.
 fn member(
     alloc: Global,
     s: &Term,
     s_names: &[usize],
-    comps: &[Comp],
+    among: Candidates<'_>,
     t_names: &[usize],
     size: usize,
 ) -> Result<Formula, NoMemory>
     requires left { Fits (length s_names.now) (tree s.now) }
     requires left_names { AreBelow size s_names.now }
-    requires right { ItemsFit (length t_names.now) (comps_of (map comp_of comps.now)) }
+    requires right { ItemsFit (length t_names.now) (comps_of (map comp_of among.comps.now)) }
     requires right_names { AreBelow size t_names.now }
-    ensures { IfOk result (λ f. Defines size (λ c. SomeIsAt (comps_of (map comp_of comps.now)) (atoms_named t_names.now c) (tree s.now) (atoms_named s_names.now c)) (λ o. AdmitsItems o (comps_of (map comp_of comps.now)) × AdmitsTerm o (tree s.now)) (view f)) }
+    requires places { AreBelow (length among.comps.now) among.places.now }
+    ensures { IfOk result (λ f. Defines size (λ c. SomeIsAt (comps_at (map comp_of among.entry.comps.now) among.entry.places.now) (atoms_named t_names.now c) (tree s.now) (atoms_named s_names.now c)) (λ o. AdmitsItems o (comps_of (map comp_of among.entry.comps.now)) × AdmitsTerm o (tree s.now)) (view f)) }
 {
     let mut found = false_formula(alloc);
-    for comp in comps {
+    for place in among.places {
+        let comp = &among.comps[*place];
         if !leaves_out(comp, s) {
             let one = is_item(alloc, s, s_names, comp, t_names, size)?;
             found = disjunction(alloc, found, one)?;
@@ -454,18 +530,18 @@ fn is_item(
     for_some(alloc, conjunction(alloc, equal, guard)?, comp.binders)
 }
 
-// Where the one set is included in the other, and where each pair of comprehensions is there, as the other inclusion asks for it: a row for each of the one set's.
+// Where the one set is included in the other, and where pairs of comprehensions are there, as the other inclusion asks for it: a row for each of the one set's.
 #[derive(Drop)]
 struct Compared {
     included: Formula,
-    rows: Vec<Formulas>,
+    rows: Vec<Vec<Pair>>,
 }
 
 // The same of one comprehension: where it is included, or found, and its row.
 #[derive(Drop)]
 struct Row {
     there: Formula,
-    pairs: Formulas,
+    pairs: Vec<Pair>,
 }
 
 // The first of two inclusions of sets.
@@ -474,21 +550,26 @@ fn sets_compared(
     alloc: Global,
     comps: &Comps,
     s_names: &[usize],
-    others: &Comps,
+    others: IndexedComps<'_>,
     t_names: &[usize],
     size: usize,
 ) -> Result<Compared, NoMemory>
     requires left { ItemsFit (length s_names.now) (comps_of comps.now) }
     requires left_names { AreBelow size s_names.now }
-    requires right { ItemsFit (length t_names.now) (comps_of others.now) }
+    requires right { ItemsFit (length t_names.now) (comps_of (map comp_of others.comps.now)) }
     requires right_names { AreBelow size t_names.now }
-    ensures included { IfOk result (λ r. Defines size (λ c. AllInAt (comps_of comps.now) (atoms_named s_names.now c) (comps_of others.now) (atoms_named t_names.now c)) (λ o. AdmitsItems o (comps_of comps.now) × AdmitsItems o (comps_of others.now)) (view r.included)) }
-    ensures rows { IfOk result (λ r. AreRows size comps.now s_names.now others.now t_names.now (map views r.rows.items)) }
+    requires shapes { others.index.now ≡ map item_shape (map comp_of others.comps.now) }
+    ensures included { IfOk result (λ r. Defines size (λ c. AllInAt (comps_of comps.now) (atoms_named s_names.now c) (comps_of (map comp_of others.entry.comps.now)) (atoms_named t_names.now c)) (λ o. AdmitsItems o (comps_of comps.now) × AdmitsItems o (comps_of (map comp_of others.entry.comps.now))) (view r.included)) }
+    ensures rows { IfOk result (λ r. AreRows size comps.now s_names.now (map comp_of others.entry.comps.now) t_names.now r.rows.items) }
 {
     let mut met = true_formula(alloc);
     let mut rows = Vec::new(alloc);
     for comp in comps.as_slice() {
-        let Row { there, pairs } = each_compared(alloc, comp, s_names, others, t_names, size)?;
+        let near = Candidates {
+            comps: others.comps,
+            places: others.candidates(&comp.item),
+        };
+        let Row { there, pairs } = each_compared(alloc, comp, s_names, near, t_names, size)?;
         rows.push(pairs)?;
         met = conjunction(alloc, met, there)?;
         if is_false_formula(&met) {
@@ -510,53 +591,61 @@ fn each_compared(
     alloc: Global,
     comp: &Comp,
     s_names: &[usize],
-    others: &Comps,
+    others: Candidates<'_>,
     t_names: &[usize],
     size: usize,
 ) -> Result<Row, NoMemory>
     requires left { CompFits (length s_names.now) (comp_of comp.now) }
     requires left_names { AreBelow size s_names.now }
-    requires right { ItemsFit (length t_names.now) (comps_of others.now) }
+    requires right { ItemsFit (length t_names.now) (comps_of (map comp_of others.comps.now)) }
     requires right_names { AreBelow size t_names.now }
-    ensures there { IfOk result (λ r. Defines size (λ c. EachInAt (comp_of comp.now) (atoms_named s_names.now c) (comps_of others.now) (atoms_named t_names.now c)) (λ o. AdmitsComp o (comp_of comp.now) × AdmitsItems o (comps_of others.now)) (view r.there)) }
-    ensures pairs { IfOk result (λ r. IsRow size (comp_of comp.now) s_names.now others.now t_names.now (views r.pairs)) }
+    requires places { AreBelow (length others.comps.now) others.places.now }
+    requires candidates { AreCandidates (map comp_of others.comps.now) (tree comp.now.item) others.places.now }
+    ensures there { IfOk result (λ r. Defines size (λ c. EachInAt (comp_of comp.now) (atoms_named s_names.now c) (comps_of (map comp_of others.entry.comps.now)) (atoms_named t_names.now c)) (λ o. AdmitsComp o (comp_of comp.now) × AdmitsItems o (comps_of (map comp_of others.entry.comps.now))) (view r.there)) }
+    ensures pairs { IfOk result (λ r. IsRow size (comp_of comp.now) s_names.now (map comp_of others.entry.comps.now) t_names.now r.pairs.items) }
 {
     if is_listed(comp, s_names, others, t_names) {
         return Ok(Row {
             there: true_formula(alloc),
-            pairs: Formulas::new(alloc),
+            pairs: Vec::new(alloc),
         });
     }
     let longer = extend_names(alloc, s_names, size, comp.binders)?;
-    let found = item_compared(alloc, comp, s_names, others.as_slice(), t_names, size)?;
+    let found = item_compared(alloc, comp, s_names, others, t_names, size)?;
     Ok(Row {
         there: none_missing(alloc, found.there, comp, longer.as_slice())?,
         pairs: found.pairs,
     })
 }
 
-// The item beside those of a set: where it is one of them, and where it is each.
+// The item beside those of a set that may have it: where it is one of them, and where it is each.
 #[cycle(relating)]
 fn item_compared(
     alloc: Global,
     comp: &Comp,
     s_names: &[usize],
-    others: &[Comp],
+    others: Candidates<'_>,
     t_names: &[usize],
     size: usize,
 ) -> Result<Row, NoMemory>
     requires left { CompFits (length s_names.now) (comp_of comp.now) }
     requires left_names { AreBelow size s_names.now }
-    requires right { ItemsFit (length t_names.now) (comps_of (map comp_of others.now)) }
+    requires right { ItemsFit (length t_names.now) (comps_of (map comp_of others.comps.now)) }
     requires right_names { AreBelow size t_names.now }
-    ensures there { IfOk result (λ r. DefinesFound size s_names.now (comp_of comp.now) t_names.now (comps_of (map comp_of others.now)) (view r.there)) }
-    ensures pairs { IfOk result (λ r. IsRow size (comp_of comp.now) s_names.now (map comp_of others.now) t_names.now (views r.pairs)) }
+    requires places { AreBelow (length others.comps.now) others.places.now }
+    requires candidates { AreCandidates (map comp_of others.comps.now) (tree comp.now.item) others.places.now }
+    ensures there { IfOk result (λ r. DefinesFound size s_names.now (comp_of comp.now) t_names.now (comps_of (map comp_of others.entry.comps.now)) (view r.there)) }
+    ensures pairs { IfOk result (λ r. IsRow size (comp_of comp.now) s_names.now (map comp_of others.entry.comps.now) t_names.now r.pairs.items) }
 {
     let mut found = false_formula(alloc);
-    let mut pairs = Formulas::new(alloc);
-    for other in others {
+    let mut pairs = Vec::new(alloc);
+    for place in others.places {
+        let other = &others.comps[*place];
         let Comparison { forth, back } = pair_compared(alloc, comp, s_names, other, t_names, size)?;
-        pairs.push(back)?;
+        pairs.push(Pair {
+            place: *place,
+            there: back,
+        })?;
         found = disjunction(alloc, found, for_some(alloc, forth, other.binders)?)?;
     }
     Ok(Row {

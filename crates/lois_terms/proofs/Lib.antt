@@ -4,3 +4,5 @@ pub mod MoreAtoms
 pub mod UnderGuard
 pub mod Heights
 pub mod Unmoved
+pub mod Shapes
+pub mod Positions

@@ -1,3 +1,6 @@
 pub mod Shifted
 pub mod Guarded
 pub mod Binding
+pub mod Hash
+pub mod Shapes
+pub mod Positions

@@ -1,40 +1,41 @@
-use Rattle.std.proofs.Common.{◌≡◌, ◌+◌, ◌<◌, ◌++◌, length, map, subst, sym, refl, ap, ◌∙◌, arith}
+use Rattle.std.proofs.Common.{◌≡◌, ◌+◌, ◌<◌, ◌++◌, length, get_or, drop, map, subst, sym, refl, ap, ◌∙◌, arith}
+use Rattle.std.proofs.lemmas.List.Elements.{All-nil}
 use Rattle.std.proofs.lemmas.Option.{IfSome_then}
 use Rattle.std.proofs.lemmas.Result.{IfOk-weaker}
 use Rattle.std.specs.Prelude.{IfSome}
 use Rattle.lois_base.specs.Data.{comps_of, depth_of_comps, coll, more, no_comps}
 use Rattle.lois_base.specs.Fits.{Fits, ItemsFit}
-use Rattle.lois_base.specs.FormulaView.{view, views}
+use Rattle.lois_base.specs.FormulaView.{view}
 use Rattle.lois_base.specs.Tree.{tree, comp_of}
 use Rattle.lois_base.specs.Validity.{AdmitsComp}
 use Rattle.lois_base.specs.Values.{SameAt, AllInAt}
 use Rattle.lois_relate.specs.Built.{Defines, IsBoth, IsForSome}
-use Rattle.lois_relate.specs.Compared.{IsForEach, DefinesPaired, DefinesFound, IsCached}
+use Rattle.lois_relate.specs.Candidates.{comps_at}
+use Rattle.lois_relate.specs.Compared.{IsForEach, DefinesPaired, SaysPaired, IsRow, AreRows}
 use Rattle.lois_relate.specs.Named.{atoms_named, level_range}
 use Rattle.lois_relate.proofs.AlikeSame.{always_says, listed_each, sets_alike}
 use Rattle.lois_relate.proofs.Apart.{item_left_out, pair_left_out, pair_left_out_back}
 use Rattle.lois_relate.proofs.Binders.{one_says, none_says}
-use Rattle.lois_relate.proofs.Loops.{all_go_on, all_cut}
-use Rattle.lois_relate.proofs.Pairs.{item_got, found_goes_on, each_found, pair_item, guarded_item}
+use Rattle.lois_relate.proofs.Inclusions.{IncludedIn, sets_cut}
+use Rattle.lois_relate.proofs.Loops.{all_go_on, all_cut, any_cut}
+use Rattle.lois_relate.proofs.Pairs.{item_got, Found, found_goes_on, each_found, pair_item, guarded_item}
 use Rattle.lois_relate.proofs.Parts.{terms_from, terms_are, comps_from, comps_are, is_part_of, is_comp_of}
 use Rattle.lois_relate.proofs.Single.{singles_say, singles_sets, bare_say}
 use Rattle.lois_relate.proofs.Steps.{all_in_split, parts_split, names_below, item_fits, guard_fits, own_below_more, parts_apart, atoms_say, sets_say}
-use Rattle.lois_relate.proofs.Rows.{one_longer, mapped_pushed, rows_more, rows_known, row_more}
+use Rattle.lois_relate.proofs.Places.{places_are, found_starts}
+use Rattle.lois_relate.proofs.Rows.{one_longer, rows_more, rows_known, row_more}
 use Rattle.lois_relate.proofs.Turned.{pair_says, pair_stays, pair_turns}
 use Rattle.lois_relate.proofs.relating.+relating.Goals as goal
 
 pub each_in-found_in-requires : goal.each_in-found_in-requires
 each_in-found_in-requires t c =
-    let items : map comp_of c.as_slice.result.now ≡ c.args.others.now = c.as_slice.ensures in
-    let fits = subst (λ z. ItemsFit (length c.args.t_names.now) (comps_of z)) (sym items) c.requires.right in
-    let known = subst (λ z. IsCached c.args.size z c.args.t_names.now (comp_of c.args.comp.now) c.args.s_names.now (map views c.args.known.rows.now) c.args.known.place) (sym items) c.requires.known in
-    (omega (arith, ap depth_of_comps items), (c.requires.left, (c.requires.left_names, (fits, (c.requires.right_names, known)))))
+    (omega arith, (c.requires.left, (c.requires.left_names, (c.requires.right, (c.requires.right_names, (c.requires.places, (c.requires.candidates, c.requires.known)))))))
 
 pub each_in-none_missing-requires : goal.each_in-none_missing-requires
 each_in-none_missing-requires t c =
     let comp = c.args.comp.now in
-    let e : c.as_slice-2.result.now ≡ c.args.s_names.now ++ level_range c.args.size comp.binders = c.as_slice-2.ensures.value ∙ c.in_ok-longer.ensures in
-    guard_fits c.args.size comp.binders (c.args.size + comp.binders) refl c.args.s_names.now c.as_slice-2.result.now e comp.guard (tree comp.item) c.requires.left
+    let e : c.as_slice.result.now ≡ c.args.s_names.now ++ level_range c.args.size comp.binders = c.as_slice.ensures.value ∙ c.in_ok-longer.ensures in
+    guard_fits c.args.size comp.binders (c.args.size + comp.binders) refl c.args.s_names.now c.as_slice.result.now e comp.guard (tree comp.item) c.requires.left
 
 pub each_in-returns : goal.each_in-returns
 each_in-returns t c =
@@ -42,28 +43,56 @@ each_in-returns t c =
     let n = c.args.size in
     let sn = c.args.s_names.now in
     let tn = c.args.t_names.now in
-    let names = c.as_slice-2.result.now in
-    let e : names ≡ sn ++ level_range n comp.binders = c.as_slice-2.ensures.value ∙ c.in_ok-longer.ensures in
+    let names = c.as_slice.result.now in
+    let e : names ≡ sn ++ level_range n comp.binders = c.as_slice.ensures.value ∙ c.in_ok-longer.ensures in
     let below = names_below n comp.binders (n + comp.binders) refl sn names e c.requires.left_names in
-    let found = subst (λ z. DefinesFound n sn (comp_of comp) tn (comps_of z) (view c.in_ok-found.found)) c.as_slice.ensures c.in_ok-found.ensures in
-    IfOk-weaker c.none_missing.result _ _ (λ r each. each_found n sn tn comp.binders comp.guard (tree comp.item) c.requires.left_names c.requires.right_names (comps_of c.args.others.now) (view c.in_ok-found.found) (view r) found (subst (λ z. IsForEach n comp.binders z comp.guard (view c.in_ok-found.found) (view r)) e (each n below found.levels))) c.none_missing.ensures
+    let found = c.in_ok-found.ensures in
+    IfOk-weaker c.none_missing.result _ _ (λ r each. each_found n sn tn comp.binders comp.guard (tree comp.item) c.requires.left_names c.requires.right_names (comps_of (map comp_of c.args.others.comps.now)) (view c.in_ok-found.found) (view r) found (subst (λ z. IsForEach n comp.binders z comp.guard (view c.in_ok-found.found) (view r)) e (each n below found.levels))) c.none_missing.ensures
+
+pub found_in-loop-place-init : goal.found_in-loop-place-init
+found_in-loop-place-init t c =
+    let comp = c.args.comp.now in
+    found_starts c.args.size c.args.s_names.now c.args.t_names.now comp.binders comp.guard (tree comp.item) (map comp_of c.args.others.comps.now) c.args.others.places.now (view c.false_formula-found.result) c.requires.candidates c.false_formula-found.ensures
 
 pub found_in-one_found-requires : goal.found_in-one_found-requires
 found_in-one_found-requires t c =
-    let items = c.args.others.now in
-    let i = c.loop-i.i in
-    let k = is_comp_of items (map comp_of items) i c.index-others-i.result refl c.loop-i-test.true c.index-others-i.is in
-    let at = item_got items (map comp_of items) i c.index-others-i.result refl c.loop-i-test.true c.index-others-i.is in
-    let known = IfSome_then c.of.result c.of.ensures (λ f entry. c.requires.known i (comp_of c.index-others-i.result) (view f.now) at entry) in
+    let items = c.args.others.comps.now in
+    let places = c.args.others.places.now in
+    let r = c.loop-place.place-index in
+    let i = get_or places r 0 in
+    let inside : i < length items = c.requires.places r 0 c.loop-place-test.true in
+    let other = get_or items i c.index-others-place.result in
+    let is : other ≡ get_or items i other = ap (get_or items i) c.index-others-place.is in
+    let k = is_comp_of items (map comp_of items) i other refl inside is in
+    let at = item_got items (map comp_of items) i other refl inside is in
+    let known = IfSome_then c.of.result c.of.ensures (λ f entry. c.requires.known i (comp_of other) (view f.now) at entry) in
     (omega (arith, k.depth), (c.requires.left, (c.requires.left_names, (k.fits (length c.args.t_names.now) c.requires.right, (c.requires.right_names, known)))))
 
-pub found_in-loop-i-preserved : goal.found_in-loop-i-preserved
-found_in-loop-i-preserved t c =
-    let items = c.args.others.now in
-    let i = c.loop-i.i in
+pub found_in-loop-place-preserved : goal.found_in-loop-place-preserved
+found_in-loop-place-preserved t c =
+    let items = c.args.others.comps.now in
+    let places = c.args.others.places.now in
+    let r = c.loop-place.place-index in
+    let i = get_or places r 0 in
+    let inside : i < length items = c.requires.places r 0 c.loop-place-test.true in
+    let other = get_or items i c.index-others-place.result in
+    let is : other ≡ get_or items i other = ap (get_or items i) c.index-others-place.is in
     let comp = c.args.comp.now in
-    let k = is_comp_of items (map comp_of items) i c.index-others-i.result refl c.loop-i-test.true c.index-others-i.is in
-    found_goes_on c.args.size c.args.s_names.now c.args.t_names.now comp.binders comp.guard (tree comp.item) (comps_of (map comp_of items)) (comps_from items i) (comps_from items (i + 1)) (comp_of c.index-others-i.result) (comps_are items i c.index-others-i.result c.loop-i-test.true c.index-others-i.is) (view c.loop-i.found) (view c.in_ok-one.one) (view c.in_ok-found.found) c.loop-i.invariant c.in_ok-one.ensures k.admits c.in_ok-found.ensures
+    let k = is_comp_of items (map comp_of items) i other refl inside is in
+    found_goes_on c.args.size c.args.s_names.now c.args.t_names.now comp.binders comp.guard (tree comp.item) (comps_of (map comp_of items)) (comps_at (map comp_of items) (drop r places)) (comps_at (map comp_of items) (drop (r + 1) places)) (comp_of other) (places_are items places r i other c.loop-place-test.true refl inside is) (view c.loop-place.found) (view c.in_ok-one.one) (view c.in_ok-found.found) c.loop-place.invariant c.in_ok-one.ensures k.admits c.in_ok-found.ensures
+
+pub found_in-returns-then-is_true_formula : goal.found_in-returns-then-is_true_formula
+found_in-returns-then-is_true_formula t c =
+    let items = c.args.others.comps.now in
+    let places = c.args.others.places.now in
+    let r = c.loop-place.place-index in
+    let i = get_or places r 0 in
+    let inside : i < length items = c.requires.places r 0 c.loop-place-test.true in
+    let other = get_or items i c.index-others-place.result in
+    let is : other ≡ get_or items i other = ap (get_or items i) c.index-others-place.is in
+    let comp = c.args.comp.now in
+    let k = is_comp_of items (map comp_of items) i other refl inside is in
+    any_cut (c.args.size + comp.binders) (Found c.args.size c.args.s_names.now c.args.t_names.now comp.binders comp.guard (tree comp.item) (comps_at (map comp_of items) (drop (r + 1) places))) _ _ (view c.in_ok-found.found) (c.is_true_formula.ensures.0 c.if-is_true_formula.true) (found_goes_on c.args.size c.args.s_names.now c.args.t_names.now comp.binders comp.guard (tree comp.item) (comps_of (map comp_of items)) (comps_at (map comp_of items) (drop r places)) (comps_at (map comp_of items) (drop (r + 1) places)) (comp_of other) (places_are items places r i other c.loop-place-test.true refl inside is) (view c.loop-place.found) (view c.in_ok-one.one) (view c.in_ok-found.found) c.loop-place.invariant c.in_ok-one.ensures k.admits c.in_ok-found.ensures)
 
 pub one_found-returns-in-Some : goal.one_found-returns-in-Some
 one_found-returns-in-Some t c =
@@ -108,22 +137,22 @@ included-each_in-requires t c =
     let place = c.loop-place.place in
     let k = is_comp_of items c.args.comps.now place c.index-items-place.result c.as_slice-items.ensures c.loop-place-test.true c.index-items-place.is in
     let at = item_got items c.args.comps.now place c.index-items-place.result c.as_slice-items.ensures c.loop-place-test.true c.index-items-place.is in
-    let known = rows_known c.args.size c.args.others.now c.args.t_names.now c.args.comps.now c.args.s_names.now (map views c.args.rows.now) place (comp_of c.index-items-place.result) c.requires.rows at in
-    (omega (arith, k.depth), (k.fits (length c.args.s_names.now) c.requires.left, (c.requires.left_names, (c.requires.right, (c.requires.right_names, known)))))
+    let known = rows_known c.args.size (map comp_of c.args.others.comps.now) c.args.t_names.now c.args.comps.now c.args.s_names.now c.args.rows.now place (comp_of c.index-items-place.result) c.requires.rows at in
+    (omega (arith, k.depth), (k.fits (length c.args.s_names.now) c.requires.left, (c.requires.left_names, (c.requires.right, (c.requires.right_names, (c.candidates.ensures.places, (c.candidates.ensures.all, known)))))))
 
 pub included-loop-place-preserved : goal.included-loop-place-preserved
 included-loop-place-preserved t c =
     let items = c.as_slice-items.result.now in
     let i = c.loop-place.place in
     let k = is_comp_of items c.args.comps.now i c.index-items-place.result c.as_slice-items.ensures c.loop-place-test.true c.index-items-place.is in
-    all_go_on c.args.size _ _ _ _ _ _ (view c.loop-place.met) (view c.in_ok-one.one) (view c.in_ok-met.met) c.loop-place.invariant (λ a. all_in_split (comps_from items i) (comps_from items (i + 1)) (comp_of c.index-items-place.result) (comps_are items i c.index-items-place.result c.loop-place-test.true c.index-items-place.is) (atoms_named c.args.s_names.now a) (comps_of c.args.others.now) (atoms_named c.args.t_names.now a)) c.in_ok-one.ensures (λ o h. (k.admits o h.0, h.1)) c.in_ok-met.ensures
+    all_go_on c.args.size _ _ _ _ _ _ (view c.loop-place.met) (view c.in_ok-one.one) (view c.in_ok-met.met) c.loop-place.invariant (λ a. all_in_split (comps_from items i) (comps_from items (i + 1)) (comp_of c.index-items-place.result) (comps_are items i c.index-items-place.result c.loop-place-test.true c.index-items-place.is) (atoms_named c.args.s_names.now a) (comps_of (map comp_of c.args.others.comps.now)) (atoms_named c.args.t_names.now a)) c.in_ok-one.ensures (λ o h. (k.admits o h.0, h.1)) c.in_ok-met.ensures
 
 pub included-returns-then-is_false_formula : goal.included-returns-then-is_false_formula
 included-returns-then-is_false_formula t c =
     let items = c.as_slice-items.result.now in
     let i = c.loop-place.place in
     let k = is_comp_of items c.args.comps.now i c.index-items-place.result c.as_slice-items.ensures c.loop-place-test.true c.index-items-place.is in
-    all_cut c.args.size (λ a. AllInAt (comps_from items (i + 1)) (atoms_named c.args.s_names.now a) (comps_of c.args.others.now) (atoms_named c.args.t_names.now a)) _ _ (view c.in_ok-met.met) (c.is_false_formula.ensures.0 c.if-is_false_formula.true) (all_go_on c.args.size _ _ _ _ _ _ (view c.loop-place.met) (view c.in_ok-one.one) (view c.in_ok-met.met) c.loop-place.invariant (λ a. all_in_split (comps_from items i) (comps_from items (i + 1)) (comp_of c.index-items-place.result) (comps_are items i c.index-items-place.result c.loop-place-test.true c.index-items-place.is) (atoms_named c.args.s_names.now a) (comps_of c.args.others.now) (atoms_named c.args.t_names.now a)) c.in_ok-one.ensures (λ o h. (k.admits o h.0, h.1)) c.in_ok-met.ensures)
+    all_cut c.args.size (λ a. AllInAt (comps_from items (i + 1)) (atoms_named c.args.s_names.now a) (comps_of (map comp_of c.args.others.comps.now)) (atoms_named c.args.t_names.now a)) _ _ (view c.in_ok-met.met) (c.is_false_formula.ensures.0 c.if-is_false_formula.true) (all_go_on c.args.size _ _ _ _ _ _ (view c.loop-place.met) (view c.in_ok-one.one) (view c.in_ok-met.met) c.loop-place.invariant (λ a. all_in_split (comps_from items i) (comps_from items (i + 1)) (comp_of c.index-items-place.result) (comps_are items i c.index-items-place.result c.loop-place-test.true c.index-items-place.is) (atoms_named c.args.s_names.now a) (comps_of (map comp_of c.args.others.comps.now)) (atoms_named c.args.t_names.now a)) c.in_ok-one.ensures (λ o h. (k.admits o h.0, h.1)) c.in_ok-met.ensures)
 
 pub is_item-same-requires : goal.is_item-same-requires
 is_item-same-requires t c =
@@ -182,13 +211,33 @@ same_parts-loop-i-preserved t c =
     let q = is_part_of partners c.args.others.now i c.index-partners-i.result c.as_slice-partners.ensures other c.index-partners-i.is in
     all_go_on c.args.size _ _ _ _ _ _ (view c.loop-i.met) (view c.in_ok-one.one) (view c.in_ok-met.met) c.loop-i.invariant (λ a. parts_split (terms_from parts i) (terms_from parts (i + 1)) (terms_from partners i) (terms_from partners (i + 1)) (tree c.index-parts-i.result) (tree c.index-partners-i.result) (terms_are parts i c.index-parts-i.result c.loop-i-test.true c.index-parts-i.is) (terms_are partners i c.index-partners-i.result other c.index-partners-i.is) (atoms_named c.args.s_names.now a) (atoms_named c.args.t_names.now a)) c.in_ok-one.ensures (λ o h. (p.admits o h.0, q.admits o h.1)) c.in_ok-met.ensures
 
+pub same_sets-sets_compared-requires : goal.same_sets-sets_compared-requires
+same_sets-sets_compared-requires t c =
+    let right = subst (λ z. ItemsFit (length c.args.t_names.now) (comps_of z)) (sym c.as_slice-other_items.ensures) c.requires.right in
+    (omega (arith, ap depth_of_comps c.as_slice-other_items.ensures), (c.requires.left, (c.requires.left_names, (right, (c.requires.right_names, c.in_ok-other_index.ensures)))))
+
+pub same_sets-returns-then-is_false_formula : goal.same_sets-returns-then-is_false_formula
+same_sets-returns-then-is_false_formula t c =
+    let said = subst (IncludedIn c.args.size c.args.s_names.now c.args.t_names.now c.args.comps.now (view c.in_ok-there.there.included)) c.as_slice-other_items.ensures c.in_ok-there.ensures.included in
+    sets_cut c.args.size c.args.s_names.now c.args.t_names.now (comps_of c.args.comps.now) (comps_of c.args.others.now) (view c.in_ok-there.there.included) (c.is_false_formula.ensures.0 c.if-is_false_formula.true) said
+
+pub same_sets-included-requires : goal.same_sets-included-requires
+same_sets-included-requires t c =
+    let left = subst (λ z. ItemsFit (length c.args.s_names.now) (comps_of z)) (sym c.as_slice-items.ensures) c.requires.left in
+    let firsts = subst (λ z. AreRows c.args.size z c.args.s_names.now (map comp_of c.as_slice-other_items.result.now) c.args.t_names.now c.in_ok-there.there.rows.items) (sym c.as_slice-items.ensures) c.in_ok-there.ensures.rows in
+    let both = subst (λ z. AreRows c.args.size (map comp_of c.as_slice-items.result.now) c.args.s_names.now z c.args.t_names.now c.in_ok-there.there.rows.items) c.as_slice-other_items.ensures firsts in
+    let rows = subst (AreRows c.args.size (map comp_of c.as_slice-items.result.now) c.args.s_names.now c.args.others.now c.args.t_names.now) (sym c.as_slice-rows.ensures.value) both in
+    (omega (arith, ap depth_of_comps c.as_slice-items.ensures), (c.requires.right, (c.requires.right_names, (left, (c.requires.left_names, (c.in_ok-index.ensures, rows))))))
+
 pub same_sets-returns : goal.same_sets-returns
 same_sets-returns t c =
-    IfOk-weaker c.conjunction.result (λ r. IsBoth (view c.in_ok-there.there.included) (view c.in_ok-back.back) (view r)) _ (λ r both. sets_say c.args.size c.args.s_names.now c.args.t_names.now (comps_of c.args.comps.now) (comps_of c.args.others.now) (view c.in_ok-there.there.included) (view c.in_ok-back.back) (view r) c.in_ok-there.ensures.included c.in_ok-back.ensures both) c.conjunction.ensures
+    let said = subst (IncludedIn c.args.size c.args.s_names.now c.args.t_names.now c.args.comps.now (view c.in_ok-there.there.included)) c.as_slice-other_items.ensures c.in_ok-there.ensures.included in
+    let back = subst (IncludedIn c.args.size c.args.t_names.now c.args.s_names.now c.args.others.now (view c.in_ok-back.back)) c.as_slice-items.ensures c.in_ok-back.ensures in
+    IfOk-weaker c.conjunction.result (λ r. IsBoth (view c.in_ok-there.there.included) (view c.in_ok-back.back) (view r)) _ (λ r both. sets_say c.args.size c.args.s_names.now c.args.t_names.now (comps_of c.args.comps.now) (comps_of c.args.others.now) (view c.in_ok-there.there.included) (view c.in_ok-back.back) (view r) said back both) c.conjunction.ensures
 
 pub each_in-returns-then-is_listed : goal.each_in-returns-then-is_listed
 each_in-returns-then-is_listed t c =
-    always_says c.args.size _ _ (view c.true_formula.result) c.true_formula.ensures (λ a. listed_each c.args.s_names.now c.args.t_names.now a (comp_of c.args.comp.now) (comps_of c.args.others.now) (c.is_listed.ensures.0 c.if-is_listed.true))
+    always_says c.args.size _ _ (view c.true_formula.result) c.true_formula.ensures (λ a. listed_each c.args.s_names.now c.args.t_names.now a (comp_of c.args.comp.now) (comps_of (map comp_of c.args.others.comps.now)) (c.is_listed.ensures c.if-is_listed.true))
 
 pub same_sets-returns-then-sets_match : goal.same_sets-returns-then-sets_match
 same_sets-returns-then-sets_match t c =
@@ -211,7 +260,7 @@ same_singles-returns t c =
 pub sets_compared-each_compared-requires : goal.sets_compared-each_compared-requires
 sets_compared-each_compared-requires t c =
     let k = is_comp_of c.as_slice-comp-items.result.now c.args.comps.now c.loop-comp.comp-index c.comp-item.result c.as_slice-comp-items.ensures c.loop-comp-test.true c.comp-item.is in
-    (omega (arith, k.depth), (k.fits (length c.args.s_names.now) c.requires.left, (c.requires.left_names, (c.requires.right, c.requires.right_names))))
+    (omega (arith, k.depth), (k.fits (length c.args.s_names.now) c.requires.left, (c.requires.left_names, (c.requires.right, (c.requires.right_names, (c.candidates.ensures.places, c.candidates.ensures.all))))))
 
 pub sets_compared-loop-comp-preserved : goal.sets_compared-loop-comp-preserved
 sets_compared-loop-comp-preserved t c =
@@ -220,10 +269,10 @@ sets_compared-loop-comp-preserved t c =
     let k = is_comp_of items c.args.comps.now i c.comp-item.result c.as_slice-comp-items.ensures c.loop-comp-test.true c.comp-item.is in
     let at = item_got items c.args.comps.now i c.comp-item.result c.as_slice-comp-items.ensures c.loop-comp-test.true c.comp-item.is in
     let old = c.loop-comp.rows.items in
-    let more = mapped_pushed views old c.push.new.self.items _ c.in_ok-push.ensures.items in (
-      all_go_on c.args.size _ _ _ _ _ _ (view c.loop-comp.met) _ (view c.in_ok-met.met) c.loop-comp.invariant.0 (λ a. all_in_split (comps_from items i) (comps_from items (i + 1)) (comp_of c.comp-item.result) (comps_are items i c.comp-item.result c.loop-comp-test.true c.comp-item.is) (atoms_named c.args.s_names.now a) (comps_of c.args.others.now) (atoms_named c.args.t_names.now a)) c.in_ok-there.ensures.there (λ o h. (k.admits o h.0, h.1)) c.in_ok-met.ensures,
-      one_longer (map views old) _ (map views c.push.new.self.items) i c.loop-comp.invariant.1 more,
-      rows_more c.args.size c.args.comps.now c.args.s_names.now c.args.others.now c.args.t_names.now (map views old) (map views c.push.new.self.items) i (comp_of c.comp-item.result) _ c.loop-comp.invariant.2 c.loop-comp.invariant.1 at more c.in_ok-there.ensures.pairs,
+    let more = c.in_ok-push.ensures.items in (
+      all_go_on c.args.size _ _ _ _ _ _ (view c.loop-comp.met) _ (view c.in_ok-met.met) c.loop-comp.invariant.0 (λ a. all_in_split (comps_from items i) (comps_from items (i + 1)) (comp_of c.comp-item.result) (comps_are items i c.comp-item.result c.loop-comp-test.true c.comp-item.is) (atoms_named c.args.s_names.now a) (comps_of (map comp_of c.args.others.comps.now)) (atoms_named c.args.t_names.now a)) c.in_ok-there.ensures.there (λ o h. (k.admits o h.0, h.1)) c.in_ok-met.ensures,
+      one_longer old _ c.push.new.self.items i c.loop-comp.invariant.1 more,
+      rows_more c.args.size c.args.comps.now c.args.s_names.now (map comp_of c.args.others.comps.now) c.args.t_names.now old c.push.new.self.items i (comp_of c.comp-item.result) _ c.loop-comp.invariant.2 c.loop-comp.invariant.1 at more c.in_ok-there.ensures.pairs,
     )
 
 pub sets_compared-returns-then-is_false_formula-clause-included : goal.sets_compared-returns-then-is_false_formula-clause-included
@@ -231,7 +280,7 @@ sets_compared-returns-then-is_false_formula-clause-included t c =
     let items = c.as_slice-comp-items.result.now in
     let i = c.loop-comp.comp-index in
     let k = is_comp_of items c.args.comps.now i c.comp-item.result c.as_slice-comp-items.ensures c.loop-comp-test.true c.comp-item.is in
-    all_cut c.args.size (λ a. AllInAt (comps_from items (i + 1)) (atoms_named c.args.s_names.now a) (comps_of c.args.others.now) (atoms_named c.args.t_names.now a)) _ _ (view c.in_ok-met.met) (c.is_false_formula.ensures.0 c.if-is_false_formula.true) (all_go_on c.args.size _ _ _ _ _ _ (view c.loop-comp.met) _ (view c.in_ok-met.met) c.loop-comp.invariant.0 (λ a. all_in_split (comps_from items i) (comps_from items (i + 1)) (comp_of c.comp-item.result) (comps_are items i c.comp-item.result c.loop-comp-test.true c.comp-item.is) (atoms_named c.args.s_names.now a) (comps_of c.args.others.now) (atoms_named c.args.t_names.now a)) c.in_ok-there.ensures.there (λ o h. (k.admits o h.0, h.1)) c.in_ok-met.ensures)
+    all_cut c.args.size (λ a. AllInAt (comps_from items (i + 1)) (atoms_named c.args.s_names.now a) (comps_of (map comp_of c.args.others.comps.now)) (atoms_named c.args.t_names.now a)) _ _ (view c.in_ok-met.met) (c.is_false_formula.ensures.0 c.if-is_false_formula.true) (all_go_on c.args.size _ _ _ _ _ _ (view c.loop-comp.met) _ (view c.in_ok-met.met) c.loop-comp.invariant.0 (λ a. all_in_split (comps_from items i) (comps_from items (i + 1)) (comp_of c.comp-item.result) (comps_are items i c.comp-item.result c.loop-comp-test.true c.comp-item.is) (atoms_named c.args.s_names.now a) (comps_of (map comp_of c.args.others.comps.now)) (atoms_named c.args.t_names.now a)) c.in_ok-there.ensures.there (λ o h. (k.admits o h.0, h.1)) c.in_ok-met.ensures)
 
 pub sets_compared-returns-then-is_false_formula-clause-rows : goal.sets_compared-returns-then-is_false_formula-clause-rows
 sets_compared-returns-then-is_false_formula-clause-rows t c =
@@ -239,18 +288,18 @@ sets_compared-returns-then-is_false_formula-clause-rows t c =
     let i = c.loop-comp.comp-index in
     let at = item_got items c.args.comps.now i c.comp-item.result c.as_slice-comp-items.ensures c.loop-comp-test.true c.comp-item.is in
     let old = c.loop-comp.rows.items in
-    let more = mapped_pushed views old c.push.new.self.items _ c.in_ok-push.ensures.items in
-    rows_more c.args.size c.args.comps.now c.args.s_names.now c.args.others.now c.args.t_names.now (map views old) (map views c.push.new.self.items) i (comp_of c.comp-item.result) _ c.loop-comp.invariant.2 c.loop-comp.invariant.1 at more c.in_ok-there.ensures.pairs
+    let more = c.in_ok-push.ensures.items in
+    rows_more c.args.size c.args.comps.now c.args.s_names.now (map comp_of c.args.others.comps.now) c.args.t_names.now old c.push.new.self.items i (comp_of c.comp-item.result) _ c.loop-comp.invariant.2 c.loop-comp.invariant.1 at more c.in_ok-there.ensures.pairs
 
 pub each_compared-returns-then-is_listed-clause-there : goal.each_compared-returns-then-is_listed-clause-there
 each_compared-returns-then-is_listed-clause-there t c =
-    always_says c.args.size _ _ (view c.true_formula.result) c.true_formula.ensures (λ a. listed_each c.args.s_names.now c.args.t_names.now a (comp_of c.args.comp.now) (comps_of c.args.others.now) (c.is_listed.ensures.0 c.if-is_listed.true))
+    always_says c.args.size _ _ (view c.true_formula.result) c.true_formula.ensures (λ a. listed_each c.args.s_names.now c.args.t_names.now a (comp_of c.args.comp.now) (comps_of (map comp_of c.args.others.comps.now)) (c.is_listed.ensures c.if-is_listed.true))
 
 pub each_compared-none_missing-requires : goal.each_compared-none_missing-requires
 each_compared-none_missing-requires t c =
     let comp = c.args.comp.now in
-    let e : c.as_slice-2.result.now ≡ c.args.s_names.now ++ level_range c.args.size comp.binders = c.as_slice-2.ensures.value ∙ c.in_ok-longer.ensures in
-    guard_fits c.args.size comp.binders (c.args.size + comp.binders) refl c.args.s_names.now c.as_slice-2.result.now e comp.guard (tree comp.item) c.requires.left
+    let e : c.as_slice.result.now ≡ c.args.s_names.now ++ level_range c.args.size comp.binders = c.as_slice.ensures.value ∙ c.in_ok-longer.ensures in
+    guard_fits c.args.size comp.binders (c.args.size + comp.binders) refl c.args.s_names.now c.as_slice.result.now e comp.guard (tree comp.item) c.requires.left
 
 pub each_compared-returns-clause-there : goal.each_compared-returns-clause-there
 each_compared-returns-clause-there t c =
@@ -258,34 +307,50 @@ each_compared-returns-clause-there t c =
     let n = c.args.size in
     let sn = c.args.s_names.now in
     let tn = c.args.t_names.now in
-    let names = c.as_slice-2.result.now in
-    let e : names ≡ sn ++ level_range n comp.binders = c.as_slice-2.ensures.value ∙ c.in_ok-longer.ensures in
+    let names = c.as_slice.result.now in
+    let e : names ≡ sn ++ level_range n comp.binders = c.as_slice.ensures.value ∙ c.in_ok-longer.ensures in
     let below = names_below n comp.binders (n + comp.binders) refl sn names e c.requires.left_names in
-    let found = subst (λ z. DefinesFound n sn (comp_of comp) tn (comps_of z) (view c.in_ok-found.found.there)) c.as_slice.ensures c.in_ok-found.ensures.there in
+    let found = c.in_ok-found.ensures.there in
     let each = c.in_ok-none_missing.ensures n below found.levels in
-    each_found n sn tn comp.binders comp.guard (tree comp.item) c.requires.left_names c.requires.right_names (comps_of c.args.others.now) (view c.in_ok-found.found.there) (view c.in_ok-none_missing.field-0) found (subst (λ z. IsForEach n comp.binders z comp.guard (view c.in_ok-found.found.there) (view c.in_ok-none_missing.field-0)) e each)
+    each_found n sn tn comp.binders comp.guard (tree comp.item) c.requires.left_names c.requires.right_names (comps_of (map comp_of c.args.others.comps.now)) (view c.in_ok-found.found.there) (view c.in_ok-none_missing.field-0) found (subst (λ z. IsForEach n comp.binders z comp.guard (view c.in_ok-found.found.there) (view c.in_ok-none_missing.field-0)) e each)
+
+pub item_compared-loop-place-init : goal.item_compared-loop-place-init
+item_compared-loop-place-init t c =
+    let comp = c.args.comp.now in (
+      found_starts c.args.size c.args.s_names.now c.args.t_names.now comp.binders comp.guard (tree comp.item) (map comp_of c.args.others.comps.now) c.args.others.places.now (view c.false_formula-found.result) c.requires.candidates c.false_formula-found.ensures,
+      subst (IsRow c.args.size (comp_of comp) c.args.s_names.now (map comp_of c.args.others.comps.now) c.args.t_names.now) (sym c.new-pairs.ensures.items) (All-nil (SaysPaired c.args.size (comp_of comp) c.args.s_names.now (map comp_of c.args.others.comps.now) c.args.t_names.now)),
+    )
 
 pub item_compared-pair_compared-requires : goal.item_compared-pair_compared-requires
 item_compared-pair_compared-requires t c =
-    let items = c.args.others.now in
-    let k = is_comp_of items (map comp_of items) c.loop-other.other-index c.other-item.result refl c.loop-other-test.true c.other-item.is in
+    let items = c.args.others.comps.now in
+    let places = c.args.others.places.now in
+    let r = c.loop-place.place-index in
+    let i = get_or places r 0 in
+    let inside : i < length items = c.requires.places r 0 c.loop-place-test.true in
+    let other = get_or items i c.index-others-place.result in
+    let is : other ≡ get_or items i other = ap (get_or items i) c.index-others-place.is in
+    let k = is_comp_of items (map comp_of items) i other refl inside is in
     (omega (arith, k.depth), (c.requires.left, (c.requires.left_names, (k.fits (length c.args.t_names.now) c.requires.right, c.requires.right_names))))
 
-pub item_compared-loop-other-preserved : goal.item_compared-loop-other-preserved
-item_compared-loop-other-preserved t c =
-    let items = c.args.others.now in
-    let i = c.loop-other.other-index in
+pub item_compared-loop-place-preserved : goal.item_compared-loop-place-preserved
+item_compared-loop-place-preserved t c =
+    let items = c.args.others.comps.now in
+    let places = c.args.others.places.now in
+    let r = c.loop-place.place-index in
+    let i = get_or places r 0 in
+    let inside : i < length items = c.requires.places r 0 c.loop-place-test.true in
+    let other = get_or items i c.index-others-place.result in
+    let is : other ≡ get_or items i other = ap (get_or items i) c.index-others-place.is in
     let comp = c.args.comp.now in
-    let other = c.other-item.result in
     let n = c.args.size in
     let sn = c.args.s_names.now in
     let tn = c.args.t_names.now in
-    let k = is_comp_of items (map comp_of items) i other refl c.loop-other-test.true c.other-item.is in
-    let at = item_got items (map comp_of items) i other refl c.loop-other-test.true c.other-item.is in
+    let k = is_comp_of items (map comp_of items) i other refl inside is in
+    let at = item_got items (map comp_of items) i other refl inside is in
     let one = pair_item n sn tn comp.binders comp.guard (tree comp.item) c.requires.left_names c.requires.right_names other.binders other.guard (tree other.item) _ (view c.in_ok-for_some.field-0) c.in_ok-forth.ensures.forth c.in_ok-for_some.ensures in (
-      found_goes_on n sn tn comp.binders comp.guard (tree comp.item) (comps_of (map comp_of items)) (comps_from items i) (comps_from items (i + 1)) (comp_of other) (comps_are items i other c.loop-other-test.true c.other-item.is) (view c.loop-other.found) (view c.in_ok-for_some.field-0) (view c.in_ok-found.found) c.loop-other.invariant.0 one k.admits c.in_ok-found.ensures,
-      one_longer (views c.loop-other.pairs) _ (views c.push.new.self) i c.loop-other.invariant.1 c.in_ok-push.ensures.ok,
-      row_more n (comp_of comp) sn (map comp_of items) tn (views c.loop-other.pairs) (views c.push.new.self) i (comp_of other) _ c.loop-other.invariant.2 c.loop-other.invariant.1 at c.in_ok-push.ensures.ok c.in_ok-forth.ensures.back,
+      found_goes_on n sn tn comp.binders comp.guard (tree comp.item) (comps_of (map comp_of items)) (comps_at (map comp_of items) (drop r places)) (comps_at (map comp_of items) (drop (r + 1) places)) (comp_of other) (places_are items places r i other c.loop-place-test.true refl inside is) (view c.loop-place.found) (view c.in_ok-for_some.field-0) (view c.in_ok-found.found) c.loop-place.invariant.0 one k.admits c.in_ok-found.ensures,
+      row_more n (comp_of comp) sn (map comp_of items) tn c.loop-place.pairs.items c.push.new.self.items _ (comp_of other) c.loop-place.invariant.1 at c.in_ok-push.ensures.items c.in_ok-forth.ensures.back,
     )
 
 pub pair_compared-returns-then-leaves_out-clause-forth : goal.pair_compared-returns-then-leaves_out-clause-forth

@@ -1,9 +1,10 @@
-use Rattle.std.proofs.Common.{◌≡◌, ◌+◌, ◌*◌, length, map}
+use Rattle.std.proofs.Common.{◌≡◌, ◌+◌, ◌*◌, length, map, drop}
 use Rattle.lois_base.specs.Data.{depth, depth_of_terms, depth_of_comps, terms_of, comps_of}
-use Rattle.lois_base.specs.FormulaView.{view, views}
+use Rattle.lois_base.specs.FormulaView.{view}
 use Rattle.lois_base.specs.Tree.{tree, comp_of}
 use Rattle.lois_base.specs.Validity.{AdmitsParts, AdmitsItems}
 use Rattle.lois_base.specs.Values.{SamePartsAt, AllInAt}
+use Rattle.lois_relate.specs.Candidates.{comps_at}
 use Rattle.lois_relate.specs.Compared.{IsRow, AreRows}
 use Rattle.lois_relate.specs.Named.{atoms_named}
 use Rattle.lois_relate.proofs.Loops.{AllSoFar}
@@ -25,25 +26,25 @@ abbrev pub decreases-same_singles : goal.decreases-same_singles
 decreases-same_singles l = 8 * (depth (tree l.one.now.item) + depth (tree l.other.now.item)) + 1
 
 abbrev pub decreases-included : goal.decreases-included
-decreases-included l = 8 * (depth_of_comps l.comps.now + depth_of_comps l.others.now) + 5
+decreases-included l = 8 * (depth_of_comps l.comps.now + depth_of_comps (map comp_of l.others.comps.now)) + 5
 
 abbrev pub decreases-each_in : goal.decreases-each_in
-decreases-each_in l = 8 * (depth (tree l.comp.now.item) + depth_of_comps l.others.now) + 4
+decreases-each_in l = 8 * (depth (tree l.comp.now.item) + depth_of_comps (map comp_of l.others.comps.now)) + 4
 
 abbrev pub decreases-found_in : goal.decreases-found_in
-decreases-found_in l = 8 * (depth (tree l.comp.now.item) + depth_of_comps (map comp_of l.others.now)) + 3
+decreases-found_in l = 8 * (depth (tree l.comp.now.item) + depth_of_comps (map comp_of l.others.comps.now)) + 3
 
 abbrev pub decreases-one_found : goal.decreases-one_found
 decreases-one_found l = 8 * (depth (tree l.comp.now.item) + depth (tree l.other.now.item)) + 2
 
 abbrev pub decreases-sets_compared : goal.decreases-sets_compared
-decreases-sets_compared l = 8 * (depth_of_comps l.comps.now + depth_of_comps l.others.now) + 5
+decreases-sets_compared l = 8 * (depth_of_comps l.comps.now + depth_of_comps (map comp_of l.others.comps.now)) + 5
 
 abbrev pub decreases-each_compared : goal.decreases-each_compared
-decreases-each_compared l = 8 * (depth (tree l.comp.now.item) + depth_of_comps l.others.now) + 4
+decreases-each_compared l = 8 * (depth (tree l.comp.now.item) + depth_of_comps (map comp_of l.others.comps.now)) + 4
 
 abbrev pub decreases-item_compared : goal.decreases-item_compared
-decreases-item_compared l = 8 * (depth (tree l.comp.now.item) + depth_of_comps (map comp_of l.others.now)) + 3
+decreases-item_compared l = 8 * (depth (tree l.comp.now.item) + depth_of_comps (map comp_of l.others.comps.now)) + 3
 
 abbrev pub decreases-pair_compared : goal.decreases-pair_compared
 decreases-pair_compared l = 8 * (depth (tree l.comp.now.item) + depth (tree l.other.now.item)) + 2
@@ -57,16 +58,16 @@ invariant-same_parts-loop-i l =
 
 abbrev pub invariant-included-loop-place : goal.invariant-included-loop-place
 invariant-included-loop-place l =
-    AllSoFar l.size (λ c. AllInAt (comps_from l.items l.place) (atoms_named l.s_names c) (comps_of l.others) (atoms_named l.t_names c)) (λ c. AllInAt (comps_of l.comps) (atoms_named l.s_names c) (comps_of l.others) (atoms_named l.t_names c)) (λ o. AdmitsItems o (comps_of l.comps) × AdmitsItems o (comps_of l.others)) (view l.met)
+    AllSoFar l.size (λ c. AllInAt (comps_from l.items l.place) (atoms_named l.s_names c) (comps_of (map comp_of l.others.comps.now)) (atoms_named l.t_names c)) (λ c. AllInAt (comps_of l.comps) (atoms_named l.s_names c) (comps_of (map comp_of l.others.comps.now)) (atoms_named l.t_names c)) (λ o. AdmitsItems o (comps_of l.comps) × AdmitsItems o (comps_of (map comp_of l.others.comps.now))) (view l.met)
 
-abbrev pub invariant-found_in-loop-i : goal.invariant-found_in-loop-i
-invariant-found_in-loop-i l =
-    FoundSoFar l.size l.s_names l.t_names l.comp.binders l.comp.guard (tree l.comp.item) (comps_from l.others l.i) (comps_of (map comp_of l.others)) (view l.found)
+abbrev pub invariant-found_in-loop-place : goal.invariant-found_in-loop-place
+invariant-found_in-loop-place l =
+    FoundSoFar l.size l.s_names l.t_names l.comp.binders l.comp.guard (tree l.comp.item) (comps_at (map comp_of l.others.comps.now) (drop l.place-index l.others.places.now)) (comps_of (map comp_of l.others.comps.now)) (view l.found)
 
-abbrev pub invariant-item_compared-loop-other : goal.invariant-item_compared-loop-other
-invariant-item_compared-loop-other l =
-    FoundSoFar l.size l.s_names l.t_names l.comp.binders l.comp.guard (tree l.comp.item) (comps_from l.others l.other-index) (comps_of (map comp_of l.others)) (view l.found) × (length (views l.pairs) ≡ l.other-index) × IsRow l.size (comp_of l.comp) l.s_names (map comp_of l.others) l.t_names (views l.pairs)
+abbrev pub invariant-item_compared-loop-place : goal.invariant-item_compared-loop-place
+invariant-item_compared-loop-place l =
+    FoundSoFar l.size l.s_names l.t_names l.comp.binders l.comp.guard (tree l.comp.item) (comps_at (map comp_of l.others.comps.now) (drop l.place-index l.others.places.now)) (comps_of (map comp_of l.others.comps.now)) (view l.found) × IsRow l.size (comp_of l.comp) l.s_names (map comp_of l.others.comps.now) l.t_names l.pairs.items
 
 abbrev pub invariant-sets_compared-loop-comp : goal.invariant-sets_compared-loop-comp
 invariant-sets_compared-loop-comp l =
-    AllSoFar l.size (λ c. AllInAt (comps_from l.comp-items l.comp-index) (atoms_named l.s_names c) (comps_of l.others) (atoms_named l.t_names c)) (λ c. AllInAt (comps_of l.comps) (atoms_named l.s_names c) (comps_of l.others) (atoms_named l.t_names c)) (λ o. AdmitsItems o (comps_of l.comps) × AdmitsItems o (comps_of l.others)) (view l.met) × (length (map views l.rows.items) ≡ l.comp-index) × AreRows l.size l.comps l.s_names l.others l.t_names (map views l.rows.items)
+    AllSoFar l.size (λ c. AllInAt (comps_from l.comp-items l.comp-index) (atoms_named l.s_names c) (comps_of (map comp_of l.others.comps.now)) (atoms_named l.t_names c)) (λ c. AllInAt (comps_of l.comps) (atoms_named l.s_names c) (comps_of (map comp_of l.others.comps.now)) (atoms_named l.t_names c)) (λ o. AdmitsItems o (comps_of l.comps) × AdmitsItems o (comps_of (map comp_of l.others.comps.now))) (view l.met) × (length l.rows.items ≡ l.comp-index) × AreRows l.size l.comps l.s_names (map comp_of l.others.comps.now) l.t_names l.rows.items

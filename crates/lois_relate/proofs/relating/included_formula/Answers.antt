@@ -1,9 +1,9 @@
-use Rattle.std.proofs.Common.{◌≡◌, ap, ◌∙◌, sym, subst, length}
+use Rattle.std.proofs.Common.{◌≡◌, ap, ◌∙◌, sym, subst, length, map}
 use Rattle.std.proofs.lemmas.Result.{IfOk-weaker}
-use Rattle.lois_base.specs.Data.{comps_of}
-use Rattle.lois_base.specs.Fits.{Fits}
+use Rattle.lois_base.specs.Data.{coll, comps_of}
+use Rattle.lois_base.specs.Fits.{Fits, ItemsFit}
 use Rattle.lois_base.specs.FormulaView.{view}
-use Rattle.lois_base.specs.Tree.{tree}
+use Rattle.lois_base.specs.Tree.{tree, comp_of}
 use Rattle.lois_base.specs.Validity.{AdmitsItems}
 use Rattle.lois_base.specs.Values.{AllInAt}
 use Rattle.lois_relate.specs.Built.{Defines}
@@ -24,7 +24,7 @@ included-requires-clause-left_names c =
 pub included-requires-clause-right : goal.included-requires-clause-right
 included-requires-clause-right c =
     let e : c.as_slice-own.result.now ≡ level_range 0 c.args.size = c.as_slice-own.ensures.value ∙ c.in_ok-levels.ensures in
-    subst (λ z. Fits (length c.as_slice-own.result.now) (tree z)) c.in-Coll-Coll.is-1 (subst (λ k. Fits k (tree c.args.t.now)) (sym (length-own c.args.size c.as_slice-own.result.now e)) c.requires.right)
+    subst (λ z. ItemsFit (length c.as_slice-own.result.now) (comps_of z)) (sym c.as_slice-other_items.ensures) (subst (λ z. Fits (length c.as_slice-own.result.now) (tree z)) c.in-Coll-Coll.is-1 (subst (λ k. Fits k (tree c.args.t.now)) (sym (length-own c.args.size c.as_slice-own.result.now e)) c.requires.right))
 
 pub included-requires-clause-right_names : goal.included-requires-clause-right_names
 included-requires-clause-right_names c =
@@ -36,5 +36,6 @@ returns-clause-truth c =
     let e : c.as_slice-own.result.now ≡ level_range 0 c.args.size = c.as_slice-own.ensures.value ∙ c.in_ok-levels.ensures in
     let own = c.as_slice-own.result.now in
     let cs = comps_of c.in-Coll-Coll.comps in
-    let ks = comps_of c.in-Coll-Coll.others in
-    IfOk-weaker c.included.result (λ f. Defines c.args.size (λ a. AllInAt cs (atoms_named own a) ks (atoms_named own a)) (λ o. AdmitsItems o cs × AdmitsItems o ks) (view f)) _ (λ f says. holds_where_included c.args.size own e _ (view f) (tree c.args.s.now) (tree c.args.t.now) cs ks (ap tree c.in-Coll-Coll.is-0) (ap tree c.in-Coll-Coll.is-1) says) c.included.ensures
+    let ks = comps_of (map comp_of c.as_slice-other_items.result.now) in
+    let set = ap tree c.in-Coll-Coll.is-1 ∙ ap (λ z. coll (comps_of z)) (sym c.as_slice-other_items.ensures) in
+    IfOk-weaker c.included.result (λ f. Defines c.args.size (λ a. AllInAt cs (atoms_named own a) ks (atoms_named own a)) (λ o. AdmitsItems o cs × AdmitsItems o ks) (view f)) _ (λ f says. holds_where_included c.args.size own e _ (view f) (tree c.args.s.now) (tree c.args.t.now) cs ks (ap tree c.in-Coll-Coll.is-0) set says) c.included.ensures
