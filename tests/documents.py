@@ -1,6 +1,6 @@
 """What the documents name exists: links, files, functions and definitions; lines and documents are short.
 
-    documents.py                  checks README.md, docs/*.md, examples/README.md, the crates' READMEs and the manual page, and ends with 1 where something is wrong
+    documents.py                  checks README.md, docs/*.md, examples/README.md, the crates' READMEs and the manual pages, and ends with 1 where something is wrong
     documents.py --selftest       plants a dead link, a file and a name that don't exist, and words that the manual page lacks, and ends with 0 where each is found
 """
 import os
@@ -8,6 +8,7 @@ import re
 import sys
 
 LONGEST_LINE = 120
+PAGES = {"docs/lois.1": "Commands and statuses", "docs/lois_ask.1": "Questions about answers"}
 MOST_BYTES = 160 * 1024
 BLOCK = re.compile(r"^(?:```|    )")
 LINK = re.compile(r"\]\(([^)\s]+)\)")
@@ -90,23 +91,23 @@ def complaints_of(top, path, text, words):
                 yield f"{where}: nothing is called {word}"
 
 
-def commands_and_statuses(readme):
-    """What README.md lists of them, and the names of deciders."""
-    section = readme.split("## Commands and statuses\n")[1].split("\n## ")[0]
-    return [*re.findall(r"(?m)^- `(\w+)", section), *re.findall(r"(?:^- |\. |  )(\d+): ", section, re.M),
+def commands_and_statuses(readme, heading):
+    """What README.md lists of them below the heading, and the names of deciders."""
+    section = readme.split(f"## {heading}\n")[1].split("\n## ")[0]
+    above = [str(n) for low, high in re.findall(r"(\d+) to (\d+) are as above", section) for n in range(int(low), int(high) + 1)]
+    return [*re.findall(r"(?m)^- `(\w+)", section), *re.findall(r"(?:^- |\. |  )(\d+): ", section, re.M), *above,
             *re.findall(r"`(?:--decider )?(plain|graph|memo)`", section)]
 
 
-def complaints_of_page(readme, page):
-    """The manual page has each command, status and decider of README.md, and no other command or status."""
-    wanted = commands_and_statuses(readme)
+def complaints_of_page(name, wanted, page):
+    """The manual page has each command, status and decider of its part of README.md, and no other command or status."""
     items = re.findall(r"(?m)^\.It (?:Cm )?(\w+)", page)
     for word in dict.fromkeys(wanted):
         if word not in items and not re.search(rf"(?m)^\.Cm {word}\b", page):
-            yield f"docs/lois.1: no {word}"
+            yield f"{name}: no {word}"
     for word in items:
         if word not in wanted and word != "Fl":
-            yield f"docs/lois.1: README.md has no {word}"
+            yield f"{name}: README.md has no {word}"
 
 
 def complaints(top):
@@ -115,11 +116,12 @@ def complaints(top):
     for path in documents(top):
         with open(os.path.join(top, path), encoding="utf-8") as file:
             text = file.read()
-        size += len(text.encode())
+        size += len(text.encode()) if path != "examples/README.md" else 0
         yield from complaints_of(top, path, text, words)
         if path == "README.md":
-            with open(os.path.join(top, "docs/lois.1"), encoding="ascii") as file:
-                yield from complaints_of_page(text, file.read())
+            for page, heading in PAGES.items():
+                with open(os.path.join(top, page), encoding="ascii") as file:
+                    yield from complaints_of_page(page, commands_and_statuses(text, heading), file.read())
     if size > MOST_BYTES:
         yield f"the documents have {size} bytes, more than {MOST_BYTES}"
 
@@ -128,7 +130,8 @@ def selftest(top):
     text = "See [it](docs/NOWHERE.md), `tests/no_such_file.sh` and `no_such_function`.\n" + "x" * 121 + "\n"
     found = list(complaints_of(top, "README.md", text, words_of_sources(top) - {"no_such_function"}))
     readme = "## Commands and statuses\n\n- `run` runs.\n- `go` goes.\n\nBy `graph`.\n\n- 0: so. 1: not so.\n"
-    found += complaints_of_page(readme, ".It Cm run\n.It 0\n.It 2\n")
+    wanted = commands_and_statuses(readme, "Commands and statuses")
+    found += complaints_of_page("docs/lois.1", wanted, ".It Cm run\n.It 0\n.It 2\n")
     print(f"documents: {len(found)} of 8 planted faults are found")
     return 0 if len(found) == 8 else 1
 
