@@ -31,6 +31,8 @@ GROUPS = {
     "a comprehension is made for each step": """lois_automata/src/conditions lois_automata/src/frontier lois_automata/src/pairing
         lois_shortest_word/src/layers lois_shortest_word/src/steps lois_shortest_word/src/symbolic_states""",
     "a tuple of five is made": "lois_automata/src/parts lois_registers/src/translating",
+    "lines of results are asked case by case": "lois_equal/src/comparing lois_languages/src/inclusions",
+    "results are asked over their structure": "lois_run/src/lines lois_vectors_questions/src/languages",
     "tables of words": "lois_descent/src/lexemes lois_reader/src/answers",
     "each part of a term is asked the same": "lois_answers/src/sound lois_terms/src/reading",
     "a fault of depth, asked of an oracle and of a decider": "lois_eval/src/checks lois_interp/src/checks",
