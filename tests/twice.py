@@ -32,7 +32,10 @@ GROUPS = {
         lois_shortest_word/src/layers lois_shortest_word/src/steps lois_shortest_word/src/symbolic_states""",
     "a tuple of five is made": "lois_automata/src/parts lois_registers/src/translating",
     "lines of results are asked case by case": "lois_equal/src/comparing lois_languages/src/inclusions",
-    "results are asked over their structure": "lois_run/src/lines lois_vectors_questions/src/languages",
+    "results are asked over their structure": "lois_run/src/lines lois_questions/src/answers lois_vectors_questions/src/languages",
+    "two programs hand in words": "lois/src/main lois_ask/src/main",
+    "names among the words of two command lines": "lois_questions/src/command_line lois_run/src/words",
+    "two top calls": "lois_questions/src/top lois_run/src/top",
     "tables of words": "lois_descent/src/lexemes lois_reader/src/answers",
     "each part of a term is asked the same": "lois_answers/src/sound lois_terms/src/reading",
     "a fault of depth, asked of an oracle and of a decider": "lois_eval/src/checks lois_interp/src/checks",
@@ -43,7 +46,7 @@ GROUPS = {
 }
 # Two forms of one kind mirror one another in these files: a tuple and a set, intersection and difference, input and output.
 MIRRORS = """lois_algebra/src/depth lois_eval/src/evaluating lois_eval/src/machines lois_eval/src/relations lois_outside/src/standard
-    lois_parser/src/conditions lois_printer/src/terms lois_reader/src/terms lois_relate/src/building""".split()
+    lois_parser/src/conditions lois_printer/src/terms lois_reader/src/terms lois_relate/src/building lois_relate/src/relating""".split()
 
 
 def has_reason(one, other):

@@ -3,17 +3,13 @@ use Rattle.std.proofs.Common.{◌≡◌, ℕ, zero, suc, ◌+◌, ◌<◌, ◌==
 use Rattle.std.proofs.lemmas.Bool.{eq-eqb, eqb-true}
 use Rattle.std.proofs.lemmas.List.{append_assoc, append-nil}
 use Rattle.std.proofs.lemmas.List.Elements.{All-nil, All-cons, All-append, All-contains, Contains-append_left, Contains-append_right}
-use Rattle.std.proofs.lemmas.Option.{none-some, same_Some, slice_get-get_or, slice_get-map, slice_get_within, get_or_from_slice_get}
+use Rattle.std.proofs.lemmas.Option.{none-some, same_Some, slice_get-get_or, slice_get-map}
 use Rattle.std.specs.Global.{Vec}
 use Rattle.std.specs.Prelude.{Option, Some, None, option_map, slice_get, Contains}
 use Rattle.std.specs.List.{All}
 use Rattle.lois_terms.specs.Positions.{positions_from, positions_of, listed}
 
 module _ (x : ℕ) where
-  -- a position where the test passes
-  chosen : ℕ → Bool → List ℕ
-  chosen k b = if b then (k ∷ []) else []
-
   found_from : (k : ℕ) (ys : List ℕ) (i n : ℕ) → slice_get ys i ≡ Some x → n ≡ k + i → Contains (positions_from k x ys) n
   found_from k [] i n e at = absurd (none-some x e)
   found_from k (y ∷ ys) zero n e at =
@@ -72,9 +68,6 @@ module _ (was mid found : ℕ → Option (Vec ℕ)) (ys : List ℕ) (y : ℕ) (v
 
 -- what stands in a list, and where
 module _ {X : Type 0} (f : X → ℕ) (xs : List X) (x : X) where
-  pub read_in : (i : ℕ) → slice_get xs i ≡ Some x → Contains xs x
-  read_in i e = (i, slice_get_within xs i x e, get_or_from_slice_get xs i x x e)
-
   pub nowhere_in : All (λ i. slice_get xs i ≡ Some x → ⊥) (positions_of (f x) (map f xs)) → Contains xs x → ⊥
   nowhere_in none (i, l, e) =
       let here : slice_get xs i ≡ Some x = slice_get-get_or xs i x l ∙ ap Some e in
