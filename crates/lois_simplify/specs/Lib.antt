@@ -5,3 +5,4 @@ pub mod Irredundant
 pub mod Moved
 pub mod Rounds
 pub mod Shortened
+pub mod Once
