@@ -16,8 +16,8 @@ use Rattle.lois_base.specs.Values.{MakesAt, MemberAt, InAt}
 use Rattle.lois_base.specs.declared.guards.Lit.{Lit}
 use Rattle.lois_base.proofs.Both.{holds_both}
 use Rattle.lois_elim.specs.Bound.{AgreesWith}
-use Rattle.lois_relate.specs.Built.{IsEither}
 use Rattle.lois_relate.specs.Relations.{HoldsWhereItemIn}
+use Rattle.lois_simplify.specs.Candidates.{FailsSomewhere}
 use Rattle.lois_simplify.specs.Covered.{IsCovered}
 use Rattle.lois_simplify.specs.Simplification.{IsSameWhere, set_of}
 use Rattle.lois_simplify.specs.Irredundant.{IsIrredundantAlone, HasOwn, EachHasOwn}
@@ -77,27 +77,6 @@ module _ (u : List (List Lit)) (n : ℕ) where
       there w x h =
           let r = member_made (ps ++ comp m g t ∷ bs) w x c h in made w x r.0 r.2 (Contains-append_cases ps (comp m g t ∷ bs) r.0 r.1)
 
--- ---- membership among some and among others is membership among all
-in_either : (xs ys : List CompD) (t : TermD) (c d : List Atom) → InAt t c (comps_of (xs ++ ys)) d → InAt t c (comps_of xs) d ⊎ InAt t c (comps_of ys) d
-in_either xs ys t c d i =
-    let made = member_made (xs ++ ys) i.0 i.1 d i.2 in
-    elim (Contains-append_cases xs ys made.0 made.1) [
-      | inl h ↦ inl (i.0, i.1, made_member xs made.0 i.0 i.1 d h made.2, i.3)
-      | inr h ↦ inr (i.0, i.1, made_member ys made.0 i.0 i.1 d h made.2, i.3)
-    ]
-
-pub among_all : (n m : ℕ) (t : TermD) (xs ys : List CompD) (f g r : FormulaD) → HoldsWhereItemIn n m t (comps_of xs) f → HoldsWhereItemIn n m t (comps_of ys) g → IsEither f g r → HoldsWhereItemIn n m t (comps_of (xs ++ ys)) r
-among_all n m t xs ys f g r there else_there either c e l k = (
-  λ h. elim ((either.truth (c ++ e)).0 h) [
-    | inl p ↦ in_more xs (xs ++ ys) (λ j q. Contains-append_left xs ys j q) t (c ++ e) c ((there c e l k).0 p)
-    | inr p ↦ in_more ys (xs ++ ys) (λ j q. Contains-append_right xs ys j q) t (c ++ e) c ((else_there c e l k).0 p)
-  ],
-  λ i. (either.truth (c ++ e)).1 (elim (in_either xs ys t (c ++ e) c i) [
-    | inl p ↦ inl ((there c e l k).1 p)
-    | inr p ↦ inr ((else_there c e l k).1 p)
-  ]),
-)
-
 -- ---- what the questions say: a constraint h that holds where u and the guard do, and a constraint q that holds where the item
 -- is among the others
 module _ (u : List (List Lit)) (n m : ℕ) (g : List (List Lit)) (t : TermD) (others : List CompD) (h q : List (List Lit)) where
@@ -113,19 +92,30 @@ module _ (u : List (List Lit)) (n m : ℕ) (g : List (List Lit)) (t : TermD) (ot
       let hh : IsTrue (holds (c ++ e) h) = a.here (c ++ e) ∙ (ap (λ b. b && holds (c ++ e) g) (before ∙ o) ∙ i.guard) in
       (a.within c e l i.count).0 (entailed (c ++ e) long hh)
 
+  -- a choice at which u and the guard hold, and at which the item isn't among the others
+  module _ (under : ConstraintFits n u) (here : (c : List Atom) → holds c h ≡ (holds c u && holds c g)) (d : List Atom) (l : length d ≡ n + m) (hh : IsTrue (holds d h)) where
+    own_there : (length (take n d) ≡ n → length (drop n d) ≡ m → take n d ++ drop n d ≡ d → InAt t (take n d ++ drop n d) (comps_of others) (take n d) → ⊥) → HasOwn u n others (comp m g t)
+    own_there out =
+        let whole : take n d ++ drop n d ≡ d = take-append-drop n d in
+        let short : length (take n d) ≡ n = length-take-le n d (omega arith) in
+        let more : length (drop n d) ≡ m = omega (arith, length-drop n d) in
+        let parts = and_parts (holds d u) (holds d g) (sym (here d) ∙ hh) in
+        let met : IsTrue (holds (take n d) u) = sym (holds_before (take n d) (drop n d) u (subst (λ k. ConstraintFits k u) (sym short) under)) ∙ (ap (λ z. holds z u) whole ∙ parts.0) in (
+          take n d,
+          drop n d,
+          record { count = short; met = met },
+          record { count = more; guard = ap (λ z. holds z g) whole ∙ parts.1 },
+          out short more whole,
+        )
+
   pub asked_own : IsAsked → (d : List Atom) → length d ≡ n + m → IsTrue (holds d h) → IsFalse (holds d q) → HasOwn u n others (comp m g t)
   asked_own a d l hh out =
-      let whole : take n d ++ drop n d ≡ d = take-append-drop n d in
-      let short : length (take n d) ≡ n = length-take-le n d (omega arith) in
-      let more : length (drop n d) ≡ m = omega (arith, length-drop n d) in
-      let parts = and_parts (holds d u) (holds d g) (sym (a.here d) ∙ hh) in
-      let under : IsTrue (holds (take n d) u) = sym (holds_before (take n d) (drop n d) u (subst (λ k. ConstraintFits k u) (sym short) a.under)) ∙ (ap (λ z. holds z u) whole ∙ parts.0) in (
-        take n d,
-        drop n d,
-        record { count = short; met = under },
-        record { count = more; guard = ap (λ z. holds z g) whole ∙ parts.1 },
-        λ i. let yes : IsTrue (holds d q) = ap (λ z. holds z q) (sym whole) ∙ (a.within (take n d) (drop n d) short more).1 i in absurd (cc),
-      )
+      own_there a.under a.here d l hh (λ short more whole i.
+      let yes : IsTrue (holds d q) = ap (λ z. holds z q) (sym whole) ∙ (a.within (take n d) (drop n d) short more).1 i in absurd (cc))
+
+  pub failing_own : (f : FormulaD) → ConstraintFits n u → ((c : List Atom) → holds c h ≡ (holds c u && holds c g)) → HoldsWhereItemIn n m t (comps_of others) f → FailsSomewhere (n + m) h f → HasOwn u n others (comp m g t)
+  failing_own f under here member (d, l, hh, fails) =
+      own_there under here d l hh (λ short more whole i. fails (subst (λ z. FormulaHolds z f) whole ((member (take n d) (drop n d) short more).1 i)))
 
   pub is_asked : (f : FormulaD) → ConstraintFits n u → ((c : List Atom) → holds c h ≡ (holds c u && holds c g)) → HoldsWhereItemIn n m t (comps_of others) f → AgreesWith (n + m) f q → IsAsked
   is_asked f under here member agrees = record {

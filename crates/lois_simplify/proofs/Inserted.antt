@@ -1,14 +1,15 @@
 -- An atom put into a choice, and the levels that are moved for it.
 use Rattle.std.proofs.Common.{◌≡◌, ℕ, zero, suc, ◌+◌, ◌-◌, ◌<◌, ◌≤◌, ◌⊎◌, inl, inr, List, [], ◌∷◌, ◌++◌, length, refl, sym, ap, ◌∙◌, subst, arith}
-use Rattle.std.proofs.lemmas.Bool.{cases_order}
+use Rattle.std.proofs.lemmas.Bool.{cases_order, false≢true}
 use Rattle.std.proofs.lemmas.Bool.Decides.{nat_tests}
-use Rattle.std.proofs.lemmas.List.{get_or_append_left, get_or-append-add}
+use Rattle.std.proofs.lemmas.List.{get_or_append_left, get_or-append-add, length-map}
 use Rattle.std.proofs.lemmas.List.Elements.{All-head, All-tail, All-weaker, All-map}
+use Rattle.std.specs.Bool.{IsTrue, IsFalse}
 use Rattle.std.specs.List.{All}
 use Rattle.lois_base.specs.Atom.{Atom, whole}
 use Rattle.lois_base.specs.Fits.{LitFits, CubeFits, ConstraintFits}
 use Rattle.lois_base.specs.Rename.{rename_lit, rename_cube, rename_constraint}
-use Rattle.lois_base.specs.Truth.{atom_at, op_holds, lit_holds, cube_holds, holds}
+use Rattle.lois_base.specs.Truth.{atom_at, op_holds, lit_holds, cube_holds, holds, sampled}
 use Rattle.lois_base.specs.declared.guards.Lit.{Lit}
 use Rattle.lois_base.proofs.Truths.{LitAgrees, holds_agree}
 use Rattle.lois_simplify.specs.Moved.{moved}
@@ -129,12 +130,19 @@ constraint_moved_fits b n g l f =
     (All-weaker (LitFits (suc n)) (λ m. LitFits (suc n) (rename_lit (moved b n) m)) (λ m o. (moved_fits b n m.left l o.0, moved_fits b n m.right l o.1)) k h)) g f)
 
 -- ---- atoms behind a choice don't count for what fits it
-pub holds_before : (c e : List Atom) (u : List (List Lit)) → ConstraintFits (length c) u → holds (c ++ e) u ≡ holds c u
-holds_before c e u f =
-    holds_agree (c ++ e) c u
-    (All-weaker (CubeFits (length c)) (All (LitAgrees (c ++ e) c)) (λ k h. All-weaker (LitFits (length c)) (LitAgrees (c ++ e) c) (λ m o. agrees m o) k h) u f)
-  where
-    agrees : (m : Lit) → LitFits (length c) m → LitAgrees (c ++ e) c m
-    agrees m o =
-        ap (λ z. op_holds m.op z (atom_at (c ++ e) m.right)) (get_or_append_left c e (whole 0) m.left o.0) ∙
-        ap (λ z. op_holds m.op (atom_at c m.left) z) (get_or_append_left c e (whole 0) m.right o.1)
+module _ (c e : List Atom) where
+  lit_before : (m : Lit) → LitFits (length c) m → LitAgrees (c ++ e) c m
+  lit_before m o =
+      ap (λ z. op_holds m.op z (atom_at (c ++ e) m.right)) (get_or_append_left c e (whole 0) m.left o.0) ∙
+      ap (λ z. op_holds m.op (atom_at c m.left) z) (get_or_append_left c e (whole 0) m.right o.1)
+
+  pub holds_before : (u : List (List Lit)) → ConstraintFits (length c) u → holds (c ++ e) u ≡ holds c u
+  holds_before u f =
+      holds_agree (c ++ e) c u
+      (All-weaker (CubeFits (length c)) (All (LitAgrees (c ++ e) c)) (λ k h. All-weaker (LitFits (length c)) (LitAgrees (c ++ e) c) (λ m o. lit_before m o) k h) u f)
+
+-- a literal that fails at a sample fails whatever stands behind it
+pub literal_fails : (s : List ℕ) (e : List Atom) (l : Lit) → LitFits (length s) l → IsFalse (lit_holds (sampled s) l) → IsTrue (lit_holds (sampled s ++ e) l) → ⊥
+literal_fails s e l f fails holds =
+    let fits : LitFits (length (sampled s)) l = subst (λ n. LitFits n l) (sym (length-map s whole)) f in
+    false≢true (sym fails ∙ sym (lit_before (sampled s) e l fits) ∙ holds)

@@ -12,3 +12,4 @@ pub mod Shortened
 pub mod Single
 pub mod Tuples
 pub mod Under
+pub mod Candidates

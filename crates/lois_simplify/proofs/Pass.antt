@@ -2,7 +2,7 @@
 use Rattle.std.proofs.Common.{◌≡◌, ℕ, ◌+◌, ◌-◌, ◌<◌, List, [], ◌∷◌, ◌++◌, length, get_or, set, take, drop, map, sym, ap, ◌∙◌, subst, append_assoc, length-drop, arith}
 use Rattle.std.specs.Prelude.{Bool}
 use Rattle.std.specs.List.{Contains}
-use Rattle.std.proofs.lemmas.List.{take_all, drop-set-lt}
+use Rattle.std.proofs.lemmas.List.{take_all, drop-set-lt, drop-drop, drop-map}
 use Rattle.std.proofs.lemmas.List.Elements.{Contains-append_left, Contains-append_right}
 use Rattle.lois_base.specs.Data.{CompD, comps_of}
 use Rattle.lois_base.specs.Fits.{ItemsFit}
@@ -11,6 +11,7 @@ use Rattle.lois_base.specs.Validity.{AdmitsItems}
 use Rattle.lois_base.specs.declared.guards.Lit.{Lit}
 use Rattle.lois_base.specs.declared.values.Comp.{Comp}
 use Rattle.lois_base.proofs.Viewed.{rest_is}
+use Rattle.lois_terms.specs.Shapes.{item_shape}
 use Rattle.lois_simplify.specs.Covered.{IsCovered}
 use Rattle.lois_simplify.specs.Simplification.{IsSimplification, set_of}
 use Rattle.lois_simplify.specs.Irredundant.{HasOwn, EachHasOwn}
@@ -26,6 +27,15 @@ pub record UncoveredSoFar (u : List (List Lit)) (n : ℕ) (whole kept coming : L
 
 pub to_the_end : {X : Type 0} (xs : List X) (i : ℕ) → take (length xs - i) (drop i xs) ≡ drop i xs
 to_the_end xs i = take_all (length xs - i) (drop i xs) (omega (arith, length-drop i xs))
+
+-- the shapes of the rest, once the next one is moved away and y stands in its place
+pub next_shapes : (shapes : List ℕ) (items now : List Comp) (i : ℕ) (y : Comp) → now ≡ set items i y → drop i shapes ≡ map item_shape (map comp_of (drop i items)) → drop (i + 1) shapes ≡ map item_shape (map comp_of (drop (i + 1) now))
+next_shapes shapes items now i y e is =
+    let rest : drop (i + 1) now ≡ drop (i + 1) items = ap (drop (i + 1)) e ∙ drop-set-lt (i + 1) items i y (omega arith) in
+    sym (drop-drop 1 i shapes)
+    ∙ ap (drop 1) is
+    ∙ drop-map item_shape 1 (map comp_of (drop i items))
+    ∙ ap (map item_shape) (drop-map comp_of 1 (drop i items) ∙ ap (map comp_of) (drop-drop 1 i items ∙ sym rest))
 
 module _ (u : List (List Lit)) (n : ℕ) (whole : List CompD) where
   pub uncovered_begin : UncoveredSoFar u n whole [] whole

@@ -5,3 +5,5 @@ pub mod Irredundant
 pub mod Moved
 pub mod Rounds
 pub mod Shortened
+pub mod Candidates
+pub mod Once

@@ -8,6 +8,7 @@ mod guards;
 mod moving;
 mod oracle;
 mod rounds;
+mod sampling;
 mod shortening;
 mod simplifying;
 

@@ -1,41 +1,50 @@
-use Rattle.std.proofs.Common.{◌+◌, ◌++◌, map, ◌∙◌}
-use Rattle.std.proofs.lemmas.List.{length-map}
-use Rattle.lois_base.specs.Atom.{whole}
-use Rattle.lois_base.specs.FormulaView.{view}
+use Rattle.std.proofs.Common.{◌≡◌, ◌++◌, map, subst, Contains}
+use Rattle.std.proofs.lemmas.Result.{IfOk-weaker}
+use Rattle.std.specs.Bool.{IsTrue, IsFalse}
+use Rattle.lois_base.specs.Data.{CompD}
 use Rattle.lois_base.specs.Tree.{tree, comp_of}
-use Rattle.lois_base.specs.Truth.{sampled}
-use Rattle.lois_base.proofs.Validity.{fits_longer}
-use Rattle.lois_deciders.specs.Satisfaction.{IsCounterexample}
-use Rattle.lois_simplify.proofs.Asked.{none_there, some_there}
-use Rattle.lois_simplify.proofs.Beside.{is_asked, asked_covered, asked_own, alone_has_own}
+use Rattle.lois_terms.specs.Shapes.{item_shape}
+use Rattle.lois_simplify.specs.Candidates.{AddsCandidates}
+use Rattle.lois_simplify.specs.Covered.{IsCovered}
+use Rattle.lois_simplify.specs.Irredundant.{HasOwn}
+use Rattle.lois_simplify.proofs.Candidates.{candidates_only, candidates_all, candidates_fit, candidates_admit, covered_by_all, own_beside_all}
 use Rattle.lois_simplify.proofs.covering.is_covered.Goals as goal
 
-pub returns-then-is_false_formula-clause-own : goal.returns-then-is_false_formula-clause-own
-returns-then-is_false_formula-clause-own g c = λ e.
-    let k = c.args.comp.now in
-    alone_has_own c.args.under.now c.args.size k.binders k.guard (tree k.item) (c.args.kept.now ++ map comp_of c.args.coming.now) (view c.in_ok-membership.membership) c.requires.under_levels c.in_ok-membership.ensures.truth (c.is_false_formula.ensures.0 c.if-is_false_formula.true) c.requires.lean
+pub is_covered_by-requires-clause-other_levels : goal.is_covered_by-requires-clause-other_levels
+is_covered_by-requires-clause-other_levels g c =
+    let x = c.shape-shape.result in
+    let kept = c.args.kept.now in
+    let coming = map comp_of c.args.coming.now in
+    let one = subst (λ z. AddsCandidates x kept z c.add_candidates.new.candidates) c.new-candidates.ensures (subst (λ z. AddsCandidates x z c.new-candidates.result c.add_candidates.new.candidates) c.as_slice.ensures c.in_ok-add_candidates.ensures) in
+    candidates_fit x kept coming c.add_candidates.new.candidates c.add_candidates-2.new.candidates one c.in_ok-add_candidates-2.ensures c.args.size c.requires.kept_levels c.requires.coming_levels
 
-pub quantifier_free-requires-clause-operators : goal.quantifier_free-requires-clause-operators
-quantifier_free-requires-clause-operators g c =
-    c.in_ok-membership.ensures.operators g.T.Structure.ordered c.requires.operators.1 c.requires.kept_operators c.requires.coming_operators
-
-pub counterexample-requires-clause-first : goal.counterexample-requires-clause-first
-counterexample-requires-clause-first g c =
-    c.in_ok-here.ensures.fits (c.args.size + c.args.comp.now.binders) (fits_longer c.args.size c.args.comp.now.binders c.args.under.now c.requires.under_levels) c.requires.levels.1
+pub is_covered_by-requires-clause-other_operators : goal.is_covered_by-requires-clause-other_operators
+is_covered_by-requires-clause-other_operators g c =
+    let x = c.shape-shape.result in
+    let kept = c.args.kept.now in
+    let coming = map comp_of c.args.coming.now in
+    let one = subst (λ z. AddsCandidates x kept z c.add_candidates.new.candidates) c.new-candidates.ensures (subst (λ z. AddsCandidates x z c.new-candidates.result c.add_candidates.new.candidates) c.as_slice.ensures c.in_ok-add_candidates.ensures) in
+    candidates_admit x kept coming c.add_candidates.new.candidates c.add_candidates-2.new.candidates one c.in_ok-add_candidates-2.ensures g.T.Structure.ordered c.requires.kept_operators c.requires.coming_operators
 
 pub returns-clause-covered : goal.returns-clause-covered
-returns-clause-covered g c = λ t.
+returns-clause-covered g c =
+    let x = c.shape-shape.result in
     let k = c.args.comp.now in
-    let others = c.args.kept.now ++ map comp_of c.args.coming.now in
-    let asked = is_asked c.args.under.now c.args.size k.binders k.guard (tree k.item) others c.in_ok-here.here c.in_ok-within.within (view c.in_ok-membership.membership) c.requires.under_levels c.in_ok-here.ensures.truth c.in_ok-membership.ensures.truth c.in_ok-within.ensures.truth in
-    asked_covered c.args.under.now c.args.size k.binders k.guard (tree k.item) others c.in_ok-here.here c.in_ok-within.within asked
-    (c.in_ok-sample.ensures.none.0 (none_there c.in_ok-sample.sample c.is_none.result c.is_none.ensures t))
+    let kept = c.args.kept.now in
+    let coming = map comp_of c.args.coming.now in
+    let rs = c.add_candidates-2.new.candidates in
+    let one = subst (λ z. AddsCandidates x kept z c.add_candidates.new.candidates) c.new-candidates.ensures (subst (λ z. AddsCandidates x z c.new-candidates.result c.add_candidates.new.candidates) c.as_slice.ensures c.in_ok-add_candidates.ensures) in
+    let only = candidates_only x kept coming c.add_candidates.new.candidates rs one c.in_ok-add_candidates-2.ensures in
+    IfOk-weaker c.is_covered_by.result (λ b. IsTrue b → IsCovered c.args.under.now c.args.size rs (comp_of k)) _ (λ b covered t. covered_by_all c.args.under.now c.args.size k.binders k.guard (tree k.item) (kept ++ coming) rs only (covered t)) c.is_covered_by.ensures.covered
 
 pub returns-clause-own : goal.returns-clause-own
-returns-clause-own g c = λ f.
+returns-clause-own g c =
+    let x = c.shape-shape.result in
     let k = c.args.comp.now in
-    let others = c.args.kept.now ++ map comp_of c.args.coming.now in
-    let asked = is_asked c.args.under.now c.args.size k.binders k.guard (tree k.item) others c.in_ok-here.here c.in_ok-within.within (view c.in_ok-membership.membership) c.requires.under_levels c.in_ok-here.ensures.truth c.in_ok-membership.ensures.truth c.in_ok-within.ensures.truth in
-    let s = some_there (λ v. IsCounterexample (c.args.size + k.binders) c.in_ok-here.here c.in_ok-within.within v.items) c.in_ok-sample.sample c.is_none.result c.is_none.ensures f c.in_ok-sample.ensures.some in
-    asked_own c.args.under.now c.args.size k.binders k.guard (tree k.item) others c.in_ok-here.here c.in_ok-within.within asked
-    (sampled s.0.items) (length-map s.0.items whole ∙ s.1.0.count) s.1.1 s.1.2
+    let kept = c.args.kept.now in
+    let coming = map comp_of c.args.coming.now in
+    let rs = c.add_candidates-2.new.candidates in
+    let one = subst (λ z. AddsCandidates x kept z c.add_candidates.new.candidates) c.new-candidates.ensures (subst (λ z. AddsCandidates x z c.new-candidates.result c.add_candidates.new.candidates) c.as_slice.ensures c.in_ok-add_candidates.ensures) in
+    let only = candidates_only x kept coming c.add_candidates.new.candidates rs one c.in_ok-add_candidates-2.ensures in
+    let all = subst (λ z. (j : CompD) → Contains (kept ++ coming) j → item_shape j ≡ z → Contains rs j) c.shape-shape.ensures.exact (candidates_all x kept coming c.add_candidates.new.candidates rs one c.in_ok-add_candidates-2.ensures) in
+    IfOk-weaker c.is_covered_by.result (λ b. IsFalse b → HasOwn c.args.under.now c.args.size rs (comp_of k)) _ (λ b own f. own_beside_all c.args.under.now c.args.size k.binders k.guard (tree k.item) (kept ++ coming) rs only all (own f)) c.is_covered_by.ensures.own

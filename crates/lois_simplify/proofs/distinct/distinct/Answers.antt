@@ -6,22 +6,18 @@ use Rattle.std.specs.List.{Contains}
 use Rattle.lois_base.specs.Data.{CompD}
 use Rattle.lois_base.specs.Tree.{comp_of}
 use Rattle.lois_base.proofs.Viewed.{contains_item}
-use Rattle.lois_simplify.proofs.Seen.{HasSeen, seen_again, seen_new}
+use Rattle.lois_simplify.proofs.Seen.{HasSeen, seen_once}
 use Rattle.lois_simplify.proofs.distinct.distinct.Goals as goal
 
-pub loop-comp-preserved-in-Continue-1 : goal.loop-comp-preserved-in-Continue-1
-loop-comp-preserved-in-Continue-1 c =
+pub loop-comp-preserved : goal.loop-comp-preserved
+loop-comp-preserved c =
     let items = c.into_vec-comp-items.result.items in
     let seen = c.loop-comp.yielded in
     let k : CompD = comp_of c.in-Some.comp in
     let turn = YieldsList-turn (YieldsList-from_vec items (cc) (cc)) seen c.loop-comp.comp-iterator c.loop-comp.yielded_by c.next.result c.next.new.self c.in-Some.comp c.in-Some.is c.next.ensures.steps in
     let there : Contains c.args.comps k = contains_item comp_of items c.args.comps (length seen) c.in-Some.comp c.into_vec-comp-items.ensures turn.0 turn.1 in
-    subst (λ s. HasSeen s c.args.comps c.push.new.self) (sym (map-append comp_of seen (c.in-Some.comp ∷ [])))
-    (subst (HasSeen (map comp_of seen ++ k ∷ []) c.args.comps) (sym c.in_ok-push.ensures.ok) (seen_new (map comp_of seen) c.args.comps c.loop-comp.kept k c.loop-comp.invariant there))
-
-pub loop-comp-preserved-else-not-is_written_in : goal.loop-comp-preserved-else-not-is_written_in
-loop-comp-preserved-else-not-is_written_in c =
-    let seen = c.loop-comp.yielded in
-    let k : CompD = comp_of c.in-Some.comp in
-    subst (λ s. HasSeen s c.args.comps c.loop-comp.kept) (sym (map-append comp_of seen (c.in-Some.comp ∷ [])))
-    (seen_again (map comp_of seen) c.args.comps c.loop-comp.kept k c.loop-comp.invariant (c.is_written_in.ensures c.if-not-is_written_in.false))
+    record {
+      seen = subst (λ s. HasSeen s c.args.comps c.keep_once.new.kept) (sym (map-append comp_of seen (c.in-Some.comp ∷ [])))
+          (seen_once c.loop-comp.kept c.keep_once.new.kept k (map comp_of seen) c.args.comps there c.in_ok-keep_once.ensures.kept c.loop-comp.invariant.seen);
+      index = c.in_ok-keep_once.ensures.index;
+    }
