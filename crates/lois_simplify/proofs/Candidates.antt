@@ -11,7 +11,6 @@ use Rattle.lois_base.specs.Validity.{AdmitsItems}
 use Rattle.lois_base.specs.Values.{MakesAt, InAt}
 use Rattle.lois_base.specs.declared.guards.Lit.{Lit}
 use Rattle.lois_terms.specs.Shapes.{shape_of, item_shape}
-use Rattle.lois_terms.specs.Positions.{positions_of}
 use Rattle.lois_terms.proofs.Shapes.{one_shape}
 use Rattle.lois_simplify.specs.Candidates.{AddsCandidates, behind}
 use Rattle.lois_simplify.specs.Covered.{IsCovered}

@@ -1,5 +1,5 @@
 -- Which others can have a member of a comprehension: those whose items have its item's shape.
-use Rattle.std.specs.Prelude.{◌≡◌, ℕ, ◌-◌, ◌++◌, nat_lt, if◌then◌else◌, List, length, slice_get, Option, None, Contains, ◌⊎◌, IsTrue}
+use Rattle.std.specs.Prelude.{◌≡◌, ℕ, ◌-◌, nat_lt, if◌then◌else◌, List, length, slice_get, Option, None, Contains, ◌⊎◌, IsTrue}
 use Rattle.lois_base.specs.Atom.{Atom}
 use Rattle.lois_base.specs.Data.{CompD}
 use Rattle.lois_base.specs.FormulaData.{FormulaD}

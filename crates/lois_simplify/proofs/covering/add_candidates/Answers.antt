@@ -1,4 +1,4 @@
-use Rattle.std.proofs.Common.{◌≡◌, ℕ, inl, map, take, get_or, Some, Contains, refl, subst, arith}
+use Rattle.std.proofs.Common.{◌≡◌, ℕ, inl, map, get_or, Some, Contains, refl, subst, arith}
 use Rattle.std.proofs.lemmas.List.{take_all}
 use Rattle.std.proofs.lemmas.List.Elements.{All-nil}
 use Rattle.std.specs.List.{All}

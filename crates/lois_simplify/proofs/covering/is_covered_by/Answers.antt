@@ -1,10 +1,10 @@
-use Rattle.std.proofs.Common.{◌+◌, [], map, ◌∙◌, sym, subst}
+use Rattle.std.proofs.Common.{◌+◌, [], ◌∙◌, sym, subst}
 use Rattle.std.proofs.lemmas.List.{length-map}
 use Rattle.lois_base.specs.Atom.{whole}
 use Rattle.lois_base.specs.Data.{comps_of}
 use Rattle.lois_base.specs.Fits.{ItemsFit}
 use Rattle.lois_base.specs.FormulaView.{view}
-use Rattle.lois_base.specs.Tree.{tree, comp_of}
+use Rattle.lois_base.specs.Tree.{tree}
 use Rattle.lois_base.specs.Truth.{sampled}
 use Rattle.lois_base.specs.Validity.{AdmitsItems}
 use Rattle.lois_base.proofs.Validity.{fits_longer}

@@ -1,11 +1,10 @@
-use Rattle.std.proofs.Common.{◌≡◌, ◌<◌, List, ◌∷◌, [], ◌++◌, length, append_assoc, inl, inr, subst, arith}
+use Rattle.std.proofs.Common.{◌≡◌, ◌<◌, List, ◌∷◌, [], ◌++◌, length, append_assoc, subst, arith}
 use Rattle.lois_base.specs.Atom.{Atom}
 use Rattle.lois_base.specs.FormulaData.{exists}
-use Rattle.lois_base.specs.FormulaTruth.{FormulaHolds, AllHold, AnyHolds}
+use Rattle.lois_base.specs.FormulaTruth.{FormulaHolds}
 use Rattle.lois_base.specs.FormulaView.{view}
 use Rattle.lois_base.specs.Truth.{sampled}
 use Rattle.lois_base.proofs.FormulaViews.{formula_within, view_Exists}
-use Rattle.lois_elim.proofs.Steps.{parts_are, no_parts}
 use Rattle.lois_simplify.proofs.sampling.+failing.Goals as goal
 
 pub fails_at-returns-in-Exists : goal.fails_at-returns-in-Exists
