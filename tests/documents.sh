@@ -1,5 +1,5 @@
 #!/usr/bin/env bash
-# Runs tests/documents.py on the checkout, and its self test, and mandoc on the manual page where it is there. The last
+# Runs tests/documents.py on the checkout, and its self test, and mandoc on the manual pages where it is there. The last
 # line is `N passed, M failed`.
 set -u
 cd "$(dirname "${BASH_SOURCE[0]}")/.." || exit 70
@@ -13,8 +13,8 @@ trap 'rm -rf "$work"' EXIT
 count_suite "$work/said" python3 tests/documents.py --selftest
 count_suite "$work/said" python3 tests/documents.py
 if command -v mandoc >/dev/null; then
-  count_suite "$work/said" mandoc -T lint docs/lois.1
+  count_suite "$work/said" mandoc -T lint docs/lois.1 docs/lois_ask.1
 else
-  echo "tests/documents.sh: the manual page: skipped, since mandoc isn't there"
+  echo "tests/documents.sh: the manual pages: skipped, since mandoc isn't there"
 fi
 tell_counts

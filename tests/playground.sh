@@ -14,10 +14,12 @@ skip() {
 
 # Whether the page was made of other files than those of the checkout.
 is_old() {
-  local file top=$PWD name=lois
+  local file top=$PWD name
   # shellcheck disable=SC2034
   . scripts/programs.sh
-  [[ $(cat playground/out/lois.wasm.sum) == *" $(sum_of_sources playground/build playground/imports.txt)" ]] || return 0
+  for name in lois lois_ask; do
+    [[ $(cat "playground/out/$name.wasm.sum") == *" $(sum_of_sources playground/build playground/imports.txt)" ]] || return 0
+  done
   for file in playground/page/*; do
     cmp -s "$file" "playground/out/${file##*/}" || return 0
   done
@@ -27,7 +29,7 @@ is_old() {
   return 1
 }
 
-[ -f playground/out/lois.wasm ] || skip "playground/out isn't there: playground/build makes it"
+[ -f playground/out/lois.wasm ] && [ -f playground/out/lois_ask.wasm ] || skip "playground/out isn't there: playground/build makes it"
 ! is_old || skip "playground/out is older than the sources: playground/build makes it anew"
 command -v python3 >/dev/null || skip "python3 isn't there"
 for browser in ${CHROMIUM:+"$CHROMIUM"} chromium chromium-browser google-chrome; do

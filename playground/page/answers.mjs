@@ -5,6 +5,8 @@ const COMPLETED = {
   run: 'Completed: the script ran at every choice of its parameters',
   check: 'Well scoped: the text is a script, and this is its printed form',
   equal: 'The two accept the same words',
+  within: 'The second one accepts each word of the first',
+  word: 'This word is accepted, and no shorter one',
   census: 'The orbits are listed',
 };
 const WORDS_OF_ALL = {
@@ -13,7 +15,11 @@ const WORDS_OF_ALL = {
   3: `${FAILED}a while isn't done after its turns`,
   4: `${FAILED}a value is deeper than 64`,
   5: 'Refused',
-  10: 'The two differ: this word tells them apart',
+};
+const NO = {
+  equal: 'The two differ: this word tells them apart',
+  within: "The first one accepts this word, and the second doesn't",
+  word: 'No word is accepted',
 };
 
 /** How an answer looks: good, bad or other. */
@@ -21,7 +27,7 @@ export const toneOf = (status) => (status === 0 ? 'good' : status === 10 ? 'othe
 
 /** The status in words. */
 export const wordsOf = (command, status) =>
-  (status === 0 ? COMPLETED[command] : WORDS_OF_ALL[status]) ?? `Status ${status}`;
+  (status === 0 ? COMPLETED[command] : status === 10 ? NO[command] : WORDS_OF_ALL[status]) ?? `Status ${status}`;
 
 /** The line and the column, counted from 1 and in bytes, and the cause, of a refusal or a failure. */
 export function placeOf(text) {

@@ -6,11 +6,14 @@ import { Editor } from './editor.mjs';
 const MEMORIES = [2 ** 26, 2 ** 28, 2 ** 30, 2 ** 32];
 const FIRST_MEMORY = 2 ** 30;
 const FIRST_EXAMPLE = 'cases';
-// commands that read results and are told the names of lines
+// commands that read results and are told the names of lines, each of one of the programs
 const QUESTIONS = [
-  { command: 'equal', names: 2, about: 'Do the automata of two lines accept the same words?' },
-  { command: 'census', names: 1, about: 'One member of each orbit of a set' },
+  { command: 'equal', program: 'lois', names: 2, about: 'Do the automata of two lines accept the same words?' },
+  { command: 'within', program: 'lois_ask', names: 2, about: 'Does the second line accept each word of the first?' },
+  { command: 'word', program: 'lois_ask', names: 1, about: 'A shortest word that an automaton accepts' },
+  { command: 'census', program: 'lois', names: 1, about: 'One member of each orbit of a set' },
 ];
+const PROGRAMS = ['lois', 'lois_ask'];
 const SHOWN = 200000;
 const WANTS_MEMORY = 8;
 // An empty module with a memory of 64-bit addresses.
@@ -19,7 +22,7 @@ const WIDE_MEMORY = Uint8Array.of(0, 97, 115, 109, 1, 0, 0, 0, 5, 3, 1, 4, 1);
 const element = (id) => document.getElementById(id);
 const editor = new Editor(element('script'), element('numbers'), element('marks'), element('ruler'));
 
-let program = null;
+let modules = null;
 let worker = null;
 let running = null;
 let answer = '';
@@ -45,8 +48,8 @@ function showRunning(on) {
 
 const secondsOf = (milliseconds) => `${(milliseconds / 1000).toFixed(milliseconds < 1000 ? 2 : 1)} s`;
 
-/** Runs the program on a text. Its answer has `status` and `text`, or `stopped`, or `fault`; and the milliseconds. */
-function ask(words, text, where) {
+/** Runs a program on a text. Its answer has `status` and `text`, or `stopped`, or `fault`; and the milliseconds. */
+function ask(program, words, text, where) {
   const most = Number(element('memory').value);
   const began = performance.now();
   const used = worker;
@@ -72,7 +75,7 @@ function ask(words, text, where) {
       event.preventDefault();
       end({ fault: 'host', message: event.message ?? 'the worker ended' });
     };
-    used.postMessage({ module: program, words, input: new TextEncoder().encode(text), most });
+    used.postMessage({ module: modules[program], words, input: new TextEncoder().encode(text), most });
   });
 }
 
@@ -128,11 +131,11 @@ function clear() {
 }
 
 async function start(command) {
-  if (!program || running) return;
+  if (!modules || running) return;
   clear();
   const script = editor.text;
   keepInAddress(script);
-  const found = await ask([command], script, '');
+  const found = await ask('lois', [command], script, '');
   showAnswer('', command, found);
   answer = found.text ?? '';
   element('cut').hidden = answer.length <= SHOWN;
@@ -176,10 +179,10 @@ function offerQuestions(names) {
   element('questions').replaceChildren(...forms);
 }
 
-async function askAbout({ command }, selects) {
+async function askAbout({ command, program }, selects) {
   if (running) return;
   element('asked').hidden = false;
-  const found = await ask([command, ...selects.map((select) => select.value)], answer, 'asked-');
+  const found = await ask(program, [command, ...selects.map((select) => select.value)], answer, 'asked-');
   showAnswer('asked-', command, found);
 }
 
@@ -227,7 +230,7 @@ function take(script, example) {
   running?.stop();
   editor.text = script;
   clear();
-  if (program) sayReady();
+  if (modules) sayReady();
 }
 
 async function takeExample(name) {
@@ -263,7 +266,8 @@ async function load() {
   if (!WebAssembly.validate(WIDE_MEMORY)) {
     throw new Error('the browser has no WebAssembly memory of 64-bit addresses; Chrome 133 and Firefox 134 have it');
   }
-  program = await WebAssembly.compileStreaming(fetched('lois.wasm'));
+  const compiled = await Promise.all(PROGRAMS.map((name) => WebAssembly.compileStreaming(fetched(`${name}.wasm`))));
+  modules = Object.fromEntries(PROGRAMS.map((name, number) => [name, compiled[number]]));
   prepare();
   showRunning(false);
   sayReady();
