@@ -1,6 +1,7 @@
 """Answers of `equal A B`: whether two lines accept the same words (docs/DEFINITIONS.md, IsComparison,
 IsDifference)."""
 import re
+from functools import partial
 
 from . import automata
 from .answers import read_answer, read_term
@@ -8,6 +9,8 @@ from .choices import levels_of, longer, meets, scaled, value_at
 from .judge import Wrong, demand, expect
 from .lexer import Refused, refusal_text
 from .values import contains
+
+DETERMINISTIC = "deterministic automaton"
 
 
 def last_named(case, name):
@@ -26,39 +29,46 @@ def admitted(results, case):
     return longer((), len(results.parameters), (case.when,), (), results.order)
 
 
-def reason(results, first, second):
-    """Why the lines can't be compared, or None: the cases in order, in each the missing lines before all else."""
+def fault(results, parts):
+    """Why a question can't be answered, or None, by its parts: names, for each the function that gives its machine at
+    a choice and what such a machine is called. The cases in order, in each the missing lines before all else."""
     for number, case in enumerate(results.cases, 1):
-        for name in (first, second):
+        for name, _, _ in parts:
             if last_named(case, name) is None:
                 return f"refused: no line {name} in case {number}\n"
-        for name in (first, second):
-            if any(machine_at(case, name, choice) is None for choice in admitted(results, case)):
-                return f"refused: {name} in case {number} is no deterministic automaton\n"
+        for name, machine, what in parts:
+            if any(machine(case, name, choice) is None for choice in admitted(results, case)):
+                return f"refused: {name} in case {number} is no {what}\n"
     return None
 
 
-def differences(results, case, first, second):
-    """The length of a shortest word that tells the lines apart, for each admitted choice at which some word does."""
-    words = (automata.shortest_difference(machine_at(case, first, choice), machine_at(case, second, choice))
-             for choice in admitted(results, case))
-    return [len(word) for word in words if word is not None]
-
-
-def judge_equal(first, second, source, output, status):
-    """An answer of `equal`."""
+def judge_search(source, parts, length_at, judge_found, otherwise, output, status):
+    """An answer to a question of these parts (see fault) that looks for a shortest word, in one case after the other.
+    length_at gives the least length for a case and a choice, or None; judge_found judges an answer by the results, the
+    number of the case and the least length; otherwise are output and status where no case has a word."""
     try:
         results = read_answer(source, ("1",))
     except Refused as r:
         return expect(output, status, refusal_text(source, r), 5)
-    why = reason(results, first, second)
+    why = fault(results, parts)
     if why:
         return expect(output, status, why, 5)
     for number, case in enumerate(results.cases, 1):
-        lengths = differences(results, case, first, second)
-        if lengths:
-            return judge_difference(results, number, first, second, min(lengths), output, status)
-    expect(output, status, "equal\n", 0)
+        lengths = [length_at(case, choice) for choice in admitted(results, case)]
+        found = [length for length in lengths if length is not None]
+        if found:
+            return judge_found(results, number, min(found), output, status)
+    return expect(output, status, *otherwise)
+
+
+def judge_equal(first, second, source, output, status):
+    """An answer of `equal`."""
+    def length_at(case, choice):
+        word = automata.shortest_difference(machine_at(case, first, choice), machine_at(case, second, choice))
+        return None if word is None else len(word)
+
+    parts = [(name, machine_at, DETERMINISTIC) for name in (first, second)]
+    judge_search(source, parts, length_at, partial(judge_difference, first, second), ("equal\n", 0), output, status)
 
 
 def told_word(results, case, numbers, letters):
@@ -74,7 +84,7 @@ def told_word(results, case, numbers, letters):
     return sample[:count], [value_at(term, sample) for term in terms], used
 
 
-def judge_difference(results, number, first, second, shortest, output, status):
+def judge_difference(first, second, results, number, shortest, output, status):
     """A word that is said to tell the lines of the case of this number apart; the shortest ones have this length."""
     demand(status == 10, f"status {status}: a word of length {shortest} tells the lines apart in case {number}")
     text, case = output.decode("latin-1"), results.cases[number - 1]

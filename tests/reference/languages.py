@@ -1,13 +1,12 @@
 """Answers of `word A` and `within A B`: a shortest word that a line accepts, and one that a line accepts and another
 doesn't (docs/DEFINITIONS.md, Questions about answers)."""
 import re
+from functools import partial
 
 from . import automata
-from .answers import read_answer
 from .choices import value_at
-from .equal import admitted, last_named, machine_at, told_word
-from .judge import demand, expect
-from .lexer import Refused, refusal_text
+from .equal import DETERMINISTIC, judge_search, last_named, machine_at, told_word
+from .judge import demand
 from .values import Shape, Value, closure, contains, members, merged, orbit, pack, unpack
 
 
@@ -67,51 +66,19 @@ def accepts(m, word):
     return any(contains(m.final, p) for p in members(current, points))
 
 
-def missing(results, number, case, names):
-    """That a case has no line of one of the names, or None."""
-    for name in names:
-        if last_named(case, name) is None:
-            return f"refused: no line {name} in case {number}\n"
-    return None
-
-
-def unfit(results, number, case, name, machine, what):
-    """That a case's line isn't such a machine at some choice which the case admits, or None."""
-    if any(machine(case, name, choice) is None for choice in admitted(results, case)):
-        return f"refused: {name} in case {number} is no {what}\n"
-    return None
-
-
-def fault(results, first, second=None):
-    """Why the question can't be answered, or None: the cases in order, in each the missing lines before all else."""
-    for number, case in enumerate(results.cases, 1):
-        why = (missing(results, number, case, [first] if second is None else [first, second])
-               or unfit(results, number, case, first, automaton_at, "automaton")
-               or (second and unfit(results, number, case, second, machine_at, "deterministic automaton")))
-        if why:
-            return why
-    return None
-
-
 def judge_question(first, second, source, output, status):
     """An answer of `word first`, or where there is a second name of `within first second`."""
-    try:
-        results = read_answer(source, ("1",))
-    except Refused as r:
-        return expect(output, status, refusal_text(source, r), 5)
-    why = fault(results, first, second)
-    if why:
-        return expect(output, status, why, 5)
-    for number, case in enumerate(results.cases, 1):
-        lengths = [shortest_word(automaton_at(case, first, choice), second and machine_at(case, second, choice))
-                   for choice in admitted(results, case)]
-        lengths = [length for length in lengths if length is not None]
-        if lengths:
-            return judge_word(results, number, first, second, min(lengths), output, status)
-    return expect(output, status, "none\n", 10) if second is None else expect(output, status, "within\n", 0)
+    parts, otherwise = [(first, automaton_at, "automaton")], ("none\n", 10)
+    if second is not None:
+        parts, otherwise = [*parts, (second, machine_at, DETERMINISTIC)], ("within\n", 0)
+
+    def length_at(case, choice):
+        return shortest_word(automaton_at(case, first, choice), second and machine_at(case, second, choice))
+
+    judge_search(source, parts, length_at, partial(judge_word, first, second), otherwise, output, status)
 
 
-def judge_word(results, number, first, second, shortest, output, status):
+def judge_word(first, second, results, number, shortest, output, status):
     """A word that is said to be accepted in the case of this number, by the first name alone where there are two."""
     demand(status == (0 if second is None else 10), f"status {status}: there is a word of length {shortest}")
     head, tail = ("accepted", "") if second is None else ("differ", f"accepted by {first}\n")
