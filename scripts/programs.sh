@@ -2,8 +2,10 @@
 # Sourced by ./lois, ./unproved, ./install, playground/build and scripts/prove.sh, once `top` is the checkout's folder.
 # A program is a crate of crates/ with a src/main.rt.
 
-# The kit that the repository is written for, as `rt version` begins.
-kit=rattle-kit-13f
+# The kit that proves the repository, as `rt version` begins, and others in which what is built without its commands
+# was tried: the modules of ./unproved and of playground/build.
+kit=rattle-kit-13b
+tried_kits=("$kit" rattle-kit-13f)
 
 say() {
   echo "lois: $1" >&2
@@ -12,6 +14,15 @@ say() {
 fail() {
   say "$1"
   exit 70
+}
+
+# Whether a line of `rt version` is that of a kit that was tried.
+is_tried_kit() {
+  local tried
+  for tried in "${tried_kits[@]}"; do
+    [[ $1 != "$tried "* ]] || return 0
+  done
+  return 1
 }
 
 is_program() {
