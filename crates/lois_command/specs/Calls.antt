@@ -11,18 +11,22 @@ use Rattle.lois_outside.specs.Writing.{AppendsProperPrefix, FailsWriting}
 abbrev pub TakeRelation : Type 0 → Type 1
 TakeRelation S = S → ℕ → Option (List ℕ) → S → Type 0
 
--- calls that gave these bytes, of which the last one may have failed
-abbrev pub Gave : {S : Type 0} → TakeRelation S → S → List ℕ → S → Type 0
-Gave {S} takes from bytes to =
-    TakesPieces takes (LONGEST_TEXT + 1) from bytes to ⊎
-    ((mid : S) × (asked : ℕ) × TakesPieces takes (LONGEST_TEXT + 1) from bytes mid × takes mid asked None to)
+-- calls that gave these bytes, within one more than the limit in all, of which the last one may have failed
+abbrev pub Gave : {S : Type 0} → TakeRelation S → ℕ → S → List ℕ → S → Type 0
+Gave {S} takes limit from bytes to =
+    TakesPieces takes (limit + 1) from bytes to ⊎
+    ((mid : S) × (asked : ℕ) × TakesPieces takes (limit + 1) from bytes mid × takes mid asked None to)
 
--- the source has given at most so many bytes, by its calls and by what it has left
-pub record GaveAtMost {S : Type 0} (left : S → Option (List ℕ)) (takes : TakeRelation S) (most : ℕ) (from to : S) : Type 0 where
+-- under a limit the source has given at most so many bytes, by its calls and by what it has left
+pub record GaveUnder {S : Type 0} (left : S → Option (List ℕ)) (takes : TakeRelation S) (limit most : ℕ) (from to : S) : Type 0 where
   pub bytes : List ℕ
-  pub calls : Gave takes from bytes to
+  pub calls : Gave takes limit from bytes to
   pub few : length bytes ≤ most
   pub taken : TookAtMost most (left from) (left to)
+
+-- so under the limit of one text
+abbrev pub GaveAtMost : {S : Type 0} → (S → Option (List ℕ)) → TakeRelation S → ℕ → S → S → Type 0
+GaveAtMost {S} left takes most from to = GaveUnder left takes LONGEST_TEXT most from to
 
 -- one call of a sink: the piece that it was handed, and how many of its bytes it took, or `None` where it failed
 abbrev pub Puts : Type 0 → Type 1

@@ -17,7 +17,7 @@ use Rattle.lois_command.specs.CommandWords.{are_plain, is_dashed}
 use Rattle.lois_command.specs.FreeNames.{free_name}
 use Rattle.lois_script.proofs.Lookup.{turned}
 use Rattle.lois_questions.specs.CommandLine.{program, question_found}
-use Rattle.lois_questions.specs.Words.{one_name, question_of, question_with_name, question_with_names, two_names}
+use Rattle.lois_questions.specs.Words.{no_name, one_graph, one_name, question_of, question_with_graph, question_with_name, question_with_names, two_names}
 
 plain_next : (w : Text) (ws : List Text) → are_plain (w ∷ ws) ≡ true → (is_dashed w ≡ false) × (are_plain ws ≡ true)
 plain_next w ws h = go (is_dashed w) refl
@@ -153,20 +153,66 @@ within_verdict (k ∷ l ∷ x ∷ more) h =
     refuses (within_fails (k ∷ l ∷ x ∷ more) (later comparing (walk_from nothing_held) _ k (l ∷ x ∷ more) (first_named nothing_held k first.0)
     (later comparing (walk_at 2 _) _ l (x ∷ more) (second_named _ l second.0) (stray_at comparing 3 _ x more refl third.0)))) refl
 
+-- ---- `same`
+
+abbrev bare : Shape
+bare = slice_index_or subs 2 top
+
+same_fails : (rest : List Text) → HasFault (walk_fault bare [] (walk_from nothing_held) rest) → HasFault (fault_of program (codes "same" ∷ rest))
+same_fails = sub_fails (codes "same") bare refl refl refl
+
+same_alone : Verdict (codes "same" ∷ [])
+unfolding clap_on_literals
+same_alone = takes refl refl
+
+same_verdict : (rest : List Text) → are_plain rest ≡ true → Verdict (codes "same" ∷ rest)
+same_verdict [] h = same_alone
+same_verdict (x ∷ more) h = refuses (same_fails (x ∷ more) (stray_at bare 1 nothing_held x more refl (plain_next x more h).0)) refl
+
+-- ---- `picture`
+
+abbrev drawing : Shape
+drawing = slice_index_or subs 3 top
+
+picture_fails : (rest : List Text) → HasFault (walk_fault drawing [] (walk_from nothing_held) rest) → HasFault (fault_of program (codes "picture" ∷ rest))
+picture_fails = sub_fails (codes "picture") drawing refl refl refl
+
+graph_named : (h : Held) (k : Text) → is_dashed k ≡ false → walked drawing.rules [] (walk_from h) k ≡ walk_at 2 (walked drawing.rules [] (walk_from h) k).held
+unfolding walked
+graph_named h k d = rw (plain_apart k (45 ∷ []) d, plain_long k d, plain_short k d) refl
+
+picture_alone : Verdict (codes "picture" ∷ [])
+unfolding clap_on_literals
+picture_alone = takes refl refl
+
+picture_one : (k : Text) → is_dashed k ≡ false → Verdict (codes "picture" ∷ k ∷ [])
+unfolding clap_on_literals
+picture_one k d = takes (rw (plain_apart k (45 ∷ []) d, plain_long k d, plain_short k d) refl) (rw (plain_apart k (45 ∷ []) d, plain_long k d, plain_short k d) refl)
+
+picture_verdict : (rest : List Text) → are_plain rest ≡ true → Verdict (codes "picture" ∷ rest)
+picture_verdict [] h = picture_alone
+picture_verdict (k ∷ []) h = picture_one k (plain_next k [] h).0
+picture_verdict (k ∷ x ∷ more) h =
+    let first = plain_next k (x ∷ more) h in
+    refuses (picture_fails (k ∷ x ∷ more) (later drawing (walk_from nothing_held) _ k (x ∷ more) (graph_named nothing_held k first.0)
+    (stray_at drawing 2 _ x more refl (plain_next x more first.1).0))) refl
+
 -- what clap makes of words that it is asked about
 verdict : (ws : List Text) → are_plain ws ≡ true → Verdict ws
 verdict [] h = refuses nothing_fails refl
-verdict (w ∷ ws) h = go (bytes_eq w (codes "word")) (bytes_eq w (codes "within")) refl refl
+verdict (w ∷ ws) h = go (bytes_eq w (codes "word")) (bytes_eq w (codes "within")) (bytes_eq w (codes "same")) (bytes_eq w (codes "picture")) refl refl refl refl
   where
     named : (n : Text) → bytes_eq w n ≡ true → Verdict (n ∷ ws) → Verdict (w ∷ ws)
     named n e v = subst (λ (x : Text). Verdict (x ∷ ws)) (sym ((bytes_eq-Decides w n).0 e)) v
 
-    go : (a b : Bool) → bytes_eq w (codes "word") ≡ a → bytes_eq w (codes "within") ≡ b → Verdict (w ∷ ws)
-    go true b e f = named (codes "word") e (word_verdict ws (plain_next w ws h).1)
-    go false true e f = named (codes "within") f (within_verdict ws (plain_next w ws h).1)
-    go false false e f =
-        let unmet : subcommand_met names idle w ≡ None = rw (turned (codes "word") w, turned (codes "within") w, e, f) refl in
-        refuses (other_fails w ws unmet (plain_next w ws h).0) (rw (e, f) refl)
+    go : (a b x y : Bool) → bytes_eq w (codes "word") ≡ a → bytes_eq w (codes "within") ≡ b → bytes_eq w (codes "same") ≡ x → bytes_eq w (codes "picture") ≡ y → Verdict (w ∷ ws)
+    go true b x y e f s p = named (codes "word") e (word_verdict ws (plain_next w ws h).1)
+    go false true x y e f s p = named (codes "within") f (within_verdict ws (plain_next w ws h).1)
+    go false false true y e f s p = named (codes "same") s (same_verdict ws (plain_next w ws h).1)
+    go false false false true e f s p = named (codes "picture") p (picture_verdict ws (plain_next w ws h).1)
+    go false false false false e f s p =
+        let unmet : subcommand_met names idle w ≡ None = rw (turned (codes "word") w, turned (codes "within") w, turned (codes "same") w, turned (codes "picture") w, e, f, s, p) refl in
+        refuses (other_fails w ws unmet (plain_next w ws h).0) (rw (e, f, s, p) refl)
 
 -- ---- words that clap isn't asked about ask nothing
 
@@ -194,18 +240,33 @@ two_unexpected (k ∷ l ∷ []) h = go (is_dashed k) (is_dashed l) refl refl
     go false false d e = cc (rw (d, e) at h)
 two_unexpected (k ∷ l ∷ x ∷ more) h = refl
 
+none_unexpected : (ws : List Text) → are_plain ws ≡ false → no_name ws ≡ None
+none_unexpected [] h = cc h
+none_unexpected (k ∷ ws) h = refl
+
+graph_unexpected : (ws : List Text) → are_plain ws ≡ false → one_graph ws ≡ None
+graph_unexpected [] h = refl
+graph_unexpected (k ∷ []) h = go (is_dashed k) refl
+  where
+    go : (b : Bool) → is_dashed k ≡ b → one_graph (k ∷ []) ≡ None
+    go true d = ap question_with_graph (dashed_free k d)
+    go false d = cc (rw d at h)
+graph_unexpected (k ∷ x ∷ more) h = refl
+
 pub unexpected : (ws : List Text) → are_plain ws ≡ false → question_of ws ≡ None
 unexpected [] h = refl
 unexpected (w ∷ ws) h = first (is_dashed w) refl
   where
-    go : are_plain ws ≡ false → (a b : Bool) → bytes_eq w (codes "word") ≡ a → bytes_eq w (codes "within") ≡ b → question_of (w ∷ ws) ≡ None
-    go h true b e f = rw e (one_unexpected ws h)
-    go h false true e f = rw (e, f) (two_unexpected ws h)
-    go h false false e f = rw (e, f) refl
+    go : are_plain ws ≡ false → (a b x y : Bool) → bytes_eq w (codes "word") ≡ a → bytes_eq w (codes "within") ≡ b → bytes_eq w (codes "same") ≡ x → bytes_eq w (codes "picture") ≡ y → question_of (w ∷ ws) ≡ None
+    go h true b x y e f s p = rw e (one_unexpected ws h)
+    go h false true x y e f s p = rw (e, f) (two_unexpected ws h)
+    go h false false true y e f s p = rw (e, f, s) (none_unexpected ws h)
+    go h false false false true e f s p = rw (e, f, s, p) (graph_unexpected ws h)
+    go h false false false false e f s p = rw (e, f, s, p) refl
 
     first : (d : Bool) → is_dashed w ≡ d → question_of (w ∷ ws) ≡ None
     first true d = dashed_first w ws d
-    first false d = go (rw d at h) (bytes_eq w (codes "word")) (bytes_eq w (codes "within")) refl refl
+    first false d = go (rw d at h) (bytes_eq w (codes "word")) (bytes_eq w (codes "within")) (bytes_eq w (codes "same")) (bytes_eq w (codes "picture")) refl refl refl refl
 
 -- ---- what is answered
 

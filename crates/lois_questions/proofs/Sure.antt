@@ -1,11 +1,18 @@
 -- What is refused comes to that refusal alone.
-use Rattle.std.proofs.Common.{◌≡◌, ℕ, ◌+◌, List, length, Some, None, option_map, refl, sym, ap, ap₂, ◌∙◌, ◌⊎◌, inl, inr, subst}
+use Rattle.std.proofs.Common.{◌≡◌, ℕ, ◌+◌, ◌<◌, Bool, List, [], ◌∷◌, length, Some, None, option_map, refl, sym, ap, ap₂, ◌∙◌, ◌⊎◌, inl, inr, subst, arith}
 use Rattle.std.specs.List.{All}
 use Rattle.lois_base.specs.Data.{TermD}
+use Rattle.lois_base.specs.Truth.{sampled}
+use Rattle.lois_base.specs.Values.{point}
 use Rattle.lois_lexer.specs.declared.Place.{Place}
-use Rattle.lois_answers.specs.ResultsData.{CaseD}
+use Rattle.lois_answers.specs.LastNamed.{last_named}
+use Rattle.lois_answers.specs.ResultsData.{CaseD, LineD}
 use Rattle.lois_answers.specs.declared.results.Results.{Results}
 use Rattle.lois_automata.specs.Machines.{IsAutomatonAt, IsDeterministicAt}
+use Rattle.lois_cases.proofs.OneCase.{one_case}
+use Rattle.lois_cases.specs.Cases.{IsTheCaseAt}
+use Rattle.lois_cases.specs.declared.partitions.Partition.{Partition}
+use Rattle.lois_cases.specs.declared.partitions.Partition.TheVariants as partitions
 use Rattle.lois_command.proofs.Firsts.{all_here, one_first}
 use Rattle.lois_command.proofs.OnePlace.{results_once, same_results}
 use Rattle.lois_command.specs.NoResults.{IsNoResults}
@@ -20,16 +27,35 @@ use Rattle.lois_languages.specs.declared.inclusions.Inclusion.{Inclusion}
 use Rattle.lois_languages.specs.declared.inclusions.Inclusion.TheVariants as included
 use Rattle.lois_languages.specs.declared.witnesses.Witness.{Witness}
 use Rattle.lois_languages.specs.declared.witnesses.Witness.TheVariants as witnessed
+use Rattle.lois_picture.specs.Graphs.{IsRelation}
+use Rattle.lois_picture.specs.Pictures.{IsPicture, IsTheLine}
+use Rattle.lois_picture.specs.declared.pictures.Picture.{Picture as Found}
+use Rattle.lois_picture.specs.declared.pictures.Picture.TheVariants as pictured
+use Rattle.lois_picture.specs.declared.pictures.PictureFault.{PictureFault}
+use Rattle.lois_picture.specs.declared.pictures.PictureFault.TheVariants as picture
 use Rattle.lois_reader.specs.Refusal.{IsResultsOf}
-use Rattle.lois_questions.specs.Answers.{Answers, Tells, word_outcome, within_outcome}
-use Rattle.lois_questions.specs.Causes.{HasCause, IsOfText}
-use Rattle.lois_questions.specs.Laws.{RefusalsAreSure}
+use Rattle.lois_same.proofs.Flaws.{alone_or_both, alone_or_none, both_or_none, no_flaw, sampled_count}
+use Rattle.lois_same.specs.Likenesses.{IsLikeness, IsFlaw, IsPartition}
+use Rattle.lois_same.specs.TwoTexts.{first_text, second_text}
+use Rattle.lois_same.specs.declared.comparing.Likeness.{Likeness}
+use Rattle.lois_same.specs.declared.comparing.Likeness.TheVariants as compared
+use Rattle.lois_questions.specs.Answers.{Answers, Tells, TellsBoth, word_outcome, within_outcome, picture_outcome, picture_refusal, IsFlawRefusal, IsSameOutcome}
+use Rattle.lois_questions.specs.Causes.{HasCause, IsOfText, IsReadable, first_asked}
+use Rattle.lois_questions.specs.Laws.{IsRefusedSo, RefusalsAreSure}
 use Rattle.lois_questions.specs.declared.command_line.Question.{Question}
 use Rattle.lois_questions.specs.declared.command_line.Question.TheVariants as questions
+use Rattle.lois_questions.specs.declared.outcomes.Input.{Input}
+use Rattle.lois_questions.specs.declared.outcomes.Input.TheVariants.{First, Second}
 use Rattle.lois_questions.specs.declared.outcomes.Outcome.{Outcome}
-use Rattle.lois_questions.specs.declared.outcomes.Outcome.TheVariants.{Word, NoWord, Within, Beyond, Refused, ReadFault, Usage}
+use Rattle.lois_questions.specs.declared.outcomes.Outcome.TheVariants.{Word, NoWord, Within, Beyond, Same, Structure, Parameters, Differ, Picture, Refused, ReadFault, Usage}
 use Rattle.lois_questions.specs.declared.outcomes.Refusal.{Refusal}
-use Rattle.lois_questions.specs.declared.outcomes.Refusal.TheVariants.{TooLong, NotResults, NoLine as Missing, NotAutomaton as Unfit, NotDeterministic as Ambiguous}
+use Rattle.lois_questions.specs.declared.outcomes.Refusal.TheVariants.{TooLong, NotResults, SecondNotResults, NoLine as Missing, NotAutomaton as Unfit, NotDeterministic as Ambiguous, NotGraph, HasParameters, NoCase, TwoCases}
+
+-- the very refusal is refused so
+so : (u : Refusal) (o : Outcome) → o ≡ Refused u → IsRefusedSo u o
+so (NoCase input s) o e = (s, e)
+so (TwoCases input i j s) o e = (i, j, s, e)
+so _ o e = e
 
 -- ---- a case with a reason isn't as asked for
 
@@ -118,48 +144,180 @@ module _ (n : ℕ) (a b : List ℕ) where
   included_once cases ps (included.Refused u) (included.Refused v) r h g is =
       ap (λ z. within_outcome ps (included.Refused z)) (one_fault (AreSuited n a b) (IsWithinReason n a b) no_within_reason one_within_reason cases v u g h)
 
+-- ---- `same`
+
+module _ (r : Results) where
+  same_flaw : (input : Input) (p q : Partition) (u v : Refusal) (o : Outcome) → IsFlaw r p → IsFlaw r q → IsFlawRefusal input p u → IsFlawRefusal input q v → o ≡ Refused v → IsRefusedSo u o
+  same_flaw input partitions.Whole q u v o h g is e told = absurd h
+  same_flaw input p partitions.Whole u v o h g is e told = absurd g
+  same_flaw input (partitions.Overlap i j s) (partitions.Overlap k l t) u v o h g is e told =
+      subst (λ x. IsRefusedSo x o) (sym is) (k, l, t, told ∙ ap Refused e)
+  same_flaw input (partitions.Overlap i j s) (partitions.Gap t) u v o (count, both) (length, never, none) is e told = absurd (never (sampled s) (sampled_count s count) i j both)
+  same_flaw input (partitions.Gap s) (partitions.Overlap k l t) u v o (count, never, none) (length, both) is e told = absurd (never (sampled t) (sampled_count t length) k l both)
+  same_flaw input (partitions.Gap s) (partitions.Gap t) u v o h g is e told = subst (λ x. IsRefusedSo x o) (sym is) (t, told ∙ ap Refused e)
+
+module _ (r q : Results) where
+  -- a flaw of the first, and what else is found; a flaw of the second
+  first_flawed : (p : Partition) (y : Likeness) (ps : List (List ℕ)) (u : Refusal) (o : Outcome) → IsFlaw r p → IsFlawRefusal First p u → IsLikeness r q y → IsSameOutcome ps y o → IsRefusedSo u o
+  first_flawed p compared.Same ps u o flaw is found told = absurd (no_flaw r p found.0.0 flaw)
+  first_flawed p compared.Structure ps u o flaw is found told = absurd (no_flaw r p found.0.0 flaw)
+  first_flawed p compared.Parameters ps u o flaw is found told = absurd (no_flaw r p found.0.0 flaw)
+  first_flawed p (compared.Differ d) ps u o flaw is found told = absurd (no_flaw r p found.0.0 flaw)
+  first_flawed p (compared.First x) ps u o flaw is found (v, e, told) = same_flaw r First p x u v o flaw found is e told
+  first_flawed p (compared.Second x) ps u o flaw is found told = absurd (no_flaw r p found.0 flaw)
+
+  second_flawed : (p : Partition) (y : Likeness) (ps : List (List ℕ)) (u : Refusal) (o : Outcome) → IsPartition r → IsFlaw q p → IsFlawRefusal Second p u → IsLikeness r q y → IsSameOutcome ps y o → IsRefusedSo u o
+  second_flawed p compared.Same ps u o part flaw is found told = absurd (no_flaw q p found.0.1 flaw)
+  second_flawed p compared.Structure ps u o part flaw is found told = absurd (no_flaw q p found.0.1 flaw)
+  second_flawed p compared.Parameters ps u o part flaw is found told = absurd (no_flaw q p found.0.1 flaw)
+  second_flawed p (compared.Differ d) ps u o part flaw is found told = absurd (no_flaw q p found.0.1 flaw)
+  second_flawed p (compared.First x) ps u o part flaw is found told = absurd (no_flaw r x part found)
+  second_flawed p (compared.Second x) ps u o part flaw is found (v, e, told) = same_flaw q Second p x u v o flaw found.1 is e told
+
+  refusal_is : (u v : Refusal) → Refused u ≡ Refused v → u ≡ v
+  refusal_is u v e = cc e
+
+  compared_once : (x y : Likeness) (ps qs : List (List ℕ)) (u : Refusal) (o : Outcome) → IsLikeness r q x → IsLikeness r q y → IsSameOutcome ps x (Refused u) → IsSameOutcome qs y o → IsRefusedSo u o
+  compared_once compared.Same y ps qs u o h g is told = absurd (cc is)
+  compared_once compared.Structure y ps qs u o h g is told = absurd (cc is)
+  compared_once compared.Parameters y ps qs u o h g is told = absurd (cc is)
+  compared_once (compared.Differ d) y ps qs u o h g is told = absurd (cc is)
+  compared_once (compared.First p) y ps qs u o h g (v, flaw, is) told = first_flawed p y qs u o h (subst (IsFlawRefusal First p) (sym (refusal_is u v is)) flaw) g told
+  compared_once (compared.Second p) y ps qs u o h g (v, flaw, is) told = second_flawed p y qs u o h.0 h.1 (subst (IsFlawRefusal Second p) (sym (refusal_is u v is)) flaw) g told
+
+-- ---- `picture`
+
+module _ (ordered : Bool) (r : Results) (name : List ℕ) where
+  no_parameters : 0 < length r.parameters → r.parameters ≡ [] → ⊥
+  no_parameters some none = omega (arith, some, ap length none)
+
+  one_line : (i j : ℕ) (k l : LineD) → IsTheLine name r.cases i k → IsTheLine name r.cases j l → (i ≡ j) × (k ≡ l)
+  one_line i j k l h g =
+      let one = one_case [] r.cases i j h.case g.case h.holding g.holding in
+      let lines : Some k ≡ Some l = sym h.line ∙ (ap (λ (c : CaseD). last_named name c.lines) one.1 ∙ g.line) in
+      (one.0, cc lines)
+
+  line_or_none : (i j : ℕ) (l : LineD) (k : CaseD) → IsTheLine name r.cases i l → IsTheCaseAt [] r.cases j k → last_named name k.lines ≡ None → ⊥
+  line_or_none i j l k h the none =
+      let one = one_case [] r.cases i j h.case k h.holding the in
+      let lines : Some l ≡ None = sym h.line ∙ (ap (λ (c : CaseD). last_named name c.lines) one.1 ∙ none) in
+      cc lines
+
+  pub drawn_once : (x y : Found) (u : Refusal) → IsPicture ordered r name x → IsPicture ordered r name y → Refused u ≡ picture_outcome x → IsRefusedSo u (picture_outcome y)
+  drawn_once (pictured.Drawn g) y u h k is = absurd (cc is)
+  drawn_once (pictured.Refused v) y u h k is = subst (λ z. IsRefusedSo z (picture_outcome y)) (sym (same_refusal is)) (once v y h k)
+    where
+      same_refusal : Refused u ≡ Refused (picture_refusal v) → u ≡ picture_refusal v
+      same_refusal e = cc e
+
+      once : (v : PictureFault) (y : Found) → IsPicture ordered r name (pictured.Refused v) → IsPicture ordered r name y → IsRefusedSo (picture_refusal v) (picture_outcome y)
+      once picture.HasParameters (pictured.Drawn g) h k = absurd (no_parameters h k.0)
+      once picture.HasParameters (pictured.Refused picture.HasParameters) h k = refl
+      once picture.HasParameters (pictured.Refused picture.NoCase) h k = absurd (no_parameters h k.0)
+      once picture.HasParameters (pictured.Refused (picture.TwoCases i j)) h k = absurd (no_parameters h k.0)
+      once picture.HasParameters (pictured.Refused (picture.NoLine n i)) h k = absurd (no_parameters h k.0)
+      once picture.HasParameters (pictured.Refused (picture.NotGraph n i)) h k = absurd (no_parameters h k.0)
+      once picture.NoCase (pictured.Drawn g) (e, none) (f, (i, l, the, graph)) = absurd (alone_or_none [] r.cases i the.case the.holding none)
+      once picture.NoCase (pictured.Refused picture.HasParameters) h k = absurd (no_parameters k h.0)
+      once picture.NoCase (pictured.Refused picture.NoCase) h k = ([], refl)
+      once picture.NoCase (pictured.Refused (picture.TwoCases i j)) (e, none) (f, both) = absurd (both_or_none [] r.cases i j both none)
+      once picture.NoCase (pictured.Refused (picture.NoLine n i)) (e, none) (f, is, (c, the, lacks)) = absurd (alone_or_none [] r.cases i c the none)
+      once picture.NoCase (pictured.Refused (picture.NotGraph n i)) (e, none) (f, is, (l, the, other_kind, no_pairs)) = absurd (alone_or_none [] r.cases i the.case the.holding none)
+      once (picture.TwoCases i j) (pictured.Drawn g) (e, both) (f, (k, l, the, graph)) = absurd (alone_or_both [] r.cases k i j the.case the.holding both)
+      once (picture.TwoCases i j) (pictured.Refused picture.HasParameters) h k = absurd (no_parameters k h.0)
+      once (picture.TwoCases i j) (pictured.Refused picture.NoCase) (e, both) (f, none) = absurd (both_or_none [] r.cases i j both none)
+      once (picture.TwoCases i j) (pictured.Refused (picture.TwoCases k l)) h g = (k, l, [], refl)
+      once (picture.TwoCases i j) (pictured.Refused (picture.NoLine n k)) (e, both) (f, is, (c, the, lacks)) = absurd (alone_or_both [] r.cases k i j c the both)
+      once (picture.TwoCases i j) (pictured.Refused (picture.NotGraph n k)) (e, both) (f, is, (l, the, other_kind, no_pairs)) = absurd (alone_or_both [] r.cases k i j the.case the.holding both)
+      once (picture.NoLine n i) (pictured.Drawn g) (e, is, (c, the, lacks)) (f, (k, l, line, graph)) = absurd (line_or_none k i l c line the lacks)
+      once (picture.NoLine n i) (pictured.Refused picture.HasParameters) h k = absurd (no_parameters k h.0)
+      once (picture.NoLine n i) (pictured.Refused picture.NoCase) (e, is, (c, the, lacks)) (f, none) = absurd (alone_or_none [] r.cases i c the none)
+      once (picture.NoLine n i) (pictured.Refused (picture.TwoCases k l)) (e, is, (c, the, lacks)) (f, both) = absurd (alone_or_both [] r.cases i k l c the both)
+      once (picture.NoLine n i) (pictured.Refused (picture.NoLine m j)) (e, is, (c, the, lacks)) (f, also, (d, other, none)) =
+          ap₂ (λ (x : List ℕ) (z : ℕ). Refused (Missing x z)) (also ∙ sym is) (one_case [] r.cases j i d c other the).0
+      once (picture.NoLine n i) (pictured.Refused (picture.NotGraph m j)) (e, is, (c, the, lacks)) (f, also, (l, line, other_kind, no_pairs)) = absurd (line_or_none j i l c line the lacks)
+      once (picture.NotGraph n i) (pictured.Drawn g) (e, is, (l, line, no_automaton, no_relation)) (f, (j, m, other, inl graph)) =
+          absurd (no_automaton (subst (λ (x : LineD). IsAutomatonAt x.term []) (one_line j i m l other line).1 graph.6))
+      once (picture.NotGraph n i) (pictured.Drawn g) (e, is, (l, line, no_automaton, no_relation)) (f, (j, m, other, inr graph)) =
+          absurd (no_relation (subst (λ (x : LineD). IsRelation (point x.term [])) (one_line j i m l other line).1 graph.1))
+      once (picture.NotGraph n i) (pictured.Refused picture.HasParameters) h k = absurd (no_parameters k h.0)
+      once (picture.NotGraph n i) (pictured.Refused picture.NoCase) (e, is, (l, line, other_kind, no_pairs)) (f, none) = absurd (alone_or_none [] r.cases i line.case line.holding none)
+      once (picture.NotGraph n i) (pictured.Refused (picture.TwoCases j k)) (e, is, (l, line, other_kind, no_pairs)) (f, both) = absurd (alone_or_both [] r.cases i j k line.case line.holding both)
+      once (picture.NotGraph n i) (pictured.Refused (picture.NoLine m j)) (e, is, (l, line, other_kind, no_pairs)) (f, also, (c, the, lacks)) = absurd (line_or_none i j l c line the lacks)
+      once (picture.NotGraph n i) (pictured.Refused (picture.NotGraph m j)) (e, is, (l, line, other_kind, no_pairs)) (f, also, (k, other, nothing, nor_pairs)) =
+          ap₂ (λ (x : List ℕ) (z : ℕ). Refused (NotGraph x z)) (also ∙ sym is) (one_line j i k l other line).0
+
 -- ---- whatever else a text comes to
 
 module _ (text : List ℕ) where
   module _ {A : Type 0} (Found : Results → A → Type 0) (outcome : List (List ℕ) → A → Outcome)
-      (once : (r : Results) (x y : A) (refusal : Refusal) → Found r x → Found r y → Refused refusal ≡ outcome r.parameters x → outcome r.parameters y ≡ outcome r.parameters x) where
-    told_once : (refusal : Refusal) (o : Outcome) → Tells Found outcome text (Refused refusal) → Tells Found outcome text o → o ≡ Refused refusal
-    told_once refusal o h g =
+      (once : (r : Results) (x y : A) (u : Refusal) → Found r x → Found r y → Refused u ≡ outcome r.parameters x → IsRefusedSo u (outcome r.parameters y)) where
+    told_once : (u : Refusal) (o : Outcome) → Tells Found outcome text (Refused u) → Tells Found outcome text o → IsRefusedSo u o
+    told_once u o h g =
         let same = results_once text g.results h.results g.read h.read in
         let found : Found h.results g.answer = subst (λ (x : Results). Found x g.answer) same g.found in
         let told : o ≡ outcome h.results.parameters g.answer = g.told ∙ ap (λ (x : Results). outcome x.parameters g.answer) same in
-        told ∙ (once h.results h.answer g.answer refusal h.found found h.told ∙ sym h.told)
+        subst (IsRefusedSo u) (sym told) (once h.results h.answer g.answer u h.found found h.told)
 
-  answered_once : (q : Question) (refusal : Refusal) (o : Outcome) → Answers q text (Refused refusal) → Answers q text o → o ≡ Refused refusal
-  answered_once (questions.Word a) refusal o h g = told_once (λ r w. IsWitness (length r.parameters) a r.cases w) word_outcome (λ r x y. witnessed_once (length r.parameters) a r.cases r.parameters x y) refusal o h g
-  answered_once (questions.Within a b) refusal o h g = told_once (λ r i. IsInclusion (length r.parameters) a b r.cases i) within_outcome (λ r x y. included_once (length r.parameters) a b r.cases r.parameters x y) refusal o h g
+  both_once : (u : Refusal) (o : Outcome) → TellsBoth text (Refused u) → TellsBoth text o → IsRefusedSo u o
+  both_once u o h g =
+      let first = results_once (first_text text) g.first h.first g.first_read h.first_read in
+      let second = results_once (second_text text) g.second h.second g.second_read h.second_read in
+      let found : IsLikeness h.first h.second g.answer = subst (λ (x : Results). IsLikeness x h.second g.answer) first (subst (λ (x : Results). IsLikeness g.first x g.answer) second g.found) in
+      compared_once h.first h.second h.answer g.answer h.first.parameters g.first.parameters u o h.found found h.told g.told
 
-  read_answer : (q : Question) (o : Outcome) → Answers q text o → (r : Results) × IsResultsOf text r
-  read_answer (questions.Word a) o h = (h.results, h.read)
-  read_answer (questions.Within a b) o h = (h.results, h.read)
+  answered_once : (q : Question) (u : Refusal) (o : Outcome) → Answers q text (Refused u) → Answers q text o → IsRefusedSo u o
+  answered_once (questions.Word a) u o h g =
+      told_once (λ r w. IsWitness (length r.parameters) a r.cases w) word_outcome
+      (λ r x y u h g is. so u (word_outcome r.parameters y) (witnessed_once (length r.parameters) a r.cases r.parameters x y u h g is ∙ sym is)) u o h g
+  answered_once (questions.Within a b) u o h g =
+      told_once (λ r i. IsInclusion (length r.parameters) a b r.cases i) within_outcome
+      (λ r x y u h g is. so u (within_outcome r.parameters y) (included_once (length r.parameters) a b r.cases r.parameters x y u h g is ∙ sym is)) u o h g
+  answered_once questions.Same u o h g = both_once u o h g
+  answered_once (questions.Picture a) u o h g =
+      told_once (λ r p. IsPicture r.order r a p) (λ ps p. picture_outcome p) (λ r x y u h g is. drawn_once r.order r a x y u h g is) u o h g
 
-  -- the text isn't that of results, or the question is answered
-  abbrev NoneOr : Question → Outcome → Type 0
-  NoneOr q o = ((p : Place) × (o ≡ Refused (NotResults p)) × IsNoResults text p) ⊎ Answers q text o
+  -- ---- a text that isn't read, or is answered
 
-  told : (q : Question) (o : Outcome) → IsOfText o → HasCause q text o → NoneOr q o
-  told q (Refused TooLong) is h = absurd is
-  told q (Refused (NotResults p)) is h = inl (p, refl, h)
-  told q (Refused (Missing name k)) is h = inr h
-  told q (Refused (Unfit name k)) is h = inr h
-  told q (Refused (Ambiguous name k)) is h = inr h
-  told q (Word k w ps) is h = inr h
-  told q NoWord is h = inr h
-  told q Within is h = inr h
-  told q (Beyond k d name ps) is h = inr h
+  data Told (q : Question) (o : Outcome) : Type 0 where
+    first_unread : (p : Place) → o ≡ Refused (NotResults p) → IsNoResults (first_asked q text) p → Told q o
+    second_unread : (p : Place) → o ≡ Refused (SecondNotResults p) → q ≡ questions.Same → IsReadable (first_text text) → IsNoResults (second_text text) p → Told q o
+    answered : Answers q text o → Told q o
+
+  told : (q : Question) (o : Outcome) → IsOfText o → HasCause q text o → Told q o
+  told q (Refused (TooLong n)) is h = absurd is
+  told q (Refused (NotResults p)) is h = first_unread p refl h
+  told q (Refused (SecondNotResults p)) is (both, read, none) = second_unread p refl both read none
   told q ReadFault is h = absurd is
   told q Usage is h = absurd is
+  told q _ is h = answered h
 
-  surely : (q : Question) (r : Refusal) (o : Outcome) → NoneOr q (Refused r) → NoneOr q o → o ≡ Refused r
-  surely q r o (inl (p, is, none)) (inl (s, e, never)) = e ∙ (ap (λ x. Refused (NotResults x)) (same_results text p s none never) ∙ sym is)
-  surely q r o (inl (p, is, (k, none, here))) (inr h) = let results = read_answer q o h in absurd (none.none results.0 results.1)
-  surely q r o (inr h) (inl (s, e, (k, never, there))) = let results = read_answer q (Refused r) h in absurd (never.none results.0 results.1)
-  surely q r o (inr h) (inr g) = answered_once q r o h g
+  first_read : (q : Question) (o : Outcome) → Answers q text o → IsReadable (first_asked q text)
+  first_read (questions.Word a) o h = (h.results, h.read)
+  first_read (questions.Within a b) o h = (h.results, h.read)
+  first_read questions.Same o h = (h.first, h.first_read)
+  first_read (questions.Picture a) o h = (h.results, h.read)
+
+  second_read : (q : Question) (o : Outcome) → q ≡ questions.Same → Answers q text o → IsReadable (second_text text)
+  second_read q o both h = let pair : TellsBoth text o = subst (λ z. Answers z text o) both h in (pair.second, pair.second_read)
+
+  unreadable : (bytes : List ℕ) (p : Place) → IsNoResults bytes p → IsReadable bytes → ⊥
+  unreadable bytes p (k, none, here) (r, read) = none.none r read
+
+  first_of_both : (q : Question) (p : Place) → q ≡ questions.Same → IsNoResults (first_asked q text) p → IsReadable (first_text text) → ⊥
+  first_of_both q p both none read = unreadable (first_text text) p (subst (λ z. IsNoResults (first_asked z text) p) both none) read
+
+  surely : (q : Question) (u : Refusal) (o : Outcome) → Told q (Refused u) → Told q o → IsRefusedSo u o
+  surely q u o (first_unread p is none) (first_unread s e never) = so u o (e ∙ (ap (λ x. Refused (NotResults x)) (same_results (first_asked q text) p s none never) ∙ sym is))
+  surely q u o (first_unread p is none) (second_unread s e both read never) = absurd (first_of_both q p both none read)
+  surely q u o (first_unread p is none) (answered h) = absurd (unreadable (first_asked q text) p none (first_read q o h))
+  surely q u o (second_unread p is both read none) (first_unread s e never) = absurd (first_of_both q s both never read)
+  surely q u o (second_unread p is both read none) (second_unread s e also again never) =
+      so u o (e ∙ (ap (λ x. Refused (SecondNotResults x)) (same_results (second_text text) p s none never) ∙ sym is))
+  surely q u o (second_unread p is both read none) (answered h) = absurd (unreadable (second_text text) p none (second_read q o both h))
+  surely q u o (answered h) (first_unread s e never) = absurd (unreadable (first_asked q text) s never (first_read q (Refused u) h))
+  surely q u o (answered h) (second_unread s e both read never) = absurd (unreadable (second_text text) s never (second_read q (Refused u) both h))
+  surely q u o (answered h) (answered g) = answered_once q u o h g
 
 pub refusals_are_sure : RefusalsAreSure
-refusals_are_sure q text r o of_text refused is cause = surely text q r o (told text q (Refused r) of_text refused) (told text q o is cause)
+refusals_are_sure q text u o of_text refused is cause = surely text q u o (told text q (Refused u) of_text refused) (told text q o is cause)

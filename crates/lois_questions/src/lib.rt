@@ -7,5 +7,5 @@ pub mod laws;
 mod outcomes;
 mod top;
 
-pub use outcomes::{Outcome, Refusal};
+pub use outcomes::{Input, Outcome, Refusal};
 pub use top::{lois_ask, outcome};

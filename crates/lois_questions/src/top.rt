@@ -2,18 +2,16 @@
 
 ghost use Rattle.std.specs.Prelude.{◌≡◌, ℕ, ◌+◌, ◌≤◌, ◌⊎◌, List, IfOk, IfErr, length, map, string_bytes};
 ghost use Rattle.lois_base.specs.declared.deciding.Kind.{Kind};
-ghost use Rattle.lois_base.specs.declared.limits.TheConstants.{LONGEST_TEXT};
-ghost use Rattle.lois_command.specs.Calls.{GaveAtMost};
+ghost use Rattle.lois_command.specs.Calls.{GaveUnder};
 ghost use Rattle.lois_outside.specs.Faults.{Rose};
 ghost use Rattle.lois_questions.specs.Causes.{AnswersText, IsOutcomeOf, OutcomeIsWritten};
 ghost use Rattle.lois_questions.specs.Outcomes.{HasText};
-ghost use Rattle.lois_questions.specs.Words.{Asks, IsUsage};
+ghost use Rattle.lois_questions.specs.Words.{Asks, IsUsage, limit_in, limit_of};
 ghost use Rattle.lois_questions.specs.declared.outcomes.Outcome.{Outcome};
 
-use crate::answers::{answer_within, answer_word};
+use crate::answers::{answer_picture, answer_same, answer_within, answer_word};
 use crate::command_line::{Question, parse_question};
 use crate::{Outcome, Refusal};
-use lois_base::limits::LONGEST_TEXT;
 use lois_base::{Decider, NoMemory};
 use lois_deciders::Chosen;
 use lois_outside::{ReadError, Sink, Source, read_all, write_all};
@@ -36,6 +34,8 @@ fn answer(
     match question {
         Question::Word(name) => answer_word(alloc, text, name, chosen),
         Question::Within(first, second) => answer_within(alloc, text, first, second, chosen),
+        Question::Same => answer_same(alloc, text, chosen),
+        Question::Picture(name) => answer_picture(alloc, text, name, chosen),
     }
 }
 
@@ -49,19 +49,22 @@ fn answer_source<S: Source>(
     ensures outcome { IfOk result (λ o. (words : List (List ℕ)) → (kinds : List Kind) → Asks question.now words → (IsUsage words kinds → ⊥) → IsOutcomeOf words kinds S.left S.faults S.takes source.old source.new o) }
     ensures count_never_falls { S.faults source.old ≤ S.faults source.new }
     ensures written { IfOk result HasText }
-    ensures no_memory { IfErr result (λ e. GaveAtMost S.left S.takes LONGEST_TEXT source.old source.new) }
+    ensures no_memory { IfErr result (λ e. GaveUnder S.left S.takes (limit_of question.now) (limit_of question.now) source.old source.new) }
 {
-    match read_all(alloc, source, LONGEST_TEXT) {
+    let limit = question.limit();
+    match read_all(alloc, source, limit) {
         Ok(text) => answer(alloc, question, &text, chosen),
         Err(ReadError::ReadFault) => Ok(Outcome::ReadFault),
-        Err(ReadError::TooLong(_)) => Ok(Outcome::Refused(Refusal::TooLong)),
+        Err(ReadError::TooLong(_)) => Ok(Outcome::Refused(Refusal::TooLong(limit))),
         Err(ReadError::NoMemory) => Err(NoMemory),
     }
 }
 
 /// What the words ask of the results whose text the source has left; `NoMemory` where memory ran out. The words are those after
 /// the program's name. `word A` asks for a shortest word that the lines of the name A accept, `within A B` whether each word of
-/// the lines of A is one of those of B. The first decider is asked. A text of at most 1,048,576 bytes is read.
+/// the lines of A is one of those of B, `same` whether two results, one behind the other, print the same, and `picture A` for
+/// the graph of the line of A. The first decider is asked. A text of at most 1,048,576 bytes is read, and for `same` one of at
+/// most 2,097,152.
 pub fn outcome<S: Source>(
     alloc: Global,
     words: &[String],
@@ -76,8 +79,8 @@ pub fn outcome<S: Source>(
 
     ensures written { IfOk result HasText }
 
-    // Where memory ran out, no more was read than results may have.
-    ensures no_memory { IfErr result (λ e. GaveAtMost S.left S.takes LONGEST_TEXT source.old source.new) }
+    // Where memory ran out, no more was read than the question may be asked of.
+    ensures no_memory { IfErr result (λ e. GaveUnder S.left S.takes (limit_in (map string_bytes words.now)) (limit_in (map string_bytes words.now)) source.old source.new) }
 {
     let Some(question) = parse_question(alloc, words)? else {
         return Ok(Outcome::Usage);
@@ -98,7 +101,7 @@ pub fn lois_ask<S: Source, K: Sink>(
     deciders: Vec<Box<dyn Decider>>,
 ) -> u8
     // Either memory ran out before the first call of the sink, or some outcome of the words and the source is told.
-    ensures answer { ((result ≡ 8) × (sink.new ≡ sink.old) × GaveAtMost S.left S.takes (LONGEST_TEXT + 1) source.old source.new) ⊎ ((o : Outcome) × IsOutcomeOf (map string_bytes words.now) (map (λ b. kind_of b) deciders.items) S.left S.faults S.takes source.old source.new o × HasText o × OutcomeIsWritten K.held K.faults K.puts sink.old sink.new o result) }
+    ensures answer { ((result ≡ 8) × (sink.new ≡ sink.old) × GaveUnder S.left S.takes (limit_in (map string_bytes words.now)) (limit_in (map string_bytes words.now) + 1) source.old source.new) ⊎ ((o : Outcome) × IsOutcomeOf (map string_bytes words.now) (map (λ b. kind_of b) deciders.items) S.left S.faults S.takes source.old source.new o × HasText o × OutcomeIsWritten K.held K.faults K.puts sink.old sink.new o result) }
 
     // After usage the source is as it was, whatever becomes of the answer.
     ensures source_untouched { IsUsage (map string_bytes words.now) (map (λ b. kind_of b) deciders.items) → source.new ≡ source.old }

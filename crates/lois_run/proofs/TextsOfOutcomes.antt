@@ -290,27 +290,27 @@ module _ {S : Type 0} (words : List (List ℕ)) (kinds : List Kind) (left : S �
 
 module _ {S : Type 0} (left : S → Option (List ℕ)) (takes : TakeRelation S) where
   of_outcome : (words : List (List ℕ)) (from to : S) (o : Outcome) → HasRead takes words from to o → HasTaken (left from) (left to) o → GaveAtMost left takes (LONGEST_TEXT + 1) from to
-  of_outcome words from to (Refused TooLong) read took = record { bytes = read.0; calls = inl read.1; few = omega (arith, read.2); taken = exactly left takes 1048577 (left from) (left to) took }
-  of_outcome words from to (Refused (Lexical n p)) read took = given left takes from to read.0 read.1 read.2 took.0
-  of_outcome words from to (Refused (Syntax n p)) read took = given left takes from to read.0 read.1 read.2 took.0
-  of_outcome words from to (Refused (Scope n p)) read took = given left takes from to read.0 read.1 read.2 took.0
-  of_outcome words from to (Refused (NotResults p)) read took = given left takes from to read.0 read.1 read.2 took.0
-  of_outcome words from to (Refused (NotRegisters p)) read took = given left takes from to read.0 read.1 read.2 took.0
-  of_outcome words from to (Refused (NoLine n k)) read took = given left takes from to read.0 read.1 read.2 took.0
-  of_outcome words from to (Refused (NotFit n k)) read took = given left takes from to read.0 read.1 read.2 took.0
-  of_outcome words from to (Refused HasParameters) read took = given left takes from to read.0 read.1 read.2 took.0
-  of_outcome words from to (Refused (NoSet n k)) read took = given left takes from to read.0 read.1 read.2 took.0
-  of_outcome words from to (Completed r) read took = given left takes from to read.0 read.1 read.2 took.0
-  of_outcome words from to (Failed t) read took = given left takes from to read.0 read.1 read.2 took.0
-  of_outcome words from to (WrittenAgain answer) read took = given left takes from to read.0 read.1 read.2 took.0
-  of_outcome words from to (Checked script) read took = given left takes from to read.0 read.1 read.2 took.0
-  of_outcome words from to Same read took = given left takes from to read.0 read.1 read.2 took.0
-  of_outcome words from to (Differ k d name parameters) read took = given left takes from to read.0 read.1 read.2 took.0
-  of_outcome words from to (Translated r) read took = given left takes from to read.0 read.1 read.2 took.0
-  of_outcome words from to (Listed cs) read took = given left takes from to read.0 read.1 read.2 took.0
-  of_outcome words from to ReadFault (bytes, mid, asked, calls, few, room, last) took = record { bytes = bytes; calls = inr (mid, asked, calls, last); few = omega (arith, few); taken = more left takes LONGEST_TEXT (LONGEST_TEXT + 1) (left from) (left to) (omega arith) took }
-  of_outcome words from to (WasMade counts) (same, by) took = subst (GaveAtMost left takes (LONGEST_TEXT + 1) from) same (gave_nothing left takes (LONGEST_TEXT + 1) from)
-  of_outcome words from to Usage same took = subst (GaveAtMost left takes (LONGEST_TEXT + 1) from) same (gave_nothing left takes (LONGEST_TEXT + 1) from)
+  of_outcome words from to (Refused TooLong) read took = record { bytes = read.0; calls = inl read.1; few = omega (arith, read.2); taken = exactly left takes LONGEST_TEXT 1048577 (left from) (left to) took }
+  of_outcome words from to (Refused (Lexical n p)) read took = given left takes LONGEST_TEXT from to read.0 read.1 read.2 took.0
+  of_outcome words from to (Refused (Syntax n p)) read took = given left takes LONGEST_TEXT from to read.0 read.1 read.2 took.0
+  of_outcome words from to (Refused (Scope n p)) read took = given left takes LONGEST_TEXT from to read.0 read.1 read.2 took.0
+  of_outcome words from to (Refused (NotResults p)) read took = given left takes LONGEST_TEXT from to read.0 read.1 read.2 took.0
+  of_outcome words from to (Refused (NotRegisters p)) read took = given left takes LONGEST_TEXT from to read.0 read.1 read.2 took.0
+  of_outcome words from to (Refused (NoLine n k)) read took = given left takes LONGEST_TEXT from to read.0 read.1 read.2 took.0
+  of_outcome words from to (Refused (NotFit n k)) read took = given left takes LONGEST_TEXT from to read.0 read.1 read.2 took.0
+  of_outcome words from to (Refused HasParameters) read took = given left takes LONGEST_TEXT from to read.0 read.1 read.2 took.0
+  of_outcome words from to (Refused (NoSet n k)) read took = given left takes LONGEST_TEXT from to read.0 read.1 read.2 took.0
+  of_outcome words from to (Completed r) read took = given left takes LONGEST_TEXT from to read.0 read.1 read.2 took.0
+  of_outcome words from to (Failed t) read took = given left takes LONGEST_TEXT from to read.0 read.1 read.2 took.0
+  of_outcome words from to (WrittenAgain answer) read took = given left takes LONGEST_TEXT from to read.0 read.1 read.2 took.0
+  of_outcome words from to (Checked script) read took = given left takes LONGEST_TEXT from to read.0 read.1 read.2 took.0
+  of_outcome words from to Same read took = given left takes LONGEST_TEXT from to read.0 read.1 read.2 took.0
+  of_outcome words from to (Differ k d name parameters) read took = given left takes LONGEST_TEXT from to read.0 read.1 read.2 took.0
+  of_outcome words from to (Translated r) read took = given left takes LONGEST_TEXT from to read.0 read.1 read.2 took.0
+  of_outcome words from to (Listed cs) read took = given left takes LONGEST_TEXT from to read.0 read.1 read.2 took.0
+  of_outcome words from to ReadFault (bytes, mid, asked, calls, few, room, last) took = record { bytes = bytes; calls = inr (mid, asked, calls, last); few = omega (arith, few); taken = more left takes LONGEST_TEXT LONGEST_TEXT (LONGEST_TEXT + 1) (left from) (left to) (omega arith) took }
+  of_outcome words from to (WasMade counts) (same, by) took = subst (GaveAtMost left takes (LONGEST_TEXT + 1) from) same (gave_nothing left takes LONGEST_TEXT (LONGEST_TEXT + 1) from)
+  of_outcome words from to Usage same took = subst (GaveAtMost left takes (LONGEST_TEXT + 1) from) same (gave_nothing left takes LONGEST_TEXT (LONGEST_TEXT + 1) from)
 
   pub gave_for : {words : List (List ℕ)} {kinds : List Kind} {faults : S → ℕ} (from to : S) (o : Outcome) → IsOutcomeOf words kinds left faults takes from to o → GaveAtMost left takes (LONGEST_TEXT + 1) from to
   gave_for {words} from to o h = of_outcome words from to o h.read h.taken

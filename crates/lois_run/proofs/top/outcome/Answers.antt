@@ -9,8 +9,8 @@ use Rattle.lois_run.proofs.top.outcome.Goals as goal
 
 pub returns-in_err-command-clause-no_memory : goal.returns-in_err-command-clause-no_memory
 returns-in_err-command-clause-no_memory g c =
-    whatever_error g.S.Source.left g.S.Source.takes LONGEST_TEXT c.args.source.now c.args.source.now c.from_residual.result
-    (gave_nothing g.S.Source.left g.S.Source.takes LONGEST_TEXT c.args.source.now)
+    whatever_error g.S.Source.left g.S.Source.takes LONGEST_TEXT LONGEST_TEXT c.args.source.now c.args.source.now c.from_residual.result
+    (gave_nothing g.S.Source.left g.S.Source.takes LONGEST_TEXT LONGEST_TEXT c.args.source.now)
 
 pub returns-then-lacks_decider-clause-outcome : goal.returns-then-lacks_decider-clause-outcome
 returns-then-lacks_decider-clause-outcome g c =

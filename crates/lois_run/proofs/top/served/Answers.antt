@@ -18,8 +18,8 @@ returns-in-Make-clause-outcome g c =
 
 pub returns-in-Make-clause-no_memory : goal.returns-in-Make-clause-no_memory
 returns-in-Make-clause-no_memory g c =
-    whatever_error g.S.Source.left g.S.Source.takes LONGEST_TEXT c.args.source.now c.args.source.now c.run_make.result
-    (gave_nothing g.S.Source.left g.S.Source.takes LONGEST_TEXT c.args.source.now)
+    whatever_error g.S.Source.left g.S.Source.takes LONGEST_TEXT LONGEST_TEXT c.args.source.now c.args.source.now c.run_make.result
+    (gave_nothing g.S.Source.left g.S.Source.takes LONGEST_TEXT LONGEST_TEXT c.args.source.now)
 
 pub returns-in-Ok-clause-outcome : goal.returns-in-Ok-clause-outcome
 returns-in-Ok-clause-outcome g c =
@@ -38,8 +38,8 @@ returns-in-Ok-clause-no_memory g c =
     let whole = subst (λ (bytes : List ℕ). Consumes (g.S.Source.left c.args.source.now) (g.S.Source.left c.read_all.new.source) bytes) (sym c.deref.ensures.value) c.in-Ok.ensures.whole in
     let calls = subst (λ (bytes : List ℕ). ReadsToEnd g.S.Source.takes (LONGEST_TEXT + 1) c.args.source.now bytes c.read_all.new.source) (sym c.deref.ensures.value) c.in-Ok.ensures.calls_to_end in
     let fits : length c.deref.result.now ≤ LONGEST_TEXT = omega (arith, c.deref.ensures.len, c.in-Ok.ensures.fits) in
-    whatever_error g.S.Source.left g.S.Source.takes LONGEST_TEXT c.args.source.now c.read_all.new.source c.answer.result
-    (gave_text g.S.Source.left g.S.Source.takes LONGEST_TEXT c.args.source.now c.read_all.new.source c.deref.result.now calls fits whole)
+    whatever_error g.S.Source.left g.S.Source.takes LONGEST_TEXT LONGEST_TEXT c.args.source.now c.read_all.new.source c.answer.result
+    (gave_text g.S.Source.left g.S.Source.takes LONGEST_TEXT LONGEST_TEXT c.args.source.now c.read_all.new.source c.deref.result.now calls fits whole)
 
 pub returns-in-Err-ReadFault-clause-outcome : goal.returns-in-Err-ReadFault-clause-outcome
 returns-in-Err-ReadFault-clause-outcome g c = λ words kinds asks has.
