@@ -5,3 +5,4 @@ pub mod Comparisons
 pub mod Languages
 pub mod Listed
 pub mod Atoms
+pub mod TwoRuns

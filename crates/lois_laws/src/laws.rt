@@ -3,6 +3,7 @@
 ghost use Rattle.lois_laws.specs.Laws.{EqualIsOfTheRun, DifferenceIsOfTheRun, CensusIsOfTheRun};
 ghost use Rattle.lois_laws.specs.Laws.{NoWordIsOfTheRun, WordIsOfTheRun, WithinIsOfTheRun, BeyondIsOfTheRun};
 ghost use Rattle.lois_laws.specs.DataWords.{EqualIsOfDataWords, DifferenceIsOfDataWords};
+ghost use Rattle.lois_laws.specs.TwoRuns.{RunsArePartitioned, SameIsOfTheRuns};
 
 /// `run`, then `equal`: where the lines are found equal, at no choice a word tells apart what the script prints; a difference
 /// tells it apart at its choice.
@@ -33,4 +34,10 @@ pub fn censuses_are_of_the_run()
 pub fn comparisons_are_of_data_words()
     ensures equal { EqualIsOfDataWords }
     ensures difference { DifferenceIsOfDataWords }
+{}
+
+/// Two runs, then `same`: the results of each are a partition, and they are found the same exactly where the scripts print the same.
+pub fn likenesses_are_of_the_runs()
+    ensures partitioned { RunsArePartitioned }
+    ensures same { SameIsOfTheRuns }
 {}
