@@ -64,7 +64,7 @@ try_words() {
 status_of() {
   case $1 in
     *'refused'*) echo 5 ;;
-    *'differ in case'* | none*) echo 10 ;;
+    *'differ in '* | none*) echo 10 ;;
     *': assertion failed'*) echo 1 ;;
     *': turn limit'*) echo 3 ;;
     *': depth limit'*) echo 4 ;;
