@@ -1,21 +1,23 @@
 -- Words that one automaton accepts and another one doesn't.
-use Rattle.std.proofs.Common.{◌≡◌, ℕ, inr, ◌↔◌, List, [], ◌∷◌, length, subst}
+use Rattle.std.proofs.Common.{◌≡◌, ℕ, inr, ◌↔◌, Bool, List, [], ◌∷◌, length, subst}
 use Rattle.std.specs.List.{All}
 use Rattle.std.proofs.lemmas.List.Elements.{All-nil, All-cons, All-head, All-tail}
 use Rattle.lois_base.specs.Atom.{Atom}
 use Rattle.lois_base.specs.Data.{TermD, coll, CompsD}
 use Rattle.lois_base.specs.Values.{PointValue, point, IsIn}
+use Rattle.lois_base.specs.Validity.{AdmitsTerm, AdmitsItems, HasBoundedWidths, ItemsHaveBoundedWidths}
 use Rattle.lois_base.specs.declared.guards.Lit.{Lit}
 use Rattle.lois_base.proofs.Members.{same_refl, same_in}
 use Rattle.lois_meaning.specs.Automata.{Automaton, IsAutomatonOf, Reads, Accepts}
 use Rattle.lois_meaning.specs.Operations.{AreLetters}
 use Rattle.lois_meaning.proofs.Automata.{automaton_both, automaton_same}
 use Rattle.lois_automata.specs.Projections.{five_of}
-use Rattle.lois_automata.specs.Machines.{IsAutomatonAt, IsDeterministicAt, IsCompleteDeterministicAt, AcceptsBothAt, AcceptsOthersAt}
+use Rattle.lois_automata.specs.Machines.{IsAutomatonAt, IsDeterministicAt, IsCompleteDeterministicAt, AcceptsOthersAt}
 use Rattle.lois_automata.specs.Throughout.{HoldsThroughout}
 use Rattle.lois_automata.proofs.FiveMachine.{five_equal}
 use Rattle.lois_automata.proofs.Paths.{letter_in}
 use Rattle.lois_shortest_word.specs.Words.{AcceptsAt}
+use Rattle.lois_shortest_word.specs.Common.{AcceptBothAt}
 use Rattle.lois_equal.specs.Completed.{IsCompletionAt}
 use Rattle.lois_equal.specs.Distinguishing.{AcceptsOnlyFirst, HasLetterAt}
 
@@ -39,33 +41,32 @@ pub are_letters : (a : Automaton) (word : List PointValue) → All (λ x. IsIn x
 are_letters a [] h = tt
 are_letters a (l ∷ word) h = (All-head (λ x. IsIn x a.letters) l word h, are_letters a word (All-tail (λ x. IsIn x a.letters) l word h))
 
--- s is made complete over the letters of t, r runs t beside the complement
-module _ (t s whole others r more : TermD) (c : List Atom) (letters : (x : PointValue) → HasLetterAt t c x → IsIn x (point more c)) (complete : IsCompletionAt s more whole c) (denied : AcceptsOthersAt whole others c) (both : AcceptsBothAt t others r c) where
-  accepts_alone : (word : List PointValue) → AcceptsAt r c word ↔ AcceptsOnlyFirst t s c word
-  accepts_alone word = (there, back)
+-- s is made complete over the letters of t
+module _ (t s whole others more : TermD) (c : List Atom) (letters : (x : PointValue) → HasLetterAt t c x → IsIn x (point more c)) (complete : IsCompletionAt s more whole c) (denied : AcceptsOthersAt whole others c) where
+  common_alone : (word : List PointValue) → AcceptBothAt t others c word ↔ AcceptsOnlyFirst t s c word
+  common_alone word = (there, back)
     where
-      there : AcceptsAt r c word → AcceptsOnlyFirst t s c word
-      there h =
-          let parts = (both.words word).0 (accepts_of r c both.made both.made_is word h) in
-          let denies = (denied.words word).0 (accepts_of others c denied.made denied.made_is word (both.second, both.second_is, parts.1)) in
-          ((both.first, both.first_is, parts.0), λ g. denies.1 (accepts_of whole c denied.first denied.first_is word ((complete.words word).1 g)))
+      there : AcceptBothAt t others c word → AcceptsOnlyFirst t s c word
+      there (h, g) =
+          let denies = (denied.words word).0 (accepts_of others c denied.made denied.made_is word g) in
+          (h, λ k. denies.1 (accepts_of whole c denied.first denied.first_is word ((complete.words word).1 k)))
 
       own : (x : PointValue) → HasLetterAt t c x → IsIn x denied.first.letters
       own x h = letter_of whole c denied.first denied.first_is x ((complete.letters x).1 (inr (letters x h)))
 
-      back : AcceptsOnlyFirst t s c word → AcceptsAt r c word
+      back : AcceptsOnlyFirst t s c word → AcceptBothAt t others c word
       back (h, never) =
           let over : AreLetters denied.first word = are_letters denied.first word (all_letters t c (λ x. IsIn x denied.first.letters) own word h) in
           let denies = (denied.words word).1 (over, λ g. never ((complete.words word).0 (denied.first, denied.first_is, g))) in
-          (both.made, both.made_is, (both.words word).1 (accepts_of t c both.first both.first_is word h, accepts_of others c both.second both.second_is word (denied.made, denied.made_is, denies)))
+          (h, (denied.made, denied.made_is, denies))
 
 -- ---- throughout the choices that a constraint admits
 module _ (n : ℕ) (u : List (List Lit)) (t s whole : TermD) (ks l st i f : CompsD) (is : t ≡ five_of ks l st i f) (only : HoldsThroughout n u (IsDeterministicAt s)) (complete : (c : List Atom) → length c ≡ n → IsDeterministicAt s c → IsCompletionAt s (coll l) whole c) where
   pub whole_throughout : HoldsThroughout n u (IsCompleteDeterministicAt whole)
   whole_throughout c k h = (complete c k (only c k h)).whole
 
-  pub alone_throughout : (others r : TermD) → HoldsThroughout n u (AcceptsOthersAt whole others) → HoldsThroughout n u (AcceptsBothAt t others r) → HoldsThroughout n u (λ c. (word : List PointValue) → AcceptsAt r c word ↔ AcceptsOnlyFirst t s c word)
-  alone_throughout others r denied both c k h = accepts_alone t s whole others r (coll l) c letters (complete c k (only c k h)) (denied c k h) (both c k h)
+  pub alone_throughout : (others : TermD) → HoldsThroughout n u (AcceptsOthersAt whole others) → HoldsThroughout n u (λ c. (word : List PointValue) → AcceptBothAt t others c word ↔ AcceptsOnlyFirst t s c word)
+  alone_throughout others denied c k h = common_alone t s whole others (coll l) c letters (complete c k (only c k h)) (denied c k h)
     where
       letters : (x : PointValue) → HasLetterAt t c x → IsIn x (point (coll l) c)
       letters x j = go (subst (λ z. HasLetterAt z c x) is j)
@@ -76,5 +77,14 @@ module _ (n : ℕ) (u : List (List Lit)) (t s whole : TermD) (ks l st i f : Comp
 pub others_automaton : (n : ℕ) (u : List (List Lit)) (whole others : TermD) → HoldsThroughout n u (AcceptsOthersAt whole others) → HoldsThroughout n u (IsAutomatonAt others)
 others_automaton n u whole others denied c k h = let at = denied c k h in (at.made, at.made_is)
 
-pub both_automaton : (n : ℕ) (u : List (List Lit)) (t others r : TermD) → HoldsThroughout n u (AcceptsBothAt t others r) → HoldsThroughout n u (IsAutomatonAt r)
-both_automaton n u t others r both c k h = let at = both c k h in (at.made, at.made_is)
+-- the letters of a term of five sets
+module _ (t : TermD) (ks l st i f : CompsD) (is : t ≡ five_of ks l st i f) where
+  pub letters_admit : (o : Bool) → AdmitsTerm o t → AdmitsItems o l
+  letters_admit o h =
+      let five : AdmitsTerm o (five_of ks l st i f) = subst (AdmitsTerm o) is h in
+      five.1.0
+
+  pub letters_bounded : HasBoundedWidths t → ItemsHaveBoundedWidths l
+  letters_bounded h =
+      let five : HasBoundedWidths (five_of ks l st i f) = subst HasBoundedWidths is h in
+      five.2.1.0

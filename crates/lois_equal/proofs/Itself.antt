@@ -1,8 +1,8 @@
 -- No set is a member of itself.
-use Rattle.std.proofs.Common.{ℕ, zero, suc, inl, inr, List, subst, arith}
+use Rattle.std.proofs.Common.{ℕ, zero, suc, List, arith}
 use Rattle.lois_base.specs.Atom.{Atom}
-use Rattle.lois_base.specs.Data.{TermD, coll, comp, CompsD, no_comps, more, depth}
-use Rattle.lois_base.specs.Values.{point, IsIn, MemberAt, DeeperAt, SomeMemberDeeperAt}
+use Rattle.lois_base.specs.Data.{coll, CompsD, depth}
+use Rattle.lois_base.specs.Values.{point, IsIn, DeeperAt}
 use Rattle.lois_base.proofs.Depths.{deeper_depth}
 use Rattle.lois_base.proofs.Members.{deeper_same, member_deeper}
 

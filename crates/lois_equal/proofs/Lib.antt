@@ -1,4 +1,5 @@
 pub mod Itself
+pub mod Apart
 pub mod SinkSteps
 pub mod Total
 pub mod Sinks

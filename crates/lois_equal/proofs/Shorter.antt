@@ -7,29 +7,33 @@ use Rattle.lois_base.specs.Data.{TermD}
 use Rattle.lois_base.specs.Truth.{sampled}
 use Rattle.lois_base.specs.Values.{PointValue}
 use Rattle.lois_base.specs.declared.guards.Lit.{Lit}
-use Rattle.lois_automata.specs.Machines.{IsEmptyAt}
 use Rattle.lois_automata.specs.Throughout.{HoldsThroughout}
-use Rattle.lois_shortest_word.specs.Words.{AcceptsAt, IsShortestWord, first_sampled, values_at}
+use Rattle.lois_shortest_word.specs.Common.{AcceptBothAt, AcceptNoneInCommon, IsShortestCommonWord}
+use Rattle.lois_shortest_word.specs.Words.{first_sampled, values_at}
 use Rattle.lois_shortest_word.specs.declared.words.Word.{Word}
 use Rattle.lois_equal.specs.declared.differing.Difference.{Difference}
 use Rattle.lois_equal.specs.declared.differing.Equality.{Equality}
 use Rattle.lois_equal.specs.declared.differing.Equality.TheVariants.{Differs}
 use Rattle.lois_equal.specs.Differing.{IsSameAnswer, IfDiffers, HaveSameLanguage, IsAcceptedByOne, IsDistinguishingWord, IsLanguageIncluded, IsShortestDifference, IsShorterOf}
 use Rattle.lois_equal.specs.Distinguishing.{AcceptsOnlyFirst, TellsApart, HasLetterAt}
-use Rattle.lois_equal.proofs.Differences.{accepts_of, all_letters}
+use Rattle.lois_equal.proofs.Differences.{all_letters}
 
 first_length : (n : ℕ) (s : List ℕ) → n ≤ length s → length (first_sampled n s) ≡ n
 first_length n s h = length-map (take n s) whole ∙ (length-take n s ∙ omega arith)
 
--- ---- of an automaton r that accepts what t alone accepts
-module _ (n : ℕ) (u : List (List Lit)) (t s r : TermD) (words : HoldsThroughout n u (λ c. (word : List PointValue) → AcceptsAt r c word ↔ AcceptsOnlyFirst t s c word)) where
-  pub never_alone : HoldsThroughout n u (IsEmptyAt r) → IsLanguageIncluded n u t s
-  never_alone empty c l h word alone =
-      let none = empty c l h in
-      none.2 word (accepts_of r c none.0 none.1 word ((words c l h word).1 alone))
+-- ---- of an automaton r that accepts, among the words of t, those that s doesn't accept
+module _ (n : ℕ) (u : List (List Lit)) (t s r : TermD) (words : HoldsThroughout n u (λ c. (word : List PointValue) → AcceptBothAt t r c word ↔ AcceptsOnlyFirst t s c word)) where
+  none_alone : AcceptNoneInCommon n u t r → IsLanguageIncluded n u t s
+  none_alone none c l h word alone = none c l h word ((words c l h word).1 alone)
 
-  shortest_is_alone : (w : Word) → IsShortestWord n u r w → IsShortestDifference n u t s w
-  shortest_is_alone w is = record {
+  alone_none : IsLanguageIncluded n u t s → AcceptNoneInCommon n u t r
+  alone_none never c l h word both = never c l h word ((words c l h word).0 both)
+
+  pub never_alone : (P : Type 0) → P ↔ AcceptNoneInCommon n u t r → P ↔ IsLanguageIncluded n u t s
+  never_alone P is = (λ p. none_alone (is.0 p), λ h. is.1 (alone_none h))
+
+  common_is_alone : (w : Word) → IsShortestCommonWord n u t r w → IsShortestDifference n u t s w
+  common_is_alone w is = record {
     count = is.count;
     admitted = is.admitted;
     levels = is.levels;
@@ -38,9 +42,9 @@ module _ (n : ℕ) (u : List (List Lit)) (t s r : TermD) (words : HoldsThroughou
     used = is.used;
   }
 
-  pub some_alone : (o : Option Word) → IfSome o (IsShortestWord n u r) → IfSome o (IsShortestDifference n u t s)
+  pub some_alone : (o : Option Word) → IfSome o (IsShortestCommonWord n u t r) → IfSome o (IsShortestDifference n u t s)
   some_alone None is = tt
-  some_alone (Some w) is = shortest_is_alone w is
+  some_alone (Some w) is = common_is_alone w is
 
 module _ (n : ℕ) (u : List (List Lit)) (t s : TermD) where
   -- no word that t alone accepts is shorter than k letters

@@ -19,7 +19,6 @@ use Rattle.lois_automata.proofs.Paths.{source_in}
 use Rattle.lois_shortest_word.specs.Words.{AcceptsAt}
 use Rattle.lois_equal.specs.Completed.{IsCompletionAt, HasOneMore, AreTotal, IsCompletedOf, IsSinkStep}
 use Rattle.lois_equal.specs.Distinguishing.{HasLetterAt}
-use Rattle.lois_equal.proofs.Itself.{not_in_itself}
 
 module _ (v : PointValue) (a m : Automaton) (more sink : PointValue) (is : IsAutomatonOf v a) (one : IsDeterministic a) (made : IsCompletedOf m a more sink) where
   -- a step to the sink, where a has none
@@ -177,14 +176,13 @@ module _ (ks : CompsD) (t : TermD) where
 
 -- a term of five sets that is so made of another one
 module _ (n : ℕ) (t r : TermD) (s l st i f : CompsD) (is : t ≡ five_of s l st i f) where
-  pub completed_at : (more : CompsD) (sink steps : TermD) (rs rl i2 f2 : CompsD) → sink ≡ coll s → IsColl steps → i2 ≡ i → f2 ≡ f →
+  pub completed_at : (more : CompsD) (sink steps : TermD) (rs rl i2 f2 : CompsD) → ((c : List Atom) → IsIn (point sink c) (point (coll s) c) → ⊥) → IsColl steps → i2 ≡ i → f2 ≡ f →
       ((c : List Atom) → HasOneMore (point (coll s) c) (point sink c) (point (coll rs) c)) → IsUnion (coll l) (coll more) (coll rl) →
       ((c : List Atom) → length c ≡ n → AreTotal (point (coll rs) c) (point (coll rl) c) (point (coll st) c) (point sink c) (point steps c)) →
       r ≡ five_terms (coll rs) (coll rl) steps (coll i2) (coll f2) → (c : List Atom) → length c ≡ n → IsDeterministicAt t c → IsCompletionAt t (coll more) r c
-  completed_at more sink steps rs rl i2 f2 es set ei ef one_more all total made c k only =
+  completed_at more sink steps rs rl i2 f2 apart set ei ef one_more all total made c k only =
       let rt : CompsD = set.0 in
       let here : r ≡ five_of rs rl rt i f = rw (made, set.1, ei, ef) in
-      let apart : IsIn (point sink c) (point (coll s) c) → ⊥ = subst (λ z. IsIn (point z c) (point (coll s) c) → ⊥) (sym es) (not_in_itself s c) in
       let own : IsCompletedOf (automaton_at rs rl rt i f c) (automaton_at s l st i f c) (point (coll more) c) (point sink c) = record {
         states = (tt, one_more c);
         letters = (tt, all c);
@@ -192,7 +190,7 @@ module _ (n : ℕ) (t r : TermD) (s l st i f : CompsD) (is : t ≡ five_of s l s
         steps = subst (λ z. AreTotal (point (coll rs) c) (point (coll rl) c) (point (coll st) c) (point sink c) (point z c)) set.1 (total c k);
         initial = (tt, λ p. (λ h. h, λ h. h));
         final = (tt, λ p. (λ h. h, λ h. h));
-        apart = apart;
+        apart = apart c;
       } in
       let at : IsCompletionAt (five_of s l st i f) (coll more) (five_of rs rl rt i f) c = completion_five s l st i f rs rl rt (coll more) sink c (subst (λ z. IsDeterministicAt z c) is only) own in
       subst (λ z. IsCompletionAt z (coll more) r c) (sym is) (subst (λ z. IsCompletionAt (five_of s l st i f) (coll more) z c) (sym here) at)

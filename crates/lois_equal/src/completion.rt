@@ -1,12 +1,12 @@
 //! Automata that are made complete.
 
-ghost use Rattle.std.specs.Prelude.{◌≡◌, ℕ, ◌<◌, ◌^◌, Bool, List, length, IfOk};
+ghost use Rattle.std.specs.Prelude.{◌≡◌, ℕ, ◌<◌, ◌^◌, Bool, List, length, IfOk, IsTrue};
 ghost use Rattle.lois_base.specs.Atom.{Atom};
 ghost use Rattle.lois_base.specs.Data.{coll, comps_of};
 ghost use Rattle.lois_base.specs.Fits.{Fits, ItemsFit};
 ghost use Rattle.lois_base.specs.Tree.{tree};
 ghost use Rattle.lois_base.specs.Validity.{AdmitsTerm, AdmitsItems, HasBoundedWidths, ItemsHaveBoundedWidths};
-ghost use Rattle.lois_base.specs.Values.{point};
+ghost use Rattle.lois_base.specs.Values.{point, IsIn};
 ghost use Rattle.lois_algebra.specs.Sets.{IsUnion};
 ghost use Rattle.lois_automata.specs.Machines.{IsDeterministicAt};
 ghost use Rattle.lois_equal.specs.Completed.{IsCompletionAt, HasOneMore};
@@ -15,6 +15,7 @@ use crate::sink_steps::total_steps;
 use lois_algebra::{push_comp, union};
 use lois_automata::{five, of_five};
 use lois_base::{Comp, Comps, Constraint, NoMemory, Structure, Term};
+use lois_relate::clash;
 use std::alloc::Global;
 
 /// A complete automaton that accepts exactly the words that the deterministic automaton `t` accepts, over its letters and those
@@ -38,8 +39,7 @@ pub fn complete_automaton<T: Structure>(
     let Some(sets) = five(t) else {
         return t.copy(alloc);
     };
-    // no set is a member of itself
-    let sink = Term::Coll(sets.states.copy(alloc)?);
+    let sink = sink_of(alloc, sets.states)?;
     let states = with_item(alloc, sets.states, &sink)?;
     let letters = append_comps(alloc, sets.letters, more)?;
     let steps = total_steps::<T>(alloc, &states, &letters, sets.steps, &sink, size)?;
@@ -53,6 +53,32 @@ pub fn complete_automaton<T: Structure>(
         initial,
         accepting,
     )
+}
+
+// A value that is no member of the set. The empty set is small, and no set is a member of itself.
+fn sink_of(alloc: Global, states: &Comps) -> Result<Term, NoMemory>
+    ensures apart { IfOk result (λ r. (c : List Atom) → IsIn (point (tree r) c) (point (coll (comps_of states.now)) c) → ⊥) }
+    ensures levels { IfOk result (λ r. (n : ℕ) → ItemsFit n (comps_of states.now) → Fits n (tree r)) }
+    ensures operators { IfOk result (λ r. (o : Bool) → AdmitsItems o (comps_of states.now) → AdmitsTerm o (tree r)) }
+    ensures widths { IfOk result (λ r. ItemsHaveBoundedWidths (comps_of states.now) → HasBoundedWidths (tree r)) }
+{
+    let nothing = Term::Coll(Comps::new(alloc));
+    if all_clash(states, &nothing) {
+        return Ok(nothing);
+    }
+    Ok(Term::Coll(states.copy(alloc)?))
+}
+
+// Whether no item can have the value of the term.
+fn all_clash(items: &Comps, t: &Term) -> bool
+    ensures { IsTrue result → (c : List Atom) → IsIn (point (tree t.now) c) (point (coll (comps_of items.now)) c) → ⊥ }
+{
+    for comp in items.as_slice() {
+        if !clash(&comp.item, t) {
+            return false;
+        }
+    }
+    true
 }
 
 // The members of both sets.

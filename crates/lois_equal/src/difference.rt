@@ -1,23 +1,20 @@
 //! Words that one automaton accepts and another one doesn't.
 
-ghost use Rattle.std.specs.Prelude.{Bool, List, IfOk, IfSome, IsNone, ◌↔◌};
+ghost use Rattle.std.specs.Prelude.{Bool, IfOk, IfSome, IsNone, ◌↔◌};
 ghost use Rattle.std.specs.List.{All};
 ghost use Rattle.lois_base.specs.Fits.{ConstraintFits, Fits};
 ghost use Rattle.lois_base.specs.Tree.{tree};
 ghost use Rattle.lois_base.specs.Validity.{AdmitsConstraint, AdmitsTerm, HasBoundedWidths};
-ghost use Rattle.lois_base.specs.Values.{PointValue};
 ghost use Rattle.lois_deciders.specs.OnlyAsked.{HasOnlyAsked};
 ghost use Rattle.lois_automata.specs.Machines.{IsAutomatonAt, IsDeterministicAt};
 ghost use Rattle.lois_automata.specs.Throughout.{HoldsThroughout};
-ghost use Rattle.lois_shortest_word.specs.Words.{AcceptsAt};
-ghost use Rattle.lois_equal.specs.Distinguishing.{AcceptsOnlyFirst};
 ghost use Rattle.lois_equal.specs.Differing.{IsLanguageIncluded, IsShortestDifference};
 
 use crate::completion::complete_automaton;
-use lois_automata::{complement, five, product};
+use lois_automata::{complement, five};
 use lois_base::{Constraint, Decider, NoMemory, Structure, Term};
 use lois_deciders::Chosen;
-use lois_shortest_word::{Word, shortest_word};
+use lois_shortest_word::{Word, shortest_common_word};
 use std::alloc::Global;
 
 /// A word that `a` accepts and `b` doesn't, at some choice that `under` admits, such that there is no shorter one at any choice
@@ -45,36 +42,10 @@ pub fn shortest_difference<T: Structure>(
     ensures widths { IfOk result (λ o. IfSome o (λ w. HasBoundedWidths (tree a.now) → HasBoundedWidths (tree b.now) → All HasBoundedWidths w.letters)) }
     ensures only_asked { HasOnlyAsked (λ b. (⟦<dyn Decider as Decider>⟧ b.vtable).kind_of b.value) (λ b. (⟦<dyn Decider as Decider>⟧ b.vtable).questions b.value) chosen.old chosen.new }
 {
-    let others = excluding::<T>(alloc, a, b, under, size, chosen)?;
-    shortest_word::<T>(alloc, &others, under, size, chosen)
-}
-
-// An automaton that accepts exactly the words that `a` accepts and `b` doesn't.
-fn excluding<T: Structure>(
-    alloc: Global,
-    a: &Term,
-    b: &Term,
-    under: &Constraint,
-    size: usize,
-    chosen: &mut Chosen,
-) -> Result<Term, NoMemory>
-    requires levels { Fits size (tree a.now) }
-    requires operators { AdmitsTerm T.ordered (tree a.now) }
-    requires other_levels { Fits size (tree b.now) }
-    requires other_operators { AdmitsTerm T.ordered (tree b.now) }
-    requires automaton { HoldsThroughout size under.now (IsAutomatonAt (tree a.now)) }
-    requires deterministic { HoldsThroughout size under.now (IsDeterministicAt (tree b.now)) }
-    ensures automaton { IfOk result (λ r. HoldsThroughout size under.now (IsAutomatonAt (tree r))) }
-    ensures words { IfOk result (λ r. HoldsThroughout size under.now (λ c. (word : List PointValue) → AcceptsAt (tree r) c word ↔ AcceptsOnlyFirst (tree a.now) (tree b.now) c word)) }
-    ensures levels { IfOk result (λ r. Fits size (tree r)) }
-    ensures operators { IfOk result (λ r. (o : Bool) → AdmitsTerm o (tree a.now) → AdmitsTerm o (tree b.now) → AdmitsTerm o (tree r)) }
-    ensures widths { IfOk result (λ r. HasBoundedWidths (tree a.now) → HasBoundedWidths (tree b.now) → HasBoundedWidths (tree r)) }
-    ensures only_asked { HasOnlyAsked (λ b. (⟦<dyn Decider as Decider>⟧ b.vtable).kind_of b.value) (λ b. (⟦<dyn Decider as Decider>⟧ b.vtable).questions b.value) chosen.old chosen.new }
-{
     let Some(sets) = five(a) else {
-        return a.copy(alloc);
+        return Ok(None);
     };
     let whole = complete_automaton::<T>(alloc, b, sets.letters, size)?;
     let others = complement::<T>(alloc, &whole, under, size, chosen)?;
-    product::<T>(alloc, a, &others, under, size, chosen)
+    shortest_common_word::<T>(alloc, a, &others, under, size, chosen)
 }

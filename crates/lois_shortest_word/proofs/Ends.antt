@@ -63,11 +63,11 @@ module _ (n : ℕ) (u : List (List Lit)) (m : List Atom → Automaton) (stage : 
 
 -- ---- of the term of an automaton
 module _ (a : TermD) (s l t i f : CompsD) (is : a ≡ five_of s l t i f) (n : ℕ) (u : List (List Lit)) (automaton : HoldsThroughout n u (IsAutomatonAt a)) where
-  machine_is : (c : List Atom) → length c ≡ n → IsTrue (holds c u) → IsAutomatonOf (point a c) (automaton_at s l t i f c)
+  pub machine_is : (c : List Atom) → length c ≡ n → IsTrue (holds c u) → IsAutomatonOf (point a c) (automaton_at s l t i f c)
   machine_is c k h =
       subst (λ z. IsAutomatonOf (point z c) (automaton_at s l t i f c)) (sym is) (five_machine s l t i f c (subst (λ z. IsAutomatonAt z c) is (automaton c k h)))
 
-  accepts_here : (c : List Atom) (word : List PointValue) → AcceptsAt a c word → Accepts (automaton_at s l t i f c) word
+  pub accepts_here : (c : List Atom) (word : List PointValue) → AcceptsAt a c word → Accepts (automaton_at s l t i f c) word
   accepts_here c word (m, own, acc) =
       subst (λ z. Accepts z word) (five_equal s l t i f c m (subst (λ z. IsAutomatonOf (point z c) m) is own)) acc
 

@@ -8,3 +8,10 @@ pub mod Ways
 pub mod Ends
 pub mod Lowered
 pub mod Shorter
+pub mod Each
+pub mod StepsFrom
+pub mod Fresh
+pub mod CommonPairs
+pub mod NextRound
+pub mod Meetings
+pub mod CommonWords

@@ -1,11 +1,11 @@
 -- Words that are the same letter by letter, and their letters.
 use Rattle.std.proofs.Common.{List, [], ◌∷◌, ◌++◌}
-use Rattle.lois_base.specs.Values.{PointValue, IsSame}
-use Rattle.lois_base.proofs.Members.{same_refl, same_sym, in_same}
-use Rattle.lois_meaning.specs.Automata.{Automaton, IsAutomatonOf, JoinsStates, Reads, Accepts}
+use Rattle.lois_base.specs.Values.{PointValue}
+use Rattle.lois_base.proofs.Members.{same_refl}
+use Rattle.lois_meaning.specs.Automata.{Automaton, IsAutomatonOf, Reads, Accepts}
 use Rattle.lois_meaning.specs.Kinds.{AreSame}
 use Rattle.lois_meaning.specs.Operations.{AreLetters}
-use Rattle.lois_meaning.proofs.Operations.{step_move, triple_both, letters_of}
+use Rattle.lois_meaning.proofs.Operations.{step_move, letters_of}
 use Rattle.lois_meaning.proofs.Alike.{are_same_refl}
 
 reads_alike : (a : Automaton) (ws vs : List PointValue) (p q : PointValue) → AreSame ws vs → Reads a ws p q → Reads a vs p q

@@ -12,9 +12,7 @@ use Rattle.lois_base.specs.Normal.{OccursInPart}
 use Rattle.lois_base.specs.Rename.{rename, rename_parts}
 use Rattle.lois_base.specs.Truth.{holds, sampled}
 use Rattle.lois_base.specs.Validity.{AdmitsTerm, HasBoundedWidths}
-use Rattle.lois_base.specs.Values.{PointValue}
 use Rattle.lois_base.specs.declared.guards.Lit.{Lit}
-use Rattle.lois_base.proofs.Members.{same_trans}
 use Rattle.lois_base.proofs.RenamedForm.{admits_renamed, widths_renamed}
 use Rattle.lois_base.proofs.Lists.{parts_renamed}
 use Rattle.lois_meaning.specs.Automata.{Automaton, Accepts}

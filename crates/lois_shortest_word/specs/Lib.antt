@@ -4,3 +4,6 @@ pub mod SymbolicStates
 pub mod Steps
 pub mod Walks
 pub mod Shortened
+pub mod Pairs
+pub mod Rounds
+pub mod Common

@@ -1,9 +1,13 @@
 //! Shortest words that automata accept.
 #![tactic(auto)]
 
+mod common;
+mod joint_steps;
 mod layers;
 mod lowering;
+mod meeting;
 mod narrowing;
+mod rounds;
 mod shortening;
 mod shortest;
 mod steps;
@@ -11,5 +15,6 @@ mod symbolic_states;
 mod walking;
 mod words;
 
+pub use common::shortest_common_word;
 pub use shortest::shortest_word;
 pub use words::Word;
