@@ -1,4 +1,4 @@
--- What private contracts say of comprehensions: what is taken from one, what is left of it.
+-- Items in orbits, and what private contracts say of comprehensions: what is taken from one, what is left of it.
 use Rattle.std.specs.Prelude.{◌≡◌, ℕ, Bool, List, [], ◌++◌, length, IsTrue, IsFalse, ◌↔◌}
 use Rattle.std.specs.List.{All, Any}
 use Rattle.lois_base.specs.Atom.{Atom}

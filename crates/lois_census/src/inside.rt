@@ -47,8 +47,9 @@ fn insert_levels(
 }
 
 /// A constraint over `size` levels that holds exactly where the item is in the orbit: where, at some choice that is alike to
-/// the orbit's sample, its item is the same. That the atoms are alike comes first, which cuts the comparison of sets short.
-fn in_orbit<T: Structure>(
+/// the orbit's sample, its item is the same. Errors: `NoMemory`, also where a level would pass the greatest usize.
+// That the atoms are alike comes first, which cuts the comparison of sets short.
+pub fn in_orbit<T: Structure>(
     alloc: Global,
     item: &Term,
     size: usize,

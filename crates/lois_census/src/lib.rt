@@ -11,6 +11,7 @@ mod texts;
 
 pub use answering::census_of;
 pub use counting::{Answer, Census, Censuses, Refusal};
+pub use inside::in_orbit;
 pub use listing::census;
 pub use orbits::{Orbit, Orbits};
 pub use texts::print_censuses;

@@ -11,10 +11,10 @@ use crate::pieces::{append, append_level, append_operand, append_separator};
 use lois_base::{Comp, Comps, Names, NoMemory, Term, Terms};
 use std::alloc::Global;
 
-/// The term inside `size` levels.
+/// Puts the term behind a text. It is inside `size` levels, the first of them those of the parameters.
 #[cycle(terms)]
 #[tactic(auto, using(crate::proofs::Written::part_texts_of, crate::proofs::Written::item_texts_of))]
-pub(crate) fn append_term(
+pub fn append_term(
     alloc: Global,
     text: &mut Vec<u8>,
     parameters: &Names,
