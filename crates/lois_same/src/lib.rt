@@ -1,0 +1,13 @@
+//! Whether two results say the same, and where they differ.
+#![tactic(auto)]
+
+mod comparing;
+mod contrasts;
+pub mod laws;
+mod texts;
+mod two_texts;
+
+pub use comparing::{Likeness, compare_results};
+pub use contrasts::{Contrast, Detail};
+pub use texts::print_contrast;
+pub use two_texts::first_length;
