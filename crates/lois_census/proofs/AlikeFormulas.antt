@@ -5,7 +5,7 @@ use Rattle.std.specs.Bool.{IsTrue}
 use Rattle.std.specs.Prelude.{◌↔◌}
 use Rattle.lois_base.specs.Atom.{Atom, whole}
 use Rattle.lois_base.specs.Fits.{LitFits}
-use Rattle.lois_base.specs.FormulaData.{FormulaD, lit, all, no_formulas}
+use Rattle.lois_base.specs.FormulaData.{FormulaD, lit}
 use Rattle.lois_base.specs.FormulaTruth.{FormulaHolds}
 use Rattle.lois_base.specs.Truth.{atom_at, lit_holds, sampled}
 use Rattle.lois_base.specs.Validity.{AdmitsLit}

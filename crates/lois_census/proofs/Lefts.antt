@@ -17,6 +17,7 @@ use Rattle.lois_base.specs.Validity.{AdmitsConstraint}
 use Rattle.lois_base.specs.Values.{point, IsSame}
 use Rattle.lois_base.specs.declared.guards.Lit.{Lit}
 use Rattle.lois_deciders.specs.Satisfaction.{IsConstraintSample, ConstraintIsSatisfiable}
+use Rattle.lois_relate.specs.Apart.{AreNeverSame}
 use Rattle.lois_census.specs.Left.{HoldsWhereInOrbit, IsWithoutOrbit, IsRemainder, IsCoveredByOrbits}
 use Rattle.lois_census.specs.OrbitData.{OrbitD}
 use Rattle.lois_census.specs.Orbits.{IsInOrbit, IsOutside, AreDisjointOrbits}
@@ -42,6 +43,14 @@ module _ (ordered : Bool) (n : ℕ) (t : TermD) where
         let out : IsFalse (holds e q) = (both_in (holds e r) (holds e u) (holds e q) (is e) h).1 in
         absurd (cc);
     taken = λ e le h f. (inside e le).0 (other_out (holds e r) (holds e u) (holds e q) (is e) h f);
+  }
+
+  -- nothing is taken off where the item is never in the orbit
+  pub kept_whole : (o : OrbitD) (u : List (List Lit)) → AreNeverSame t o.item → IsWithoutOrbit ordered n t o u u
+  kept_whole o u never = record {
+    within = λ e le h. h;
+    outside = λ e le h k. never e k.0 k.2;
+    taken = λ e le h f. absurd (cc);
   }
 
   module _ (g : List (List Lit)) where

@@ -5,7 +5,7 @@ use Rattle.std.proofs.lemmas.Int.{ints}
 use Rattle.std.proofs.lemmas.List.{length-map}
 use Rattle.std.specs.Bool.{IsTrue, IsFalse}
 use Rattle.std.specs.Prelude.{◌↔◌}
-use Rattle.lois_base.proofs.Order.{equal_is_neither, below_asym, below_irrefl, equal_out, equal_refl, equal_sym, same_truth, below_not_equal}
+use Rattle.lois_base.proofs.Order.{equal_is_neither, below_asym, below_irrefl, equal_out, equal_refl, below_not_equal}
 use Rattle.lois_base.specs.Atom.{Atom, equal, below, whole}
 use Rattle.lois_base.specs.Patterns.{AreAlike}
 use Rattle.lois_base.specs.Truth.{atom_at, op_holds, sampled}

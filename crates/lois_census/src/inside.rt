@@ -14,7 +14,7 @@ use lois_base::{Comp, Constraint, NoMemory, Structure, Term};
 use lois_constraint::{and_not, normalise};
 use lois_elim::quantifier_free;
 use lois_relate::building::{conjunction, for_some};
-use lois_relate::equal_formula;
+use lois_relate::{clash, equal_formula};
 use lois_terms::shift_term;
 use std::alloc::Global;
 
@@ -92,4 +92,26 @@ pub(crate) fn without<T: Structure>(
 {
     let inside = in_orbit::<T>(alloc, &comp.item, comp.binders, orbit)?;
     and_not(alloc, left, &inside)
+}
+
+/// The same of an orbit that is listed already, which few items can be in: tags and lengths of tuples rule most out.
+pub(crate) fn without_listed<T: Structure>(
+    alloc: Global,
+    left: Constraint,
+    comp: &Comp,
+    orbit: &Orbit,
+) -> Result<Constraint, NoMemory>
+    requires left { ConstraintFits comp.now.binders left }
+    requires left_operators { AdmitsConstraint T.ordered left }
+    requires levels { CompFits 0 (comp_of comp.now) }
+    requires operators { AdmitsComp T.ordered (comp_of comp.now) }
+    requires orbit { IsUsable T.ordered (orbit_of orbit.now) }
+    ensures truth { IfOk result (IsWithoutOrbit T.ordered comp.now.binders (tree comp.now.item) (orbit_of orbit.now) left) }
+    ensures fits { IfOk result (ConstraintFits comp.now.binders) }
+    ensures operators { IfOk result (AdmitsConstraint T.ordered) }
+{
+    if clash(&comp.item, &orbit.item) {
+        return Ok(left);
+    }
+    without::<T>(alloc, &left, comp, orbit)
 }

@@ -12,7 +12,7 @@ ghost use Rattle.lois_deciders.specs.OnlyAsked.{HasOnlyAsked};
 ghost use Rattle.lois_census.specs.Left.{IsTakenFrom, IsTakenFromSome, IsCoveredByOrbits, AddsOnly, IsUsable, IsRemainder};
 ghost use Rattle.lois_census.specs.Orbits.{value_of, IsInListedOrbit, AreDisjointOrbits, FitsSample};
 
-use crate::inside::without;
+use crate::inside::{without, without_listed};
 use crate::orbits::{Orbit, Orbits};
 use lois_base::{Comp, Comps, Constraint, Decider, NoMemory, Numbers, Structure, Term};
 use lois_deciders::Chosen;
@@ -111,7 +111,7 @@ fn not_listed<T: Structure>(
 {
     let mut left = comp.guard.copy(alloc)?;
     for orbit in orbits.as_slice() {
-        left = without::<T>(alloc, &left, comp, orbit)?;
+        left = without_listed::<T>(alloc, left, comp, orbit)?;
     }
     Ok(left)
 }

@@ -6,8 +6,8 @@ use Rattle.lois_census.specs.OrbitView.{orbit_of}
 use Rattle.lois_census.proofs.Lefts.{left_more}
 use Rattle.lois_census.proofs.listing.not_listed.Goals as goal
 
-pub without-requires-clause-orbit : goal.without-requires-clause-orbit
-without-requires-clause-orbit g c =
+pub without_listed-requires-clause-orbit : goal.without_listed-requires-clause-orbit
+without_listed-requires-clause-orbit g c =
     item_has orbit_of (IsUsable g.T.Structure.ordered) c.as_slice-orbit-items.result.now c.args.orbits.now c.loop-orbit.orbit-index c.orbit-item.result c.as_slice-orbit-items.ensures.items c.loop-orbit-test.true c.orbit-item.is c.requires.usable
 
 pub loop-orbit-preserved : goal.loop-orbit-preserved
