@@ -1,0 +1,9 @@
+pub mod Lists
+pub mod AtChoices
+pub mod Moves
+pub mod FoundNodes
+pub mod Pairs
+pub mod Drawn
+pub mod Cases
+pub mod NumberNames
+pub mod Labels

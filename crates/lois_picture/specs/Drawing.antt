@@ -1,26 +1,24 @@
 -- What private contracts say of sets that are drawn, of ends and of nodes.
-use Rattle.std.specs.Prelude.{◌≡◌, ℕ, Bool, true, false, List, [], ◌∷◌, IsTrue, ◌↔◌, ◌⊎◌, Option, Some, None}
-use Rattle.std.specs.List.{All}
+use Rattle.std.specs.Prelude.{◌≡◌, ℕ, Bool, true, false, List, [], map, IsTrue, ◌↔◌, ◌⊎◌, Option, Some, None}
 use Rattle.lois_base.specs.Atom.{Atom}
 use Rattle.lois_base.specs.Data.{TermD, CompD, comp, CompsD}
-use Rattle.lois_base.specs.Fits.{Fits, CompFits, ItemsFit}
+use Rattle.lois_base.specs.Fits.{Fits}
 use Rattle.lois_base.specs.Patterns.{AreAlike}
 use Rattle.lois_base.specs.Tree.{tree}
 use Rattle.lois_base.specs.Truth.{sampled}
-use Rattle.lois_base.specs.Validity.{AdmitsTerm, AdmitsComp, AdmitsItems}
+use Rattle.lois_base.specs.Validity.{AdmitsTerm}
 use Rattle.lois_base.specs.Values.{PointValue, point, IsIn}
 use Rattle.lois_base.specs.declared.values.Term.{Term}
-use Rattle.lois_algebra.specs.Gathered.{IsAmong, IsCompMember}
+use Rattle.lois_algebra.specs.Gathered.{IsCompMember}
 use Rattle.lois_automata.specs.Machines.{IsAutomatonAt}
-use Rattle.lois_automata.specs.Projections.{pair_of, triple_of}
-use Rattle.lois_census.specs.Left.{IsUsable}
+use Rattle.lois_automata.specs.Projections.{pair_of, triple_of, AddsOfOne}
 use Rattle.lois_census.specs.OrbitData.{OrbitD}
 use Rattle.lois_census.specs.Orbits.{value_of, IsInOrbit, IsInListedOrbit}
 use Rattle.lois_meaning.specs.Automata.{IsPair}
 use Rattle.lois_terms.specs.Guarded.{IsColl}
 use Rattle.lois_terms.specs.Shapes.{shape_of}
 use Rattle.lois_picture.specs.GraphData.{NodeD, EdgeD}
-use Rattle.lois_picture.specs.Graphs.{node_orbits, LeadsBy, IsInNode, HasItsEnds, IsRelation, IsAutomatonGraph, IsRelationGraph}
+use Rattle.lois_picture.specs.Graphs.{node_orbits, LeadsBy, IsInNode, HasItsEnds, IsRelation, IsEndOf, IsEndIn, IsAutomatonGraph, IsRelationGraph}
 use Rattle.lois_picture.specs.declared.graphs.Graph.{Graph}
 
 -- a set that uses no level outside of its binders
@@ -50,8 +48,7 @@ LiesInNode ordered nodes t sample number =
 
 -- the shapes of the nodes' items
 abbrev pub shapes_of : List NodeD → List ℕ
-shapes_of [] = []
-shapes_of (v ∷ vs) = shape_of v.orbit.item ∷ shapes_of vs
+shapes_of = map (λ v. shape_of v.orbit.item)
 
 -- the orbit's value leads from a value in one of the nodes to another
 abbrev pub HasListedEnds : Bool → List NodeD → OrbitD → Type 0
@@ -63,10 +60,6 @@ pub record IsEdgeOf (ordered : Bool) (nodes : List NodeD) (o : OrbitD) (e : Edge
   pub orbit : e.orbit ≡ o
   pub ends : HasItsEnds ordered nodes e
 
--- x is a pair, and p is its first or its second part
-abbrev pub IsEndOf : PointValue → PointValue → Type 0
-IsEndOf x p = (q : PointValue) × (IsPair x p q ⊎ IsPair x q p)
-
 -- the comprehension with another item
 abbrev pub end_comp : CompD → TermD → CompD
 end_comp (comp m g t) end = comp m g end
@@ -75,12 +68,9 @@ end_comp (comp m g t) end = comp m g end
 abbrev pub MakesPairs : CompD → Type 0
 MakesPairs k = (x : PointValue) → IsCompMember k [] x → (p q : PointValue) × IsPair x p q
 
--- the ends of the comprehension's members are put in
-pub record AddsEnds (k : CompD) (before after : CompsD) : Type 0 where
-  pub pairs : MakesPairs k
-  pub members : (p : PointValue) → IsAmong after [] p ↔ (IsAmong before [] p ⊎ ((x : PointValue) × IsCompMember k [] x × IsEndOf x p))
-  pub levels : ItemsFit 0 before → ItemsFit 0 after
-  pub operators : (o : Bool) → AdmitsComp o k → AdmitsItems o before → AdmitsItems o after
+-- the ends of the comprehension's members, which all are pairs, are put in
+abbrev pub AddsEnds : CompD → CompsD → CompsD → Type 0
+AddsEnds k before after = MakesPairs k × AddsOfOne IsEndOf 0 k before after
 
 -- the ends are put in, or some member of the comprehension is no pair
 abbrev pub AddsEndsOrNot : CompD → CompsD → CompsD → Bool → Type 0
@@ -91,7 +81,7 @@ AddsEndsOrNot k before after false = (x : PointValue) × IsCompMember k [] x × 
 pub record AreEndsOf (ordered : Bool) (t ends : TermD) : Type 0 where
   pub relation : IsRelation (point t [])
   pub closed : IsClosedSet ordered ends
-  pub members : (p : PointValue) → IsIn p (point ends []) ↔ ((x : PointValue) × IsIn x (point t []) × IsEndOf x p)
+  pub members : (p : PointValue) → IsIn p (point ends []) ↔ IsEndIn (point t []) p
 
 abbrev pub AreEndsOrNone : Bool → TermD → Option Term → Type 0
 AreEndsOrNone ordered t None = IsRelation (point t []) → ⊥

@@ -1,5 +1,5 @@
 -- The text of a graph, in Graphviz' DOT.
-use Rattle.std.specs.Prelude.{ℕ, suc, ◌-◌, Bool, if◌then◌else◌, List, [], ◌∷◌, ◌++◌, length, map, drop, slice_index_or, bytes_eq, codes}
+use Rattle.std.specs.Prelude.{ℕ, suc, ◌-◌, if◌then◌else◌, List, [], ◌∷◌, ◌++◌, length, map, drop, slice_index_or, bytes_eq, codes}
 use Rattle.std.specs.Fmt.{decimal}
 use Rattle.std.specs.List.{flat_map}
 use Rattle.lois_base.specs.Data.{TermD, tup, no_terms, term}

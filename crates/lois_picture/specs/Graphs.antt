@@ -54,9 +54,12 @@ IsAutomatonGraph ordered t g =
 abbrev pub IsRelation : PointValue → Type 0
 IsRelation v = IsSet v × ((x : PointValue) → IsIn x v → (p q : PointValue) × IsPair x p q)
 
--- a first or second part of some pair of the relation
+-- x is a pair, and p is its first or its second part
+abbrev pub IsEndOf : PointValue → PointValue → Type 0
+IsEndOf x p = (q : PointValue) × (IsPair x p q ⊎ IsPair x q p)
+
 abbrev pub IsEndIn : PointValue → PointValue → Type 0
-IsEndIn v p = (x q : PointValue) × IsIn x v × (IsPair x p q ⊎ IsPair x q p)
+IsEndIn v p = (x : PointValue) × IsIn x v × IsEndOf x p
 
 -- t is a set of pairs, and the graph is of their ends and of the pairs; no node has a mark
 abbrev pub IsRelationGraph : Bool → TermD → Graph → Type 0

@@ -1,6 +1,5 @@
 -- The picture of a name's line in results, and why there is none.
 use Rattle.std.specs.Prelude.{◌≡◌, ℕ, ◌<◌, Bool, List, [], length, ◌⊎◌, Some, None}
-use Rattle.lois_base.specs.Data.{TermD}
 use Rattle.lois_base.specs.Values.{point}
 use Rattle.lois_answers.specs.LastNamed.{last_named}
 use Rattle.lois_answers.specs.ResultsData.{LineD, CaseD}

@@ -6,11 +6,10 @@ ghost use Rattle.lois_base.specs.Fits.{Fits};
 ghost use Rattle.lois_base.specs.Tree.{tree};
 ghost use Rattle.lois_base.specs.Validity.{AdmitsTerm};
 ghost use Rattle.lois_base.specs.Values.{point};
-ghost use Rattle.lois_automata.specs.Machines.{IsAutomatonAt};
 ghost use Rattle.lois_automata.specs.Projections.{five_of};
 ghost use Rattle.lois_deciders.specs.OnlyAsked.{HasOnlyAsked};
 ghost use Rattle.lois_picture.specs.Drawing.{IsClosedSet, MovesJoin, IsGraphOrNone, IsRelationGraphOrNone};
-ghost use Rattle.lois_picture.specs.Graphs.{IsGraphOf, IsAutomatonGraph};
+ghost use Rattle.lois_picture.specs.Graphs.{IsGraphOf};
 
 use crate::graphs::Graph;
 use crate::linking::link_nodes;
@@ -51,33 +50,22 @@ fn draw_five<T: Structure>(
 ) -> Result<Option<Graph>, NoMemory>
     requires levels { Fits 0 (tree value.now) }
     requires operators { AdmitsTerm T.ordered (tree value.now) }
-    requires five { tree value.now ≡ five_of (comps_of sets.entry.states.now) (comps_of sets.entry.letters.now) (comps_of sets.entry.steps.now) (comps_of sets.entry.initial.now) (comps_of sets.entry.accepting.now) }
+    requires five { tree value.now ≡ five_of (comps_of sets.states.now) (comps_of sets.letters.now) (comps_of sets.steps.now) (comps_of sets.initial.now) (comps_of sets.accepting.now) }
     ensures graph { IfOk result (IsGraphOrNone T.ordered (tree value.now)) }
     ensures only_asked { HasOnlyAsked (λ b. (⟦<dyn Decider as Decider>⟧ b.vtable).kind_of b.value) (λ b. (⟦<dyn Decider as Decider>⟧ b.vtable).questions b.value) chosen.old chosen.new }
 {
     let always = Constraint::always(alloc)?;
     match check_automaton::<T>(alloc, value, &always, 0, chosen)? {
         Verdict::Fails(_) => Ok(None),
-        Verdict::Holds => Ok(Some(draw_automaton::<T>(alloc, sets, chosen)?)),
+        Verdict::Holds => {
+            let states = set_of(alloc, sets.states)?;
+            let steps = set_of(alloc, sets.steps)?;
+            let initial = set_of(alloc, sets.initial)?;
+            let accepting = set_of(alloc, sets.accepting)?;
+            let graph = draw_graph::<T>(alloc, &states, &steps, &initial, &accepting, chosen)?;
+            Ok(Some(graph))
+        }
     }
-}
-
-fn draw_automaton<T: Structure>(
-    alloc: Global,
-    sets: FiveSets<'_>,
-    chosen: &mut Chosen,
-) -> Result<Graph, NoMemory>
-    requires levels { Fits 0 (five_of (comps_of sets.entry.states.now) (comps_of sets.entry.letters.now) (comps_of sets.entry.steps.now) (comps_of sets.entry.initial.now) (comps_of sets.entry.accepting.now)) }
-    requires operators { AdmitsTerm T.ordered (five_of (comps_of sets.entry.states.now) (comps_of sets.entry.letters.now) (comps_of sets.entry.steps.now) (comps_of sets.entry.initial.now) (comps_of sets.entry.accepting.now)) }
-    requires automaton { IsAutomatonAt (five_of (comps_of sets.entry.states.now) (comps_of sets.entry.letters.now) (comps_of sets.entry.steps.now) (comps_of sets.entry.initial.now) (comps_of sets.entry.accepting.now)) [] }
-    ensures graph { IfOk result (IsGraphOf T.ordered (coll (comps_of sets.entry.states.now)) (coll (comps_of sets.entry.steps.now)) (coll (comps_of sets.entry.initial.now)) (coll (comps_of sets.entry.accepting.now))) }
-    ensures only_asked { HasOnlyAsked (λ b. (⟦<dyn Decider as Decider>⟧ b.vtable).kind_of b.value) (λ b. (⟦<dyn Decider as Decider>⟧ b.vtable).questions b.value) chosen.old chosen.new }
-{
-    let states = set_of(alloc, sets.states)?;
-    let steps = set_of(alloc, sets.steps)?;
-    let initial = set_of(alloc, sets.initial)?;
-    let accepting = set_of(alloc, sets.accepting)?;
-    draw_graph::<T>(alloc, &states, &steps, &initial, &accepting, chosen)
 }
 
 fn set_of(alloc: Global, comps: &Comps) -> Result<Term, NoMemory>

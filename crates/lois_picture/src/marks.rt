@@ -19,19 +19,19 @@ use std::alloc::Global;
 pub fn mark_nodes<T: Structure>(
     alloc: Global,
     orbits: &Orbits,
-    initial: &Term,
-    accepting: &Term,
+    starts: &Term,
+    ends: &Term,
 ) -> Result<Nodes, NoMemory>
     requires usable { All (IsUsable T.ordered) orbits.now }
-    requires initial { IsClosedSet T.ordered (tree initial.now) }
-    requires accepting { IsClosedSet T.ordered (tree accepting.now) }
+    requires initial { IsClosedSet T.ordered (tree starts.now) }
+    requires accepting { IsClosedSet T.ordered (tree ends.now) }
     ensures orbits { IfOk result (λ r. node_orbits r ≡ orbits.now) }
-    ensures initial { IfOk result (All (λ v. IsMarkOf T.ordered (tree initial.now) v.orbit v.initial)) }
-    ensures accepting { IfOk result (All (λ v. IsMarkOf T.ordered (tree accepting.now) v.orbit v.accepting)) }
+    ensures initial { IfOk result (All (λ v. IsMarkOf T.ordered (tree starts.now) v.orbit v.initial)) }
+    ensures accepting { IfOk result (All (λ v. IsMarkOf T.ordered (tree ends.now) v.orbit v.accepting)) }
 {
     let mut nodes = Nodes::new(alloc);
     for orbit in orbits.as_slice() {
-        let node = mark_node::<T>(alloc, orbit, initial, accepting)?;
+        let node = mark_node::<T>(alloc, orbit, starts, ends)?;
         nodes.push(node)?;
     }
     Ok(nodes)
@@ -40,22 +40,22 @@ pub fn mark_nodes<T: Structure>(
 fn mark_node<T: Structure>(
     alloc: Global,
     orbit: &Orbit,
-    initial: &Term,
-    accepting: &Term,
+    starts: &Term,
+    ends: &Term,
 ) -> Result<Node, NoMemory>
     requires usable { IsUsable T.ordered (orbit_of orbit.now) }
-    requires initial { IsClosedSet T.ordered (tree initial.now) }
-    requires accepting { IsClosedSet T.ordered (tree accepting.now) }
+    requires initial { IsClosedSet T.ordered (tree starts.now) }
+    requires accepting { IsClosedSet T.ordered (tree ends.now) }
     ensures orbit { IfOk result (λ r. orbit_of r.orbit ≡ orbit_of orbit.now) }
-    ensures initial { IfOk result (λ r. IsMarkOf T.ordered (tree initial.now) (orbit_of orbit.now) r.initial) }
-    ensures accepting { IfOk result (λ r. IsMarkOf T.ordered (tree accepting.now) (orbit_of orbit.now) r.accepting) }
+    ensures initial { IfOk result (λ r. IsMarkOf T.ordered (tree starts.now) (orbit_of orbit.now) r.initial) }
+    ensures accepting { IfOk result (λ r. IsMarkOf T.ordered (tree ends.now) (orbit_of orbit.now) r.accepting) }
 {
-    let begins = is_within::<T>(alloc, orbit, initial)?;
-    let ends = is_within::<T>(alloc, orbit, accepting)?;
+    let initial = is_within::<T>(alloc, orbit, starts)?;
+    let accepting = is_within::<T>(alloc, orbit, ends)?;
     Ok(Node {
         orbit: copy_orbit(alloc, orbit)?,
-        initial: begins,
-        accepting: ends,
+        initial,
+        accepting,
     })
 }
 

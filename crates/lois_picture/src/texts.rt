@@ -33,11 +33,7 @@ pub fn print_graph(alloc: Global, graph: &Graph) -> Result<Vec<u8>, NoMemory>
 }
 
 // The lines of the nodes, and their labels, which those of the edges are compared with.
-fn append_nodes(
-    alloc: Global,
-    text: &mut Vec<u8>,
-    nodes: &Nodes,
-) -> Result<Vec<Vec<u8>>, NoMemory>
+fn append_nodes(alloc: Global, text: &mut Vec<u8>, nodes: &Nodes) -> Result<Vec<Vec<u8>>, NoMemory>
     requires { All FitsSample (node_orbits nodes.now) }
     ensures appended { OnOk result (text.new.items ≡ text.old.items ++ nodes_text 1 nodes.now) }
     ensures labels { IfOk result (λ r. map (λ l. l.items) r.items ≡ map node_label nodes.now) }
@@ -80,12 +76,7 @@ fn name_number(alloc: Global, number: u64) -> Result<Name, NoMemory>
 }
 
 // The term at the sample, whose numbers have these names.
-fn spell_term(
-    alloc: Global,
-    names: &Names,
-    sample: &Numbers,
-    t: &Term,
-) -> Result<Vec<u8>, NoMemory>
+fn spell_term(alloc: Global, names: &Names, sample: &Numbers, t: &Term) -> Result<Vec<u8>, NoMemory>
     requires names { names.now ≡ map number_name sample.now }
     requires levels { Fits (length sample.now) (tree t.now) }
     ensures { IfOk result (λ r. r.items ≡ named_text sample.now (tree t.now)) }
@@ -231,12 +222,7 @@ fn label_of(labels: &[Vec<u8>], number: usize) -> &[u8]
 }
 
 // An end of a step, unless it is spelled as its node's label.
-fn append_end(
-    text: &mut Vec<u8>,
-    word: &[u8],
-    label: &[u8],
-    spelled: &[u8],
-) -> Result<(), NoMemory>
+fn append_end(text: &mut Vec<u8>, word: &[u8], label: &[u8], spelled: &[u8]) -> Result<(), NoMemory>
     ensures { OnOk result (text.new.items ≡ text.old.items ++ end_text word.now label.now spelled.now) }
 {
     if label == spelled {
