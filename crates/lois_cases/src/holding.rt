@@ -11,6 +11,7 @@ ghost use Rattle.lois_cases.specs.Holding.{IsHolding, IsFirstHolding};
 use lois_answers::{Case, Cases};
 
 /// Which cases hold at a choice, by their numbers, from 1.
+#[derive(Clone, Copy)]
 pub enum Holding {
     Once(usize),
     Nowhere,
