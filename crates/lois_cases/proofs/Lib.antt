@@ -1,0 +1,3 @@
+pub mod Parted
+pub mod OneCase
+pub mod Excluded

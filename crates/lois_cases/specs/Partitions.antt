@@ -1,12 +1,12 @@
 -- Whether exactly one case holds at each choice.
-use Rattle.std.specs.Prelude.{◌≡◌, ℕ, ◌+◌, List, [], ◌∷◌, ◌++◌, length, Option, Some, None, IsTrue, ◌↔◌}
+use Rattle.std.specs.Prelude.{◌≡◌, ℕ, List, [], ◌∷◌, ◌++◌, length, Option, Some, None, IsTrue, ◌↔◌}
 use Rattle.std.specs.List.{All}
 use Rattle.lois_base.specs.Atom.{Atom}
 use Rattle.lois_base.specs.Truth.{holds, sampled}
 use Rattle.lois_base.specs.declared.guards.Lit.{Lit}
 use Rattle.lois_answers.specs.ResultsData.{CaseD}
 use Rattle.lois_deciders.specs.Conjunction.{AreInconsistent}
-use Rattle.lois_cases.specs.Cases.{HoldsAt, NoneHoldsAt, IsCase, IsTheCaseAt, BothHoldAt}
+use Rattle.lois_cases.specs.Cases.{NoneHoldsAt, IsTheCaseAt, BothHoldAt}
 use Rattle.lois_cases.specs.declared.partitions.Partition.{Partition}
 use Rattle.lois_cases.specs.declared.partitions.Partition.TheVariants.{Whole, Overlap, Gap}
 use Rattle.lois_cases.specs.declared.partitions.Meeting.{Meeting}

@@ -1,6 +1,6 @@
 //! The case that holds at a choice.
 
-ghost use Rattle.std.specs.Prelude.{length, map};
+ghost use Rattle.std.specs.Prelude.{◌<◌, length, map, IfSome};
 ghost use Rattle.std.specs.List.{All};
 ghost use Rattle.lois_base.specs.Fits.{ConstraintFits};
 ghost use Rattle.lois_base.specs.Truth.{sampled};
@@ -11,6 +11,7 @@ ghost use Rattle.lois_cases.specs.Holding.{IsHolding, IsFirstHolding};
 use lois_answers::{Case, Cases};
 
 /// Which cases hold at a choice, by their numbers, from 1.
+#[derive(Clone, Copy)]
 pub enum Holding {
     Once(usize),
     Nowhere,
@@ -36,7 +37,8 @@ pub fn find_case(cases: &Cases, sample: &[u64]) -> Holding
 // The index of the first case that holds.
 fn find_first(cases: &[Case], sample: &[u64]) -> Option<usize>
     requires { All (CaseFits (length sample.now)) (map case_of cases.now) }
-    ensures { IsFirstHolding (sampled sample.now) (map case_of cases.now) result }
+    ensures first { IsFirstHolding (sampled sample.now) (map case_of cases.now) result }
+    ensures below { IfSome result (λ i. i < length cases.now) }
 {
     for (index, case) in cases.iter().enumerate() {
         if case.when.at(sample) {

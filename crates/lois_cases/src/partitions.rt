@@ -1,6 +1,6 @@
 //! Whether exactly one case holds at each choice.
 
-ghost use Rattle.std.specs.Prelude.{◌≡◌, length, map, IfOk, IfSome, IsNone};
+ghost use Rattle.std.specs.Prelude.{◌≡◌, ◌<◌, length, map, IfOk, IfSome, IsNone};
 ghost use Rattle.std.specs.List.{All};
 ghost use Rattle.lois_base.specs.Fits.{ConstraintFits};
 ghost use Rattle.lois_answers.specs.CaseView.{case_of};
@@ -101,6 +101,7 @@ fn find_meeting(
     requires when { ConstraintFits size when.now }
     requires cases { All (CaseFits size) (map case_of cases.now) }
     ensures meeting { IfOk result (IsMeetingOrNone size when.now (map case_of cases.now)) }
+    ensures below { IfOk result (λ o. IfSome o (λ m. m.index < length cases.now)) }
     ensures only_asked { HasOnlyAsked (λ b. (⟦<dyn Decider as Decider>⟧ b.vtable).kind_of b.value) (λ b. (⟦<dyn Decider as Decider>⟧ b.vtable).questions b.value) chosen.old chosen.new }
 {
     for (index, case) in cases.iter().enumerate() {

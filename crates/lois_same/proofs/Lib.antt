@@ -1,0 +1,6 @@
+pub mod SetMembers
+pub mod OtherValues
+pub mod SameLines
+pub mod SameCases
+pub mod Distinct
+pub mod TextEnds

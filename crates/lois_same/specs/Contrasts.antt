@@ -1,20 +1,14 @@
 -- Where two results differ.
-use Rattle.std.specs.Prelude.{◌≡◌, ℕ, ◌+◌, ◌≤◌, Bool, true, false, List, ◌∷◌, ◌++◌, length, IsTrue, Option, Some, None}
-use Rattle.std.specs.List.{All}
-use Rattle.lois_base.specs.Atom.{Atom}
-use Rattle.lois_base.specs.Data.{TermD, CompD, comp}
+use Rattle.std.specs.Prelude.{◌≡◌, ℕ, ◌+◌, ◌≤◌, Bool, true, false, List, ◌∷◌, ◌++◌, length}
 use Rattle.lois_base.specs.Fits.{Fits}
 use Rattle.lois_base.specs.Tree.{tree}
-use Rattle.lois_base.specs.Truth.{holds, sampled}
-use Rattle.lois_base.specs.Values.{PointValue, point, IsExtension, IsIn, IsIncluded, IsMember, IsSame}
-use Rattle.lois_base.specs.declared.guards.Lit.{Lit}
+use Rattle.lois_base.specs.Truth.{sampled}
+use Rattle.lois_base.specs.Values.{PointValue, point, IsIn, IsMember, IsSame}
 use Rattle.lois_answers.specs.ResultsData.{LineD, CaseD}
 use Rattle.lois_answers.specs.declared.results.Results.{Results}
-use Rattle.lois_automata.specs.Throughout.{HoldsThroughout}
-use Rattle.lois_cases.specs.Cases.{HoldsAt, IsCase, IsTheCaseAt}
+use Rattle.lois_cases.specs.Cases.{HoldsAt, IsCase}
 use Rattle.lois_meaning.specs.Kinds.{IsSet}
 use Rattle.lois_shortest_word.specs.Words.{first_sampled}
-use Rattle.lois_same.specs.Same.{HaveSameLinesAt}
 use Rattle.lois_same.specs.declared.contrasts.Contrast.{Contrast}
 use Rattle.lois_same.specs.declared.contrasts.Detail.{Detail}
 use Rattle.lois_same.specs.declared.contrasts.Detail.TheVariants.{Count, Names, Values, Member}

@@ -1,9 +1,7 @@
 -- Two results texts, one behind the other.
-use Rattle.std.specs.Prelude.{◌≡◌, ℕ, suc, ◌+◌, Bool, List, [], ◌∷◌, ◌++◌, length, codes, take, drop, nat_eq, if◌then◌else◌}
+use Rattle.std.specs.Prelude.{ℕ, suc, List, [], ◌∷◌, length, codes, take, drop, nat_eq, if◌then◌else◌}
 use Rattle.std.specs.List.{starts_with}
-use Rattle.lois_answers.specs.ResultsText.{lined, results_text}
-use Rattle.lois_answers.specs.Sound.{IsSound}
-use Rattle.lois_answers.specs.declared.results.Results.{Results}
+use Rattle.lois_answers.specs.ResultsText.{lined}
 
 -- the end of a line, and then a line `end`
 abbrev pub end_mark : List ℕ

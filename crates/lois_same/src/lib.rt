@@ -4,8 +4,12 @@
 mod comparing;
 mod contrasts;
 pub mod laws;
+mod lines;
+mod members;
+mod rows;
 mod texts;
 mod two_texts;
+mod values;
 
 pub use comparing::{Likeness, compare_results};
 pub use contrasts::{Contrast, Detail};
