@@ -555,6 +555,46 @@ def make_equal(rng, guesses=False):
     return names, "\n".join(lines + ["end", ""]).encode()
 
 
+PARTITIONS = {(0, False): (["true"], ["true", "false"]), (1, False): (["true"], ["a=a", "a!=a"]),
+              (2, False): (["true"], ["a=b", "a!=b"], ["a!=b", "a=b"]), (0, True): (["true"],),
+              (1, True): (["true"], ["true", "a<a"]),
+              (2, True): (["true"], ["a<b", "a=b", "b<a"], ["a=b", "a<b or b<a"], ["a<b or a=b", "b<a"])}
+
+
+def make_same(rng):
+    """Two results, one behind the other, which often have the same lines."""
+    order, parameters = rng.random() < 0.5, ["a", "b"][:rng.choice((0, 1, 2, 2, 2))]
+    terms = Terms(rng, order, parameters)
+    names = [rng.choice(("s", "s", "t")) for _ in range(rng.choice((0, 1, 1, 2)))]
+    lines = [(name, rng.choice((terms.set, terms.set, terms.term))(len(parameters), 2)) for name in names]
+    partitions = PARTITIONS[len(parameters), order]
+    texts = []
+    for _ in range(2):
+        cases = list(rng.choice(partitions))
+        if rng.random() < 0.06:
+            cases = cases + [rng.choice(cases)] if rng.random() < 0.5 else cases[1:]
+        own = parameters[::-1] if rng.random() < 0.03 else parameters
+        text = header(1, order if rng.random() < 0.97 else not order, own)
+        for case in cases:
+            text.append("case when " + case)
+            text += [f"{name} = {likely_same(rng, terms, term)}" for name, term in lines]
+            text += ["t = 'more"] if rng.random() < 0.04 else []
+        texts.append("\n".join(text + ["end", ""]))
+    return "".join(texts).encode()
+
+
+def likely_same(rng, terms, term):
+    """A term that mostly has the same value where the parameters a and b are equal or don't occur."""
+    roll = rng.random()
+    if roll < 0.06:
+        return terms.term(len(terms.parameters), 2)
+    if roll < 0.14 and term.startswith("{") and term != "{}":
+        return "{'more, " + term[1:]
+    if roll < 0.24 and len(terms.parameters) == 2:
+        return re.sub(r"(?<![\w'])b\b", "a", term)
+    return term
+
+
 def make_census(rng):
     """A name, and results with sets of this name."""
     order, parameters = rng.random() < 0.5, ["a"] if rng.random() < 0.02 else []
@@ -648,7 +688,7 @@ def changed(rng, source):
 
 def case(kind, seed, number):
     """The case of a kind and number: the words of the command and the text. Kinds are scripts, texts, equal, registers,
-    census, word and within."""
+    census, word, within and same."""
     rng = random.Random(f"{kind} {seed} {number}")
     if kind == "scripts":
         return ("run",), make_script(rng)
@@ -658,6 +698,8 @@ def case(kind, seed, number):
         return (word,), source if rng.random() < 0.1 else changed(rng, source)
     if kind == "registers":
         words, source = ("registers",), make_registers(rng)
+    elif kind == "same":
+        words, source = ("same",), make_same(rng)
     else:
         names, source = make_census(rng) if kind == "census" else make_equal(rng, kind != "equal")
         names = names[:1] if kind == "word" else names

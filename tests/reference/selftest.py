@@ -25,6 +25,15 @@ MACHINE = ("lois results 1\natoms order\nparameters\ncase when true\nautomaton =
            "{(('p, 'none), $0, ('q, $0)) for $0, (('p, $0), $1, ('q, $1)) for $0 $1, "
            "(('q, $0), $1, ('p, $0)) for $0 $1 if $0<$1}, {('p, 'none)}, {('q, 'none), ('q, $0) for $0})\nend\n")
 
+ONE = "lois results 1\natoms equality\nparameters a b\n"
+SPLIT = ONE + "case when a=b\ns = {a}\ncase when a!=b\ns = {a, b}\nend\n"
+JOINED = ONE + "case when true\ns = {b, a}\nend\n"
+ATOM = ONE + "case when true\ns = a\nend\n"
+TWICE = ONE + "case when true\ns = a\ncase when true\ns = a\nend\n"
+PART = ONE + "case when a=b\ns = a\nend\n"
+EACH = HEAD + "s = {($0, $1) for $0 $1}\nend\n"
+APART = HEAD + "s = {($0, $1) for $0 $1 if $0!=$1}\nend\n"
+
 # the command, the text, the right answer and its status, and for each planted error its name, a piece of the answer,
 # what takes its place, and another status if there is one
 PLANTED = [
@@ -90,6 +99,31 @@ PLANTED = [
         ("a longer word", "choice\n", "choice 0\nletter $0\nletter $0\n"), ("the other one", "by a", "by b")]),
     (("within", "b", "g"), LATE, "refused: g in case 1 is no deterministic automaton\n", 5,
      [("another reason", "no deterministic automaton", "no automaton")]),
+    (("same",), (SPLIT + JOINED).encode(), "same\n", 0, [
+        ("a difference", "same\n", "differ in cases 1 and 1\nchoice 0 0\nline 1: s\nmember a\nof the first\n", 10)]),
+    (("same",), (EACH + APART).encode(), "differ in cases 1 and 1\nchoice 0 0\nline 1: s\nmember ($0, $1)\n"
+     "of the first\n", 10, [
+         ("the other one", "first", "second"), ("a member of both", "choice 0 0", "choice 0 1"),
+         ("no member", "($0, $1)", "$0"), ("no difference", "", "same\n", 0), ("another line", "line 1", "line 2"),
+         ("the member left out", "member ($0, $1)\nof the first\n", ""), ("another case", "and 1", "and 2")]),
+    (("same",), (ATOM + ATOM.replace("= a", "= b")).encode(), "differ in cases 1 and 1\nchoice 0 1\nline 1: s\n", 10,
+     [("a choice without a difference", "choice 0 1", "choice 1 1"), ("another name", ": s", ": t"),
+      ("counts", "line 1: s", "lines 1 and 1")]),
+    (("same",), (ATOM + ATOM.replace("s = a", "t = a")).encode(), "differ in cases 1 and 1\nchoice 0 0\n"
+     "line 1: s and t\n", 10, [("names turned", "s and t", "t and s"), ("one name", "s and t", "s")]),
+    (("same",), (ATOM.replace("end", "t = a\nend") + ATOM).encode(), "differ in cases 1 and 1\nchoice 0 0\n"
+     "lines 2 and 1\n", 10, [("counts turned", "2 and 1", "1 and 2")]),
+    (("same",), (ATOM + ATOM.replace("equality", "order")).encode(), "differ in structure\n", 10,
+     [("parameters", "structure", "parameters"), ("none", "", "same\n", 0)]),
+    (("same",), (ATOM + ATOM.replace("a b", "b a")).encode(), "differ in parameters\n", 10,
+     [("structure", "parameters", "structure")]),
+    (("same",), (PART + PART).encode(), "refused: no case at choice 0 1 of the first\n", 5,
+     [("a choice with a case", "0 1", "0 0"), ("the other one", "first", "second"), ("the same", "", "same\n", 0)]),
+    (("same",), (ATOM + TWICE).encode(), "refused: cases 1 and 2 at choice 0 0 of the second\n", 5,
+     [("one case twice", "1 and 2", "1 and 1"), ("the other one", "second", "first"),
+      ("another choice", "choice 0 0", "choice 0")]),
+    (("same",), ATOM.encode(), "refused at 1:1 of the second: not results\n", 5,
+     [("of the first", " of the second", ""), ("another place", "1:1", "6:1")]),
     (("census", "s"), CENSUS, "case 1\norbits 4\norbit 'p\nchoice\norbit ($0, $1)\nchoice 0 1\n"
      "orbit ($0, $1)\nchoice 1 0\norbit ($0, $0)\nchoice 0\n", 0, [
          ("an orbit twice", "choice 1 0", "choice 0 1"),
