@@ -10,7 +10,7 @@ ask=$(realpath "${ASK:-crates/lois_ask/out/lois_ask}")
 # The program that takes the words.
 program_for() {
   case $1 in
-    word | within) echo "$ask" ;;
+    word | within | same | picture) echo "$ask" ;;
     *) echo "$lois" ;;
   esac
 }

@@ -76,6 +76,7 @@ def main():
                                ("census", ["a", "source"], "an answer of `census A` to results"),
                                ("word", ["a", "source"], "an answer of `lois_ask word A` to results"),
                                ("within", ["a", "b", "source"], "an answer of `lois_ask within A B` to results"),
+                               ("picture", ["a", "source"], "an answer of `lois_ask picture A` to results"),
                                ("same", ["source"], "an answer of `lois_ask same` to two results"),
                                ("reread", ["source"], "an answer of `reread` to a text"),
                                ("check", ["source"], "an answer of `check` to a script")):

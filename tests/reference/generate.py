@@ -501,6 +501,16 @@ class Terms:
             pieces.append(self.term(inside, depth - 1) + binders + guard)
         return "{" + ", ".join(pieces) + "}"
 
+    def pairs(self):
+        """A set of pairs inside of no levels."""
+        pieces = []
+        for _ in range(self.rng.choice((0, 1, 1, 1, 2, 2, 3))):
+            count = self.rng.choice((0, 1, 2, 2, 2, 3))
+            binders = " for" + "".join(f" ${i}" for i in range(count)) if count else ""
+            guard = " if " + self.guard(count) if count and self.rng.random() < 0.5 else ""
+            pieces.append(f"({self.term(count, 1)}, {self.term(count, 1)})" + binders + guard)
+        return "{" + ", ".join(pieces) + "}"
+
 
 def header(version, order, parameters):
     """The first three lines of an answer."""
@@ -607,6 +617,21 @@ def make_census(rng):
     return ("s",), "\n".join(lines + ["end", ""]).encode()
 
 
+def make_picture(rng):
+    """A name, and results with an automaton, a set of pairs or another value of this name."""
+    order, parameters = rng.random() < 0.5, ["a"] if rng.random() < 0.02 else []
+    terms, lines = Terms(rng, order, parameters), header(1, order, parameters)
+    for case in rng.choice([["true"]] * 12 + [["false", "true"], ["true", "false"], ["true", "true"], ["false"]]):
+        lines.append("case when " + case)
+        lines += ["m = 'early"] if rng.random() < 0.05 else []
+        roll, m = rng.random(), Machine(rng, order, parameters)
+        if rng.random() < 0.5:
+            m.guess()
+        made = m.term() if roll < 0.55 else terms.pairs() if roll < 0.9 else terms.term(len(parameters), 2)
+        lines += ["m = " + made] if rng.random() < 0.98 else []
+    return ("m",), "\n".join(lines + ["end", ""]).encode()
+
+
 def make_registers(rng):
     """A register automaton."""
     order, count = rng.random() < 0.5, rng.choice((1, 1, 2, 2, 3, 4))
@@ -688,7 +713,7 @@ def changed(rng, source):
 
 def case(kind, seed, number):
     """The case of a kind and number: the words of the command and the text. Kinds are scripts, texts, equal, registers,
-    census, word, within and same."""
+    census, word, within, same and picture."""
     rng = random.Random(f"{kind} {seed} {number}")
     if kind == "scripts":
         return ("run",), make_script(rng)
@@ -701,7 +726,8 @@ def case(kind, seed, number):
     elif kind == "same":
         words, source = ("same",), make_same(rng)
     else:
-        names, source = make_census(rng) if kind == "census" else make_equal(rng, kind != "equal")
+        made = {"census": make_census, "picture": make_picture}.get(kind)
+        names, source = made(rng) if made else make_equal(rng, kind != "equal")
         names = names[:1] if kind == "word" else names
         words = (kind, *names)
     return words, changed(rng, source) if rng.random() < 0.15 else source

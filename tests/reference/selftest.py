@@ -18,6 +18,13 @@ LATE = (HEAD + "a = ({'p}, {$0 for $0}, {('p, $0, 'p) for $0}, {'p}, {'p})\n"
         "g = ({'p, 'q}, {$0 for $0}, {('p, $0, 'q) for $0}, {'p, 'q}, {'q})\ns = {'p}\nend\n").encode()
 CENSUS = b"lois results 1\natoms order\nparameters\ncase when true\ns = {($0, $1) for $0 $1, 'p}\nend\n"
 UNORDERED = b"lois results 1\natoms equality\nparameters\ncase when true\ns = {($0, {$1}) for $0 $1}\nend\n"
+GRAPHS = (HEAD.replace("true", "false") + "q = {}\ncase when true\n"
+          "m = ({'start, 'same, ('one, $0) for $0}, {$0 for $0}, {('start, $0, ('one, $0)) for $0, "
+          "(('one, $0), $0, 'same) for $0}, {'start}, {'same})\n"
+          "r = {($0, $1) for $0 $1 if $0!=$1}\nt = {($0, $1, $2) for $0 $1 $2}\nend\n").encode()
+STATE_GRAPH = ("digraph {\n  n1 [label=\"'start\", style=bold]\n  n2 [label=\"('one, x0)\"]\n"
+               "  n3 [label=\"'same\", peripheries=2]\n  n1 -> n2 [label=\"x2 to ('one, x2)\"]\n"
+               "  n2 -> n3 [label=\"x1 from ('one, x1)\"]\n}\n")
 REGISTERS = (b"lois registers 1\natoms order\nregisters 1\nstates p q\ninitial p\nfinal q\n"
              b"step p q when true store 1\nstep q p when r1<x store none\nend\n")
 STATES = "{('p, 'none), ('p, $0) for $0, ('q, 'none), ('q, $0) for $0}"
@@ -134,6 +141,27 @@ PLANTED = [
         ("an orbit of the order", "orbits 2", "orbits 3\norbit ($0, {$1})\nchoice 2 4"),
         ("an orbit twice", "choice 7 7", "choice 7 8"),
         ("an orbit missing", "orbits 2\norbit ($0, {$1})\nchoice 4 2\n", "orbits 1\n")]),
+    (("picture", "m"), GRAPHS, STATE_GRAPH, 0, [
+        ("an edge turned", "n2 -> n3", "n3 -> n2"), ("another node", "n1 -> n2", "n1 -> n3"),
+        ("a mark too many", "'same\", peri", "'same\", style=bold, peri"), ("a mark missing", ", style=bold", ""),
+        ("another mark", "style=bold", "peripheries=2"),
+        ("a node missing", "  n3 [label=\"'same\", peripheries=2]\n", ""),
+        ("a node twice", "  n3 ", "  n3 [label=\"('one, x4)\"]\n  n4 "), ("another state", "'same", "'start"),
+        ("an edge missing", "  n2 -> n3 [label=\"x1 from ('one, x1)\"]\n", ""),
+        ("an edge twice", "  n2 -> n3 ", "  n2 -> n3 [label=\"x0\"]\n  n2 -> n3 "),
+        ("no step", "x1 from", "x2 from"),
+        ("an end that its node tells", "to ('one, x2)", "from 'start to ('one, x2)"),
+        ("an end left out", " from ('one, x1)", ""), ("no letter", "x2 to", "to"), ("another status", "", "", 10)]),
+    (("picture", "r"), GRAPHS, "digraph {\n  n1 [label=\"x0\"]\n  n1 -> n1 [label=\"to x7\"]\n}\n", 0, [
+        ("an edge more", "}\n", "  n1 -> n1 [label=\"\"]\n}\n"), ("a letter", "to x7", "x7 to x7"),
+        ("no end", "to x7", ""), ("the end of the text", "}\n", "")]),
+    (("picture", "t"), GRAPHS, "refused: t in case 2 is no automaton and no set of pairs\n", 5,
+     [("a graph", "refused: t in case 2 is no automaton and no set of pairs\n", "digraph {\n}\n", 0)]),
+    (("picture", "q"), GRAPHS, "refused: no line q in case 2\n", 5, [("another case", "case 2", "case 1")]),
+    (("picture", "s"), CENSUS[:-4] + b"case when true\nend\n", "refused: cases 1 and 2 at choice\n", 5,
+     [("one case", "1 and 2", "1 and 3")]),
+    (("picture", "s"), (HEAD.replace("true", "false") + "end\n").encode(), "refused: no case at choice\n", 5,
+     [("a graph", "refused: no case at choice\n", "digraph {\n}\n", 0)]),
     (("registers",), REGISTERS, MACHINE, 0, [
         ("a step turned", "(('q, $0), $1, ('p, $0))", "(('p, $0), $1, ('q, $0))"),
         ("a guard turned", "$0<$1", "$1<$0"),

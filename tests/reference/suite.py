@@ -5,11 +5,11 @@ import subprocess
 import sys
 from collections import Counter
 
-from . import census, equal, generate, judge, languages, registers, same
+from . import census, equal, generate, judge, languages, picture, registers, same
 from .values import Budget, Undecided
 
 SECONDS = 10  # for the program and for the judge, each
-QUESTIONS = ("word", "within", "same")  # which the program lois_ask answers
+QUESTIONS = ("word", "within", "same", "picture")  # which the program lois_ask answers
 
 
 def judge_answer(words, source, output, status, seconds=SECONDS, normal=True):
@@ -23,6 +23,7 @@ def judge_answer(words, source, output, status, seconds=SECONDS, normal=True):
               "word": lambda: languages.judge_question(words[1], None, source, output, status),
               "within": lambda: languages.judge_question(*words[1:], source, output, status),
               "same": lambda: same.judge_same(source, output, status),
+              "picture": lambda: picture.judge_picture(*words[1:], source, output, status),
               "registers": lambda: registers.judge_registers(source, output, status)}
     judges["run" if words[0] == "judge" else words[0]]()
 
