@@ -1,13 +1,12 @@
 -- What is drawn of automata and of relations.
-use Rattle.std.proofs.Common.{◌≡◌, ℕ, Bool, inl, inr, List, [], ◌∷◌, length, get_or, refl, sym, subst}
+use Rattle.std.proofs.Common.{◌≡◌, Bool, inl, inr, List, [], ◌∷◌, get_or, refl, sym, subst}
 use Rattle.std.specs.List.{All}
 use Rattle.std.specs.Prelude.{Option, Some, None}
 use Rattle.lois_base.proofs.Members.{member_in}
 use Rattle.lois_base.specs.Data.{TermD, coll, CompsD, no_comps}
-use Rattle.lois_base.specs.Fits.{Fits, ItemsFit}
 use Rattle.lois_base.specs.Tree.{tree}
-use Rattle.lois_base.specs.Truth.{holds, sampled}
-use Rattle.lois_base.specs.Validity.{AdmitsTerm, AdmitsItems}
+use Rattle.lois_base.specs.Truth.{holds}
+use Rattle.lois_base.specs.Validity.{AdmitsTerm}
 use Rattle.lois_base.specs.Values.{PointValue, point, IsMember, IsIn}
 use Rattle.lois_base.specs.declared.guards.Lit.{Lit}
 use Rattle.std.specs.Bool.{IsTrue}
@@ -21,21 +20,10 @@ use Rattle.lois_census.specs.Left.{IsUsable}
 use Rattle.lois_census.specs.OrbitData.{OrbitD}
 use Rattle.lois_census.specs.Orbits.{value_of, IsInListedOrbit, FitsSample}
 use Rattle.lois_meaning.specs.Kinds.{IsSet}
-use Rattle.lois_picture.specs.Drawing.{IsClosedSet, MovesJoin, HasListedEnds, AreEndsOf, IsGraphOrNone, IsRelationGraphOrNone}
+use Rattle.lois_picture.specs.Drawing.{MovesJoin, HasListedEnds, AreEndsOf, IsGraphOrNone, IsRelationGraphOrNone}
 use Rattle.lois_picture.specs.GraphData.{NodeD}
 use Rattle.lois_picture.specs.Graphs.{node_orbits, IsRelation, IsGraphOf, IsAutomatonGraph, IsRelationGraph}
 use Rattle.lois_picture.specs.declared.graphs.Graph.{Graph}
-
--- ---- sets
-pub closed_set : (ordered : Bool) (ks : CompsD) (t : TermD) → t ≡ coll ks → ItemsFit 0 ks → AdmitsItems ordered ks → IsClosedSet ordered t
-closed_set ordered ks t is fits admits = record {
-  set = (ks, is);
-  levels = subst (Fits 0) (sym is) fits;
-  operators = subst (AdmitsTerm ordered) (sym is) admits;
-}
-
-pub nothing_closed : (ordered : Bool) → IsClosedSet ordered (coll no_comps)
-nothing_closed ordered = record { set = (no_comps, refl); levels = tt; operators = tt }
 
 -- ---- orbits
 pub all_usable : (ordered : Bool) (os : List OrbitD) → All FitsSample os → All (λ o. AdmitsTerm ordered o.item) os → All (IsUsable ordered) os
@@ -71,13 +59,6 @@ module _ (s l t i f : CompsD) where
   pub moves_join : (states steps : TermD) → states ≡ coll s → steps ≡ coll t → IsAutomatonAt (five_of s l t i f) [] → MovesJoin (point states []) (point steps [])
   moves_join states steps e1 e2 h =
       subst (λ z. MovesJoin (point z []) (point steps [])) (sym e1) (subst (λ z. MovesJoin (point (coll s) []) (point z [])) (sym e2) (steps_join h))
-
-  pub no_relation : (v : TermD) → v ≡ five_of s l t i f → IsRelation (point v []) → ⊥
-  no_relation v is h = let set : IsSet (point (five_of s l t i f) []) = subst (λ z. IsSet (point z [])) is h.0 in set
-
-pub broken_here : (v : TermD) (s : List ℕ) → length s ≡ 0 → (IsAutomatonAt v (sampled s) → ⊥) → IsAutomatonAt v [] → ⊥
-broken_here v [] count broken h = broken h
-broken_here v (a ∷ s) count broken h = absurd (cc)
 
 -- the verdict is asked for at the one choice
 pub holds_here : (v : TermD) (always : List (List Lit)) → always ≡ [] ∷ [] → HoldsThroughout 0 always (IsAutomatonAt v) → IsAutomatonAt v []
