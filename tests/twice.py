@@ -22,14 +22,16 @@ ensures requires ghost abbrev unfoldable record data where elim inl inr subst re
 # Runs that stay, as docs/DECISIONS.md says under "What stands twice": both places are of one group.
 GROUPS = {
     "list types have the same methods": """lois_base/src/values lois_base/src/logic lois_base/src/words lois_base/src/guards lois_base/src/numbers
-        lois_answers/src/results lois_census/src/counting lois_census/src/orbits lois_context/src/slots lois_registers/src/automata
-        lois_rounds/src/families lois_script/src/script lois_script/src/syntax""",
+        lois_answers/src/results lois_census/src/counting lois_census/src/orbits lois_context/src/slots lois_picture/src/graphs
+        lois_registers/src/automata lois_rounds/src/families lois_script/src/script lois_script/src/syntax""",
     "levels are moved in each crate's own trees": """lois_constraint/src/levels lois_simplify/src/moving lois_terms/src/shifting
         lois_shortest_word/src/lowering""",
     "deciders implement one trait": """lois_deciders/src/graph lois_deciders/src/plain lois_vectors_atoms/src/base lois_vectors_rows/src/asking""",
     "readers stop with the same errors": "lois_reader/src/parse_error lois_registers/src/parse_error",
     "a comprehension is made for each step": """lois_automata/src/conditions lois_automata/src/frontier lois_automata/src/pairing
-        lois_shortest_word/src/layers lois_shortest_word/src/steps lois_shortest_word/src/symbolic_states""",
+        lois_shortest_word/src/layers lois_shortest_word/src/steps lois_shortest_word/src/symbolic_states
+        lois_shortest_word/src/joint_steps lois_shortest_word/src/meeting lois_equal/src/sink_steps""",
+    "two automata are handed in": "lois_equal/src/difference lois_shortest_word/src/common",
     "a tuple of five is made": "lois_automata/src/parts lois_registers/src/translating",
     "lines of results are asked case by case": "lois_equal/src/comparing lois_languages/src/inclusions",
     "results are asked over their structure": "lois_run/src/lines lois_questions/src/answers lois_vectors_questions/src/languages",

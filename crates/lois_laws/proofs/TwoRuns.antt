@@ -1,17 +1,15 @@
 -- Results of two scripts are the same exactly where the scripts print the same.
-use Rattle.std.proofs.Common.{◌≡◌, ℕ, ◌+◌, List, length, map, refl, sym, ap, ◌∙◌, subst}
+use Rattle.std.proofs.Common.{◌≡◌, ℕ, ◌+◌, List, length, refl, sym, ap, ◌∙◌, subst}
 use Rattle.lois_base.specs.Atom.{Atom}
 use Rattle.lois_answers.specs.ResultsData.{CaseD}
 use Rattle.lois_answers.specs.declared.results.Results.{Results}
 use Rattle.lois_cases.specs.Cases.{IsTheCaseAt}
-use Rattle.lois_cases.specs.Partitions.{ArePartition}
 use Rattle.lois_cases.proofs.OneCase.{one_case}
 use Rattle.lois_context.specs.Slots.{line_values}
-use Rattle.lois_interp.specs.Interpreted.{AreResultsOf, IsChoiceOf, IsRightAt, parameter_name}
+use Rattle.lois_interp.specs.Interpreted.{AreResultsOf, IsRightAt}
 use Rattle.lois_meaning.proofs.Stores.{named_sym, named_trans}
 use Rattle.lois_meaning.proofs.TheLaws.{determined}
-use Rattle.lois_meaning.specs.Runs.{ScriptEnds}
-use Rattle.lois_meaning.specs.Store.{NamedValues, AreSameNamed}
+use Rattle.lois_meaning.specs.Store.{AreSameNamed}
 use Rattle.lois_same.proofs.Flaws.{no_flaw}
 use Rattle.lois_same.proofs.Distinct.{contrasts_are_differences}
 use Rattle.lois_same.specs.Likenesses.{IsLikeness}

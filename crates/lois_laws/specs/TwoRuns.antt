@@ -1,5 +1,5 @@
 -- `same`: what two scripts print.
-use Rattle.std.specs.Prelude.{◌≡◌, ◌↔◌, ℕ, List, length, map}
+use Rattle.std.specs.Prelude.{◌≡◌, ◌↔◌, List, length, map}
 use Rattle.lois_base.specs.Atom.{Atom}
 use Rattle.lois_answers.specs.declared.results.Results.{Results}
 use Rattle.lois_cases.specs.Partitions.{ArePartition}

@@ -21,7 +21,7 @@ use Rattle.lois_languages.specs.declared.inclusions.Inclusion.{Inclusion}
 use Rattle.lois_languages.specs.declared.inclusions.Inclusion.TheVariants as included
 use Rattle.lois_languages.specs.declared.witnesses.Witness.{Witness}
 use Rattle.lois_languages.specs.declared.witnesses.Witness.TheVariants as witnessed
-use Rattle.lois_questions.specs.Answers.{TellsBoth, word_outcome, within_outcome, picture_outcome, IsFlawRefusal, IsSameOutcome, HasFlawsAlone}
+use Rattle.lois_questions.specs.Answers.{TellsBoth, word_outcome, within_outcome, picture_outcome, IsFlawRefusal, IsSameOutcome}
 use Rattle.lois_questions.specs.Causes.{AnswersText, CanBeAsked, HasCause, IsOfText, IsReadable, first_asked}
 use Rattle.lois_questions.specs.Outcomes.{HasText}
 use Rattle.lois_questions.specs.declared.command_line.Question.{Question}
@@ -77,19 +77,6 @@ same_is_written ps compared.Parameters o fits is = subst HasText (sym is) tt
 same_is_written ps (compared.Differ d) o fits is = subst HasText (sym is) fits
 same_is_written ps (compared.First p) o fits (u, flaw, is) = subst HasText (sym is) tt
 same_is_written ps (compared.Second p) o fits (u, flaw, is) = subst HasText (sym is) tt
-
--- a flaw that is found is one
-pub flaws_alone : (r q : Results) (x : Likeness) → IsLikeness r q x → HasFlawsAlone x
-flaws_alone r q compared.Same h = tt
-flaws_alone r q compared.Structure h = tt
-flaws_alone r q compared.Parameters h = tt
-flaws_alone r q (compared.Differ d) h = tt
-flaws_alone r q (compared.First partitions.Whole) h = h
-flaws_alone r q (compared.First (partitions.Overlap i j s)) h = tt
-flaws_alone r q (compared.First (partitions.Gap s)) h = tt
-flaws_alone r q (compared.Second partitions.Whole) h = h.1
-flaws_alone r q (compared.Second (partitions.Overlap i j s)) h = tt
-flaws_alone r q (compared.Second (partitions.Gap s)) h = tt
 
 -- what two results are found to be is an answer
 pub answered_same : (text : List ℕ) (r q : Results) (x : Likeness) (o : Outcome) → IsResultsOf (first_text text) r → IsResultsOf (second_text text) q → IsLikeness r q x → IsSameOutcome r.parameters x o → AnswersText questions.Same text o

@@ -1,5 +1,5 @@
 -- What is refused comes to that refusal alone.
-use Rattle.std.proofs.Common.{◌≡◌, ℕ, ◌+◌, ◌<◌, Bool, List, [], ◌∷◌, length, Some, None, option_map, refl, sym, ap, ap₂, ◌∙◌, ◌⊎◌, inl, inr, subst, arith}
+use Rattle.std.proofs.Common.{◌≡◌, ℕ, ◌+◌, ◌<◌, Bool, List, [], length, Some, None, option_map, refl, sym, ap, ap₂, ◌∙◌, inl, inr, subst, arith}
 use Rattle.std.specs.List.{All}
 use Rattle.lois_base.specs.Data.{TermD}
 use Rattle.lois_base.specs.Truth.{sampled}
@@ -33,7 +33,6 @@ use Rattle.lois_picture.specs.declared.pictures.Picture.{Picture as Found}
 use Rattle.lois_picture.specs.declared.pictures.Picture.TheVariants as pictured
 use Rattle.lois_picture.specs.declared.pictures.PictureFault.{PictureFault}
 use Rattle.lois_picture.specs.declared.pictures.PictureFault.TheVariants as picture
-use Rattle.lois_reader.specs.Refusal.{IsResultsOf}
 use Rattle.lois_same.proofs.Flaws.{alone_or_both, alone_or_none, both_or_none, no_flaw, sampled_count}
 use Rattle.lois_same.specs.Likenesses.{IsLikeness, IsFlaw, IsPartition}
 use Rattle.lois_same.specs.TwoTexts.{first_text, second_text}
@@ -47,9 +46,9 @@ use Rattle.lois_questions.specs.declared.command_line.Question.TheVariants as qu
 use Rattle.lois_questions.specs.declared.outcomes.Input.{Input}
 use Rattle.lois_questions.specs.declared.outcomes.Input.TheVariants.{First, Second}
 use Rattle.lois_questions.specs.declared.outcomes.Outcome.{Outcome}
-use Rattle.lois_questions.specs.declared.outcomes.Outcome.TheVariants.{Word, NoWord, Within, Beyond, Same, Structure, Parameters, Differ, Picture, Refused, ReadFault, Usage}
+use Rattle.lois_questions.specs.declared.outcomes.Outcome.TheVariants.{Word, Within, Beyond, Same, Structure, Parameters, Differ, Picture, Refused, ReadFault, Usage}
 use Rattle.lois_questions.specs.declared.outcomes.Refusal.{Refusal}
-use Rattle.lois_questions.specs.declared.outcomes.Refusal.TheVariants.{TooLong, NotResults, SecondNotResults, NoLine as Missing, NotAutomaton as Unfit, NotDeterministic as Ambiguous, NotGraph, HasParameters, NoCase, TwoCases}
+use Rattle.lois_questions.specs.declared.outcomes.Refusal.TheVariants.{TooLong, NotResults, SecondNotResults, NoLine as Missing, NotGraph, HasParameters, NoCase, TwoCases}
 
 -- the very refusal is refused so
 so : (u : Refusal) (o : Outcome) → o ≡ Refused u → IsRefusedSo u o

@@ -1,6 +1,5 @@
 -- Cases that are no partition.
 use Rattle.std.proofs.Common.{◌≡◌, ℕ, List, ◌∷◌, length, ◌∙◌, subst, arith}
-use Rattle.std.specs.List.{All}
 use Rattle.std.proofs.lemmas.List.{length-map}
 use Rattle.std.proofs.lemmas.List.Elements.{All-head}
 use Rattle.lois_base.proofs.Lists.{all_right}

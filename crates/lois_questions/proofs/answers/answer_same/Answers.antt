@@ -1,5 +1,4 @@
 use Rattle.std.proofs.Common.{◌≡◌, ℕ, List, ap, ◌∙◌, subst, take, drop}
-use Rattle.lois_answers.specs.declared.results.Results.{Results}
 use Rattle.lois_command.specs.NoResults.{IsNoResults}
 use Rattle.lois_reader.specs.Refusal.{IsResultsOf}
 use Rattle.lois_same.specs.TwoTexts.{first_text, second_text}

@@ -1,4 +1,4 @@
-use Rattle.std.proofs.Common.{ℕ, List, Global, map, string_bytes, ap, sym, subst, ◌∙◌, refl}
+use Rattle.std.proofs.Common.{ℕ, Global, map, string_bytes, ap, sym, subst, ◌∙◌, refl}
 use Rattle.std.specs.Prelude.{IfErr}
 use Rattle.std.proofs.lemmas.Result.{IfOk-weaker}
 use Rattle.lois_command.proofs.Given.{gave_nothing, whatever_error}
