@@ -78,7 +78,7 @@ timed() {
 }
 
 printf '%-52s %-28s %9s %10s\n' question answer bytes seconds
-for room in 2 3 5; do
+for room in 2 3 5 7; do
   right=$(queue "$room" "$(names 2 "$room")")
   turned="x2"
   [ "$room" -eq 2 ] || turned="$(names 3 "$room"), x2"
@@ -95,9 +95,13 @@ for registers in 1 2 4; do
 done
 ring 64 4 256 "x!=r1 and r2<x" >"$work/text"
 timed "64 states, 256 steps, 4 registers, with tests" registers
-for count in 8 16; do
+for count in 8 16 32 64; do
   ring "$count" 1 "$count" | "$lois" registers >"$work/text"
   timed "a ring of $count states with one register against itself" equal automaton automaton
+done
+for registers in 2 4; do
+  ring 64 "$registers" 64 | "$lois" registers >"$work/text"
+  timed "a ring of 64 states with $registers registers against itself" equal automaton automaton
 done
 for count in 3 4 5; do
   tuples "$count" | "$lois" run >"$work/text"

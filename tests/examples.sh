@@ -57,6 +57,8 @@ try_words() {
   "$(program_for $words)" $words <"$text" >"$work/answer"
   [ $? -eq "$(status_of "$(cat "$given")")" ] || complain "$words: another status" "$text" "$work/answer" "$given"
   cmp -s "$work/answer" "$given" || complain "$words of $text doesn't give $given" "$text" "$work/answer" "$given"
+  [[ $words != picture* ]] || ! command -v dot >/dev/null || dot -Tsvg "$given" >"$work/drawn" ||
+    complain "dot doesn't take $given" "$text" "$work/answer" "$given"
   count
 }
 
