@@ -1,12 +1,13 @@
 #!/usr/bin/env bash
 # Runs the scripts of examples/ and those that stand in docs/LANGUAGE.md and docs/IDIOMS.md, and compares what the
-# program answers with what is written there: for examples/ byte for byte, for the manual the lines behind `>`, each as a
-# whole and in their order. What is asked of an example's answer stands beside it, and so does what becomes of a register
-# automaton. Where Python is there tests/reference/ judges the whole answers to the manual's scripts. It runs the built
-# programs, or those that LOIS and ASK name (LOIS=path tests/examples.sh), and ends with `N passed, M failed`.
-# A change of the program may spell the same values in another way. Then `./lois run < NAME.lois > NAME.out` makes the
-# new text, which tests/reference/ judges: `cd tests && python3 -m reference judge ../examples/NAME.lois
-# ../examples/NAME.out 0 --normal`.
+# program answers with what is written there: for examples/ the results byte for byte, or where they are spelled in
+# another way by `same`; for the manual the lines behind `>`, each as a whole and in their order. What is asked of an
+# example's answer stands beside it, and so does what becomes of a register automaton. Where Python is there
+# tests/reference/ judges the whole answers to the manual's scripts. It runs the built programs, or those that LOIS and
+# ASK name (LOIS=path ASK=path tests/examples.sh), and ends with `N passed, M failed`.
+# Where the program spells the same values in another way, `./lois run < NAME.lois > NAME.out` makes the new text, which
+# tests/reference/ judges: `cd tests && python3 -m reference judge ../examples/NAME.lois ../examples/NAME.out 0
+# --normal`.
 set -u
 cd "$(dirname "${BASH_SOURCE[0]}")/.." || exit 70
 . tests/built_program.sh
@@ -34,7 +35,8 @@ try_example() {
   wanted=$(sed -n 's/^# Ends with status \([0-9]\)\.$/\1/p' "$script")
   "$lois" run <"$script" >"$work/answer"
   [ $? -eq "${wanted:-0}" ] || complain "$script: not status ${wanted:-0}" "$script" "$work/answer" "$answer"
-  cmp -s "$work/answer" "$answer" || complain "$script doesn't answer $answer" "$script" "$work/answer" "$answer"
+  cmp -s "$work/answer" "$answer" || cat "$work/answer" "$answer" | "$ask" same >"$work/likeness" ||
+    complain "$script doesn't answer $answer" "$script" "$work/answer" "$answer"
   "$lois" reread <"$answer" >"$work/again" || complain "$answer is refused by reread" "$answer" "$work/again" "$answer"
   cmp -s "$work/again" "$answer" || complain "$answer is changed by reread" "$answer" "$work/again" "$answer"
   count
