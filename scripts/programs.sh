@@ -2,8 +2,8 @@
 # Sourced by ./lois, ./unproved, ./install, playground/build and scripts/prove.sh, once `top` is the checkout's folder.
 # A program is a crate of crates/ with a src/main.rt.
 
-# The kit that proves the repository, as `rt version` begins, and others in which what is built without its commands
-# was tried: the modules of ./unproved and of playground/build.
+# The kit that the repository is proved with, as `rt version` begins, and all kits whose modules were tried: by
+# ./unproved those of each, by playground/build those of rattle-kit-13f alone.
 kit=rattle-kit-13b
 tried_kits=("$kit" rattle-kit-13f)
 
