@@ -4,8 +4,8 @@
 
 # The kit that the repository is proved with, as `rt version` begins, and all kits whose modules were tried: by
 # ./unproved those of each, by playground/build those of rattle-kit-13f alone.
-kit=rattle-kit-13b
-tried_kits=("$kit" rattle-kit-13f)
+kit=rattle-kit-13f
+tried_kits=("$kit" rattle-kit-13b)
 
 say() {
   echo "lois: $1" >&2
