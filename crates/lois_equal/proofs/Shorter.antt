@@ -1,5 +1,5 @@
 -- The shorter one of two words, each of which one automaton alone accepts.
-use Rattle.std.proofs.Common.{◌≡◌, ℕ, ◌≤◌, Bool, true, false, ◌⊎◌, inl, inr, ◌↔◌, List, length, take, Option, Some, None, refl, sym, subst, ◌∙◌, arith}
+use Rattle.std.proofs.Common.{◌≡◌, ℕ, suc, ◌≤◌, Bool, true, false, ◌⊎◌, inl, inr, ◌↔◌, List, length, take, Option, Some, None, refl, sym, subst, ◌∙◌, arith}
 use Rattle.std.proofs.lemmas.List.{length-map, length-take}
 use Rattle.std.specs.Prelude.{IfSome, IsNone}
 use Rattle.lois_base.specs.Atom.{Atom, whole}
@@ -59,17 +59,19 @@ module _ (n : ℕ) (u : List (List Lit)) (t s : TermD) where
     letters = all_letters t (first_sampled n w.sample) (λ l. HasLetterAt t (first_sampled n w.sample) l ⊎ HasLetterAt s (first_sampled n w.sample) l) (λ x h. inl h) (values_at (sampled w.sample) w.letters) is.accepted.0;
     apart = is.accepted;
     shortest = λ c l h word told. elim told [ inl p ↦ is.shortest c l h word p | inr p ↦ bound c l h word p ];
+    preferred = λ second. absurd second;
     used = is.used;
   }
 
-  right_difference : (w : Word) → IsShortestDifference n u s t w → HaveAtLeast t s (length w.letters) → IsDistinguishingWord n u t s (record { sample = w.sample; word = w.letters; left = false })
+  right_difference : (w : Word) → IsShortestDifference n u s t w → HaveAtLeast t s (suc (length w.letters)) → IsDistinguishingWord n u t s (record { sample = w.sample; word = w.letters; left = false })
   right_difference w is bound = record {
     count = is.count;
     admitted = is.admitted;
     levels = is.levels;
     letters = all_letters s (first_sampled n w.sample) (λ l. HasLetterAt t (first_sampled n w.sample) l ⊎ HasLetterAt s (first_sampled n w.sample) l) (λ x h. inr h) (values_at (sampled w.sample) w.letters) is.accepted.0;
     apart = is.accepted;
-    shortest = λ c l h word told. elim told [ inl p ↦ bound c l h word p | inr p ↦ is.shortest c l h word p ];
+    shortest = λ c l h word told. elim told [ inl p ↦ omega (arith, bound c l h word p) | inr p ↦ is.shortest c l h word p ];
+    preferred = λ second c l h word alone. bound c l h word alone;
     used = is.used;
   }
 
@@ -102,10 +104,10 @@ module _ (n : ℕ) (u : List (List Lit)) (t s : TermD) where
   shorter_found (Some w) None r none some none' some' is =
       subst (λ z. IsFound z) (sym is) (differs_found (record { sample = w.sample; word = w.letters; left = true }) (left_difference w some (never_bound s t (length w.letters) (none' refl))))
   shorter_found None (Some w) r none some none' some' is =
-      subst (λ z. IsFound z) (sym is) (differs_found (record { sample = w.sample; word = w.letters; left = false }) (right_difference w some' (never_bound t s (length w.letters) (none refl))))
+      subst (λ z. IsFound z) (sym is) (differs_found (record { sample = w.sample; word = w.letters; left = false }) (right_difference w some' (never_bound t s (suc (length w.letters)) (none refl))))
   shorter_found (Some v) (Some w) r none some none' some' is = elim is [
     | inl h ↦ subst (λ z. IsFound z) (sym h.1) (differs_found (record { sample = v.sample; word = v.letters; left = true }) (left_difference v some (longer_bound s t w (length v.letters) h.0 some')))
-    | inr h ↦ subst (λ z. IsFound z) (sym h.1) (differs_found (record { sample = w.sample; word = w.letters; left = false }) (right_difference w some' (longer_bound t s v (length w.letters) (omega (arith, h.0)) some)))
+    | inr h ↦ subst (λ z. IsFound z) (sym h.1) (differs_found (record { sample = w.sample; word = w.letters; left = false }) (right_difference w some' (longer_bound t s v (suc (length w.letters)) (omega (arith, h.0)) some)))
   ]
 
 -- what holds of the letters of both words holds of those of the shorter one

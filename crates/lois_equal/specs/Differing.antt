@@ -1,5 +1,5 @@
 -- Whether two automata accept the same words, and a word that tells them apart.
-use Rattle.std.specs.Prelude.{◌≡◌, ℕ, ◌≤◌, ◌<◌, Bool, true, false, List, length, IsTrue, ◌⊎◌, Option, Some, None}
+use Rattle.std.specs.Prelude.{◌≡◌, ℕ, ◌≤◌, ◌<◌, Bool, true, false, List, length, IsTrue, IsFalse, ◌⊎◌, Option, Some, None}
 use Rattle.std.specs.List.{All}
 use Rattle.lois_base.specs.Atom.{Atom}
 use Rattle.lois_base.specs.Data.{TermD}
@@ -34,7 +34,8 @@ IsAcceptedByOne true t s c word = AcceptsOnlyFirst t s c word
 IsAcceptedByOne false t s c word = AcceptsOnlyFirst s t c word
 
 -- A word that tells the two apart at the choice of the first n numbers, which u admits; its terms are read at the whole sample,
--- and the further numbers are for levels that stand in them. No shorter word tells the two apart, at any choice that u admits.
+-- and the further numbers are for levels that stand in them. No shorter word tells the two apart, at any choice that u admits; and the second alone accepts it
+-- only where each word that the first alone accepts, at any such choice, is longer.
 pub record IsDistinguishingWord (n : ℕ) (u : List (List Lit)) (t s : TermD) (d : Difference) : Type 0 where
   pub count : n ≤ length d.sample
   pub admitted : IsTrue (holds (first_sampled n d.sample) u)
@@ -42,6 +43,7 @@ pub record IsDistinguishingWord (n : ℕ) (u : List (List Lit)) (t s : TermD) (d
   pub letters : All (λ l. HasLetterAt t (first_sampled n d.sample) l ⊎ HasLetterAt s (first_sampled n d.sample) l) (values_at (sampled d.sample) d.word)
   pub apart : IsAcceptedByOne d.left t s (first_sampled n d.sample) (values_at (sampled d.sample) d.word)
   pub shortest : HoldsThroughout n u (λ c. (word : List PointValue) → TellsApart t s c word → length d.word ≤ length word)
+  pub preferred : IsFalse d.left → HoldsThroughout n u (λ c. (word : List PointValue) → AcceptsOnlyFirst t s c word → length d.word < length word)
   pub used : AreUsedBetween n (length d.sample) d.word
 
 -- at no choice of n atoms that u admits t accepts a list of values that s doesn't

@@ -33,8 +33,8 @@ pub enum Equality {
 }
 
 /// Whether the deterministic automata `a` and `b` accept the same words at each choice of atoms that `under` admits, or a word
-/// that exactly one of them accepts at some such choice; no shorter word tells them apart, at any such choice. They need not be
-/// complete, and their letters may differ. Errors: `NoMemory`, also where a level would pass the greatest usize.
+/// that exactly one of them accepts at some such choice; no shorter word tells them apart, at any such choice. `b` alone accepts
+/// it only where no word as short is accepted by `a` alone. They need not be complete, and their letters may differ. Errors: `NoMemory`, also where a level would pass the greatest usize.
 pub fn equal<T: Structure>(
     alloc: Global,
     a: &Term,

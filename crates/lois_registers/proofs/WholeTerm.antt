@@ -11,6 +11,7 @@ use Rattle.lois_registers.specs.Placed.{placements, configurations, configuratio
 use Rattle.lois_registers.specs.Runs.{first}
 use Rattle.lois_registers.specs.Translation.{IsStepValue, IsTranslatedTo}
 use Rattle.lois_registers.specs.Valid.{IsRegisters}
+use Rattle.lois_registers.specs.Written.{IsWrittenFrom}
 use Rattle.lois_registers.specs.declared.automata.Registers.{Registers}
 use Rattle.lois_registers.proofs.Automaton.{HasSets, is_automaton, is_translation, source_listed}
 use Rattle.lois_registers.proofs.Made.{made_member, member_made}
@@ -109,8 +110,8 @@ module _ (r : Registers) (valid : IsRegisters r) (made : List CompD) (are : AreM
       (first_sound r.order r.registers valid.some valid.few r.initial (All-contains IsName r.states r.initial valid.states.form valid.initial))
       (configurations_sound r.order r.registers valid.some valid.few r.finals final_names)
 
-  pub both : (t : TermD) → t ≡ whole_term → IsTranslatedTo r t × IsSoundTerm r.order 0 t
-  both t e = (subst (IsTranslatedTo r) (sym e) is_translated, subst (IsSoundTerm r.order 0) (sym e) is_sound)
+  pub each : (t : TermD) → t ≡ whole_term → IsTranslatedTo r t × IsWrittenFrom r t × IsSoundTerm r.order 0 t
+  each t e = (subst (IsTranslatedTo r) (sym e) is_translated, (made, are, e), subst (IsSoundTerm r.order 0) (sym e) is_sound)
 
 -- the same from the five sets as they were made, one by one
 module _ (r : Registers) (valid : IsRegisters r) (places : List (List (Option ℕ))) (all : places ≡ placements r.registers) where
@@ -120,11 +121,11 @@ module _ (r : Registers) (valid : IsRegisters r) (places : List (List (Option �
       (made : List CompD) × (c ≡ coll (comps_of made)) × AreMade (step_comps places r.steps) made →
       d ≡ coll (comps_of (comp 0 ([] ∷ []) first ∷ [])) → first ≡ configuration_term r.initial (replicate r.registers None) →
       e ≡ coll (comps_of (configurations places finals)) → finals ≡ r.finals →
-      IsTranslatedTo r t × IsSoundTerm r.order 0 t
+      IsTranslatedTo r t × IsWrittenFrom r t × IsSoundTerm r.order 0 t
   from_sets t a b c d e first states finals is ha hs hb (made, hc, are) hd hf he hn =
       let own : AreMade (step_comps (placements r.registers) r.steps) made = subst (λ z. AreMade (step_comps z r.steps) made) all are in
       let ea : a ≡ coll (comps_of (configurations (placements r.registers) r.states)) = rw (ha, all, hs) in
       let ed : d ≡ coll (comps_of (comp 0 ([] ∷ []) (configuration_term r.initial (replicate r.registers None)) ∷ [])) = rw (hd, hf) in
       let ee : e ≡ coll (comps_of (configurations (placements r.registers) r.finals)) = rw (he, all, hn) in
       let whole : t ≡ whole_term r valid made own = rw (is, ea, hb, hc, ed, ee) in
-      both r valid made own t whole
+      each r valid made own t whole

@@ -5,6 +5,7 @@ ghost use Rattle.lois_answers.specs.Sound.{IsSound};
 ghost use Rattle.lois_base.specs.Data.{TermD};
 ghost use Rattle.lois_registers.specs.Translation.{IsTranslatedTo};
 ghost use Rattle.lois_registers.specs.Valid.{IsRegisters};
+ghost use Rattle.lois_registers.specs.Written.{IsWrittenFrom};
 
 use crate::{Registers, translate};
 use lois_answers::{Case, Cases, Line, Lines, Results};
@@ -18,7 +19,7 @@ pub fn translate_to_results(alloc: Global, r: &Registers) -> Result<Results, NoM
     ensures parameters { IfOk result (λ s. s.parameters ≡ []) }
     ensures case { IfOk result (λ s. (t : TermD)
         × (s.cases ≡ record { when = [] ∷ []; lines = record { name = codes "automaton"; term = t } ∷ [] } ∷ [])
-        × IsTranslatedTo r.now t) }
+        × IsTranslatedTo r.now t × IsWrittenFrom r.now t) }
     ensures sound { IfOk result IsSound }
 {
     let term = translate(alloc, r)?;

@@ -8,6 +8,7 @@ ghost use Rattle.lois_base.specs.Tree.{tree};
 ghost use Rattle.lois_registers.specs.Placed.{AddsMade, AreMade, configuration_comp, configuration_term, configurations, five_terms, step_item, step_comp, step_comps};
 ghost use Rattle.lois_registers.specs.Translation.{IsTranslatedTo};
 ghost use Rattle.lois_registers.specs.Valid.{IsRegisters};
+ghost use Rattle.lois_registers.specs.Written.{IsWrittenFrom};
 
 use crate::placements::{Placement, all_placements, configuration, place_guard, stored};
 use crate::{RegStep, RegSteps, Registers};
@@ -174,6 +175,7 @@ fn five(
 pub fn translate(alloc: Global, r: &Registers) -> Result<Term, NoMemory>
     requires valid { IsRegisters r.now }
     ensures automaton { IfOk result (λ t. IsTranslatedTo r.now (tree t)) }
+    ensures written { IfOk result (λ t. IsWrittenFrom r.now (tree t)) }
     ensures sound { IfOk result (λ t. IsSoundTerm r.now.order 0 (tree t)) }
 {
     let all = all_placements(alloc, r.registers)?;

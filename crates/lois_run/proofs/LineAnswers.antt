@@ -27,6 +27,7 @@ use Rattle.lois_reader.specs.Refusal.{IsResultsOf}
 use Rattle.lois_base.specs.Data.{TermD}
 use Rattle.lois_registers.specs.Places.{IsRegistersOf, SpellsNoRegisters, IsFaultPlace}
 use Rattle.lois_registers.specs.Translation.{IsTranslatedTo}
+use Rattle.lois_registers.specs.Written.{IsWrittenFrom}
 use Rattle.lois_registers.specs.declared.RegistersError.TheVariants.{NotRegisters as NoRegisters}
 use Rattle.lois_registers.specs.declared.automata.Registers.{Registers as Automaton}
 use Rattle.lois_run.specs.Causes.{AnswersText}
@@ -48,10 +49,10 @@ module _ (text : List ℕ) where
   no_census name place none = record { cause = none; promise = λ l r h. absurd (no_results place none r h); kind = tt }
 
   pub translated_is_answered : (r : Automaton) (s : Results) → IsRegistersOf text r → s.order ≡ r.order → s.parameters ≡ []
-      → ((t : TermD) × (s.cases ≡ record { «when» = [] ∷ []; lines = record { name = codes "automaton"; term = t } ∷ [] } ∷ []) × IsTranslatedTo r t) → IsSound s
+      → ((t : TermD) × (s.cases ≡ record { «when» = [] ∷ []; lines = record { name = codes "automaton"; term = t } ∷ [] } ∷ []) × IsTranslatedTo r t × IsWrittenFrom r t) → IsSound s
       → AnswersText Registers text (Translated s)
-  translated_is_answered r s read order none (t, is, translated) sound = record {
-    cause = record { automaton = r; read = read; term = t; translated = translated; structure = order; parameters = none; case = is; sound = sound };
+  translated_is_answered r s read order none (t, is, translated, written) sound = record {
+    cause = record { automaton = r; read = read; term = t; translated = translated; written = written; structure = order; parameters = none; case = is; sound = sound };
     promise = λ l q h. inl tt;
     kind = tt;
   }

@@ -14,6 +14,7 @@ use Rattle.lois_census.specs.declared.counting.Answer.TheVariants as listed
 use Rattle.lois_census.specs.declared.counting.Refusal.TheVariants as unlisted
 use Rattle.lois_registers.specs.Places.{IsRegistersOf}
 use Rattle.lois_registers.specs.Translation.{IsTranslatedTo}
+use Rattle.lois_registers.specs.Written.{IsWrittenFrom}
 use Rattle.lois_registers.specs.declared.automata.Registers.{Registers}
 use Rattle.lois_run.specs.declared.outcomes.Outcome.{Outcome}
 use Rattle.lois_run.specs.declared.outcomes.Outcome.TheVariants.{Same, Differ, Census, Refused}
@@ -55,6 +56,7 @@ pub record Translates (text : List ℕ) (s : Results) : Type 0 where
   pub read : IsRegistersOf text automaton
   pub term : TermD
   pub translated : IsTranslatedTo automaton term
+  pub written : IsWrittenFrom automaton term
   pub structure : s.order ≡ automaton.order
   pub parameters : s.parameters ≡ []
   pub case : s.cases ≡ record { «when» = [] ∷ []; lines = record { name = codes "automaton"; term = term } ∷ [] } ∷ []

@@ -19,5 +19,6 @@ returns c =
     c.in_ok-states.ensures c.as_slice.ensures c.in_ok-letters.ensures c.in_ok-steps.ensures c.in_ok-initial.ensures c.in_ok-first_of.ensures c.in_ok-accepting.ensures c.as_slice-2.ensures in
     record {
       automaton = IfOk-weaker c.five.result _ _ (λ t e. (at t e).0) c.five.ensures;
-      sound = IfOk-weaker c.five.result _ _ (λ t e. (at t e).1) c.five.ensures;
+      written = IfOk-weaker c.five.result _ _ (λ t e. (at t e).1) c.five.ensures;
+      sound = IfOk-weaker c.five.result _ _ (λ t e. (at t e).2) c.five.ensures;
     }
