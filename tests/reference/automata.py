@@ -175,21 +175,24 @@ def accepts(m, word):
 
 
 def shortest_difference(m, n):
-    """A shortest list of values that exactly one of two deterministic automata accepts, or None: a search in rounds
-    through the pairs of states, of which one of each orbit over both supports is looked at."""
+    """The length of a shortest list of values that exactly one of two deterministic automata accepts, and whether all of
+    that length are accepted by the second one; or None. A search in rounds through the pairs of states, of which one of
+    each orbit over both supports is looked at."""
     points, tables = merged(m.points, n.points), (moves(m), moves(n))
     letters = combined(m.letters, n.letters, frozenset.union)
-    seen, new = set(), [(only_member(m.initial), only_member(n.initial), ())]
+    seen, new, length = set(), [(only_member(m.initial), only_member(n.initial))], 0
     while new:
+        accepting = [(contains(m.final, p), contains(n.final, q)) for p, q in new]
+        apart = [first for first, second in accepting if first != second]
+        if apart:
+            return length, not any(apart)
         further = []
-        for p, q, word in new:
-            if contains(m.final, p) != contains(n.final, q):
-                return word
+        for p, q in new:
             for l in members(letters, merged(points, p.atoms, q.atoms)):
                 pair = target(m, tables[0], p, l), target(n, tables[1], q, l)
                 key = orbit(pack(*pair), points)
                 if key not in seen:
                     seen.add(key)
-                    further.append((*pair, word + (l,)))
-        new = further
+                    further.append(pair)
+        new, length = further, length + 1
     return None

@@ -44,8 +44,8 @@ def fault(results, parts):
 
 def judge_search(source, parts, length_at, judge_found, otherwise, output, status):
     """An answer to a question of these parts (see fault) that looks for a shortest word, in one case after the other.
-    length_at gives the least length for a case and a choice, or None; judge_found judges an answer by the results, the
-    number of the case and the least length; otherwise are output and status where no case has a word."""
+    length_at gives the least length for a case and a choice, which may have a second part, or None; judge_found judges an
+    answer by the results, the number of the case and the least length; otherwise are output and status where no case has a word."""
     try:
         results = read_answer(source, ("1",))
     except Refused as r:
@@ -64,8 +64,7 @@ def judge_search(source, parts, length_at, judge_found, otherwise, output, statu
 def judge_equal(first, second, source, output, status):
     """An answer of `equal`."""
     def length_at(case, choice):
-        word = automata.shortest_difference(machine_at(case, first, choice), machine_at(case, second, choice))
-        return None if word is None else len(word)
+        return automata.shortest_difference(machine_at(case, first, choice), machine_at(case, second, choice))
 
     parts = [(name, machine_at, DETERMINISTIC) for name in (first, second)]
     judge_search(source, parts, length_at, partial(judge_difference, first, second), ("equal\n", 0), output, status)
@@ -85,7 +84,9 @@ def told_word(results, case, numbers, letters):
 
 
 def judge_difference(first, second, results, number, shortest, output, status):
-    """A word that is said to tell the lines of the case of this number apart; the shortest ones have this length."""
+    """A word that is said to tell the lines of the case of this number apart: the shortest ones have a length, and one of
+    them is accepted by the first line or all by the second."""
+    shortest, of_second = shortest
     demand(status == 10, f"status {status}: a word of length {shortest} tells the lines apart in case {number}")
     text, case = output.decode("latin-1"), results.cases[number - 1]
     form = re.fullmatch(r"differ in case (\d+)\nchoice((?: (?:0|[1-9]\d*))*)\n((?:letter [^\n]*\n)*)"
@@ -100,3 +101,4 @@ def judge_difference(first, second, results, number, shortest, output, status):
     demand(taken[0] != taken[1], "the word tells nothing apart")
     demand(form[4] == (first if taken[0] else second), "the other one accepts the word")
     demand(len(word) == shortest, f"a word of length {shortest} tells the lines apart")
+    demand(taken[0] or of_second, f"{first} accepts such a word too")

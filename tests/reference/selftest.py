@@ -91,7 +91,8 @@ PLANTED = [
                                                  "differ in case 1\nchoice\naccepted by a\n", 10)]),
     (("equal", "a", "c"), EQUAL, "refused: no line c in case 1\n", 5, [("another reason", "no line c", "no line a")]),
     (("equal", "m", "n"), TWO, "differ in case 1\nchoice 0 1\nletter a\naccepted by m\n", 10, [
-        ("a choice without a difference", "choice 0 1", "choice 0 0"), ("the other letter", "letter a", "letter b")]),
+        ("a choice without a difference", "choice 0 1", "choice 0 0"), ("the other letter", "letter a", "letter b"),
+        ("the second line's word", "letter a\naccepted by m", "letter b\naccepted by n")]),
     (("word", "b"), LATE, "accepted in case 1\nchoice 0\nletter $0\n", 0, [
         ("a longer word", "letter $0", "letter $0\nletter $0"), ("a word that isn't accepted", "letter $0\n", ""),
         ("no word", "", "none\n", 10), ("a number for nothing", "choice 0", "choice 0 1"),
