@@ -23,14 +23,23 @@ def orbit_shapes(term, sample, order):
     return shapes
 
 
-def judge_census(name, source, output, status):
-    """An answer of `census`."""
+def results_without_parameters(question, source, output, status):
+    """The results of a text, for a question that wants none with parameters; of others the refusal is judged, and None
+    is returned."""
     try:
         results = read_answer(source, ("1",))
     except Refused as r:
         return expect(output, status, refusal_text(source, r), 5)
     if results.parameters:
-        return expect(output, status, "refused: census of results with parameters\n", 5)
+        return expect(output, status, f"refused: {question} of results with parameters\n", 5)
+    return results
+
+
+def judge_census(name, source, output, status):
+    """An answer of `census`."""
+    results = results_without_parameters("census", source, output, status)
+    if results is None:
+        return None
     terms = [last_named(case, name) for case in results.cases]
     if None in terms:
         return expect(output, status, f"refused: no line {name} in case {terms.index(None) + 1}\n", 5)

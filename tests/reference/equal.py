@@ -1,5 +1,5 @@
 """Answers of `equal A B`: whether two lines accept the same words (docs/DEFINITIONS.md, IsComparison,
-IsDifference)."""
+IsDistinguishingWord)."""
 import re
 from functools import partial
 

@@ -2,13 +2,13 @@
 IsPicture, IsGraphOf)."""
 import re
 
-from .answers import read_answer, read_term
+from .answers import read_term
 from .automata import automaton_of
-from .census import orbit_shapes
+from .census import orbit_shapes, results_without_parameters
 from .choices import meets, scaled, value_at
 from .equal import last_named
 from .judge import Wrong, demand, expect
-from .lexer import Refused, refusal_text
+from .lexer import Refused
 from .values import members, unpack
 
 NUMBER = r"(0|[1-9]\d*)"
@@ -68,12 +68,9 @@ def refused_case(results, output, status):
 
 def judge_picture(name, source, output, status):
     """An answer of `picture`."""
-    try:
-        results = read_answer(source, ("1",))
-    except Refused as r:
-        return expect(output, status, refusal_text(source, r), 5)
-    if results.parameters:
-        return expect(output, status, "refused: picture of results with parameters\n", 5)
+    results = results_without_parameters("picture", source, output, status)
+    if results is None:
+        return None
     found = refused_case(results, output, status)
     if found is None:
         return None
