@@ -1,5 +1,5 @@
 -- The shorter one of two words, each of which one automaton alone accepts.
-use Rattle.std.proofs.Common.{◌≡◌, ℕ, suc, ◌≤◌, Bool, true, false, ◌⊎◌, inl, inr, ◌↔◌, List, length, take, Option, Some, None, refl, sym, subst, ◌∙◌, arith}
+use Rattle.std.proofs.Common.{◌≡◌, ℕ, suc, ◌≤◌, Bool, true, false, ◌⊎◌, inl, inr, ◌↔◌, List, length, take, Option, Some, None, refl, sym, subst, ◌∙◌, arith, true≢false}
 use Rattle.std.proofs.lemmas.List.{length-map, length-take}
 use Rattle.std.specs.Prelude.{IfSome, IsNone}
 use Rattle.lois_base.specs.Atom.{Atom, whole}
@@ -59,7 +59,7 @@ module _ (n : ℕ) (u : List (List Lit)) (t s : TermD) where
     letters = all_letters t (first_sampled n w.sample) (λ l. HasLetterAt t (first_sampled n w.sample) l ⊎ HasLetterAt s (first_sampled n w.sample) l) (λ x h. inl h) (values_at (sampled w.sample) w.letters) is.accepted.0;
     apart = is.accepted;
     shortest = λ c l h word told. elim told [ inl p ↦ is.shortest c l h word p | inr p ↦ bound c l h word p ];
-    preferred = λ second. absurd second;
+    preferred = λ second. absurd (true≢false second);
     used = is.used;
   }
 
