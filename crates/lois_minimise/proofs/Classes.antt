@@ -11,21 +11,20 @@ use Rattle.lois_meaning.proofs.Tuples.{pair_parts}
 use Rattle.lois_automata.specs.Reachability.{LeadsTo}
 use Rattle.lois_automata.proofs.Paths.{letter_in}
 use Rattle.lois_automata.proofs.Tuples.{leads_same}
-use Rattle.lois_minimise.specs.Classes.{IsDistinguishability, AreOthers, AreClassed, IsQuotient}
+use Rattle.lois_minimise.specs.Classes.{AreIndistinguishable, IsSetOfLed, AreClassed, IsQuotient}
 
 -- Reachable states with classes: each member is a pair of a reachable state and its class, and each reachable state stands in one.
 pub record AreWithClasses (pairs : PointValue) (a : Automaton) : Type 0 where
   pub classed : (y q x : PointValue) → IsIn y pairs → IsPair y q x → IsReachable a q × IsClassOf a x q
   pub each : (q : PointValue) → IsReachable a q → (y x : PointValue) × IsIn y pairs × IsPair y q x
 
--- what tells states apart gives each reachable state its class
-module _ (a : Automaton) (nodes apart pairs : PointValue) (reached : IsSetOf nodes (IsReachable a)) (tells : IsDistinguishability a apart) (are : AreClassed nodes apart pairs) where
-  is_class : (p q x x' : PointValue) → IsSame p q → IsSame x x' → IsReachable a q → AreOthers nodes apart p x → IsClassOf a x' q
-  is_class p q x x' s t reach others = set_of_move (λ r. IsIn r nodes × (LeadsTo apart p r → ⊥)) (λ r. IsReachable a r × HaveSameWords a r q) x x' t
-      (λ r h. let own : IsReachable a r = (reached.1 r).0 h.0 in
-      (own, words_sym a q r ((tells q r reach own).0 (λ k. h.1 (leads_same apart q r p r (same_sym p q s) (same_refl r) k)))))
-      (λ r h. ((reached.1 r).1 h.0, λ k. (tells q r reach h.0).1 (words_sym a r q h.1) (leads_same apart p r q r s (same_refl r) k)))
-      others
+-- the pairs of states that words don't tell apart give each reachable state its class
+module _ (a : Automaton) (nodes alike pairs : PointValue) (reached : IsSetOf nodes (IsReachable a)) (tells : AreIndistinguishable a alike) (are : AreClassed nodes alike pairs) where
+  is_class : (p q x x' : PointValue) → IsSame p q → IsSame x x' → IsReachable a q → IsSetOfLed alike p x → IsClassOf a x' q
+  is_class p q x x' s t reach led = set_of_move (LeadsTo alike p) (λ r. IsReachable a r × HaveSameWords a r q) x x' t
+      (λ r h. let k = (tells q r).0 (leads_same alike p r q r s (same_refl r) h) in (k.1, words_sym a q r k.2))
+      (λ r h. leads_same alike q r p r (same_sym p q s) (same_refl r) ((tells q r).1 (reach, h.0, words_sym a r q h.1)))
+      led
 
   pub are_with_classes : AreWithClasses pairs a
   are_with_classes = record {

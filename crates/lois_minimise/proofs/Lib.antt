@@ -1,5 +1,4 @@
-pub mod Distinguished
-pub mod TheGraph
+pub mod Compared
 pub mod Classes
 pub mod TheMinimal
 pub mod Seconds
@@ -7,5 +6,6 @@ pub mod Covering
 pub mod Partitioned
 pub mod Splits
 pub mod ClassTerms
+pub mod Matching
 pub mod StepMoves
 pub mod Quotients

@@ -15,7 +15,7 @@ use Rattle.lois_automata.specs.Projections.{AddsOfOne, HasStepIn, pair_of, tripl
 use Rattle.lois_automata.specs.Reachability.{LeadsTo}
 use Rattle.lois_automata.proofs.Adding.{added_put, adds_nothing, one_among}
 use Rattle.lois_automata.proofs.Written.{pair_is, pair_term, triple_is}
-use Rattle.lois_minimise.specs.Classes.{IsTransition, IsStepMove, AreStepMoves, AreClassSteps, transition_of}
+use Rattle.lois_minimise.specs.Classes.{IsTransition, IsStepMove, AreStepMoves, AreTransitions, AreClassSteps, transition_of}
 
 -- the parts of a transition's term have the values of its parts
 transition_is : (q x l r z : TermD) (d : List Atom) → IsTransition (point (transition_of q x l r z) d) (point q d) (point x d) (point l d) (point r d) (point z d)
@@ -110,7 +110,7 @@ are_step_moves n whole made same c l w = (
 )
 
 -- the steps between classes: what the moves lead to from the steps between states
-module _ (n : ℕ) (classes letters steps reads both moves r : TermD) (c : List Atom) (k : length c ≡ n) (read_pairs : ArePairs n classes letters reads) (both_pairs : ArePairs n reads classes both) (are : AreStepMoves n both moves) (led : AreTargets n moves steps r) where
+module _ (n : ℕ) (classes letters steps reads both moves r : TermD) (c : List Atom) (k : length c ≡ n) (read_pairs : ArePairs n classes letters reads) (transitions : AreTransitions n reads classes steps both) (are : AreStepMoves n both moves) (led : AreTargets n moves steps r) where
   pub class_steps_are : AreClassSteps (point classes c) (point letters c) (point steps c) (point r c)
   class_steps_are w = (λ i. there ((led c k w).0 i), back)
     where
@@ -119,7 +119,7 @@ module _ (n : ℕ) (classes letters steps reads both moves r : TermD) (c : List 
         where
           moved : ((y : PointValue) × IsIn y (point both c) × IsStepMove y v) → (q l r' x z : PointValue) × LeadsTo (point classes c) q x × IsIn l (point letters c) × LeadsTo (point classes c) r' z × HasStepIn (point steps c) q l r' × IsTriple w x l z
           moved (y, iy, (q, x, l, r', z, s, t, (from, read, to, h1, h2, h3, h4), hs, ht, hp)) =
-              let f = (both_pairs c k y).0 iy in
+              let f = transitions.only c k y iy in
               let outer : IsSame f.0 read × IsSame f.1 to = pair_both y y f.0 f.1 read to (same_refl y) f.4 h4 in
               let g = (read_pairs c k f.0).0 f.2 in
               let inner : IsSame g.0 from × IsSame g.1 l = pair_both f.0 read g.0 g.1 from l outer.0 g.4 h2 in
@@ -141,6 +141,6 @@ module _ (n : ℕ) (classes letters steps reads both moves r : TermD) (c : List 
           let read : (v : PointValue) × IsPair v from l = pair_exists from l in
           let y : (v : PointValue) × IsPair v read.0 to = pair_exists read.0 to in
           let v : (v : PointValue) × IsPair v s w = pair_exists s w in
-          let here : IsIn y.0 (point both c) = (both_pairs c k y.0).1 (read.0, to, (read_pairs c k read.0).1 (from, l, i, il, read.1), j, y.1) in
+          let here : IsIn y.0 (point both c) = transitions.all c k y.0 (read.0, to, (read_pairs c k read.0).1 (from, l, i, il, read.1), j, y.1) (q, x, l, r', z, (from, read.0, to, h1, read.1, h3, y.1), (s, is, hs)) in
           let move : IsIn v.0 (point moves c) = (are c k v.0).1 (y.0, here, (q, x, l, r', z, s, w, (from, read.0, to, h1, read.1, h3, y.1), hs, ht, v.1)) in
           (led c k w).1 (s, is, (v.0, move, v.1))

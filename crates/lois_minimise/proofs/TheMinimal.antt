@@ -14,7 +14,7 @@ use Rattle.lois_automata.specs.Projections.{five_of, automaton_at}
 use Rattle.lois_automata.specs.Machines.{IsCompleteDeterministicAt, IsReachAt}
 use Rattle.lois_automata.specs.Throughout.{HoldsThroughout}
 use Rattle.lois_automata.proofs.FiveMachine.{five_equal, five_machine}
-use Rattle.lois_minimise.specs.Classes.{IsCompleteDeterministicWithReach, IsDistinguishability, AreClassed, IsQuotientTerm}
+use Rattle.lois_minimise.specs.Classes.{IsCompleteDeterministicWithReach, AreIndistinguishable, AreClassed, IsQuotientTerm}
 use Rattle.lois_minimise.specs.Minimal.{IsMinimalAt, IsLeastAt}
 use Rattle.lois_minimise.proofs.Classes.{are_with_classes, minimal_of, classes_exist, automaton_of}
 
@@ -28,15 +28,15 @@ module _ (s l t i f : CompsD) (c : List Atom) where
     reached = subst (λ z. IsSetOf (point states c) (IsReachable z)) (five_equal s l t i f c m' is') set;
   }
 
-  pub minimal_at : (n : ℕ) (states apart pairs r : TermD) → length c ≡ n → IsCompleteDeterministicAt (five_of s l t i f) c → IsReachAt (five_of s l t i f) states c → IsDistinguishability (automaton_at s l t i f c) (point apart c) → AreClassed (point states c) (point apart c) (point pairs c) →
+  pub minimal_at : (n : ℕ) (states alike pairs r : TermD) → length c ≡ n → IsCompleteDeterministicAt (five_of s l t i f) c → IsReachAt (five_of s l t i f) states c → AreIndistinguishable (automaton_at s l t i f c) (point alike c) → AreClassed (point states c) (point alike c) (point pairs c) →
       IsQuotientTerm n s l t i f pairs r → IsMinimalAt (five_of s l t i f) r c × IsLeastAt (five_of s l t i f) r c
-  minimal_at n states apart pairs r k is_whole is_reach tells classed q =
+  minimal_at n states alike pairs r k is_whole is_reach tells classed q =
       let a = automaton_at s l t i f c in
       let m = automaton_at q.states q.letters q.steps q.initial q.final c in
       let all = whole_with_reach states is_whole is_reach in
       let v = point (five_of s l t i f) c in
       let own : IsAutomatonOf v a = five_machine s l t i f c (is_whole.0, is_whole.1) in
-      let classes = are_with_classes a (point states c) (point apart c) (point pairs c) all.reached tells classed in
+      let classes = are_with_classes a (point states c) (point alike c) (point pairs c) all.reached tells classed in
       let made = q.quotient c k in
       let minimal : IsMinimalOf m a = minimal_of v m a (point pairs c) own classes made in
       let exist : ClassesExist a = classes_exist v m a (point pairs c) own classes made in
@@ -65,9 +65,9 @@ module _ (n : ℕ) (u : List (List Lit)) (a states : TermD) (s l t i f nodes : C
   pub whole_throughout : HoldsThroughout n u (λ c. IsCompleteDeterministicWithReach (automaton_at s l t i f c) (point (coll nodes) c))
   whole_throughout c k h = whole_with_reach s l t i f c (coll nodes) (whole_of c k h) (reach_of c k h)
 
-  pub minimal_throughout : (apart pairs r : TermD) → HoldsThroughout n u (λ c. IsDistinguishability (automaton_at s l t i f c) (point apart c)) → ((c : List Atom) → length c ≡ n → AreClassed (point (coll nodes) c) (point apart c) (point pairs c)) → IsQuotientTerm n s l t i f pairs r →
+  pub minimal_throughout : (alike pairs r : TermD) → HoldsThroughout n u (λ c. AreIndistinguishable (automaton_at s l t i f c) (point alike c)) → ((c : List Atom) → length c ≡ n → AreClassed (point (coll nodes) c) (point alike c) (point pairs c)) → IsQuotientTerm n s l t i f pairs r →
       HoldsThroughout n u (IsMinimalAt a r) × HoldsThroughout n u (IsLeastAt a r)
-  minimal_throughout apart pairs r tells classed quotient =
+  minimal_throughout alike pairs r tells classed quotient =
       let both : (c : List Atom) → length c ≡ n → IsTrue (holds c u) → IsMinimalAt a r c × IsLeastAt a r c = λ c k h.
-      subst (λ z. IsMinimalAt z r c × IsLeastAt z r c) (sym is) (minimal_at s l t i f c n (coll nodes) apart pairs r k (whole_of c k h) (reach_of c k h) (tells c k h) (classed c k) quotient) in
+      subst (λ z. IsMinimalAt z r c × IsLeastAt z r c) (sym is) (minimal_at s l t i f c n (coll nodes) alike pairs r k (whole_of c k h) (reach_of c k h) (tells c k h) (classed c k) quotient) in
       (λ c k h. (both c k h).0, λ c k h. (both c k h).1)

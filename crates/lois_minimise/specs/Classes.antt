@@ -1,14 +1,14 @@
 -- What the private contracts say: of states that words tell apart, of states with their classes, and of steps between classes.
-use Rattle.std.specs.Prelude.{◌≡◌, ℕ, List, ◌++◌, length, ◌↔◌, ◌⊎◌}
+use Rattle.std.specs.Prelude.{◌≡◌, ℕ, Bool, List, ◌++◌, length, ◌↔◌, ◌⊎◌}
 use Rattle.lois_base.specs.Atom.{Atom}
 use Rattle.lois_base.specs.Data.{TermD, CompD, CompsD}
-use Rattle.lois_base.specs.Fits.{CompFits}
-use Rattle.lois_base.specs.Validity.{AdmitsTerm, AdmitsComp, HasBoundedWidths, CompHasBoundedWidths}
+use Rattle.lois_base.specs.Fits.{CompFits, ItemsFit}
+use Rattle.lois_base.specs.Validity.{AdmitsTerm, AdmitsComp, AdmitsItems, HasBoundedWidths, CompHasBoundedWidths, ItemsHaveBoundedWidths}
 use Rattle.lois_base.specs.Values.{PointValue, point, IsIn, IsSame}
 use Rattle.lois_algebra.specs.Gathered.{IsAmong, IsCompMember}
 use Rattle.lois_meaning.specs.Automata.{Automaton, IsPair, IsTriple, IsAutomatonOf, HasStep, IsReachable, IsDeterministic, IsComplete, HaveSameWords}
 use Rattle.lois_meaning.specs.Kinds.{IsSetOf}
-use Rattle.lois_automata.specs.Adding.{Adds, IsMadeOfOne}
+use Rattle.lois_automata.specs.Adding.{Adds, IsMadeOfOne, IsMadeOfTwo, IsPairOf}
 use Rattle.lois_automata.specs.Projections.{HasStepIn, five_of, automaton_at, pair_of}
 use Rattle.lois_automata.specs.Reachability.{LeadsTo}
 
@@ -20,15 +20,19 @@ pub record IsCompleteDeterministicWithReach (a : Automaton) (states : PointValue
   pub complete : IsComplete a
   pub reached : IsSetOf states (IsReachable a)
 
--- of two reachable states the set has no pair exactly where the same words are accepted from both
-abbrev pub IsDistinguishability : Automaton → PointValue → Type 0
-IsDistinguishability a apart =
-    (p q : PointValue) → IsReachable a p → IsReachable a q → (LeadsTo apart p q → ⊥) ↔ HaveSameWords a p q
+-- the set leads from a value to another exactly where both are reachable states from which the same words are accepted
+abbrev pub AreIndistinguishable : Automaton → PointValue → Type 0
+AreIndistinguishable a alike =
+    (p q : PointValue) → LeadsTo alike p q ↔ (IsReachable a p × IsReachable a q × HaveSameWords a p q)
 
 -- ---- states that are told apart by the empty word
 -- one of the two is in the set, and the other isn't
 abbrev pub IsSplit : PointValue → PointValue → PointValue → Type 0
 IsSplit final p q = (IsIn p final × (IsIn q final → ⊥)) ⊎ (IsIn q final × (IsIn p final → ⊥))
+
+-- both are in the set, or neither is
+abbrev pub IsAlike : PointValue → PointValue → PointValue → Type 0
+IsAlike final p q = (IsIn p final × IsIn q final) ⊎ ((IsIn p final → ⊥) × (IsIn q final → ⊥))
 
 -- the nodes are partitioned into two sets: those of a third set t are inside, and the others outside
 pub record IsPartition (nodes t inside outside : PointValue) : Type 0 where
@@ -49,9 +53,20 @@ pub record AddsPartition (n : ℕ) (k : CompD) (t : TermD) (before after others_
   pub outside : Adds n (λ c. IsMadeOfOne (IsInSecondPart t c) (IsCompMember k c)) (CompFits n k) (λ o. AdmitsComp o k × AdmitsTerm o t) (CompHasBoundedWidths k) others_before others_after
   pub each : (c : List Atom) → length c ≡ n → (w : PointValue) → IsCompMember k c w → IsAmong after c w ⊎ IsAmong others_after c w
 
--- v has exactly the pairs of nodes of which one is in the set and the other isn't, and each node is in the set or isn't
-pub record AreSplitPairs (nodes final v : PointValue) : Type 0 where
-  pub pairs : (x : PointValue) → IsIn x v ↔ ((p q : PointValue) × IsIn p nodes × IsIn q nodes × IsSplit final p q × IsPair x p q)
+-- w is the pair of a member of s and one of t
+abbrev pub IsPairFrom : PointValue → PointValue → PointValue → Type 0
+IsPairFrom s t w = (p q : PointValue) × IsIn p s × IsIn q t × IsPair w p q
+
+-- r has exactly such pairs of the first two sets and of the other two
+abbrev pub ArePairsAcross : ℕ → TermD → TermD → TermD → TermD → TermD → Type 0
+ArePairsAcross n a b s t r =
+    (c : List Atom) → length c ≡ n → (w : PointValue) → IsIn w (point r c) ↔ (IsPairFrom (point a c) (point b c) w ⊎ IsPairFrom (point s c) (point t c) w)
+
+-- `apart` has exactly the pairs of nodes of which one is in the set and the other isn't, `alike` the other pairs of nodes, and each
+-- node is in the set or isn't
+pub record AreSplitPairs (nodes final apart alike : PointValue) : Type 0 where
+  pub across : (x : PointValue) → IsIn x apart ↔ ((p q : PointValue) × IsIn p nodes × IsIn q nodes × IsSplit final p q × IsPair x p q)
+  pub within : (x : PointValue) → IsIn x alike ↔ ((p q : PointValue) × IsIn p nodes × IsIn q nodes × IsAlike final p q × IsPair x p q)
   pub decided : (q : PointValue) → IsIn q nodes → IsIn q final ⊎ (IsIn q final → ⊥)
 
 -- v leads from the pair of the targets of two steps with the same letter back to the pair of their sources
@@ -60,36 +75,36 @@ AreBackward steps v =
     (y : PointValue) → IsIn y v ↔ ((x x' p l q p' q' : PointValue) × HasStepIn steps p l p' × HasStepIn steps q l q' × IsPair x' p' q' × IsPair x p q × IsPair y x' x)
 
 -- ---- states with their classes
--- x is the set of the nodes that p isn't led to
-abbrev pub AreOthers : PointValue → PointValue → PointValue → PointValue → Type 0
-AreOthers nodes apart p x = IsSetOf x (λ q. IsIn q nodes × (LeadsTo apart p q → ⊥))
+-- x is the set of what p is led to
+abbrev pub IsSetOfLed : PointValue → PointValue → PointValue → Type 0
+IsSetOfLed alike p x = IsSetOf x (LeadsTo alike p)
 
--- y is the pair of p and the set of the nodes that p isn't led to
-abbrev pub IsClassed : PointValue → PointValue → PointValue → PointValue → Type 0
-IsClassed nodes apart p y = (x : PointValue) × IsPair y p x × AreOthers nodes apart p x
+-- y is the pair of p and the set of what p is led to
+abbrev pub IsClassed : PointValue → PointValue → PointValue → Type 0
+IsClassed alike p y = (x : PointValue) × IsPair y p x × IsSetOfLed alike p x
 
 -- v has such a pair for each node, and no others
-pub record AreClassed (nodes apart v : PointValue) : Type 0 where
-  pub classed : (y : PointValue) → IsIn y v → (p : PointValue) × IsIn p nodes × IsClassed nodes apart p y
-  pub each : (p : PointValue) → IsIn p nodes → (y : PointValue) × IsIn y v × IsClassed nodes apart p y
+pub record AreClassed (nodes alike v : PointValue) : Type 0 where
+  pub classed : (y : PointValue) → IsIn y v → (p : PointValue) × IsIn p nodes × IsClassed alike p y
+  pub each : (p : PointValue) → IsIn p nodes → (y : PointValue) × IsIn y v × IsClassed alike p y
 
--- the term r of n + m levels has exactly the nodes that the item isn't led to
-abbrev pub IsClassTerm : ℕ → ℕ → TermD → TermD → TermD → TermD → Type 0
-IsClassTerm n m nodes apart item r =
-    (c e : List Atom) → length c ≡ n → length e ≡ m → (q : PointValue) → IsIn q (point r (c ++ e)) ↔ (IsIn q (point nodes c) × (LeadsTo (point apart c) (point item (c ++ e)) q → ⊥))
+-- the term r of n + m levels has exactly what the item is led to
+abbrev pub IsClassTerm : ℕ → ℕ → TermD → TermD → TermD → Type 0
+IsClassTerm n m alike item r =
+    (c e : List Atom) → length c ≡ n → length e ≡ m → (q : PointValue) → IsIn q (point r (c ++ e)) ↔ LeadsTo (point alike c) (point item (c ++ e)) q
 
 -- r has the item as its only member
 abbrev pub IsSingletonOf : TermD → TermD → Type 0
 IsSingletonOf item r = (c : List Atom) (w : PointValue) → IsIn w (point r c) ↔ IsSame w (point item c)
 
 -- members of pairs of a comprehension's members with their classes are added
-abbrev pub IsClassedAt : TermD → TermD → List Atom → PointValue → PointValue → Type 0
-IsClassedAt nodes apart c = IsClassed (point nodes c) (point apart c)
+abbrev pub IsClassedAt : TermD → List Atom → PointValue → PointValue → Type 0
+IsClassedAt alike c = IsClassed (point alike c)
 
 -- each member of the comprehension is added in a pair with its class
-pub record AddsClass (n : ℕ) (k : CompD) (nodes apart : TermD) (before after : CompsD) : Type 0 where
-  pub adds : Adds n (λ c. IsMadeOfOne (IsClassedAt nodes apart c) (IsCompMember k c)) (CompFits n k) (λ o. AdmitsComp o k × (AdmitsTerm o nodes × AdmitsTerm o apart)) (CompHasBoundedWidths k × HasBoundedWidths nodes) before after
-  pub each : (c : List Atom) → length c ≡ n → (p : PointValue) → IsCompMember k c p → (y : PointValue) × IsAmong after c y × IsClassedAt nodes apart c p y
+pub record AddsClass (n : ℕ) (k : CompD) (alike : TermD) (before after : CompsD) : Type 0 where
+  pub adds : Adds n (λ c. IsMadeOfOne (IsClassedAt alike c) (IsCompMember k c)) (CompFits n k) (λ o. AdmitsComp o k × AdmitsTerm o alike) (CompHasBoundedWidths k × HasBoundedWidths alike) before after
+  pub each : (c : List Atom) → length c ≡ n → (p : PointValue) → IsCompMember k c p → (y : PointValue) × IsAmong after c y × IsClassedAt alike c p y
 
 -- ---- the automaton of classes
 -- r has exactly the second parts of the pairs
@@ -108,6 +123,34 @@ IsTransition y q x l r z =
 
 abbrev pub transition_of : TermD → TermD → TermD → TermD → TermD → TermD
 transition_of q x l r z = pair_of (pair_of (pair_of q x) l) (pair_of r z)
+
+-- w is a transition, and the steps have one between its states
+abbrev pub HasStepOf : PointValue → PointValue → Type 0
+HasStepOf steps w = (q x l r z : PointValue) × IsTransition w q x l r z × HasStepIn steps q l r
+
+-- r has only pairs of a read, which is a pair of a state with its class and a letter, and a state with its class, and at least those
+-- between whose states the steps have one
+pub record AreTransitions (n : ℕ) (reads classes steps r : TermD) : Type 0 where
+  pub only : (c : List Atom) → length c ≡ n → (w : PointValue) → IsIn w (point r c) → IsPairFrom (point reads c) (point classes c) w
+  pub all : (c : List Atom) → length c ≡ n → (w : PointValue) → IsPairFrom (point reads c) (point classes c) w → HasStepOf (point steps c) w → IsIn w (point r c)
+
+-- of the values that W names those that M also names are added, and some of the others
+pub record AddsMatching (n : ℕ) (W M : List Atom → PointValue → Type 0) (F : Type 0) (A : Bool → Type 0) (U : Type 0) (before after : CompsD) : Type 0 where
+  pub only : (c : List Atom) → length c ≡ n → (w : PointValue) → IsAmong after c w → IsAmong before c w ⊎ W c w
+  pub kept : (c : List Atom) → length c ≡ n → (w : PointValue) → IsAmong before c w → IsAmong after c w
+  pub all : (c : List Atom) → length c ≡ n → (w : PointValue) → W c w → M c w → IsAmong after c w
+  pub levels : F → ItemsFit n before → ItemsFit n after
+  pub operators : (o : Bool) → A o → AdmitsItems o before → AdmitsItems o after
+  pub widths : U → ItemsHaveBoundedWidths before → ItemsHaveBoundedWidths after
+
+-- so of the pairs of a member of the comprehension and one of the other, or of the list, those between whose states there is a step
+abbrev pub AddsTransition : ℕ → CompD → CompD → TermD → CompsD → CompsD → Type 0
+AddsTransition n k q steps =
+    AddsMatching n (λ c. IsMadeOfTwo IsPairOf (IsCompMember k c) (IsCompMember q c)) (λ c. HasStepOf (point steps c)) (CompFits n k × CompFits n q) (λ o. AdmitsComp o k × AdmitsComp o q) (CompHasBoundedWidths k × CompHasBoundedWidths q)
+
+abbrev pub AddsTransitions : ℕ → CompD → CompsD → TermD → CompsD → CompsD → Type 0
+AddsTransitions n k qs steps =
+    AddsMatching n (λ c. IsMadeOfTwo IsPairOf (IsCompMember k c) (IsAmong qs c)) (λ c. HasStepOf (point steps c)) (CompFits n k × ItemsFit n qs) (λ o. AdmitsComp o k × AdmitsItems o qs) (CompHasBoundedWidths k × ItemsHaveBoundedWidths qs)
 
 -- w leads from a step of states to the step of their classes
 abbrev pub IsStepMove : PointValue → PointValue → Type 0

@@ -10,31 +10,30 @@ ghost use Rattle.lois_base.specs.Values.{point};
 ghost use Rattle.lois_terms.specs.Guarded.{IsColl};
 ghost use Rattle.lois_minimise.specs.Classes.{AreClassed, AddsClass, IsClassTerm, IsSingletonOf};
 
-use lois_algebra::{minus, push_comp};
+use lois_algebra::push_comp;
 use lois_automata::{insert_levels, pair, targets_from};
 use lois_base::{Comp, Comps, Constraint, NoMemory, Structure, Term};
 use std::alloc::Global;
 
-/// Each member of the set `nodes` in a pair with its class: the set of the nodes that no pair of the set `apart` leads it to.
+/// Each member of the set `nodes` in a pair with its class: the set of the values that a pair of the set `alike` leads it to.
 pub fn with_classes<T: Structure>(
     alloc: Global,
     nodes: &Comps,
-    apart: &Term,
+    alike: &Comps,
     size: usize,
 ) -> Result<Comps, NoMemory>
     requires nodes { ItemsFit size (comps_of nodes.now) }
     requires nodes_operators { AdmitsItems T.ordered (comps_of nodes.now) }
-    requires apart { Fits size (tree apart.now) }
-    requires apart_set { IsColl (tree apart.now) }
-    requires apart_operators { AdmitsTerm T.ordered (tree apart.now) }
-    ensures classed { IfOk result (λ r. (c : List Atom) → length c ≡ size → AreClassed (point (coll (comps_of nodes.now)) c) (point (tree apart.now) c) (point (coll (comps_of r)) c)) }
+    requires alike { ItemsFit size (comps_of alike.now) }
+    requires alike_operators { AdmitsItems T.ordered (comps_of alike.now) }
+    ensures classed { IfOk result (λ r. (c : List Atom) → length c ≡ size → AreClassed (point (coll (comps_of nodes.now)) c) (point (coll (comps_of alike.now)) c) (point (coll (comps_of r)) c)) }
     ensures levels { IfOk result (λ r. ItemsFit size (comps_of r)) }
-    ensures operators { IfOk result (λ r. (o : Bool) → AdmitsItems o (comps_of nodes.now) → AdmitsTerm o (tree apart.now) → AdmitsItems o (comps_of r)) }
-    ensures widths { IfOk result (λ r. ItemsHaveBoundedWidths (comps_of nodes.now) → ItemsHaveBoundedWidths (comps_of r)) }
+    ensures operators { IfOk result (λ r. (o : Bool) → AdmitsItems o (comps_of nodes.now) → AdmitsItems o (comps_of alike.now) → AdmitsItems o (comps_of r)) }
+    ensures widths { IfOk result (λ r. ItemsHaveBoundedWidths (comps_of nodes.now) → ItemsHaveBoundedWidths (comps_of alike.now) → ItemsHaveBoundedWidths (comps_of r)) }
 {
     let mut classes = Comps::new(alloc);
     for comp in nodes.as_slice() {
-        add_class::<T>(alloc, &mut classes, comp, nodes, apart, size)?;
+        add_class::<T>(alloc, &mut classes, comp, alike, size)?;
     }
     Ok(classes)
 }
@@ -43,20 +42,16 @@ fn add_class<T: Structure>(
     alloc: Global,
     classes: &mut Comps,
     comp: &Comp,
-    nodes: &Comps,
-    apart: &Term,
+    alike: &Comps,
     size: usize,
 ) -> Result<(), NoMemory>
     requires levels { CompFits size (comp_of comp.now) }
     requires operators { AdmitsComp T.ordered (comp_of comp.now) }
-    requires nodes { ItemsFit size (comps_of nodes.now) }
-    requires nodes_operators { AdmitsItems T.ordered (comps_of nodes.now) }
-    requires apart { Fits size (tree apart.now) }
-    requires apart_set { IsColl (tree apart.now) }
-    requires apart_operators { AdmitsTerm T.ordered (tree apart.now) }
-    ensures { OnOk result (AddsClass size (comp_of comp.now) (coll (comps_of nodes.now)) (tree apart.now) (comps_of classes.old) (comps_of classes.new)) }
+    requires alike { ItemsFit size (comps_of alike.now) }
+    requires alike_operators { AdmitsItems T.ordered (comps_of alike.now) }
+    ensures { OnOk result (AddsClass size (comp_of comp.now) (coll (comps_of alike.now)) (comps_of classes.old) (comps_of classes.new)) }
 {
-    let class = class_of::<T>(alloc, &comp.item, nodes, apart, size, comp.binders)?;
+    let class = class_of::<T>(alloc, &comp.item, alike, size, comp.binders)?;
     let guard = comp.guard.copy(alloc)?;
     let item = pair(alloc, &comp.item, &class)?;
     push_comp(
@@ -69,37 +64,31 @@ fn add_class<T: Structure>(
     )
 }
 
-// The nodes that no pair of `apart` leads the item to, as a term among `by` more levels.
+// What pairs of `alike` lead the item to, as a term among `by` more levels.
 fn class_of<T: Structure>(
     alloc: Global,
     item: &Term,
-    nodes: &Comps,
-    apart: &Term,
+    alike: &Comps,
     size: usize,
     by: usize,
 ) -> Result<Term, NoMemory>
     requires room { size + by < 2 ^ 64 }
     requires item { Fits (size + by) (tree item.now) }
     requires item_operators { AdmitsTerm T.ordered (tree item.now) }
-    requires nodes { ItemsFit size (comps_of nodes.now) }
-    requires nodes_operators { AdmitsItems T.ordered (comps_of nodes.now) }
-    requires apart { Fits size (tree apart.now) }
-    requires apart_set { IsColl (tree apart.now) }
-    requires apart_operators { AdmitsTerm T.ordered (tree apart.now) }
-    ensures class { IfOk result (λ r. IsClassTerm size by (coll (comps_of nodes.now)) (tree apart.now) (tree item.now) (tree r)) }
+    requires alike { ItemsFit size (comps_of alike.now) }
+    requires alike_operators { AdmitsItems T.ordered (comps_of alike.now) }
+    ensures class { IfOk result (λ r. IsClassTerm size by (coll (comps_of alike.now)) (tree item.now) (tree r)) }
     ensures set { IfOk result (λ r. IsColl (tree r)) }
     ensures levels { IfOk result (λ r. Fits (size + by) (tree r)) }
-    ensures operators { IfOk result (λ r. (o : Bool) → AdmitsTerm o (tree item.now) → AdmitsItems o (comps_of nodes.now) → AdmitsTerm o (tree apart.now) → AdmitsTerm o (tree r)) }
-    ensures widths { IfOk result (λ r. ItemsHaveBoundedWidths (comps_of nodes.now) → HasBoundedWidths (tree r)) }
+    ensures operators { IfOk result (λ r. (o : Bool) → AdmitsTerm o (tree item.now) → AdmitsItems o (comps_of alike.now) → AdmitsTerm o (tree r)) }
+    ensures widths { IfOk result (λ r. ItemsHaveBoundedWidths (comps_of alike.now) → HasBoundedWidths (tree r)) }
 {
-    let states = Term::Coll(nodes.copy(alloc)?);
-    let all = insert_levels(alloc, &states, size, by)?;
-    let Term::Coll(told) = insert_levels(alloc, apart, size, by)? else {
+    let pairs = Term::Coll(alike.copy(alloc)?);
+    let Term::Coll(raised) = insert_levels(alloc, &pairs, size, by)? else {
         unreachable!()
     };
     let own = single(alloc, item)?;
-    let others = targets_from::<T>(alloc, &told, &own, size + by)?;
-    minus::<T>(alloc, &all, &others, size + by)
+    targets_from::<T>(alloc, &raised, &own, size + by)
 }
 
 // The set of one item.

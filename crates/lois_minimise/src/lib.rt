@@ -2,10 +2,11 @@
 #![tactic(auto)]
 
 mod classing;
-mod distinguishing;
+mod indexed;
 mod minimising;
 mod pairs;
 mod partitioning;
+mod refining;
 mod transitions;
 
 pub use minimising::minimise;

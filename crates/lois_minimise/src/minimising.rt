@@ -12,8 +12,8 @@ ghost use Rattle.lois_minimise.specs.Classes.{IsQuotientTerm};
 ghost use Rattle.lois_minimise.specs.Minimal.{IsMinimalAt, IsLeastAt};
 
 use crate::classing::with_classes;
-use crate::distinguishing::distinguishable_pairs;
 use crate::pairs::second_parts;
+use crate::refining::indistinguishable_pairs;
 use crate::transitions::class_steps;
 use lois_automata::{FiveSets, five, of_five, targets_from};
 use lois_base::{Comps, Constraint, Decider, NoMemory, Structure, Term};
@@ -21,8 +21,9 @@ use lois_deciders::Chosen;
 use std::alloc::Global;
 
 /// The minimal automaton of the complete deterministic automaton `a`, whose reachable states are the set `reached`, at each
-/// choice that `under` admits. Errors: `NoMemory`, also where a level would pass the greatest usize. Nothing is asked: what
-/// can't be met is found when constraints are pruned. The decider is borrowed as by all calls on automata.
+/// choice that `under` admits. Errors: `NoMemory`, also where a level or the number of rounds would pass the greatest usize.
+/// Nothing is asked: what can't be met is found when constraints are pruned. The decider is borrowed as by all calls on
+/// automata.
 pub fn minimise<T: Structure>(
     alloc: Global,
     a: &Term,
@@ -54,8 +55,8 @@ pub fn minimise<T: Structure>(
     let Term::Coll(nodes) = reached else {
         return a.copy(alloc);
     };
-    let apart = distinguishable_pairs::<T>(alloc, sets, nodes, under, size)?;
-    let classes = with_classes::<T>(alloc, nodes, &apart, size)?;
+    let alike = indistinguishable_pairs::<T>(alloc, sets, nodes, size)?;
+    let classes = with_classes::<T>(alloc, nodes, &alike, size)?;
     quotient::<T>(alloc, sets, &classes, size)
 }
 

@@ -1,20 +1,21 @@
 //! A set partitioned into those of its members that are in another set, and those that are not.
 
-ghost use Rattle.std.specs.Prelude.{◌≡◌, Bool, List, length, IfOk, OnOk};
+ghost use Rattle.std.specs.Prelude.{◌≡◌, Bool, List, length, map, IfOk, OnOk};
 ghost use Rattle.lois_base.specs.Atom.{Atom};
 ghost use Rattle.lois_base.specs.Data.{coll, comp, comps_of};
-ghost use Rattle.lois_base.specs.Fits.{Fits, CompFits, ItemsFit};
+ghost use Rattle.lois_base.specs.Fits.{CompFits, ItemsFit};
 ghost use Rattle.lois_base.specs.Tree.{tree, comp_of};
-ghost use Rattle.lois_base.specs.Validity.{AdmitsTerm, AdmitsComp, AdmitsItems};
+ghost use Rattle.lois_base.specs.Validity.{AdmitsComp, AdmitsItems, ItemsHaveBoundedWidths};
 ghost use Rattle.lois_base.specs.Values.{point};
-ghost use Rattle.lois_terms.specs.Guarded.{IsColl};
+ghost use Rattle.lois_terms.specs.Shapes.{item_shape};
 ghost use Rattle.lois_algebra.specs.Gathered.{IsPut};
 ghost use Rattle.lois_minimise.specs.Classes.{IsPartition, AddsPartition};
 
+use crate::indexed::indexed_membership;
 use lois_algebra::push_comp;
-use lois_automata::membership;
-use lois_base::{Comp, Comps, Constraint, NoMemory, Structure, Term};
+use lois_base::{Comp, Comps, Constraint, NoMemory, Structure};
 use lois_constraint::{meet, negate};
+use lois_terms::{Index, index_by_shape};
 use std::alloc::Global;
 
 /// Two sets: of what is in another one, and of what isn't.
@@ -24,26 +25,27 @@ pub struct Partition {
     pub outside: Comps,
 }
 
-/// The members of a set that are in the set `t`, and those that aren't. One membership of each comprehension serves both.
+/// The members of `items` that are in `set`, and those that aren't. One membership of each comprehension serves both.
 pub fn partition_by<T: Structure>(
     alloc: Global,
     items: &Comps,
-    t: &Term,
+    set: &Comps,
     size: usize,
 ) -> Result<Partition, NoMemory>
     requires levels { ItemsFit size (comps_of items.now) }
     requires operators { AdmitsItems T.ordered (comps_of items.now) }
-    requires other_levels { Fits size (tree t.now) }
-    requires other_set { IsColl (tree t.now) }
-    requires other_operators { AdmitsTerm T.ordered (tree t.now) }
-    ensures shared { IfOk result (λ r. (c : List Atom) → length c ≡ size → IsPartition (point (coll (comps_of items.now)) c) (point (tree t.now) c) (point (coll (comps_of r.inside)) c) (point (coll (comps_of r.outside)) c)) }
+    requires set_levels { ItemsFit size (comps_of set.now) }
+    requires set_operators { AdmitsItems T.ordered (comps_of set.now) }
+    ensures shared { IfOk result (λ r. (c : List Atom) → length c ≡ size → IsPartition (point (coll (comps_of items.now)) c) (point (coll (comps_of set.now)) c) (point (coll (comps_of r.inside)) c) (point (coll (comps_of r.outside)) c)) }
     ensures levels { IfOk result (λ r. ItemsFit size (comps_of r.inside) × ItemsFit size (comps_of r.outside)) }
-    ensures operators { IfOk result (λ r. (o : Bool) → AdmitsItems o (comps_of items.now) → AdmitsTerm o (tree t.now) → AdmitsItems o (comps_of r.inside) × AdmitsItems o (comps_of r.outside)) }
+    ensures operators { IfOk result (λ r. (o : Bool) → AdmitsItems o (comps_of items.now) → AdmitsItems o (comps_of set.now) → AdmitsItems o (comps_of r.inside) × AdmitsItems o (comps_of r.outside)) }
+    ensures widths { IfOk result (λ r. ItemsHaveBoundedWidths (comps_of items.now) → ItemsHaveBoundedWidths (comps_of r.inside) × ItemsHaveBoundedWidths (comps_of r.outside)) }
 {
+    let index = index_by_shape(alloc, set.as_slice())?;
     let mut inside = Comps::new(alloc);
     let mut outside = Comps::new(alloc);
     for one in items.as_slice() {
-        partition_comp::<T>(alloc, &mut inside, &mut outside, one, t, size)?;
+        partition_comp::<T>(alloc, &mut inside, &mut outside, one, set, &index, size)?;
     }
     Ok(Partition { inside, outside })
 }
@@ -53,17 +55,18 @@ fn partition_comp<T: Structure>(
     inside: &mut Comps,
     outside: &mut Comps,
     one: &Comp,
-    t: &Term,
+    set: &Comps,
+    index: &Index,
     size: usize,
 ) -> Result<(), NoMemory>
     requires levels { CompFits size (comp_of one.now) }
     requires operators { AdmitsComp T.ordered (comp_of one.now) }
-    requires other_levels { Fits size (tree t.now) }
-    requires other_set { IsColl (tree t.now) }
-    requires other_operators { AdmitsTerm T.ordered (tree t.now) }
-    ensures { OnOk result (AddsPartition size (comp_of one.now) (tree t.now) (comps_of inside.old) (comps_of inside.new) (comps_of outside.old) (comps_of outside.new)) }
+    requires set_levels { ItemsFit size (comps_of set.now) }
+    requires set_operators { AdmitsItems T.ordered (comps_of set.now) }
+    requires shapes { index.now ≡ map item_shape set.now }
+    ensures { OnOk result (AddsPartition size (comp_of one.now) (coll (comps_of set.now)) (comps_of inside.old) (comps_of inside.new) (comps_of outside.old) (comps_of outside.new)) }
 {
-    let found = membership::<T>(alloc, &one.item, t, size, one.binders)?;
+    let found = indexed_membership::<T>(alloc, &one.item, set, index, size, one.binders)?;
     let missing = negate(alloc, &found)?;
     let here = meet(alloc, &one.guard, &found)?;
     let there = meet(alloc, &one.guard, &missing)?;

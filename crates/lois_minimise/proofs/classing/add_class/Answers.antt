@@ -13,7 +13,7 @@ returns g c =
     let before = comps_of c.args.classes.now in
     let after = comps_of c.push_comp.new.comps in
     IfOk-weaker c.push_comp.result (λ _. IsPut (comp k.binders c.in_ok-guard.guard (tree c.in_ok-item.item)) before after) _ (λ _ added.
-    adds_class c.args.size k.binders k.guard (coll (comps_of c.args.nodes.now)) (tree c.args.apart.now) (tree k.item) class c.in_ok-class.ensures.set c.in_ok-class.ensures.class before after
+    adds_class c.args.size k.binders k.guard (coll (comps_of c.args.alike.now)) (tree k.item) class c.in_ok-class.ensures.set c.in_ok-class.ensures.class before after
     (subst (λ z. IsPut (comp k.binders k.guard z) before after) c.in_ok-item.ensures
     (subst (λ z. IsPut (comp k.binders z (tree c.in_ok-item.item)) before after) c.in_ok-guard.ensures added))
     c.in_ok-class.ensures.levels c.in_ok-class.ensures.operators c.in_ok-class.ensures.widths) c.push_comp.ensures.added

@@ -12,27 +12,24 @@ returns-in_default-clause-minimal g c = IfOk-weaker c.copy.result (λ r. r ≡ c
 pub returns-in_default-clause-least : goal.returns-in_default-clause-least
 returns-in_default-clause-least g c = IfOk-weaker c.copy.result (λ r. r ≡ c.args.a.now) _ (λ r e d l u. let h = c.requires.whole d l u in absurd (c.in_default.ensures.none d (h.0, h.1))) c.copy.ensures
 
-pub distinguishable_pairs-requires-clause-whole : goal.distinguishable_pairs-requires-clause-whole
-distinguishable_pairs-requires-clause-whole g c =
-    let sets = c.in-Some.sets in
-    whole_throughout c.args.size c.args.under.now (tree c.args.a.now) (tree c.args.reached.now) (comps_of sets.states.now) (comps_of sets.letters.now) (comps_of sets.steps.now) (comps_of sets.initial.now) (comps_of sets.accepting.now) (comps_of c.in-Coll.nodes) c.in-Some.ensures.some (ap tree c.in-Coll.is) c.requires.whole c.requires.reached
-
 pub returns-clause-minimal : goal.returns-clause-minimal
 returns-clause-minimal g c =
     let n = c.args.size in
     let sets = c.in-Some.sets in
-    let apart = tree c.in_ok-apart.apart in
+    let alike = coll (comps_of c.in_ok-alike.alike) in
+    let whole = whole_throughout n c.args.under.now (tree c.args.a.now) (tree c.args.reached.now) (comps_of sets.states.now) (comps_of sets.letters.now) (comps_of sets.steps.now) (comps_of sets.initial.now) (comps_of sets.accepting.now) (comps_of c.in-Coll.nodes) c.in-Some.ensures.some (ap tree c.in-Coll.is) c.requires.whole c.requires.reached in
     let classes = coll (comps_of c.in_ok-classes.classes) in
     IfOk-weaker c.quotient.result (λ r. IsQuotientTerm n (comps_of sets.states.now) (comps_of sets.letters.now) (comps_of sets.steps.now) (comps_of sets.initial.now) (comps_of sets.accepting.now) classes (tree r)) _ (λ r made.
     (minimal_throughout n c.args.under.now (tree c.args.a.now) (tree c.args.reached.now) (comps_of sets.states.now) (comps_of sets.letters.now) (comps_of sets.steps.now) (comps_of sets.initial.now) (comps_of sets.accepting.now) (comps_of c.in-Coll.nodes) c.in-Some.ensures.some (ap tree c.in-Coll.is) c.requires.whole c.requires.reached
-    apart classes (tree r) c.in_ok-apart.ensures.apart c.in_ok-classes.ensures.classed made).0) c.quotient.ensures.quotient
+    alike classes (tree r) (λ d l u. c.in_ok-alike.ensures.alike d l (whole d l u)) c.in_ok-classes.ensures.classed made).0) c.quotient.ensures.quotient
 
 pub returns-clause-least : goal.returns-clause-least
 returns-clause-least g c =
     let n = c.args.size in
     let sets = c.in-Some.sets in
-    let apart = tree c.in_ok-apart.apart in
+    let alike = coll (comps_of c.in_ok-alike.alike) in
+    let whole = whole_throughout n c.args.under.now (tree c.args.a.now) (tree c.args.reached.now) (comps_of sets.states.now) (comps_of sets.letters.now) (comps_of sets.steps.now) (comps_of sets.initial.now) (comps_of sets.accepting.now) (comps_of c.in-Coll.nodes) c.in-Some.ensures.some (ap tree c.in-Coll.is) c.requires.whole c.requires.reached in
     let classes = coll (comps_of c.in_ok-classes.classes) in
     IfOk-weaker c.quotient.result (λ r. IsQuotientTerm n (comps_of sets.states.now) (comps_of sets.letters.now) (comps_of sets.steps.now) (comps_of sets.initial.now) (comps_of sets.accepting.now) classes (tree r)) _ (λ r made.
     (minimal_throughout n c.args.under.now (tree c.args.a.now) (tree c.args.reached.now) (comps_of sets.states.now) (comps_of sets.letters.now) (comps_of sets.steps.now) (comps_of sets.initial.now) (comps_of sets.accepting.now) (comps_of c.in-Coll.nodes) c.in-Some.ensures.some (ap tree c.in-Coll.is) c.requires.whole c.requires.reached
-    apart classes (tree r) c.in_ok-apart.ensures.apart c.in_ok-classes.ensures.classed made).1) c.quotient.ensures.quotient
+    alike classes (tree r) (λ d l u. c.in_ok-alike.ensures.alike d l (whole d l u)) c.in_ok-classes.ensures.classed made).1) c.quotient.ensures.quotient

@@ -1,6 +1,6 @@
 use Rattle.std.proofs.Common.{◌+◌, ◌⊎◌, ap, arith}
-use Rattle.lois_base.specs.Data.{comps_of}
-use Rattle.lois_base.specs.Tree.{tree, comp_of}
+use Rattle.lois_base.specs.Data.{coll, comps_of}
+use Rattle.lois_base.specs.Tree.{comp_of}
 use Rattle.lois_base.specs.Validity.{AdmitsTerm, AdmitsComp}
 use Rattle.lois_algebra.specs.Gathered.{IsAmong}
 use Rattle.lois_relate.proofs.Parts.{comps_from, comps_are, no_comps_left, is_comp_of}
@@ -23,7 +23,7 @@ partition_comp-requires-clause-operators g c =
 
 pub loop-one-init : goal.loop-one-init
 loop-one-init g c =
-    let t = tree c.args.t.now in
+    let t = coll (comps_of c.args.set.now) in
     let n = c.args.size in
     let items = c.as_slice-one-items.result.now in (
       ones_begin (IsInFirstPart t) (λ o. AdmitsTerm o t) n c.args.items.now items c.new-inside.result c.as_slice-one-items.ensures c.new-inside.ensures,
@@ -33,7 +33,7 @@ loop-one-init g c =
 
 pub loop-one-preserved : goal.loop-one-preserved
 loop-one-preserved g c =
-    let t = tree c.args.t.now in
+    let t = coll (comps_of c.args.set.now) in
     let n = c.args.size in
     let k = c.one-item.result in
     let items = c.as_slice-one-items.result.now in
@@ -47,7 +47,7 @@ loop-one-preserved g c =
 
 pub returns-clause-shared : goal.returns-clause-shared
 returns-clause-shared g c =
-    let t = tree c.args.t.now in
+    let t = coll (comps_of c.args.set.now) in
     let n = c.args.size in
     let items = c.as_slice-one-items.result.now in
     let i = c.loop-one.one-index in
@@ -64,3 +64,6 @@ returns-clause-levels g c = (c.loop-one.invariant.0.levels c.requires.levels tt,
 
 pub returns-clause-operators : goal.returns-clause-operators
 returns-clause-operators g c = λ o a b. (c.loop-one.invariant.0.operators o (a, b) tt, c.loop-one.invariant.1.operators o (a, b) tt)
+
+pub returns-clause-widths : goal.returns-clause-widths
+returns-clause-widths g c = λ u. (c.loop-one.invariant.0.widths u tt, c.loop-one.invariant.1.widths u tt)

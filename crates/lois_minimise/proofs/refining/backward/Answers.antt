@@ -1,16 +1,17 @@
-use Rattle.std.proofs.Common.{ℕ, ap, subst}
-use Rattle.std.proofs.lemmas.Result.{IfOk-weaker}
+use Rattle.std.proofs.Common.{ap, subst}
 use Rattle.lois_base.specs.Data.{coll, comps_of}
 use Rattle.lois_base.specs.Tree.{tree}
 use Rattle.lois_automata.specs.Projections.{AreProjected, AreSideBySide}
 use Rattle.lois_automata.specs.declared.projections.Projection.TheVariants.{Back}
 use Rattle.lois_minimise.proofs.Splits.{are_backward}
-use Rattle.lois_minimise.proofs.distinguishing.backward.Goals as goal
+use Rattle.lois_minimise.proofs.refining.backward.Goals as goal
 
 pub returns-clause-moves : goal.returns-clause-moves
-returns-clause-moves g c =
+returns-clause-moves g c = λ d l.
     let n = c.args.size in
     let steps = coll (comps_of c.args.steps.now) in
     let both = coll (comps_of c.in-Coll.both) in
+    let moves = coll (comps_of c.in-Coll-2.moves) in
     let along : AreSideBySide n steps steps both = subst (λ z. AreSideBySide n steps steps z) (ap tree c.in-Coll.is) c.in_ok-both.ensures.members in
-    IfOk-weaker c.project_steps.result (λ r. (m : ℕ) → AreProjected m Back both (tree r)) _ (λ r shaped d l. are_backward n steps both (tree r) d l along (shaped n)) c.project_steps.ensures.members
+    let shaped : AreProjected n Back both moves = subst (λ z. AreProjected n Back both z) (ap tree c.in-Coll-2.is) (c.in_ok-moves.ensures.members n) in
+    are_backward n steps both moves d l along shaped

@@ -1,0 +1,199 @@
+-- Pairs of states, refined round by round to those that no word tells apart.
+use Rattle.std.proofs.Common.{◌≤◌, List, [], ◌∷◌, length, ◌⊎◌, inl, inr, ◌↔◌, arith}
+use Rattle.lois_base.specs.Atom.{Atom}
+use Rattle.lois_base.specs.Data.{CompD, no_comps, coll, comps_of}
+use Rattle.lois_base.specs.Values.{PointValue, point, IsSame, IsIn}
+use Rattle.lois_base.proofs.Members.{same_refl, same_sym, in_same}
+use Rattle.lois_algebra.proofs.Among.{among_in}
+use Rattle.lois_meaning.specs.Automata.{Automaton, IsAutomatonOf, IsPair, HasStep, AcceptsFrom, IsReachable, IsDeterministic, IsComplete, HaveSameWords}
+use Rattle.lois_meaning.specs.Kinds.{IsSetOf}
+use Rattle.lois_meaning.proofs.Automata.{accepts_from_same, step_same}
+use Rattle.lois_meaning.proofs.Operations.{words_sym, reach_step, pair_exists, pair_both, pair_to}
+use Rattle.lois_automata.specs.Reachability.{LeadsTo}
+use Rattle.lois_automata.proofs.Paths.{machine_refl, letter_in, reached_state}
+use Rattle.lois_minimise.specs.Classes.{AreIndistinguishable, IsSplit, IsAlike, IsPartition, AreSplitPairs, AreBackward}
+
+final_of : (a : Automaton) (q : PointValue) → AcceptsFrom a q [] → IsIn q a.final
+final_of a q (f, is, s) = in_same f q a.final (same_sym q f s) is
+
+-- a letter leads on from states with the same words to states with the same words
+words_after : (a : Automaton) (l p q p' q' : PointValue) → IsDeterministic a → HasStep a p l p' → HasStep a q l q' → HaveSameWords a p q → (word : List PointValue) → AcceptsFrom a p' word → AcceptsFrom a q' word
+words_after a l p q p' q' one sp sq same word (f, is, reads) =
+    let there : AcceptsFrom a q (l ∷ word) = (same (l ∷ word)).0 (f, is, (p', sp, reads)) in
+    let r = there.2.0 in
+    accepts_from_same a a word r q' (machine_refl a) (one.1 q l r q' there.2.1 sq) (there.0, there.1, there.2.2)
+
+same_after : (a : Automaton) (l p q p' q' : PointValue) → IsDeterministic a → HasStep a p l p' → HasStep a q l q' → HaveSameWords a p q → HaveSameWords a p' q'
+same_after a l p q p' q' one sp sq same word = (
+  words_after a l p q p' q' one sp sq same word,
+  words_after a l q p q' p' one sq sp (words_sym a p q same) word,
+)
+
+-- From the pairs that the last round took away not the same words are accepted. The others are pairs of reachable states that are
+-- both final or both not, among them all from which the same words are accepted. A letter leads from them to one of the two.
+pub record AreCompared (a : Automaton) (apart alike : PointValue) : Type 0 where
+  pub differ : (x p q : PointValue) → IsIn x apart → IsPair x p q → HaveSameWords a p q → ⊥
+  pub same : (x p q : PointValue) → IsPair x p q → IsReachable a p → IsReachable a q → HaveSameWords a p q → IsIn x alike
+  pub reached : (x p q : PointValue) → IsIn x alike → IsPair x p q → IsReachable a p × IsReachable a q
+  pub finals : (x p q : PointValue) → IsIn x alike → IsPair x p q → IsAlike a.final p q
+  pub led : (x x' p q l p' q' : PointValue) → IsIn x alike → IsPair x p q → HasStep a p l p' → HasStep a q l q' → IsPair x' p' q' → IsIn x' apart ⊎ IsIn x' alike
+
+-- a list without comprehensions has no members
+pub nothing_in : (ks : List CompD) → length ks ≤ 0 → (c : List Atom) (w : PointValue) → IsIn w (point (coll (comps_of ks)) c) → ⊥
+nothing_in [] l c w i = (among_in no_comps c w).1 i
+nothing_in (k ∷ ks) l c w i = absurd (omega (arith, l))
+
+-- ---- the first pairs
+module _ (a : Automaton) (nodes apart alike : PointValue) (reached : IsSetOf nodes (IsReachable a)) (split : AreSplitPairs nodes a.final apart alike) where
+  in_nodes : (p p' : PointValue) → IsSame p p' → IsIn p nodes → IsReachable a p'
+  in_nodes p p' s i = (reached.1 p').0 (in_same p p' nodes s i)
+
+  final_same : (p p' : PointValue) → IsSame p p' → IsIn p a.final → IsIn p' a.final
+  final_same p p' s i = in_same p p' a.final s i
+
+  split_same : (p q p' q' : PointValue) → IsSame p p' → IsSame q q' → IsSplit a.final p q → IsSplit a.final p' q'
+  split_same p q p' q' s t h = elim h [
+    | inl k ↦ inl (final_same p p' s k.0, λ i. k.1 (final_same q' q (same_sym q q' t) i))
+    | inr k ↦ inr (final_same q q' t k.0, λ i. k.1 (final_same p' p (same_sym p p' s) i))
+  ]
+
+  alike_same : (p q p' q' : PointValue) → IsSame p p' → IsSame q q' → IsAlike a.final p q → IsAlike a.final p' q'
+  alike_same p q p' q' s t h = elim h [
+    | inl k ↦ inl (final_same p p' s k.0, final_same q q' t k.1)
+    | inr k ↦ inr (λ i. k.0 (final_same p' p (same_sym p p' s) i), λ i. k.1 (final_same q' q (same_sym q q' t) i))
+  ]
+
+  alike_parts : (x p q : PointValue) → IsIn x alike → IsPair x p q → IsReachable a p × IsReachable a q × IsAlike a.final p q
+  alike_parts x p q i pair =
+      let f = (split.within x).0 i in
+      let both : IsSame f.0 p × IsSame f.1 q = pair_both x x f.0 f.1 p q (same_refl x) f.5 pair in
+      (in_nodes f.0 p both.0 f.2, in_nodes f.1 q both.1 f.3, alike_same f.0 f.1 p q both.0 both.1 f.4)
+
+  apart_parts : (x p q : PointValue) → IsIn x apart → IsPair x p q → IsSplit a.final p q
+  apart_parts x p q i pair =
+      let f = (split.across x).0 i in
+      let both : IsSame f.0 p × IsSame f.1 q = pair_both x x f.0 f.1 p q (same_refl x) f.5 pair in
+      split_same f.0 f.1 p q both.0 both.1 f.4
+
+  -- whether both are final can be told
+  sorted : (p q : PointValue) → IsReachable a p → IsReachable a q → IsSplit a.final p q ⊎ IsAlike a.final p q
+  sorted p q rp rq = elim (split.decided p ((reached.1 p).1 rp)) [
+    | inl f ↦ elim (split.decided q ((reached.1 q).1 rq)) [
+      | inl k ↦ inr (inl (f, k))
+      | inr k ↦ inl (inl (f, k))
+    ]
+    | inr f ↦ elim (split.decided q ((reached.1 q).1 rq)) [
+      | inl k ↦ inl (inr (k, f))
+      | inr k ↦ inr (inr (f, k))
+    ]
+  ]
+
+  split_differ : (p q : PointValue) → IsSplit a.final p q → HaveSameWords a p q → ⊥
+  split_differ p q h same = elim h [
+    | inl s ↦ s.1 (final_of a q ((same []).0 (p, s.0, same_refl p)))
+    | inr s ↦ s.1 (final_of a p ((same []).1 (q, s.0, same_refl q)))
+  ]
+
+  placed : (x p q : PointValue) → IsPair x p q → IsReachable a p → IsReachable a q → IsIn x apart ⊎ IsIn x alike
+  placed x p q pair rp rq = elim (sorted p q rp rq) [
+    | inl h ↦ inl ((split.across x).1 (p, q, (reached.1 p).1 rp, (reached.1 q).1 rq, h, pair))
+    | inr h ↦ inr ((split.within x).1 (p, q, (reached.1 p).1 rp, (reached.1 q).1 rq, h, pair))
+  ]
+
+  pub first_compared : AreCompared a apart alike
+  first_compared = record {
+    differ = λ x p q i pair same. split_differ p q (apart_parts x p q i pair) same;
+    same = λ x p q pair rp rq same. elim (placed x p q pair rp rq) [
+      | inl i ↦ absurd (split_differ p q (apart_parts x p q i pair) same)
+      | inr i ↦ i
+    ];
+    reached = λ x p q i pair. let h = alike_parts x p q i pair in (h.0, h.1);
+    finals = λ x p q i pair. (alike_parts x p q i pair).2;
+    led = λ x x' p q l p' q' i pair sp sq pair'.
+        let h = alike_parts x p q i pair in
+        placed x' p' q' pair' (reach_step a p l p' h.0 sp) (reach_step a q l q' h.1 sq);
+  }
+
+-- ---- one round
+module _ (a : Automaton) (moves apart alike told apart' alike' : PointValue) (one : IsDeterministic a) (back : AreBackward a.steps moves) (targets : (w : PointValue) → IsIn w told ↔ ((p : PointValue) × IsIn p apart × LeadsTo moves p w)) (parted : IsPartition alike told apart' alike') (before : AreCompared a apart alike) where
+  -- one move back
+  move_back : (x' x p q : PointValue) → IsPair x p q → LeadsTo moves x' x → (l p' q' : PointValue) × HasStep a p l p' × HasStep a q l q' × IsPair x' p' q'
+  move_back x' x p q pair (y, i, lead) =
+      let f = (back y).0 i in
+      go f.0 f.1 f.2 f.3 f.4 f.5 f.6 f.7 f.8 f.9 f.10 f.11
+    where
+      go : (x0 x1 p0 l q0 p1 q1 : PointValue) → HasStep a p0 l p1 → HasStep a q0 l q1 → IsPair x1 p1 q1 → IsPair x0 p0 q0 → IsPair y x1 x0 →
+          (l p' q' : PointValue) × HasStep a p l p' × HasStep a q l q' × IsPair x' p' q'
+      go x0 x1 p0 l q0 p1 q1 sp sq to from both =
+          let ends : IsSame x1 x' × IsSame x0 x = pair_both y y x1 x0 x' x (same_refl y) both lead in
+          let parts : IsSame p0 p × IsSame q0 q = pair_both x0 x p0 q0 p q ends.1 from pair in (
+            l,
+            p1,
+            q1,
+            step_same a a p0 l p1 p l p1 (machine_refl a) parts.0 (same_refl l) (same_refl p1) sp,
+            step_same a a q0 l q1 q l q1 (machine_refl a) parts.1 (same_refl l) (same_refl q1) sq,
+            pair_to x1 x' p1 q1 ends.0 to,
+          )
+
+  now_differ : (x p q : PointValue) → IsIn x apart' → IsPair x p q → HaveSameWords a p q → ⊥
+  now_differ x p q i pair same =
+      let t = (targets x).0 ((parted.inner x).0 i).1 in
+      let m : (l p' q' : PointValue) × HasStep a p l p' × HasStep a q l q' × IsPair t.0 p' q' = move_back t.0 x p q pair t.2 in
+      before.differ t.0 m.1 m.2 t.1 m.5 (same_after a m.0 p q m.1 m.2 one m.3 m.4 same)
+
+  leads_back : (x x' p q l p' q' : PointValue) → IsPair x p q → HasStep a p l p' → HasStep a q l q' → IsPair x' p' q' → LeadsTo moves x' x
+  leads_back x x' p q l p' q' pair sp sq pair' =
+      let y : (y : PointValue) × IsPair y x' x = pair_exists x' x in
+      (y.0, (back y.0).1 (x, x', p, l, q, p', q', sp, sq, pair', pair, y.1), y.1)
+
+  pub next_compared : AreCompared a apart' alike'
+  next_compared = record {
+    differ = now_differ;
+    same = λ x p q pair rp rq same. elim (parted.each x (before.same x p q pair rp rq same)) [
+      | inl i ↦ absurd (now_differ x p q i pair same)
+      | inr i ↦ i
+    ];
+    reached = λ x p q i pair. before.reached x p q ((parted.outer x).0 i).0 pair;
+    finals = λ x p q i pair. before.finals x p q ((parted.outer x).0 i).0 pair;
+    led = λ x x' p q l p' q' i pair sp sq pair'.
+        let h = (parted.outer x).0 i in
+        elim (before.led x x' p q l p' q' h.0 pair sp sq pair') [
+          | inl k ↦ absurd (h.1 ((targets x).1 (x', k, leads_back x x' p q l p' q' pair sp sq pair')))
+          | inr k ↦ parted.each x' k
+        ];
+  }
+
+-- ---- where no pair was taken away
+module _ (v : PointValue) (a : Automaton) (is : IsAutomatonOf v a) (whole : IsComplete a) (apart alike : PointValue) (none : (x : PointValue) → IsIn x apart → ⊥) (compared : AreCompared a apart alike) where
+  leads_on : (x x' p q l p' q' : PointValue) → IsIn x alike → IsPair x p q → HasStep a p l p' → HasStep a q l q' → IsPair x' p' q' → IsIn x' alike
+  leads_on x x' p q l p' q' i pair sp sq pair' = elim (compared.led x x' p q l p' q' i pair sp sq pair') [
+    | inl k ↦ absurd (none x' k)
+    | inr k ↦ k
+  ]
+
+  words_both : (word : List PointValue) (x p q : PointValue) → IsIn x alike → IsPair x p q → (AcceptsFrom a p word → AcceptsFrom a q word) × (AcceptsFrom a q word → AcceptsFrom a p word)
+  words_both [] x p q i pair = elim (compared.finals x p q i pair) [
+    | inl h ↦ (λ _. (q, h.1, same_refl q), λ _. (p, h.0, same_refl p))
+    | inr h ↦ (λ k. absurd (h.0 (final_of a p k)), λ k. absurd (h.1 (final_of a q k)))
+  ]
+  words_both (l ∷ word) x p q i pair = (there (λ x' p' q'. words_both word x' p' q'), back (λ x' p' q'. words_both word x' p' q'))
+    where
+      there : ((x' p' q' : PointValue) → IsIn x' alike → IsPair x' p' q' → (AcceptsFrom a p' word → AcceptsFrom a q' word) × (AcceptsFrom a q' word → AcceptsFrom a p' word)) → AcceptsFrom a p (l ∷ word) → AcceptsFrom a q (l ∷ word)
+      there before (f, k, (p', sp, rest)) =
+          let step : (q' : PointValue) × HasStep a q l q' = whole q l (reached_state v a is q (compared.reached x p q i pair).1) (letter_in v a is p l p' sp) in
+          let x' : (x' : PointValue) × IsPair x' p' step.0 = pair_exists p' step.0 in
+          let later : AcceptsFrom a step.0 word = (before x'.0 p' step.0 (leads_on x x'.0 p q l p' step.0 i pair sp step.1 x'.1) x'.1).0 (f, k, rest) in
+          (later.0, later.1, (step.0, step.1, later.2))
+
+      back : ((x' p' q' : PointValue) → IsIn x' alike → IsPair x' p' q' → (AcceptsFrom a p' word → AcceptsFrom a q' word) × (AcceptsFrom a q' word → AcceptsFrom a p' word)) → AcceptsFrom a q (l ∷ word) → AcceptsFrom a p (l ∷ word)
+      back before (f, k, (q', sq, rest)) =
+          let step : (p' : PointValue) × HasStep a p l p' = whole p l (reached_state v a is p (compared.reached x p q i pair).0) (letter_in v a is q l q' sq) in
+          let x' : (x' : PointValue) × IsPair x' step.0 q' = pair_exists step.0 q' in
+          let later : AcceptsFrom a step.0 word = (before x'.0 step.0 q' (leads_on x x'.0 p q l step.0 q' i pair step.1 sq x'.1) x'.1).1 (f, k, rest) in
+          (later.0, later.1, (step.0, step.1, later.2))
+
+  pub indistinguishable : AreIndistinguishable a alike
+  indistinguishable p q = (
+    λ h. let r = compared.reached h.0 p q h.1 h.2 in (r.0, r.1, λ word. words_both word h.0 p q h.1 h.2),
+    λ h. let x : (x : PointValue) × IsPair x p q = pair_exists p q in (x.0, compared.same x.0 p q x.1 h.0 h.1 h.2, x.1),
+  )
