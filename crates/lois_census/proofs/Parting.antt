@@ -3,7 +3,7 @@ use Rattle.std.proofs.Common.{◌≡◌, ℕ, ◌+◌, ◌<◌, Bool, true, fals
 use Rattle.std.proofs.lemmas.Bool.{false≢true}
 use Rattle.std.proofs.lemmas.List.{take_more}
 use Rattle.std.proofs.lemmas.List.Elements.{All-nil, All-cons, All-append}
-use Rattle.std.specs.Bool.{IsTrue, IsFalse}
+use Rattle.std.specs.Bool.{IsTrue}
 use Rattle.std.specs.List.{All}
 use Rattle.lois_base.specs.Atom.{Atom}
 use Rattle.lois_base.specs.Truth.{lit_holds, cube_holds, holds}
@@ -104,13 +104,6 @@ last_cube e g k = holds_append e g (k ∷ []) ∙ ap (λ b. holds e g || b) (alo
     alone true = refl
     alone false = refl
 
-pub left_parts : (p c o r : Bool) → r ≡ (p || (c && not o)) → IsLeftOf o (p || c) r
-left_parts true c o r is = record { within = λ h. refl; gone = λ h f. absurd (false≢true (sym f ∙ is)) }
-left_parts false true true r is = record { within = λ h. refl; gone = λ h f. refl }
-left_parts false true false r is =
-    record { within = λ h. refl; gone = λ h f. absurd (false≢true (sym f ∙ is)) }
-left_parts false false o r is = record { within = λ h. sym is ∙ h; gone = λ h f. absurd (false≢true h) }
-
 -- one more cube c
 pub left_then : (o p l c r : Bool) → IsLeftOf o p l → IsLeftOf o (l || c) r → IsLeftOf o (p || c) r
 left_then o p l true r one two = record { within = λ h. ends p; gone = λ h f. two.gone (ends l) f }
@@ -123,18 +116,6 @@ left_then o true false false r one two = record { within = λ h. refl; gone = λ
 left_then o false true false r one two = record { within = λ h. one.within refl; gone = λ h f. absurd (false≢true h) }
 left_then o false false false r one two =
     record { within = λ h. two.within h; gone = λ h f. absurd (false≢true h) }
-
--- nothing is left at a choice where the other cube holds
-pub parts_gone : (p c o r : Bool) → r ≡ (p || (c && not o)) → IsTrue o → IsFalse p → IsFalse r
-parts_gone true c o r is h f = absurd (false≢true (sym f))
-parts_gone false true true r is h f = is
-parts_gone false true false r is h f = absurd (false≢true h)
-parts_gone false false o r is h f = is
-
-pub whole_gone : (p c r : Bool) → r ≡ (p || c) → IsFalse c → IsFalse p → IsFalse r
-whole_gone true c r is h f = absurd (false≢true (sym f))
-whole_gone false true r is h f = absurd (false≢true (sym h))
-whole_gone false false r is h f = is
 
 -- what a cube of a constraint takes, the constraint takes
 pub left_wider : (o t p r : Bool) → (IsTrue o → IsTrue t) → IsLeftOf o p r → IsLeftOf t p r
