@@ -103,7 +103,7 @@ for registers in 2 4; do
   ring 64 "$registers" 64 | "$lois" registers >"$work/text"
   timed "a ring of 64 states with $registers registers against itself" equal automaton automaton
 done
-for count in 3 4 5; do
+for count in 3 4 5 6; do
   tuples "$count" | "$lois" run >"$work/text"
   timed "tuples of $count atoms over an order" census s
 done

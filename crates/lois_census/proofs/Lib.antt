@@ -1,8 +1,9 @@
 pub mod Standing
 pub mod AlikeFormulas
 pub mod InOrbits
-pub mod Lefts
-pub mod Measures
 pub mod Lists
+pub mod Measures
+pub mod Lefts
+pub mod Parting
 pub mod TheCensus
 pub mod Numbering

@@ -1,5 +1,5 @@
 -- Items in orbits, and what private contracts say of comprehensions: what is taken from one, what is left of it.
-use Rattle.std.specs.Prelude.{◌≡◌, ℕ, Bool, List, [], ◌++◌, length, IsTrue, IsFalse, ◌↔◌}
+use Rattle.std.specs.Prelude.{◌≡◌, ◌⊎◌, ℕ, Bool, List, [], ◌++◌, length, IsTrue, IsFalse, ◌↔◌}
 use Rattle.std.specs.List.{All, Any}
 use Rattle.lois_base.specs.Atom.{Atom}
 use Rattle.lois_base.specs.Data.{TermD, CompD, comp}
@@ -9,7 +9,7 @@ use Rattle.lois_base.specs.Values.{point, IsExtension}
 use Rattle.lois_base.specs.declared.guards.Lit.{Lit}
 use Rattle.lois_deciders.specs.Satisfaction.{IsConstraintSample}
 use Rattle.lois_census.specs.OrbitData.{OrbitD}
-use Rattle.lois_census.specs.Orbits.{IsInOrbit, IsOutside, IsInListedOrbit, FitsSample}
+use Rattle.lois_census.specs.Orbits.{IsInOrbit, IsInListedOrbit, FitsSample}
 
 -- the orbit of an item of the comprehension, at numbers at which its guard holds
 abbrev pub IsTakenFrom : CompD → OrbitD → Type 0
@@ -38,14 +38,22 @@ abbrev pub HoldsWhereInOrbit : Bool → ℕ → TermD → OrbitD → List (List 
 HoldsWhereInOrbit ordered n t o r =
     (e : List Atom) → length e ≡ n → IsTrue (holds e r) ↔ IsInOrbit ordered (point t e) o
 
--- at each choice of n atoms r holds exactly where the constraint u does and the term's value is outside of the orbit
-pub record IsWithoutOrbit (ordered : Bool) (n : ℕ) (t : TermD) (o : OrbitD) (u r : List (List Lit)) : Type 0 where
-  pub within : (e : List Atom) → length e ≡ n → IsTrue (holds e r) → IsTrue (holds e u)
-  pub outside : (e : List Atom) → length e ≡ n → IsTrue (holds e r) → IsOutside ordered (point t e) o
-  pub taken : (e : List Atom) → length e ≡ n → IsTrue (holds e u) → IsFalse (holds e r) → IsInOrbit ordered (point t e) o
+-- at each choice of n atoms the constraint holds exactly where the term's value is in one of the orbits
+abbrev pub HoldsWhereListed : Bool → ℕ → TermD → List OrbitD → List (List Lit) → Type 0
+HoldsWhereListed ordered n t os r =
+    (e : List Atom) → length e ≡ n → IsTrue (holds e r) ↔ IsInListedOrbit ordered os (point t e)
 
--- at each choice of n atoms r holds exactly where the guard does and the term's value is outside of all the orbits
+-- at each choice of n atoms r holds exactly where the constraint u does or the term's value is in the orbit
+abbrev pub HoldsOrInOrbit : Bool → ℕ → TermD → OrbitD → List (List Lit) → List (List Lit) → Type 0
+HoldsOrInOrbit ordered n t o u r =
+    (e : List Atom) → length e ≡ n → IsTrue (holds e r) ↔ (IsTrue (holds e u) ⊎ IsInOrbit ordered (point t e) o)
+
+-- what is left holds only where there was something, and what isn't left was taken
+pub record IsLeftOf (taken before left : Bool) : Type 0 where
+  pub within : IsTrue left → IsTrue before
+  pub gone : IsTrue before → IsFalse left → IsTrue taken
+
+-- at each choice of n atoms at which r doesn't hold and the guard does, the term's value is in one of the orbits
 pub record IsRemainder (ordered : Bool) (n : ℕ) (g : List (List Lit)) (t : TermD) (os : List OrbitD) (r : List (List Lit)) : Type 0 where
   pub within : (e : List Atom) → length e ≡ n → IsTrue (holds e r) → IsTrue (holds e g)
-  pub outside : (e : List Atom) → length e ≡ n → IsTrue (holds e r) → All (IsOutside ordered (point t e)) os
   pub taken : (e : List Atom) → length e ≡ n → IsTrue (holds e g) → IsFalse (holds e r) → IsInListedOrbit ordered os (point t e)

@@ -20,9 +20,6 @@ value_of o = point o.item (sampled o.sample)
 abbrev pub IsInOrbit : Bool → PointValue → OrbitD → Type 0
 IsInOrbit ordered v o = IsInOrbitOf ordered v (value_of o)
 
-abbrev pub IsOutside : Bool → PointValue → OrbitD → Type 0
-IsOutside ordered v o = IsInOrbit ordered v o → ⊥
-
 -- the value is in one of the orbits
 abbrev pub IsInListedOrbit : Bool → List OrbitD → PointValue → Type 0
 IsInListedOrbit ordered os v = Any (IsInOrbit ordered v) os

@@ -5,13 +5,14 @@ ghost use Rattle.lois_base.specs.Fits.{ConstraintFits, Fits, CompFits};
 ghost use Rattle.lois_base.specs.Tree.{tree, comp_of};
 ghost use Rattle.lois_base.specs.Validity.{AdmitsConstraint, AdmitsTerm, AdmitsComp};
 ghost use Rattle.lois_terms.specs.Shifted.{IsShifted};
-ghost use Rattle.lois_census.specs.Left.{HoldsWhereInOrbit, IsUsable, IsWithoutOrbit};
+ghost use Rattle.lois_census.specs.Left.{HoldsWhereInOrbit, HoldsOrInOrbit, IsUsable};
 ghost use Rattle.lois_census.specs.OrbitView.{orbit_of};
 
 use crate::alike::alike;
+use crate::cells::append;
 use crate::orbits::Orbit;
 use lois_base::{Comp, Constraint, NoMemory, Structure, Term};
-use lois_constraint::{and_not, normalise};
+use lois_constraint::normalise;
 use lois_elim::quantifier_free;
 use lois_relate::building::{conjunction, for_some};
 use lois_relate::{clash, equal_formula};
@@ -74,44 +75,46 @@ pub fn in_orbit<T: Structure>(
     normalise(alloc, &inside)
 }
 
-/// Where `left` holds and the item of the comprehension isn't in the orbit.
-pub(crate) fn without<T: Structure>(
+/// Where `taken` holds or the item of the comprehension is in the orbit.
+pub(crate) fn or_in_orbit<T: Structure>(
     alloc: Global,
-    left: &Constraint,
+    taken: Constraint,
     comp: &Comp,
     orbit: &Orbit,
 ) -> Result<Constraint, NoMemory>
-    requires left { ConstraintFits comp.now.binders left.now }
-    requires left_operators { AdmitsConstraint T.ordered left.now }
+    requires taken { ConstraintFits comp.now.binders taken }
+    requires taken_operators { AdmitsConstraint T.ordered taken }
     requires levels { CompFits 0 (comp_of comp.now) }
     requires operators { AdmitsComp T.ordered (comp_of comp.now) }
     requires orbit { IsUsable T.ordered (orbit_of orbit.now) }
-    ensures truth { IfOk result (IsWithoutOrbit T.ordered comp.now.binders (tree comp.now.item) (orbit_of orbit.now) left.now) }
+    ensures truth { IfOk result (HoldsOrInOrbit T.ordered comp.now.binders (tree comp.now.item) (orbit_of orbit.now) taken) }
     ensures fits { IfOk result (ConstraintFits comp.now.binders) }
     ensures operators { IfOk result (AdmitsConstraint T.ordered) }
 {
     let inside = in_orbit::<T>(alloc, &comp.item, comp.binders, orbit)?;
-    and_not(alloc, left, &inside)
+    let mut either = taken;
+    append(&mut either, inside)?;
+    Ok(either)
 }
 
 /// The same of an orbit that is listed already, which few items can be in: tags and lengths of tuples rule most out.
-pub(crate) fn without_listed<T: Structure>(
+pub(crate) fn or_in_listed<T: Structure>(
     alloc: Global,
-    left: Constraint,
+    taken: Constraint,
     comp: &Comp,
     orbit: &Orbit,
 ) -> Result<Constraint, NoMemory>
-    requires left { ConstraintFits comp.now.binders left }
-    requires left_operators { AdmitsConstraint T.ordered left }
+    requires taken { ConstraintFits comp.now.binders taken }
+    requires taken_operators { AdmitsConstraint T.ordered taken }
     requires levels { CompFits 0 (comp_of comp.now) }
     requires operators { AdmitsComp T.ordered (comp_of comp.now) }
     requires orbit { IsUsable T.ordered (orbit_of orbit.now) }
-    ensures truth { IfOk result (IsWithoutOrbit T.ordered comp.now.binders (tree comp.now.item) (orbit_of orbit.now) left) }
+    ensures truth { IfOk result (HoldsOrInOrbit T.ordered comp.now.binders (tree comp.now.item) (orbit_of orbit.now) taken) }
     ensures fits { IfOk result (ConstraintFits comp.now.binders) }
     ensures operators { IfOk result (AdmitsConstraint T.ordered) }
 {
     if clash(&comp.item, &orbit.item) {
-        return Ok(left);
+        return Ok(taken);
     }
-    without::<T>(alloc, &left, comp, orbit)
+    or_in_orbit::<T>(alloc, taken, comp, orbit)
 }

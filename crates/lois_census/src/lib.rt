@@ -3,6 +3,7 @@
 
 mod alike;
 mod answering;
+mod cells;
 mod counting;
 mod inside;
 mod listing;

@@ -1,20 +1,24 @@
 //! The orbits of a set.
 
-ghost use Rattle.std.specs.Prelude.{Bool, [], IfOk, OnOk};
+ghost use Rattle.std.specs.Prelude.{Bool, [], IfOk, OnOk, IsTrue};
 ghost use Rattle.std.specs.List.{All, AllPairs};
 ghost use Rattle.lois_base.specs.Data.{comps_of};
 ghost use Rattle.lois_base.specs.Fits.{ConstraintFits, Fits, CompFits, ItemsFit};
 ghost use Rattle.lois_base.specs.Tree.{tree, comp_of};
+ghost use Rattle.lois_base.specs.Truth.{holds, sampled};
 ghost use Rattle.lois_base.specs.Validity.{AdmitsConstraint, AdmitsTerm, AdmitsComp, AdmitsItems, HasBoundedWidths};
 ghost use Rattle.lois_base.specs.Values.{PointValue, point, IsMember, IsIn};
 ghost use Rattle.lois_terms.specs.Guarded.{IsColl};
 ghost use Rattle.lois_deciders.specs.OnlyAsked.{HasOnlyAsked};
-ghost use Rattle.lois_census.specs.Left.{IsTakenFrom, IsTakenFromSome, IsCoveredByOrbits, AddsOnly, IsUsable, IsRemainder};
+ghost use Rattle.lois_deciders.specs.Satisfaction.{IsConstraintSample};
+ghost use Rattle.lois_census.specs.Left.{IsTakenFrom, IsTakenFromSome, IsCoveredByOrbits, AddsOnly, IsUsable, HoldsWhereListed};
 ghost use Rattle.lois_census.specs.Orbits.{value_of, IsInListedOrbit, AreDisjointOrbits, FitsSample};
 
-use crate::inside::{without, without_listed};
+use crate::cells::without_cube_at;
+use crate::inside::{or_in_listed, or_in_orbit};
 use crate::orbits::{Orbit, Orbits};
 use lois_base::{Comp, Comps, Constraint, Decider, NoMemory, Numbers, Structure, Term};
+use lois_constraint::prune;
 use lois_deciders::Chosen;
 use std::alloc::Global;
 
@@ -84,20 +88,18 @@ fn add_orbits<T: Structure>(
     ensures apart { OnOk result (AllPairs (AreDisjointOrbits T.ordered) orbits.new) }
     ensures only_asked { HasOnlyAsked (λ b. (⟦<dyn Decider as Decider>⟧ b.vtable).kind_of b.value) (λ b. (⟦<dyn Decider as Decider>⟧ b.vtable).questions b.value) chosen.old chosen.new }
 {
-    let mut left = not_listed::<T>(alloc, comp, orbits)?;
-    'orbits: while let Some(sample) = chosen.ask(alloc, &left, comp.binders)? {
-        let orbit = Orbit {
-            item: comp.item.copy(alloc)?,
-            sample: Numbers::from_vec(sample),
-        };
-        left = without::<T>(alloc, &left, comp, &orbit)?;
-        orbits.push(orbit)?;
+    let mut taken = in_listed::<T>(alloc, comp, orbits)?;
+    let mut left = prune(alloc, &comp.guard)?;
+    'samples: while let Some(found) = chosen.ask(alloc, &left, comp.binders)? {
+        let sample = Numbers::from_vec(found);
+        taken = list_sample::<T>(alloc, comp, &sample, taken, orbits)?;
+        left = without_cube_at(alloc, left, &taken, sample.as_slice())?;
     }
     Ok(())
 }
 
-// Where the guard holds and the item isn't in a listed orbit.
-fn not_listed<T: Structure>(
+// Where the item of the comprehension is in a listed orbit.
+fn in_listed<T: Structure>(
     alloc: Global,
     comp: &Comp,
     orbits: &Orbits,
@@ -105,13 +107,47 @@ fn not_listed<T: Structure>(
     requires levels { CompFits 0 (comp_of comp.now) }
     requires operators { AdmitsComp T.ordered (comp_of comp.now) }
     requires usable { All (IsUsable T.ordered) orbits.now }
-    ensures truth { IfOk result (IsRemainder T.ordered comp.now.binders comp.now.guard (tree comp.now.item) orbits.now) }
+    ensures truth { IfOk result (HoldsWhereListed T.ordered comp.now.binders (tree comp.now.item) orbits.now) }
     ensures fits { IfOk result (ConstraintFits comp.now.binders) }
     ensures operators { IfOk result (AdmitsConstraint T.ordered) }
 {
-    let mut left = comp.guard.copy(alloc)?;
+    let mut taken = Constraint::new(alloc);
     for orbit in orbits.as_slice() {
-        left = without_listed::<T>(alloc, left, comp, orbit)?;
+        taken = or_in_listed::<T>(alloc, taken, comp, orbit)?;
     }
-    Ok(left)
+    Ok(taken)
+}
+
+// Lists the item at the sample unless its orbit is listed, and gives where the item is in a listed orbit now.
+fn list_sample<T: Structure>(
+    alloc: Global,
+    comp: &Comp,
+    sample: &Numbers,
+    taken: Constraint,
+    orbits: &mut Orbits,
+) -> Result<Constraint, NoMemory>
+    requires levels { CompFits 0 (comp_of comp.now) }
+    requires operators { AdmitsComp T.ordered (comp_of comp.now) }
+    requires sample { IsConstraintSample comp.now.binders comp.now.guard sample.now }
+    requires taken { HoldsWhereListed T.ordered comp.now.binders (tree comp.now.item) orbits.old taken }
+    requires taken_fits { ConstraintFits comp.now.binders taken }
+    requires taken_operators { AdmitsConstraint T.ordered taken }
+    requires apart { AllPairs (AreDisjointOrbits T.ordered) orbits.old }
+    ensures truth { IfOk result (HoldsWhereListed T.ordered comp.now.binders (tree comp.now.item) orbits.new) }
+    ensures holds { IfOk result (λ r. IsTrue (holds (sampled sample.now) r)) }
+    ensures fits { IfOk result (ConstraintFits comp.now.binders) }
+    ensures operators { IfOk result (AdmitsConstraint T.ordered) }
+    ensures added { OnOk result (AddsOnly (IsTakenFrom (comp_of comp.now)) orbits.old orbits.new) }
+    ensures apart { OnOk result (AllPairs (AreDisjointOrbits T.ordered) orbits.new) }
+{
+    if taken.at(sample.as_slice()) {
+        return Ok(taken);
+    }
+    let orbit = Orbit {
+        item: comp.item.copy(alloc)?,
+        sample: sample.copy(alloc)?,
+    };
+    let more = or_in_orbit::<T>(alloc, taken, comp, &orbit)?;
+    orbits.push(orbit)?;
+    Ok(more)
 }

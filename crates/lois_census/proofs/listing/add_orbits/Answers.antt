@@ -1,63 +1,96 @@
-use Rattle.std.proofs.Common.{◌≡◌, ◌∷◌, [], ◌++◌, sym, ap, ◌∙◌, subst}
+use Rattle.std.proofs.Common.{◌≡◌, length, zero-add, sym, ap, ◌∙◌, subst}
 use Rattle.std.proofs.lemmas.List.{length-map}
-use Rattle.std.specs.List.{AllPairs}
+use Rattle.std.specs.Bool.{IsTrue, IsFalse}
 use Rattle.lois_base.specs.Atom.{whole}
+use Rattle.lois_base.specs.Fits.{ConstraintFits}
 use Rattle.lois_base.specs.Tree.{tree, comp_of}
-use Rattle.lois_base.specs.Truth.{sampled}
+use Rattle.lois_base.specs.Truth.{holds, sampled}
 use Rattle.lois_deciders.proofs.Oracle.{some_is, none_is}
 use Rattle.lois_deciders.proofs.OnlyAsked.{only_asked_nothing, only_asked_then}
 use Rattle.lois_deciders.specs.Satisfaction.{IsConstraintSample}
-use Rattle.lois_census.specs.Left.{IsTakenFrom, IsWithoutOrbit, IsRemainder}
-use Rattle.lois_census.specs.OrbitData.{OrbitD}
-use Rattle.lois_census.specs.Orbits.{AreDisjointOrbits}
-use Rattle.lois_census.proofs.Lefts.{left_more, covered, apart_from, pairs_more}
-use Rattle.lois_census.proofs.Lists.{adds_nothing, adds_one}
+use Rattle.lois_census.specs.Left.{IsTakenFrom, AddsOnly}
+use Rattle.lois_census.proofs.Lefts.{left_begin, left_more, covered}
+use Rattle.lois_census.proofs.Lists.{adds_nothing, adds_then}
 use Rattle.lois_census.proofs.Measures.{fewer}
 use Rattle.lois_census.proofs.listing.add_orbits.Goals as goal
 
-pub orbits-init : goal.orbits-init
-orbits-init g c = record {
-  left = c.in_ok-left.ensures.truth;
-  fits = c.in_ok-left.ensures.fits;
-  operators = c.in_ok-left.ensures.operators;
-  added = adds_nothing (IsTakenFrom (comp_of c.args.comp.now)) c.args.orbits.now;
-  apart = c.requires.apart;
-  only_asked = only_asked_nothing (λ b. (goal.Decider-dyn g (b.vtable, b.value)).kind_of b.value) (λ b. (goal.Decider-dyn g (b.vtable, b.value)).questions b.value) c.args.chosen.now;
-}
-
-pub orbits-smaller : goal.orbits-smaller
-orbits-smaller g c =
-    let n = c.args.comp.now.binders in
-    let u = c.orbits.left in
-    let o : OrbitD = record { item = tree c.in_ok-copy.field-0; sample = c.from_vec.result } in
-    let meets : IsConstraintSample n u o.sample = subst (IsConstraintSample n u) (sym c.from_vec.ensures) (some_is (λ s. IsConstraintSample n u s.items) c.in_ok-sample.field-0 c.in-Some.sample c.in-Some.is c.in_ok-sample.ensures.sample) in
-    let less : IsWithoutOrbit g.T.Structure.ordered n o.item o u c.in_ok-left-2.left = subst (λ t. IsWithoutOrbit g.T.Structure.ordered n t o u c.in_ok-left-2.left) (sym (ap tree c.in_ok-copy.ensures)) c.in_ok-left-2.ensures.truth in
-    fewer g.T.Structure.ordered n o u c.in_ok-left-2.left less meets
-
-pub orbits-preserved : goal.orbits-preserved
-orbits-preserved g c =
+pub samples-init : goal.samples-init
+samples-init g c =
     let k = c.args.comp.now in
-    let n = k.binders in
-    let u = c.orbits.left in
-    let os = c.orbits.orbits in
-    let kept = c.orbits.invariant in
-    let o : OrbitD = record { item = tree c.in_ok-copy.field-0; sample = c.from_vec.result } in
-    let meets : IsConstraintSample n u o.sample = subst (IsConstraintSample n u) (sym c.from_vec.ensures) (some_is (λ s. IsConstraintSample n u s.items) c.in_ok-sample.field-0 c.in-Some.sample c.in-Some.is c.in_ok-sample.ensures.sample) in
-    let item : o.item ≡ tree k.item = ap tree c.in_ok-copy.ensures in
-    let appended : c.push.new.self ≡ os ++ o ∷ [] = c.in_ok-push.ensures.appended in
     record {
-      left =
-          subst (λ z. IsRemainder g.T.Structure.ordered n k.guard (tree k.item) z c.in_ok-left-2.left) (sym appended) (left_more g.T.Structure.ordered n (tree k.item) k.guard os o u c.in_ok-left-2.left kept.left c.in_ok-left-2.ensures.truth);
-      fits = c.in_ok-left-2.ensures.fits;
-      operators = c.in_ok-left-2.ensures.operators;
-      added =
-          adds_one (IsTakenFrom (comp_of k)) c.args.orbits.now os c.push.new.self o kept.added (item, (meets.0, kept.left.within (sampled o.sample) (length-map o.sample whole ∙ meets.0.count) meets.1)) appended;
-      apart =
-          subst (AllPairs (AreDisjointOrbits g.T.Structure.ordered)) (sym appended) (pairs_more g.T.Structure.ordered os o kept.apart (apart_from g.T.Structure.ordered n (tree k.item) k.guard os u kept.left kept.fits kept.operators o item meets));
-      only_asked = only_asked_then (λ b. (goal.Decider-dyn g (b.vtable, b.value)).kind_of b.value) (λ b. (goal.Decider-dyn g (b.vtable, b.value)).questions b.value) c.args.chosen.now c.orbits.chosen c.ask.new.self kept.only_asked c.ask.ensures.only_asked;
+      left = left_begin g.T.Structure.ordered k.binders (tree k.item) k.guard c.args.orbits.now c.in_ok-left.left c.in_ok-left.ensures.truth;
+      fits = c.in_ok-left.ensures.fits k.binders (subst (λ z. ConstraintFits z k.guard) (zero-add k.binders) c.requires.levels.1);
+      operators = c.in_ok-left.ensures.operators g.T.Structure.ordered c.requires.operators.0;
+      added = adds_nothing (IsTakenFrom (comp_of k)) c.args.orbits.now;
+      listed = c.in_ok-taken.ensures.truth;
+      listed_fits = c.in_ok-taken.ensures.fits;
+      listed_operators = c.in_ok-taken.ensures.operators;
+      apart = c.requires.apart;
+      only_asked = only_asked_nothing (λ b. (goal.Decider-dyn g (b.vtable, b.value)).kind_of b.value) (λ b. (goal.Decider-dyn g (b.vtable, b.value)).questions b.value) c.args.chosen.now;
+    }
+
+pub list_sample-requires-clause-sample : goal.list_sample-requires-clause-sample
+list_sample-requires-clause-sample g c =
+    let n = c.args.comp.now.binders in
+    let u = c.samples.left in
+    let s = c.from_vec-sample.result in
+    let meets : IsConstraintSample n u s = subst (IsConstraintSample n u) (sym c.from_vec-sample.ensures) (some_is (λ s. IsConstraintSample n u s.items) c.in_ok-found.field-0 c.in-Some.found c.in-Some.is c.in_ok-found.ensures.sample) in
+    (meets.0, c.samples.invariant.left.within (sampled s) (length-map s whole ∙ meets.0.count) meets.1)
+
+pub without_cube_at-requires-clause-fits : goal.without_cube_at-requires-clause-fits
+without_cube_at-requires-clause-fits g c =
+    let n = c.args.comp.now.binders in
+    let u = c.samples.left in
+    let s = c.from_vec-sample.result in
+    let meets : IsConstraintSample n u s = subst (IsConstraintSample n u) (sym c.from_vec-sample.ensures) (some_is (λ s. IsConstraintSample n u s.items) c.in_ok-found.field-0 c.in-Some.found c.in-Some.is c.in_ok-found.ensures.sample) in
+    let count : length c.as_slice.result.now ≡ n = ap length c.as_slice.ensures ∙ meets.0.count in
+    subst (λ k. ConstraintFits k u) (sym count) c.samples.invariant.fits
+
+pub without_cube_at-requires-clause-taken_fits : goal.without_cube_at-requires-clause-taken_fits
+without_cube_at-requires-clause-taken_fits g c =
+    let n = c.args.comp.now.binders in
+    let u = c.samples.left in
+    let s = c.from_vec-sample.result in
+    let meets : IsConstraintSample n u s = subst (IsConstraintSample n u) (sym c.from_vec-sample.ensures) (some_is (λ s. IsConstraintSample n u s.items) c.in_ok-found.field-0 c.in-Some.found c.in-Some.is c.in_ok-found.ensures.sample) in
+    let count : length c.as_slice.result.now ≡ n = ap length c.as_slice.ensures ∙ meets.0.count in
+    subst (λ k. ConstraintFits k c.in_ok-taken-2.taken) (sym count) c.in_ok-taken-2.ensures.fits
+
+pub without_cube_at-requires-clause-sample : goal.without_cube_at-requires-clause-sample
+without_cube_at-requires-clause-sample g c =
+    subst (λ s. IsTrue (holds (sampled s) c.in_ok-taken-2.taken)) (sym c.as_slice.ensures) c.in_ok-taken-2.ensures.holds
+
+pub samples-smaller : goal.samples-smaller
+samples-smaller g c =
+    let n = c.args.comp.now.binders in
+    let u = c.samples.left in
+    let r = c.in_ok-left-2.left in
+    let s = c.from_vec-sample.result in
+    let meets : IsConstraintSample n u s = subst (IsConstraintSample n u) (sym c.from_vec-sample.ensures) (some_is (λ s. IsConstraintSample n u s.items) c.in_ok-found.field-0 c.in-Some.found c.in-Some.is c.in_ok-found.ensures.sample) in
+    fewer n u r s meets (λ e. (c.in_ok-left-2.ensures.left e).within) (subst (λ s. IsFalse (holds (sampled s) r)) c.as_slice.ensures c.in_ok-left-2.ensures.gone)
+
+pub samples-preserved : goal.samples-preserved
+samples-preserved g c =
+    let k = c.args.comp.now in
+    let os = c.samples.orbits in
+    let ys = c.list_sample.new.orbits in
+    let u = c.samples.left in
+    let taken = c.in_ok-taken-2.taken in
+    let r = c.in_ok-left-2.left in
+    let kept = c.samples.invariant in
+    let more : AddsOnly (IsTakenFrom (comp_of k)) os ys = c.in_ok-taken-2.ensures.added in
+    record {
+      left = left_more g.T.Structure.ordered k.binders (tree k.item) k.guard os ys more.0 u taken r kept.left more.1 c.in_ok-taken-2.ensures.truth c.in_ok-left-2.ensures.left;
+      fits = c.in_ok-left-2.ensures.fits k.binders kept.fits c.in_ok-taken-2.ensures.fits;
+      operators = c.in_ok-left-2.ensures.operators g.T.Structure.ordered kept.operators c.in_ok-taken-2.ensures.operators;
+      added = adds_then (IsTakenFrom (comp_of k)) c.args.orbits.now os ys kept.added more;
+      listed = c.in_ok-taken-2.ensures.truth;
+      listed_fits = c.in_ok-taken-2.ensures.fits;
+      listed_operators = c.in_ok-taken-2.ensures.operators;
+      apart = c.in_ok-taken-2.ensures.apart;
+      only_asked = only_asked_then (λ b. (goal.Decider-dyn g (b.vtable, b.value)).kind_of b.value) (λ b. (goal.Decider-dyn g (b.vtable, b.value)).questions b.value) c.args.chosen.now c.samples.chosen c.ask.new.self kept.only_asked c.ask.ensures.only_asked;
     }
 
 pub returns-clause-covered : goal.returns-clause-covered
 returns-clause-covered g c =
     let k = c.args.comp.now in
-    covered g.T.Structure.ordered k.binders (tree k.item) k.guard c.orbits.orbits c.orbits.left c.orbits.invariant.left (c.in_ok-sample.ensures.none.0 (none_is c.in_ok-sample.field-0 c.in_default.is))
+    covered g.T.Structure.ordered k.binders (tree k.item) k.guard c.samples.orbits c.samples.left c.samples.invariant.left (c.in_ok-found.ensures.none.0 (none_is c.in_ok-found.field-0 c.in_default.is))
