@@ -1,11 +1,12 @@
 //! The members of one set that are, or aren't, in another.
 
-ghost use Rattle.std.specs.Prelude.{ℕ, ◌+◌, ◌≤◌, Bool, true, false, IfOk};
+ghost use Rattle.std.specs.Prelude.{◌≡◌, ℕ, ◌+◌, ◌≤◌, Bool, true, false, map, IfOk};
 ghost use Rattle.lois_base.specs.Data.{coll, comps_of, depth, depth_of_comps};
 ghost use Rattle.lois_base.specs.Fits.{ConstraintFits, Fits, CompFits, ItemsFit};
 ghost use Rattle.lois_base.specs.Tree.{tree, comp_of};
 ghost use Rattle.lois_base.specs.Validity.{AdmitsConstraint, AdmitsTerm, AdmitsComp, AdmitsItems, HasBoundedWidths, ItemsHaveBoundedWidths};
 ghost use Rattle.lois_terms.specs.Guarded.{IsColl};
+ghost use Rattle.lois_terms.specs.Shapes.{item_shape};
 ghost use Rattle.lois_algebra.specs.Selected.{IsSelection, IsSelectedGuard, IsSelectedPart};
 ghost use Rattle.lois_algebra.specs.Sets.{IsIntersection, IsDifference};
 
@@ -13,7 +14,8 @@ use crate::putting::push_comp;
 use lois_base::{Comp, Comps, Constraint, NoMemory, Structure, Term};
 use lois_constraint::{and_not, meet};
 use lois_elim::quantifier_free;
-use lois_relate::item_formula;
+use lois_relate::item_formula_indexed;
+use lois_terms::{Index, index_by_shape};
 use std::alloc::Global;
 
 /// The set that has the members that both sets have. Errors: `NoMemory`, also where a level would pass the greatest usize.
@@ -80,9 +82,10 @@ fn selected<T: Structure>(
     ensures widths { IfOk result (λ r. ItemsHaveBoundedWidths (comps_of comps.now) → ItemsHaveBoundedWidths (comps_of r)) }
     ensures depth { IfOk result (λ r. depth_of_comps r ≤ depth_of_comps comps.now) }
 {
+    let index = index_by_shape(alloc, others.as_slice())?;
     let mut kept = Comps::new(alloc);
     for comp in comps.as_slice() {
-        let guard = selected_guard::<T>(alloc, comp, others, size, wanted)?;
+        let guard = guard_by_index::<T>(alloc, comp, others, &index, size, wanted)?;
         let item = comp.item.copy(alloc)?;
         push_comp(
             &mut kept,
@@ -113,7 +116,30 @@ pub fn selected_guard<T: Structure>(
     ensures levels { IfOk result (ConstraintFits (size + comp.now.binders)) }
     ensures operators { IfOk result (λ r. (ordered : Bool) → AdmitsComp ordered (comp_of comp.now) → AdmitsItems ordered (comps_of others.now) → AdmitsConstraint ordered r) }
 {
-    let formula = item_formula(alloc, &comp.item, others.as_slice(), size, comp.binders)?;
+    let shapes = index_by_shape(alloc, others.as_slice())?;
+    guard_by_index::<T>(alloc, comp, others, &shapes, size, wanted)
+}
+
+// The same, with the index of the others' shapes, which is made once for all comprehensions of a set.
+fn guard_by_index<T: Structure>(
+    alloc: Global,
+    comp: &Comp,
+    others: &Comps,
+    index: &Index,
+    size: usize,
+    wanted: bool,
+) -> Result<Constraint, NoMemory>
+    requires left { CompFits size (comp_of comp.now) }
+    requires left_operators { AdmitsComp T.ordered (comp_of comp.now) }
+    requires right { ItemsFit size (comps_of others.now) }
+    requires right_operators { AdmitsItems T.ordered (comps_of others.now) }
+    requires shapes { index.now ≡ map item_shape others.now }
+    ensures truth { IfOk result (IsSelectedGuard size comp.now.binders wanted comp.now.guard (tree comp.now.item) (coll (comps_of others.now))) }
+    ensures levels { IfOk result (ConstraintFits (size + comp.now.binders)) }
+    ensures operators { IfOk result (λ r. (ordered : Bool) → AdmitsComp ordered (comp_of comp.now) → AdmitsItems ordered (comps_of others.now) → AdmitsConstraint ordered r) }
+{
+    let items = others.as_slice();
+    let formula = item_formula_indexed(alloc, &comp.item, items, index, size, comp.binders)?;
     let found = quantifier_free::<T>(alloc, &formula, size + comp.binders)?;
     narrowed(alloc, &comp.guard, &found, wanted)
 }

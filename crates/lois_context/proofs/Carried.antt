@@ -1,5 +1,5 @@
 -- Slots and lines that are carried over to more levels.
-use Rattle.std.proofs.Common.{◌≡◌, ℕ, suc, Bool, true, false, List, [], ◌∷◌, ◌++◌, length, map, Some, append-nil, refl, sym, ap, ◌∙◌, subst, if◌then◌else◌, bytes_eq}
+use Rattle.std.proofs.Common.{◌≡◌, ℕ, suc, ◌+◌, Bool, true, false, List, [], ◌∷◌, ◌++◌, length, map, Some, append-nil, refl, sym, ap, ◌∙◌, subst, if◌then◌else◌, bytes_eq}
 use Rattle.std.proofs.lemmas.List.Elements.{All-head, All-tail, All-map, All-weaker}
 use Rattle.std.proofs.lemmas.Slice.Eq.{bytes_eq-Decides}
 use Rattle.std.specs.List.{All, AllByRecursion, IsDistinct}
@@ -14,9 +14,11 @@ use Rattle.lois_base.proofs.RenamedForm.{admits_renamed, widths_renamed}
 use Rattle.lois_answers.specs.ResultsData.{LineD}
 use Rattle.lois_meaning.specs.Store.{named, looked_up, stored, AreSameNamed}
 use Rattle.lois_terms.proofs.MoreAtoms.{is_raised}
-use Rattle.lois_context.specs.Entered.{carried, carried_line, element_slot}
-use Rattle.lois_context.specs.Kept.{HasDistinctNames}
+use Rattle.lois_context.specs.Entered.{carried, carried_line, element_slot, IsCarried}
+use Rattle.lois_context.specs.Kept.{AreSlots, LinesFit, HasDistinctNames}
 use Rattle.lois_context.specs.Slots.{IsNew, SlotD, slot_name, count_of_items, comps_in, store_at, line_values}
+use Rattle.lois_context.specs.declared.contexts.Context.{Context}
+use Rattle.lois_context.specs.declared.entering.Held.{Held}
 
 -- ---- the number of comprehensions
 pub count_of : (ks : List CompD) → count_of_items (comps_of ks) ≡ length ks
@@ -102,3 +104,12 @@ module _ (n by : ℕ) where
   pub lines_widths : (ls : List LineD) → All (λ l. HasBoundedWidths l.term) ls → All (λ l. HasBoundedWidths l.term) (map (carried_line n by) ls)
   lines_widths ls h =
       All-map (λ l. HasBoundedWidths l.term) (carried_line n by) ls (All-weaker (λ l. HasBoundedWidths l.term) _ (λ l k. widths_renamed (shift_level n by) l.term k) ls h)
+
+-- ---- what was carried already
+pub is_carried : (k : Context) (a b : Held) → a.by ≡ b.by → a.store ≡ b.store → a.lines ≡ b.lines → IsCarried k b → IsCarried k a
+is_carried k a b by store lines h = record {
+  store = store ∙ (h.store ∙ ap (λ m. map (carried k.size m) k.store) (sym by));
+  slots = subst (AreSlots (k.size + a.by)) (sym store) (subst (λ m. AreSlots (k.size + m) b.store) (sym by) h.slots);
+  lines = lines ∙ (h.lines ∙ ap (λ m. map (carried_line k.size m) k.lines) (sym by));
+  fitting = subst (LinesFit (k.size + a.by)) (sym lines) (subst (λ m. LinesFit (k.size + m) b.lines) (sym by) h.fitting);
+}

@@ -14,7 +14,9 @@ use Rattle.lois_meaning.specs.Store.{looked_up, stored, AreSameNamed}
 use Rattle.lois_deciders.specs.Conjunction.{AreInconsistent}
 use Rattle.lois_context.specs.Choices.{IsAdmitted, AdmitsContext, ContextHasBoundedWidths}
 use Rattle.lois_context.specs.Slots.{SlotD, slot_name, comps_in, store_at, line_values}
+use Rattle.lois_context.specs.Kept.{AreSlots, LinesFit}
 use Rattle.lois_context.specs.declared.contexts.Context.{Context}
+use Rattle.lois_context.specs.declared.entering.Held.{Held}
 
 abbrev pub binders_of : CompD → ℕ
 binders_of (comp m g t) = m
@@ -52,6 +54,13 @@ pub record IsMemberContext (before : Context) (x : List ℕ) (k : CompD) (inner 
   pub lines : inner.lines ≡ map (carried_line before.size (binders_of k)) before.lines
   pub operators : (ordered : Bool) → AdmitsContext ordered before → AdmitsComp ordered k → AdmitsContext ordered inner
   pub widths : ContextHasBoundedWidths before → CompHasBoundedWidths k → ContextHasBoundedWidths inner
+
+-- what the context holds, with so many levels put in behind its own
+pub record IsCarried (before : Context) (held : Held) : Type 0 where
+  pub store : held.store ≡ map (carried before.size held.by) before.store
+  pub slots : AreSlots (before.size + held.by) held.store
+  pub lines : held.lines ≡ map (carried_line before.size held.by) before.lines
+  pub fitting : LinesFit (before.size + held.by) held.lines
 
 -- the comprehension has no members where the context admits
 abbrev pub HasNoMembers : Context → CompD → Type 0

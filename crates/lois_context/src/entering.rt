@@ -1,13 +1,14 @@
 //! Contexts for the members of a set.
 
-ghost use Rattle.std.specs.Prelude.{◌≡◌, ◌+◌, ◌<◌, ◌^◌, [], ◌∷◌, ◌++◌, map, IfOk, IfSome, IsNone, IsTrue};
+ghost use Rattle.std.specs.Prelude.{◌≡◌, ◌+◌, ◌<◌, ◌^◌, [], ◌∷◌, ◌++◌, map, IfOk, OnOk, IfSome, IsNone, IsTrue};
+ghost use Rattle.std.specs.List.{All, Contains};
 ghost use Rattle.lois_base.specs.Data.{comps_of};
 ghost use Rattle.lois_base.specs.Fits.{Fits, CompFits, ItemsFit};
 ghost use Rattle.lois_base.specs.Shift.{shift};
 ghost use Rattle.lois_base.specs.Tree.{tree, comp_of};
 ghost use Rattle.lois_deciders.specs.OnlyAsked.{HasOnlyAsked};
 ghost use Rattle.lois_terms.specs.Guarded.{IsColl};
-ghost use Rattle.lois_context.specs.Entered.{carried, carried_line, element_slot, IsMemberContext, HasNoMembers, AreMemberContexts, AreEntered};
+ghost use Rattle.lois_context.specs.Entered.{carried, carried_line, element_slot, IsCarried, IsMemberContext, HasNoMembers, AreMemberContexts, AreEntered};
 ghost use Rattle.lois_context.specs.Kept.{IsSlot, AreSlots, LinesFit, HasDistinctNames};
 ghost use Rattle.lois_context.specs.Slots.{IsNew, comps_in};
 ghost use Rattle.lois_context.specs.SlotView.{slot_of};
@@ -56,12 +57,34 @@ fn entries(
     ensures only_asked { HasOnlyAsked (λ b. (⟦<dyn Decider as Decider>⟧ b.vtable).kind_of b.value) (λ b. (⟦<dyn Decider as Decider>⟧ b.vtable).questions b.value) chosen.old chosen.new }
 {
     let mut inner = Vec::new(alloc);
+    let mut known = Vec::new(alloc);
     for comp in comps.as_slice() {
-        if let Some(inside) = entry_of(alloc, context, comp, name, chosen)? {
+        if let Some(inside) = entry_of(alloc, context, comp, name, &mut known, chosen)? {
             inner.push(inside)?;
         }
     }
     Ok(inner)
+}
+
+// What a context holds, with `by` levels put in behind its own. It is made once for all comprehensions that have so many binders.
+#[derive(Drop)]
+struct Held {
+    by: usize,
+    store: Store,
+    lines: Shared<Lines>,
+}
+
+impl Held {
+    // The same, which shares terms and lines.
+    fn copy(&self, alloc: Global) -> Result<Self, NoMemory>
+        ensures { IfOk result (λ r. (r.by ≡ self.now.by) × (r.store ≡ self.now.store) × (r.lines ≡ self.now.lines)) }
+    {
+        Ok(Held {
+            by: self.by,
+            store: self.store.copy(alloc)?,
+            lines: self.lines.share()?,
+        })
+    }
 }
 
 // The context for the members of one comprehension, or `None` where it has none.
@@ -70,10 +93,13 @@ fn entry_of(
     context: &Context,
     comp: &Comp,
     name: &Name,
+    known: &mut Vec<Held>,
     chosen: &mut Chosen,
 ) -> Result<Option<Context>, NoMemory>
     requires levels { CompFits context.now.size (comp_of comp.now) }
     requires new_name { IsNew name.now context.now.store }
+    requires known { All (IsCarried context.now) known.old.items }
+    ensures known { OnOk result (All (IsCarried context.now) known.new.items) }
     ensures entry { IfOk result (λ o. IfSome o (IsMemberContext context.now name.now (comp_of comp.now))) }
     ensures none { IfOk result (λ o. IsNone o → HasNoMembers context.now (comp_of comp.now)) }
     ensures only_asked { HasOnlyAsked (λ b. (⟦<dyn Decider as Decider>⟧ b.vtable).kind_of b.value) (λ b. (⟦<dyn Decider as Decider>⟧ b.vtable).questions b.value) chosen.old chosen.new }
@@ -82,8 +108,9 @@ fn entry_of(
     let Some(met) = chosen.meet(alloc, &context.when, &comp.guard, size)? else {
         return Ok(None);
     };
-    let store = inner_store(alloc, context, comp, name)?;
-    let lines = carried_lines(alloc, &context.lines, context.size, comp.binders)?;
+    let outside = carried_for(alloc, context, known, comp.binders)?;
+    let Held { store, lines, .. } = outside;
+    let store = inner_store(alloc, context, store, comp, name)?;
     Ok(Some(Context {
         size,
         when: met.constraint,
@@ -93,20 +120,65 @@ fn entry_of(
     }))
 }
 
+// What the context holds, carried to `by` levels more: a copy of what is known, or made, and known from then on.
+fn carried_for(
+    alloc: Global,
+    context: &Context,
+    known: &mut Vec<Held>,
+    by: usize,
+) -> Result<Held, NoMemory>
+    requires levels { context.now.size + by < 2 ^ 64 }
+    requires known { All (IsCarried context.now) known.old.items }
+    ensures known { OnOk result (All (IsCarried context.now) known.new.items) }
+    ensures by { IfOk result (λ r. r.by ≡ by) }
+    ensures carried { IfOk result (IsCarried context.now) }
+{
+    if let Some(found) = known_for(known, by) {
+        return found.copy(alloc);
+    }
+    let made = carried(alloc, context, by)?;
+    known.push(made.copy(alloc)?)?;
+    Ok(made)
+}
+
+fn known_for(known: &[Held], by: usize) -> Option<&Held>
+    ensures { IfSome result (λ r. Contains known.now r.now × (r.now.by ≡ by)) }
+{
+    for found in known {
+        if found.by == by {
+            return Some(found);
+        }
+    }
+    None
+}
+
+fn carried(alloc: Global, context: &Context, by: usize) -> Result<Held, NoMemory>
+    requires levels { context.now.size + by < 2 ^ 64 }
+    ensures by { IfOk result (λ r. r.by ≡ by) }
+    ensures carried { IfOk result (IsCarried context.now) }
+{
+    let store = carried_store(alloc, &context.store, context.size, by)?;
+    let lines = carried_lines(alloc, &context.lines, context.size, by)?;
+    Ok(Held { by, store, lines })
+}
+
 // The slots of the context, carried to more levels, and the item under the name.
 fn inner_store(
     alloc: Global,
     context: &Context,
+    outside: Store,
     comp: &Comp,
     name: &Name,
 ) -> Result<Store, NoMemory>
     requires levels { CompFits context.now.size (comp_of comp.now) }
     requires new_name { IsNew name.now context.now.store }
+    requires outside { outside ≡ map (carried context.now.size comp.now.binders) context.now.store }
+    requires slots { AreSlots (context.now.size + comp.now.binders) outside }
     ensures store { IfOk result (λ r. r ≡ map (carried context.now.size comp.now.binders) context.now.store ++ element_slot name.now (tree comp.now.item) ∷ []) }
     ensures slots { IfOk result (AreSlots (context.now.size + comp.now.binders)) }
     ensures names { IfOk result HasDistinctNames }
 {
-    let mut store = carried_store(alloc, &context.store, context.size, comp.binders)?;
+    let mut store = outside;
     store.push(bound_slot(alloc, name, &comp.item)?)?;
     Ok(store)
 }

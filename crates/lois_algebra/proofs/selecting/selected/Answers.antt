@@ -1,19 +1,23 @@
-use Rattle.std.proofs.Common.{◌+◌, sym, ap, subst, arith}
+use Rattle.std.proofs.Common.{◌+◌, map, sym, ap, subst, ◌∙◌, arith}
 use Rattle.lois_base.specs.Data.{coll, comps_of}
 use Rattle.lois_base.specs.Tree.{tree}
+use Rattle.lois_terms.specs.Shapes.{item_shape}
 use Rattle.lois_relate.proofs.Parts.{comps_from, comps_are, no_comps_left, is_comp_of}
 use Rattle.lois_algebra.proofs.Selections.{SelectedSoFar, selected_begin, selected_more, selected_end, put_item}
 use Rattle.lois_algebra.proofs.selecting.selected.Goals as goal
 
-pub selected_guard-requires-clause-left : goal.selected_guard-requires-clause-left
-selected_guard-requires-clause-left g c =
+pub guard_by_index-requires-clause-left : goal.guard_by_index-requires-clause-left
+guard_by_index-requires-clause-left g c =
     let k = is_comp_of c.as_slice-comp-items.result.now c.args.comps.now c.loop-comp.comp-index c.comp-item.result c.as_slice-comp-items.ensures c.loop-comp-test.true c.comp-item.is in
     k.fits c.args.size c.requires.left
 
-pub selected_guard-requires-clause-left_operators : goal.selected_guard-requires-clause-left_operators
-selected_guard-requires-clause-left_operators g c =
+pub guard_by_index-requires-clause-left_operators : goal.guard_by_index-requires-clause-left_operators
+guard_by_index-requires-clause-left_operators g c =
     let k = is_comp_of c.as_slice-comp-items.result.now c.args.comps.now c.loop-comp.comp-index c.comp-item.result c.as_slice-comp-items.ensures c.loop-comp-test.true c.comp-item.is in
     k.admits g.T.Structure.ordered c.requires.left_operators
+
+pub guard_by_index-requires-clause-shapes : goal.guard_by_index-requires-clause-shapes
+guard_by_index-requires-clause-shapes g c = c.in_ok-index.ensures ∙ ap (map item_shape) c.as_slice.ensures
 
 pub loop-comp-init : goal.loop-comp-init
 loop-comp-init g c =

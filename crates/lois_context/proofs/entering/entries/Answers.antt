@@ -33,5 +33,6 @@ loop-comp-preserved g c =
                 subst (λ v. AreMemberContexts c.args.context.now c.args.name.now (map comp_of (take i items) ++ k ∷ []) v.items) (sym w.inner-is)
                 (entries_skip c.args.context.now c.args.name.now (map comp_of (take i items)) c.loop-comp.inner.items k c.loop-comp.invariant.entries none)
           ]);
+      known = c.in_ok-inside.ensures.known;
       only_asked = only_asked_then (λ b. (goal.Decider-dyn g (b.vtable, b.value)).kind_of b.value) (λ b. (goal.Decider-dyn g (b.vtable, b.value)).questions b.value) c.args.chosen.now c.loop-comp.chosen c.entry_of.new.chosen c.loop-comp.invariant.only_asked c.entry_of.ensures.only_asked;
     }

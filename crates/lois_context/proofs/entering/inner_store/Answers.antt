@@ -11,7 +11,7 @@ returns-clause-names c =
     let before = c.args.context.now in
     let m = c.args.comp.now.binders in
     let x = element_slot c.args.name.now (tree c.args.comp.now.item) in
-    let stored = c.in_ok-push.ensures.appended ∙ (ap (λ z. c.in_ok-store.store ++ z ∷ []) c.in_ok-bound_slot.ensures ∙ ap (λ z. z ++ x ∷ []) c.in_ok-store.ensures.carried) in
+    let stored = c.in_ok-push.ensures.appended ∙ (ap (λ z. c.args.outside ++ z ∷ []) c.in_ok-bound_slot.ensures ∙ ap (λ z. z ++ x ∷ []) c.requires.outside) in
     subst HasDistinctNames (sym stored) (distinct_more before.size m c.args.name.now (tree c.args.comp.now.item) before.store before.names c.requires.new_name)
 
 pub returns-clause-slots : goal.returns-clause-slots
@@ -19,5 +19,5 @@ returns-clause-slots c =
     let before = c.args.context.now in
     let m = c.args.comp.now.binders in
     let x = element_slot c.args.name.now (tree c.args.comp.now.item) in
-    let pushed = c.in_ok-push.ensures.appended ∙ ap (λ z. c.in_ok-store.store ++ z ∷ []) c.in_ok-bound_slot.ensures in
-    subst (AreSlots (before.size + m)) (sym pushed) (All-push (IsSlot (before.size + m)) c.in_ok-store.store x c.in_ok-store.ensures.slots (c.requires.levels.2, omega arith))
+    let pushed = c.in_ok-push.ensures.appended ∙ ap (λ z. c.args.outside ++ z ∷ []) c.in_ok-bound_slot.ensures in
+    subst (AreSlots (before.size + m)) (sym pushed) (All-push (IsSlot (before.size + m)) c.args.outside x c.requires.slots (c.requires.levels.2, omega arith))
