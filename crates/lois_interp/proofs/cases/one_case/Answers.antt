@@ -1,7 +1,6 @@
 use Rattle.std.proofs.Common.{[], ◌∷◌, sym, refl, subst}
 use Rattle.std.proofs.lemmas.List.Elements.{All-nil, All-cons}
 use Rattle.lois_base.specs.Fits.{LitFits, CubeFits, ConstraintFits}
-use Rattle.lois_base.specs.Truth.{holds}
 use Rattle.lois_simplify.specs.Plain.{IsPlain}
 use Rattle.lois_simplify.specs.Shortened.{IsShortened}
 use Rattle.lois_simplify.proofs.Shortened.{equally_true}
