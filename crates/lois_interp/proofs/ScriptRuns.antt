@@ -23,6 +23,7 @@ use Rattle.lois_meaning.specs.Runs.{ListEnds, ListFails}
 use Rattle.lois_meaning.specs.Store.{NamedValues, AreSameNamed, IsShallow, opening_from, opening}
 use Rattle.lois_meaning.specs.declared.faults.Fault.{Fault}
 use Rattle.lois_simplify.specs.Irredundant.{HasNormalGuards}
+use Rattle.lois_simplify.specs.Plain.{IsPlain, HasPlainGuards}
 use Rattle.lois_context.specs.Choices.{IsAdmitted, AdmitsContext, ContextHasBoundedWidths}
 use Rattle.lois_context.specs.Counted.{times}
 use Rattle.lois_context.specs.Merged.{AreDisjoint, HasSameContents, HasSameContentsAsOne, AreMerged}
@@ -31,7 +32,7 @@ use Rattle.lois_context.specs.Slots.{SlotD, line_values}
 use Rattle.lois_context.specs.declared.contexts.Context.{Context}
 use Rattle.lois_eval.specs.WellFormed.{IsWellFormedIn}
 use Rattle.lois_interp.specs.Failed.{FailsWithin}
-use Rattle.lois_interp.specs.Interpreted.{parameter_name, lines_of, IsChoiceOf, PrintsAt, IsRightAt, HoldsSomewhere, IsNormalLine, IsNormalCase, AreResultsOf, IsFailureOf}
+use Rattle.lois_interp.specs.Interpreted.{parameter_name, lines_of, IsChoiceOf, PrintsAt, IsRightAt, HoldsSomewhere, IsNormalLine, IsNormalCase, IsPlainCase, AreResultsOf, IsFailureOf}
 use Rattle.lois_interp.specs.Opened.{IsOpening}
 use Rattle.lois_interp.specs.Printed.{IsPrintedLine, IsPrinted, IsCaseOf}
 use Rattle.lois_interp.specs.Reached.{IsReachedAt, RunsAs}
@@ -47,7 +48,7 @@ use Rattle.lois_base.proofs.Lists.{all_one}
 use Rattle.lois_interp.proofs.Lists.{only_one}
 use Rattle.lois_interp.proofs.Opened.{opens_at, opening_admits, opening_widths, body_placed}
 use Rattle.lois_interp.proofs.Shallow.{AreShallow, same_shallow, list_shallow}
-use Rattle.lois_interp.proofs.Weaker.{IsWeaker, normal_weaker}
+use Rattle.lois_interp.proofs.Weaker.{IsWeaker, normal_weaker, plain_weaker}
 
 -- ---- lines
 pub printed_fit : (n : ℕ) (u : List (List Lit)) (ls ms : List LineD) → AllZip (IsPrintedLine n u) ls ms → LinesFit n ms
@@ -132,6 +133,11 @@ module _ (text : List ℕ) (s : ScriptD) (spelled : Spells text s) (scoped : IsW
 
       pub guards_there : (l : LineD) → Contains d.lines l → HasNormalGuards l.term
       guards_there l inside = (zip_from (IsPrintedLine e.size e.«when») e.lines d.lines p.lines l inside).2.guards
+
+      pub plain_there : (l : LineD) → Contains d.lines l → HasPlainGuards l.term d.«when» d.size
+      plain_there l inside =
+          let from = zip_from (IsPrintedLine e.size e.«when») e.lines d.lines p.lines l inside in
+          subst (HasPlainGuards l.term d.«when») (sym p.size) (subst (λ u. HasPlainGuards l.term u e.size) (sym p.«when») from.2.plain)
 
       module _ (admits : AdmitsContext s.ordered e) (wide : ContextHasBoundedWidths e) where
         pub line_sound : (l : LineD) → Contains d.lines l → IsSoundLine s.ordered n l
@@ -282,6 +288,17 @@ module _ (text : List ℕ) (s : ScriptD) (spelled : Spells text s) (scoped : IsW
             )) in
             (m.2.normalised, subst (All (IsNormalLine n c.«when»)) (sym (m.2.lines ∙ like_lines d.0 m.0 d.3)) each)
 
+        case_plain : (c : CaseD) → Contains cases c → IsPlainCase n c
+        case_plain c there =
+            let m = case_from c there in
+            let d = home m.0 m.1 in
+            let e = printed_from d.0 d.1 in
+            let weaker : IsWeaker n d.0.«when» c.«when» = weaker_merged d.0 m.0 d.1 m.1 d.3 c.«when» (case_fits c m.0 m.1 m.2) m.2.truth in
+            let Each : LineD → Type 0 = λ l. HasPlainGuards l.term c.«when» n in
+            let each : All Each d.0.lines = all_that_are Each d.0.lines (λ l inside. plain_weaker l.term d.0.«when» c.«when» n weaker (sound_printed d.0 d.1 l inside).term.levels
+            (subst (HasPlainGuards l.term d.0.«when») (e.2.size ∙ end_size e.0 e.1) (plain_there e.0 d.0 e.1 e.2 l inside))) in
+            (subst (IsPlain c.«when» ([] ∷ [])) (merged_size m.0 m.1) m.2.plain, subst (All Each) (sym (m.2.lines ∙ like_lines d.0 m.0 d.3)) each)
+
         pub interpreted : (r : Results) → r.order ≡ s.ordered → r.parameters ≡ map parameter_name s.parameters → r.cases ≡ cases → AreResultsOf s r
         interpreted r order parameters is = record {
           sound = record {
@@ -293,6 +310,7 @@ module _ (text : List ℕ) (s : ScriptD) (spelled : Spells text s) (scoped : IsW
           met = subst (All (HoldsSomewhere s)) (sym is) (all_that_are (HoldsSomewhere s) cases case_met);
           choices = λ c count. subst (λ k. IsRightAt s k c) (sym is) (right_at c count);
           normal = subst (All (IsNormalCase n)) (sym is) (all_that_are (IsNormalCase n) cases case_normal);
+          plain = subst (All (IsPlainCase n)) (sym is) (all_that_are (IsPlainCase n) cases case_plain);
           different = subst (λ k. AllPairs (λ x y. x ≡ y → ⊥) (map lines_of k)) (sym is) (cases_apart n merged cases zips sizes (all_that_are (λ m. m.store ≡ []) merged merged_store) merges.different);
         }
 

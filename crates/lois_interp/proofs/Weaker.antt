@@ -11,6 +11,7 @@ use Rattle.lois_base.specs.declared.guards.Lit.{Lit}
 use Rattle.lois_base.proofs.Both.{holds_both, all_both}
 use Rattle.lois_base.proofs.Validity.{fits_longer}
 use Rattle.lois_context.proofs.Longer.{holds_at_start}
+use Rattle.lois_simplify.specs.Plain.{IsPlain, HasPlainGuards, PartsHavePlainGuards, CompHasPlainGuards, ItemsHavePlainGuards}
 
 -- two constraints of n levels, of which v holds wherever u does
 pub record IsWeaker (n : ℕ) (u v : List (List Lit)) : Type 0 where
@@ -68,3 +69,27 @@ mutual
   comp_weaker : (k : CompD) (others : CompsD) (u v : List (List Lit)) (n : ℕ) → IsWeaker n u v → CompFits n k → IsNormalComp k others u n → IsNormalComp k others v n
   comp_weaker (comp m g t) others u v n w f h =
       (lean_weaker n u v w m g t others h.0, normal_weaker t (both u g) (both v g) (n + m) (both_weaker n u v w m g f.1) f.2 h.1)
+
+-- ---- guards that are plain under a constraint are plain under a weaker one
+mutual
+  pub plain_weaker : (t : TermD) (u v : List (List Lit)) (n : ℕ) → IsWeaker n u v → Fits n t → HasPlainGuards t u n → HasPlainGuards t v n
+  plain_weaker (var i) u v n w f h = tt
+  plain_weaker (tag t) u v n w f h = tt
+  plain_weaker (tup ts) u v n w f h = plain_parts_weaker ts u v n w f h
+  plain_weaker (coll cs) u v n w f h = plain_items_weaker cs u v n w f h
+
+  plain_parts_weaker : (ts : TermsD) (u v : List (List Lit)) (n : ℕ) → IsWeaker n u v → PartsFit n ts → PartsHavePlainGuards ts u n → PartsHavePlainGuards ts v n
+  plain_parts_weaker no_terms u v n w f h = tt
+  plain_parts_weaker (term t ts) u v n w f h = (plain_weaker t u v n w f.0 h.0, plain_parts_weaker ts u v n w f.1 h.1)
+
+  plain_items_weaker : (cs : CompsD) (u v : List (List Lit)) (n : ℕ) → IsWeaker n u v → ItemsFit n cs → ItemsHavePlainGuards cs u n → ItemsHavePlainGuards cs v n
+  plain_items_weaker no_comps u v n w f h = tt
+  plain_items_weaker (more k ks) u v n w f h = (plain_comp_weaker k u v n w f.0 h.0, plain_items_weaker ks u v n w f.1 h.1)
+
+  plain_comp_weaker : (k : CompD) (u v : List (List Lit)) (n : ℕ) → IsWeaker n u v → CompFits n k → CompHasPlainGuards k u n → CompHasPlainGuards k v n
+  plain_comp_weaker (comp m g t) u v n w f h =
+      let both_w : IsWeaker (n + m) (both u g) (both v g) = both_weaker n u v w m g f.1 in
+      (guard_longer, plain_weaker t (both u g) (both v g) (n + m) both_w f.2 h.1)
+    where
+      guard_longer : IsPlain g v (n + m)
+      guard_longer entailed = h.0 (λ c count o. entailed c count (implied_longer n u v w m c count o))

@@ -1,5 +1,5 @@
 -- What the results of a script say, and what its failure says.
-use Rattle.std.specs.Prelude.{◌≡◌, ℕ, ◌≤◌, List, ◌∷◌, ◌++◌, length, map, take, IsTrue}
+use Rattle.std.specs.Prelude.{◌≡◌, ℕ, ◌≤◌, List, [], ◌∷◌, ◌++◌, length, map, take, IsTrue}
 use Rattle.std.specs.List.{All, AllPairs}
 use Rattle.lois_base.specs.Atom.{Atom}
 use Rattle.lois_base.specs.Data.{depth}
@@ -9,6 +9,7 @@ use Rattle.lois_base.specs.Validity.{AdmitsTerm, HasBoundedWidths}
 use Rattle.lois_base.specs.declared.guards.Lit.{Lit}
 use Rattle.lois_constraint.specs.Normalised.{IsNormalised}
 use Rattle.lois_simplify.specs.Irredundant.{HasNormalGuards}
+use Rattle.lois_simplify.specs.Plain.{IsPlain, HasPlainGuards}
 use Rattle.lois_answers.specs.ResultsData.{LineD, CaseD}
 use Rattle.lois_answers.specs.Sound.{IsSound}
 use Rattle.lois_answers.specs.declared.faults.FaultKind.{FaultKind}
@@ -58,6 +59,10 @@ IsNormalLine n u l = IsNormal l.term u n × HasNormalGuards l.term
 abbrev pub IsNormalCase : ℕ → CaseD → Type 0
 IsNormalCase n c = IsNormalised c.«when» × All (IsNormalLine n c.«when») c.lines
 
+-- what holds at all choices is `true`: the constraint, and each guard under what surrounds it
+abbrev pub IsPlainCase : ℕ → CaseD → Type 0
+IsPlainCase n c = IsPlain c.«when» ([] ∷ []) n × All (λ l. HasPlainGuards l.term c.«when» n) c.lines
+
 abbrev pub lines_of : CaseD → List LineD
 lines_of c = c.lines
 
@@ -69,6 +74,7 @@ pub record AreResultsOf (s : ScriptD) (r : Results) : Type 0 where
   pub met : All (HoldsSomewhere s) r.cases
   pub choices : (choice : List Atom) → IsChoiceOf s choice → IsRightAt s r.cases choice
   pub normal : All (IsNormalCase (length s.parameters)) r.cases
+  pub plain : All (IsPlainCase (length s.parameters)) r.cases
   pub different : AllPairs (λ x y. x ≡ y → ⊥) (map lines_of r.cases)
 
 -- at no choice of the parameters

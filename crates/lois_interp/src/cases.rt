@@ -8,10 +8,10 @@ ghost use Rattle.lois_interp.specs.Interpreted.{parameter_name};
 ghost use Rattle.lois_interp.specs.Printed.{IsCaseOf};
 
 use lois_answers::{Case, Cases, Results};
-use lois_base::{Names, NoMemory};
-use lois_constraint::normalise;
+use lois_base::{Constraint, Names, NoMemory};
 use lois_context::Context;
 use lois_script::{Params, Script};
+use lois_simplify::shortest;
 use std::alloc::Global;
 
 /// A case for each context.
@@ -55,7 +55,8 @@ fn cases(alloc: Global, contexts: Vec<Context>) -> Result<Cases, NoMemory>
 fn one_case(alloc: Global, context: Context) -> Result<Case, NoMemory>
     ensures { IfOk result (λ r. IsCaseOf context (case_of r)) }
 {
-    let when = normalise(alloc, &context.when)?;
+    let anywhere = Constraint::always(alloc)?;
+    let when = shortest(alloc, &context.when, &anywhere)?;
     let Context { lines, .. } = context;
     Ok(Case {
         when,

@@ -22,9 +22,9 @@ use lois_script::Params;
 use std::alloc::Global;
 
 /// Runs a script at all choices of its parameters. At each choice exactly one case of the results holds, and its lines are those
-/// that the script prints there. Constraints and guards are normalised, each term is normal under its case, and no two cases have equal
-/// lines. Ok comes exactly where no choice fails. Errors: a fault at some choice, and `NoMemory`, also where a level would pass
-/// the greatest usize.
+/// that the script prints there. Constraints and guards are normalised, and one that always holds under what surrounds it is `true`.
+/// Each term is normal under its case, and no two cases have equal lines. Ok comes exactly where no choice fails. Errors: a fault at
+/// some choice, and `NoMemory`, also where a level would pass the greatest usize.
 pub fn interpret<T: Structure>(
     alloc: Global,
     script: &Scoped,

@@ -7,6 +7,8 @@ pub mod IrredundantComps
 pub mod Members
 pub mod OneRound
 pub mod Pass
+pub mod Plain
+pub mod Said
 pub mod Seen
 pub mod Shortened
 pub mod Single

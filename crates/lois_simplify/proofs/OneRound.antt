@@ -21,8 +21,9 @@ use Rattle.lois_deciders.specs.Satisfaction.{ConstraintIsSatisfiable}
 use Rattle.lois_base.specs.Bound.{HoldsForSome}
 use Rattle.lois_simplify.specs.Fixed.{IsFixed}
 use Rattle.lois_simplify.specs.Simplification.{IsSameWhere, IsSimplification, set_of}
-use Rattle.lois_simplify.specs.Irredundant.{HasNormalGuards, IsIrredundantAlone, IsIrredundantComp}
+use Rattle.lois_simplify.specs.Irredundant.{HasNormalGuards, IsIrredundantAlone}
 use Rattle.lois_simplify.specs.Moved.{moved}
+use Rattle.lois_simplify.specs.Plain.{HasPlainGuards, CompHasPlainGuards, IsLeanComp}
 use Rattle.lois_simplify.specs.Rounds.{only, IsRoundOf, IsOpen, IsOpeningOf, IsClosingOf, IsKeptEverywhere}
 use Rattle.lois_simplify.specs.declared.rounds.Opening.{Opening}
 use Rattle.lois_simplify.specs.declared.rounds.Opening.TheVariants.{Over, Open}
@@ -31,6 +32,7 @@ use Rattle.lois_simplify.specs.declared.rounds.Round.TheVariants.{Lean, Empty, S
 use Rattle.lois_simplify.proofs.Always.{always_adds_nothing, always_is_normalised}
 use Rattle.lois_simplify.proofs.Inserted.{moved_below, moved_at, moved_above}
 use Rattle.lois_simplify.proofs.Kept.{kept_refl, kept_trans}
+use Rattle.lois_simplify.proofs.Plain.{plain_under}
 use Rattle.lois_simplify.proofs.Single.{guard_changed, item_changed, nothing_there, CanLeave, binder_left_out}
 use Rattle.lois_simplify.proofs.Under.{normal_under}
 
@@ -107,8 +109,8 @@ module _ (u : List (List Lit)) (n : ℕ) where
       record { place = λ o. absurd (unused o); atom = λ o d l p q. absurd (unused o) }
 
   -- where nothing is left to do
-  pub open_is_lean : (m : ℕ) (g h : List (List Lit)) (s : TermD) → IsOpen u n m g h → IsNormal s h (n + m) → HasNormalGuards s → ((b : ℕ) → n ≤ b → b < n + m → Occurs b s) → IsIrredundantAlone u n m g s
-  open_is_lean m g h s o normal guards used = record {
+  pub open_is_lean : (brief : Bool) (m : ℕ) (g h : List (List Lit)) (s : TermD) → IsOpen brief u n m g h → IsNormal s h (n + m) → HasNormalGuards s → ((b : ℕ) → n ≤ b → b < n + m → Occurs b s) → IsIrredundantAlone u n m g s
+  open_is_lean brief m g h s o normal guards used = record {
     met = (o.met.0, record { count = o.met.1; met = subst IsTrue (same o.met.0) o.met.2 });
     used = used;
     free = λ b a p q r. let f = o.free b p q a r in (f.0, record { count = f.1; met = subst IsTrue (same f.0) f.2 }, f.3);
@@ -120,14 +122,18 @@ module _ (u : List (List Lit)) (n : ℕ) where
       same : (c : List Atom) → holds c h ≡ holds c (both u g)
       same c = o.here c ∙ sym (holds_both c u g)
 
+  pub open_is_plain : (brief : Bool) (m : ℕ) (g h : List (List Lit)) (s : TermD) → IsOpen brief u n m g h → (IsTrue brief → HasPlainGuards s h (n + m)) → IsTrue brief → CompHasPlainGuards (comp m g s) u n
+  open_is_plain brief m g h s o plain read =
+      (o.plain read, plain_under s h (both u g) (n + m) (λ c. o.here c ∙ sym (holds_both c u g)) (plain read))
+
 -- the round is over
-pub round_closed : (u : List (List Lit)) (n : ℕ) (k r : Comp) (h : List (List Lit)) (x : Round) → ConstraintFits n u → IsSimplification u n (set_of (only (comp_of k))) (set_of (only (comp_of r))) → r.binders ≤ k.binders → IsOpen u n r.binders r.guard h → IsNormal (tree r.item) h (n + r.binders) → HasNormalGuards (tree r.item) → IsClosingOf n r x → IsRoundOf u n k x
-round_closed u n k r h (Lean s) fits kept less o normal guards (e, used) = (
+pub round_closed : (brief : Bool) (u : List (List Lit)) (n : ℕ) (k r : Comp) (h : List (List Lit)) (x : Round) → ConstraintFits n u → IsSimplification u n (set_of (only (comp_of k))) (set_of (only (comp_of r))) → r.binders ≤ k.binders → IsOpen brief u n r.binders r.guard h → IsNormal (tree r.item) h (n + r.binders) → HasNormalGuards (tree r.item) → (IsTrue brief → HasPlainGuards (tree r.item) h (n + r.binders)) → IsClosingOf n r x → IsRoundOf brief u n k x
+round_closed brief u n k r h (Lean s) fits kept less o normal guards plain (e, used) = (
   subst (λ z. IsSimplification u n (set_of (only (comp_of k))) (set_of (only z))) (sym e) kept,
-  subst (IsIrredundantComp u n) (sym e) (open_is_lean u n r.binders r.guard h (tree r.item) o normal guards used),
+  subst (IsLeanComp brief u n) (sym e) (open_is_lean u n brief r.binders r.guard h (tree r.item) o normal guards used, open_is_plain u n brief r.binders r.guard h (tree r.item) o plain),
 )
-round_closed u n k r h Empty fits kept less o normal guards y = absurd y
-round_closed u n k r h (Shorter s) fits kept less o normal guards y = (
+round_closed brief u n k r h Empty fits kept less o normal guards plain y = absurd y
+round_closed brief u n k r h (Shorter s) fits kept less o normal guards plain y = (
   kept_trans u n (set_of (only (comp_of k))) (set_of (only (comp_of r))) (set_of (only (comp_of s))) kept (y.0 u fits),
   omega (arith, y.1),
 )
@@ -153,31 +159,32 @@ module _ (n : ℕ) where
       binder_less u n m m' b 0 g h t s count e f from below some levels admits whole (unused_can_leave u n (n + m) b 0 g t unused)
 
 -- ---- a comprehension without binders, whose guard always holds
-pub always_open : (u : List (List Lit)) (n m : ℕ) (g : List (List Lit)) → m ≡ 0 → g ≡ [] ∷ [] → ConstraintFits n u → ConstraintIsSatisfiable n u → IsOpen u n m g u
-always_open u n m g none always fits met =
+pub always_open : (brief : Bool) (u : List (List Lit)) (n m : ℕ) (g : List (List Lit)) → m ≡ 0 → g ≡ [] ∷ [] → ConstraintFits n u → ConstraintIsSatisfiable n u → IsOpen brief u n m g u
+always_open brief u n m g none always fits met =
     let same : n ≡ n + m = omega (arith, none) in
     record {
       levels = subst (λ j. ConstraintFits j u) same fits;
       operators = λ o a b. a;
       here = always_adds_nothing u g always;
       guard = subst IsNormalised (sym always) always_is_normalised;
+      plain = λ read h. always;
       met = subst (λ j. ConstraintIsSatisfiable j u) same met;
       free = λ b from below. absurd (omega (arith, none, from, below));
     }
 
 -- ---- what is made of the comprehension without its unused binders is made of the comprehension
-pub opened_without_unused : (u : List (List Lit)) (n : ℕ) (k s : Comp) (x : Opening) → ConstraintFits n u → IsKeptEverywhere n (comp_of k) (comp_of s) → s.binders ≤ k.binders → IsOpeningOf u n s x → IsOpeningOf u n k x
-opened_without_unused u n k s (Over (Lean r)) fits kept less o = (
+pub opened_without_unused : (brief : Bool) (u : List (List Lit)) (n : ℕ) (k s : Comp) (x : Opening) → ConstraintFits n u → IsKeptEverywhere n (comp_of k) (comp_of s) → s.binders ≤ k.binders → IsOpeningOf brief u n s x → IsOpeningOf brief u n k x
+opened_without_unused brief u n k s (Over (Lean r)) fits kept less o = (
   kept_trans u n (set_of (only (comp_of k))) (set_of (only (comp_of s))) (set_of (only (comp_of r))) (kept u fits) o.0,
   o.1,
 )
-opened_without_unused u n k s (Over Empty) fits kept less o =
+opened_without_unused brief u n k s (Over Empty) fits kept less o =
     kept_trans u n (set_of (only (comp_of k))) (set_of (only (comp_of s))) (set_of []) (kept u fits) o
-opened_without_unused u n k s (Over (Shorter r)) fits kept less o = (
+opened_without_unused brief u n k s (Over (Shorter r)) fits kept less o = (
   kept_trans u n (set_of (only (comp_of k))) (set_of (only (comp_of s))) (set_of (only (comp_of r))) (kept u fits) o.0,
   omega (arith, o.1, less),
 )
-opened_without_unused u n k s (Open r) fits kept less o = (
+opened_without_unused brief u n k s (Open r) fits kept less o = (
   kept_trans u n (set_of (only (comp_of k))) (set_of (only (comp_of s))) (set_of (only (comp_of r.comp))) (kept u fits) o.0,
   omega (arith, o.1, less),
   o.2,

@@ -1,5 +1,5 @@
 -- Cubes and literals that are left out where others have what they hold.
-use Rattle.std.proofs.Common.{◌≡◌, ℕ, ◌+◌, ◌<◌, ◌⊎◌, inl, inr, ◌||◌, Bool, true, false, List, [], ◌∷◌, ◌++◌, length, get_or, take, refl, sym, ap, ◌∙◌, subst, arith}
+use Rattle.std.proofs.Common.{◌≡◌, ℕ, ◌+◌, ◌<◌, ◌⊎◌, inl, inr, ◌||◌, Bool, true, false, List, [], ◌∷◌, ◌++◌, length, get_or, take, Result, Ok, Err, IfOk, refl, sym, ap, ◌∙◌, subst, arith}
 use Rattle.std.proofs.lemmas.Bool.{and_parts, and_from, or_cases, or_left, or_right}
 use Rattle.std.proofs.lemmas.List.{take_more}
 use Rattle.std.specs.Bool.{IsTrue, IsFalse}
@@ -190,3 +190,9 @@ equally_true u g r s e o = go (holds e r) (holds e g) refl refl
     go true y i j = i ∙ sym (s.back e o i)
     go false true i j = s.there e o j ∙ sym j
     go false false i j = i ∙ sym j
+
+-- what is written anew with the same truth, levels and operators stands for the guard as well
+pub normalised_alike : {E : Type 0} (u g s : List (List Lit)) (r : Result (List (List Lit)) E) → IsShortened u g s → IfOk r (λ x. (e : List Atom) → holds e x ≡ holds e s) → IfOk r (λ x. (n : ℕ) → ConstraintFits n s → ConstraintFits n x) → IfOk r (λ x. (o : Bool) → AdmitsConstraint o s → AdmitsConstraint o x) → IfOk r (IsShortened u g)
+normalised_alike u g s (Ok x) short truth fits operators =
+    shortened_then u g s x short (shortened_alike u s x truth fits operators)
+normalised_alike u g s (Err e) short truth fits operators = truth

@@ -12,20 +12,22 @@ use Rattle.lois_base.specs.Values.{SamePartsAt}
 use Rattle.lois_base.specs.declared.guards.Lit.{Lit}
 use Rattle.lois_simplify.specs.Simplification.{IsSimplification}
 use Rattle.lois_simplify.specs.Irredundant.{HasNormalGuards, PartsHaveNormalGuards}
+use Rattle.lois_simplify.specs.Plain.{HasPlainGuards, PartsHavePlainGuards}
 
 -- s stands for t, and is normal
-pub record IsSimplified (u : List (List Lit)) (n : ℕ) (t s : TermD) : Type 0 where
+pub record IsSimplified (brief : Bool) (u : List (List Lit)) (n : ℕ) (t s : TermD) : Type 0 where
   pub kept : IsSimplification u n t s
   pub normal : IsNormal s u n
   pub guards : HasNormalGuards s
+  pub plain : IsTrue brief → HasPlainGuards s u n
 
-module _ (u : List (List Lit)) (n : ℕ) where
+module _ (brief : Bool) (u : List (List Lit)) (n : ℕ) where
   abbrev pub PartsSimplified : List TermD → List TermD → Type 0
   PartsSimplified [] [] = Unit {0}
-  PartsSimplified (t ∷ ts) (s ∷ ss) = IsSimplified u n t s × PartsSimplified ts ss
+  PartsSimplified (t ∷ ts) (s ∷ ss) = IsSimplified brief u n t s × PartsSimplified ts ss
   PartsSimplified _ _ = ⊥
 
-  pub part_behind : (ts ss : List TermD) (t s : TermD) → PartsSimplified ts ss → IsSimplified u n t s → PartsSimplified (ts ++ t ∷ []) (ss ++ s ∷ [])
+  pub part_behind : (ts ss : List TermD) (t s : TermD) → PartsSimplified ts ss → IsSimplified brief u n t s → PartsSimplified (ts ++ t ∷ []) (ss ++ s ∷ [])
   part_behind [] [] t s h p = (p, tt)
   part_behind [] (r ∷ ss) t s h p = absurd h
   part_behind (q ∷ ts) [] t s h p = absurd h
@@ -88,3 +90,9 @@ module _ (u : List (List Lit)) (n : ℕ) where
   parts_guards [] (s ∷ ss) h = absurd h
   parts_guards (t ∷ ts) [] h = absurd h
   parts_guards (t ∷ ts) (s ∷ ss) h = ((h.0).guards, parts_guards ts ss h.1)
+
+  pub parts_plain : (ts ss : List TermD) → PartsSimplified ts ss → IsTrue brief → PartsHavePlainGuards (terms_of ss) u n
+  parts_plain [] [] h read = tt
+  parts_plain [] (s ∷ ss) h read = absurd h
+  parts_plain (t ∷ ts) [] h read = absurd h
+  parts_plain (t ∷ ts) (s ∷ ss) h read = ((h.0).plain read, parts_plain ts ss h.1 read)

@@ -7,3 +7,4 @@ pub mod Rounds
 pub mod Shortened
 pub mod Candidates
 pub mod Once
+pub mod Plain

@@ -1,5 +1,5 @@
 -- What one round makes of a comprehension.
-use Rattle.std.specs.Prelude.{◌≡◌, ℕ, ◌+◌, ◌<◌, ◌≤◌, ◌&&◌, Bool, List, [], ◌∷◌, Option, Some, None}
+use Rattle.std.specs.Prelude.{◌≡◌, ℕ, ◌+◌, ◌<◌, ◌≤◌, ◌&&◌, Bool, List, [], ◌∷◌, Option, Some, None, IsTrue}
 use Rattle.lois_base.specs.Atom.{Atom}
 use Rattle.lois_base.specs.Data.{CompD}
 use Rattle.lois_base.specs.Fits.{ConstraintFits}
@@ -12,8 +12,8 @@ use Rattle.lois_base.specs.declared.values.Comp.{Comp}
 use Rattle.lois_constraint.specs.Normalised.{IsNormalised}
 use Rattle.lois_deciders.specs.Satisfaction.{ConstraintIsSatisfiable}
 use Rattle.lois_simplify.specs.Fixed.{CanBeApart}
+use Rattle.lois_simplify.specs.Plain.{IsPlain, IsLeanComp}
 use Rattle.lois_simplify.specs.Simplification.{IsSimplification, set_of}
-use Rattle.lois_simplify.specs.Irredundant.{IsIrredundantComp}
 use Rattle.lois_simplify.specs.declared.rounds.Opening.{Opening}
 use Rattle.lois_simplify.specs.declared.rounds.Opening.TheVariants.{Over, Open}
 use Rattle.lois_simplify.specs.declared.rounds.Round.{Round}
@@ -28,26 +28,27 @@ listed_comp None = []
 listed_comp (Some k) = only (comp_of k)
 
 -- it is lean now, has no members, or has a binder less
-abbrev pub IsRoundOf : List (List Lit) → ℕ → Comp → Round → Type 0
-IsRoundOf u n k (Lean r) = IsSimplification u n (set_of (only (comp_of k))) (set_of (only (comp_of r))) × IsIrredundantComp u n (comp_of r)
-IsRoundOf u n k Empty = IsSimplification u n (set_of (only (comp_of k))) (set_of [])
-IsRoundOf u n k (Shorter r) =
+abbrev pub IsRoundOf : Bool → List (List Lit) → ℕ → Comp → Round → Type 0
+IsRoundOf brief u n k (Lean r) = IsSimplification u n (set_of (only (comp_of k))) (set_of (only (comp_of r))) × IsLeanComp brief u n (comp_of r)
+IsRoundOf brief u n k Empty = IsSimplification u n (set_of (only (comp_of k))) (set_of [])
+IsRoundOf brief u n k (Shorter r) =
     IsSimplification u n (set_of (only (comp_of k))) (set_of (only (comp_of r))) × (r.binders < k.binders)
 
 -- A comprehension of m binders with the guard g, inside n levels, where h is what holds in it: u and g. It has members, and no
--- binder is fixed.
-pub record IsOpen (u : List (List Lit)) (n m : ℕ) (g h : List (List Lit)) : Type 0 where
+-- binder is fixed. If the guard is to be read it is plain.
+pub record IsOpen (brief : Bool) (u : List (List Lit)) (n m : ℕ) (g h : List (List Lit)) : Type 0 where
   pub levels : ConstraintFits (n + m) h
   pub operators : (ordered : Bool) → AdmitsConstraint ordered u → AdmitsConstraint ordered g → AdmitsConstraint ordered h
   pub here : (c : List Atom) → holds c h ≡ (holds c u && holds c g)
   pub guard : IsNormalised g
+  pub plain : IsTrue brief → IsPlain g u (n + m)
   pub met : ConstraintIsSatisfiable (n + m) h
   pub free : (b : ℕ) → n ≤ b → b < n + m → (a : ℕ) → a < b → CanBeApart (n + m) h b a
 
-abbrev pub IsOpeningOf : List (List Lit) → ℕ → Comp → Opening → Type 0
-IsOpeningOf u n k (Over r) = IsRoundOf u n k r
-IsOpeningOf u n k (Open r) =
-    IsSimplification u n (set_of (only (comp_of k))) (set_of (only (comp_of r.comp))) × (r.comp.binders ≤ k.binders) × IsOpen u n r.comp.binders r.comp.guard r.here
+abbrev pub IsOpeningOf : Bool → List (List Lit) → ℕ → Comp → Opening → Type 0
+IsOpeningOf brief u n k (Over r) = IsRoundOf brief u n k r
+IsOpeningOf brief u n k (Open r) =
+    IsSimplification u n (set_of (only (comp_of k))) (set_of (only (comp_of r.comp))) × (r.comp.binders ≤ k.binders) × IsOpen brief u n r.comp.binders r.comp.guard r.here
 
 -- r stands for k inside n levels, whatever holds there
 abbrev pub IsKeptEverywhere : ℕ → CompD → CompD → Type 0

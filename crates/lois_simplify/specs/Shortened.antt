@@ -1,7 +1,9 @@
 -- Constraints that hold alike where another one does.
 use Rattle.std.specs.Prelude.{ℕ, Bool, List, IsTrue}
+use Rattle.std.specs.List.{All}
 use Rattle.lois_base.specs.Atom.{Atom}
 use Rattle.lois_base.specs.Fits.{CubeFits, ConstraintFits}
+use Rattle.lois_base.specs.Normal.{GuardUses}
 use Rattle.lois_base.specs.Truth.{cube_holds, holds}
 use Rattle.lois_base.specs.Validity.{AdmitsCube, AdmitsConstraint}
 use Rattle.lois_base.specs.declared.guards.Lit.{Lit}
@@ -27,3 +29,11 @@ pub record IsShortened (u g r : List (List Lit)) : Type 0 where
   pub back : EntailsUnder u r g
   pub levels : (n : ℕ) → ConstraintFits n g → ConstraintFits n r
   pub operators : (ordered : Bool) → AdmitsConstraint ordered g → AdmitsConstraint ordered r
+
+-- the guard speaks of both levels of the literal
+pub record SpeaksOfBoth (g : List (List Lit)) (l : Lit) : Type 0 where
+  pub left : GuardUses l.left g
+  pub right : GuardUses l.right g
+
+abbrev pub SpeaksOfAll : List (List Lit) → List (List Lit) → Type 0
+SpeaksOfAll g = All (All (SpeaksOfBoth g))

@@ -7,9 +7,12 @@ mod fixing;
 mod guards;
 mod moving;
 mod oracle;
+mod refuting;
+mod rewording;
 mod rounds;
 mod sampling;
 mod shortening;
 mod simplifying;
 
-pub use simplifying::simplify;
+pub use shortening::shortest;
+pub use simplifying::{simplify, simplify_to_read};

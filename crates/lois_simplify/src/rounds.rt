@@ -11,9 +11,8 @@ use crate::fixing::{fixed_binder, unused_binder};
 use crate::guards::is_always;
 use crate::moving::without_binder;
 use crate::oracle::Oracle;
-use crate::shortening::shortened;
+use crate::shortening::reduced;
 use lois_base::{Comp, Constraint, NoMemory, Structure};
-use lois_constraint::normalise;
 use std::alloc::Global;
 
 /// What one round makes of a comprehension. One that is shorter has a binder less.
@@ -64,12 +63,13 @@ fn has_one_member(alloc: Global, comp: &Comp) -> Result<bool, NoMemory>
 
 /// Drops a comprehension without members, and leaves out the first binder that is fixed. Binders that the item doesn't use go
 /// before any decider is asked. `met` says that `under` is known to be met somewhere: then nothing is asked about a comprehension
-/// that has one member at each choice.
+/// that has one member at each choice. `brief` says that the guard is to be read.
 pub(crate) fn open_round<T: Structure, D: Oracle>(
     alloc: Global,
     comp: Comp,
     under: &Constraint,
     met: bool,
+    brief: bool,
     size: usize,
     decider: &mut D,
 ) -> Result<Opening, NoMemory>
@@ -78,7 +78,7 @@ pub(crate) fn open_round<T: Structure, D: Oracle>(
     requires under_levels { ConstraintFits size under.now }
     requires operators { AdmitsComp T.ordered (comp_of comp) }
     requires met { IsTrue met → ConstraintIsSatisfiable size under.now }
-    ensures opening { IfOk result (IsOpeningOf under.now size comp) }
+    ensures opening { IfOk result (IsOpeningOf brief under.now size comp) }
     ensures asked { D.reaches decider.old decider.new }
 {
     let comp = with_used_binders::<T>(alloc, comp, size)?;
@@ -87,7 +87,7 @@ pub(crate) fn open_round<T: Structure, D: Oracle>(
         let here = under.copy(alloc)?;
         return Ok(Opening::Open(Open { comp, here }));
     }
-    open_asked::<T, D>(alloc, comp, under, size, decider)
+    open_asked::<T, D>(alloc, comp, under, brief, size, decider)
 }
 
 // The same where a decider has to be asked.
@@ -95,6 +95,7 @@ fn open_asked<T: Structure, D: Oracle>(
     alloc: Global,
     comp: Comp,
     under: &Constraint,
+    brief: bool,
     size: usize,
     decider: &mut D,
 ) -> Result<Opening, NoMemory>
@@ -102,14 +103,13 @@ fn open_asked<T: Structure, D: Oracle>(
     requires levels { CompFits size (comp_of comp) }
     requires under_levels { ConstraintFits size under.now }
     requires operators { AdmitsComp T.ordered (comp_of comp) }
-    ensures opening { IfOk result (IsOpeningOf under.now size comp) }
+    ensures opening { IfOk result (IsOpeningOf brief under.now size comp) }
     ensures asked { D.reaches decider.old decider.new }
 {
     let inner = size + comp.binders;
-    let guard = shortened(alloc, &comp.guard, under)?;
     let comp = Comp {
         binders: comp.binders,
-        guard: normalise(alloc, &guard)?,
+        guard: reduced(alloc, &comp.guard, under, brief)?,
         item: comp.item,
     };
     let Some(met) = decider.both(alloc, under, &comp.guard, inner)? else {

@@ -1,15 +1,27 @@
 //! Guards without what is known of the choices around them.
 
-ghost use Rattle.std.specs.Prelude.{◌≡◌, [], ◌∷◌, ◌++◌, List, IfOk, IsTrue, IsFalse};
+ghost use Rattle.std.specs.Prelude.{◌≡◌, ℕ, Bool, [], ◌∷◌, ◌++◌, false, ◌↔◌, List, IfOk, IsTrue, IsFalse};
+ghost use Rattle.std.specs.List.{All, Any};
 ghost use Rattle.lois_base.specs.Atom.{Atom};
+ghost use Rattle.lois_base.specs.Fits.{ConstraintFits};
 ghost use Rattle.lois_base.specs.Truth.{lit_holds, cube_holds, holds};
-ghost use Rattle.lois_simplify.specs.Shortened.{IsWeakenedCube, IsShortened};
+ghost use Rattle.lois_base.specs.Normal.{LitUses, GuardUses};
+ghost use Rattle.lois_base.specs.Validity.{AdmitsCube, AdmitsConstraint};
+ghost use Rattle.lois_constraint.specs.Normalised.{IsNormalised};
+ghost use Rattle.lois_simplify.specs.Plain.{IsPlain};
+ghost use Rattle.lois_simplify.specs.Shortened.{IsWeakenedCube, IsShortened, SpeaksOfBoth, SpeaksOfAll};
 
-use lois_base::{Constraint, Cube, Lit, NoMemory};
-use lois_constraint::{alternatives, covers_cube, prune};
+use crate::refuting::is_refuted;
+use crate::rewording::{is_worth_rewording, reading_length, reworded};
+use lois_base::{Constraint, Cube, Lit, NoMemory, Op};
+use lois_constraint::{alternatives, and_not, covers_cube, meet, normalise, prune, singleton};
 use std::alloc::Global;
 
-fn constraint_of(alloc: Global, cubes: Vec<Cube>) -> Result<Constraint, NoMemory>
+// Each cube is compared with all others.
+const MOST_SHORTENED: usize = 256;
+
+/// A constraint of the cubes.
+pub(crate) fn constraint_of(alloc: Global, cubes: Vec<Cube>) -> Result<Constraint, NoMemory>
     ensures { IfOk result (λ r. r ≡ cubes.items) }
 {
     let mut constraint = Constraint::new(alloc);
@@ -19,7 +31,12 @@ fn constraint_of(alloc: Global, cubes: Vec<Cube>) -> Result<Constraint, NoMemory
     Ok(constraint)
 }
 
-fn joined_literals(alloc: Global, before: &Cube, behind: &[Lit]) -> Result<Cube, NoMemory>
+/// A cube of the literals of the one, and those of the other behind them.
+pub(crate) fn joined_literals(
+    alloc: Global,
+    before: &Cube,
+    behind: &[Lit],
+) -> Result<Cube, NoMemory>
     ensures { IfOk result (λ r. r ≡ before.now ++ behind.now) }
 {
     let mut joined = before.copy(alloc)?;
@@ -97,13 +114,9 @@ fn turned(alloc: Global, constraint: Constraint, under: &Constraint) -> Result<C
     Ok(others)
 }
 
-/// A constraint that holds at the same choices as the given one wherever `under` does, without cubes that others have there, and
-/// without literals that aren't needed there.
-pub(crate) fn shortened(
-    alloc: Global,
-    c: &Constraint,
-    under: &Constraint,
-) -> Result<Constraint, NoMemory>
+// A constraint that holds at the same choices as the given one wherever `under` does, without cubes that others have there, and
+// without literals that aren't needed there.
+fn shortened(alloc: Global, c: &Constraint, under: &Constraint) -> Result<Constraint, NoMemory>
     ensures { IfOk result (IsShortened under.now c.now) }
 {
     let mut held = prune(alloc, c)?;
@@ -111,4 +124,200 @@ pub(crate) fn shortened(
         held = turned(alloc, held, under)?;
     }
     Ok(held)
+}
+
+/// Whether the guard holds wherever `under` does. One cube of `under` at which it fails is enough.
+pub(crate) fn follows(
+    alloc: Global,
+    guard: &Constraint,
+    under: &Constraint,
+) -> Result<bool, NoMemory>
+    ensures yes { IfOk result (λ b. IsTrue b → (e : List Atom) → IsTrue (holds e under.now) → IsTrue (holds e guard.now)) }
+    ensures no { IfOk result (λ b. IsFalse b → (e : List Atom) × IsTrue (holds e under.now) × IsFalse (holds e guard.now)) }
+{
+    for cube in under.as_slice() {
+        let part = singleton(alloc, cube)?;
+        let beyond = and_not(alloc, &part, guard)?;
+        if beyond.len() != 0 {
+            return Ok(false);
+        }
+    }
+    Ok(true)
+}
+
+// Whether the guard speaks of the level.
+fn speaks_of(guard: &Constraint, level: usize) -> bool
+    ensures { IsTrue result ↔ GuardUses level guard.now }
+{
+    guard
+        .as_slice()
+        .iter()
+        .any(|cube| cube_speaks_of(cube, level))
+}
+
+fn cube_speaks_of(cube: &Cube, level: usize) -> bool
+    ensures { IsTrue result ↔ Any (LitUses level) cube.now }
+{
+    cube.as_slice()
+        .iter()
+        .any(|lit| lit.left == level || lit.right == level)
+}
+
+// Whether the constraint speaks of no level that the guard doesn't speak of.
+fn uses_only(constraint: &Constraint, guard: &Constraint) -> bool
+    ensures { IsTrue result → SpeaksOfAll guard.now constraint.now }
+{
+    for cube in constraint.as_slice() {
+        if !cube_uses_only(cube, guard) {
+            return false;
+        }
+    }
+    true
+}
+
+fn cube_uses_only(cube: &Cube, guard: &Constraint) -> bool
+    ensures { IsTrue result → All (SpeaksOfBoth guard.now) cube.now }
+{
+    for lit in cube.as_slice() {
+        if !lit_uses_only(lit, guard) {
+            return false;
+        }
+    }
+    true
+}
+
+fn lit_uses_only(lit: &Lit, guard: &Constraint) -> bool
+    ensures { IsTrue result ↔ SpeaksOfBoth guard.now lit.now }
+{
+    speaks_of(guard, lit.left) && speaks_of(guard, lit.right)
+}
+
+// Whether the constraint has no `<`.
+fn is_order_free(constraint: &Constraint) -> bool
+    ensures { IsTrue result ↔ AdmitsConstraint false constraint.now }
+{
+    constraint
+        .as_slice()
+        .iter()
+        .all(|cube| is_order_free_cube(cube))
+}
+
+fn is_order_free_cube(cube: &Cube) -> bool
+    ensures { IsTrue result ↔ AdmitsCube false cube.now }
+{
+    cube.as_slice().iter().all(|lit| lit.op != Op::Lt)
+}
+
+// Whether the constraint has `<` only if the guard has it.
+fn has_no_more_order(constraint: &Constraint, guard: &Constraint) -> bool
+    ensures { IsTrue result → (o : Bool) → AdmitsConstraint o guard.now → AdmitsConstraint o constraint.now }
+{
+    if is_order_free(constraint) {
+        return true;
+    }
+    !is_order_free(guard)
+}
+
+// Whether the other constraint stands for the guard wherever `under` holds, and has no level or operator that the guard hasn't.
+fn says_the_same(
+    alloc: Global,
+    other: &Constraint,
+    guard: &Constraint,
+    under: &Constraint,
+) -> Result<bool, NoMemory>
+    ensures { IfOk result (λ b. IsTrue b → IsShortened under.now guard.now other.now) }
+{
+    if !uses_only(other, guard) {
+        return Ok(false);
+    }
+    if !has_no_more_order(other, guard) {
+        return Ok(false);
+    }
+    let at_guard = meet(alloc, under, guard)?;
+    if !follows(alloc, other, &at_guard)? {
+        return Ok(false);
+    }
+    let at_other = meet(alloc, under, other)?;
+    follows(alloc, guard, &at_other)
+}
+
+// Of the two the one that is shorter to read, if the other stands for the guard wherever `under` holds.
+fn shorter(
+    alloc: Global,
+    short: Constraint,
+    guard: &Constraint,
+    under: &Constraint,
+) -> Result<Constraint, NoMemory>
+    requires { IsShortened under.now guard.now short }
+    ensures { IfOk result (IsShortened under.now guard.now) }
+{
+    let other = reworded(alloc, guard, under)?;
+    if reading_length(&other) < reading_length(&short)
+        && says_the_same(alloc, &other, guard, under)?
+    {
+        return Ok(other);
+    }
+    Ok(short)
+}
+
+// The same, where a few choices are tried first.
+fn always_follows(alloc: Global, guard: &Constraint, under: &Constraint) -> Result<bool, NoMemory>
+    ensures yes { IfOk result (λ b. IsTrue b → (e : List Atom) → IsTrue (holds e under.now) → IsTrue (holds e guard.now)) }
+    ensures no { IfOk result (λ b. IsFalse b → (e : List Atom) × IsTrue (holds e under.now) × IsFalse (holds e guard.now)) }
+{
+    if is_refuted(alloc, guard, under)? {
+        return Ok(false);
+    }
+    follows(alloc, guard, under)
+}
+
+// A short constraint for the guard, where the search for it takes little time.
+fn reread(alloc: Global, guard: &Constraint, under: &Constraint) -> Result<Constraint, NoMemory>
+    ensures { IfOk result (IsShortened under.now guard.now) }
+{
+    if guard.len() > MOST_SHORTENED {
+        return guard.copy(alloc);
+    }
+    let short = shortened(alloc, guard, under)?;
+    if !is_worth_rewording(guard, under) {
+        return Ok(short);
+    }
+    shorter(alloc, short, guard, under)
+}
+
+/// A short constraint that holds at the same choices as the guard wherever `under` does: `true` where the guard holds wherever
+/// `under` does. Errors: `NoMemory`.
+pub fn shortest(
+    alloc: Global,
+    guard: &Constraint,
+    under: &Constraint,
+) -> Result<Constraint, NoMemory>
+    ensures shortened { IfOk result (IsShortened under.now guard.now) }
+    ensures normalised { IfOk result IsNormalised }
+    ensures plain { IfOk result (λ r. (n : ℕ) → ConstraintFits n under.now → ConstraintFits n guard.now → IsPlain r under.now n) }
+{
+    if always_follows(alloc, guard, under)? {
+        return Constraint::always(alloc);
+    }
+    let short = reread(alloc, guard, under)?;
+    normalise(alloc, &short)
+}
+
+/// A constraint that holds at the same choices as the guard wherever `under` does. Where it is to be read it is the shortest
+/// that is found, and otherwise one that is found at once.
+pub(crate) fn reduced(
+    alloc: Global,
+    guard: &Constraint,
+    under: &Constraint,
+    brief: bool,
+) -> Result<Constraint, NoMemory>
+    ensures shortened { IfOk result (IsShortened under.now guard.now) }
+    ensures normalised { IfOk result IsNormalised }
+    ensures plain { IfOk result (λ r. IsTrue brief → (n : ℕ) → ConstraintFits n under.now → ConstraintFits n guard.now → IsPlain r under.now n) }
+{
+    let short = shortened(alloc, guard, under)?;
+    if brief {
+        return shortest(alloc, &short, under);
+    }
+    normalise(alloc, &short)
 }

@@ -11,7 +11,8 @@ ghost use Rattle.lois_deciders.specs.Satisfaction.{IsConstraintSample, Constrain
 ghost use Rattle.lois_deciders.specs.Conjunction.{IsSampledConjunction, AreInconsistent};
 ghost use Rattle.lois_deciders.specs.OnlyAsked.{HasOnlyAsked};
 ghost use Rattle.lois_simplify.specs.Simplification.{IsSimplification, IsSameWhere, set_of};
-ghost use Rattle.lois_simplify.specs.Irredundant.{HasNormalGuards, PartsHaveNormalGuards, IsIrredundantComp};
+ghost use Rattle.lois_simplify.specs.Irredundant.{HasNormalGuards, PartsHaveNormalGuards};
+ghost use Rattle.lois_simplify.specs.Plain.{HasPlainGuards, PartsHavePlainGuards, IsLeanComp};
 ghost use Rattle.lois_simplify.specs.Rounds.{only, listed_comp, IsRoundOf};
 
 use crate::covering::uncovered;
@@ -48,6 +49,56 @@ pub fn simplify<T: Structure>(
     // whatever is answered
     ensures only_asked { HasOnlyAsked (λ b. (⟦<dyn Decider as Decider>⟧ b.vtable).kind_of b.value) (λ b. (⟦<dyn Decider as Decider>⟧ b.vtable).questions b.value) chosen.old chosen.new }
 {
+    simplify_worded::<T>(alloc, term, under, false, size, chosen)
+}
+
+/// The same for a reader: a guard that holds wherever what surrounds it does is `true`, and the others are as short as they are
+/// found to be. That takes its time, so what is only kept is given to `simplify`. Errors: `NoMemory`.
+pub fn simplify_to_read<T: Structure>(
+    alloc: Global,
+    term: &Term,
+    under: &Constraint,
+    size: usize,
+    chosen: &mut Chosen,
+) -> Result<Term, NoMemory>
+    requires levels { Fits size (tree term.now) }
+    requires under_levels { ConstraintFits size under.now }
+    requires operators { AdmitsTerm T.ordered (tree term.now) }
+    requires under_operators { AdmitsConstraint T.ordered under.now }
+    ensures value { IfOk result (λ r. IsSameWhere under.now size (tree term.now) (tree r)) }
+    ensures normal { IfOk result (λ r. IsNormal (tree r) under.now size) }
+    ensures guards { IfOk result (λ r. HasNormalGuards (tree r)) }
+    ensures plain { IfOk result (λ r. HasPlainGuards (tree r) under.now size) }
+    ensures levels { IfOk result (λ r. Fits size (tree r)) }
+    ensures operators { IfOk result (λ r. (ordered : Bool) → AdmitsTerm ordered (tree term.now) → AdmitsTerm ordered (tree r)) }
+    ensures widths { IfOk result (λ r. HasBoundedWidths (tree term.now) → HasBoundedWidths (tree r)) }
+    ensures depth { IfOk result (λ r. depth (tree r) ≤ depth (tree term.now)) }
+
+    // whatever is answered
+    ensures only_asked { HasOnlyAsked (λ b. (⟦<dyn Decider as Decider>⟧ b.vtable).kind_of b.value) (λ b. (⟦<dyn Decider as Decider>⟧ b.vtable).questions b.value) chosen.old chosen.new }
+{
+    simplify_worded::<T>(alloc, term, under, true, size, chosen)
+}
+
+// `brief` says that the guards are to be read.
+fn simplify_worded<T: Structure>(
+    alloc: Global,
+    term: &Term,
+    under: &Constraint,
+    brief: bool,
+    size: usize,
+    chosen: &mut Chosen,
+) -> Result<Term, NoMemory>
+    requires levels { Fits size (tree term.now) }
+    requires under_levels { ConstraintFits size under.now }
+    requires operators { AdmitsTerm T.ordered (tree term.now) }
+    requires under_operators { AdmitsConstraint T.ordered under.now }
+    ensures kept { IfOk result (λ r. IsSimplification under.now size (tree term.now) (tree r)) }
+    ensures normal { IfOk result (λ r. IsNormal (tree r) under.now size) }
+    ensures guards { IfOk result (λ r. HasNormalGuards (tree r)) }
+    ensures plain { IfOk result (λ r. IsTrue brief → HasPlainGuards (tree r) under.now size) }
+    ensures only_asked { HasOnlyAsked (λ b. (⟦<dyn Decider as Decider>⟧ b.vtable).kind_of b.value) (λ b. (⟦<dyn Decider as Decider>⟧ b.vtable).questions b.value) chosen.old chosen.new }
+{
     let mut asking = Queries {
         decider: chosen,
         sample: |asked: &mut Chosen, alloc: Global, c: &Constraint, size: usize|
@@ -71,7 +122,7 @@ pub fn simplify<T: Structure>(
             ensures only_asked { HasOnlyAsked (λ b. kind_of (b.vtable, b.value)) (λ b. questions (b.vtable, b.value)) asked.old asked.new }
         { asked.entails(alloc, c, d, size) },
     };
-    simplified_copy::<T, _>(alloc, term, under, size, &mut asking)
+    simplified_copy::<T, _>(alloc, term, under, brief, size, &mut asking)
 }
 
 fn is_plain(term: &Term) -> bool {
@@ -127,6 +178,7 @@ fn simplified_copy<T: Structure, D: Oracle>(
     alloc: Global,
     term: &Term,
     under: &Constraint,
+    brief: bool,
     size: usize,
     decider: &mut D,
 ) -> Result<Term, NoMemory>
@@ -138,11 +190,12 @@ fn simplified_copy<T: Structure, D: Oracle>(
     ensures kept { IfOk result (λ r. IsSimplification under.now size (tree term.now) (tree r)) }
     ensures normal { IfOk result (λ r. IsNormal (tree r) under.now size) }
     ensures guards { IfOk result (λ r. HasNormalGuards (tree r)) }
+    ensures plain { IfOk result (λ r. IsTrue brief → HasPlainGuards (tree r) under.now size) }
     ensures asked { D.reaches decider.old decider.new }
 {
     let own = term.copy(alloc)?;
     let met = is_known_met(alloc, term, under, size, decider)?;
-    simplified::<T, D>(alloc, own, under, met, size, decider)
+    simplified::<T, D>(alloc, own, under, met, brief, size, decider)
 }
 
 #[cycle(simplifying)]
@@ -151,6 +204,7 @@ fn simplified<T: Structure, D: Oracle>(
     term: Term,
     under: &Constraint,
     met: bool,
+    brief: bool,
     size: usize,
     decider: &mut D,
 ) -> Result<Term, NoMemory>
@@ -163,16 +217,17 @@ fn simplified<T: Structure, D: Oracle>(
     ensures kept { IfOk result (λ r. IsSimplification under.now size (tree term) (tree r)) }
     ensures normal { IfOk result (λ r. IsNormal (tree r) under.now size) }
     ensures guards { IfOk result (λ r. HasNormalGuards (tree r)) }
+    ensures plain { IfOk result (λ r. IsTrue brief → HasPlainGuards (tree r) under.now size) }
     ensures asked { D.reaches decider.old decider.new }
 {
     match term {
         Term::Var(level) => Ok(Term::Var(level)),
         Term::Tag(name) => Ok(Term::Tag(name)),
         Term::Tup(parts) => Ok(Term::Tup(simplified_parts::<T, D>(
-            alloc, parts, under, met, size, decider,
+            alloc, parts, under, met, brief, size, decider,
         )?)),
         Term::Coll(comps) => {
-            let lean = irredundant_comps::<T, D>(alloc, comps, under, met, size, decider)?;
+            let lean = irredundant_comps::<T, D>(alloc, comps, under, met, brief, size, decider)?;
             Ok(Term::Coll(uncovered::<T, D>(alloc, lean, under, size, decider)?))
         }
     }
@@ -184,6 +239,7 @@ fn simplified_parts<T: Structure, D: Oracle>(
     parts: Terms,
     under: &Constraint,
     met: bool,
+    brief: bool,
     size: usize,
     decider: &mut D,
 ) -> Result<Terms, NoMemory>
@@ -196,11 +252,12 @@ fn simplified_parts<T: Structure, D: Oracle>(
     ensures kept { IfOk result (λ r. IsSimplification under.now size (tup (terms_of parts)) (tup (terms_of r))) }
     ensures normal { IfOk result (λ r. PartsAreNormal (terms_of r) under.now size) }
     ensures guards { IfOk result (λ r. PartsHaveNormalGuards (terms_of r)) }
+    ensures plain { IfOk result (λ r. IsTrue brief → PartsHavePlainGuards (terms_of r) under.now size) }
     ensures asked { D.reaches decider.old decider.new }
 {
     let mut simple = Terms::new(alloc);
     for part in parts.into_vec() {
-        simple.push(simplified::<T, D>(alloc, part, under, met, size, decider)?)?;
+        simple.push(simplified::<T, D>(alloc, part, under, met, brief, size, decider)?)?;
     }
     Ok(simple)
 }
@@ -213,6 +270,7 @@ fn irredundant_comps<T: Structure, D: Oracle>(
     comps: Comps,
     under: &Constraint,
     met: bool,
+    brief: bool,
     size: usize,
     decider: &mut D,
 ) -> Result<Comps, NoMemory>
@@ -223,13 +281,15 @@ fn irredundant_comps<T: Structure, D: Oracle>(
     requires operators { AdmitsItems T.ordered (comps_of comps) }
     requires under_operators { AdmitsConstraint T.ordered under.now }
     ensures kept { IfOk result (λ r. IsSimplification under.now size (set_of comps) (set_of r)) }
-    ensures lean { IfOk result (All (IsIrredundantComp under.now size)) }
+    ensures lean { IfOk result (All (IsLeanComp brief under.now size)) }
     ensures asked { D.reaches decider.old decider.new }
 {
     let several = distinct(alloc, comps)?;
     let mut found = Comps::new(alloc);
     for comp in several.into_vec() {
-        if let Some(simple) = irredundant_comp::<T, D>(alloc, comp, under, met, size, decider)? {
+        if let Some(simple) = irredundant_comp::<T, D>(
+            alloc, comp, under, met, brief, size, decider,
+        )? {
             found.push(simple)?;
         }
     }
@@ -243,6 +303,7 @@ fn irredundant_comp<T: Structure, D: Oracle>(
     comp: Comp,
     under: &Constraint,
     met: bool,
+    brief: bool,
     size: usize,
     decider: &mut D,
 ) -> Result<Option<Comp>, NoMemory>
@@ -253,12 +314,12 @@ fn irredundant_comp<T: Structure, D: Oracle>(
     requires operators { AdmitsComp T.ordered (comp_of comp) }
     requires under_operators { AdmitsConstraint T.ordered under.now }
     ensures kept { IfOk result (λ o. IsSimplification under.now size (set_of (only (comp_of comp))) (set_of (listed_comp o))) }
-    ensures lean { IfOk result (λ o. IfSome o (λ k. IsIrredundantComp under.now size (comp_of k))) }
+    ensures lean { IfOk result (λ o. IfSome o (λ k. IsLeanComp brief under.now size (comp_of k))) }
     ensures asked { D.reaches decider.old decider.new }
 {
     let mut current = comp;
     'rounds: loop {
-        match one_round::<T, D>(alloc, current, under, met, size, decider)? {
+        match one_round::<T, D>(alloc, current, under, met, brief, size, decider)? {
             Round::Lean(simple) => return Ok(Some(simple)),
             Round::Empty => return Ok(None),
             Round::Shorter(shorter) => current = shorter,
@@ -273,6 +334,7 @@ fn one_round<T: Structure, D: Oracle>(
     comp: Comp,
     under: &Constraint,
     met: bool,
+    brief: bool,
     size: usize,
     decider: &mut D,
 ) -> Result<Round, NoMemory>
@@ -282,10 +344,12 @@ fn one_round<T: Structure, D: Oracle>(
     requires met { IsTrue met → ConstraintIsSatisfiable size under.now }
     requires operators { AdmitsComp T.ordered (comp_of comp) }
     requires under_operators { AdmitsConstraint T.ordered under.now }
-    ensures round { IfOk result (IsRoundOf under.now size comp) }
+    ensures round { IfOk result (IsRoundOf brief under.now size comp) }
     ensures asked { D.reaches decider.old decider.new }
 {
-    let Open { comp, here } = match open_round::<T, D>(alloc, comp, under, met, size, decider)? {
+    let Open { comp, here } = match open_round::<T, D>(
+        alloc, comp, under, met, brief, size, decider,
+    )? {
         Opening::Over(round) => return Ok(round),
         Opening::Open(open) => open,
     };
@@ -295,7 +359,7 @@ fn one_round<T: Structure, D: Oracle>(
         guard,
         item,
     } = comp;
-    let item = simplified::<T, D>(alloc, item, &here, true, inner, decider)?;
+    let item = simplified::<T, D>(alloc, item, &here, true, brief, inner, decider)?;
     let comp = Comp {
         binders,
         guard,

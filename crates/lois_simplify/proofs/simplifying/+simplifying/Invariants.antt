@@ -28,7 +28,7 @@ invariant-simplified_parts-loop-part g l =
     record {
       can_next : (goal.iterator-simplified_parts-loop-part g).can_next l.part-iterator;
       is_finite : (goal.iterator-simplified_parts-loop-part g).is_finite l.part-iterator;
-      simplified : PartsSimplified l.under l.size (map tree l.yielded) l.simple;
+      simplified : PartsSimplified l.brief l.under l.size (map tree l.yielded) l.simple;
       asked : g.D.Oracle.reaches l.fn.decider l.decider;
     }
 
@@ -37,7 +37,7 @@ invariant-irredundant_comps-loop-comp g l =
     record {
       can_next : (goal.iterator-irredundant_comps-loop-comp g).can_next l.comp-iterator;
       is_finite : (goal.iterator-irredundant_comps-loop-comp g).is_finite l.comp-iterator;
-      lean : LeanSoFar l.under l.size (map comp_of l.yielded) l.found;
+      lean : LeanSoFar l.brief l.under l.size (map comp_of l.yielded) l.found;
       asked : g.D.Oracle.reaches l.fn.decider l.decider;
     }
 

@@ -3,7 +3,7 @@ use Rattle.lois_deciders.specs.OnlyAsked.{HasOnlyAsked}
 use Rattle.lois_deciders.specs.declared.chosen.Chosen.{Chosen}
 use Rattle.lois_deciders.proofs.OnlyAsked.{only_asked_nothing, only_asked_then}
 use Rattle.lois_deciders.proofs.Reached.{reached_keeps, kept_between}
-use Rattle.lois_simplify.proofs.simplifying.simplify.Goals as goal
+use Rattle.lois_simplify.proofs.simplifying.simplify_worded.Goals as goal
 
 pub returns-clause-only_asked : goal.returns-clause-only_asked
 returns-clause-only_asked g c =

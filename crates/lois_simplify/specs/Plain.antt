@@ -1,0 +1,34 @@
+-- Guards that always hold are written as `true`.
+use Rattle.std.specs.Prelude.{◌≡◌, ℕ, ◌+◌, Bool, List, [], ◌∷◌, IsTrue}
+use Rattle.lois_base.specs.Data.{TermD, var, tag, tup, coll, TermsD, no_terms, term, CompD, comp, CompsD, no_comps, more}
+use Rattle.lois_base.specs.Normal.{both}
+use Rattle.lois_base.specs.declared.guards.Lit.{Lit}
+use Rattle.lois_deciders.specs.Satisfaction.{IsEntailed}
+use Rattle.lois_simplify.specs.Irredundant.{IsIrredundantComp}
+
+-- a guard that holds at each choice of n atoms at which u does is one cube without literals
+abbrev pub IsPlain : List (List Lit) → List (List Lit) → ℕ → Type 0
+IsPlain g u n = IsEntailed n u g → g ≡ [] ∷ []
+
+-- Each guard is plain under what surrounds it, those inside too. Around the term, inside n levels, u holds.
+abbrev mutual
+  pub HasPlainGuards : TermD → List (List Lit) → ℕ → Type 0
+  HasPlainGuards (var i) u n = Unit {0}
+  HasPlainGuards (tag t) u n = Unit {0}
+  HasPlainGuards (tup ts) u n = PartsHavePlainGuards ts u n
+  HasPlainGuards (coll cs) u n = ItemsHavePlainGuards cs u n
+
+  pub PartsHavePlainGuards : TermsD → List (List Lit) → ℕ → Type 0
+  PartsHavePlainGuards no_terms u n = Unit {0}
+  PartsHavePlainGuards (term t ts) u n = HasPlainGuards t u n × PartsHavePlainGuards ts u n
+
+  pub CompHasPlainGuards : CompD → List (List Lit) → ℕ → Type 0
+  CompHasPlainGuards (comp m g t) u n = IsPlain g u (n + m) × HasPlainGuards t (both u g) (n + m)
+
+  pub ItemsHavePlainGuards : CompsD → List (List Lit) → ℕ → Type 0
+  ItemsHavePlainGuards no_comps u n = Unit {0}
+  ItemsHavePlainGuards (more c cs) u n = CompHasPlainGuards c u n × ItemsHavePlainGuards cs u n
+
+-- lean by itself, and with plain guards if they are to be read
+abbrev pub IsLeanComp : Bool → List (List Lit) → ℕ → CompD → Type 0
+IsLeanComp brief u n k = IsIrredundantComp u n k × (IsTrue brief → CompHasPlainGuards k u n)
