@@ -3,7 +3,7 @@ use Rattle.std.proofs.Common.{◌≡◌, ℕ, ◌+◌, ◌<◌, ◌≤◌, Bool,
 use Rattle.std.proofs.lemmas.Bool.{false≢true}
 use Rattle.std.specs.Bool.{IsTrue, IsFalse}
 use Rattle.lois_base.specs.Atom.{Atom}
-use Rattle.lois_base.specs.Data.{coll, CompD, comp, CompsD, more, comps_of, TermD}
+use Rattle.lois_base.specs.Data.{coll, CompD, comp, CompsD, no_comps, more, comps_of, TermD}
 use Rattle.lois_base.specs.FormulaData.{FormulaD}
 use Rattle.lois_base.specs.FormulaTruth.{FormulaHolds}
 use Rattle.lois_base.specs.Tree.{comp_of}
@@ -37,6 +37,9 @@ both_where n P Q p q r one two met c l = (
 
 pub where_as : (n : ℕ) (P Q : List Atom → Type 0) (r : List (List Lit)) → ((c : List Atom) → length c ≡ n → P c ↔ Q c) → HoldsWhere n P r → HoldsWhere n Q r
 where_as n P Q r same h c l = (λ x. (same c l).0 ((h c l).0 x), λ x. (h c l).1 ((same c l).1 x))
+
+pub unless_as : (n : ℕ) (P Q : List Atom → Type 0) (r : List (List Lit)) → ((c : List Atom) → P c ↔ Q c) → HoldsUnless n P r → HoldsUnless n Q r
+unless_as n P Q r same h c l = (λ x q. (h c l).0 x ((same c).1 q), λ x. (same c).0 ((h c l).1 x))
 
 pub unless_not : (n : ℕ) (P : List Atom → Type 0) (f r : List (List Lit)) → HoldsUnless n P f → ((d : List Atom) → holds d r ≡ not (holds d f)) → HoldsWhere n P r
 unless_not n P f r h met c l = go (holds c f) (met c) (h c l).0 (h c l).1
@@ -144,22 +147,21 @@ agree_split_first Q rest next k c e = subst (λ z. AllAgree (IsAmong z c) Q ↔ 
 )
 
 -- the pairs of a comprehension with those of each of a list
-module _ (n : ℕ) (k : CompD) (qs : List CompD) where
+module _ (n : ℕ) (k : CompD) (whole : CompsD) where
   abbrev pub ClashSoFar : CompsD → List (List Lit) → Type 0
-  ClashSoFar rest r = UnlessSoFar n (λ c. AllAgree (IsCompMember k c) (IsAmong rest c)) (λ c. AllAgree (IsCompMember k c) (IsAmong (comps_of qs) c)) r
+  ClashSoFar rest r = UnlessSoFar n (λ c. AllAgree (IsCompMember k c) (IsAmong rest c)) (λ c. AllAgree (IsCompMember k c) (IsAmong whole c)) r
 
-  pub clash_begin : (items : List Comp) (r : List (List Lit)) → map comp_of items ≡ qs → r ≡ [] → ClashSoFar (comps_from items 0) r
-  clash_begin items r e empty = subst (λ z. ClashSoFar (comps_of z) r) (sym e) (subst (λ z. ClashSoFar (comps_of qs) z) (sym empty) (unless_begin n (λ c. AllAgree (IsCompMember k c) (IsAmong (comps_of qs) c))))
+  pub clash_begin : (r : List (List Lit)) → r ≡ [] → ClashSoFar whole r
+  clash_begin r empty = subst (λ z. ClashSoFar whole z) (sym empty) (unless_begin n (λ c. AllAgree (IsCompMember k c) (IsAmong whole c)))
 
-  pub clash_more : (items : List Comp) (i : ℕ) (q : Comp) (r found longer : List (List Lit)) → i < length items → q ≡ get_or items i q → HoldsUnless n (λ c. AllAgree (IsCompMember k c) (IsCompMember (comp_of q) c)) found → ((d : List Atom) → holds d longer ≡ (holds d r || holds d found)) →
-      ClashSoFar (comps_from items i) r → ClashSoFar (comps_from items (i + 1)) longer
-  clash_more items i q r found longer l is one either h =
-      unless_more n (λ c. AllAgree (IsCompMember k c) (IsAmong (comps_from items i) c)) (λ c. AllAgree (IsCompMember k c) (IsCompMember (comp_of q) c)) (λ c. AllAgree (IsCompMember k c) (IsAmong (comps_from items (i + 1)) c)) (λ c. AllAgree (IsCompMember k c) (IsAmong (comps_of qs) c)) r found longer
-      (λ c. agree_split (IsCompMember k c) (comps_from items i) (comps_from items (i + 1)) (comp_of q) c (comps_are items i q l is)) one either h
+  pub clash_more : (rest next : CompsD) (q : CompD) (r found longer : List (List Lit)) → rest ≡ more q next → HoldsUnless n (λ c. AllAgree (IsCompMember k c) (IsCompMember q c)) found → ((d : List Atom) → holds d longer ≡ (holds d r || holds d found)) → ClashSoFar rest r → ClashSoFar next longer
+  clash_more rest next q r found longer is one either h =
+      unless_more n (λ c. AllAgree (IsCompMember k c) (IsAmong rest c)) (λ c. AllAgree (IsCompMember k c) (IsCompMember q c)) (λ c. AllAgree (IsCompMember k c) (IsAmong next c)) (λ c. AllAgree (IsCompMember k c) (IsAmong whole c)) r found longer
+      (λ c. agree_split (IsCompMember k c) rest next q c is) one either h
 
-  pub clash_end : (items : List Comp) (i : ℕ) (r : List (List Lit)) → length items ≤ i → ClashSoFar (comps_from items i) r → HoldsUnless n (λ c. AllAgree (IsCompMember k c) (IsAmong (comps_of qs) c)) r
-  clash_end items i r l h =
-      unless_end n (λ c. AllAgree (IsCompMember k c) (IsAmong (comps_from items i) c)) (λ c. AllAgree (IsCompMember k c) (IsAmong (comps_of qs) c)) r (λ c x y a v v' p q. absurd (subst (λ z. IsAmong z c y) (no_comps_left items i l) q)) h
+  pub clash_end : (rest : CompsD) (r : List (List Lit)) → rest ≡ no_comps → ClashSoFar rest r → HoldsUnless n (λ c. AllAgree (IsCompMember k c) (IsAmong whole c)) r
+  clash_end rest r none h =
+      unless_end n (λ c. AllAgree (IsCompMember k c) (IsAmong rest c)) (λ c. AllAgree (IsCompMember k c) (IsAmong whole c)) r (λ c x y a v v' p q. absurd (subst (λ z. IsAmong z c y) none q)) h
 
 -- the pairs of each of a list with those of each
 module _ (n : ℕ) (vs : List CompD) where

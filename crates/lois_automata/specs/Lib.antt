@@ -6,3 +6,4 @@ pub mod RoundsLaw
 pub mod Adding
 pub mod Built
 pub mod Projections
+pub mod KeyShapes

@@ -1,6 +1,6 @@
 //! Where a value is an automaton, deterministic, complete, as constraints.
 
-ghost use Rattle.std.specs.Prelude.{◌≡◌, ℕ, ◌+◌, Bool, List, IfOk, OnOk};
+ghost use Rattle.std.specs.Prelude.{◌≡◌, ℕ, ◌+◌, ◌++◌, Bool, List, map, IfOk, OnOk};
 ghost use Rattle.lois_base.specs.Atom.{Atom};
 ghost use Rattle.lois_base.specs.Data.{coll, comps_of};
 ghost use Rattle.lois_base.specs.Fits.{ConstraintFits, Fits, CompFits, ItemsFit};
@@ -9,9 +9,11 @@ ghost use Rattle.lois_base.specs.Validity.{AdmitsConstraint, AdmitsTerm, AdmitsC
 ghost use Rattle.lois_base.specs.Values.{PointValue, point, IsIn, IsIncluded, IsSame};
 ghost use Rattle.lois_algebra.specs.Gathered.{IsAmong, IsCompMember};
 ghost use Rattle.lois_terms.specs.Guarded.{IsColl};
+ghost use Rattle.lois_automata.specs.KeyShapes.{comp_key_shape};
 ghost use Rattle.lois_automata.specs.Projections.{AllAgree, IsFunction, HasOneAtMost, HasUniqueTargets, AreTriples, ArePartsIn, StepsJoin};
 ghost use Rattle.lois_automata.specs.Throughout.{HoldsWhere, HoldsUnless};
 
+use crate::keys::{index_by_key, key_shape};
 use crate::pairing::{pair_comps, pairs};
 use crate::parts::{FiveSets, pair_parts};
 use crate::projections::{Projection, non_triples, project_steps};
@@ -20,6 +22,7 @@ use lois_base::{Comp, Comps, Constraint, NoMemory, Structure, Term};
 use lois_constraint::{and_not, meet, negate, or};
 use lois_elim::{for_some_more, quantifier_free};
 use lois_relate::{equal_formula, included_formula};
+use lois_terms::Index;
 use std::alloc::Global;
 
 /// Where each member of `s` is in `t`.
@@ -77,6 +80,16 @@ fn where_making<T: Structure>(
     for_some_more::<T>(alloc, guard, size, comp.binders)
 }
 
+// Puts the cubes of a constraint behind others.
+fn append(cubes: &mut Constraint, more: Constraint) -> Result<(), NoMemory>
+    ensures { OnOk result (cubes.new ≡ cubes.old ++ more) }
+{
+    for cube in more.into_vec() {
+        cubes.push(cube)?;
+    }
+    Ok(())
+}
+
 /// Where pairs in the set with the same first part have the same second part.
 pub fn where_function<T: Structure>(
     alloc: Global,
@@ -88,10 +101,11 @@ pub fn where_function<T: Structure>(
     ensures truth { IfOk result (HoldsWhere size (λ c. IsFunction (point (coll (comps_of items.now)) c))) }
     ensures levels { IfOk result (ConstraintFits size) }
 {
+    let index = index_by_key(alloc, items.as_slice())?;
     let mut found = Constraint::new(alloc);
     for first in items.as_slice() {
-        let clash = where_clashing::<T>(alloc, first, items, size)?;
-        found = or(alloc, &found, &clash)?;
+        let clash = where_clashing::<T>(alloc, first, items, &index, size)?;
+        append(&mut found, clash)?;
     }
     negate(alloc, &found)
 }
@@ -131,23 +145,29 @@ pub fn where_targets_unique<T: Structure>(
     where_function::<T>(alloc, &keyed, size)
 }
 
+// Where pairs of the comprehension and of the others with the same first part have different second parts. Only others are looked at
+// whose first parts have the shape of the comprehension's.
 fn where_clashing<T: Structure>(
     alloc: Global,
     first: &Comp,
     others: &Comps,
+    index: &Index,
     size: usize,
 ) -> Result<Constraint, NoMemory>
     requires first { CompFits size (comp_of first.now) }
     requires first_operators { AdmitsComp T.ordered (comp_of first.now) }
     requires second { ItemsFit size (comps_of others.now) }
     requires second_operators { AdmitsItems T.ordered (comps_of others.now) }
+    requires keys { index.now ≡ map comp_key_shape others.now }
     ensures truth { IfOk result (HoldsUnless size (λ c. AllAgree (IsCompMember (comp_of first.now) c) (IsAmong (comps_of others.now) c))) }
     ensures levels { IfOk result (ConstraintFits size) }
 {
+    let comps = others.as_slice();
     let mut found = Constraint::new(alloc);
-    for second in others.as_slice() {
+    for place in index.positions(key_shape(&first.item)) {
+        let second = &comps[*place];
         let clash = where_differing::<T>(alloc, first, second, size)?;
-        found = or(alloc, &found, &clash)?;
+        append(&mut found, clash)?;
     }
     Ok(found)
 }

@@ -8,6 +8,7 @@ ghost use Rattle.lois_base.specs.Validity.{AdmitsConstraint, AdmitsTerm, AdmitsC
 ghost use Rattle.lois_terms.specs.Guarded.{IsColl};
 ghost use Rattle.lois_automata.specs.Built.{AreTargets, AddsTarget};
 ghost use Rattle.lois_base.specs.OneProof.{items_prop};
+ghost use Rattle.lois_automata.specs.KeyShapes.{shapes_in};
 ghost use Rattle.lois_automata.specs.Rounds.{RoundParameters, IsSettled};
 ghost use Rattle.lois_automata.specs.RoundsLaw.{settled_prop};
 
@@ -15,13 +16,14 @@ use crate::joining::{
     copy_family, fresh_family, is_empty_family, is_over_nodes, is_same_family, join_family,
     set_of_family,
 };
-use crate::memberships::membership;
+use crate::memberships::{index_of, membership_indexed};
 use crate::parts::pair_parts;
 use lois_algebra::push_comp;
 use lois_base::{Comp, Comps, Constraint, NoMemory, Structure, Term};
 use lois_constraint::meet;
 use lois_order::OrderAtoms;
 use lois_rounds::{Family, Round};
+use lois_terms::Index;
 use std::alloc::Global;
 
 /// Propagates along the moves of a set, from nodes to nodes. A move is a pair; other members of the set are ignored.
@@ -113,9 +115,10 @@ pub fn targets_from<T: Structure>(
     ensures operators { IfOk result (λ r. (o : Bool) → AdmitsItems o (comps_of moves.now) → AdmitsTerm o (tree held.now) → AdmitsTerm o (tree r)) }
     ensures widths { IfOk result (λ r. ItemsHaveBoundedWidths (comps_of moves.now) → HasBoundedWidths (tree r)) }
 {
+    let index = index_of(alloc, held)?;
     let mut targets = Comps::new(alloc);
     for comp in moves.as_slice() {
-        add_target::<T>(alloc, &mut targets, comp, held, size)?;
+        add_target::<T>(alloc, &mut targets, comp, held, &index, size)?;
     }
     Ok(Term::Coll(targets))
 }
@@ -125,6 +128,7 @@ fn add_target<T: Structure>(
     targets: &mut Comps,
     comp: &Comp,
     held: &Term,
+    index: &Index,
     size: usize,
 ) -> Result<(), NoMemory>
     requires levels { CompFits size (comp_of comp.now) }
@@ -132,12 +136,13 @@ fn add_target<T: Structure>(
     requires held_levels { Fits size (tree held.now) }
     requires held_set { IsColl (tree held.now) }
     requires held_operators { AdmitsTerm T.ordered (tree held.now) }
+    requires shapes { index.now ≡ shapes_in (tree held.now) }
     ensures { OnOk result (AddsTarget size (comp_of comp.now) (tree held.now) (comps_of targets.old) (comps_of targets.new)) }
 {
     let Some((from, to)) = pair_parts(&comp.item) else {
         return Ok(());
     };
-    let found = membership::<T>(alloc, from, held, size, comp.binders)?;
+    let found = membership_indexed::<T>(alloc, from, held, index, size, comp.binders)?;
     if found.len() == 0 {
         return Ok(());
     }

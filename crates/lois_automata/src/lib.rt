@@ -5,6 +5,7 @@ mod checks;
 mod conditions;
 mod frontier;
 mod joining;
+mod keys;
 mod memberships;
 mod operations;
 mod pairing;
