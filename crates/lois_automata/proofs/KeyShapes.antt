@@ -3,8 +3,8 @@ use Rattle.std.proofs.Common.{◌≡◌, ℕ, ◌↔◌, Some, List, [], ◌∷�
 use Rattle.std.proofs.lemmas.Option.{slice_get-map}
 use Rattle.std.specs.Prelude.{slice_get, option_map, Contains}
 use Rattle.lois_base.specs.Atom.{Atom}
-use Rattle.lois_base.specs.Data.{TermD, var, tag, tup, coll, no_terms, term, CompD, comp, CompsD, comps_of}
-use Rattle.lois_base.specs.Values.{PointValue, point, IsSame, OneIsAt}
+use Rattle.lois_base.specs.Data.{TermD, CompD, comp, comps_of}
+use Rattle.lois_base.specs.Values.{PointValue, point, OneIsAt}
 use Rattle.lois_base.proofs.Members.{same_sym, same_trans}
 use Rattle.lois_algebra.specs.Gathered.{IsAmong, IsCompMember}
 use Rattle.lois_meaning.specs.Automata.{IsPair}
@@ -15,20 +15,11 @@ use Rattle.lois_terms.specs.Shapes.{shape_of, item_shape}
 use Rattle.lois_terms.proofs.Shapes.{one_shape}
 use Rattle.lois_automata.specs.KeyShapes.{key_shape_of, comp_key_shape, item_shapes}
 use Rattle.lois_automata.specs.Projections.{AllAgree, pair_of}
-use Rattle.lois_automata.proofs.Written.{pair_is, pair_here, pair_term}
+use Rattle.lois_automata.proofs.Written.{pair_is, pair_term}
 
 pub shapes_are : (ks : List CompD) → item_shapes (comps_of ks) ≡ map item_shape ks
 shapes_are [] = refl
 shapes_are (k ∷ ks) = ap (λ z. item_shape k ∷ z) (shapes_are ks)
-
-pub no_key : (t : TermD) → ((a b : TermD) → t ≡ pair_of a b → ⊥) → 0 ≡ key_shape_of t
-no_key (var i) never = refl
-no_key (tag x) never = refl
-no_key (coll ks) never = refl
-no_key (tup no_terms) never = refl
-no_key (tup (term a no_terms)) never = refl
-no_key (tup (term a (term b no_terms))) never = absurd (never a b refl)
-no_key (tup (term a (term b (term d ts)))) never = refl
 
 -- a comprehension that makes a pair has the shape of the pair's first part
 one_key : (k : CompD) (c d : List Atom) (a b : TermD) → OneIsAt k c (pair_of a b) d → comp_key_shape k ≡ shape_of a

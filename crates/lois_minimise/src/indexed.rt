@@ -1,20 +1,18 @@
 //! Sets that are asked often, by the shapes of their items.
 
-ghost use Rattle.std.specs.Prelude.{◌≡◌, ◌+◌, ◌<◌, ◌^◌, Bool, map, IfOk, OnOk};
+ghost use Rattle.std.specs.Prelude.{◌≡◌, ◌+◌, ◌<◌, ◌^◌, Bool, map, IfOk};
 ghost use Rattle.lois_base.specs.Data.{coll, comps_of};
-ghost use Rattle.lois_base.specs.Fits.{ConstraintFits, Fits, CompFits, ItemsFit};
-ghost use Rattle.lois_base.specs.Tree.{tree, comp_of};
-ghost use Rattle.lois_base.specs.Validity.{AdmitsConstraint, AdmitsTerm, AdmitsComp, AdmitsItems, ItemsHaveBoundedWidths};
+ghost use Rattle.lois_base.specs.Fits.{ConstraintFits, Fits, ItemsFit};
+ghost use Rattle.lois_base.specs.Tree.{tree};
+ghost use Rattle.lois_base.specs.Validity.{AdmitsConstraint, AdmitsTerm, AdmitsItems, ItemsHaveBoundedWidths};
 ghost use Rattle.lois_terms.specs.Shapes.{item_shape};
-ghost use Rattle.lois_automata.specs.Built.{HoldsWhereMember, AreTargets, AddsTarget};
+ghost use Rattle.lois_automata.specs.Built.{HoldsWhereMember, AreTargets};
 
-use lois_algebra::push_comp;
-use lois_automata::pair_parts;
-use lois_base::{Comp, Comps, Constraint, NoMemory, Structure, Term};
-use lois_constraint::meet;
+use lois_automata::targets_from;
+use lois_base::{Comps, Constraint, NoMemory, Structure, Term};
 use lois_elim::quantifier_free;
 use lois_relate::item_formula_indexed;
-use lois_terms::{Index, index_by_shape};
+use lois_terms::Index;
 use std::alloc::Global;
 
 /// A constraint over `size + by` levels that holds exactly where the item is in the set of the comprehensions, whose levels
@@ -43,7 +41,7 @@ pub fn indexed_membership<T: Structure>(
 
 /// What pairs lead to from members of a set: the second parts of those whose first part is in the set `held`. Members of `moves`
 /// that are no pairs are left out.
-pub fn indexed_targets<T: Structure>(
+pub fn targets_in<T: Structure>(
     alloc: Global,
     moves: &Comps,
     held: &Comps,
@@ -58,44 +56,9 @@ pub fn indexed_targets<T: Structure>(
     ensures operators { IfOk result (λ r. (o : Bool) → AdmitsItems o (comps_of moves.now) → AdmitsItems o (comps_of held.now) → AdmitsItems o (comps_of r)) }
     ensures widths { IfOk result (λ r. ItemsHaveBoundedWidths (comps_of moves.now) → ItemsHaveBoundedWidths (comps_of r)) }
 {
-    let index = index_by_shape(alloc, held.as_slice())?;
-    let mut targets = Comps::new(alloc);
-    for comp in moves.as_slice() {
-        add_target::<T>(alloc, &mut targets, comp, held, &index, size)?;
-    }
-    Ok(targets)
-}
-
-fn add_target<T: Structure>(
-    alloc: Global,
-    targets: &mut Comps,
-    comp: &Comp,
-    held: &Comps,
-    index: &Index,
-    size: usize,
-) -> Result<(), NoMemory>
-    requires levels { CompFits size (comp_of comp.now) }
-    requires operators { AdmitsComp T.ordered (comp_of comp.now) }
-    requires held_levels { ItemsFit size (comps_of held.now) }
-    requires held_operators { AdmitsItems T.ordered (comps_of held.now) }
-    requires shapes { index.now ≡ map item_shape held.now }
-    ensures { OnOk result (AddsTarget size (comp_of comp.now) (coll (comps_of held.now)) (comps_of targets.old) (comps_of targets.new)) }
-{
-    let Some((from, to)) = pair_parts(&comp.item) else {
-        return Ok(());
+    let set = Term::Coll(held.copy(alloc)?);
+    let Term::Coll(targets) = targets_from::<T>(alloc, moves, &set, size)? else {
+        unreachable!()
     };
-    let found = indexed_membership::<T>(alloc, from, held, index, size, comp.binders)?;
-    if found.len() == 0 {
-        return Ok(());
-    }
-    let guard = meet(alloc, &comp.guard, &found)?;
-    let item = to.copy(alloc)?;
-    push_comp(
-        targets,
-        Comp {
-            binders: comp.binders,
-            guard,
-            item,
-        },
-    )
+    Ok(targets)
 }

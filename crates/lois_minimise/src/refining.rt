@@ -9,7 +9,7 @@ ghost use Rattle.lois_base.specs.Values.{point};
 ghost use Rattle.lois_automata.specs.Projections.{automaton_at};
 ghost use Rattle.lois_minimise.specs.Classes.{IsCompleteDeterministicWithReach, AreIndistinguishable, ArePairsAcross, AreSplitPairs, AreBackward};
 
-use crate::indexed::indexed_targets;
+use crate::indexed::targets_in;
 use crate::partitioning::{Partition, partition_by};
 use lois_algebra::union;
 use lois_automata::{FiveSets, Projection, pair_steps, pairs, project_steps};
@@ -43,7 +43,7 @@ pub fn indistinguishable_pairs<T: Structure>(
             return Err(NoMemory);
         }
         count += 1;
-        let told = indexed_targets::<T>(alloc, &moves, &shares.inside, size)?;
+        let told = targets_in::<T>(alloc, &moves, &shares.inside, size)?;
         let next = partition_by::<T>(alloc, &shares.outside, &told, size)?;
         shares = next;
     }

@@ -12,7 +12,7 @@ ghost use Rattle.lois_terms.specs.Shapes.{shape_of, item_shape};
 ghost use Rattle.lois_automata.specs.Projections.{AddsOfOne, pair_of, triple_of};
 ghost use Rattle.lois_minimise.specs.Classes.{AreClassSteps, AreStepMoves, AreTransitions, AddsTransition, AddsTransitions, IsStepMove, transition_of};
 
-use crate::indexed::indexed_targets;
+use crate::indexed::targets_in;
 use lois_algebra::push_comp;
 use lois_automata::{pair, pair_comps, pair_parts, pairs, triple};
 use lois_base::{Comp, Comps, NoMemory, Structure, Term};
@@ -55,7 +55,7 @@ pub fn class_steps<T: Structure>(
     };
     let both = transitions(alloc, &reads, classes, steps, size)?;
     let moves = step_moves(alloc, &both)?;
-    let between = indexed_targets::<T>(alloc, &moves, steps, size)?;
+    let between = targets_in::<T>(alloc, &moves, steps, size)?;
     Ok(Term::Coll(between))
 }
 

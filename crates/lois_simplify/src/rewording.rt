@@ -6,15 +6,18 @@ use lois_base::{Constraint, Cube, Lit, NoMemory, Op};
 use lois_constraint::{implies, meet, prune, singleton};
 use std::alloc::Global;
 
-// The search takes the square of the number of cubes.
-const MOST_CUBES: usize = 24;
+// The search takes more than the square of a guard's length: a longer one stays long to read, whatever is found.
+const LONGEST_READ: usize = 20;
+
+// Each cube is met with all of what surrounds the guard.
+const MOST_SURROUNDING: usize = 24;
 
 // All pairs of a cube's levels are looked at.
 const MOST_LEVELS: usize = 8;
 
 /// Whether other words for the guard are worth their time. A single cube hardly gets shorter.
 pub(crate) fn is_worth_rewording(guard: &Constraint, under: &Constraint) -> bool {
-    guard.len() > 1 && guard.len() <= MOST_CUBES && under.len() <= MOST_CUBES
+    guard.len() > 1 && reading_length(guard) <= LONGEST_READ && under.len() <= MOST_SURROUNDING
 }
 
 /// How long the constraint is to read: its literals and its cubes.
