@@ -67,20 +67,6 @@ def queue(last):
             f"let m = (states, letters, steps, {{'q0}}, states);\n{last} print r;")
 
 
-def sorting(slow):
-    """A network that sorts five atoms: parameters, or the atoms of loops."""
-    names = "abcde"
-    text = f"let t = ({listed(names)});\n"
-    for i, j in ((1, 2), (4, 5), (3, 5), (3, 4), (1, 4), (1, 3), (2, 5), (2, 4), (2, 3)):
-        parts = [f"part(t, {k})" for k in range(1, 6)]
-        parts[i - 1], parts[j - 1] = parts[j - 1], parts[i - 1]
-        text += f"if part(t, {j}) < part(t, {i}) {{ t := ({listed(parts)}); }}\n"
-    text += "assert " + " and ".join(f"not part(t, {i + 1}) < part(t, {i})" for i in range(1, 5)) + ";"
-    if slow:
-        return f"atoms order; parameter {listed(names)};\n{text}"
-    return f"atoms order;\n{' '.join(f'for {x} in atoms {{' for x in names)}\n{text}\n{'}' * 5}"
-
-
 COMMON = ("let r = {(s, t) for s in states, t in states where exists u in steps: [part(u, 1) = s and "
           "exists v in steps: [part(v, 1) = t and part(v, 2) = part(u, 2)]]};",
           "let r = {(part(u, 1), part(v, 1)) for u in steps, v in steps where part(u, 2) = part(v, 2)};")
@@ -90,8 +76,7 @@ PAIRS = [("if, or a condition of a comprehension", cases(True), cases(False))]
 PAIRS += [(f"{n} states, named by parameters or tags", names_of_states(n, True), names_of_states(n, False)) for n in (4, 5, 6)]
 PAIRS += [(f"{n} atoms in order, with equal ones or without", order(n, True), order(n, False)) for n in (4, 5, 6)]
 PAIRS += [("common letters, by quantifiers or over steps", queue(COMMON[0]), queue(COMMON[1])),
-          ("reach in a condition, or before", queue(HOISTED[0]), queue(HOISTED[1])),
-          ("a sorting network, of parameters or in loops", sorting(True), sorting(False))]
+          ("reach in a condition, or before", queue(HOISTED[0]), queue(HOISTED[1]))]
 
 
 def measure(program, script):
