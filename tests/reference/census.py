@@ -50,26 +50,39 @@ def judge_census(name, source, output, status):
     rest = output.decode("latin-1")
     for number, (case, term) in enumerate(zip(results.cases, terms), 1):
         if meets(case.when, ()):
-            rest = judge_orbits(number, {shape for shape, _ in value_at(term, ()).orbits}, results.order, rest)
+            rest = judge_orbits(number, term, results.order, rest)
     demand(rest == "", "more than is expected: " + rest)
 
 
-def judge_orbits(number, shapes, order, text):
-    """The orbits of the case of this number, which a text begins with, are exactly these shapes, each once; what is
-    left."""
+def taken_from(comps, item, sample):
+    """How many of the comprehensions stand before the first that has this item, as it is written, where its guard
+    holds; all where none has it."""
+    for before, comp in enumerate(comps):
+        if comp.item == item and comp.binders == len(sample) and meets(comp.guard, sample):
+            return before
+    return len(comps)
+
+
+def judge_orbits(number, term, order, text):
+    """The orbits of the case of this number, which a text begins with, are exactly those of the set, each once, and
+    are taken from its comprehensions in their order; what is left."""
     head = re.match(rf"case {number}\norbits (0|[1-9]\d*)\n", text)
     demand(head, f"case {number} is expected")
-    text, left = text[head.end():], set(shapes)
+    shapes = {shape for shape, _ in value_at(term, ()).orbits}
+    text, left, comps = text[head.end():], set(shapes), term[1]
     for _ in range(int(head[1])):
         form = re.match(r"orbit ([^\n]*)\nchoice((?: (?:0|[1-9]\d*))*)\n", text)
         demand(form, f"case {number}: another orbit is expected")
         text, sample = text[form.end():], scaled(map(int, form[2].split()))
         try:
-            found = orbit_shapes(read_term(form[1], order, (), len(sample)), sample, order)
+            item = read_term(form[1], order, (), len(sample))
         except Refused:
             raise Wrong(f"case {number}: {form[1]} is no term") from None
+        found = orbit_shapes(item, sample, order)
         demand(found <= shapes, f"case {number}: {form[1]} is no member")
         demand(found <= left, f"case {number}: the orbit of {form[1]} stands twice")
         left -= found
+        comps = comps[taken_from(comps, item, sample):]
+        demand(comps, f"case {number}: {form[1]} isn't the item of the next comprehensions where its guard holds")
     demand(not left, f"case {number}: {len(left)} orbits of the order are missing")
     return text

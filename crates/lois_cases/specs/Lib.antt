@@ -1,3 +1,4 @@
 pub mod Cases
 pub mod Holding
 pub mod Partitions
+pub mod CaseCount

@@ -1,5 +1,5 @@
 -- From the orbits of each comprehension to those of the set.
-use Rattle.std.proofs.Common.{ℕ, zero, suc, ◌<◌, inl, inr, Bool, List, [], ◌∷◌, length, get_or, zero-add, refl, sym, ◌∙◌, subst, arith}
+use Rattle.std.proofs.Common.{◌≡◌, ℕ, zero, suc, ◌<◌, inl, inr, Bool, List, [], ◌∷◌, ◌++◌, length, get_or, append-nil, append_assoc, zero-add, refl, sym, ap, ◌∙◌, subst, arith}
 use Rattle.std.proofs.lemmas.List.Elements.{All-append, All-weaker, All-head, All-tail}
 use Rattle.std.specs.List.{All, Contains}
 use Rattle.lois_base.proofs.Members.{same_trans}
@@ -9,9 +9,9 @@ use Rattle.lois_base.specs.Fits.{Fits, CompFits, ItemsFit}
 use Rattle.lois_base.specs.Truth.{sampled}
 use Rattle.lois_base.specs.Validity.{AdmitsTerm, AdmitsComp, AdmitsItems, HasBoundedWidths, CompHasBoundedWidths, ItemsHaveBoundedWidths}
 use Rattle.lois_base.specs.Values.{PointValue, point, MakesAt, MemberAt, IsMember, IsIn}
-use Rattle.lois_census.specs.Left.{IsTakenFrom, IsTakenFromSome, IsCoveredByOrbits, AddsOnly, IsUsable}
+use Rattle.lois_census.specs.Left.{IsTakenFromSome, IsCoveredByOrbits, AddsOnly, IsUsable}
 use Rattle.lois_census.specs.OrbitData.{OrbitD}
-use Rattle.lois_census.specs.Orbits.{value_of, IsInOrbit, IsInListedOrbit, FitsSample}
+use Rattle.lois_census.specs.Orbits.{value_of, IsInOrbit, IsInListedOrbit, FitsSample, IsTakenFrom, AreTakenInOrder}
 use Rattle.lois_census.proofs.Lists.{Any-kept, Any-weaker}
 use Rattle.std.proofs.lemmas.List.{length-map}
 use Rattle.lois_base.specs.Atom.{whole}
@@ -103,3 +103,15 @@ module _ (ordered : Bool) (k : CompD) (xs ys : List OrbitD) (added : AddsOnly (I
   pub still_taken : (ks : List CompD) → Contains ks k → All (IsTakenFromSome ks) xs → All (IsTakenFromSome ks) ys
   still_taken ks there h =
       subst (All (IsTakenFromSome ks)) (sym added.1) (All-append (IsTakenFromSome ks) xs added.0 h (All-weaker (IsTakenFrom k) (IsTakenFromSome ks) (λ o p. (there.0, k, there.1, there.2, p)) added.0 added.2))
+
+-- the orbits of the comprehensions before it, and then its own
+pub still_in_order : (k : CompD) (ks : List CompD) (xs ys : List OrbitD) → AddsOnly (IsTakenFrom k) xs ys → AreTakenInOrder (comps_of ks) xs → AreTakenInOrder (comps_of (ks ++ k ∷ [])) ys
+still_in_order k [] xs ys added h =
+    (added.0, [], added.1 ∙ (ap (λ z. z ++ added.0) h ∙ sym (append-nil added.0)), added.2, refl)
+still_in_order k (q ∷ ks) xs ys added h = (
+  h.0,
+  h.1 ++ added.0,
+  added.1 ∙ (ap (λ z. z ++ added.0) h.2 ∙ append_assoc h.0 h.1 added.0),
+  h.3,
+  still_in_order k ks h.1 (h.1 ++ added.0) (added.0, refl, added.2) h.4,
+)

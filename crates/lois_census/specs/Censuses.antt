@@ -10,14 +10,15 @@ use Rattle.lois_answers.specs.ResultsData.{LineD, CaseD}
 use Rattle.lois_terms.specs.Guarded.{IsColl}
 use Rattle.lois_census.specs.CensusData.{CensusD}
 use Rattle.lois_census.specs.OrbitData.{OrbitD}
-use Rattle.lois_census.specs.Orbits.{value_of, IsInListedOrbit, AreDisjointOrbits, FitsSample}
+use Rattle.lois_census.specs.Orbits.{value_of, IsInListedOrbit, AreDisjointOrbits, FitsSample, AreTakenFrom}
 
--- each orbit is that of a member of the set t, and each member of it is in exactly one
+-- each orbit is that of a member of the set t, and each member of it is in exactly one; comprehensions give items, in their order
 pub record AreOrbitsOf (ordered : Bool) (t : TermD) (os : List OrbitD) : Type 0 where
   pub levels : All FitsSample os
   pub members : All (λ o. IsMember (value_of o) (point t [])) os
   pub each : (v : PointValue) → IsIn v (point t []) → IsInListedOrbit ordered os v
   pub once : AllPairs (AreDisjointOrbits ordered) os
+  pub taken : AreTakenFrom t os
   pub operators : (o : Bool) → AdmitsTerm o t → All (λ k. AdmitsTerm o k.item) os
   pub widths : HasBoundedWidths t → All (λ k. HasBoundedWidths k.item) os
 

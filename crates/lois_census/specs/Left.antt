@@ -7,15 +7,10 @@ use Rattle.lois_base.specs.Truth.{holds}
 use Rattle.lois_base.specs.Validity.{AdmitsTerm}
 use Rattle.lois_base.specs.Values.{point, IsExtension}
 use Rattle.lois_base.specs.declared.guards.Lit.{Lit}
-use Rattle.lois_deciders.specs.Satisfaction.{IsConstraintSample}
 use Rattle.lois_census.specs.OrbitData.{OrbitD}
-use Rattle.lois_census.specs.Orbits.{IsInOrbit, IsInListedOrbit, FitsSample}
+use Rattle.lois_census.specs.Orbits.{IsInOrbit, IsInListedOrbit, FitsSample, IsTakenFrom}
 
--- the orbit of an item of the comprehension, at numbers at which its guard holds
-abbrev pub IsTakenFrom : CompD → OrbitD → Type 0
-IsTakenFrom (comp m g t) o = (o.item ≡ t) × IsConstraintSample m g o.sample
-
--- of one of them
+-- the orbit is taken from one of them
 abbrev pub IsTakenFromSome : List CompD → OrbitD → Type 0
 IsTakenFromSome ks o = Any (λ k. IsTakenFrom k o) ks
 

@@ -1,12 +1,14 @@
 -- Orbits: what a value becomes where the atoms are moved one-to-one, and in order where they are ordered. Choices that stand
 -- alike (`AreAlike`) are equally long, have equal atoms at the same positions and, where `<` is admitted, the same pairs in order.
-use Rattle.std.specs.Prelude.{Bool, List, length}
-use Rattle.std.specs.List.{Any}
+use Rattle.std.specs.Prelude.{◌≡◌, Bool, List, [], ◌++◌, length}
+use Rattle.std.specs.List.{All, Any}
 use Rattle.lois_base.specs.Atom.{Atom}
+use Rattle.lois_base.specs.Data.{TermD, var, tag, tup, coll, CompD, comp, CompsD, no_comps, more}
 use Rattle.lois_base.specs.Fits.{Fits}
 use Rattle.lois_base.specs.Patterns.{AreAlike}
 use Rattle.lois_base.specs.Truth.{sampled}
 use Rattle.lois_base.specs.Values.{PointValue, point, IsSame}
+use Rattle.lois_deciders.specs.Satisfaction.{IsConstraintSample}
 use Rattle.lois_census.specs.OrbitData.{OrbitD}
 
 -- the orbit of the value of a term at a choice has all values that are the same as the term's at some choice alike to it
@@ -31,3 +33,20 @@ AreDisjointOrbits ordered o p = (v : PointValue) → IsInOrbit ordered v o → I
 -- the item fits the length of the sample
 abbrev pub FitsSample : OrbitD → Type 0
 FitsSample o = Fits (length o.sample) o.item
+
+-- the orbit of the comprehension's item, as it is written, at numbers at which the guard holds
+abbrev pub IsTakenFrom : CompD → OrbitD → Type 0
+IsTakenFrom (comp m g t) o = (o.item ≡ t) × IsConstraintSample m g o.sample
+
+-- the orbits come in the order of the comprehensions that they are taken from
+abbrev pub AreTakenInOrder : CompsD → List OrbitD → Type 0
+AreTakenInOrder no_comps os = os ≡ []
+AreTakenInOrder (more k ks) os =
+    (first rest : List OrbitD) × (os ≡ first ++ rest) × All (IsTakenFrom k) first × AreTakenInOrder ks rest
+
+-- the same of those of a set
+abbrev pub AreTakenFrom : TermD → List OrbitD → Type 0
+AreTakenFrom (var i) os = Unit {0}
+AreTakenFrom (tag t) os = Unit {0}
+AreTakenFrom (tup ts) os = Unit {0}
+AreTakenFrom (coll ks) os = AreTakenInOrder ks os

@@ -11,8 +11,8 @@ ghost use Rattle.lois_base.specs.Values.{PointValue, point, IsMember, IsIn};
 ghost use Rattle.lois_terms.specs.Guarded.{IsColl};
 ghost use Rattle.lois_deciders.specs.OnlyAsked.{HasOnlyAsked};
 ghost use Rattle.lois_deciders.specs.Satisfaction.{IsConstraintSample};
-ghost use Rattle.lois_census.specs.Left.{IsTakenFrom, IsTakenFromSome, IsCoveredByOrbits, AddsOnly, IsUsable, HoldsWhereListed};
-ghost use Rattle.lois_census.specs.Orbits.{value_of, IsInListedOrbit, AreDisjointOrbits, FitsSample};
+ghost use Rattle.lois_census.specs.Left.{IsTakenFromSome, IsCoveredByOrbits, AddsOnly, IsUsable, HoldsWhereListed};
+ghost use Rattle.lois_census.specs.Orbits.{value_of, IsInListedOrbit, AreDisjointOrbits, FitsSample, IsTakenFrom, AreTakenInOrder, AreTakenFrom};
 
 use crate::cells::without_cube_at;
 use crate::inside::{or_in_listed, or_in_orbit};
@@ -41,6 +41,9 @@ pub fn census<T: Structure>(
     ensures each { IfOk result (λ r. (v : PointValue) → IsIn v (point (tree set.now) []) → IsInListedOrbit T.ordered r v) }
     ensures once { IfOk result (AllPairs (AreDisjointOrbits T.ordered)) }
 
+    // which member stands for an orbit, and in which order they come
+    ensures taken { IfOk result (AreTakenFrom (tree set.now)) }
+
     ensures operators { IfOk result (λ r. (o : Bool) → AdmitsTerm o (tree set.now) → All (λ k. AdmitsTerm o k.item) r) }
     ensures widths { IfOk result (λ r. HasBoundedWidths (tree set.now) → All (λ k. HasBoundedWidths k.item) r) }
 
@@ -61,6 +64,7 @@ fn all_orbits<T: Structure>(
     requires levels { ItemsFit 0 (comps_of comps.now) }
     requires operators { AdmitsItems T.ordered (comps_of comps.now) }
     ensures taken { IfOk result (All (IsTakenFromSome comps.now)) }
+    ensures in_order { IfOk result (AreTakenInOrder (comps_of comps.now)) }
     ensures covered { IfOk result (λ r. All (IsCoveredByOrbits T.ordered r) comps.now) }
     ensures apart { IfOk result (AllPairs (AreDisjointOrbits T.ordered)) }
     ensures only_asked { HasOnlyAsked (λ b. (⟦<dyn Decider as Decider>⟧ b.vtable).kind_of b.value) (λ b. (⟦<dyn Decider as Decider>⟧ b.vtable).questions b.value) chosen.old chosen.new }

@@ -30,5 +30,6 @@ pub mod Weaker
 pub mod Opened
 pub mod FreeNames
 pub mod OneCase
+pub mod CaseCount
 pub mod ScriptRuns
 pub mod Nowhere

@@ -14,7 +14,7 @@ use Rattle.lois_base.specs.declared.guards.Lit.{Lit}
 use Rattle.lois_base.proofs.Members.{same_sym}
 use Rattle.lois_base.proofs.NormalDepths.{normal_depth}
 use Rattle.lois_answers.specs.ResultsData.{LineD, CaseD}
-use Rattle.lois_answers.specs.Sound.{IsFreeName, IsSoundLine, IsSoundCase, AreParameters}
+use Rattle.lois_answers.specs.Sound.{IsFreeName, IsSoundLine, IsSoundCase, AreParameters, IsSound}
 use Rattle.lois_answers.specs.declared.results.Results.{Results}
 use Rattle.lois_script.specs.Limits.{Spells}
 use Rattle.lois_script.specs.Scope.{IsWellScoped}
@@ -32,6 +32,7 @@ use Rattle.lois_context.specs.Slots.{SlotD, line_values}
 use Rattle.lois_context.specs.declared.contexts.Context.{Context}
 use Rattle.lois_eval.specs.WellFormed.{IsWellFormedIn}
 use Rattle.lois_interp.specs.Failed.{FailsWithin}
+use Rattle.lois_interp.proofs.CaseCount.{few_enough}
 use Rattle.lois_interp.specs.Interpreted.{parameter_name, lines_of, IsChoiceOf, PrintsAt, IsRightAt, HoldsSomewhere, IsNormalLine, IsNormalCase, IsPlainCase, AreResultsOf, IsFailureOf}
 use Rattle.lois_interp.specs.Opened.{IsOpening}
 use Rattle.lois_interp.specs.Printed.{IsPrintedLine, IsPrinted, IsCaseOf}
@@ -301,18 +302,28 @@ module _ (text : List ℕ) (s : ScriptD) (spelled : Spells text s) (scoped : IsW
 
         pub interpreted : (r : Results) → r.order ≡ s.ordered → r.parameters ≡ map parameter_name s.parameters → r.cases ≡ cases → AreResultsOf s r
         interpreted r order parameters is = record {
-          sound = record {
-            parameters = subst AreParameters (sym parameters) (are_parameters text s spelled scoped);
-            cases = subst (λ k. All (IsSoundCase r.order k) r.cases) (sym (ap length parameters ∙ length-map s.parameters parameter_name)) (subst (λ x. All (IsSoundCase x n) r.cases) (sym order) (subst (All (IsSoundCase s.ordered n)) (sym is) (all_that_are (IsSoundCase s.ordered n) cases case_sound)));
-          };
+          sound = sound;
           structure = order;
           parameters = parameters;
-          met = subst (All (HoldsSomewhere s)) (sym is) (all_that_are (HoldsSomewhere s) cases case_met);
-          choices = λ c count. subst (λ k. IsRightAt s k c) (sym is) (right_at c count);
+          met = met;
+          choices = choices;
           normal = subst (All (IsNormalCase n)) (sym is) (all_that_are (IsNormalCase n) cases case_normal);
           plain = subst (All (IsPlainCase n)) (sym is) (all_that_are (IsPlainCase n) cases case_plain);
           different = subst (λ k. AllPairs (λ x y. x ≡ y → ⊥) (map lines_of k)) (sym is) (cases_apart n merged cases zips sizes (all_that_are (λ m. m.store ≡ []) merged merged_store) merges.different);
+          few = few_enough s r sound parameters met choices;
         }
+          where
+            sound : IsSound r
+            sound = record {
+              parameters = subst AreParameters (sym parameters) (are_parameters text s spelled scoped);
+              cases = subst (λ k. All (IsSoundCase r.order k) r.cases) (sym (ap length parameters ∙ length-map s.parameters parameter_name)) (subst (λ x. All (IsSoundCase x n) r.cases) (sym order) (subst (All (IsSoundCase s.ordered n)) (sym is) (all_that_are (IsSoundCase s.ordered n) cases case_sound)));
+            }
+
+            met : All (HoldsSomewhere s) r.cases
+            met = subst (All (HoldsSomewhere s)) (sym is) (all_that_are (HoldsSomewhere s) cases case_met)
+
+            choices : (c : List Atom) → IsChoiceOf s c → IsRightAt s r.cases c
+            choices c count = subst (λ k. IsRightAt s k c) (sym is) (right_at c count)
 
   -- ---- a fault
   pub failure_of : (f : Fault) → FailsWithin (block_run s.body) o f → IsFailureOf s f

@@ -14,6 +14,7 @@ use Rattle.lois_answers.specs.ResultsData.{LineD, CaseD}
 use Rattle.lois_answers.specs.Sound.{IsSound}
 use Rattle.lois_answers.specs.declared.faults.FaultKind.{FaultKind}
 use Rattle.lois_answers.specs.declared.results.Results.{Results}
+use Rattle.lois_cases.specs.CaseCount.{patterns}
 use Rattle.lois_script.specs.Tree.{ParamD, ScriptD}
 use Rattle.lois_meaning.specs.Runs.{ScriptEnds, ScriptFails}
 use Rattle.lois_meaning.specs.Store.{NamedValues, AreSameNamed}
@@ -66,7 +67,7 @@ IsPlainCase n c = IsPlain c.«when» ([] ∷ []) n × All (λ l. HasPlainGuards 
 abbrev pub lines_of : CaseD → List LineD
 lines_of c = c.lines
 
--- The results are those of the script. No two cases have equal lines.
+-- The results are those of the script. No two cases have equal lines, and there are at most as many as the parameters have patterns.
 pub record AreResultsOf (s : ScriptD) (r : Results) : Type 0 where
   pub sound : IsSound r
   pub structure : r.order ≡ s.ordered
@@ -76,6 +77,7 @@ pub record AreResultsOf (s : ScriptD) (r : Results) : Type 0 where
   pub normal : All (IsNormalCase (length s.parameters)) r.cases
   pub plain : All (IsPlainCase (length s.parameters)) r.cases
   pub different : AllPairs (λ x y. x ≡ y → ⊥) (map lines_of r.cases)
+  pub few : length r.cases ≤ patterns r.order (length r.parameters) 0
 
 -- at no choice of the parameters
 abbrev pub ScriptFailsNowhere : ScriptD → Type 0

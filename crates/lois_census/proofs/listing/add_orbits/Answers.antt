@@ -8,7 +8,8 @@ use Rattle.lois_base.specs.Truth.{holds, sampled}
 use Rattle.lois_deciders.proofs.Oracle.{some_is, none_is}
 use Rattle.lois_deciders.proofs.OnlyAsked.{only_asked_nothing, only_asked_then}
 use Rattle.lois_deciders.specs.Satisfaction.{IsConstraintSample}
-use Rattle.lois_census.specs.Left.{IsTakenFrom, AddsOnly}
+use Rattle.lois_census.specs.Left.{AddsOnly}
+use Rattle.lois_census.specs.Orbits.{IsTakenFrom}
 use Rattle.lois_census.proofs.Lefts.{left_begin, left_more, covered}
 use Rattle.lois_census.proofs.Lists.{adds_nothing, adds_then}
 use Rattle.lois_census.proofs.Measures.{fewer}

@@ -3,8 +3,8 @@ use Rattle.lois_base.specs.Fits.{ConstraintFits}
 use Rattle.lois_base.specs.Tree.{tree, comp_of}
 use Rattle.lois_base.specs.Validity.{AdmitsConstraint}
 use Rattle.lois_deciders.specs.OnlyAsked.{HasOnlyAsked}
-use Rattle.lois_census.specs.Left.{IsTakenFrom, AddsOnly, HoldsWhereListed, IsRemainder}
-use Rattle.lois_census.specs.Orbits.{AreDisjointOrbits}
+use Rattle.lois_census.specs.Left.{AddsOnly, HoldsWhereListed, IsRemainder}
+use Rattle.lois_census.specs.Orbits.{AreDisjointOrbits, IsTakenFrom}
 use Rattle.lois_census.proofs.Measures.{sample_count}
 use Rattle.lois_census.proofs.listing.add_orbits.Given as goal
 

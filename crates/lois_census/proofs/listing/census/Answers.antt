@@ -7,7 +7,7 @@ use Rattle.lois_base.specs.Tree.{tree}
 use Rattle.lois_base.specs.Validity.{AdmitsTerm, HasBoundedWidths}
 use Rattle.lois_base.specs.Values.{PointValue, point, IsMember, IsIn}
 use Rattle.lois_census.specs.Left.{IsTakenFromSome, IsCoveredByOrbits}
-use Rattle.lois_census.specs.Orbits.{value_of, IsInListedOrbit, FitsSample}
+use Rattle.lois_census.specs.Orbits.{value_of, IsInListedOrbit, FitsSample, AreTakenInOrder, AreTakenFrom}
 use Rattle.lois_census.proofs.TheCensus.{all_fit, all_members, each_listed, all_admitted, all_wide}
 use Rattle.lois_census.proofs.listing.census.Goals as goal
 
@@ -28,6 +28,12 @@ returns-clause-each g c =
     let ks = c.in-Coll.comps in
     let set : tree c.args.set.now ≡ coll (comps_of ks) = ap tree c.in-Coll.is in
     IfOk-weaker c.all_orbits.result (λ r. All (IsCoveredByOrbits g.T.Structure.ordered r) ks) (λ r. (v : PointValue) → IsIn v (point (tree c.args.set.now) []) → IsInListedOrbit g.T.Structure.ordered r v) (λ r h v i. each_listed g.T.Structure.ordered r ks h v (subst (λ t. IsIn v (point t [])) set i)) c.all_orbits.ensures.covered
+
+pub returns-clause-taken : goal.returns-clause-taken
+returns-clause-taken g c =
+    let ks = c.in-Coll.comps in
+    let set : tree c.args.set.now ≡ coll (comps_of ks) = ap tree c.in-Coll.is in
+    IfOk-weaker c.all_orbits.result (AreTakenInOrder (comps_of ks)) (AreTakenFrom (tree c.args.set.now)) (λ r h. subst (λ t. AreTakenFrom t r) (sym set) h) c.all_orbits.ensures.in_order
 
 pub returns-clause-operators : goal.returns-clause-operators
 returns-clause-operators g c =

@@ -5,9 +5,9 @@ use Rattle.lois_base.specs.Fits.{ConstraintFits}
 use Rattle.lois_base.specs.Tree.{tree, comp_of}
 use Rattle.lois_base.specs.Truth.{holds, sampled}
 use Rattle.lois_deciders.specs.Satisfaction.{IsConstraintSample}
-use Rattle.lois_census.specs.Left.{IsTakenFrom, HoldsWhereListed}
+use Rattle.lois_census.specs.Left.{HoldsWhereListed}
 use Rattle.lois_census.specs.OrbitData.{OrbitD}
-use Rattle.lois_census.specs.Orbits.{AreDisjointOrbits}
+use Rattle.lois_census.specs.Orbits.{AreDisjointOrbits, IsTakenFrom}
 use Rattle.lois_census.proofs.Lefts.{listed_more, or_own, apart_from, pairs_more}
 use Rattle.lois_census.proofs.Lists.{adds_nothing, adds_one}
 use Rattle.lois_census.proofs.TheCensus.{taken_usable}
