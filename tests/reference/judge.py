@@ -111,7 +111,8 @@ def judge_choice(script, source, answer, choice):
 
 
 def judge_trace(script, source, answer, status):
-    """The script fails at the trace's place, for its cause, at the choice of its first numbers, with its elements."""
+    """The script fails at the trace's place, for its cause, at the choice of its first numbers, with its elements, in
+    which the levels of the other numbers stand."""
     demand(status == STATUS[answer.cause], f"the status of '{answer.cause}' is {STATUS[answer.cause]}")
     line, column = answer.place
     rows = source.split(b"\n")
@@ -119,6 +120,8 @@ def judge_trace(script, source, answer, status):
     demand(line <= len(rows) and column <= len(rows[line - 1]) + 1, "there is no such place")
     sample = scaled(answer.choice)
     choice = sample[:len(answer.parameters)]
+    levels = set().union(*(levels_of(term) for _, term in answer.elements))
+    demand(set(range(len(choice), len(sample))) <= levels, "a number is for no level of an element")
     path = tuple((name, value_at(term, sample)) for name, term in answer.elements)
     if not script_fails(script, choice, (pos, answer.cause, path)):
         raise Wrong("it doesn't fail so; " + some_failure(script, source, answer, choice))

@@ -1,15 +1,19 @@
 -- From a fault of a script to its trace.
-use Rattle.std.proofs.Common.{◌≡◌, ℕ, ◌^◌, ◌<◌, ◌≤◌, ◌==◌, not, List, length, map, take, sym, ap, ◌∙◌, subst, arith}
+use Rattle.std.proofs.Common.{◌≡◌, ℕ, ◌^◌, ◌<◌, ◌≤◌, ◌==◌, not, List, [], ◌∷◌, length, map, take, sym, ap, ◌∙◌, subst, arith}
 use Rattle.std.specs.List.{All, Contains}
 use Rattle.std.proofs.lemmas.List.{length-map, length-take}
-use Rattle.std.proofs.lemmas.List.Elements.{All-contains}
+use Rattle.std.proofs.lemmas.List.Elements.{All-contains, All-map}
 use Rattle.std.proofs.lemmas.List.Sums.{count_by-le-length, suffix_len-le-length}
-use Rattle.lois_base.specs.Data.{depth}
+use Rattle.lois_base.specs.Atom.{Atom}
+use Rattle.lois_base.specs.Data.{TermD, depth}
 use Rattle.lois_base.specs.Fits.{Fits}
 use Rattle.lois_base.specs.Truth.{sampled}
 use Rattle.lois_base.specs.Validity.{AdmitsTerm, HasBoundedWidths}
+use Rattle.lois_base.specs.Values.{point}
 use Rattle.lois_base.specs.declared.limits.TheConstants.{LONGEST_TEXT}
+use Rattle.lois_base.proofs.Members.{same_trans}
 use Rattle.lois_base.proofs.Validity.{all_that_are}
+use Rattle.lois_constraint.proofs.Shifting.{All-of_map}
 use Rattle.lois_lexer.specs.declared.Place.{Place}
 use Rattle.lois_script.specs.Limits.{Spells}
 use Rattle.lois_script.specs.Scope.{IsWellScoped}
@@ -18,11 +22,15 @@ use Rattle.lois_answers.specs.ResultsData.{LineD}
 use Rattle.lois_answers.specs.Sound.{HasTags, IsFreeName, IsSoundLine, AreParameters, IsPlaceNumber}
 use Rattle.lois_answers.specs.declared.faults.Trace.{Trace}
 use Rattle.lois_meaning.specs.Runs.{ScriptFails}
-use Rattle.lois_meaning.specs.Store.{AreSameNamed}
+use Rattle.lois_meaning.specs.Kinds.{AreSame}
+use Rattle.lois_meaning.specs.Store.{NamedValues, AreSameNamed}
 use Rattle.lois_meaning.specs.declared.faults.Fault.{Fault}
 use Rattle.lois_context.specs.Slots.{line_values}
 use Rattle.lois_interp.specs.Interpreted.{parameter_name, IsFailureOf}
 use Rattle.lois_interp.proofs.FreeNames.{are_parameters}
+use Rattle.lois_shortest_word.specs.Shortened.{IsShortenedWord}
+use Rattle.lois_shortest_word.specs.Words.{values_at, AreUsedBetween}
+use Rattle.lois_shortest_word.specs.declared.words.Word.{Word}
 use Rattle.lois_run.specs.Headline.{NamesFailure}
 use Rattle.lois_command.specs.Places.{IsPlaceOf}
 use Rattle.lois_run.proofs.PathNames.{path_free, named_free}
@@ -36,6 +44,18 @@ place_numbers text at p fits h =
     let last = suffix_len-le-length (λ b. not (b == 10)) front in
     ((omega (arith, h.line), omega (arith, h.line, lines, short)), (omega (arith, h.column), omega (arith, h.column, last, short)))
 
+-- lines of the same names whose terms have the same values
+renamed : (path : NamedValues) (ls ms : List LineD) (c d : List Atom) → AreSameNamed path (line_values c ls) → map (λ l. l.name) ms ≡ map (λ l. l.name) ls → AreSame (values_at c (map (λ l. l.term) ls)) (values_at d (map (λ l. l.term) ms)) → AreSameNamed path (line_values d ms)
+renamed [] [] [] c d h e v = tt
+renamed [] [] (m ∷ ms) c d h e v = absurd v
+renamed [] (l ∷ ls) ms c d h e v = absurd h
+renamed (b ∷ path) [] ms c d h e v = absurd h
+renamed (b ∷ path) (l ∷ ls) [] c d h e v = absurd v
+renamed (b ∷ path) (l ∷ ls) (m ∷ ms) c d h e v =
+    let first : m.name ≡ l.name = cc in
+    let rest : map (λ l. l.name) ms ≡ map (λ l. l.name) ls = cc in
+    (h.0 ∙ sym first, same_trans b.holds (point l.term c) (point m.term d) h.1 v.0, renamed path ls ms c d h.2 rest v.1)
+
 module _ (text : List ℕ) (s : ScriptD) (spelled : Spells text s) (scoped : IsWellScoped s) (fits : length text ≤ LONGEST_TEXT) (f : Fault) (h : IsFailureOf s f) where
   abbrev n : ℕ
   n = length s.parameters
@@ -43,41 +63,70 @@ module _ (text : List ℕ) (s : ScriptD) (spelled : Spells text s) (scoped : IsW
   free : All (λ l. IsFreeName l.name) f.elements
   free = named_free (sampled f.sample.items) h.path f.elements h.named (path_free text s spelled (sampled (take n f.sample.items)) f.pos.offset f.kind h.path h.failed)
 
-  element_sound : All (λ l. HasTags l.term) f.elements → (l : LineD) → Contains f.elements l → IsSoundLine s.ordered (length f.sample.items) l
-  element_sound tags l there = record {
-    name = All-contains (λ l. IsFreeName l.name) f.elements l free there;
-    term = record {
-      levels = All-contains (λ l. Fits (length f.sample.items) l.term) f.elements l h.levels there;
-      tags = All-contains (λ l. HasTags l.term) f.elements l tags there;
-      widths = All-contains (λ l. HasBoundedWidths l.term) f.elements l h.widths there;
-      operators = All-contains (λ l. AdmitsTerm s.ordered l.term) f.elements l h.operators there;
-      brackets = All-contains (λ l. depth l.term ≤ 64) f.elements l h.brackets there;
-    };
-  }
+  -- ---- the elements with other terms, which have the same values at the numbers of the trace
+  module _ (w r : Word) (sample : w.sample ≡ f.sample.items) (letters : w.letters ≡ map (λ l. l.term) f.elements) (short : IsShortenedWord n w r) (ms : List LineD) (names : map (λ l. l.name) ms ≡ map (λ l. l.name) f.elements) (terms : map (λ l. l.term) ms ≡ r.letters) where
+    free_names : All (λ l. IsFreeName l.name) ms
+    free_names = All-of_map IsFreeName (λ l. l.name) ms (subst (All IsFreeName) (sym names) (All-map IsFreeName (λ l. l.name) f.elements free))
 
-  pub traced : (place : Place) (t : Trace) → IsPlaceOf text f.pos.offset place → t.order ≡ s.ordered → t.parameters ≡ map parameter_name s.parameters → t.line ≡ place.line → t.column ≡ place.column → t.kind ≡ f.kind → t.sample ≡ f.sample.items → t.elements ≡ f.elements → All (λ l. HasTags l.term) f.elements → All (λ a. a < 2 ^ 64) t.sample → NamesFailure text s t
-  traced place t at order names line column kind sample elements tags small =
-      let numbers = place_numbers text f.pos.offset place fits at in
-      let enough : length t.parameters ≤ length t.sample = omega (arith, ap length names, length-map s.parameters parameter_name, ap length sample, h.enough) in
-      record {
-        sound = record {
-          parameters = subst AreParameters (sym names) (are_parameters text s spelled scoped);
-          line = subst IsPlaceNumber (sym line) numbers.0;
-          column = subst IsPlaceNumber (sym column) numbers.1;
-          numbers = small;
-          enough = enough;
-          elements = subst (λ o. All (IsSoundLine o (length t.sample)) t.elements) (sym order)
-              (subst (λ k. All (IsSoundLine s.ordered (length k)) t.elements) (sym sample)
-              (subst (All (IsSoundLine s.ordered (length f.sample.items))) (sym elements)
-              (all_that_are (IsSoundLine s.ordered (length f.sample.items)) f.elements (element_sound tags))));
-        };
-        structure = order;
-        parameters = names;
-        at = f.pos.offset;
-        place = record { line = line ∙ at.line; column = column ∙ at.column };
-        path = h.path;
-        failed = subst (λ k. ScriptFails s (sampled (take n k)) f.pos.offset t.kind h.path) (sym sample)
-            (subst (λ k. ScriptFails s (sampled (take n f.sample.items)) f.pos.offset k h.path) (sym kind) h.failed);
-        named = subst (λ k. AreSameNamed h.path (line_values (sampled k) t.elements)) (sym sample)
-            (subst (λ ls. AreSameNamed h.path (line_values (sampled f.sample.items) ls)) (sym elements) h.named);
-      }
+    all_terms : (P : TermD → Type 0) → All P r.letters → All (λ l. P l.term) ms
+    all_terms P h = All-of_map P (λ l. l.term) ms (subst (All P) (sym terms) h)
+
+    all_letters : (P : TermD → Type 0) → All (λ l. P l.term) f.elements → All P w.letters
+    all_letters P h = subst (All P) (sym letters) (All-map P (λ l. l.term) f.elements h)
+
+    shallow : All (λ t. depth t ≤ 64) r.letters
+    shallow =
+        All-of_map (λ k. k ≤ 64) depth r.letters
+        (subst (All (λ k. k ≤ 64)) (sym short.depths) (All-map (λ k. k ≤ 64) depth w.letters (all_letters (λ t. depth t ≤ 64) h.brackets)))
+
+    element_sound : All (λ l. HasTags l.term) ms → (l : LineD) → Contains ms l → IsSoundLine s.ordered (length r.sample) l
+    element_sound tags l there = record {
+      name = All-contains (λ l. IsFreeName l.name) ms l free_names there;
+      term = record {
+        levels = All-contains (λ l. Fits (length r.sample) l.term) ms l (all_terms (Fits (length r.sample)) short.levels) there;
+        tags = All-contains (λ l. HasTags l.term) ms l tags there;
+        widths = All-contains (λ l. HasBoundedWidths l.term) ms l (all_terms HasBoundedWidths (short.widths (all_letters HasBoundedWidths h.widths))) there;
+        operators = All-contains (λ l. AdmitsTerm s.ordered l.term) ms l (all_terms (AdmitsTerm s.ordered) (short.operators s.ordered (all_letters (AdmitsTerm s.ordered) h.operators))) there;
+        brackets = All-contains (λ l. depth l.term ≤ 64) ms l (all_terms (λ t. depth t ≤ 64) shallow) there;
+      };
+    }
+
+    named_again : AreSameNamed h.path (line_values (sampled r.sample) ms)
+    named_again =
+        renamed h.path f.elements ms (sampled f.sample.items) (sampled r.sample) h.named names
+        (subst (λ ts. AreSame (values_at (sampled f.sample.items) (map (λ l. l.term) f.elements)) (values_at (sampled r.sample) ts)) (sym terms)
+        (subst (λ ts. AreSame (values_at (sampled f.sample.items) ts) (values_at (sampled r.sample) r.letters)) letters
+        (subst (λ k. AreSame (values_at (sampled k) w.letters) (values_at (sampled r.sample) r.letters)) sample short.values)))
+
+    first_numbers : sampled (take n r.sample) ≡ sampled (take n f.sample.items)
+    first_numbers = short.first ∙ ap (λ k. sampled (take n k)) sample
+
+    pub traced : (place : Place) (t : Trace) → IsPlaceOf text f.pos.offset place → t.order ≡ s.ordered → t.parameters ≡ map parameter_name s.parameters → t.line ≡ place.line → t.column ≡ place.column → t.kind ≡ f.kind → t.sample ≡ r.sample → t.elements ≡ ms → All (λ l. HasTags l.term) ms → All (λ a. a < 2 ^ 64) t.sample → AreUsedBetween n (length r.sample) r.letters → NamesFailure text s t
+    traced place t at order parameters line column kind numbers elements tags small used =
+        let places = place_numbers text f.pos.offset place fits at in
+        record {
+          sound = record {
+            parameters = subst AreParameters (sym parameters) (are_parameters text s spelled scoped);
+            line = subst IsPlaceNumber (sym line) places.0;
+            column = subst IsPlaceNumber (sym column) places.1;
+            numbers = small;
+            enough = omega (arith, ap length parameters, length-map s.parameters parameter_name, ap length numbers, short.count);
+            elements = subst (λ o. All (IsSoundLine o (length t.sample)) t.elements) (sym order)
+                (subst (λ k. All (IsSoundLine s.ordered (length k)) t.elements) (sym numbers)
+                (subst (All (IsSoundLine s.ordered (length r.sample))) (sym elements)
+                (all_that_are (IsSoundLine s.ordered (length r.sample)) ms (element_sound tags))));
+          };
+          structure = order;
+          parameters = parameters;
+          at = f.pos.offset;
+          place = record { line = line ∙ at.line; column = column ∙ at.column };
+          path = h.path;
+          failed = subst (λ k. ScriptFails s (sampled (take n k)) f.pos.offset t.kind h.path) (sym numbers)
+              (subst (λ c. ScriptFails s c f.pos.offset t.kind h.path) (sym first_numbers)
+              (subst (λ k. ScriptFails s (sampled (take n f.sample.items)) f.pos.offset k h.path) (sym kind) h.failed));
+          named = subst (λ k. AreSameNamed h.path (line_values (sampled k) t.elements)) (sym numbers)
+              (subst (λ ls. AreSameNamed h.path (line_values (sampled r.sample) ls)) (sym elements) named_again);
+          used = subst (λ k. AreUsedBetween n (length k) (map (λ l. l.term) t.elements)) (sym numbers)
+              (subst (λ ls. AreUsedBetween n (length r.sample) (map (λ l. l.term) ls)) (sym elements)
+              (subst (AreUsedBetween n (length r.sample)) (sym terms) used));
+        }

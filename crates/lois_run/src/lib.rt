@@ -1,6 +1,7 @@
 //! The top call: from words and bytes to the answer, its text and the status.
 #![tactic(auto)]
 
+mod elements;
 pub mod laws;
 mod lines;
 mod made;

@@ -12,6 +12,7 @@ ghost use Rattle.lois_script.specs.Limits.{Spells};
 ghost use Rattle.lois_script.specs.View.{script_tree};
 
 use crate::Outcome;
+use crate::elements::{terms_of, with_terms};
 use lois_answers::{Lines, Results, Trace, tags_are_names};
 use lois_base::{NoMemory, Numbers};
 use lois_command::place_at;
@@ -21,6 +22,7 @@ use lois_interp::{interpret, parameter_names};
 use lois_meaning::{Fault, Stop};
 use lois_order::OrderAtoms;
 use lois_scope::Scoped;
+use lois_shortest_word::{Word, drop_unused_numbers};
 use std::alloc::Global;
 
 /// What the script that the text spells comes to.
@@ -54,7 +56,7 @@ fn interpreted(alloc: Global, script: &Scoped, chosen: &mut Chosen) -> Result<Re
     }
 }
 
-// Where a fault is in the text, and the rest of it as it is.
+// Where a fault is in the text, and the rest of it, without numbers that no element uses.
 fn trace(alloc: Global, text: &[u8], script: &Scoped, fault: Fault) -> Result<Trace, NoMemory>
     requires fits { length text.now ≤ LONGEST_TEXT }
     requires spelled { Spells text.now (script_tree script.now) }
@@ -63,10 +65,16 @@ fn trace(alloc: Global, text: &[u8], script: &Scoped, fault: Fault) -> Result<Tr
 {
     let script = script.script();
     let place = place_at(text, fault.pos.offset);
-    let sample = Numbers::from_vec(fault.sample);
+    let word = Word {
+        sample: Numbers::from_vec(fault.sample),
+        letters: terms_of(alloc, &fault.elements)?,
+    };
+    let short = drop_unused_numbers(alloc, word, script.parameters.len())?;
+    let Word { sample, letters } = short;
+    let elements = with_terms(alloc, &fault.elements, &letters)?;
     let numbers = sample.as_slice();
     numbers_are_small(numbers);
-    element_tags_are_names(&fault.elements);
+    element_tags_are_names(&elements);
     Ok(Trace {
         order: script.order,
         parameters: parameter_names(alloc, &script.parameters)?,
@@ -74,7 +82,7 @@ fn trace(alloc: Global, text: &[u8], script: &Scoped, fault: Fault) -> Result<Tr
         column: place.column,
         kind: fault.kind,
         sample,
-        elements: fault.elements,
+        elements,
     })
 }
 

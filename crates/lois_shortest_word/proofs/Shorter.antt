@@ -6,14 +6,14 @@ use Rattle.std.proofs.lemmas.List.Elements.{All-head, All-tail, All-cons, All-ni
 use Rattle.std.specs.Bool.{IsTrue}
 use Rattle.std.specs.List.{All, remove}
 use Rattle.lois_base.specs.Atom.{Atom}
-use Rattle.lois_base.specs.Data.{TermD, terms_of}
+use Rattle.lois_base.specs.Data.{TermD, depth, terms_of}
 use Rattle.lois_base.specs.Fits.{Fits}
 use Rattle.lois_base.specs.Normal.{OccursInPart}
 use Rattle.lois_base.specs.Rename.{rename, rename_parts}
 use Rattle.lois_base.specs.Truth.{holds, sampled}
 use Rattle.lois_base.specs.Validity.{AdmitsTerm, HasBoundedWidths}
 use Rattle.lois_base.specs.declared.guards.Lit.{Lit}
-use Rattle.lois_base.proofs.RenamedForm.{admits_renamed, widths_renamed}
+use Rattle.lois_base.proofs.RenamedForm.{admits_renamed, depth_renamed, widths_renamed}
 use Rattle.lois_base.proofs.Lists.{parts_renamed}
 use Rattle.lois_meaning.specs.Automata.{Automaton, Accepts}
 use Rattle.lois_meaning.specs.Kinds.{AreSame}
@@ -45,6 +45,10 @@ module _ (s : List ℕ) (gone : ℕ) (below : gone < length s) where
       (fits_lowered s gone below t (λ o. unused (inl o)) (All-head (Fits (length s)) t ts h))
       (fits_left ts (λ o. unused (inr o)) (All-tail (Fits (length s)) t ts h))
 
+depths_lowered : (gone : ℕ) (ts : List TermD) → map depth (map (rename (lowered gone)) ts) ≡ map depth ts
+depths_lowered gone [] = refl
+depths_lowered gone (t ∷ ts) = rw (depth_renamed (lowered gone) t, depths_lowered gone ts) refl
+
 -- ---- from word to word
 pub shortened_none : (n : ℕ) (w : Word) → n ≤ length w.sample → All (Fits (length w.sample)) w.letters → IsShortenedWord n w w
 shortened_none n w count levels = record {
@@ -52,7 +56,7 @@ shortened_none n w count levels = record {
   first = refl;
   levels = levels;
   values = are_same_refl (values_at (sampled w.sample) w.letters);
-  long = refl;
+  depths = refl;
   operators = λ o h. h;
   widths = λ h. h;
 }
@@ -66,7 +70,7 @@ module _ (n gone : ℕ) (w v r : Word) (from : n ≤ gone) (below : gone < lengt
     values = are_same_trans (values_at (sampled w.sample) w.letters) (values_at (sampled v.sample) v.letters) (values_at (sampled r.sample) r.letters) was.values
         (subst (λ z. AreSame (values_at (sampled v.sample) v.letters) (values_at (sampled z) r.letters)) (sym is.sample)
         (subst (λ z. AreSame (values_at (sampled v.sample) v.letters) (values_at (sampled (remove v.sample gone)) z)) (sym is.letters) (values_left v.sample gone below v.letters unused)));
-    long = ap length is.letters ∙ length-map v.letters (rename (lowered gone)) ∙ was.long;
+    depths = ap (map depth) is.letters ∙ (depths_lowered gone v.letters ∙ was.depths);
     operators = λ o h. subst (All (AdmitsTerm o)) (sym is.letters) (All-map (AdmitsTerm o) (rename (lowered gone)) v.letters (All-weaker (AdmitsTerm o) (λ t. AdmitsTerm o (rename (lowered gone) t)) (λ t a. admits_renamed (lowered gone) o t a) v.letters (was.operators o h)));
     widths = λ h. subst (All HasBoundedWidths) (sym is.letters) (All-map HasBoundedWidths (rename (lowered gone)) v.letters (All-weaker HasBoundedWidths (λ t. HasBoundedWidths (rename (lowered gone) t)) (λ t a. widths_renamed (lowered gone) t a) v.letters (was.widths h)));
   }
@@ -99,5 +103,5 @@ word_shortened n u m w r is short = record {
   levels = short.levels;
   accepted = subst (λ z. Accepts (m z) (values_at (sampled r.sample) r.letters)) (sym short.first)
       (accepts_alike (m (first_sampled n w.sample)) (values_at (sampled w.sample) w.letters) (values_at (sampled r.sample) r.letters) short.values is.accepted);
-  shortest = subst (HaveAtLeast n u m) (sym short.long) is.shortest;
+  shortest = subst (HaveAtLeast n u m) (sym (sym (length-map r.letters depth) ∙ (ap length short.depths ∙ length-map w.letters depth))) is.shortest;
 }

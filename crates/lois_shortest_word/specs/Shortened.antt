@@ -1,6 +1,7 @@
 -- Words whose numbers are those of the levels that letters use.
 use Rattle.std.specs.Prelude.{◌≡◌, ℕ, ◌-◌, ◌≤◌, Bool, length, map, nat_lt, if◌then◌else◌}
 use Rattle.std.specs.List.{All, remove}
+use Rattle.lois_base.specs.Data.{depth}
 use Rattle.lois_base.specs.Fits.{Fits}
 use Rattle.lois_base.specs.Rename.{rename}
 use Rattle.lois_base.specs.Truth.{sampled}
@@ -24,6 +25,6 @@ pub record IsShortenedWord (n : ℕ) (w r : Word) : Type 0 where
   pub first : first_sampled n r.sample ≡ first_sampled n w.sample
   pub levels : All (Fits (length r.sample)) r.letters
   pub values : AreSame (values_at (sampled w.sample) w.letters) (values_at (sampled r.sample) r.letters)
-  pub long : length r.letters ≡ length w.letters
+  pub depths : map depth r.letters ≡ map depth w.letters
   pub operators : (o : Bool) → All (AdmitsTerm o) w.letters → All (AdmitsTerm o) r.letters
   pub widths : All HasBoundedWidths w.letters → All HasBoundedWidths r.letters

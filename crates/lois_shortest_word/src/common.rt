@@ -11,7 +11,7 @@ ghost use Rattle.lois_deciders.specs.OnlyAsked.{HasOnlyAsked};
 ghost use Rattle.lois_shortest_word.specs.Common.{AcceptNoneInCommon, IsShortestCommonWord};
 
 use crate::meeting::{Meeting, first_meeting};
-use crate::shortening::shortened;
+use crate::shortening::drop_unused_numbers;
 use crate::walking::word_of;
 use crate::words::Word;
 use lois_automata::{FiveSets, five, pairs};
@@ -67,6 +67,6 @@ pub fn shortest_common_word<T: Structure>(
         accepting: &common,
     };
     let word = word_of::<T>(alloc, sets, under, size, chosen)?;
-    let shorter = shortened(alloc, word, size)?;
+    let shorter = drop_unused_numbers(alloc, word, size)?;
     Ok(Some(shorter))
 }

@@ -16,5 +16,6 @@ mod walking;
 mod words;
 
 pub use common::shortest_common_word;
+pub use shortening::drop_unused_numbers;
 pub use shortest::shortest_word;
 pub use words::Word;

@@ -14,8 +14,9 @@ use lois_base::{NoMemory, Numbers, Terms};
 use lois_terms::occurs;
 use std::alloc::Global;
 
-/// The word without each number behind the first `size` at whose level no letter has an atom.
-pub(crate) fn shortened(alloc: Global, word: Word, size: usize) -> Result<Word, NoMemory>
+/// The word without each number behind the first `size` at whose level no letter has an atom: the letters have the same values.
+/// Errors: `NoMemory`.
+pub fn drop_unused_numbers(alloc: Global, word: Word, size: usize) -> Result<Word, NoMemory>
     requires count { size ≤ length word.sample }
     requires levels { All (Fits (length word.sample)) word.letters }
     ensures shortened { IfOk result (IsShortenedWord size word) }

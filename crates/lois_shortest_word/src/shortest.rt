@@ -10,7 +10,7 @@ ghost use Rattle.lois_automata.specs.Throughout.{HoldsThroughout};
 ghost use Rattle.lois_deciders.specs.OnlyAsked.{HasOnlyAsked};
 ghost use Rattle.lois_shortest_word.specs.Words.{IsShortestWord};
 
-use crate::shortening::shortened;
+use crate::shortening::drop_unused_numbers;
 use crate::walking::word_of;
 use crate::words::Word;
 use lois_automata::{empty, five};
@@ -49,6 +49,6 @@ pub fn shortest_word<T: Structure>(
         return Ok(None);
     }
     let word = word_of::<T>(alloc, sets, under, size, chosen)?;
-    let shorter = shortened(alloc, word, size)?;
+    let shorter = drop_unused_numbers(alloc, word, size)?;
     Ok(Some(shorter))
 }

@@ -36,11 +36,11 @@ returns-clause-widths g c = λ h.
     let five : HasBoundedWidths (five_of (comps_of c.in-Some.sets.states.now) (comps_of c.in-Some.sets.letters.now) (comps_of c.in-Some.sets.steps.now) (comps_of c.in-Some.sets.initial.now) (comps_of c.in-Some.sets.accepting.now)) = subst HasBoundedWidths c.in-Some.ensures.some h in
     c.in_ok-shorter.ensures.shortened.widths (c.in_ok-word.ensures.widths five.2.1.1.0)
 
-pub shortened-requires-clause-count : goal.shortened-requires-clause-count
-shortened-requires-clause-count g c = c.in_ok-word.ensures.word.count
+pub drop_unused_numbers-requires-clause-count : goal.drop_unused_numbers-requires-clause-count
+drop_unused_numbers-requires-clause-count g c = c.in_ok-word.ensures.word.count
 
-pub shortened-requires-clause-levels : goal.shortened-requires-clause-levels
-shortened-requires-clause-levels g c = c.in_ok-word.ensures.word.levels
+pub drop_unused_numbers-requires-clause-levels : goal.drop_unused_numbers-requires-clause-levels
+drop_unused_numbers-requires-clause-levels g c = c.in_ok-word.ensures.word.levels
 
 pub returns-in_err-shorter-clause-only_asked : goal.returns-in_err-shorter-clause-only_asked
 returns-in_err-shorter-clause-only_asked g c =

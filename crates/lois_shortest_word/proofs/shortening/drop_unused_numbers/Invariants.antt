@@ -1,7 +1,7 @@
 use Rattle.std.proofs.Common.{◌≤◌, length}
 use Rattle.lois_shortest_word.specs.Shortened.{IsShortenedWord}
 use Rattle.lois_shortest_word.specs.Words.{AreUsedBetween}
-use Rattle.lois_shortest_word.proofs.shortening.shortened.Given as goal
+use Rattle.lois_shortest_word.proofs.shortening.drop_unused_numbers.Given as goal
 
 abbrev pub invariant-dropping : goal.invariant-dropping
 invariant-dropping l = record {

@@ -4,7 +4,7 @@ use Rattle.lois_base.specs.Normal.{OccursInPart}
 use Rattle.lois_shortest_word.specs.Words.{AreUsedBetween}
 use Rattle.lois_shortest_word.proofs.Lowered.{length_removed}
 use Rattle.lois_shortest_word.proofs.Shorter.{shortened_none, shortened_more, used_more, used_here}
-use Rattle.lois_shortest_word.proofs.shortening.shortened.Goals as goal
+use Rattle.lois_shortest_word.proofs.shortening.drop_unused_numbers.Goals as goal
 
 pub dropping-init : goal.dropping-init
 dropping-init c = record {
