@@ -3,8 +3,9 @@ use Rattle.std.proofs.Common.{◌≡◌, ℕ, inl, inr, Bool, List, [], ◌∷�
 use Rattle.std.specs.Bool.{IsFalse}
 use Rattle.std.specs.List.{All, Contains}
 use Rattle.std.proofs.lemmas.List.{map-append}
-use Rattle.std.proofs.lemmas.List.Elements.{All-contains, All-weaker, All-cons, All-nil, All-head, All-tail}
+use Rattle.std.proofs.lemmas.List.Elements.{All-contains, All-weaker}
 use Rattle.lois_base.specs.Values.{point}
+use Rattle.lois_constraint.proofs.Shifting.{All-of_map}
 use Rattle.lois_script.specs.Scope.{RoleD, again, DeclaredD, role_of, farther, entered, with_binder}
 use Rattle.lois_script.specs.Tree.{ExprD, CondD, StmtsD, binding, for}
 use Rattle.lois_meaning.specs.declared.faults.Fault.{Fault}
@@ -35,13 +36,9 @@ farther_names : (ds : List DeclaredD) → map declared_name (map farther ds) ≡
 farther_names [] = refl
 farther_names (d ∷ ds) = ap (λ z. d.name ∷ z) (farther_names ds)
 
-back_map : {X Y : Type 0} (P : Y → Type 0) (f : X → Y) (xs : List X) → All P (map f xs) → All (λ x. P (f x)) xs
-back_map P f [] h = All-nil (λ x. P (f x))
-back_map P f (x ∷ xs) h = All-cons (λ x. P (f x)) x xs (All-head P (f x) (map f xs) h) (back_map P f xs (All-tail P (f x) (map f xs) h))
-
 -- a name that may be declared is new in the store
 pub new_in_store : (x : List ℕ) (ds : List DeclaredD) (ss : List SlotD) → map declared_name ds ≡ map slot_name ss → ((r : RoleD) → role_of x ds ≡ Some r → ⊥) → IsNew x ss
-new_in_store x ds ss e h = back_map (λ n. IsFalse (bytes_eq n x)) slot_name ss (subst (All (λ n. IsFalse (bytes_eq n x))) e (unnamed_in x ds h))
+new_in_store x ds ss e h = All-of_map (λ n. IsFalse (bytes_eq n x)) slot_name ss (subst (All (λ n. IsFalse (bytes_eq n x))) e (unnamed_in x ds h))
 
 -- ---- where the parts of a loop stand
 module _ (p : ℕ) (x : List ℕ) (e : ExprD) (c : CondD) (body : StmtsD) where

@@ -1,6 +1,6 @@
 -- Lists that are made item by item from the items of a slice.
-use Rattle.std.proofs.Common.{◌≡◌, ℕ, ◌+◌, ◌<◌, List, [], ◌∷◌, ◌++◌, length, get_or, take, map, sym, ap, ◌∙◌, subst, arith}
-use Rattle.std.proofs.lemmas.List.{get_or-map, length-map, map-append}
+use Rattle.std.proofs.Common.{◌≡◌, ℕ, ◌+◌, ◌<◌, List, [], ◌∷◌, ◌++◌, length, get_or, take, map, sym, ap, ◌∙◌, subst}
+use Rattle.std.proofs.lemmas.List.{map-append}
 use Rattle.std.proofs.lemmas.List.Elements.{All-push}
 use Rattle.std.specs.List.{All}
 use Rattle.lois_base.proofs.Viewed.{one_more}
@@ -10,9 +10,6 @@ module _ {X Y Z : Type 0} (f : X → Z) (h : Y → Z) where
   pub made_more : (xs : List X) (i : ℕ) (x : X) (before after : List Y) (y : Y) → i < length xs → x ≡ get_or xs i x → map h before ≡ map f (take i xs) → after ≡ before ++ y ∷ [] → h y ≡ f x → map h after ≡ map f (take (i + 1) xs)
   made_more xs i x before after y l is so_far pushed same =
       ap (map h) pushed ∙ (map-append h before (y ∷ []) ∙ (ap (λ z. z ++ h y ∷ []) so_far ∙ (ap (λ z. map f (take i xs) ++ z ∷ []) same ∙ sym (one_more f xs i x l is))))
-
-pub all_unmapped : {X Y : Type 0} (P : Y → Type 0) (f : X → Y) (xs : List X) → All P (map f xs) → All (λ x. P (f x)) xs
-all_unmapped P f xs h i d l = subst P (get_or-map f xs i d (f d) l) (h i (f d) (omega (arith, l, length-map xs f)))
 
 pub all_more : {Y : Type 0} (P : Y → Type 0) (before after : List Y) (y : Y) → All P before → after ≡ before ++ y ∷ [] → P y → All P after
 all_more P before after y so_far pushed h = subst (All P) (sym pushed) (All-push P before y so_far h)

@@ -14,6 +14,7 @@ use Rattle.lois_registers.specs.declared.parse_error.ParseError.{ParseError}
 use Rattle.lois_registers.specs.declared.parse_error.ParseError.TheVariants.{Left, NoMemory}
 use Rattle.lois_base.specs.Names.{IsName, is_name_byte}
 use Rattle.lois_base.proofs.Viewed.{rest_at}
+use Rattle.lois_constraint.proofs.Shifting.{All-of_map}
 use Rattle.lois_registers.specs.Texts.{text_of_words}
 
 -- ---- lines
@@ -155,11 +156,6 @@ pub left_weaker : (text : List ℕ) (C D : Type 0) (h : ParseError) → (C → D
 left_weaker text C D (Left n) f (e, c) = (e, f c)
 left_weaker text C D NoMemory f c = tt
 
-module _ {X Y : Type 0} (f : X → Y) (P : Y → Type 0) where
-  pub all_unmapped : (xs : List X) → All P (map f xs) → All (λ x. P (f x)) xs
-  all_unmapped [] h = All-nil (λ x. P (f x))
-  all_unmapped (x ∷ xs) h = All-cons (λ z. P (f z)) x xs (All-head P (f x) (map f xs) h) (all_unmapped xs (All-tail P (f x) (map f xs) h))
-
 -- a cause that goes on to the caller
 pub err_left : {V : Type 0} (r : Result V ParseError) (h : ParseError) (Q : ParseError → Type 0) → IsErrAnd r (λ e. e ≡ h) → Q h → IfErr r Q
 err_left (Ok v) h Q e q = tt
@@ -171,7 +167,7 @@ module _ {X : Type 0} (f : X → List ℕ) (slice : List X) (first : List ℕ) (
   behind_first names e = tails first first names (map f (drop 1 slice)) (sym e ∙ begins) ∙ ap (map f) (sym (take_rest slice 1))
 
   pub all_behind : (names : List (List ℕ)) → map f slice ≡ first ∷ names → All IsName names → All (λ x. IsName (f x)) (take (length slice - 1) (drop 1 slice))
-  all_behind names e h = all_unmapped f IsName (take (length slice - 1) (drop 1 slice)) (subst (All IsName) (behind_first names e) h)
+  all_behind names e h = All-of_map IsName f (take (length slice - 1) (drop 1 slice)) (subst (All IsName) (behind_first names e) h)
 
   pub with_first : (names : List (List ℕ)) → names ≡ map f (take (length slice - 1) (drop 1 slice)) → map f slice ≡ first ∷ names
   with_first names e = begins ∙ ap (λ z. first ∷ z) (sym (e ∙ ap (map f) (take_rest slice 1)))

@@ -1,10 +1,10 @@
 use Rattle.std.proofs.Common.{sym, subst}
 use Rattle.std.specs.List.{All}
 use Rattle.lois_base.specs.Tree.{tree}
+use Rattle.lois_constraint.proofs.Shifting.{All-of_map}
 use Rattle.lois_census.specs.Censuses.{AreOrbitsOf}
 use Rattle.lois_census.specs.Left.{IsUsable}
 use Rattle.lois_picture.proofs.Drawn.{all_usable, all_listed}
-use Rattle.lois_picture.proofs.Lists.{all_unmapped}
 use Rattle.lois_picture.proofs.drawing.draw_graph.Goals as goal
 
 pub mark_nodes-requires-clause-usable : goal.mark_nodes-requires-clause-usable
@@ -23,7 +23,7 @@ pub link_nodes-requires-clause-nodes : goal.link_nodes-requires-clause-nodes
 link_nodes-requires-clause-nodes g c =
     let o = g.T.Structure.ordered in
     let found = c.in_ok-orbits.ensures in
-    all_unmapped (IsUsable o) (λ v. v.orbit) c.in_ok-marked.marked
+    All-of_map (IsUsable o) (λ v. v.orbit) c.in_ok-marked.marked
     (subst (All (IsUsable o)) (sym c.in_ok-marked.ensures.orbits) (all_usable o c.in_ok-orbits.orbits found.levels (found.operators o c.requires.nodes.operators)))
 
 pub link_nodes-requires-clause-listed : goal.link_nodes-requires-clause-listed

@@ -1,16 +1,16 @@
 use Rattle.std.proofs.Common.{[], ◌∷◌, map, ap, ◌∙◌}
 use Rattle.std.proofs.lemmas.List.{map-append}
 use Rattle.lois_base.proofs.Viewed.{item_has, mapped_more, all_taken}
+use Rattle.lois_constraint.proofs.Shifting.{All-of_map}
 use Rattle.lois_census.specs.Orbits.{FitsSample}
 use Rattle.lois_picture.specs.GraphText.{node_label}
 use Rattle.lois_picture.specs.NodeView.{node_of}
 use Rattle.lois_picture.proofs.Labels.{node_is_written}
-use Rattle.lois_picture.proofs.Lists.{all_unmapped}
 use Rattle.lois_picture.proofs.texts.append_nodes.Goals as goal
 
 pub spell_node-requires : goal.spell_node-requires
 spell_node-requires c =
-    item_has node_of (λ v. FitsSample v.orbit) c.as_slice-node-items.result.now c.args.nodes.now c.loop-index.index c.node-item.result c.as_slice-node-items.ensures.items c.loop-index-test.true c.node-item.is (all_unmapped FitsSample (λ v. v.orbit) c.args.nodes.now c.requires)
+    item_has node_of (λ v. FitsSample v.orbit) c.as_slice-node-items.result.now c.args.nodes.now c.loop-index.index c.node-item.result c.as_slice-node-items.ensures.items c.loop-index-test.true c.node-item.is (All-of_map FitsSample (λ v. v.orbit) c.args.nodes.now c.requires)
 
 pub loop-index-preserved : goal.loop-index-preserved
 loop-index-preserved c =
