@@ -1,9 +1,9 @@
 -- Values that are automata, or unfit for an operation on automata, throughout a context.
-use Rattle.std.proofs.Common.{◌≡◌, ℕ, ◌⊎◌, inl, inr, List, [], ◌∷◌, Ok, Err, refl, sym, subst, ◌∙◌}
+use Rattle.std.proofs.Common.{◌≡◌, ℕ, ◌⊎◌, inl, inr, List, [], ◌∷◌, refl, sym, subst, ◌∙◌}
 use Rattle.std.proofs.lemmas.List.{length-map}
 use Rattle.std.specs.Prelude.{Result, OnOk}
 use Rattle.lois_base.specs.Atom.{Atom, whole}
-use Rattle.lois_base.specs.Data.{TermD, tup, terms_of}
+use Rattle.lois_base.specs.Data.{TermD, terms_of}
 use Rattle.lois_base.specs.Truth.{sampled}
 use Rattle.lois_base.specs.Values.{PointValue, point}
 use Rattle.lois_base.specs.declared.guards.Lit.{Lit}
@@ -11,7 +11,6 @@ use Rattle.lois_deciders.proofs.Oracle.{on_ok}
 use Rattle.lois_meaning.specs.Automata.{Automaton, IsAutomatonOf, IsComplete}
 use Rattle.lois_meaning.specs.Expressions.{IsValidOperand, IsResultOf}
 use Rattle.lois_meaning.specs.Faults.{IsNoAutomaton, IsInvalidOperand}
-use Rattle.lois_meaning.specs.Kinds.{HasPartsAt}
 use Rattle.lois_meaning.specs.declared.faults.Fault.{Fault}
 use Rattle.lois_answers.specs.declared.faults.FaultKind.{FaultKind}
 use Rattle.lois_answers.specs.declared.faults.FaultKind.TheVariants.{NotAutomaton, NotDeterministic, NotComplete}

@@ -1,5 +1,5 @@
 -- Comparisons of two expressions: the values of their sides, and how they fail.
-use Rattle.std.proofs.Common.{◌≡◌, ℕ, Bool, inl, inr, List, [], ◌∷◌, refl, sym, subst}
+use Rattle.std.proofs.Common.{◌≡◌, ℕ, Bool, inl, inr, List, [], ◌∷◌, sym, subst}
 use Rattle.lois_base.specs.Atom.{Atom}
 use Rattle.lois_base.specs.Data.{TermD}
 use Rattle.lois_base.specs.Truth.{sampled}
@@ -7,34 +7,19 @@ use Rattle.lois_base.specs.Values.{point}
 use Rattle.lois_meaning.specs.Expressions.{Gives}
 use Rattle.lois_meaning.specs.Faults.{IsNoAtom, IsNoSet, OperandFails, CondFails}
 use Rattle.lois_meaning.specs.declared.faults.Fault.{Fault}
-use Rattle.lois_script.specs.Tree.{ExprD, CondD, truth, falsity, same, differ, below, member, included, empty, not, all, any, exists, every, pos}
+use Rattle.lois_script.specs.Tree.{ExprD, CondD, below, member, included, pos}
 use Rattle.lois_context.specs.Choices.{IsAdmitted}
 use Rattle.lois_context.specs.Slots.{store_at}
 use Rattle.lois_context.specs.declared.contexts.Context.{Context}
 use Rattle.lois_eval.specs.Checks.{IsSetFault, IsAtomFault}
 use Rattle.lois_eval.specs.Compared.{IsBelowFault}
 use Rattle.lois_eval.specs.Evaluated.{AreTermsOf}
-use Rattle.lois_eval.specs.Forms.{two, sides_of, IsComparisonCond}
-use Rattle.lois_eval.specs.WellFormed.{IsWellFormed, AreWellFormed, CondIsWellFormed, count_of, names_of}
+use Rattle.lois_eval.specs.Forms.{two, sides_of}
+use Rattle.lois_eval.specs.WellFormed.{IsWellFormed, AreWellFormed, CondIsWellFormed, names_of}
 use Rattle.lois_eval.specs.Throughout.{IsFaultOf}
 use Rattle.lois_eval.proofs.Conditions.{sides, no_set_fails}
 use Rattle.lois_eval.proofs.FaultsAt.{fault_weaker}
 use Rattle.lois_eval.proofs.TermKinds.{atom_term}
-
-pub two_sides : (c : CondD) → IsComparisonCond c → count_of (sides_of c) ≡ 2
-two_sides (same e f) h = refl
-two_sides (differ e f) h = refl
-two_sides (below p e f) h = refl
-two_sides (member e f) h = refl
-two_sides (included e f) h = refl
-two_sides truth h = absurd h
-two_sides falsity h = absurd h
-two_sides (empty e) h = absurd h
-two_sides (not c) h = absurd h
-two_sides (all cs) h = absurd h
-two_sides (any cs) h = absurd h
-two_sides (exists b c) h = absurd h
-two_sides (every b c) h = absurd h
 
 -- the values of the sides of a condition that is this one
 pub sides_as : (k : Context) (c d : CondD) (ts : List TermD) → c ≡ d → AreTermsOf k (sides_of c) (CondIsWellFormed c) ts → AreTermsOf k (sides_of d) (CondIsWellFormed d) ts

@@ -23,3 +23,4 @@ pub mod Bindings
 pub mod LoopExit
 pub mod Automata
 pub mod Emptiness
+pub mod Candidates

@@ -1,8 +1,8 @@
 -- Answers that are handed on, from a call and from inside of a loop.
-use Rattle.std.proofs.Common.{◌≡◌, ℕ, ◌<◌, List, length, get_or, Some, None, Ok, Err, refl, sym, subst}
+use Rattle.std.proofs.Common.{◌≡◌, ℕ, ◌<◌, List, length, get_or, Ok, Err, sym, subst}
 use Rattle.std.proofs.lemmas.List.Elements.{Contains-get_or}
 use Rattle.std.specs.List.{Contains}
-use Rattle.std.specs.Prelude.{Option, Result, IfOk, IfErr, IsOkAnd, IsErrAnd}
+use Rattle.std.specs.Prelude.{Result, IfOk, IfErr, IsOkAnd, IsErrAnd}
 use Rattle.lois_meaning.specs.declared.faults.Fault.{Fault}
 use Rattle.lois_meaning.specs.declared.faults.Stop.{Stop}
 use Rattle.lois_meaning.specs.declared.faults.Stop.TheVariants as Stops

@@ -39,7 +39,11 @@ sides_of (member e f) = two e f
 sides_of (included e f) = two e f
 sides_of _ = no_exprs
 
--- an expression without parts; one of the three with operands; a comparison
+-- a name; an expression without parts; one of the three with operands; a comparison
+abbrev pub IsName : ExprD → Type 0
+IsName (var p x) = Unit {0}
+IsName _ = ⊥
+
 abbrev pub IsSimple : ExprD → Type 0
 IsSimple (atoms p) = Unit {0}
 IsSimple (var p x) = Unit {0}

@@ -3,9 +3,11 @@ pub mod Throughout
 pub mod Checks
 pub mod Made
 pub mod Operands
+pub mod Candidates
 pub mod Compared
 pub mod Evaluated
 pub mod Folded
 pub mod Forms
+pub mod Sides
 pub mod Oracle
 pub mod Automata

@@ -57,7 +57,8 @@ pub(crate) fn shallow<T: Structure, D: Oracle<T>>(
     Ok(term)
 }
 
-fn check_depth<T: Structure, D: Oracle<T>>(
+/// Errors: a fault at the place where the value of the term is too deep at some choice that the context admits.
+pub(crate) fn check_depth<T: Structure, D: Oracle<T>>(
     alloc: Global,
     pos: Pos,
     term: &Term,

@@ -24,6 +24,7 @@ ghost use Rattle.lois_eval.specs.Checks.{MeetsBoth};
 ghost use Rattle.lois_eval.specs.Evaluated.{IsTermOf, AreTermsOf, IsConstraintOf, HasMembersOnlyWhereAdmitted};
 ghost use Rattle.lois_eval.specs.Folded.{IsGatheredInside, IsFoundInside, IsFaultInside};
 ghost use Rattle.lois_eval.specs.Forms.{each_from, joint, quantifier, two};
+ghost use Rattle.lois_eval.specs.Sides.{sides_listed};
 ghost use Rattle.lois_eval.specs.Operands.{IsUnfitFault};
 ghost use Rattle.lois_eval.specs.WellFormed.{IsWellFormedIn, IsWellFormed, AreWellFormed, CondIsWellFormed};
 ghost use Rattle.lois_eval.specs.Throughout.{IsValueThroughout, IsTruthThroughout, FailsNowhere, IsFaultOf, IfFault};
@@ -31,14 +32,14 @@ ghost use Rattle.lois_eval.specs.Throughout.{IsValueThroughout, IsTruthThroughou
 use crate::checks::shallow;
 use crate::entering::{entered, leave_loop_with_comps, leave_loop_with_constraint};
 use crate::folding::{found_too, put_outward};
-use crate::forms::{compared, composed, simple, wordless};
+use crate::forms::{Sides, compared, composed, named_value, shared, simple, wordless};
 use crate::joining::{joined, unit};
 use crate::machines::{applied_to_automata, where_empty};
 use crate::making::{part, singleton_set};
 use crate::oracle::{Oracle, Queries, sample};
 use lois_base::{Comps, Constraint, Decider, Name, Structure, Term, Terms};
 use lois_constraint::negate;
-use lois_context::{Context, enter_loop, side};
+use lois_context::{Context, Shared, enter_loop, side};
 use lois_deciders::Chosen;
 use lois_meaning::Stop;
 use lois_script::{Binding, Cond, Conds, Expr, Exprs, Operation, Pos};
@@ -259,6 +260,7 @@ fn all_evaluated<T: Structure, D: Oracle<T>>(
     Ok(values)
 }
 
+// The values of both sides of a comparison.
 #[cycle(evaluation)]
 fn both_evaluated<T: Structure, D: Oracle<T>>(
     alloc: Global,
@@ -266,17 +268,36 @@ fn both_evaluated<T: Structure, D: Oracle<T>>(
     f: &Expr,
     context: &Context,
     decider: &mut D,
-) -> Result<Terms, Stop>
+) -> Result<Sides, Stop>
     requires sound { D.sound }
     requires placed { IsWellFormedIn (AreWellFormed (two (tree e.now) (tree f.now))) T.ordered context.now }
-    ensures terms { IfOk result (AreTermsOf context.now (two (tree e.now) (tree f.now)) (AreWellFormed (two (tree e.now) (tree f.now)))) }
+    ensures terms { IfOk result (λ r. AreTermsOf context.now (two (tree e.now) (tree f.now)) (AreWellFormed (two (tree e.now) (tree f.now))) (sides_listed r)) }
     ensures fault { IfErr result (λ s. IfFault s (IsFaultOf context.now (SomeFails (two (tree e.now) (tree f.now))))) }
     ensures asked { D.reaches decider.old decider.new }
 {
-    let mut values = Terms::new(alloc);
-    values.push(evaluated::<T, D>(alloc, e, context, decider)?)?;
-    values.push(evaluated::<T, D>(alloc, f, context, decider)?)?;
-    Ok(values)
+    let left = side_evaluated::<T, D>(alloc, e, context, decider)?;
+    let right = side_evaluated::<T, D>(alloc, f, context, decider)?;
+    Ok(Sides { left, right })
+}
+
+// The value of an expression, which isn't copied where a name holds it.
+#[cycle(evaluation)]
+fn side_evaluated<T: Structure, D: Oracle<T>>(
+    alloc: Global,
+    e: &Expr,
+    context: &Context,
+    decider: &mut D,
+) -> Result<Shared<Term>, Stop>
+    requires sound { D.sound }
+    requires placed { IsWellFormedIn (IsWellFormed (tree e.now)) T.ordered context.now }
+    ensures term { IfOk result (λ t. IsTermOf context.now (Gives (tree e.now)) (IsWellFormed (tree e.now)) (term_tree t)) }
+    ensures fault { IfErr result (λ s. IfFault s (IsFaultOf context.now (Fails (tree e.now)))) }
+    ensures asked { D.reaches decider.old decider.new }
+{
+    match e {
+        Expr::Var(_, _) => named_value::<T, D>(alloc, e, context, decider),
+        _ => shared(alloc, evaluated::<T, D>(alloc, e, context, decider)?),
+    }
 }
 
 // The set of an item for the bindings from an index on.

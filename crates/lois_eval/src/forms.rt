@@ -1,30 +1,30 @@
 //! Single forms of expressions and conditions, whose operands have their values.
 
-ghost use Rattle.std.specs.Prelude.{[], ◌∷◌, Bool, IfOk, IfErr};
+ghost use Rattle.std.specs.Prelude.{◌≡◌, [], ◌∷◌, Bool, IfOk, IfErr};
 ghost use Rattle.lois_base.specs.Fits.{Fits};
 ghost use Rattle.lois_base.specs.Tree.{tree as term_tree};
 ghost use Rattle.lois_base.specs.Validity.{AdmitsTerm, HasBoundedWidths};
 ghost use Rattle.lois_algebra.specs.Sets.{HasAllAtoms};
 ghost use Rattle.lois_terms.specs.Guarded.{IsColl};
-ghost use Rattle.lois_meaning.specs.Expressions.{Makes, HasTruth};
-ghost use Rattle.lois_meaning.specs.Faults.{Breaks, CondFails, IsNoAutomaton};
+ghost use Rattle.lois_meaning.specs.Expressions.{Gives, Makes, HasTruth};
+ghost use Rattle.lois_meaning.specs.Faults.{Breaks, Fails, CondFails, IsNoAutomaton};
 ghost use Rattle.lois_script.specs.View.{tree, cond_tree};
 ghost use Rattle.lois_context.specs.Choices.{AdmitsContext};
 ghost use Rattle.lois_eval.specs.Automata.{IsEmptiness, IsValueFault};
 ghost use Rattle.lois_eval.specs.Evaluated.{IsTermOf, AreTermsOf, IsConstraintOf};
-ghost use Rattle.lois_eval.specs.Forms.{parts_of, sides_of, IsSimple, IsComposed, IsComparisonCond};
+ghost use Rattle.lois_eval.specs.Forms.{parts_of, sides_of, IsName, IsSimple, IsComposed, IsComparisonCond};
+ghost use Rattle.lois_eval.specs.Sides.{sides_listed};
 ghost use Rattle.lois_eval.specs.WellFormed.{IsWellFormedIn, IsWellFormed, CondIsWellFormed};
 ghost use Rattle.lois_eval.specs.Throughout.{IsFaultOf, IfFault};
 
-use crate::checks::check_set;
-use crate::making::{look_up, set_of};
-use crate::operands::two_terms;
+use crate::checks::{check_depth, check_set};
+use crate::making::{look_up, set_of, share_named};
 use crate::operations::applied;
 use crate::oracle::Oracle;
 use crate::relations::{below, equal, included, unequal, within};
 use lois_algebra::all_atoms;
 use lois_base::{Constraint, NoMemory, Structure, Term, Terms};
-use lois_context::Context;
+use lois_context::{Context, Shared};
 use lois_meaning::Stop;
 use lois_script::{Cond, Expr, Pos};
 use std::alloc::Global;
@@ -88,21 +88,65 @@ pub(crate) fn composed<T: Structure, D: Oracle<T>>(
     }
 }
 
+/// The values of the sides of a comparison. A value that a name holds is shared with the context.
+#[derive(Drop)]
+pub(crate) struct Sides {
+    pub(crate) left: Shared<Term>,
+    pub(crate) right: Shared<Term>,
+}
+
+pub(crate) fn shared(alloc: Global, term: Term) -> Result<Shared<Term>, Stop>
+    ensures same { IfOk result (λ r. term_tree r ≡ term_tree term) }
+    ensures fault { IfErr result (λ s. IfFault s (λ f. ⊥)) }
+{
+    Ok(Shared::new(alloc, term)?)
+}
+
+/// What a name holds, where that isn't too deep: shared with the context. Errors: a fault at the place of the name.
+pub(crate) fn named_value<T: Structure, D: Oracle<T>>(
+    alloc: Global,
+    e: &Expr,
+    context: &Context,
+    decider: &mut D,
+) -> Result<Shared<Term>, Stop>
+    requires sound { D.sound }
+    requires form { IsName (tree e.now) }
+    requires placed { IsWellFormedIn (IsWellFormed (tree e.now)) T.ordered context.now }
+    ensures term { IfOk result (λ t. IsTermOf context.now (Gives (tree e.now)) (IsWellFormed (tree e.now)) (term_tree t)) }
+    ensures fault { IfErr result (λ s. IfFault s (IsFaultOf context.now (Fails (tree e.now)))) }
+    ensures asked { D.reaches decider.old decider.new }
+{
+    let held = held_by::<T>(e, context)?;
+    check_depth::<T, D>(alloc, e.pos(), held.get(), context, decider)?;
+    Ok(held)
+}
+
+fn held_by<T: Structure>(e: &Expr, context: &Context) -> Result<Shared<Term>, Stop>
+    requires form { IsName (tree e.now) }
+    requires placed { IsWellFormedIn (IsWellFormed (tree e.now)) T.ordered context.now }
+    ensures term { IfOk result (λ t. IsTermOf context.now (Makes (tree e.now)) (IsWellFormed (tree e.now)) (term_tree t)) }
+    ensures fault { IfErr result (λ s. IfFault s (λ f. ⊥)) }
+{
+    match e {
+        Expr::Var(_, name) => Ok(share_named(name, context)?),
+        _ => unreachable!(),
+    }
+}
+
 /// Where a comparison is true whose sides have these values. Errors: a fault at a side that is unfit for it.
 pub(crate) fn compared<T: Structure>(
     alloc: Global,
     c: &Cond,
-    values: &Terms,
+    values: &Sides,
     context: &Context,
 ) -> Result<Constraint, Stop>
     requires form { IsComparisonCond (cond_tree c.now) }
     requires placed { IsWellFormedIn (CondIsWellFormed (cond_tree c.now)) T.ordered context.now }
-    requires values { AreTermsOf context.now (sides_of (cond_tree c.now)) (CondIsWellFormed (cond_tree c.now)) values.now }
+    requires values { AreTermsOf context.now (sides_of (cond_tree c.now)) (CondIsWellFormed (cond_tree c.now)) (sides_listed values.now) }
     ensures constraint { IfOk result (IsConstraintOf context.now (HasTruth (cond_tree c.now)) (CondIsWellFormed (cond_tree c.now))) }
     ensures fault { IfErr result (λ s. IfFault s (IsFaultOf context.now (CondFails (cond_tree c.now)))) }
 {
-    let (s, t) = two_terms(values);
-    compared_with::<T>(alloc, c, s, t, context)
+    compared_with::<T>(alloc, c, values.left.get(), values.right.get(), context)
 }
 
 // The same of the two values by themselves.

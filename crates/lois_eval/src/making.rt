@@ -15,7 +15,7 @@ use crate::faults::fault_under;
 use lois_algebra::project;
 use lois_answers::FaultKind;
 use lois_base::{Comp, Comps, Constraint, Name, NoMemory, Term, Terms};
-use lois_context::Context;
+use lois_context::{Context, Shared};
 use lois_meaning::Stop;
 use lois_script::Pos;
 use std::alloc::Global;
@@ -25,8 +25,23 @@ pub(crate) fn look_up(alloc: Global, name: &Name, context: &Context) -> Result<T
     requires { IsNamed name.now (names_of context.now.store) }
     ensures { IfOk result (λ t. IsHeldBy name.now context.now.store (tree t)) }
 {
+    named(name, context).get().copy(alloc)
+}
+
+/// The same, shared with the context.
+pub(crate) fn share_named(name: &Name, context: &Context) -> Result<Shared<Term>, NoMemory>
+    requires { IsNamed name.now (names_of context.now.store) }
+    ensures { IfOk result (λ t. IsHeldBy name.now context.now.store (tree t)) }
+{
+    named(name, context).share()
+}
+
+fn named<'a>(name: &Name, context: &'a Context) -> &'a Shared<Term>
+    requires { IsNamed name.now (names_of context.now.store) }
+    ensures { IsHeldBy name.now context.now.store (tree result.now) }
+{
     match context.store.place_of(name) {
-        Some(place) => context.store.as_slice()[place].term.get().copy(alloc),
+        Some(place) => &context.store.as_slice()[place].term,
         None => unreachable!(),
     }
 }

@@ -1,24 +1,30 @@
 //! How the values of terms stand to one another, as constraints.
 
-ghost use Rattle.std.specs.Prelude.{◌≡◌, ◌↔◌, [], ◌∷◌, Bool, true, List, length, IfOk, IfErr, IsTrue, IsFalse};
+ghost use Rattle.std.specs.List.{All};
+ghost use Rattle.std.specs.Prelude.{◌≡◌, ◌<◌, ◌≤◌, ◌↔◌, ℕ, [], ◌∷◌, Bool, true, List, length, map, Contains, IfOk, IfErr, IfSome, IsNone, IsTrue, IsFalse};
 ghost use Rattle.lois_base.specs.Atom.{Atom};
 ghost use Rattle.lois_base.specs.Fits.{Fits, ConstraintFits};
-ghost use Rattle.lois_base.specs.Tree.{tree};
+ghost use Rattle.lois_base.specs.FormulaData.{FormulaFits};
+ghost use Rattle.lois_base.specs.FormulaView.{view};
+ghost use Rattle.lois_base.specs.Tree.{tree, comp_of};
 ghost use Rattle.lois_base.specs.Truth.{holds};
-ghost use Rattle.lois_base.specs.Validity.{AdmitsTerm, AdmitsConstraint};
+ghost use Rattle.lois_base.specs.Validity.{AdmitsTerm, AdmitsConstraint, AdmitsFormula};
 ghost use Rattle.lois_base.specs.Values.{point, IsSame, IsIn, IsIncluded};
+ghost use Rattle.lois_relate.specs.Relations.{HoldsWhereIn};
 ghost use Rattle.lois_terms.specs.Guarded.{IsColl};
+ghost use Rattle.lois_eval.specs.Candidates.{HasValueAt};
 ghost use Rattle.lois_eval.specs.Compared.{IsBelowFault, AreAtomsBelow};
 ghost use Rattle.lois_eval.specs.Throughout.{IfFault};
 
 use crate::faults::fault_under;
 use lois_answers::FaultKind;
-use lois_base::{Constraint, Cube, Lit, NoMemory, Op, Structure, Term};
+use lois_base::{Comp, Constraint, Cube, Formula, Lit, NoMemory, Op, Structure, Term};
 use lois_constraint::negate;
 use lois_context::Context;
 use lois_elim::quantifier_free;
 use lois_meaning::Stop;
-use lois_relate::{equal_formula, included_formula, member_formula};
+use lois_relate::building::{disjunction, false_formula, is_true_formula};
+use lois_relate::{clash, equal_formula, included_formula, item_formula_among};
 use lois_script::Pos;
 use std::alloc::Global;
 
@@ -76,8 +82,68 @@ pub(crate) fn within<T: Structure>(
     ensures levels { IfOk result (λ r. ConstraintFits size r) }
     ensures operators { IfOk result (λ r. (o : Bool) → AdmitsTerm o (tree s.now) → AdmitsTerm o (tree t.now) → AdmitsConstraint o r) }
 {
-    let formula = member_formula(alloc, s, t, size)?;
+    let formula = membership(alloc, s, t, size)?;
     quantifier_free::<T>(alloc, &formula, size)
+}
+
+// The formula for it, from those comprehensions alone whose items may have the value. Where the first of them settles it, the
+// others aren't looked for.
+fn membership(alloc: Global, s: &Term, t: &Term, size: usize) -> Result<Formula, NoMemory>
+    requires element { Fits size (tree s.now) }
+    requires levels { Fits size (tree t.now) }
+    requires set { IsColl (tree t.now) }
+    ensures truth { IfOk result (λ f. HoldsWhereIn size (tree s.now) (tree t.now) (view f)) }
+    ensures levels { IfOk result (λ f. FormulaFits size (view f)) }
+    ensures operators { IfOk result (λ f. (o : Bool) → AdmitsTerm o (tree s.now) → AdmitsTerm o (tree t.now) → AdmitsFormula o (view f)) }
+{
+    match t {
+        Term::Coll(comps) => {
+            let others = comps.as_slice();
+            let Some(first) = first_candidate(s, others) else {
+                return Ok(false_formula(alloc));
+            };
+            let here = item_formula_among(alloc, s, others, &[first], size, 0)?;
+            if is_true_formula(&here) {
+                return Ok(here);
+            }
+            let places = later_candidates(alloc, s, others, first + 1)?;
+            let there = item_formula_among(alloc, s, others, places.as_slice(), size, 0)?;
+            disjunction(alloc, here, there)
+        }
+        _ => unreachable!(),
+    }
+}
+
+// The place of the first comprehension whose item doesn't clash with the term, if there is one.
+fn first_candidate(s: &Term, comps: &[Comp]) -> Option<usize>
+    ensures first { IfSome result (λ p. (p < length comps.now) × ((i : ℕ) → i < p → HasValueAt (map comp_of comps.now) (tree s.now) i → ⊥)) }
+    ensures none { IsNone result → (i : ℕ) → HasValueAt (map comp_of comps.now) (tree s.now) i → ⊥ }
+{
+    for (place, comp) in comps.iter().enumerate() {
+        if !clash(&comp.item, s) {
+            return Some(place);
+        }
+    }
+    None
+}
+
+// The places of all such comprehensions from an index on.
+fn later_candidates(
+    alloc: Global,
+    s: &Term,
+    comps: &[Comp],
+    from: usize,
+) -> Result<Vec<usize>, NoMemory>
+    ensures inside { IfOk result (λ r. All (λ i. i < length comps.now) r.items) }
+    ensures all { IfOk result (λ r. (i : ℕ) → from ≤ i → HasValueAt (map comp_of comps.now) (tree s.now) i → Contains r.items i) }
+{
+    let mut places = Vec::new(alloc);
+    for place in from..comps.len() {
+        if !clash(&comps[place].item, s) {
+            places.push(place)?;
+        }
+    }
+    Ok(places)
 }
 
 /// Where each member of the set `s` is in the set `t`.

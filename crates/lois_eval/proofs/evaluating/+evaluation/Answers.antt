@@ -27,6 +27,7 @@ use Rattle.lois_eval.specs.Evaluated.{IsTermOf, AreTermsOf, IsConstraintOf, HasM
 use Rattle.lois_eval.specs.Folded.{IsGatheredInside, IsFoundInside, IsFaultInside}
 use Rattle.lois_eval.specs.Forms.{each_from, joint, quantifier, two}
 use Rattle.lois_eval.specs.Made.{IsPartFault}
+use Rattle.lois_eval.specs.Sides.{sides_listed}
 use Rattle.lois_eval.specs.WellFormed.{IsWellFormedIn, IsWellFormed, AreWellFormed, CondIsWellFormed}
 use Rattle.lois_eval.specs.Throughout.{IfFault, IsFaultOf}
 use Rattle.lois_eval.proofs.Bindings.{first_weight, first_new, first_no_set, first_inside, first_loop, first_within, first_fails, last_none, last_item_placed, last_one, last_within, last_item_fails, bound_new, bound_no_set, bound_inside, bound_loop, bound_fails}
@@ -123,22 +124,23 @@ both_evaluated-returns-clause-terms g t c =
     let e = tree c.args.e.now in
     let f = tree c.args.f.now in
     let S = AreWellFormed (two e f) in
-    let none = subst (AreTermsOf k (exprs_of []) S) (sym c.new-values.ensures) (terms_none k S) in
-    let one = terms_more k S [] e c.new-values.result c.push.new.self (term_tree c.in_ok-evaluated.field-0) none c.in_ok-evaluated.ensures.term (λ o h. placed_as k o S (IsWellFormed e) (λ o xs h. h.0) h) c.in_ok-push.ensures.ok in
-    terms_more k S (e ∷ []) f c.push.new.self c.push-2.new.self (term_tree c.in_ok-evaluated-2.field-0) one c.in_ok-evaluated-2.ensures.term (λ o h. placed_as k o S (IsWellFormed f) (λ o xs h. h.1.0) h) c.in_ok-push-2.ensures.ok
+    let s = term_tree c.in_ok-left.left in
+    let t = term_tree c.in_ok-right.right in
+    let one = terms_more k S [] e [] (s ∷ []) s (terms_none k S) c.in_ok-left.ensures.term (λ o h. placed_as k o S (IsWellFormed e) (λ o xs h. h.0) h) refl in
+    terms_more k S (e ∷ []) f (s ∷ []) (s ∷ t ∷ []) t one c.in_ok-right.ensures.term (λ o h. placed_as k o S (IsWellFormed f) (λ o xs h. h.1.0) h) refl
 
 pub decided-compared-requires-clause-values : goal.decided-compared-requires-clause-values
 decided-compared-requires-clause-values g t c =
     let e = c.in-Same.e in
     let f = c.in-Same.f in
-    sides_from c.args.context.now (cond_tree c.args.c.now) (same (tree e) (tree f)) (tree e) (tree f) c.in_ok-values-in-Same.values (ap cond_tree c.in-Same.is ∙ cond_Same e f) refl (λ o xs h. h) c.in_ok-values-in-Same.ensures.terms
+    sides_from c.args.context.now (cond_tree c.args.c.now) (same (tree e) (tree f)) (tree e) (tree f) (sides_listed c.in_ok-values-in-Same.values) (ap cond_tree c.in-Same.is ∙ cond_Same e f) refl (λ o xs h. h) c.in_ok-values-in-Same.ensures.terms
 
 pub decided-compared-requires-in-Differ-clause-values :
     goal.decided-compared-requires-in-Differ-clause-values
 decided-compared-requires-in-Differ-clause-values g t c =
     let e = c.in-Differ.e in
     let f = c.in-Differ.f in
-    sides_from c.args.context.now (cond_tree c.args.c.now) (differ (tree e) (tree f)) (tree e) (tree f) c.in_ok-values-in-Differ.values (ap cond_tree c.in-Differ.is ∙ cond_Differ e f) refl (λ o xs h. h) c.in_ok-values-in-Differ.ensures.terms
+    sides_from c.args.context.now (cond_tree c.args.c.now) (differ (tree e) (tree f)) (tree e) (tree f) (sides_listed c.in_ok-values-in-Differ.values) (ap cond_tree c.in-Differ.is ∙ cond_Differ e f) refl (λ o xs h. h) c.in_ok-values-in-Differ.ensures.terms
 
 pub decided-compared-requires-in-Below-clause-values :
     goal.decided-compared-requires-in-Below-clause-values
@@ -146,21 +148,21 @@ decided-compared-requires-in-Below-clause-values g t c =
     let e = c.in-Below.e in
     let f = c.in-Below.f in
     let p = c.in-Below.field-0 in
-    sides_from c.args.context.now (cond_tree c.args.c.now) (below p.offset (tree e) (tree f)) (tree e) (tree f) c.in_ok-values-in-Below.values (ap cond_tree c.in-Below.is ∙ cond_Below p e f) refl (λ o xs h. (h.1, h.2)) c.in_ok-values-in-Below.ensures.terms
+    sides_from c.args.context.now (cond_tree c.args.c.now) (below p.offset (tree e) (tree f)) (tree e) (tree f) (sides_listed c.in_ok-values-in-Below.values) (ap cond_tree c.in-Below.is ∙ cond_Below p e f) refl (λ o xs h. (h.1, h.2)) c.in_ok-values-in-Below.ensures.terms
 
 pub decided-compared-requires-in-Member-clause-values :
     goal.decided-compared-requires-in-Member-clause-values
 decided-compared-requires-in-Member-clause-values g t c =
     let e = c.in-Member.e in
     let f = c.in-Member.f in
-    sides_from c.args.context.now (cond_tree c.args.c.now) (member (tree e) (tree f)) (tree e) (tree f) c.in_ok-values-in-Member.values (ap cond_tree c.in-Member.is ∙ cond_Member e f) refl (λ o xs h. h) c.in_ok-values-in-Member.ensures.terms
+    sides_from c.args.context.now (cond_tree c.args.c.now) (member (tree e) (tree f)) (tree e) (tree f) (sides_listed c.in_ok-values-in-Member.values) (ap cond_tree c.in-Member.is ∙ cond_Member e f) refl (λ o xs h. h) c.in_ok-values-in-Member.ensures.terms
 
 pub decided-compared-requires-in-Included-clause-values :
     goal.decided-compared-requires-in-Included-clause-values
 decided-compared-requires-in-Included-clause-values g t c =
     let e = c.in-Included.e in
     let f = c.in-Included.f in
-    sides_from c.args.context.now (cond_tree c.args.c.now) (included (tree e) (tree f)) (tree e) (tree f) c.in_ok-values-in-Included.values (ap cond_tree c.in-Included.is ∙ cond_Included e f) refl (λ o xs h. h) c.in_ok-values-in-Included.ensures.terms
+    sides_from c.args.context.now (cond_tree c.args.c.now) (included (tree e) (tree f)) (tree e) (tree f) (sides_listed c.in_ok-values-in-Included.values) (ap cond_tree c.in-Included.is ∙ cond_Included e f) refl (λ o xs h. h) c.in_ok-values-in-Included.ensures.terms
 
 pub decided-wordless-requires : goal.decided-wordless-requires
 decided-wordless-requires g t c =

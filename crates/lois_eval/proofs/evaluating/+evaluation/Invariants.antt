@@ -69,4 +69,7 @@ invariant-found_inside-loop-context g l =
     }
 
 abbrev pub decreases-both_evaluated : goal.decreases-both_evaluated
-decreases-both_evaluated g l = 4 * (weight (tree l.e.now) + weight (tree l.f.now)) + 2
+decreases-both_evaluated g l = 4 * (weight (tree l.e.now) + weight (tree l.f.now)) + 3
+
+abbrev pub decreases-side_evaluated : goal.decreases-side_evaluated
+decreases-side_evaluated g l = 4 * weight (tree l.e.now) + 2

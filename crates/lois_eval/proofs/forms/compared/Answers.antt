@@ -1,28 +1,30 @@
-use Rattle.std.proofs.Common.{subst, ◌∙◌}
-use Rattle.lois_base.specs.Data.{terms_of}
-use Rattle.lois_base.specs.Fits.{PartsFit}
-use Rattle.lois_base.specs.Validity.{AdmitsParts}
+use Rattle.std.proofs.Common.{[], ◌∷◌, sym, subst}
+use Rattle.lois_base.specs.Fits.{Fits}
+use Rattle.lois_base.specs.Tree.{tree}
+use Rattle.lois_base.specs.Validity.{AdmitsTerm}
 use Rattle.lois_script.specs.View.{cond_tree}
 use Rattle.lois_eval.specs.Evaluated.{AreTermsOf}
 use Rattle.lois_eval.specs.Forms.{sides_of}
 use Rattle.lois_eval.specs.WellFormed.{CondIsWellFormed}
-use Rattle.lois_eval.proofs.Comparing.{two_sides}
 use Rattle.lois_eval.proofs.forms.compared.Goals as goal
 
-pub two_terms-requires : goal.two_terms-requires
-two_terms-requires g c = c.requires.values.count ∙ two_sides (cond_tree c.args.c.now) c.requires.form
+pub compared_with-requires-clause-values : goal.compared_with-requires-clause-values
+compared_with-requires-clause-values g c =
+    let all = AreTermsOf c.args.context.now (sides_of (cond_tree c.args.c.now)) (CondIsWellFormed (cond_tree c.args.c.now)) in
+    subst (λ z. all (tree z ∷ tree c.get-2.result.now ∷ [])) (sym c.get.ensures.same) (subst (λ z. all (tree c.args.values.now.left ∷ tree z ∷ [])) (sym c.get-2.ensures.same) c.requires.values)
 
-pub compared_with-requires : goal.compared_with-requires
-compared_with-requires g c =
-    let k = c.args.context.now in
-    let o = g.T.Structure.ordered in
-    let fits = subst (λ z. PartsFit k.size (terms_of z)) c.two_terms.ensures c.requires.values.levels in
-    let admits = subst (λ z. AdmitsParts o (terms_of z)) c.two_terms.ensures (c.requires.values.operators o c.requires.placed) in
-    record {
-      form = c.requires.form;
-      values = subst (AreTermsOf k (sides_of (cond_tree c.args.c.now)) (CondIsWellFormed (cond_tree c.args.c.now))) c.two_terms.ensures c.requires.values;
-      left = fits.0;
-      left_operators = admits.0;
-      right = fits.1.0;
-      right_operators = admits.1.0;
-    }
+pub compared_with-requires-clause-left : goal.compared_with-requires-clause-left
+compared_with-requires-clause-left g c =
+    subst (λ z. Fits c.args.context.now.size (tree z)) (sym c.get.ensures.same) c.requires.values.levels.0
+
+pub compared_with-requires-clause-left_operators : goal.compared_with-requires-clause-left_operators
+compared_with-requires-clause-left_operators g c =
+    subst (λ z. AdmitsTerm g.T.Structure.ordered (tree z)) (sym c.get.ensures.same) (c.requires.values.operators g.T.Structure.ordered c.requires.placed).0
+
+pub compared_with-requires-clause-right : goal.compared_with-requires-clause-right
+compared_with-requires-clause-right g c =
+    subst (λ z. Fits c.args.context.now.size (tree z)) (sym c.get-2.ensures.same) c.requires.values.levels.1.0
+
+pub compared_with-requires-clause-right_operators : goal.compared_with-requires-clause-right_operators
+compared_with-requires-clause-right_operators g c =
+    subst (λ z. AdmitsTerm g.T.Structure.ordered (tree z)) (sym c.get-2.ensures.same) (c.requires.values.operators g.T.Structure.ordered c.requires.placed).1.0
