@@ -1,0 +1,3 @@
+mod Parted
+mod Readable
+mod Tuples

@@ -1,0 +1,12 @@
+//! Answers that a person can read: normal terms whose comprehensions are split where each part needs fewer binders.
+#![tactic(auto)]
+
+mod lines;
+mod losing;
+mod ordering;
+mod reading;
+mod splitting;
+mod surroundings;
+mod weights;
+
+pub use reading::make_readable;
