@@ -14,7 +14,7 @@ use lois_answers::{Line, Lines, tags_are_names};
 use lois_base::{Constraint, Decider, NoMemory, Structure};
 use lois_context::{Context, Shared, Store};
 use lois_deciders::Chosen;
-use lois_simplify::simplify_to_read;
+use lois_readable::make_readable;
 use std::alloc::Global;
 
 /// The contexts without their stores, each line normal where its context admits a choice.
@@ -92,7 +92,7 @@ fn printed_line<T: Structure>(
     ensures printed { IfOk result (λ r. IsPrintedLine size under.now (line_of line.now) (line_of r)) }
     ensures only_asked { HasOnlyAsked (λ b. (⟦<dyn Decider as Decider>⟧ b.vtable).kind_of b.value) (λ b. (⟦<dyn Decider as Decider>⟧ b.vtable).questions b.value) chosen.old chosen.new }
 {
-    let term = simplify_to_read::<T>(alloc, &line.term, under, size, chosen)?;
+    let term = make_readable::<T>(alloc, &line.term, under, size, chosen)?;
     tags_are_names(&term);
     Ok(Line {
         name: line.name.copy(alloc)?,

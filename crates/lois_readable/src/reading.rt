@@ -74,10 +74,44 @@ fn read<T: Structure>(
     }
     let parted = split_fully(alloc, term, under, size)?;
     let readable = simplified::<T>(alloc, &parted, under, size, chosen)?;
-    if weight(&readable) > weight(term).saturating_mul(2) {
+    if parted.is_equal(term) {
+        return Ok(readable);
+    }
+    let most = weight(term).saturating_mul(2);
+    if weight(&readable) > most {
         return simplified::<T>(alloc, term, under, size, chosen);
     }
-    Ok(readable)
+    read_parts::<T>(alloc, readable, under, most, size, chosen)
+}
+
+// Parts can often be split once more when they are simplified.
+fn read_parts<T: Structure>(
+    alloc: Global,
+    term: Term,
+    under: &Constraint,
+    most: usize,
+    size: usize,
+    chosen: &mut Chosen,
+) -> Result<Term, NoMemory>
+    requires levels { Fits size (tree term) }
+    requires under_levels { ConstraintFits size under.now }
+    requires operators { AdmitsTerm T.ordered (tree term) }
+    requires under_operators { AdmitsConstraint T.ordered under.now }
+    requires normal { IsNormal (tree term) under.now size }
+    requires guards { HasNormalGuards (tree term) }
+    requires plain { HasPlainGuards (tree term) under.now size }
+    ensures readable { IfOk result (λ r. IsReadable under.now size (tree term) (tree r)) }
+    ensures only_asked { HasOnlyAsked (λ b. (⟦<dyn Decider as Decider>⟧ b.vtable).kind_of b.value) (λ b. (⟦<dyn Decider as Decider>⟧ b.vtable).questions b.value) chosen.old chosen.new }
+{
+    let parted = split_fully(alloc, &term, under, size)?;
+    if parted.is_equal(&term) {
+        return Ok(term);
+    }
+    let further = simplified::<T>(alloc, &parted, under, size, chosen)?;
+    if weight(&further) > most {
+        return Ok(term);
+    }
+    Ok(further)
 }
 
 // Parts are split as long as that is worth it.

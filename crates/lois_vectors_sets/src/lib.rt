@@ -6,6 +6,8 @@ mod algebra;
 #[cfg(test)]
 mod making;
 #[cfg(test)]
+mod readable;
+#[cfg(test)]
 mod relate;
 #[cfg(test)]
 mod simplify;
