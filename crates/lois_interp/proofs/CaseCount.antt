@@ -21,13 +21,16 @@ module _ (s : ScriptD) (r : Results) (sound : IsSound r) (parameters : r.paramet
 
   parted : ArePartition (length r.parameters) r.cases
   parted c l =
-      let right = choices c (l ∙ count) in
-      (length right.before + 1, right.one, record {
-        case = record { before = right.before; behind = right.behind; among = right.among; number = refl };
-        here = right.here;
-        none_before = right.none_before;
-        none_behind = right.none_behind;
-      })
+      let right = choices c (l ∙ count) in (
+        length right.before + 1,
+        right.one,
+        record {
+          case = record { before = right.before; behind = right.behind; among = right.among; number = refl };
+          here = right.here;
+          none_before = right.none_before;
+          none_behind = right.none_behind;
+        },
+      )
 
   pub few_enough : length r.cases ≤ patterns r.order (length r.parameters) 0
   few_enough =

@@ -19,11 +19,7 @@ pub(crate) fn terms_of(alloc: Global, elements: &Lines) -> Result<Terms, NoMemor
 }
 
 /// Elements of the same names with other terms, in order. Errors: `NoMemory`.
-pub(crate) fn with_terms(
-    alloc: Global,
-    elements: &Lines,
-    terms: &Terms,
-) -> Result<Lines, NoMemory>
+pub(crate) fn with_terms(alloc: Global, elements: &Lines, terms: &Terms) -> Result<Lines, NoMemory>
     requires count { length terms.now ≡ length elements.now }
     ensures names { IfOk result (λ r. map (λ l. l.name) r ≡ map (λ l. l.name) elements.now) }
     ensures terms { IfOk result (λ r. map (λ l. l.term) r ≡ terms.now) }
