@@ -13,7 +13,7 @@ use Rattle.lois_base.specs.Theory.{IsSatisfiable, IsSampleOf}
 use Rattle.lois_base.specs.Truth.{atom_at, sampled}
 use Rattle.lois_base.specs.declared.guards.Lit.{Lit}
 use Rattle.lois_base.specs.declared.guards.Op.{Op}
-use Rattle.lois_base.specs.declared.guards.Op.TheVariants.{Eq, Ne, Lt}
+use Rattle.lois_base.specs.declared.guards.Op.TheVariants.{Eq, Ne, Lt, AtMost}
 use Rattle.lois_base.proofs.Order.{below_irrefl, below_asym, below_trans, below_at_most, equals_from, same_truth, test}
 use Rattle.lois_base.proofs.Truths.{cube_ordered}
 
@@ -96,6 +96,7 @@ ranks_alike c = record { count = sym (length-map (ranks c) whole ∙ length_rank
     go Eq = equal_ranks
     go Ne = λ i j l m. ap not (equal_ranks i j l m)
     go Lt = smaller_ranks c
+    go AtMost = λ i j l m. ap not (smaller_ranks c j i m l)
 
 -- what holds at some choice of n atoms holds at n numbers below n
 pub sample_of : (n : ℕ) (cube : List Lit) → CubeFits n cube → IsSatisfiable n cube → (s : List ℕ) × IsSampleOf n cube s

@@ -13,7 +13,7 @@ use Rattle.lois_base.specs.Truth.{atom_at, op_holds, lit_holds, cube_holds, hold
 use Rattle.lois_base.specs.Validity.{AdmitsConstraint}
 use Rattle.lois_base.specs.declared.guards.Lit.{Lit}
 use Rattle.lois_base.specs.declared.guards.Op.{Op}
-use Rattle.lois_base.specs.declared.guards.Op.TheVariants.{Eq, Ne, Lt}
+use Rattle.lois_base.specs.declared.guards.Op.TheVariants.{Eq, Ne, Lt, AtMost}
 use Rattle.lois_base.proofs.Choices.{equal_for_at, equal_for_sym, equal_for_longer}
 use Rattle.lois_base.proofs.Validity.{cube_admitted, constraint_admitted}
 use Rattle.lois_base.proofs.Order.{equal_respects, below_respects}
@@ -46,6 +46,7 @@ pub op_respects : (op : Op) (a b x y : Atom) → IsTrue (equal a b) → IsTrue (
 op_respects Eq a b x y h k = equal_respects a b x y h k
 op_respects Ne a b x y h k = ap not (equal_respects a b x y h k)
 op_respects Lt a b x y h k = below_respects a b x y h k
+op_respects AtMost a b x y h k = ap not (below_respects x y a b k h)
 
 abbrev pub Each : ℕ → Type 0
 Each i = Unit {0}

@@ -10,7 +10,7 @@ use Rattle.lois_base.specs.Patterns.{AreAlike}
 use Rattle.lois_base.specs.Truth.{atom_at, op_holds}
 use Rattle.lois_base.specs.Validity.{is_admitted}
 use Rattle.lois_base.specs.declared.guards.Op.{Op}
-use Rattle.lois_base.specs.declared.guards.Op.TheVariants.{Eq, Ne, Lt}
+use Rattle.lois_base.specs.declared.guards.Op.TheVariants.{Eq, Ne, Lt, AtMost}
 use Rattle.lois_base.proofs.Gaps.{IsBelow, one_between, one_new}
 use Rattle.lois_base.proofs.Order.{test, same_truth, equal_refl, equal_sym, equals_from, trichotomy, below_irrefl, below_asym, below_trans}
 use Rattle.lois_base.proofs.Truths.{op_respects}
@@ -41,6 +41,7 @@ self_alike : (ordered : Bool) (p : Twins) → StandAlike ordered p p
 self_alike ordered p Eq h = equal_refl p.one ∙ sym (equal_refl p.other)
 self_alike ordered p Ne h = ap not (equal_refl p.one ∙ sym (equal_refl p.other))
 self_alike ordered p Lt h = below_irrefl p.one ∙ sym (below_irrefl p.other)
+self_alike ordered p AtMost h = ap not (below_irrefl p.one ∙ sym (below_irrefl p.other))
 
 one_more : (ordered : Bool) (ps : List Twins) (p : Twins) → IsPattern ordered ps → ((q : Twins) → Has ps q → StandAlike ordered p q × StandAlike ordered q p) → IsPattern ordered (p ∷ ps)
 one_more ordered ps p h k = record { alike = go }
@@ -99,11 +100,13 @@ apart : (p q : Twins) → IsFalse (equal p.one q.one) → IsFalse (equal p.other
 apart p q h k Eq a = h ∙ sym k
 apart p q h k Ne a = ap not (h ∙ sym k)
 apart p q h k Lt a = absurd (cc)
+apart p q h k AtMost a = absurd (cc)
 
 in_order : (p q : Twins) → below p.one q.one ≡ below p.other q.other → below q.one p.one ≡ below q.other p.other → StandAlike true p q
 in_order p q h k Eq a = equals_from p.one q.one p.other q.other h k
 in_order p q h k Ne a = ap not (equals_from p.one q.one p.other q.other h k)
 in_order p q h k Lt a = h
+in_order p q h k AtMost a = ap not k
 
 under : (p q : Twins) → IsTrue (below p.one q.one) → IsTrue (below p.other q.other) → StandAlike true p q × StandAlike true q p
 under p q h k =

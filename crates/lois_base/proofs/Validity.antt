@@ -9,7 +9,7 @@ use Rattle.lois_base.specs.Normal.{LitUses, GuardUses}
 use Rattle.lois_base.specs.Validity.{is_admitted, AdmitsLit, AdmitsCube, AdmitsConstraint, AdmitsFormula, AdmitsFormulas, AdmitsTerm, AdmitsParts, AdmitsItems, UsesOnly}
 use Rattle.lois_base.specs.declared.guards.Lit.{Lit}
 use Rattle.lois_base.specs.declared.guards.Op.{Op}
-use Rattle.lois_base.specs.declared.guards.Op.TheVariants.{Eq, Ne, Lt}
+use Rattle.lois_base.specs.declared.guards.Op.TheVariants.{Eq, Ne, Lt, AtMost}
 
 module _ {X : Type 0} (P : X → Type 0) where
   pub all_that_are : (xs : List X) → ((x : X) → Contains xs x → P x) → All P xs
@@ -72,6 +72,7 @@ ordered_admits : (o : Op) → is_admitted true o ≡ true
 ordered_admits Eq = refl
 ordered_admits Ne = refl
 ordered_admits Lt = refl
+ordered_admits AtMost = refl
 
 pub cube_admitted : (q : List Lit) → AdmitsCube true q
 cube_admitted q = all_that_are (AdmitsLit true) q (λ l _. ordered_admits l.op)

@@ -4,7 +4,7 @@ use Rattle.std.proofs.Common.{ap}
 use Rattle.std.specs.Coded.{Coded, code_by, coded_ℕ, coded_list, coded×}
 use Rattle.lois_base.specs.declared.guards.Lit.{Lit}
 use Rattle.lois_base.specs.declared.guards.Op.{Op}
-use Rattle.lois_base.specs.declared.guards.Op.TheVariants.{Eq, Ne, Lt}
+use Rattle.lois_base.specs.declared.guards.Op.TheVariants.{Eq, Ne, Lt, AtMost}
 use Rattle.lois_base.specs.Data.{TermD, var, tag, tup, coll, TermsD, no_terms, term, CompD, comp, CompsD, no_comps, more}
 use Rattle.lois_base.specs.Pairs.{Pairs, leaf, pair, pairs_code}
 
@@ -12,16 +12,19 @@ abbrev op_number : Op → ℕ
 op_number Eq = 0
 op_number Ne = 1
 op_number Lt = 2
+op_number AtMost = 3
 
 abbrev op_at : ℕ → Op
 op_at zero = Eq
 op_at (suc zero) = Ne
-op_at (suc (suc n)) = Lt
+op_at (suc (suc zero)) = Lt
+op_at (suc (suc (suc n))) = AtMost
 
 pub op_at-number : (o : Op) → op_at (op_number o) ≡ o
 op_at-number Eq = refl
 op_at-number Ne = refl
 op_at-number Lt = refl
+op_at-number AtMost = refl
 
 abbrev pub op_code : Coded Op
 op_code = code_by ℕ coded_ℕ op_number op_at op_at-number

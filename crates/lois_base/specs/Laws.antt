@@ -57,7 +57,7 @@ pub record OnlyItsLevelsCount : Type 0 where
   pub truth : (g : List (List Lit)) (c d : List Atom) → AreEqualFor (λ b. GuardUses b g) c d → holds c g ≡ holds d g
   pub values : (t : TermD) (c d : List Atom) → AreEqualFor (λ b. Occurs b t) c d → IsSame (point t c) (point t d)
 
--- Nothing counts but how the atoms stand to one another: which are equal and, where `<` occurs, which are smaller.
+-- Nothing counts but how the atoms stand to one another: which are equal and, where `<` or `<=` occurs, which are smaller.
 pub record OnlyThePatternCounts : Type 0 where
   pub constraints : (ordered : Bool) (g : List (List Lit)) (c d : List Atom) → AreAlike ordered c d → ConstraintFits (length c) g → AdmitsConstraint ordered g → holds c g ≡ holds d g
   pub formulas : (ordered : Bool) (f : FormulaD) (c d : List Atom) → AreAlike ordered c d → FormulaFits (length c) f → AdmitsFormula ordered f → FormulaHolds c f → FormulaHolds d f
@@ -67,7 +67,7 @@ pub record OnlyThePatternCounts : Type 0 where
 abbrev pub mapped : (Atom → Atom) → PointValue → PointValue
 mapped f v = point v.term_of (map f v.choice)
 
--- so every map of atoms that keeps equality, and order where `<` occurs, keeps truth and sameness
+-- so every map of atoms that keeps equality, and order where `<` or `<=` occurs, keeps truth and sameness
 pub record MapsKeepMeaning : Type 0 where
   pub constraints : (ordered : Bool) (f : Atom → Atom) → IsEmbedding ordered f → (g : List (List Lit)) (c : List Atom) → ConstraintFits (length c) g → AdmitsConstraint ordered g → holds c g ≡ holds (map f c) g
   pub formulas : (ordered : Bool) (f : Atom → Atom) → IsEmbedding ordered f → (g : FormulaD) (c : List Atom) → FormulaFits (length c) g → AdmitsFormula ordered g → FormulaHolds c g ↔ FormulaHolds (map f c) g

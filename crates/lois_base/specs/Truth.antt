@@ -4,7 +4,7 @@ use Rattle.std.specs.List.{list_all, list_any}
 use Rattle.lois_base.specs.Atom.{Atom, equal, below, whole}
 use Rattle.lois_base.specs.declared.guards.Lit.{Lit}
 use Rattle.lois_base.specs.declared.guards.Op.{Op}
-use Rattle.lois_base.specs.declared.guards.Op.TheVariants.{Eq, Ne, Lt}
+use Rattle.lois_base.specs.declared.guards.Op.TheVariants.{Eq, Ne, Lt, AtMost}
 
 -- the atom at a level; where the choice lacks the level zero, on which nothing rests
 abbrev pub atom_at : List Atom → ℕ → Atom
@@ -15,6 +15,7 @@ abbrev pub op_holds : Op → Atom → Atom → Bool
 op_holds Eq a b = equal a b
 op_holds Ne a b = not (equal a b)
 op_holds Lt a b = below a b
+op_holds AtMost a b = not (below b a)
 
 -- a literal holds where its relation holds between the atoms at its two levels
 abbrev pub lit_holds : List Atom → Lit → Bool

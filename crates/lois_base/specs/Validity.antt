@@ -3,17 +3,18 @@ use Rattle.std.specs.Prelude.{ℕ, ◌≤◌, suc, Bool, true, false, List, IsTr
 use Rattle.std.specs.List.{All}
 use Rattle.lois_base.specs.declared.guards.Lit.{Lit}
 use Rattle.lois_base.specs.declared.guards.Op.{Op}
-use Rattle.lois_base.specs.declared.guards.Op.TheVariants.{Eq, Ne, Lt}
+use Rattle.lois_base.specs.declared.guards.Op.TheVariants.{Eq, Ne, Lt, AtMost}
 use Rattle.lois_base.specs.declared.limits.TheConstants.{LEAST_WIDTH, GREATEST_WIDTH}
 use Rattle.lois_base.specs.Data.{TermD, var, tag, tup, coll, TermsD, no_terms, term, CompD, comp, CompsD, no_comps, more}
 use Rattle.lois_base.specs.FormulaData.{FormulaD, lit, all, any, neg, exists, forall, FormulasD, no_formulas, formula}
 use Rattle.lois_base.specs.Normal.{GuardUses}
 
--- `=` and `!=` are admitted over all atoms, and `<` where the atoms are ordered
+-- `=` and `!=` are admitted over all atoms, and `<` and `<=` where the atoms are ordered
 abbrev pub is_admitted : Bool → Op → Bool
 is_admitted ordered Eq = true
 is_admitted ordered Ne = true
 is_admitted ordered Lt = ordered
+is_admitted ordered AtMost = ordered
 
 -- only admitted operators occur
 abbrev pub AdmitsLit : Bool → Lit → Type 0
@@ -56,7 +57,7 @@ abbrev mutual
   AdmitsItems ordered no_comps = Unit {0}
   AdmitsItems ordered (more c cs) = AdmitsComp ordered c × AdmitsItems ordered cs
 
--- no `<` occurs
+-- neither `<` nor `<=` occurs
 abbrev pub IsOrderFreeCube : List Lit → Type 0
 IsOrderFreeCube = AdmitsCube false
 
@@ -68,6 +69,41 @@ IsOrderFreeFormula = AdmitsFormula false
 
 abbrev pub IsOrderFreeTerm : TermD → Type 0
 IsOrderFreeTerm = AdmitsTerm false
+
+-- `<=` is the one operator that isn't strict
+abbrev pub is_strict : Op → Bool
+is_strict Eq = true
+is_strict Ne = true
+is_strict Lt = true
+is_strict AtMost = false
+
+-- no `<=` occurs
+abbrev pub IsStrictLit : Lit → Type 0
+IsStrictLit l = IsTrue (is_strict l.op)
+
+abbrev pub IsStrictCube : List Lit → Type 0
+IsStrictCube = All IsStrictLit
+
+abbrev pub IsStrictConstraint : List (List Lit) → Type 0
+IsStrictConstraint = All IsStrictCube
+
+abbrev mutual
+  pub IsStrictTerm : TermD → Type 0
+  IsStrictTerm (var i) = Unit {0}
+  IsStrictTerm (tag t) = Unit {0}
+  IsStrictTerm (tup ts) = PartsAreStrict ts
+  IsStrictTerm (coll cs) = ItemsAreStrict cs
+
+  pub PartsAreStrict : TermsD → Type 0
+  PartsAreStrict no_terms = Unit {0}
+  PartsAreStrict (term t ts) = IsStrictTerm t × PartsAreStrict ts
+
+  pub CompIsStrict : CompD → Type 0
+  CompIsStrict (comp m g t) = IsStrictConstraint g × IsStrictTerm t
+
+  pub ItemsAreStrict : CompsD → Type 0
+  ItemsAreStrict no_comps = Unit {0}
+  ItemsAreStrict (more c cs) = CompIsStrict c × ItemsAreStrict cs
 
 abbrev pub count_of_parts : TermsD → ℕ
 count_of_parts no_terms = 0

@@ -12,13 +12,14 @@ use std::marker::Model;
 // Most cubes are short, and take no allocation.
 const INLINE_LITERALS: usize = 8;
 
-/// How two atoms are compared.
+/// How two atoms are compared: `=`, `!=`, `<`, `<=`.
 #[derive(Clone, Copy, PartialEq, Eq, PartialOrd, Ord, Hash, Debug, Default)]
 pub enum Op {
     #[default]
     Eq,
     Ne,
     Lt,
+    AtMost,
 }
 
 /// A literal: a comparison of the atoms at two levels.
@@ -71,6 +72,7 @@ impl Lit {
             Op::Eq => left == right,
             Op::Ne => left != right,
             Op::Lt => left < right,
+            Op::AtMost => left <= right,
         }
     }
 

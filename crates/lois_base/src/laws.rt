@@ -27,8 +27,8 @@ pub fn only_its_levels_count()
     ensures { OnlyItsLevelsCount }
 {}
 
-/// The truth of constraints and formulas, and whether values are the same, depend only on which atoms are equal and, where `<`
-/// occurs, which are smaller. So every map of atoms that keeps these keeps truth and sameness.
+/// The truth of constraints and formulas, and whether values are the same, depend only on which atoms are equal and, where `<` or
+/// `<=` occurs, which are smaller. So every map of atoms that keeps these keeps truth and sameness.
 pub fn maps_keep_meaning()
     ensures pattern { OnlyThePatternCounts }
     ensures maps { MapsKeepMeaning }

@@ -10,7 +10,7 @@ use std::alloc::Global;
 
 /// Atoms with equality, and perhaps with an order.
 pub trait Structure {
-    // whether `<` is admitted; `=` and `!=` always are
+    // whether `<` and `<=` are admitted; `=` and `!=` always are
     ghost ordered: { Bool };
 
     /// Whether literals of this structure may have the operator.
@@ -25,6 +25,6 @@ pub trait Structure {
         ensures levels { IfOk result (ConstraintFits size) }
         ensures operators { IfOk result (AdmitsConstraint ordered) }
 
-        // The answer has `<` only where the cube has it.
+        // The answer has `<` and `<=` only where the cube has one of them.
         ensures order { IfOk result (λ r. IsOrderFreeCube cube.now → IsOrderFree r) };
 }
