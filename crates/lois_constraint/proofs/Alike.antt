@@ -11,7 +11,7 @@ use Rattle.lois_base.proofs.Order.{same_truth}
 use Rattle.lois_base.specs.contracts.guards.Op.{the_type}
 use Rattle.lois_base.specs.declared.guards.Lit.{Lit}
 use Rattle.lois_base.specs.declared.guards.Op.{Op}
-use Rattle.lois_base.specs.declared.guards.Op.TheVariants.{Eq, Ne, Lt}
+use Rattle.lois_base.specs.declared.guards.Op.TheVariants.{Eq, Ne, Lt, AtMost}
 
 abbrev pub lit_eq : Lit → Lit → Bool
 lit_eq a b = sameb the_type a.op b.op && (eqb a.left b.left && eqb a.right b.right)
@@ -32,6 +32,7 @@ same_op : (o : Op) → sameb the_type o o ≡ true
 same_op Eq = refl
 same_op Ne = refl
 same_op Lt = refl
+same_op AtMost = refl
 
 pub lit_eq_itself : (a : Lit) → lit_eq a a ≡ true
 lit_eq_itself a =

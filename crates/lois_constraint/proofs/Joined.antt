@@ -1,18 +1,14 @@
 -- Orders of the levels of a cube, with one equation or its opposite more.
-use Rattle.std.proofs.Common.{◌≡◌, ℕ, ◌<◌, Bool, true, false, not, ◌&&◌, ◌||◌, ◌⊎◌, inl, inr, List, [], ◌∷◌, ◌++◌, length, get_or, refl, sym, ap, ◌∙◌}
+use Rattle.std.proofs.Common.{◌≡◌, ℕ, ◌<◌, Bool, true, false, ◌&&◌, ◌||◌, ◌⊎◌, inl, inr, List, [], ◌∷◌, ◌++◌, length, get_or}
 use Rattle.std.proofs.lemmas.Bool.{and_parts, and_from, cases_Bool}
 use Rattle.std.proofs.lemmas.List.Elements.{All-push}
-use Rattle.std.proofs.lemmas.List.{get_or_default}
-use Rattle.std.proofs.lemmas.List.Folds.{list_any_at}
-use Rattle.std.specs.List.{All, list_any}
-use Rattle.lois_base.proofs.Order.{at_most_trans, below_at_most, at_most_below, equal_out}
+use Rattle.lois_base.proofs.Order.{at_most_trans, equal_out}
 use Rattle.lois_base.specs.Atom.{Atom, below}
 use Rattle.lois_base.specs.Truth.{atom_at, cube_holds}
 use Rattle.lois_base.specs.declared.guards.Lit.{Lit}
-use Rattle.lois_base.specs.declared.guards.Op.{Op}
-use Rattle.lois_base.specs.declared.guards.Op.TheVariants.{Eq, Ne, Lt}
-use Rattle.lois_constraint.specs.Order.{linked, is_tied, is_apart, sets_apart, are_apart, HoldsInOrder, IsOrderClosure}
-use Rattle.lois_constraint.proofs.Linked.{not_true, lit_of, either, clash, first_holds, linked_cases, linked_old, linked_new, linked_trans}
+use Rattle.lois_base.specs.declared.guards.Op.TheVariants.{Eq, Ne}
+use Rattle.lois_constraint.specs.Order.{linked, is_tied, lies_between, joins, are_apart, HoldsInOrder, IsOrderClosure}
+use Rattle.lois_constraint.proofs.Linked.{not_true, lit_of, either, clash, first_holds, linked_cases, linked_old, linked_new, linked_trans, StaysUntied, all_stand, set_by_none}
 
 -- ---- x and y are tied
 module _ (le : ℕ → ℕ → Bool) (k : List Lit) (h : IsOrderClosure le k) (x y : ℕ) where
@@ -59,85 +55,110 @@ module _ (le : ℕ → ℕ → Bool) (k : List Lit) (h : IsOrderClosure le k) (x
   joined_new : (a b : ℕ) → Near a → Far b → joined a b ≡ true
   joined_new a b n f = linked_new once y x a b (near_once a n) (far_once b f)
 
+  -- levels that are newly tied are near and far
+  record Lies (u : ℕ) : Type 0 where
+    near : Near u
+    far : Far u
+
+  near_down : (u v : ℕ) → le u v ≡ true → Near v → Near u
+  near_down u v e (inl n) = inl (h.trans u v x e n)
+  near_down u v e (inr n) = inr (h.trans u v y e n)
+
+  far_up : (u v : ℕ) → le u v ≡ true → Far u → Far v
+  far_up u v e (inl f) = inl (h.trans x u v f e)
+  far_up u v e (inr f) = inr (h.trans y u v f e)
+
+  newly_tied : (u v : ℕ) → joined u v ≡ true → joined v u ≡ true → is_tied le u v ≡ false → Lies u × Lies v
+  newly_tied u v p q untied = go (joined_cases u v p) (joined_cases v u q)
+    where
+      go : (le u v ≡ true) ⊎ (Near u × Far v) → (le v u ≡ true) ⊎ (Near v × Far u) → Lies u × Lies v
+      go (inl e) (inl f) = clash (is_tied le u v) (and_from (le u v) (le v u) e f) untied
+      go (inl e) (inr f) = (
+        record { near = near_down u v e f.0; far = f.1 },
+        record { near = f.0; far = far_up u v e f.1 },
+      )
+      go (inr e) (inl f) = (
+        record { near = e.0; far = far_up v u f e.1 },
+        record { near = near_down v u f e.0; far = e.1 },
+      )
+      go (inr e) (inr f) = (record { near = e.0; far = f.1 }, record { near = f.0; far = e.1 })
+
+  -- where x is at most y, they lie from x on up to y, and else they are tied to one of them
+  from_x : le x y ≡ true → (u : ℕ) → Lies u → (le x u && le u y) ≡ true
+  from_x up u lies = and_from (le x u) (le u y) (low lies.far) (high lies.near)
+    where
+      low : Far u → le x u ≡ true
+      low (inl f) = f
+      low (inr f) = h.trans x y u up f
+
+      high : Near u → le u y ≡ true
+      high (inl n) = h.trans u x y n up
+      high (inr n) = n
+
+  from_y : le y x ≡ true → (u : ℕ) → Lies u → (le y u && le u x) ≡ true
+  from_y down u lies = and_from (le y u) (le u x) (low lies.far) (high lies.near)
+    where
+      low : Far u → le y u ≡ true
+      low (inl f) = h.trans y x u down f
+      low (inr f) = f
+
+      high : Near u → le u x ≡ true
+      high (inl n) = n
+      high (inr n) = h.trans u y x n down
+
+  tied_to : le x y ≡ false → le y x ≡ false → (u : ℕ) → Lies u → (is_tied le u x ≡ true) ⊎ (is_tied le u y ≡ true)
+  tied_to there back u lies = go lies.near lies.far
+    where
+      go : Near u → Far u → (is_tied le u x ≡ true) ⊎ (is_tied le u y ≡ true)
+      go (inl n) (inl f) = inl (and_from (le u x) (le x u) n f)
+      go (inl n) (inr f) = clash (le y x) (h.trans y u x f n) back
+      go (inr n) (inl f) = clash (le x y) (h.trans x u y f n) there
+      go (inr n) (inr f) = inr (and_from (le u y) (le y u) n f)
+
+  both_tied : (u v z : ℕ) → is_tied le u z ≡ true → is_tied le v z ≡ true → is_tied le u v ≡ true
+  both_tied u v z p q =
+      let p2 = and_parts (le u z) (le z u) p in
+      let q2 = and_parts (le v z) (le z v) q in
+      and_from (le u v) (le v u) (h.trans u z v p2.0 q2.1) (h.trans v z u q2.0 p2.1)
+
+  -- so a literal whose levels are newly tied sets x and y apart
+  module _ (l : Lit) (left : Lies l.left) (right : Lies l.right) (untied : is_tied le l.left l.right ≡ false) where
+    abbrev Sets : Type 0
+    Sets = ((lies_between le x y l || lies_between le y x l) || (joins le x y l || joins le y x l)) ≡ true
+
+    joined_one : (is_tied le l.left x ≡ true) ⊎ (is_tied le l.left y ≡ true) → (is_tied le l.right x ≡ true) ⊎ (is_tied le l.right y ≡ true) → (joins le x y l || joins le y x l) ≡ true
+    joined_one (inl e) (inl f) = clash (is_tied le l.left l.right) (both_tied l.left l.right x e f) untied
+    joined_one (inl e) (inr f) =
+        either (joins le x y l) (joins le y x l) (inl (and_from (is_tied le l.left x) (is_tied le l.right y) e f))
+    joined_one (inr e) (inl f) =
+        either (joins le x y l) (joins le y x l) (inr (and_from (is_tied le l.left y) (is_tied le l.right x) e f))
+    joined_one (inr e) (inr f) = clash (is_tied le l.left l.right) (both_tied l.left l.right y e f) untied
+
+    tells_apart : Sets
+    tells_apart = go (cases_Bool (le x y)) (cases_Bool (le y x))
+      where
+        between : (lies_between le x y l ≡ true) ⊎ (lies_between le y x l ≡ true) → Sets
+        between e =
+            either (lies_between le x y l || lies_between le y x l) (joins le x y l || joins le y x l) (inl (either (lies_between le x y l) (lies_between le y x l) e))
+
+        go : (le x y ≡ true) ⊎ (le x y ≡ false) → (le y x ≡ true) ⊎ (le y x ≡ false) → Sets
+        go (inl up) q =
+            between (inl (and_from (le x l.left && le l.left y) (le x l.right && le l.right y) (from_x up l.left left) (from_x up l.right right)))
+        go (inr there) (inl down) =
+            between (inr (and_from (le y l.left && le l.left x) (le y l.right && le l.right x) (from_y down l.left left) (from_y down l.right right)))
+        go (inr there) (inr back) =
+            either (lies_between le x y l || lies_between le y x l) (joins le x y l || joins le y x l) (inr (joined_one (tied_to there back l.left left) (tied_to there back l.right right)))
+
   module _ (apart : are_apart le k x y ≡ false) where
-    both_ways : (p q r : Bool) → ((p && not q) || ((q && not p) || r)) ≡ false → (p ≡ q) × (r ≡ false)
-    both_ways true true true e = absurd (cc)
-    both_ways true true false e = (refl, refl)
-    both_ways true false r e = absurd (cc)
-    both_ways false true r e = absurd (cc)
-    both_ways false false true e = absurd (cc)
-    both_ways false false false e = (refl, refl)
-
-    alike : le x y ≡ le y x
-    alike = (both_ways (le x y) (le y x) (list_any (sets_apart le x y) k) apart).0
-
-    none : list_any (sets_apart le x y) k ≡ false
-    none = (both_ways (le x y) (le y x) (list_any (sets_apart le x y) k) apart).1
-
-    round : (a b : ℕ) → Far a → Near b → le a b ≡ true → le b a ≡ true
-    round a b (inl f) (inl n) e = h.trans b x a n f
-    round a b (inl f) (inr n) e =
-        let back : le y x ≡ true = sym alike ∙ h.trans x b y (h.trans x a b f e) n in h.trans b x a (h.trans b y x n back) f
-    round a b (inr f) (inl n) e =
-        let back : le x y ≡ true = alike ∙ h.trans y b x (h.trans y a b f e) n in h.trans b y a (h.trans b x y n back) f
-    round a b (inr f) (inr n) e = h.trans b y a n f
-
-    still_under : (a b : ℕ) → le a b ≡ true → le b a ≡ false → joined b a ≡ false
-    still_under a b e f = not_true (joined b a) (λ m. go (joined_cases b a m))
+    stays_untied : (i : ℕ) (d : Lit) → i < length k → StaysUntied le joined k h joined_old (get_or k i d)
+    stays_untied i d b differ untied = not_true (is_tied joined l.left l.right) (λ m. let both = and_parts (joined l.left l.right) (joined l.right l.left) m in found (newly_tied l.left l.right both.0 both.1 untied))
       where
-        go : (le b a ≡ true) ⊎ (Near b × Far a) → ⊥
-        go (inl g) = clash (le b a) g f
-        go (inr g) = clash (le b a) (round a b g.1 g.0 e) f
+        l : Lit
+        l = get_or k i d
 
-    tied_to : (u : ℕ) → Near u → Far u → (is_tied le u x ≡ true) ⊎ (is_tied le u y ≡ true)
-    tied_to u (inl n) (inl f) = inl (and_from (le u x) (le x u) n f)
-    tied_to u (inl n) (inr f) =
-        inl (and_from (le u x) (le x u) n (h.trans x y u (alike ∙ h.trans y u x f n) f))
-    tied_to u (inr n) (inl f) =
-        inl (and_from (le u x) (le x u) (h.trans u y x n (sym alike ∙ h.trans x u y f n)) f)
-    tied_to u (inr n) (inr f) = inr (and_from (le u y) (le y u) n f)
-
-    both_tied : (u v z : ℕ) → is_tied le u z ≡ true → is_tied le v z ≡ true → is_tied le u v ≡ true
-    both_tied u v z p q =
-        let p2 = and_parts (le u z) (le z u) p in
-        let q2 = and_parts (le v z) (le z v) q in
-        and_from (le u v) (le v u) (h.trans u z v p2.0 q2.1) (h.trans v z u q2.0 p2.1)
-
-    -- two levels are tied that weren't
-    newly_tied : (u v : ℕ) → joined u v ≡ true → joined v u ≡ true → is_tied le u v ≡ false → ((is_tied le u x ≡ true) × (is_tied le v y ≡ true)) ⊎ ((is_tied le u y ≡ true) × (is_tied le v x ≡ true))
-    newly_tied u v p q untied = go (joined_cases u v p) (joined_cases v u q)
-      where
-        meet : (is_tied le u x ≡ true) ⊎ (is_tied le u y ≡ true) → (is_tied le v x ≡ true) ⊎ (is_tied le v y ≡ true) → ((is_tied le u x ≡ true) × (is_tied le v y ≡ true)) ⊎ ((is_tied le u y ≡ true) × (is_tied le v x ≡ true))
-        meet (inl e) (inl f) = clash (is_tied le u v) (both_tied u v x e f) untied
-        meet (inl e) (inr f) = inl (e, f)
-        meet (inr e) (inl f) = inr (e, f)
-        meet (inr e) (inr f) = clash (is_tied le u v) (both_tied u v y e f) untied
-
-        go : (le u v ≡ true) ⊎ (Near u × Far v) → (le v u ≡ true) ⊎ (Near v × Far u) → ((is_tied le u x ≡ true) × (is_tied le v y ≡ true)) ⊎ ((is_tied le u y ≡ true) × (is_tied le v x ≡ true))
-        go (inl e) (inl f) = clash (is_tied le u v) (and_from (le u v) (le v u) e f) untied
-        go (inl e) (inr f) = clash (is_tied le u v) (and_from (le u v) (le v u) e (round u v f.1 f.0 e)) untied
-        go (inr e) (inl f) = clash (is_tied le u v) (and_from (le u v) (le v u) (round v u e.1 e.0 f) f) untied
-        go (inr e) (inr f) = meet (tied_to u e.0 f.1) (tied_to v f.0 e.1)
-
-    still_apart : (i : ℕ) (l : Lit) → i < length k → get_or k i l ≡ l → l.op ≡ Ne → is_tied le l.left l.right ≡ false → is_tied joined l.left l.right ≡ false
-    still_apart i l b is o untied = not_true (is_tied joined l.left l.right) (λ m. let both = and_parts (joined l.left l.right) (joined l.right l.left) m in go (newly_tied l.left l.right both.0 both.1 untied))
-      where
-        found : ((is_tied le l.left x && is_tied le l.right y) || (is_tied le l.left y && is_tied le l.right x)) ≡ true → ⊥
-        found e =
-            let here : sets_apart le x y l ≡ true = and_from (is_apart l.op) _ (ap is_apart o) e in
-            clash (list_any (sets_apart le x y) k) (list_any_at (sets_apart le x y) k i l b (ap (sets_apart le x y) is ∙ here)) none
-
-        go : ((is_tied le l.left x ≡ true) × (is_tied le l.right y ≡ true)) ⊎ ((is_tied le l.left y ≡ true) × (is_tied le l.right x ≡ true)) → ⊥
-        go (inl e) = found (either (is_tied le l.left x && is_tied le l.right y) (is_tied le l.left y && is_tied le l.right x) (inl (and_from (is_tied le l.left x) (is_tied le l.right y) e.0 e.1)))
-        go (inr e) = found (either (is_tied le l.left x && is_tied le l.right y) (is_tied le l.left y && is_tied le l.right x) (inr (and_from (is_tied le l.left y) (is_tied le l.right x) e.0 e.1)))
-
-    stands_at : (i : ℕ) (l : Lit) → i < length k → get_or k i l ≡ l → (o : Op) → l.op ≡ o → HoldsInOrder le o l.left l.right → HoldsInOrder joined o l.left l.right
-    stands_at i l b is Eq o s = (joined_old l.left l.right s.0, joined_old l.right l.left s.1)
-    stands_at i l b is Ne o s = still_apart i l b is o s
-    stands_at i l b is Lt o s = (joined_old l.left l.right s.0, still_under l.left l.right s.0 s.1)
-
-    stand : All (λ l. HoldsInOrder joined l.op l.left l.right) k
-    stand i d b = stands_at i (get_or k i d) b (get_or_default k i (get_or k i d) d b) (get_or k i d).op refl (h.stands i d b)
+        found : Lies l.left × Lies l.right → ⊥
+        found lies =
+            clash (are_apart le k x y) (set_by_none le k x y i d b differ (tells_apart l lies.0 lies.1 untied)) apart
 
     module _ (c : List Atom) (holds : cube_holds c (k ++ lit_of Eq x y ∷ []) ≡ true) where
       before : cube_holds c k ≡ true
@@ -164,43 +185,12 @@ module _ (le : ℕ → ℕ → Bool) (k : List Lit) (h : IsOrderClosure le k) (x
           go (inr e) =
               at_most_trans (atom_at c a) (atom_at c x) (atom_at c b) (near_low a e.0) (far_high b e.1)
 
-      -- b is tied to x and y, and so not to a, which is under one of them
-      under_tied : (a b : ℕ) → Near b → Near a → Far b → joined b a ≡ false → below (atom_at c a) (atom_at c b) ≡ true
-      under_tied a b m (inl n) f back =
-          let up : below (atom_at c a) (atom_at c x) ≡ true = h.under c before a x n (not_true (le x a) (λ t. clash (joined b a) (joined_new b a m (inl t)) back)) in
-          below_at_most (atom_at c a) (atom_at c x) (atom_at c b) up (far_high b f)
-      under_tied a b m (inr n) f back =
-          let up : below (atom_at c a) (atom_at c y) ≡ true = h.under c before a y n (not_true (le y a) (λ t. clash (joined b a) (joined_new b a m (inr t)) back)) in
-          below_at_most (atom_at c a) (atom_at c y) (atom_at c b) up (at_most_trans (atom_at c y) (atom_at c x) (atom_at c b) same.0 (far_high b f))
-
-      newly_under : (a b : ℕ) → Near a → Far b → joined b a ≡ false → below (atom_at c a) (atom_at c b) ≡ true
-      newly_under a b n (inl f) back = go (cases_Bool (le b x))
-        where
-          go : (le b x ≡ true) ⊎ (le b x ≡ false) → below (atom_at c a) (atom_at c b) ≡ true
-          go (inl m) = under_tied a b (inl m) n (inl f) back
-          go (inr m) = at_most_below (atom_at c a) (atom_at c x) (atom_at c b) (near_low a n) (h.under c before x b f m)
-      newly_under a b n (inr f) back = go (cases_Bool (le b y))
-        where
-          go : (le b y ≡ true) ⊎ (le b y ≡ false) → below (atom_at c a) (atom_at c b) ≡ true
-          go (inl m) = under_tied a b (inr m) n (inr f) back
-          go (inr m) =
-              at_most_below (atom_at c a) (atom_at c y) (atom_at c b) (at_most_trans (atom_at c a) (atom_at c x) (atom_at c y) (near_low a n) same.1) (h.under c before y b f m)
-
-      more_under : (a b : ℕ) → joined a b ≡ true → joined b a ≡ false → below (atom_at c a) (atom_at c b) ≡ true
-      more_under a b m back = go (joined_cases a b m)
-        where
-          go : (le a b ≡ true) ⊎ (Near a × Far b) → below (atom_at c a) (atom_at c b) ≡ true
-          go (inl e) =
-              h.under c before a b e (not_true (le b a) (λ t. clash (joined b a) (joined_old b a t) back))
-          go (inr e) = newly_under a b e.0 e.1 back
-
     pub put_equal : IsOrderClosure (linked y x (linked x y le)) (k ++ lit_of Eq x y ∷ [])
     put_equal = record {
       itself = λ a. joined_old a a (h.itself a);
       trans = linked_trans once (linked_trans le h.trans x y) y x;
-      stands = All-push (λ l. HoldsInOrder joined l.op l.left l.right) k (lit_of Eq x y) stand (joined_new x y (inl (h.itself x)) (inr (h.itself y)), joined_new y x (inr (h.itself y)) (inl (h.itself x)));
+      stands = All-push (λ l. HoldsInOrder joined l.op l.left l.right) k (lit_of Eq x y) (all_stand le joined k h joined_old stays_untied) (joined_new x y (inl (h.itself x)) (inr (h.itself y)), joined_new y x (inr (h.itself y)) (inl (h.itself x)));
       at_most = more_at_most;
-      under = more_under;
     }
 
 -- ---- x and y are set apart
@@ -210,5 +200,4 @@ put_apart le k h x y untied = record {
   trans = h.trans;
   stands = All-push (λ l. HoldsInOrder le l.op l.left l.right) k (lit_of Ne x y) h.stands untied;
   at_most = λ c holds. h.at_most c (first_holds c k (lit_of Ne x y) holds).0;
-  under = λ c holds. h.under c (first_holds c k (lit_of Ne x y) holds).0;
 }

@@ -1,15 +1,16 @@
 -- Orders of the levels of a cube, with one literal more.
-use Rattle.std.proofs.Common.{◌≡◌, ℕ, Bool, true, false, ◌&&◌, ◌||◌, ◌⊎◌, inl, inr, List, [], ◌∷◌, ◌++◌, eqb, eq-eqb, eqb-true, refl, sym, ◌∙◌, subst}
-use Rattle.std.proofs.lemmas.Bool.{or_cases, and_parts, and_from}
-use Rattle.std.proofs.lemmas.List.Elements.{All-nil, All-push, All-weaker}
-use Rattle.std.proofs.lemmas.List.Folds.{list_all-append}
-use Rattle.lois_base.proofs.Order.{below_at_most, at_most_below, below_asym, below_irrefl}
+use Rattle.std.proofs.Common.{◌≡◌, ℕ, ◌<◌, Bool, true, false, ◌&&◌, ◌||◌, ◌⊎◌, inl, inr, List, [], ◌∷◌, ◌++◌, length, get_or, eqb, eq-eqb, eqb-true, refl, sym, ◌∙◌, subst}
+use Rattle.std.proofs.lemmas.Bool.{or_cases, and_parts, and_from, not-true}
+use Rattle.std.proofs.lemmas.List.Elements.{All-nil, All-push}
+use Rattle.std.proofs.lemmas.List.Folds.{list_all-append, list_any_at}
+use Rattle.std.specs.List.{All}
+use Rattle.lois_base.proofs.Order.{at_most_trans, below_asym, below_irrefl}
 use Rattle.lois_base.specs.Atom.{Atom, below}
 use Rattle.lois_base.specs.Truth.{atom_at, lit_holds, cube_holds}
 use Rattle.lois_base.specs.declared.guards.Lit.{Lit}
 use Rattle.lois_base.specs.declared.guards.Op.{Op}
-use Rattle.lois_base.specs.declared.guards.Op.TheVariants.{Eq, Ne, Lt}
-use Rattle.lois_constraint.specs.Order.{at_most, linked, is_tied, HoldsInOrder, IsOrderClosure}
+use Rattle.lois_base.specs.declared.guards.Op.TheVariants.{Eq, Ne, Lt, AtMost}
+use Rattle.lois_constraint.specs.Order.{at_most, linked, is_tied, is_apart, lies_between, joins, sets_apart, are_apart, HoldsInOrder, IsOrderClosure}
 use Rattle.lois_constraint.proofs.Words.{reaches_nothing}
 
 abbrev pub lit_of : Op → ℕ → ℕ → Lit
@@ -50,7 +51,6 @@ no_order = record {
   trans = λ a b c p q. alone a c ∙ eq-eqb a c (same a b p ∙ same b c q);
   stands = All-nil (λ l. HoldsInOrder (at_most []) l.op l.left l.right);
   at_most = λ c h a b m. subst (λ (z : ℕ). below (atom_at c z) (atom_at c a) ≡ false) (same a b m) (below_irrefl (atom_at c a));
-  under = λ c h a b m n. clash (at_most [] b a) (alone b a ∙ eq-eqb b a (sym (same a b m))) n;
 }
 
 -- ---- one level at most another one
@@ -75,67 +75,92 @@ module _ (le : ℕ → ℕ → Bool) (trans : (a b c : ℕ) → le a b ≡ true 
       go (inr e) (inl f) = linked_new le x y a c e.0 (trans y b c e.1 f)
       go (inr e) (inr f) = linked_new le x y a c e.0 f.1
 
-module _ (le : ℕ → ℕ → Bool) (k : List Lit) (h : IsOrderClosure le k) where
-  -- ---- x is put under y
-  module _ (x y : ℕ) (no : le y x ≡ false) where
-    abbrev more : ℕ → ℕ → Bool
-    more = linked x y le
+-- ---- an order that says more: the literals still stand if it ties no two levels that one of them says differ
+module _ (le more : ℕ → ℕ → Bool) (k : List Lit) (h : IsOrderClosure le k) (grown : (a b : ℕ) → le a b ≡ true → more a b ≡ true) where
+  abbrev pub StaysUntied : Lit → Type 0
+  StaysUntied l = is_apart l.op ≡ true → is_tied le l.left l.right ≡ false → is_tied more l.left l.right ≡ false
 
-    still_under : (a b : ℕ) → le a b ≡ true → le b a ≡ false → more b a ≡ false
-    still_under a b e f = not_true (more b a) (λ m. go (linked_cases le x y b a m))
+  still_stands : (o : Op) (u v : ℕ) → StaysUntied (lit_of o u v) → HoldsInOrder le o u v → HoldsInOrder more o u v
+  still_stands Eq u v stays s = (grown u v s.0, grown v u s.1)
+  still_stands Ne u v stays s = stays refl s
+  still_stands Lt u v stays s =
+      let before : is_tied le u v ≡ false = not_true (is_tied le u v) (λ t. clash (le v u) (and_parts (le u v) (le v u) t).1 s.1) in (
+        grown u v s.0,
+        not_true (more v u) (λ t. clash (is_tied more u v) (and_from (more u v) (more v u) (grown u v s.0) t) (stays refl before)),
+      )
+  still_stands AtMost u v stays s = grown u v s
+
+  pub all_stand : ((i : ℕ) (d : Lit) → i < length k → StaysUntied (get_or k i d)) → All (λ l. HoldsInOrder more l.op l.left l.right) k
+  all_stand stays i d b =
+      still_stands (get_or k i d).op (get_or k i d).left (get_or k i d).right (stays i d b) (h.stands i d b)
+
+-- a literal that says that its levels differ, at a place of the cube where none sets x and y apart
+pub set_by_none : (le : ℕ → ℕ → Bool) (k : List Lit) (x y i : ℕ) (d : Lit) → i < length k → is_apart (get_or k i d).op ≡ true → ((lies_between le x y (get_or k i d) || lies_between le y x (get_or k i d)) || (joins le x y (get_or k i d) || joins le y x (get_or k i d))) ≡ true → are_apart le k x y ≡ true
+set_by_none le k x y i d b apart lies =
+    list_any_at (sets_apart le x y) k i d b (and_from (is_apart (get_or k i d).op) _ apart lies)
+
+-- ---- x is at most y
+module _ (le : ℕ → ℕ → Bool) (k : List Lit) (h : IsOrderClosure le k) (x y : ℕ) where
+  abbrev more : ℕ → ℕ → Bool
+  more = linked x y le
+
+  -- levels that are newly tied lie from y on up to x
+  newly_tied : (l : Lit) → more l.left l.right ≡ true → more l.right l.left ≡ true → is_tied le l.left l.right ≡ false → lies_between le y x l ≡ true
+  newly_tied l p q untied = go (linked_cases le x y u v p) (linked_cases le x y v u q)
+    where
+      u : ℕ
+      u = l.left
+
+      v : ℕ
+      v = l.right
+
+      lie : le y u ≡ true → le u x ≡ true → le y v ≡ true → le v x ≡ true → lies_between le y x l ≡ true
+      lie yu ux yv vx =
+          and_from (le y u && le u x) (le y v && le v x) (and_from (le y u) (le u x) yu ux) (and_from (le y v) (le v x) yv vx)
+
+      go : (le u v ≡ true) ⊎ ((le u x ≡ true) × (le y v ≡ true)) → (le v u ≡ true) ⊎ ((le v x ≡ true) × (le y u ≡ true)) → lies_between le y x l ≡ true
+      go (inl e) (inl f) = clash (is_tied le u v) (and_from (le u v) (le v u) e f) untied
+      go (inl e) (inr f) = lie f.1 (h.trans u v x e f.0) (h.trans y u v f.1 e) f.0
+      go (inr e) (inl f) = lie (h.trans y v u e.1 f) e.0 e.1 (h.trans v u x f e.0)
+      go (inr e) (inr f) = lie f.1 e.0 e.1 f.0
+
+  module _ (free : (le y x && are_apart le k y x) ≡ false) where
+    stays_untied : (i : ℕ) (d : Lit) → i < length k → StaysUntied le more k h (linked_old le x y) (get_or k i d)
+    stays_untied i d b apart untied = not_true (is_tied more l.left l.right) (λ m. let both = and_parts (more l.left l.right) (more l.right l.left) m in found (newly_tied l both.0 both.1 untied))
       where
-        go : (le b a ≡ true) ⊎ ((le b x ≡ true) × (le y a ≡ true)) → ⊥
-        go (inl g) = clash (le b a) g f
-        go (inr g) = clash (le y x) (h.trans y a x g.1 (h.trans a b x e g.0)) no
+        l : Lit
+        l = get_or k i d
 
-    tied_before : (a b : ℕ) → more a b ≡ true → more b a ≡ true → is_tied le a b ≡ true
-    tied_before a b p q = go (linked_cases le x y a b p) (linked_cases le x y b a q)
-      where
-        go : (le a b ≡ true) ⊎ ((le a x ≡ true) × (le y b ≡ true)) → (le b a ≡ true) ⊎ ((le b x ≡ true) × (le y a ≡ true)) → is_tied le a b ≡ true
-        go (inl e) (inl f) = and_from (le a b) (le b a) e f
-        go (inl e) (inr f) = clash (le y x) (h.trans y a x f.1 (h.trans a b x e f.0)) no
-        go (inr e) (inl f) = clash (le y x) (h.trans y b x e.1 (h.trans b a x f e.0)) no
-        go (inr e) (inr f) = clash (le y x) (h.trans y b x e.1 f.0) no
+        found : lies_between le y x l ≡ true → ⊥
+        found lies =
+            let first = and_parts (le y l.left) (le l.left x) (and_parts (le y l.left && le l.left x) (le y l.right && le l.right x) lies).0 in
+            let set : are_apart le k y x ≡ true = set_by_none le k y x i d b apart (either (lies_between le y x l || lies_between le x y l) _ (inl (either (lies_between le y x l) _ (inl lies)))) in
+            clash (le y x && are_apart le k y x) (and_from (le y x) (are_apart le k y x) (h.trans y l.left x first.0 first.1) set) free
 
-    still_stands : (o : Op) (a b : ℕ) → HoldsInOrder le o a b → HoldsInOrder more o a b
-    still_stands Eq a b s = (linked_old le x y a b s.0, linked_old le x y b a s.1)
-    still_stands Ne a b s =
-        not_true (is_tied more a b) (λ m. let both = and_parts (more a b) (more b a) m in clash (is_tied le a b) (tied_before a b both.0 both.1) s)
-    still_stands Lt a b s = (linked_old le x y a b s.0, still_under a b s.0 s.1)
-
-    module _ (c : List Atom) (holds : cube_holds c (k ++ lit_of Lt x y ∷ []) ≡ true) where
-      new_below : (a b : ℕ) → le a x ≡ true → le y b ≡ true → below (atom_at c a) (atom_at c b) ≡ true
-      new_below a b e f =
-          let all = first_holds c k (lit_of Lt x y) holds in
-          let rises : below (atom_at c x) (atom_at c y) ≡ true = all.1 in
-          at_most_below (atom_at c a) (atom_at c x) (atom_at c b) (h.at_most c all.0 a x e) (below_at_most (atom_at c x) (atom_at c y) (atom_at c b) rises (h.at_most c all.0 y b f))
-
-      more_at_most : (a b : ℕ) → more a b ≡ true → below (atom_at c b) (atom_at c a) ≡ false
-      more_at_most a b m = go (linked_cases le x y a b m)
+    -- with a literal by which x is at most y
+    module _ (l : Lit) (stands : HoldsInOrder more l.op l.left l.right) (rises : (c : List Atom) → lit_holds c l ≡ true → below (atom_at c y) (atom_at c x) ≡ false) where
+      more_at_most : (c : List Atom) → cube_holds c (k ++ l ∷ []) ≡ true → (a b : ℕ) → more a b ≡ true → below (atom_at c b) (atom_at c a) ≡ false
+      more_at_most c holds a b m = go (first_holds c k l holds) (linked_cases le x y a b m)
         where
-          go : (le a b ≡ true) ⊎ ((le a x ≡ true) × (le y b ≡ true)) → below (atom_at c b) (atom_at c a) ≡ false
-          go (inl e) = h.at_most c (first_holds c k (lit_of Lt x y) holds).0 a b e
-          go (inr e) = below_asym (atom_at c a) (atom_at c b) (new_below a b e.0 e.1)
+          go : (cube_holds c k ≡ true) × (lit_holds c l ≡ true) → (le a b ≡ true) ⊎ ((le a x ≡ true) × (le y b ≡ true)) → below (atom_at c b) (atom_at c a) ≡ false
+          go all (inl e) = h.at_most c all.0 a b e
+          go all (inr e) =
+              at_most_trans (atom_at c a) (atom_at c x) (atom_at c b) (h.at_most c all.0 a x e.0) (at_most_trans (atom_at c x) (atom_at c y) (atom_at c b) (rises c all.1) (h.at_most c all.0 y b e.1))
 
-      more_under : (a b : ℕ) → more a b ≡ true → more b a ≡ false → below (atom_at c a) (atom_at c b) ≡ true
-      more_under a b m n = go (linked_cases le x y a b m)
-        where
-          go : (le a b ≡ true) ⊎ ((le a x ≡ true) × (le y b ≡ true)) → below (atom_at c a) (atom_at c b) ≡ true
-          go (inl e) =
-              h.under c (first_holds c k (lit_of Lt x y) holds).0 a b e (not_true (le b a) (λ t. clash (more b a) (linked_old le x y b a t) n))
-          go (inr e) = new_below a b e.0 e.1
+      put_link : IsOrderClosure more (k ++ l ∷ [])
+      put_link = record {
+        itself = λ a. linked_old le x y a a (h.itself a);
+        trans = linked_trans le h.trans x y;
+        stands = All-push (λ m. HoldsInOrder more m.op m.left m.right) k l (all_stand le more k h (linked_old le x y) stays_untied) stands;
+        at_most = more_at_most;
+      }
 
-    new_stands : HoldsInOrder more Lt x y
-    new_stands = (
-      linked_new le x y x y (h.itself x) (h.itself y),
-      not_true (more y x) (λ m. elim (linked_cases le x y y x m) [ inl e ↦ clash (le y x) e no | inr e ↦ clash (le y x) e.0 no ]),
-    )
+    pub put_at_most : IsOrderClosure (linked x y le) (k ++ lit_of AtMost x y ∷ [])
+    put_at_most =
+        put_link (lit_of AtMost x y) (linked_new le x y x y (h.itself x) (h.itself y)) (λ c t. not-true (below (atom_at c y) (atom_at c x)) t)
 
-    pub put_under : IsOrderClosure (linked x y le) (k ++ lit_of Lt x y ∷ [])
-    put_under = record {
-      itself = λ a. linked_old le x y a a (h.itself a);
-      trans = linked_trans le h.trans x y;
-      stands = All-push (λ l. HoldsInOrder more l.op l.left l.right) k (lit_of Lt x y) (All-weaker (λ l. HoldsInOrder le l.op l.left l.right) (λ l. HoldsInOrder more l.op l.left l.right) (λ l. still_stands l.op l.left l.right) k h.stands) new_stands;
-      at_most = more_at_most;
-      under = more_under;
-    }
+  pub put_under : le y x ≡ false → IsOrderClosure (linked x y le) (k ++ lit_of Lt x y ∷ [])
+  put_under above =
+      let free : (le y x && are_apart le k y x) ≡ false = not_true (le y x && are_apart le k y x) (λ t. clash (le y x) (and_parts (le y x) (are_apart le k y x) t).0 above) in
+      let still : more y x ≡ false = not_true (more y x) (λ m. elim (linked_cases le x y y x m) [ inl e ↦ clash (le y x) e above | inr e ↦ clash (le y x) e.0 above ]) in
+      put_link free (lit_of Lt x y) (linked_new le x y x y (h.itself x) (h.itself y), still) (λ c t. below_asym (atom_at c x) (atom_at c y) t)

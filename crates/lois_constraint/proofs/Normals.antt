@@ -8,7 +8,7 @@ use Rattle.std.proofs.lemmas.List.Folds.{Any-from_list_any, list_all-append}
 use Rattle.std.proofs.lemmas.List.Sums.{AllPass-from_list_all, list_all-from_AllPass}
 use Rattle.lois_base.proofs.Order.{equal_refl, below_irrefl, same_truth}
 use Rattle.lois_base.specs.declared.guards.Op.{Op}
-use Rattle.lois_base.specs.declared.guards.Op.TheVariants.{Eq, Ne, Lt}
+use Rattle.lois_base.specs.declared.guards.Op.TheVariants.{Eq, Ne, Lt, AtMost}
 use Rattle.lois_base.specs.Atom.{Atom, equal, below}
 use Rattle.lois_base.specs.Truth.{atom_at, op_holds, lit_holds, cube_holds}
 use Rattle.lois_base.specs.declared.guards.Lit.{Lit}
@@ -44,6 +44,8 @@ holds_anywhere c e Ne x y same h =
     clash (not (equal (atom_at e x) (atom_at e y))) h no
 holds_anywhere c e Lt x y same h =
     clash (below (atom_at e x) (atom_at e y)) h (subst (λ z. below (atom_at e x) (atom_at e z) ≡ false) same (below_irrefl (atom_at e x)))
+holds_anywhere c e AtMost x y same h =
+    ap not (subst (λ z. below (atom_at c z) (atom_at c x) ≡ false) same (below_irrefl (atom_at c x)))
 
 module _ (c : List Atom) (turned xs : List Lit) (i : ℕ) (d : Lit) (b : i < length xs) (same : cube_holds c turned ≡ cube_holds c (take i xs)) where
   pub turned_grows : (r : List Lit) (t : Lit) → r ≡ turned ++ t ∷ [] → lit_holds c t ≡ lit_holds c (get_or xs i d) → cube_holds c r ≡ cube_holds c (take (i + 1) xs)

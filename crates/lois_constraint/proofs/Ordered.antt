@@ -4,7 +4,7 @@ use Rattle.std.specs.Bool.{IsTrue}
 use Rattle.std.proofs.lemmas.Bool.Decides.{nat_tests}
 use Rattle.lois_base.specs.declared.guards.Lit.{Lit}
 use Rattle.lois_base.specs.declared.guards.Op.{Op}
-use Rattle.lois_base.specs.declared.guards.Op.TheVariants.{Eq, Ne, Lt}
+use Rattle.lois_base.specs.declared.guards.Op.TheVariants.{Eq, Ne, Lt, AtMost}
 use Rattle.lois_constraint.specs.Normalised.{op_rank, lit_before, lit_same, cube_before}
 
 abbrev three_before : ℕ → ℕ → ℕ → ℕ → ℕ → ℕ → Bool
@@ -39,12 +39,19 @@ rank_tells : (o r : Op) → op_rank o ≡ op_rank r → o ≡ r
 rank_tells Eq Eq e = refl
 rank_tells Eq Ne e = absurd (omega arith)
 rank_tells Eq Lt e = absurd (omega arith)
+rank_tells Eq AtMost e = absurd (omega arith)
 rank_tells Ne Eq e = absurd (omega arith)
 rank_tells Ne Ne e = refl
 rank_tells Ne Lt e = absurd (omega arith)
+rank_tells Ne AtMost e = absurd (omega arith)
 rank_tells Lt Eq e = absurd (omega arith)
 rank_tells Lt Ne e = absurd (omega arith)
 rank_tells Lt Lt e = refl
+rank_tells Lt AtMost e = absurd (omega arith)
+rank_tells AtMost Eq e = absurd (omega arith)
+rank_tells AtMost Ne e = absurd (omega arith)
+rank_tells AtMost Lt e = absurd (omega arith)
+rank_tells AtMost AtMost e = refl
 
 lit_of : (o r : Op) (x y z w : ℕ) → o ≡ r → x ≡ z → y ≡ w → (let a : Lit = record { op = o; left = x; right = y } in let b : Lit = record { op = r; left = z; right = w } in a ≡ b)
 lit_of o r x y z w e f g = rw (e, f, g)

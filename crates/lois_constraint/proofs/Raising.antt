@@ -8,10 +8,6 @@ use Rattle.lois_constraint.specs.Order.{Row, reaches, are_at_most}
 use Rattle.lois_constraint.proofs.Words.{beyond, reaches_nothing}
 
 -- ---- tables
-pub either_way : (p q r : Bool) → ((p || q) || r) ≡ (p || (q || r))
-either_way true q r = refl
-either_way false q r = refl
-
 -- raised: the rows, those below i with more levels above where they have the given one
 module _ (rows raised : List Row) (level i : ℕ) (more : Row) where
   abbrev AboveKept : List Row → ℕ → Type 0

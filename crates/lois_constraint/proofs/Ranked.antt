@@ -1,7 +1,7 @@
 -- An order of the levels of a cube gives a choice that meets the cube.
 use Rattle.std.proofs.Common.{◌≡◌, ℕ, zero, suc, ◌+◌, ◌*◌, ◌<◌, ◌≤◌, Bool, true, false, cond, ◌⊎◌, inl, inr, List, get_or, refl, sym, ap, ◌∙◌, arith}
 use Rattle.std.proofs.Math.Nat.{mul-le-mul_right}
-use Rattle.std.proofs.lemmas.Bool.{and_parts, and_from, cases_eq, cases_order}
+use Rattle.std.proofs.lemmas.Bool.{and_parts, and_from, cases_Bool, cases_eq, cases_order}
 use Rattle.std.proofs.lemmas.Int.{ints}
 use Rattle.std.proofs.lemmas.List.Sums.{list_all-from_AllPass}
 use Rattle.lois_base.specs.Atom.{Atom, whole}
@@ -10,7 +10,7 @@ use Rattle.lois_base.specs.Shift.{top_of_lits}
 use Rattle.lois_base.specs.Truth.{op_holds}
 use Rattle.lois_base.specs.declared.guards.Lit.{Lit}
 use Rattle.lois_base.specs.declared.guards.Op.{Op}
-use Rattle.lois_base.specs.declared.guards.Op.TheVariants.{Eq, Ne, Lt}
+use Rattle.lois_base.specs.declared.guards.Op.TheVariants.{Eq, Ne, Lt, AtMost}
 use Rattle.lois_constraint.specs.Entailment.{CubeIsSatisfiable}
 use Rattle.lois_constraint.specs.Order.{is_tied, HoldsInOrder, IsOrderClosure}
 use Rattle.lois_constraint.proofs.Linked.{clash}
@@ -147,6 +147,12 @@ module _ (le : ℕ → ℕ → Bool) (k : List Lit) (h : IsOrderClosure le k) (n
   numbers_hold Ne a b l m s =
       let e : number a ≡ number b → ⊥ = λ e. clash (is_tied le a b) (numbers_tied a b l m e) s in grind (arith, ints)
   numbers_hold Lt a b l m s = let e : number a < number b = numbers_rise a b m s.0 s.1 in grind (arith, ints)
+  numbers_hold AtMost a b l m s = let e : number a ≤ number b = go (cases_Bool (le b a)) in grind (arith, ints)
+    where
+      go : (le b a ≡ true) ⊎ (le b a ≡ false) → number a ≤ number b
+      go (inl t) =
+          let same : number a ≡ number b = tied_numbers a b (and_from (le a b) (le b a) s t) in omega arith
+      go (inr t) = let less : number a < number b = numbers_rise a b m s t in omega arith
 
 pub order_met : (le : ℕ → ℕ → Bool) (k : List Lit) → IsOrderClosure le k → CubeIsSatisfiable k
 order_met le k h =

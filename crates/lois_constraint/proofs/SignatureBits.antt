@@ -8,14 +8,17 @@ use Rattle.std.proofs.lemmas.Bool.Decides.{eqb_tells}
 use Rattle.std.proofs.lemmas.List.Sums.{AllPass-from_list_all}
 use Rattle.std.proofs.lemmas.Nat.{one_shl}
 use Rattle.std.proofs.lemmas.Nat.Bits.{bit_at_and, bit_at_or, bit_at-zero, bit_at-lt, bit_at-pow_other, same_from_bits}
-use Rattle.lois_base.specs.Truth.{lit_holds}
+use Rattle.lois_base.specs.Atom.{below}
+use Rattle.lois_base.specs.Truth.{atom_at, lit_holds}
 use Rattle.lois_base.specs.declared.guards.Lit.{Lit}
 use Rattle.lois_base.specs.declared.guards.Op.{Op}
-use Rattle.lois_base.specs.declared.guards.Op.TheVariants.{Eq, Ne, Lt}
-use Rattle.lois_constraint.specs.Entailment.{Entails}
-use Rattle.lois_constraint.specs.Order.{is_implied, IsOrderClosure}
+use Rattle.lois_base.specs.declared.guards.Op.TheVariants.{Eq, Ne, Lt, AtMost}
+use Rattle.lois_constraint.specs.Entailment.{CubeIsSatisfiable, Entails}
+use Rattle.lois_constraint.specs.Order.{are_apart, is_implied, IsOrderClosure}
 use Rattle.lois_constraint.specs.Signature.{bit_index, EntailsLit, HasOrderBits, RecordsLit, MatchesMask}
-use Rattle.lois_constraint.proofs.Implied.{told_exactly, under_parts}
+use Rattle.lois_constraint.proofs.Implied.{told_exactly}
+use Rattle.lois_constraint.proofs.Linked.{not_true, lit_of, clash}
+use Rattle.lois_constraint.proofs.Ranked.{order_met}
 
 -- ---- bits
 has_bit : (m : ℕ) → m < 2 → (m == 1) ≡ true → m ≡ 1
@@ -106,10 +109,22 @@ module _ (le : ℕ → ℕ → Bool) (k : List Lit) (h : IsOrderClosure le k) (o
   above_shown : (a b : ℕ) → a < 8 → b < 8 → le a b ≡ false → bit_at order (bit_index a b) ≡ 0
   above_shown a b l m e = lacks_bit (bit_at order (bit_index a b)) (bit_at-lt order (bit_index a b)) (is a b l m ∙ e)
 
+  -- a choice meets the cube, and there what is below isn't above too
+  one_way : (a b : ℕ) → is_implied le k Lt a b ≡ true → le b a ≡ false
+  one_way a b e = not_true (le b a) (meets (order_met le k h))
+    where
+      meets : CubeIsSatisfiable k → le b a ≡ true → ⊥
+      meets met t =
+          let less : below (atom_at met.0 a) (atom_at met.0 b) ≡ true = (told_exactly le k h (lit_of Lt a b) (is_implied le k Lt a b) refl).0 e met.0 met.1 in
+          clash (below (atom_at met.0 a) (atom_at met.0 b)) less (h.at_most met.0 met.1 b a t)
+
   told_shown : (o : Op) (a b : ℕ) → a < 8 → b < 8 → is_implied le k o a b ≡ true → HasOrderBits order o a b
   told_shown Eq a b l m e = let both = and_parts (le a b) (le b a) e in (at_most_shown a b l m both.0, at_most_shown b a m l both.1)
   told_shown Ne a b l m e = tt
-  told_shown Lt a b l m e = let both = under_parts (le a b) (le b a) e in (at_most_shown a b l m both.0, above_shown b a m l both.1)
+  told_shown Lt a b l m e =
+      let both = and_parts (le a b) (are_apart le k a b) e in
+      (at_most_shown a b l m both.0, above_shown b a m l (one_way a b e))
+  told_shown AtMost a b l m e = at_most_shown a b l m e
 
   pub follows_shown : (l : Lit) → EntailsLit k l → RecordsLit order l
   follows_shown l follows a b =

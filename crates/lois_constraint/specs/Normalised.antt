@@ -3,13 +3,14 @@ use Rattle.std.specs.Prelude.{ℕ, ◌≤◌, ◌≢◌, Bool, true, false, ◌&
 use Rattle.std.specs.List.{All, AllPairs, list_all, list_any}
 use Rattle.lois_base.specs.declared.guards.Lit.{Lit}
 use Rattle.lois_base.specs.declared.guards.Op.{Op}
-use Rattle.lois_base.specs.declared.guards.Op.TheVariants.{Eq, Ne, Lt}
+use Rattle.lois_base.specs.declared.guards.Op.TheVariants.{Eq, Ne, Lt, AtMost}
 
--- `=`, then `!=`, then `<`
+-- `=`, then `!=`, then `<`, then `<=`
 abbrev pub op_rank : Op → ℕ
 op_rank Eq = 0
 op_rank Ne = 1
 op_rank Lt = 2
+op_rank AtMost = 3
 
 -- literals go by their left level, then by their right level, then by their operator
 abbrev pub lit_before : Lit → Lit → Bool
@@ -31,6 +32,7 @@ abbrev pub IsOriented : Op → ℕ → ℕ → Type 0
 IsOriented Eq x y = x ≤ y
 IsOriented Ne x y = x ≤ y
 IsOriented Lt x y = Unit {0}
+IsOriented AtMost x y = Unit {0}
 
 -- each literal of the one cube stands in the other
 abbrev pub is_part : List Lit → List Lit → Bool

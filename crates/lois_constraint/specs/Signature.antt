@@ -5,7 +5,7 @@ use Rattle.lois_base.specs.Atom.{Atom}
 use Rattle.lois_base.specs.Truth.{lit_holds, cube_holds}
 use Rattle.lois_base.specs.declared.guards.Lit.{Lit}
 use Rattle.lois_base.specs.declared.guards.Op.{Op}
-use Rattle.lois_base.specs.declared.guards.Op.TheVariants.{Eq, Ne, Lt}
+use Rattle.lois_base.specs.declared.guards.Op.TheVariants.{Eq, Ne, Lt, AtMost}
 
 -- the bit that says whether one level is at most another, of levels below eight
 abbrev pub bit_index : ℕ → ℕ → ℕ
@@ -20,6 +20,7 @@ abbrev pub HasOrderBits : ℕ → Op → ℕ → ℕ → Type 0
 HasOrderBits order Eq a b = (bit_at order (bit_index a b) ≡ 1) × (bit_at order (bit_index b a) ≡ 1)
 HasOrderBits order Ne a b = ⊤
 HasOrderBits order Lt a b = (bit_at order (bit_index a b) ≡ 1) × (bit_at order (bit_index b a) ≡ 0)
+HasOrderBits order AtMost a b = bit_at order (bit_index a b) ≡ 1
 
 -- the same of a literal, if its levels are below eight
 abbrev pub RecordsLit : ℕ → Lit → Type 0

@@ -7,8 +7,9 @@ ghost use Rattle.lois_constraint.specs.Alternatives.{alternatives};
 ghost use Rattle.lois_constraint.specs.Entailment.{CubeIsSatisfiable};
 
 use crate::closed_cube::ClosedCube;
+use crate::denying::denial;
 use crate::pruning::tighten;
-use lois_base::{Cube, Lit, NoMemory, Op};
+use lois_base::{Cube, Lit, NoMemory};
 use smallvec::SmallVec;
 use std::alloc::Global;
 
@@ -21,36 +22,12 @@ pub fn conflict(alloc: Global, cube: &Cube) -> Result<bool, NoMemory>
     Ok(tight.is_none())
 }
 
-/// The literals of which one holds exactly where the literal doesn't. No `<` comes from `=` or `!=`.
+/// The literals of which one holds exactly where the literal doesn't. No `<` or `<=` comes from `=` or `!=`.
 pub fn alternatives(alloc: Global, lit: Lit) -> Result<SmallVec<Lit, 2>, NoMemory>
     ensures { IfOk result (λ r. r.items ≡ alternatives lit) }
 {
-    let Lit { op, left, right } = lit;
     let mut found = SmallVec::new(alloc);
-    match op {
-        Op::Eq => found.push(Lit {
-            op: Op::Ne,
-            left,
-            right,
-        })?,
-        Op::Ne => found.push(Lit {
-            op: Op::Eq,
-            left,
-            right,
-        })?,
-        Op::Lt => {
-            found.push(Lit {
-                op: Op::Eq,
-                left,
-                right,
-            })?;
-            found.push(Lit {
-                op: Op::Lt,
-                left: right,
-                right: left,
-            })?;
-        }
-    }
+    found.push(denial(lit))?;
     Ok(found)
 }
 

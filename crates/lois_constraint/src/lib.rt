@@ -8,6 +8,7 @@ mod antichain;
 mod closed_cube;
 mod conflicts;
 mod covering;
+mod denying;
 mod levels;
 mod negation;
 mod normal;

@@ -22,7 +22,7 @@ fn is_step(op: Op) -> bool
 {
     match op {
         Op::Eq | Op::Ne => false,
-        Op::Lt => true,
+        Op::Lt | Op::AtMost => true,
     }
 }
 

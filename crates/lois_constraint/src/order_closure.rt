@@ -2,9 +2,9 @@
 
 ghost use Rattle.std.specs.Prelude.{◌≡◌, ◌≢◌, ℕ, ◌+◌, ◌*◌, ◌^◌, Bool, List, length, max, vec_len, ◌<◌, ◌≤◌, get_or, bit_or, ◌||◌, ◌&&◌, ◌==◌, IsFalse, IfOk, OnOk};
 ghost use Rattle.std.specs.Int.{bit_at};
-ghost use Rattle.std.specs.List.{list_any};
-ghost use Rattle.lois_constraint.specs.Order.{reaches, at_most, are_at_most, is_tied, is_under, is_apart, sets_apart, are_apart, is_implied, is_refuted, linked, extended};
+ghost use Rattle.lois_constraint.specs.Order.{reaches, at_most, are_at_most, is_tied, is_apart, lies_between, joins, sets_apart, are_apart, is_implied, is_refuted, linked, extended};
 
+use crate::denying::denial;
 use lois_base::{Cube, Lit, NoMemory, Op};
 use std::alloc::Global;
 use std::marker::Model;
@@ -256,59 +256,59 @@ pub(crate) fn are_tied(rows: &[Row], a: usize, b: usize) -> bool
     at_most(rows, a, b) && at_most(rows, b, a)
 }
 
-fn is_under(rows: &[Row], low: usize, high: usize) -> bool
-    ensures { result ≡ is_under (at_most rows.now) low high }
-{
-    at_most(rows, low, high) && !at_most(rows, high, low)
-}
-
 fn is_apart(op: Op) -> bool
     ensures { result ≡ is_apart op }
 {
     match op {
-        Op::Ne => true,
-        Op::Eq | Op::Lt => false,
+        Op::Ne | Op::Lt => true,
+        Op::Eq | Op::AtMost => false,
     }
+}
+
+// Whether both levels of the literal lie from the one level on up to the other.
+fn lies_between(rows: &[Row], lit: Lit, low: usize, high: usize) -> bool
+    ensures { result ≡ lies_between (at_most rows.now) low high lit }
+{
+    (at_most(rows, low, lit.left) && at_most(rows, lit.left, high))
+        && (at_most(rows, low, lit.right) && at_most(rows, lit.right, high))
+}
+
+// Whether the levels of the literal are tied to the two levels.
+fn joins(rows: &[Row], lit: Lit, a: usize, b: usize) -> bool
+    ensures { result ≡ joins (at_most rows.now) a b lit }
+{
+    are_tied(rows, lit.left, a) && are_tied(rows, lit.right, b)
 }
 
 fn sets_apart(rows: &[Row], lit: Lit, a: usize, b: usize) -> bool
     ensures { result ≡ sets_apart (at_most rows.now) a b lit }
 {
     is_apart(lit.op)
-        && ((are_tied(rows, lit.left, a) && are_tied(rows, lit.right, b))
-            || (are_tied(rows, lit.left, b) && are_tied(rows, lit.right, a)))
+        && ((lies_between(rows, lit, a, b) || lies_between(rows, lit, b, a))
+            || (joins(rows, lit, a, b) || joins(rows, lit, b, a)))
 }
 
-fn some_literal_sets_apart(rows: &[Row], cube: &Cube, a: usize, b: usize) -> bool
-    ensures { result ≡ list_any (sets_apart (at_most rows.now) a b) cube.now }
+// Whether some literal sets the levels apart.
+fn are_apart(rows: &[Row], cube: &Cube, a: usize, b: usize) -> bool
+    ensures { result ≡ are_apart (at_most rows.now) cube.now a b }
 {
     cube.as_slice()
         .iter()
         .any(|lit| sets_apart(rows, *lit, a, b))
 }
 
-// Whether one is under the other.
-fn are_unequal(rows: &[Row], a: usize, b: usize) -> bool
-    ensures { result ≡ (is_under (at_most rows.now) a b || is_under (at_most rows.now) b a) }
-{
-    at_most(rows, a, b) != at_most(rows, b, a)
-}
-
-#[tactic(auto, using(crate::proofs::Raising::either_way))]
-fn are_apart(rows: &[Row], cube: &Cube, a: usize, b: usize) -> bool
-    ensures { result ≡ are_apart (at_most rows.now) cube.now a b }
-{
-    are_unequal(rows, a, b) || some_literal_sets_apart(rows, cube, a, b)
-}
-
 /// Whether the literal follows from the cube, whose rows these are.
+// The rows are read first, since the literals are walked.
 pub(crate) fn is_implied(rows: &[Row], cube: &Cube, lit: Lit) -> bool
     ensures { result ≡ is_implied (at_most rows.now) cube.now lit.op lit.left lit.right }
 {
     match lit.op {
         Op::Eq => are_tied(rows, lit.left, lit.right),
         Op::Ne => are_apart(rows, cube, lit.left, lit.right),
-        Op::Lt => is_under(rows, lit.left, lit.right),
+        Op::Lt => {
+            at_most(rows, lit.left, lit.right) && are_apart(rows, cube, lit.left, lit.right)
+        }
+        Op::AtMost => at_most(rows, lit.left, lit.right),
     }
 }
 
@@ -316,11 +316,7 @@ pub(crate) fn is_implied(rows: &[Row], cube: &Cube, lit: Lit) -> bool
 pub(crate) fn is_refuted(rows: &[Row], cube: &Cube, lit: Lit) -> bool
     ensures { result ≡ is_refuted (at_most rows.now) cube.now lit.op lit.left lit.right }
 {
-    match lit.op {
-        Op::Eq => are_apart(rows, cube, lit.left, lit.right),
-        Op::Ne => are_tied(rows, lit.left, lit.right),
-        Op::Lt => at_most(rows, lit.right, lit.left),
-    }
+    is_implied(rows, cube, denial(lit))
 }
 
 // The level, and those that are at least as high.
@@ -401,7 +397,7 @@ pub(crate) fn extend(alloc: Global, rows: Vec<Row>, lit: Lit) -> Result<Vec<Row>
             link(alloc, &mut changed, right, left)?;
         }
         Op::Ne => {}
-        Op::Lt => link(alloc, &mut changed, left, right)?,
+        Op::Lt | Op::AtMost => link(alloc, &mut changed, left, right)?,
     }
     Ok(changed)
 }

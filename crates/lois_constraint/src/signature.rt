@@ -54,6 +54,10 @@ impl SignatureMask {
                 needed: up,
                 refused: down,
             },
+            Op::AtMost => SignatureMask {
+                needed: up,
+                refused: 0,
+            },
         }
     }
 

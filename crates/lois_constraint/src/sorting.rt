@@ -17,6 +17,7 @@ fn rank(op: Op) -> u8
         Op::Eq => 0,
         Op::Ne => 1,
         Op::Lt => 2,
+        Op::AtMost => 3,
     }
 }
 
