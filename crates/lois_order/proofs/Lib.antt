@@ -1,6 +1,9 @@
 pub mod Bounds
+pub mod Cases
 pub mod Choices
 pub mod Each
+pub mod Picked
 pub mod Projects
+pub mod Steps
 pub mod Substituted
 pub mod With

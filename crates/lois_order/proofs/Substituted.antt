@@ -27,7 +27,7 @@ module _ (c : List Atom) (a : Atom) (x y : ℕ) (size : length c ≡ x) (same : 
   lit_renamed l f =
       op_respects l.op (atom_at (c ++ a ∷ []) l.left) (atom_at c (renamed_level x y l.left)) (atom_at (c ++ a ∷ []) l.right) (atom_at c (renamed_level x y l.right)) (level_renamed l.left f.0) (level_renamed l.right f.1)
 
-  cube_renamed : (cube : List Lit) → CubeFits (x + 1) cube → cube_holds (c ++ a ∷ []) cube ≡ cube_holds c (map (renamed x y) cube)
+  pub cube_renamed : (cube : List Lit) → CubeFits (x + 1) cube → cube_holds (c ++ a ∷ []) cube ≡ cube_holds c (map (renamed x y) cube)
   cube_renamed [] f = refl
   cube_renamed (l ∷ ls) f =
       let h = lit_renamed l (All-head (LitFits (x + 1)) l ls f) in

@@ -8,6 +8,6 @@ use Rattle.lois_order.proofs.rule.add_lower_bounds.Given as goal
 
 abbrev pub invariant-loop-lit : goal.invariant-loop-lit
 invariant-loop-lit l = record {
-  holds : (c : List Atom) → (cube_holds c l.fn.answer && list_all (is_below c l.level l.upper) l.cube) ≡ (cube_holds c l.answer && list_all (is_below c l.level l.upper) (drop l.lit-index l.lit-items));
+  holds : (c : List Atom) → (cube_holds c l.fn.answer && list_all (is_below c l.level l.step l.upper) l.cube) ≡ (cube_holds c l.answer && list_all (is_below c l.level l.step l.upper) (drop l.lit-index l.lit-items));
   levels : CubeFits l.level l.answer;
 }
