@@ -12,3 +12,4 @@ pub mod Remembered
 pub mod Queued
 pub mod OnlyAsked
 pub mod Reached
+pub mod StrictParts

@@ -12,7 +12,7 @@ use Rattle.lois_base.specs.Patterns.{Agree}
 use Rattle.lois_base.specs.Truth.{atom_at, holds, sampled}
 use Rattle.lois_base.specs.declared.guards.Lit.{Lit}
 use Rattle.lois_base.specs.declared.guards.Op.{Op}
-use Rattle.lois_base.specs.declared.guards.Op.TheVariants.{Eq, Ne, Lt}
+use Rattle.lois_base.specs.declared.guards.Op.TheVariants.{Eq, Ne, Lt, AtMost}
 use Rattle.lois_base.proofs.Samples.{below_whole}
 use Rattle.lois_base.proofs.Order.{below_irrefl, below_asym, below_trans, below_respects, equal_refl, equals_from, trichotomy}
 use Rattle.lois_base.proofs.Truths.{holds_ordered}
@@ -96,6 +96,7 @@ module _ (s t : List ℕ) (a : Atom) (f : ℕ → ℕ) (x : ℕ) (moved : t ≡ 
   agree Eq = λ i j l m. same_equal i j (omega (arith, l, length_old)) (omega (arith, m, length_old))
   agree Ne = λ i j l m. ap not (same_equal i j (omega (arith, l, length_old)) (omega (arith, m, length_old)))
   agree Lt = λ i j l m. same_below i j (omega (arith, l, length_old)) (omega (arith, m, length_old))
+  agree AtMost = λ i j l m. ap not (same_below j i (omega (arith, m, length_old)) (omega (arith, l, length_old)))
 
   pub placed_holds : (g : List (List Lit)) → ConstraintFits (length s + 1) g → holds old g ≡ holds new g
   placed_holds g fits =

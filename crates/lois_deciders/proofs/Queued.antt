@@ -10,11 +10,10 @@ use Rattle.std.specs.List.{All, AllPairs, Contains, count_by, filter}
 use Rattle.lois_base.specs.Fits.{CubeFits}
 use Rattle.lois_base.specs.declared.guards.Lit.{Lit}
 use Rattle.lois_base.specs.declared.guards.Op.{Op}
-use Rattle.lois_base.specs.declared.guards.Op.TheVariants.{Eq, Ne, Lt}
+use Rattle.lois_base.specs.declared.guards.Op.TheVariants.{Eq, Ne, Lt, AtMost}
 use Rattle.lois_base.proofs.Booleans.{and_first, and_second}
-use Rattle.lois_constraint.specs.Steps.{is_step}
 use Rattle.lois_deciders.specs.Labels.{Follows, IsLabelling, IsUnmet}
-use Rattle.lois_deciders.specs.Ranks.{is_step_to, is_step_from, occurrences, AreUnheld, IsReleasedLabel, IsReleased, IsFullRanking}
+use Rattle.lois_deciders.specs.Ranks.{is_less, is_step_to, is_step_from, occurrences, AreUnheld, IsReleasedLabel, IsReleased, IsFullRanking}
 use Rattle.lois_deciders.proofs.Ranking.{Waits, IsPlaced, WaitsOnAnother, IsLowest, one_where, IsRanking}
 use Rattle.lois_deciders.proofs.Following.{literal_follows, follows_below}
 use Rattle.lois_deciders.proofs.Ranked.{placed_same, one_more, goes_round}
@@ -108,7 +107,7 @@ module _ (labels : List ℕ) (waiting : List Bool) (x y : ℕ) (in_range : x < l
   pub released : (k : List Lit) → waiting_below labels waiting k y ≡ waiting_below labels (set waiting x false) k y + occurrences y (uppers labels x k)
   released [] = omega arith
   released (l ∷ k) =
-      let h = counted l k (released k) (is_step l.op) (get_or labels l.right 0 == y) (get_or labels l.left 0 == x) refl refl in
+      let h = counted l k (released k) (is_less l.op) (get_or labels l.right 0 == y) (get_or labels l.left 0 == x) refl refl in
       omega (arith, h, count_cons (holds_back labels waiting y) l k, count_cons (holds_back labels (set waiting x false) y) l k)
 
 -- ---- one step less
@@ -247,15 +246,17 @@ pub record IsQueue (cube : List Lit) (labels : List ℕ) (steps unheld ranks : L
   pub distinct : AllPairs (λ y z. y ≡ z → ⊥) unheld
   pub complete : (y : ℕ) → y < length labels → Waits waiting y → get_or steps y 0 ≡ 0 → Contains unheld y
 
-is_lt : (o : Op) → o ≡ Lt → is_step o ≡ true
+is_lt : (o : Op) → o ≡ Lt → is_less o ≡ true
 is_lt Eq e = absurd (cc)
 is_lt Ne e = absurd (cc)
 is_lt Lt e = refl
+is_lt AtMost e = absurd (cc)
 
-is_step_lt : (o : Op) → is_step o ≡ true → o ≡ Lt
+is_step_lt : (o : Op) → is_less o ≡ true → o ≡ Lt
 is_step_lt Eq e = absurd (cc)
 is_step_lt Ne e = absurd (cc)
 is_step_lt Lt e = refl
+is_step_lt AtMost e = absurd (cc)
 
 last_fails : (p q : Bool) → (p && q) ≡ false → p ≡ true → q ≡ false
 last_fails true q h e = h
@@ -274,8 +275,8 @@ module _ (cube : List Lit) (labels steps ranks : List ℕ) (next : ℕ) (waiting
       let held : holds_back labels waiting y m ≡ true = r.2 d in
       let to_y : is_step_to labels y m ≡ true = and_first (is_step_to labels y m) _ held in
       let waits : Waits waiting (get_or labels m.left 0) = and_second (is_step_to labels y m) _ held in
-      let lt : m.op ≡ Lt = is_step_lt m.op (and_first (is_step m.op) _ to_y) in
-      let at : get_or labels m.right 0 ≡ y = eqb-true (get_or labels m.right 0) y (and_second (is_step m.op) _ to_y) in
+      let lt : m.op ≡ Lt = is_step_lt m.op (and_first (is_less m.op) _ to_y) in
+      let at : get_or labels m.right 0 ≡ y = eqb-true (get_or labels m.right 0) y (and_second (is_less m.op) _ to_y) in
       let small : get_or labels m.left 0 < length waiting = let s = labelling.small m.left (fits r.0 d r.1).0 in omega (arith, s, q.ranking.waiting_count) in
       let follows = follows_below cube m.left (get_or labels m.left 0) m.right (get_or labels m.right 0) (labelling.equal m.left (fits r.0 d r.1).0) (labelling.equal m.right (fits r.0 d r.1).1) (literal_follows cube r.0 d Lt r.1 lt) in (
         (get_or labels m.left 0, small, waits, subst (λ j. Follows cube Lt (get_or labels m.left 0) j) at follows),
@@ -316,7 +317,7 @@ module _ (cube : List Lit) (labels steps ranks : List ℕ) (next : ℕ) (waiting
       waits = x_ready.1;
       lowest = λ k d l lt at. let m : Lit = get_or cube k d in
           let none : holds_back labels waiting x m ≡ false = none_counted (holds_back labels waiting x) cube (sym (q.exact x) ∙ x_ready.2) k d l in
-          last_fails (is_step_to labels x m) _ none (both_hold (is_step m.op) _ (is_lt m.op lt) (eq-eqb (get_or labels m.right 0) x at));
+          last_fails (is_step_to labels x m) _ none (both_hold (is_less m.op) _ (is_lt m.op lt) (eq-eqb (get_or labels m.right 0) x at));
     }
 
     waits_now : (z : ℕ) → (z ≡ x → ⊥) → Waits waiting z → Waits (set waiting x false) z
@@ -351,7 +352,7 @@ module _ (cube : List Lit) (labels steps ranks : List ℕ) (next : ℕ) (waiting
             let c = some_counted (holds_back labels waiting z) cube (omega (arith, l, q.exact z)) in
             let d : Lit = record { op = Eq; left = 0; right = 0 } in
             let m : Lit = get_or cube c.0 d in
-            let at : get_or labels m.right 0 ≡ z = eqb-true (get_or labels m.right 0) z (and_second (is_step m.op) _ (and_first (is_step_to labels z m) _ (c.2 d))) in
+            let at : get_or labels m.right 0 ≡ z = eqb-true (get_or labels m.right 0) z (and_second (is_less m.op) _ (and_first (is_step_to labels z m) _ (c.2 d))) in
             subst (λ j. j < length labels) at (labelling.small m.right (fits c.0 d c.1).1)
 
     complete_now : (y : ℕ) → y < length labels → Waits (set waiting x false) y → get_or lower y 0 ≡ 0 → (get_or steps y 0 ≡ 0) ⊎ (get_or steps y 0 ≡ 0 → ⊥) → Contains after y

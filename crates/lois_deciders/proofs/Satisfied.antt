@@ -10,18 +10,20 @@ use Rattle.lois_base.specs.Atom.{Atom, whole}
 use Rattle.lois_base.specs.Fits.{CubeFits}
 use Rattle.lois_base.specs.Theory.{IsSampleOf}
 use Rattle.lois_base.specs.Truth.{atom_at, op_holds, lit_holds, sampled}
+use Rattle.lois_base.specs.Validity.{is_strict, IsStrictCube}
 use Rattle.lois_base.specs.declared.guards.Lit.{Lit}
 use Rattle.lois_base.specs.declared.guards.Op.{Op}
-use Rattle.lois_base.specs.declared.guards.Op.TheVariants.{Eq, Ne, Lt}
+use Rattle.lois_base.specs.declared.guards.Op.TheVariants.{Eq, Ne, Lt, AtMost}
 use Rattle.lois_deciders.specs.Labels.{IsLabelling, IsKeptApart}
 use Rattle.lois_deciders.specs.Ranks.{IsFullRanking}
 
-numbers_compare : (o : Op) (a b : ℕ) → (o ≡ Eq → a ≡ b) → (o ≡ Ne → a ≡ b → ⊥) → (o ≡ Lt → a < b) → IsTrue (op_holds o (whole a) (whole b))
-numbers_compare Eq a b e n l = let h : a ≡ b = e refl in grind (arith, ints)
-numbers_compare Ne a b e n l = let h : a ≡ b → ⊥ = n refl in grind (arith, ints)
-numbers_compare Lt a b e n l = let h : a < b = l refl in grind (arith, ints)
+numbers_compare : (o : Op) (a b : ℕ) → IsTrue (is_strict o) → (o ≡ Eq → a ≡ b) → (o ≡ Ne → a ≡ b → ⊥) → (o ≡ Lt → a < b) → IsTrue (op_holds o (whole a) (whole b))
+numbers_compare Eq a b s e n l = let h : a ≡ b = e refl in grind (arith, ints)
+numbers_compare Ne a b s e n l = let h : a ≡ b → ⊥ = n refl in grind (arith, ints)
+numbers_compare Lt a b s e n l = let h : a < b = l refl in grind (arith, ints)
+numbers_compare AtMost a b s e n l = absurd (cc)
 
-module _ (n : ℕ) (cube : List Lit) (labels ranks : List ℕ) (fits : CubeFits n cube) (h : IsLabelling n cube (length cube) labels) (apart : All (IsKeptApart labels) cube) (r : IsFullRanking cube labels ranks) where
+module _ (n : ℕ) (cube : List Lit) (labels ranks : List ℕ) (fits : CubeFits n cube) (strict : IsStrictCube cube) (h : IsLabelling n cube (length cube) labels) (apart : All (IsKeptApart labels) cube) (r : IsFullRanking cube labels ranks) where
   abbrev rank : ℕ → ℕ
   rank i = get_or ranks i 0
 
@@ -48,7 +50,7 @@ module _ (n : ℕ) (cube : List Lit) (labels ranks : List ℕ) (fits : CubeFits 
   met_at k d b =
       let l : Lit = get_or cube k d in
       let f = fits k d b in
-      let compared : IsTrue (op_holds l.op (whole (rank (label l.left))) (whole (rank (label l.right)))) = numbers_compare l.op (rank (label l.left)) (rank (label l.right)) (λ e. ap rank (h.joined k d b e)) (λ e same. apart k d b e (r.apart (label l.left) (label l.right) (label_in l.left f.0) (label_in l.right f.1) same)) (λ e. r.ordered k d b e) in
+      let compared : IsTrue (op_holds l.op (whole (rank (label l.left))) (whole (rank (label l.right)))) = numbers_compare l.op (rank (label l.left)) (rank (label l.right)) (strict k d b) (λ e. ap rank (h.joined k d b e)) (λ e same. apart k d b e (r.apart (label l.left) (label l.right) (label_in l.left f.0) (label_in l.right f.1) same)) (λ e. r.ordered k d b e) in
       subst (λ (a : Atom). IsTrue (op_holds l.op a (atom_at (sampled (map rank labels)) l.right))) (sym (atom_here l.left f.0)) (subst (λ (a : Atom). IsTrue (op_holds l.op (whole (rank (label l.left))) a)) (sym (atom_here l.right f.1)) compared)
 
   pub ranks_meet : (s : List ℕ) → s ≡ map rank labels → IsSampleOf n cube s

@@ -1,17 +1,23 @@
 -- Numbers for the labels of levels.
-use Rattle.std.specs.Prelude.{◌≡◌, ℕ, ◌<◌, ◌⊎◌, Bool, ◌&&◌, ◌==◌, List, length, get_or, map, Contains}
+use Rattle.std.specs.Prelude.{◌≡◌, ℕ, ◌<◌, ◌⊎◌, Bool, true, false, ◌&&◌, ◌==◌, List, length, get_or, map, Contains}
 use Rattle.std.specs.Global.{Vec}
 use Rattle.std.specs.List.{All, AllPairs, count_by, filter}
 use Rattle.lois_base.specs.declared.guards.Lit.{Lit}
-use Rattle.lois_base.specs.declared.guards.Op.TheVariants.{Lt}
-use Rattle.lois_constraint.specs.Steps.{is_step}
+use Rattle.lois_base.specs.declared.guards.Op.{Op}
+use Rattle.lois_base.specs.declared.guards.Op.TheVariants.{Eq, Ne, Lt, AtMost}
+
+abbrev pub is_less : Op → Bool
+is_less Eq = false
+is_less Ne = false
+is_less Lt = true
+is_less AtMost = false
 
 -- the literal sets a label below the label y
 abbrev pub is_step_to : List ℕ → ℕ → Lit → Bool
-is_step_to labels y l = is_step l.op && get_or labels l.right 0 == y
+is_step_to labels y l = is_less l.op && get_or labels l.right 0 == y
 
 abbrev pub is_step_from : List ℕ → ℕ → Lit → Bool
-is_step_from labels x l = is_step l.op && get_or labels l.left 0 == x
+is_step_from labels x l = is_less l.op && get_or labels l.left 0 == x
 
 -- for each label the upper labels of the `<` that begin there
 pub record AreAbove (labels : List ℕ) (cube : List Lit) (above : List (Vec ℕ)) : Type 0 where

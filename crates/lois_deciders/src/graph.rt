@@ -3,16 +3,18 @@
 ghost use Rattle.std.specs.Prelude.{◌≡◌, IfOk, IfSome, IfNone};
 ghost use Rattle.lois_base.specs.Fits.{CubeFits};
 ghost use Rattle.lois_base.specs.Theory.{IsSampleOf};
+ghost use Rattle.lois_base.specs.Validity.{IsStrictCube};
 ghost use Rattle.lois_base.specs.declared.deciding.Kind.{Kind};
 ghost use Rattle.lois_deciders.specs.Labels.{IsUnmet};
 
 use crate::labels::{has_conflicting_disequality, label_levels};
 use crate::ranks::rank_labels;
+use crate::strict::strict_part;
 use lois_base::{Cube, Decider, Kind, NoMemory};
 use std::alloc::Global;
 
-/// Identifies the levels that are equal, and orders the rest by `<`. A cube is met unless a `!=` stands between
-/// identified levels, or the `<` go round.
+/// Takes a part without `<=`, identifies the levels that are equal there, and orders the rest by `<`. The part is met
+/// unless a `!=` stands between identified levels, or the `<` go round.
 #[derive(Drop)]
 pub struct GraphDecider {
     asked: u64,
@@ -28,8 +30,9 @@ impl GraphDecider {
 }
 
 // The rank of each level's label.
-fn sample(alloc: Global, cube: &Cube, size: usize) -> Result<Option<Vec<u64>>, NoMemory>
-    requires { CubeFits size cube.now }
+fn ranked_sample(alloc: Global, cube: &Cube, size: usize) -> Result<Option<Vec<u64>>, NoMemory>
+    requires levels { CubeFits size cube.now }
+    requires strict { IsStrictCube cube.now }
     ensures found { IfOk result (λ o. IfSome o (λ s. IsSampleOf size cube.now s.items)) }
     ensures none { IfOk result (λ o. IfNone o (IsUnmet size cube.now)) }
 {
@@ -45,6 +48,16 @@ fn sample(alloc: Global, cube: &Cube, size: usize) -> Result<Option<Vec<u64>>, N
         sample.push(ranks[*label])?;
     }
     Ok(Some(sample))
+}
+
+// Of a `<=` one of its two parts is enough.
+fn sample(alloc: Global, cube: &Cube, size: usize) -> Result<Option<Vec<u64>>, NoMemory>
+    requires { CubeFits size cube.now }
+    ensures found { IfOk result (λ o. IfSome o (λ s. IsSampleOf size cube.now s.items)) }
+    ensures none { IfOk result (λ o. IfNone o (IsUnmet size cube.now)) }
+{
+    let part = strict_part(alloc, cube)?;
+    ranked_sample(alloc, &part, size)
 }
 
 impl Decider for GraphDecider {

@@ -10,6 +10,7 @@ mod plain;
 mod questions;
 mod ranks;
 mod stages;
+mod strict;
 
 pub use chosen::{Chosen, SampledConstraint};
 pub use graph::GraphDecider;

@@ -18,7 +18,7 @@ pub struct Question {
 fn turned(lit: Lit) -> Lit
     ensures { (c : List Atom) → lit_holds c result ≡ lit_holds c lit }
 {
-    if lit.op != Op::Lt && lit.right < lit.left {
+    if matches!(lit.op, Op::Eq | Op::Ne) && lit.right < lit.left {
         return Lit {
             op: lit.op,
             left: lit.right,

@@ -12,12 +12,7 @@ use lois_constraint::tighten;
 use std::alloc::Global;
 
 // The literals of the cube, one more, and those behind it.
-fn joined_literals(
-    alloc: Global,
-    before: &Cube,
-    lit: Lit,
-    behind: &[Lit],
-) -> Result<Cube, NoMemory>
+fn joined_literals(alloc: Global, before: &Cube, lit: Lit, behind: &[Lit]) -> Result<Cube, NoMemory>
     ensures { IfOk result (λ r. r ≡ before.now ++ lit ∷ behind.now) }
 {
     let mut joined = before.copy(alloc)?;
@@ -29,12 +24,7 @@ fn joined_literals(
 }
 
 // The literal, or `<` for `<=` where the literals around it can be met so, and otherwise `=`.
-fn strict_literal(
-    alloc: Global,
-    before: &Cube,
-    lit: Lit,
-    behind: &[Lit],
-) -> Result<Lit, NoMemory>
+fn strict_literal(alloc: Global, before: &Cube, lit: Lit, behind: &[Lit]) -> Result<Lit, NoMemory>
     ensures strict { IfOk result IsStrictLit }
     ensures entails { IfOk result (λ r. (c : List Atom) → IsTrue (lit_holds c r) → IsTrue (lit_holds c lit)) }
     ensures met { IfOk result (λ r. CubeIsSatisfiable (before.now ++ lit ∷ behind.now) → CubeIsSatisfiable (before.now ++ r ∷ behind.now)) }
@@ -51,14 +41,14 @@ fn strict_literal(
         right,
     };
     let part = joined_literals(alloc, before, below, behind)?;
-    if tighten(alloc, &part)?.is_some() {
-        return Ok(below);
+    match tighten(alloc, &part)? {
+        Some(_) => Ok(below),
+        None => Ok(Lit {
+            op: Op::Eq,
+            left,
+            right,
+        }),
     }
-    Ok(Lit {
-        op: Op::Eq,
-        left,
-        right,
-    })
 }
 
 /// A cube without `<=` that entails the cube, and that can be met where the cube can.

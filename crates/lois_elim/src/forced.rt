@@ -15,7 +15,7 @@ fn forced_by_literal(literal: Lit, level: usize) -> Option<usize>
     match op {
         Op::Eq if left == level && right < level => Some(right),
         Op::Eq if right == level && left < level => Some(left),
-        Op::Eq | Op::Ne | Op::Lt => None,
+        Op::Eq | Op::Ne | Op::Lt | Op::AtMost => None,
     }
 }
 

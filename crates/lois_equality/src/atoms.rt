@@ -13,17 +13,17 @@ pub struct EqualityAtoms;
 impl Structure for EqualityAtoms {
     ghost ordered = { false };
 
-    /// False for `<`.
+    /// False for `<` and `<=`.
     fn admits(op: Op) -> bool {
         match op {
             Op::Eq | Op::Ne => true,
-            Op::Lt => false,
+            Op::Lt | Op::AtMost => false,
         }
     }
 
     /// At most one cube, without a literal twice. Errors: `NoMemory`.
     fn eliminate(alloc: Global, cube: &Cube, size: usize) -> Result<Constraint, NoMemory> {
-        // The atoms are the same fractions, and an answer has `<` only where the cube has it.
+        // The atoms are the same fractions, and an answer has an operator of their order only where the cube has one.
         OrderAtoms::eliminate(alloc, cube, size)
     }
 }

@@ -9,7 +9,7 @@ use Rattle.lois_base.specs.FormulaTruth.{FormulaHolds, AllHold, AnyHolds}
 use Rattle.lois_base.specs.Patterns.{Agree, AreAlike}
 use Rattle.lois_base.specs.Truth.{atom_at, lit_holds}
 use Rattle.lois_base.specs.declared.guards.Op.{Op}
-use Rattle.lois_base.specs.declared.guards.Op.TheVariants.{Eq, Ne, Lt}
+use Rattle.lois_base.specs.declared.guards.Op.TheVariants.{Eq, Ne, Lt, AtMost}
 use Rattle.lois_base.proofs.Moves.{alike_sym, formula_alike}
 use Rattle.lois_base.proofs.Samples.{one_where, at_most_where, below_whole}
 use Rattle.lois_base.proofs.Validity.{formula_admitted}
@@ -111,6 +111,7 @@ alike_spots c d stand = record { count = sym (length-map d (spotted c)); agree =
     go Eq = equals
     go Ne = λ i j l m. ap not (equals i j l m)
     go Lt = smaller
+    go AtMost = λ i j l m. ap not (smaller j i m l)
 
 alike_own : (c : List Atom) → AreAlike true c (map (spotted c) c)
 alike_own c = alike_spots c c (λ i j l m. stand_before c i l (atom_at c j))

@@ -5,7 +5,7 @@ use Rattle.std.specs.List.{fold}
 use Rattle.lois_base.specs.Data.{TermD, var, tag, tup, coll, TermsD, no_terms, term, CompD, comp, CompsD, no_comps, more}
 use Rattle.lois_base.specs.declared.guards.Lit.{Lit}
 use Rattle.lois_base.specs.declared.guards.Op.{Op}
-use Rattle.lois_base.specs.declared.guards.Op.TheVariants.{Eq, Ne, Lt}
+use Rattle.lois_base.specs.declared.guards.Op.TheVariants.{Eq, Ne, Lt, AtMost}
 
 -- a hash with one number more, as products and sums of 64 bits wrap
 unfoldable pub mixed : ℕ → ℕ → ℕ
@@ -15,6 +15,7 @@ abbrev pub op_number : Op → ℕ
 op_number Eq = 0
 op_number Ne = 1
 op_number Lt = 2
+op_number AtMost = 3
 
 abbrev pub lit_hash : ℕ → Lit → ℕ
 lit_hash h l = mixed (mixed (mixed h (op_number l.op)) l.left) l.right

@@ -132,6 +132,7 @@ fn number_of(op: Op) -> u64
         Op::Eq => 0,
         Op::Ne => 1,
         Op::Lt => 2,
+        Op::AtMost => 3,
     }
 }
 

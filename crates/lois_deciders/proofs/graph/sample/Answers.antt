@@ -1,8 +1,11 @@
-use Rattle.std.proofs.Common.{rules, arith}
-use Rattle.std.proofs.lemmas.Grind.{common_steps}
-use Rattle.lois_deciders.proofs.Satisfied.{ranks_meet}
+use Rattle.lois_deciders.specs.Labels.{IsUnmet}
+use Rattle.lois_deciders.proofs.StrictParts.{none_weaker, part_unmet}
 use Rattle.lois_deciders.proofs.graph.sample.Goals as goal
 
-pub returns-clause-found : goal.returns-clause-found
-returns-clause-found c =
-    ranks_meet c.args.size c.args.cube.now c.in_ok-labels.labels.items c.in-Some.ranks.items c.requires (search rules) (search rules) (search rules) c.loop-label.sample.items (grind (arith, common_steps))
+pub ranked_sample-requires-clause-levels : goal.ranked_sample-requires-clause-levels
+ranked_sample-requires-clause-levels c = c.in_ok-part.ensures.levels c.args.size c.requires
+
+pub returns-clause-none : goal.returns-clause-none
+returns-clause-none c =
+    none_weaker (IsUnmet c.args.size c.in_ok-part.part) (IsUnmet c.args.size c.args.cube.now) c.ranked_sample.result
+    (part_unmet c.args.size c.args.cube.now c.in_ok-part.part (c.in_ok-part.ensures.levels c.args.size c.requires) c.in_ok-part.ensures.met) c.ranked_sample.ensures.none

@@ -1,5 +1,0 @@
-use Rattle.std.proofs.Common.{◌≡◌, take, map, get_or}
-use Rattle.lois_deciders.proofs.graph.sample.Given as goal
-
-abbrev pub invariant-loop-label : goal.invariant-loop-label
-invariant-loop-label l = l.sample.items ≡ map (λ i. get_or l.ranks.items i 0) (take l.label-index l.label-items)
