@@ -4,7 +4,7 @@ use Rattle.std.specs.List.{All}
 use Rattle.lois_base.specs.Data.{TermD, var, tag, tup, coll, TermsD, no_terms, term, CompD, comp, CompsD, no_comps, more, depth}
 use Rattle.lois_base.specs.Fits.{Fits, ConstraintFits}
 use Rattle.lois_base.specs.Names.{IsName}
-use Rattle.lois_base.specs.Validity.{AdmitsConstraint, AdmitsTerm, HasBoundedWidths}
+use Rattle.lois_base.specs.Validity.{AdmitsConstraint, AdmitsTerm, HasBoundedWidths, IsStrictConstraint, IsStrictTerm}
 use Rattle.lois_lexer.specs.Words.{reserved}
 use Rattle.lois_answers.specs.ResultsData.{LineD, CaseD}
 use Rattle.lois_answers.specs.declared.faults.Trace.{Trace}
@@ -34,12 +34,13 @@ abbrev mutual
   ItemsHaveTags no_comps = Unit {0}
   ItemsHaveTags (more c cs) = CompHasTags c × ItemsHaveTags cs
 
--- a term inside n levels: each tuple has 2 to 8 parts, and at most 64 brackets are open at one place
+-- a term inside n levels: each tuple has 2 to 8 parts, no guard has `<=`, and at most 64 brackets are open at one place
 pub record IsSoundTerm (ordered : Bool) (n : ℕ) (t : TermD) : Type 0 where
   pub levels : Fits n t
   pub tags : HasTags t
   pub widths : HasBoundedWidths t
   pub operators : AdmitsTerm ordered t
+  pub strict : IsStrictTerm t
   pub brackets : depth t ≤ 64
 
 pub record IsSoundLine (ordered : Bool) (n : ℕ) (l : LineD) : Type 0 where
@@ -58,6 +59,7 @@ pub record AreParameters (names : List (List ℕ)) : Type 0 where
 pub record IsSoundCase (ordered : Bool) (n : ℕ) (c : CaseD) : Type 0 where
   pub levels : ConstraintFits n c.«when»
   pub operators : AdmitsConstraint ordered c.«when»
+  pub strict : IsStrictConstraint c.«when»
   pub lines : All (IsSoundLine ordered n) c.lines
 
 pub record IsSound (r : Results) : Type 0 where

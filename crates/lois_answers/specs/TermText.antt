@@ -4,7 +4,7 @@ use Rattle.std.specs.Fmt.{decimal}
 use Rattle.lois_base.specs.Data.{TermD, var, tag, tup, coll, TermsD, no_terms, term, CompD, comp, CompsD, no_comps, more}
 use Rattle.lois_base.specs.declared.guards.Lit.{Lit}
 use Rattle.lois_base.specs.declared.guards.Op.{Op}
-use Rattle.lois_base.specs.declared.guards.Op.TheVariants.{Eq, Ne, Lt}
+use Rattle.lois_base.specs.declared.guards.Op.TheVariants.{Eq, Ne, Lt, AtMost}
 
 -- texts, with a text between each two
 abbrev pub joined : List ℕ → List (List ℕ) → List ℕ
@@ -19,10 +19,12 @@ level_text i = codes "$" ++ decimal i
 abbrev pub level_or_name_text : List (List ℕ) → ℕ → List ℕ
 level_or_name_text parameters i = slice_index_or parameters i (level_text i)
 
+-- No answer has `<=`: its constraints are strict.
 abbrev pub op_text : Op → List ℕ
 op_text Eq = codes "="
 op_text Ne = codes "!="
 op_text Lt = codes "<"
+op_text AtMost = codes "<="
 
 abbrev pub literal_text : List (List ℕ) → Lit → List ℕ
 literal_text parameters l = level_or_name_text parameters l.left ++ op_text l.op ++ level_or_name_text parameters l.right

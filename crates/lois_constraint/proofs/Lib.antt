@@ -10,6 +10,7 @@ pub mod SignatureBits
 pub mod Both
 pub mod Covered
 pub mod NegatedLiterals
+pub mod WeakLiterals
 pub mod Pruned
 pub mod Shifting
 pub mod Uses

@@ -13,7 +13,7 @@ use Rattle.lois_base.specs.declared.guards.Op.{Op}
 use Rattle.lois_base.specs.declared.guards.Op.TheVariants.{Eq, Ne, Lt, AtMost}
 use Rattle.lois_base.proofs.Booleans.{or_false}
 use Rattle.lois_constraint.specs.Alternatives.{denial_of, denial, alternatives, denials}
-use Rattle.lois_constraint.specs.Rules.{Rule, uses, fits, admits, Obeys, CubeObeys, ConstraintObeys}
+use Rattle.lois_constraint.specs.Rules.{Rule, uses, fits, admits, strict, Obeys, IsKeptByDenial, CubeObeys, ConstraintObeys}
 
 not_not : (p : Bool) → p ≡ not (not p)
 not_not true = refl
@@ -61,18 +61,19 @@ admitted_denial ordered Ne x y h = refl
 admitted_denial ordered Lt x y h = h
 admitted_denial ordered AtMost x y h = h
 
-denial_obeys : (rule : Rule) (l : Lit) → Obeys rule l → Obeys rule (denial l)
-denial_obeys (uses g) l h = denial_sides (λ i. GuardUses i g) l.left l.right h.0 h.1 l.op
-denial_obeys (fits n) l h = denial_sides (λ i. i < n) l.left l.right h.0 h.1 l.op
-denial_obeys (admits o) l h = admitted_denial o l.op l.left l.right h
+denial_obeys : (rule : Rule) → IsKeptByDenial rule → (l : Lit) → Obeys rule l → Obeys rule (denial l)
+denial_obeys (uses g) d l h = denial_sides (λ i. GuardUses i g) l.left l.right h.0 h.1 l.op
+denial_obeys (fits n) d l h = denial_sides (λ i. i < n) l.left l.right h.0 h.1 l.op
+denial_obeys (admits o) d l h = admitted_denial o l.op l.left l.right h
+denial_obeys strict d l h = absurd d
 
-alternatives_obey : (rule : Rule) (l : Lit) → Obeys rule l → CubeObeys rule (alternatives l)
-alternatives_obey rule l h = All-cons (Obeys rule) (denial l) [] (denial_obeys rule l h) (All-nil (Obeys rule))
+alternatives_obey : (rule : Rule) → IsKeptByDenial rule → (l : Lit) → Obeys rule l → CubeObeys rule (alternatives l)
+alternatives_obey rule d l h = All-cons (Obeys rule) (denial l) [] (denial_obeys rule d l h) (All-nil (Obeys rule))
 
-pub denials_obey : (rule : Rule) (k : List Lit) → CubeObeys rule k → ConstraintObeys rule (denials k)
-denials_obey rule [] h = All-nil (CubeObeys rule)
-denials_obey rule (l ∷ k) h =
-    let first : CubeObeys rule (alternatives l) = alternatives_obey rule l (All-head (Obeys rule) l k h) in
+pub denials_obey : (rule : Rule) → IsKeptByDenial rule → (k : List Lit) → CubeObeys rule k → ConstraintObeys rule (denials k)
+denials_obey rule d [] h = All-nil (CubeObeys rule)
+denials_obey rule d (l ∷ k) h =
+    let first : CubeObeys rule (alternatives l) = alternatives_obey rule d l (All-head (Obeys rule) l k h) in
     All-append (CubeObeys rule) (map (λ m. m ∷ []) (alternatives l)) (denials k)
-    (All-map (CubeObeys rule) (λ m. m ∷ []) (alternatives l) (λ i d b. All-cons (Obeys rule) (get_or (alternatives l) i d) [] (first i d b) (All-nil (Obeys rule))))
-    (denials_obey rule k (All-tail (Obeys rule) l k h))
+    (All-map (CubeObeys rule) (λ m. m ∷ []) (alternatives l) (λ i x b. All-cons (Obeys rule) (get_or (alternatives l) i x) [] (first i x b) (All-nil (Obeys rule))))
+    (denials_obey rule d k (All-tail (Obeys rule) l k h))

@@ -7,7 +7,7 @@ ghost use Rattle.lois_base.specs.Truth.{holds};
 ghost use Rattle.lois_base.specs.Validity.{AdmitsConstraint, UsesOnly};
 ghost use Rattle.lois_constraint.specs.Alternatives.{alternatives, denials};
 ghost use Rattle.lois_constraint.specs.Entailment.{IsPruned};
-ghost use Rattle.lois_constraint.specs.Rules.{Rule, ConstraintObeys};
+ghost use Rattle.lois_constraint.specs.Rules.{Rule, ConstraintObeys, IsKeptByDenial};
 
 use crate::antichain::Antichain;
 use crate::closed_cube::ClosedCube;
@@ -41,7 +41,7 @@ fn denied(alloc: Global, cube: &Cube) -> Result<Constraint, NoMemory>
 // The antichain without the constraint, one cube after the other.
 fn take_off(alloc: Global, antichain: Antichain, c: &Constraint) -> Result<Antichain, NoMemory>
     ensures truth { IfOk result (λ r. (e : List Atom) → holds e r ≡ (holds e antichain && not (holds e c.now))) }
-    ensures rules { IfOk result (λ r. (rule : Rule) → ConstraintObeys rule antichain → ConstraintObeys rule c.now → ConstraintObeys rule r) }
+    ensures rules { IfOk result (λ r. (rule : Rule) → IsKeptByDenial rule → ConstraintObeys rule antichain → ConstraintObeys rule c.now → ConstraintObeys rule r) }
 {
     let mut rest = antichain;
     for cube in c.as_slice() {

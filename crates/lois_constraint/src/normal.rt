@@ -5,7 +5,7 @@ ghost use Rattle.std.specs.List.{All};
 ghost use Rattle.lois_base.specs.Atom.{Atom};
 ghost use Rattle.lois_base.specs.Fits.{ConstraintFits};
 ghost use Rattle.lois_base.specs.Truth.{lit_holds, cube_holds, holds};
-ghost use Rattle.lois_base.specs.Validity.{AdmitsConstraint, UsesOnly};
+ghost use Rattle.lois_base.specs.Validity.{AdmitsConstraint, IsStrictConstraint, UsesOnly};
 ghost use Rattle.lois_constraint.specs.Entailment.{CubeIsSatisfiable, IsPruned};
 ghost use Rattle.lois_constraint.specs.Normalised.{IsOriented, IsNormalCube, IsNormalised};
 ghost use Rattle.lois_constraint.specs.Rules.{Rule, Obeys, CubeObeys, ConstraintObeys};
@@ -162,6 +162,7 @@ pub fn normalise(alloc: Global, c: &Constraint) -> Result<Constraint, NoMemory>
     ensures levels { IfOk result (UsesOnly c.now) }
     ensures fits { IfOk result (λ r. (n : ℕ) → ConstraintFits n c.now → ConstraintFits n r) }
     ensures operators { IfOk result (λ r. (o : Bool) → AdmitsConstraint o c.now → AdmitsConstraint o r) }
+    ensures strict { IfOk result (λ r. IsStrictConstraint c.now → IsStrictConstraint r) }
 {
     let pruned = prune(alloc, c)?;
     let mut cubes = normal_cubes(alloc, &pruned)?;

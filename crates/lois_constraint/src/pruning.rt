@@ -4,7 +4,7 @@ ghost use Rattle.std.specs.Prelude.{◌≡◌, ℕ, Bool, List, ◌++◌, ◌&&�
 ghost use Rattle.lois_base.specs.Atom.{Atom};
 ghost use Rattle.lois_base.specs.Fits.{ConstraintFits};
 ghost use Rattle.lois_base.specs.Truth.{cube_holds, holds};
-ghost use Rattle.lois_base.specs.Validity.{AdmitsConstraint, UsesOnly};
+ghost use Rattle.lois_base.specs.Validity.{AdmitsConstraint, IsStrictConstraint, UsesOnly};
 ghost use Rattle.lois_constraint.specs.Entailment.{CubeIsSatisfiable, IsPruned};
 ghost use Rattle.lois_constraint.specs.Rules.{Rule, CubeObeys};
 ghost use Rattle.lois_constraint.specs.Tight.{some_holds};
@@ -34,6 +34,7 @@ pub fn prune(alloc: Global, c: &Constraint) -> Result<Constraint, NoMemory>
     ensures levels { IfOk result (UsesOnly c.now) }
     ensures fits { IfOk result (λ r. (n : ℕ) → ConstraintFits n c.now → ConstraintFits n r) }
     ensures operators { IfOk result (λ r. (o : Bool) → AdmitsConstraint o c.now → AdmitsConstraint o r) }
+    ensures strict { IfOk result (λ r. IsStrictConstraint c.now → IsStrictConstraint r) }
 {
     Antichain::of(alloc, c)?.into_constraint(alloc)
 }

@@ -1,52 +1,13 @@
 -- Cubes with `<` or `=` in the place of `<=`.
-use Rattle.std.proofs.Common.{◌≡◌, ℕ, ◌<◌, ◌⊎◌, inl, inr, true, false, not, List, [], ◌∷◌, ◌++◌, Option, Some, None, Result, Ok, Err, IfOk, IfNone, refl, sym, ap, subst}
-use Rattle.std.proofs.lemmas.Bool.{and_from, and_parts, not-true}
-use Rattle.std.specs.Bool.{IsTrue, IsFalse}
-use Rattle.lois_base.specs.Atom.{Atom, below}
+use Rattle.std.proofs.Common.{◌≡◌, ℕ, ◌<◌, ◌⊎◌, inl, inr, true, false, List, ◌∷◌, ◌++◌, Option, Some, None, Result, Ok, Err, IfOk, IfNone, sym, subst}
+use Rattle.lois_base.specs.Atom.{Atom}
 use Rattle.lois_base.specs.Fits.{LitFits, CubeFits}
-use Rattle.lois_base.specs.Truth.{atom_at, lit_holds, cube_holds}
+use Rattle.lois_base.specs.Truth.{lit_holds, cube_holds}
 use Rattle.lois_base.specs.declared.guards.Lit.{Lit}
-use Rattle.lois_base.specs.declared.guards.Op.TheVariants.{Eq, Lt, AtMost}
-use Rattle.lois_base.proofs.Order.{below_asym, equal_in, equal_out, test}
 use Rattle.lois_constraint.specs.Entailment.{CubeIsSatisfiable}
 use Rattle.lois_constraint.proofs.Listed.{satisfiable}
+use Rattle.lois_constraint.proofs.WeakLiterals.{less, same, at_most, holding_parts, holding_from, one_holds}
 use Rattle.lois_deciders.specs.Labels.{IsUnmet}
-
-abbrev pub less : ℕ → ℕ → Lit
-less x y = record { op = Lt; left = x; right = y }
-
-abbrev pub same : ℕ → ℕ → Lit
-same x y = record { op = Eq; left = x; right = y }
-
-abbrev pub at_most : ℕ → ℕ → Lit
-at_most x y = record { op = AtMost; left = x; right = y }
-
-module _ (c : List Atom) where
-  pub holding_parts : (k m : List Lit) (l : Lit) → cube_holds c (k ++ l ∷ m) ≡ true → (cube_holds c k ≡ true) × (lit_holds c l ≡ true) × (cube_holds c m ≡ true)
-  holding_parts [] m l h = let p = and_parts (lit_holds c l) (cube_holds c m) h in (refl, p.0, p.1)
-  holding_parts (q ∷ k) m l h =
-      let p = and_parts (lit_holds c q) (cube_holds c (k ++ l ∷ m)) h in
-      let r = holding_parts k m l p.1 in
-      (and_from (lit_holds c q) (cube_holds c k) p.0 r.0, r.1, r.2)
-
-  pub holding_from : (k m : List Lit) (l : Lit) → cube_holds c k ≡ true → lit_holds c l ≡ true → cube_holds c m ≡ true → cube_holds c (k ++ l ∷ m) ≡ true
-  holding_from [] m l h i j = and_from (lit_holds c l) (cube_holds c m) i j
-  holding_from (q ∷ k) m l h i j =
-      let p = and_parts (lit_holds c q) (cube_holds c k) h in
-      and_from (lit_holds c q) (cube_holds c (k ++ l ∷ m)) p.0 (holding_from k m l p.1 i j)
-
-  pub less_holds : (x y : ℕ) → lit_holds c (less x y) ≡ true → lit_holds c (at_most x y) ≡ true
-  less_holds x y h = ap not (below_asym (atom_at c x) (atom_at c y) h)
-
-  pub same_holds : (x y : ℕ) → lit_holds c (same x y) ≡ true → lit_holds c (at_most x y) ≡ true
-  same_holds x y h = ap not (equal_out (atom_at c x) (atom_at c y) h).1
-
-  one_holds : (x y : ℕ) → lit_holds c (at_most x y) ≡ true → (lit_holds c (less x y) ≡ true) ⊎ (lit_holds c (same x y) ≡ true)
-  one_holds x y h = go (test (below (atom_at c x) (atom_at c y)))
-    where
-      go : IsTrue (below (atom_at c x) (atom_at c y)) ⊎ IsFalse (below (atom_at c x) (atom_at c y)) → (lit_holds c (less x y) ≡ true) ⊎ (lit_holds c (same x y) ≡ true)
-      go (inl l) = inl l
-      go (inr n) = inr (equal_in (atom_at c x) (atom_at c y) n (not-true (below (atom_at c y) (atom_at c x)) h))
 
 -- where the part with `<` holds nowhere, that with `=` can be met
 pub same_met : (k m : List Lit) (x y : ℕ) → ((c : List Atom) → cube_holds c (k ++ less x y ∷ m) ≡ false) → CubeIsSatisfiable (k ++ at_most x y ∷ m) → CubeIsSatisfiable (k ++ same x y ∷ m)
@@ -61,9 +22,6 @@ same_met k m x y nowhere (c, h) = go (one_holds c x y p.1)
 
 pub same_levels_fit : (n : ℕ) (l m : Lit) → l.left ≡ m.left → l.right ≡ m.right → LitFits n m → LitFits n l
 same_levels_fit n l m left right f = (subst (λ i. i < n) (sym left) f.0, subst (λ i. i < n) (sym right) f.1)
-
-pub at_most_is : (l : Lit) → l.op ≡ AtMost → l ≡ at_most l.left l.right
-at_most_is l e = ap (λ o. record { op = o; left = l.left; right = l.right }) e
 
 -- where a part holds nowhere that can be met where the whole can, the whole holds nowhere
 pub part_unmet : (n : ℕ) (k part : List Lit) → CubeFits n part → (CubeIsSatisfiable k → CubeIsSatisfiable part) → IsUnmet n part → IsUnmet n k

@@ -1,14 +1,16 @@
--- Guards that always hold are written as `true`.
+-- Guards as they are written: `true` where they always hold, and without `<=`.
 use Rattle.std.specs.Prelude.{◌≡◌, ℕ, ◌+◌, Bool, List, [], ◌∷◌, IsTrue}
 use Rattle.lois_base.specs.Data.{TermD, var, tag, tup, coll, TermsD, no_terms, term, CompD, comp, CompsD, no_comps, more}
 use Rattle.lois_base.specs.Normal.{both}
+use Rattle.lois_base.specs.Validity.{IsStrictConstraint}
 use Rattle.lois_base.specs.declared.guards.Lit.{Lit}
 use Rattle.lois_deciders.specs.Satisfaction.{IsEntailed}
 use Rattle.lois_simplify.specs.Irredundant.{IsIrredundantComp}
 
--- a guard that holds at each choice of n atoms at which u does is one cube without literals
-abbrev pub IsPlain : List (List Lit) → List (List Lit) → ℕ → Type 0
-IsPlain g u n = IsEntailed n u g → g ≡ [] ∷ []
+-- A guard that holds at each choice of n atoms at which u does is one cube without literals. No literal has `<=`.
+pub record IsPlain (g u : List (List Lit)) (n : ℕ) : Type 0 where
+  pub always : IsEntailed n u g → g ≡ [] ∷ []
+  pub strict : IsStrictConstraint g
 
 -- Each guard is plain under what surrounds it, those inside too. Around the term, inside n levels, u holds.
 abbrev mutual

@@ -4,7 +4,7 @@ use Rattle.lois_base.proofs.Validity.{uses_only-refl}
 use Rattle.lois_base.specs.Atom.{Atom}
 use Rattle.lois_base.specs.Truth.{cube_holds, holds}
 use Rattle.lois_base.specs.declared.guards.Lit.{Lit}
-use Rattle.lois_constraint.specs.Rules.{Rule, uses, fits, admits, Obeys, CubeObeys, ConstraintObeys}
+use Rattle.lois_constraint.specs.Rules.{Rule, IsKeptByDenial, uses, fits, admits, Obeys, CubeObeys, ConstraintObeys}
 use Rattle.lois_constraint.proofs.Uses.{same_answer}
 use Rattle.lois_constraint.proofs.negation.negate.Goals as goal
 
@@ -16,17 +16,17 @@ returns-clause-truth c =
 pub returns-clause-levels : goal.returns-clause-levels
 returns-clause-levels c =
     let g : List (List Lit) = c.args.c.now in
-    let obeys : (rule : Rule) → ConstraintObeys rule g → ConstraintObeys rule c.in_ok-rest.rest = λ rule h. c.in_ok-rest.ensures.rules rule (c.in_ok-everywhere.ensures.rules rule (subst (ConstraintObeys rule) (sym c.new.ensures) (All-nil (CubeObeys rule))) (subst (CubeObeys rule) (sym c.new-2.ensures) (All-nil (Obeys rule)))) h in
-    same_answer c.into_constraint.result c.in_ok-rest.rest _ c.into_constraint.ensures.same (obeys (uses g) (uses_only-refl g))
+    let obeys : (rule : Rule) → IsKeptByDenial rule → ConstraintObeys rule g → ConstraintObeys rule c.in_ok-rest.rest = λ rule d h. c.in_ok-rest.ensures.rules rule d (c.in_ok-everywhere.ensures.rules rule (subst (ConstraintObeys rule) (sym c.new.ensures) (All-nil (CubeObeys rule))) (subst (CubeObeys rule) (sym c.new-2.ensures) (All-nil (Obeys rule)))) h in
+    same_answer c.into_constraint.result c.in_ok-rest.rest _ c.into_constraint.ensures.same (obeys (uses g) tt (uses_only-refl g))
 
 pub returns-clause-fits : goal.returns-clause-fits
 returns-clause-fits c =
     let g : List (List Lit) = c.args.c.now in
-    let obeys : (rule : Rule) → ConstraintObeys rule g → ConstraintObeys rule c.in_ok-rest.rest = λ rule h. c.in_ok-rest.ensures.rules rule (c.in_ok-everywhere.ensures.rules rule (subst (ConstraintObeys rule) (sym c.new.ensures) (All-nil (CubeObeys rule))) (subst (CubeObeys rule) (sym c.new-2.ensures) (All-nil (Obeys rule)))) h in
-    same_answer c.into_constraint.result c.in_ok-rest.rest _ c.into_constraint.ensures.same (λ n. obeys (fits n))
+    let obeys : (rule : Rule) → IsKeptByDenial rule → ConstraintObeys rule g → ConstraintObeys rule c.in_ok-rest.rest = λ rule d h. c.in_ok-rest.ensures.rules rule d (c.in_ok-everywhere.ensures.rules rule (subst (ConstraintObeys rule) (sym c.new.ensures) (All-nil (CubeObeys rule))) (subst (CubeObeys rule) (sym c.new-2.ensures) (All-nil (Obeys rule)))) h in
+    same_answer c.into_constraint.result c.in_ok-rest.rest _ c.into_constraint.ensures.same (λ n. obeys (fits n) tt)
 
 pub returns-clause-operators : goal.returns-clause-operators
 returns-clause-operators c =
     let g : List (List Lit) = c.args.c.now in
-    let obeys : (rule : Rule) → ConstraintObeys rule g → ConstraintObeys rule c.in_ok-rest.rest = λ rule h. c.in_ok-rest.ensures.rules rule (c.in_ok-everywhere.ensures.rules rule (subst (ConstraintObeys rule) (sym c.new.ensures) (All-nil (CubeObeys rule))) (subst (CubeObeys rule) (sym c.new-2.ensures) (All-nil (Obeys rule)))) h in
-    same_answer c.into_constraint.result c.in_ok-rest.rest _ c.into_constraint.ensures.same (λ o. obeys (admits o))
+    let obeys : (rule : Rule) → IsKeptByDenial rule → ConstraintObeys rule g → ConstraintObeys rule c.in_ok-rest.rest = λ rule d h. c.in_ok-rest.ensures.rules rule d (c.in_ok-everywhere.ensures.rules rule (subst (ConstraintObeys rule) (sym c.new.ensures) (All-nil (CubeObeys rule))) (subst (CubeObeys rule) (sym c.new-2.ensures) (All-nil (Obeys rule)))) h in
+    same_answer c.into_constraint.result c.in_ok-rest.rest _ c.into_constraint.ensures.same (λ o. obeys (admits o) tt)

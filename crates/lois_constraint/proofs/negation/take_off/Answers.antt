@@ -14,7 +14,7 @@ loop-cube-preserved c =
     let items : List (List Lit) = c.as_slice-cube-items.result.now in
     record {
       truth = λ e. c.in_ok-rest.ensures.truth e ∙ rest_shrinks e (holds e c.args.antichain) c.loop-cube.rest items x c.in_ok-refused.refused c.loop-cube.cube-index (omega arith) c.cube-item.is (c.loop-cube.invariant.truth e) (ap (holds e) c.in_ok-refused.ensures ∙ denials_hold e x);
-      rules = λ rule h k. c.in_ok-rest.ensures.rules rule (c.loop-cube.invariant.rules rule h k) (subst (ConstraintObeys rule) (sym c.in_ok-refused.ensures) (denials_obey rule x (item_obeys rule c.args.c.now items c.loop-cube.cube-index x c.as_slice-cube-items.ensures (omega arith) c.cube-item.is k)));
+      rules = λ rule d h k. c.in_ok-rest.ensures.rules rule (c.loop-cube.invariant.rules rule d h k) (subst (ConstraintObeys rule) (sym c.in_ok-refused.ensures) (denials_obey rule d x (item_obeys rule c.args.c.now items c.loop-cube.cube-index x c.as_slice-cube-items.ensures (omega arith) c.cube-item.is k)));
     }
 
 pub returns-clause-truth : goal.returns-clause-truth

@@ -4,11 +4,11 @@ use Rattle.std.proofs.lemmas.List.Sorted.{All-permutation, list_any-IsPermutatio
 use Rattle.lois_base.specs.Atom.{Atom}
 use Rattle.lois_base.specs.Fits.{ConstraintFits}
 use Rattle.lois_base.specs.Truth.{cube_holds, holds}
-use Rattle.lois_base.specs.Validity.{AdmitsConstraint, UsesOnly}
+use Rattle.lois_base.specs.Validity.{AdmitsConstraint, IsStrictConstraint, UsesOnly}
 use Rattle.lois_base.specs.declared.guards.Lit.{Lit}
 use Rattle.lois_constraint.specs.Entailment.{IsPruned}
 use Rattle.lois_constraint.specs.Normalised.{IsNormalCube, IsNormalised}
-use Rattle.lois_constraint.specs.Rules.{uses, fits, admits, CubeObeys}
+use Rattle.lois_constraint.specs.Rules.{uses, fits, admits, strict, CubeObeys}
 use Rattle.lois_constraint.proofs.Normals.{normalised_from}
 use Rattle.lois_constraint.proofs.Pruned.{pruned_permuted}
 use Rattle.lois_constraint.proofs.Uses.{same_answer}
@@ -40,3 +40,7 @@ returns-clause-fits c =
 pub returns-clause-operators : goal.returns-clause-operators
 returns-clause-operators c =
     same_answer c.constraint_of.result c.sort_cubes.new.cubes.items (λ r. (o : Bool) → AdmitsConstraint o c.args.c.now → AdmitsConstraint o r) c.constraint_of.ensures (λ o h. All-permutation (CubeObeys (admits o)) c.in_ok-cubes.cubes.items c.sort_cubes.new.cubes.items c.sort_cubes.ensures.permutation (c.in_ok-cubes.ensures.rules (admits o) (c.in_ok-pruned.ensures.operators o h)))
+
+pub returns-clause-strict : goal.returns-clause-strict
+returns-clause-strict c =
+    same_answer c.constraint_of.result c.sort_cubes.new.cubes.items (λ r. IsStrictConstraint c.args.c.now → IsStrictConstraint r) c.constraint_of.ensures (λ h. All-permutation (CubeObeys strict) c.in_ok-cubes.cubes.items c.sort_cubes.new.cubes.items c.sort_cubes.ensures.permutation (c.in_ok-cubes.ensures.rules strict (c.in_ok-pruned.ensures.strict h)))

@@ -3,7 +3,8 @@ use Rattle.lois_base.specs.Truth.{cube_holds}
 use Rattle.lois_base.specs.declared.guards.Op.TheVariants.{AtMost}
 use Rattle.lois_constraint.specs.Entailment.{CubeIsSatisfiable}
 use Rattle.lois_constraint.specs.Tight.{some_holds}
-use Rattle.lois_deciders.proofs.StrictParts.{at_most_is, same_met}
+use Rattle.lois_deciders.proofs.StrictParts.{same_met}
+use Rattle.lois_constraint.proofs.WeakLiterals.{at_most_is}
 use Rattle.lois_deciders.proofs.strict.strict_literal.Goals as goal
 
 pub returns-clause-met : goal.returns-clause-met

@@ -10,7 +10,8 @@ use Rattle.lois_base.specs.declared.guards.Op.TheVariants.{Eq}
 use Rattle.lois_base.proofs.Lists.{all_before, all_last}
 use Rattle.lois_base.proofs.Viewed.{rest_at}
 use Rattle.lois_constraint.specs.Entailment.{CubeIsSatisfiable}
-use Rattle.lois_deciders.proofs.StrictParts.{holding_parts, holding_from, same_levels_fit}
+use Rattle.lois_constraint.proofs.WeakLiterals.{holding_parts, holding_from}
+use Rattle.lois_deciders.proofs.StrictParts.{same_levels_fit}
 use Rattle.lois_deciders.proofs.strict.strict_part.Goals as goal
 
 pub loop-index-preserved : goal.loop-index-preserved
