@@ -4,7 +4,7 @@ ghost use Rattle.std.specs.Prelude.{◌≡◌, ◌↔◌, ◌<◌, ◌≤◌, Is
 ghost use Rattle.std.specs.List.{All};
 ghost use Rattle.lois_base.specs.Data.{depth, depth_of_terms, depth_of_comps, terms_of, comps_of};
 ghost use Rattle.lois_base.specs.Tree.{tree, comp_of};
-ghost use Rattle.lois_base.specs.Validity.{is_admitted, AdmitsCube, AdmitsConstraint, AdmitsTerm, AdmitsParts, AdmitsItems, AdmitsComp, HasBoundedWidths, PartsHaveBoundedWidths, ItemsHaveBoundedWidths};
+ghost use Rattle.lois_base.specs.Validity.{is_admitted, is_strict, AdmitsCube, AdmitsConstraint, AdmitsTerm, AdmitsParts, AdmitsItems, AdmitsComp, IsStrictCube, IsStrictConstraint, IsStrictTerm, PartsAreStrict, ItemsAreStrict, CompIsStrict, HasBoundedWidths, PartsHaveBoundedWidths, ItemsHaveBoundedWidths};
 ghost use Rattle.lois_answers.specs.LineView.{line_of};
 ghost use Rattle.lois_answers.specs.CaseView.{case_of};
 ghost use Rattle.lois_answers.specs.Sound.{HasTags, PartsHaveTags, ItemsHaveTags, IsFreeName, IsSoundTerm, IsSoundLine, IsSoundCase, AreDistinct, AreParameters, IsSound, IsSoundTrace, IsPlaceNumber};
@@ -19,7 +19,7 @@ const LAST_PLACE: usize = LONGEST_TEXT + 1;
 
 impl Results {
     /// Whether the results have a text: their parameters are distinct and no words of the language, and each case's
-    /// constraint and terms are within the levels, the widths, the operators and the brackets of the format.
+    /// constraint and terms are within the levels, the widths, the operators and the brackets of the format, without `<=`.
     pub fn sound(&self) -> bool
         ensures exact { IsTrue result ↔ IsSound self.now }
     {
@@ -106,6 +106,7 @@ fn is_sound_case(case: &Case, ordered: bool, levels: usize) -> bool
 {
     case.when.fits(levels)
         && admits_guard(&case.when, ordered)
+        && is_strict_guard(&case.when)
         && are_sound_lines(&case.lines, ordered, levels)
 }
 
@@ -127,7 +128,7 @@ fn is_sound_line(line: &Line, ordered: bool, levels: usize) -> bool
 }
 
 /// Whether a term inside so many levels can be written: its levels, its operators, the widths of its tuples and its
-/// brackets are those of the format.
+/// brackets are those of the format, and no guard has `<=`.
 pub fn is_sound_term(term: &Term, ordered: bool, levels: usize) -> bool
     ensures exact { IsTrue result ↔ IsSoundTerm ordered levels (tree term.now) }
 {
@@ -135,6 +136,7 @@ pub fn is_sound_term(term: &Term, ordered: bool, levels: usize) -> bool
     term.fits(levels)
         && has_usual_widths(term)
         && admits_term(term, ordered)
+        && is_strict_term(term)
         && opens_at_most(term, MOST_OPEN_BRACKETS)
 }
 
@@ -274,9 +276,72 @@ fn admits_op(op: Op, ordered: bool) -> bool
     ensures exact { result ≡ is_admitted ordered op }
 {
     match op {
-        Op::Lt => ordered,
-        Op::Eq => true,
-        Op::Ne => true,
+        Op::Lt | Op::AtMost => ordered,
+        Op::Eq | Op::Ne => true,
+    }
+}
+
+#[cycle(strict)]
+fn is_strict_term(term: &Term) -> bool
+    ensures exact { IsTrue result ↔ IsStrictTerm (tree term.now) }
+{
+    match term {
+        Term::Var(_) => true,
+        Term::Tag(_) => true,
+        Term::Tup(parts) => are_strict_parts(parts),
+        Term::Coll(comps) => are_strict_items(comps),
+    }
+}
+
+#[cycle(strict)]
+fn are_strict_parts(parts: &Terms) -> bool
+    ensures exact { IsTrue result ↔ PartsAreStrict (terms_of parts.now) }
+{
+    for part in parts.as_slice() {
+        if !is_strict_term(part) {
+            return false;
+        }
+    }
+    true
+}
+
+#[cycle(strict)]
+fn are_strict_items(comps: &Comps) -> bool
+    ensures exact { IsTrue result ↔ ItemsAreStrict (comps_of comps.now) }
+{
+    for comp in comps.as_slice() {
+        if !is_strict_comp(comp) {
+            return false;
+        }
+    }
+    true
+}
+
+#[cycle(strict)]
+fn is_strict_comp(comp: &Comp) -> bool
+    ensures exact { IsTrue result ↔ CompIsStrict (comp_of comp.now) }
+{
+    is_strict_guard(&comp.guard) && is_strict_term(&comp.item)
+}
+
+fn is_strict_guard(guard: &Constraint) -> bool
+    ensures exact { IsTrue result ↔ IsStrictConstraint guard.now }
+{
+    guard.as_slice().iter().all(|cube| is_strict_cube(cube))
+}
+
+fn is_strict_cube(cube: &Cube) -> bool
+    ensures exact { IsTrue result ↔ IsStrictCube cube.now }
+{
+    cube.as_slice().iter().all(|lit| is_strict_op(lit.op))
+}
+
+fn is_strict_op(op: Op) -> bool
+    ensures exact { result ≡ is_strict op }
+{
+    match op {
+        Op::Eq | Op::Ne | Op::Lt => true,
+        Op::AtMost => false,
     }
 }
 
