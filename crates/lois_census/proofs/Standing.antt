@@ -11,7 +11,7 @@ use Rattle.lois_base.specs.Patterns.{AreAlike}
 use Rattle.lois_base.specs.Truth.{atom_at, op_holds, sampled}
 use Rattle.lois_base.specs.Validity.{is_admitted}
 use Rattle.lois_base.specs.declared.guards.Op.{Op}
-use Rattle.lois_base.specs.declared.guards.Op.TheVariants.{Eq, Ne, Lt}
+use Rattle.lois_base.specs.declared.guards.Op.TheVariants.{Eq, Ne, Lt, AtMost}
 use Rattle.lois_base.proofs.Twins.{equal_turned}
 use Rattle.lois_census.specs.Alike.{StandAlike, StandsAt, StandsBelow}
 
@@ -27,6 +27,10 @@ neither false false e h k = sym (ap (λ z. not z && true) h)
 
 above_is : (a b : Atom) → below b a ≡ (not (equal a b) && not (below a b))
 above_is a b = neither (below a b) (below b a) (equal a b) (equal_is_neither a b) (below_asym a b)
+
+above_same : (a b x y : Atom) → equal a b ≡ equal x y → below a b ≡ below x y → below b a ≡ below y x
+above_same a b x y e l =
+    above_is a b ∙ (ap (λ p. not p && not (below a b)) e ∙ (ap (λ p. not (equal x y) && not p) l ∙ sym (above_is x y)))
 
 -- ---- numbers
 pub same_numbers : (m n : ℕ) → m ≡ n → IsTrue (equal (whole m) (whole n))
@@ -46,6 +50,7 @@ module _ (ordered : Bool) where
   stand_from a b x y e l Eq h = e
   stand_from a b x y e l Ne h = ap not e
   stand_from a b x y e l Lt h = l h
+  stand_from a b x y e l AtMost h = ap not (above_same a b x y e (l h))
 
   pub same_stand : (a b x y : Atom) → IsTrue (equal a b) → IsTrue (equal x y) ↔ StandAlike ordered a b x y
   same_stand a b x y h = (
@@ -68,9 +73,7 @@ module _ (ordered : Bool) where
   turned : (a b x y : Atom) → StandAlike ordered a b x y → StandAlike ordered b a y x
   turned a b x y s =
       let same : equal a b ≡ equal x y = s Eq refl in
-      let above : IsTrue ordered → below b a ≡ below y x =
-      λ o. above_is a b ∙ (ap (λ e. not e && not (below a b)) same ∙ (ap (λ l. not (equal x y) && not l) (s Lt o) ∙ sym (above_is x y))) in
-      stand_from b a y x (equal_turned b a ∙ (same ∙ equal_turned x y)) above
+      stand_from b a y x (equal_turned b a ∙ (same ∙ equal_turned x y)) (λ o. above_same a b x y same (s Lt o))
 
   pub above_stand : (a b x y : Atom) → IsTrue ordered → IsTrue (below b a) → IsTrue (below y x) ↔ StandAlike ordered a b x y
   above_stand a b x y some h =

@@ -7,7 +7,7 @@ use Rattle.lois_base.specs.Atom.{Atom}
 use Rattle.lois_base.specs.Data.{TermD, coll, CompD, comp, CompsD, more, comps_of}
 use Rattle.lois_base.specs.Fits.{Fits, CompFits, ItemsFit}
 use Rattle.lois_base.specs.Truth.{sampled}
-use Rattle.lois_base.specs.Validity.{AdmitsTerm, AdmitsComp, AdmitsItems, HasBoundedWidths, CompHasBoundedWidths, ItemsHaveBoundedWidths}
+use Rattle.lois_base.specs.Validity.{AdmitsTerm, AdmitsComp, AdmitsItems, HasBoundedWidths, CompHasBoundedWidths, ItemsHaveBoundedWidths, IsStrictTerm, CompIsStrict, ItemsAreStrict}
 use Rattle.lois_base.specs.Values.{PointValue, point, MakesAt, MemberAt, IsMember, IsIn}
 use Rattle.lois_census.specs.Left.{IsTakenFromSome, IsCoveredByOrbits, AddsOnly, IsUsable}
 use Rattle.lois_census.specs.OrbitData.{OrbitD}
@@ -26,6 +26,9 @@ taken_admits ordered (comp m g t) o admits h = subst (AdmitsTerm ordered) (sym h
 
 taken_widths : (k : CompD) (o : OrbitD) → CompHasBoundedWidths k → IsTakenFrom k o → HasBoundedWidths o.item
 taken_widths (comp m g t) o widths h = subst HasBoundedWidths (sym h.0) widths
+
+taken_strict : (k : CompD) (o : OrbitD) → CompIsStrict k → IsTakenFrom k o → IsStrictTerm o.item
+taken_strict (comp m g t) o strict h = subst IsStrictTerm (sym h.0) strict.1
 
 pub taken_usable : (ordered : Bool) (k : CompD) (o : OrbitD) → CompFits 0 k → AdmitsComp ordered k → IsTakenFrom k o → IsUsable ordered o
 taken_usable ordered k o fits admits h =
@@ -68,6 +71,10 @@ all_admitted ordered ks admits os h =
 pub all_wide : (ks : List CompD) → ItemsHaveBoundedWidths (comps_of ks) → (os : List OrbitD) → All (IsTakenFromSome ks) os → All (λ o. HasBoundedWidths o.item) os
 all_wide ks widths os h =
     all_have CompHasBoundedWidths ItemsHaveBoundedWidths (λ k cs e. e) (λ o. HasBoundedWidths o.item) taken_widths ks widths os h
+
+pub all_strict : (ks : List CompD) → ItemsAreStrict (comps_of ks) → (os : List OrbitD) → All (IsTakenFromSome ks) os → All (λ o. IsStrictTerm o.item) os
+all_strict ks strict os h =
+    all_have CompIsStrict ItemsAreStrict (λ k cs e. e) (λ o. IsStrictTerm o.item) taken_strict ks strict os h
 
 -- ---- members
 made_member : (ks : List CompD) (i : ℕ) (d : CompD) (w : TermD) (x : List Atom) → i < length ks → MakesAt w x (get_or ks i d) [] → MemberAt w x (comps_of ks) []

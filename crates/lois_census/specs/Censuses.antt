@@ -3,7 +3,7 @@ use Rattle.std.specs.Prelude.{◌≡◌, ℕ, suc, Bool, List, [], ◌∷◌, �
 use Rattle.std.specs.List.{All, AllPairs, AllZip}
 use Rattle.lois_base.specs.Data.{TermD}
 use Rattle.lois_base.specs.Truth.{holds}
-use Rattle.lois_base.specs.Validity.{AdmitsTerm, HasBoundedWidths}
+use Rattle.lois_base.specs.Validity.{AdmitsTerm, HasBoundedWidths, IsStrictTerm}
 use Rattle.lois_base.specs.Values.{PointValue, point, IsMember, IsIn}
 use Rattle.lois_answers.specs.LastNamed.{last_named}
 use Rattle.lois_answers.specs.ResultsData.{LineD, CaseD}
@@ -21,6 +21,7 @@ pub record AreOrbitsOf (ordered : Bool) (t : TermD) (os : List OrbitD) : Type 0 
   pub taken : AreTakenFrom t os
   pub operators : (o : Bool) → AdmitsTerm o t → All (λ k. AdmitsTerm o k.item) os
   pub widths : HasBoundedWidths t → All (λ k. HasBoundedWidths k.item) os
+  pub strict : IsStrictTerm t → All (λ k. IsStrictTerm k.item) os
 
 -- a line of the name, of which the last counts
 abbrev pub HasNamedLine : List ℕ → CaseD → Type 0

@@ -6,7 +6,7 @@ ghost use Rattle.lois_base.specs.Data.{comps_of};
 ghost use Rattle.lois_base.specs.Fits.{ConstraintFits, Fits, CompFits, ItemsFit};
 ghost use Rattle.lois_base.specs.Tree.{tree, comp_of};
 ghost use Rattle.lois_base.specs.Truth.{holds, sampled};
-ghost use Rattle.lois_base.specs.Validity.{AdmitsConstraint, AdmitsTerm, AdmitsComp, AdmitsItems, HasBoundedWidths};
+ghost use Rattle.lois_base.specs.Validity.{AdmitsConstraint, AdmitsTerm, AdmitsComp, AdmitsItems, HasBoundedWidths, IsStrictTerm};
 ghost use Rattle.lois_base.specs.Values.{PointValue, point, IsMember, IsIn};
 ghost use Rattle.lois_terms.specs.Guarded.{IsColl};
 ghost use Rattle.lois_deciders.specs.OnlyAsked.{HasOnlyAsked};
@@ -46,6 +46,7 @@ pub fn census<T: Structure>(
 
     ensures operators { IfOk result (λ r. (o : Bool) → AdmitsTerm o (tree set.now) → All (λ k. AdmitsTerm o k.item) r) }
     ensures widths { IfOk result (λ r. HasBoundedWidths (tree set.now) → All (λ k. HasBoundedWidths k.item) r) }
+    ensures strict { IfOk result (λ r. IsStrictTerm (tree set.now) → All (λ k. IsStrictTerm k.item) r) }
 
     // whatever is answered
     ensures only_asked { HasOnlyAsked (λ b. (⟦<dyn Decider as Decider>⟧ b.vtable).kind_of b.value) (λ b. (⟦<dyn Decider as Decider>⟧ b.vtable).questions b.value) chosen.old chosen.new }

@@ -5,7 +5,7 @@ ghost use Rattle.lois_base.specs.Theory.{risen};
 ghost use Rattle.lois_base.specs.declared.deciding.Kind.{Kind};
 
 use crate::making::{constraint_of, lit};
-use lois_base::Op::{Eq, Lt, Ne};
+use lois_base::Op::{AtMost, Eq, Lt, Ne};
 use lois_base::{
     Comp, Comps, Constraint, Cube, Decider, Formula, Formulas, Kind, Lit, Name, Names, NoMemory,
     Numbers, Op, Term, Terms, is_name,
@@ -30,6 +30,8 @@ fn literals_compare_two_levels(rt: HostRuntime) {
         ((0, Lt, 1), false),
         ((0, Lt, 2), true),
         ((2, Lt, 0), false),
+        ((0, AtMost, 1), true),
+        ((2, AtMost, 0), false),
     ];
     for (comparison, holds) in rows {
         let literal = lit(comparison);

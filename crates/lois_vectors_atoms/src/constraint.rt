@@ -3,7 +3,7 @@
 ghost use Rattle.std.specs.Prelude.{◌<◌};
 
 use crate::making::{Comparison, Dice, constraint_of, cube_of, lit};
-use lois_base::Op::{Eq, Lt, Ne};
+use lois_base::Op::{AtMost, Eq, Lt, Ne};
 use lois_base::{Constraint, Cube, NoMemory};
 use lois_constraint::{
     alternatives, and, and_not, conflict, conjoin_cube, covers_cube, entails, implies, meet,
@@ -59,7 +59,7 @@ fn applied(
 const BETWEEN: [Comparison; 2] = [(0, Lt, 2), (2, Lt, 1)];
 
 // its negation
-const REFUSED: [&[Comparison]; 4] = [&[(0, Eq, 2)], &[(2, Lt, 0)], &[(2, Eq, 1)], &[(1, Lt, 2)]];
+const REFUSED: [&[Comparison]; 2] = [&[(2, AtMost, 0)], &[(1, AtMost, 2)]];
 
 // What the operations make of `BETWEEN`, one after another, with the other constraint.
 fn made_of_between(
@@ -96,7 +96,7 @@ const NEGATED_AND_JOINED: [Making<'static>; 5] = [
     (
         &[Operation::Negate, Operation::Normalise],
         &[],
-        &[&[(0, Eq, 2)], &[(1, Eq, 2)], &[(1, Lt, 2)], &[(2, Lt, 0)]],
+        &[&[(1, AtMost, 2)], &[(2, AtMost, 0)]],
     ),
     (
         &[Operation::Negate, Operation::Negate, Operation::Normalise],
@@ -127,8 +127,8 @@ const MET_AND_TAKEN_OFF: [Making<'static>; 5] = [
 #[test]
 fn constraints_are_met_and_taken_off(rt: HostRuntime) -> Result<(), Fail> {
     make(&rt, rt.alloc(), &MET_AND_TAKEN_OFF)?;
-    let four = made_of_between(rt.alloc(), &[Operation::And], &REFUSED)?;
-    assert_eq!(rt; four.len(), 4);
+    let both = made_of_between(rt.alloc(), &[Operation::And], &REFUSED)?;
+    assert_eq!(rt; both.len(), 2);
     Ok(())
 }
 
@@ -154,6 +154,8 @@ const TIED: [Comparison; 3] = [(0, Eq, 1), (1, Eq, 2), (2, Ne, 3)];
 
 const UP: [Comparison; 2] = [(0, Lt, 1), (1, Lt, 2)];
 
+const WEAKLY_UP: [Comparison; 2] = [(0, AtMost, 1), (1, AtMost, 2)];
+
 const ENDS_APART: [Comparison; 1] = [(2, Ne, 0)];
 
 fn is_implied(
@@ -167,7 +169,7 @@ fn is_implied(
 
 #[test]
 fn what_ties_and_sets_apart_is_told(rt: HostRuntime) -> Result<(), Fail> {
-    let rows: [(&[Comparison], Comparison, bool); 10] = [
+    let rows: [(&[Comparison], Comparison, bool); 16] = [
         (&TIED, (0, Eq, 2), true),
         (&TIED, (3, Ne, 0), true),
         (&TIED, (0, Lt, 3), false),
@@ -178,6 +180,12 @@ fn what_ties_and_sets_apart_is_told(rt: HostRuntime) -> Result<(), Fail> {
         (&FURTHER_UP, (63, Ne, 64), true),
         (&FURTHER_UP, (63, Lt, 127), false),
         (&FURTHER_UP, (0, Lt, 128), false),
+        (&WEAKLY_UP, (0, AtMost, 2), true),
+        (&WEAKLY_UP, (0, Lt, 2), false),
+        (&[(0, AtMost, 1), (1, Lt, 2)], (0, Lt, 2), true),
+        (&[(0, AtMost, 1), (0, Ne, 1)], (0, Lt, 1), true),
+        (&[(0, AtMost, 1), (1, AtMost, 0)], (0, Eq, 1), true),
+        (&[(0, Eq, 1)], (1, AtMost, 0), true),
     ];
     for (literals, comparison, wanted) in rows {
         let implied = is_implied(rt.alloc(), literals, comparison)?;
@@ -241,10 +249,11 @@ fn cubes_are_had_where_a_constraint_holds(rt: HostRuntime) -> Result<(), Fail> {
 
 #[test]
 fn literals_are_turned(rt: HostRuntime) -> Result<(), Fail> {
-    let rows: [(Comparison, &[Comparison]); 3] = [
+    let rows: [(Comparison, &[Comparison]); 4] = [
         ((0, Eq, 1), &[(0, Ne, 1)]),
         ((0, Ne, 1), &[(0, Eq, 1)]),
-        ((0, Lt, 1), &[(0, Eq, 1), (1, Lt, 0)]),
+        ((0, Lt, 1), &[(1, AtMost, 0)]),
+        ((0, AtMost, 1), &[(1, Lt, 0)]),
     ];
     for (literal, others) in rows {
         let turned = alternatives(rt.alloc(), lit(literal))?;

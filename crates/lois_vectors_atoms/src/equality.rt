@@ -3,7 +3,7 @@ ghost use Rattle.std.specs.Prelude.{false, IsTrue};
 ghost use Rattle.lois_base.specs.Validity.{AdmitsCube};
 
 use crate::making::{Comparison, constraint_of, cube_of};
-use lois_base::Op::{Eq, Lt, Ne};
+use lois_base::Op::{AtMost, Eq, Lt, Ne};
 use lois_base::{Cube, NoMemory, Structure};
 use lois_equality::EqualityAtoms;
 use std::alloc::Global;
@@ -48,6 +48,7 @@ fn levels_are_eliminated(rt: HostRuntime) -> Result<(), Fail> {
     for (literals, level, answer) in ELIMINATED {
         eliminates(&rt, rt.alloc(), literals, level, answer)?;
     }
-    assert!(rt; EqualityAtoms::admits(Ne) && !EqualityAtoms::admits(Lt));
+    assert!(rt; EqualityAtoms::admits(Ne));
+    assert!(rt; !EqualityAtoms::admits(Lt) && !EqualityAtoms::admits(AtMost));
     Ok(())
 }

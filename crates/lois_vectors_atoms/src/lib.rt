@@ -15,3 +15,5 @@ mod equality;
 mod making;
 #[cfg(test)]
 mod order;
+#[cfg(test)]
+mod weak;

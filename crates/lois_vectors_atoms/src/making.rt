@@ -55,9 +55,11 @@ impl Dice {
     pub(crate) fn lit(&mut self, levels: usize) -> Lit
         requires { 0 < levels }
     {
-        let op = match self.roll(4) {
+        let op = match self.roll(6) {
             0 => Op::Eq,
             1 => Op::Ne,
+            2 => Op::AtMost,
+            3 => Op::AtMost,
             _ => Op::Lt,
         };
         Lit {

@@ -1,7 +1,7 @@
 //! Worked eliminations.
 
 use crate::making::{Comparison, constraint_of, cube_of};
-use lois_base::Op::{Eq, Lt, Ne};
+use lois_base::Op::{AtMost, Eq, Lt, Ne};
 use lois_base::{NoMemory, Structure};
 use lois_order::OrderAtoms;
 use std::alloc::Global;
@@ -24,7 +24,7 @@ fn eliminates(
 }
 
 // The literals, the level, and the cubes of the answer.
-const ELIMINATED: [(&[Comparison], usize, &[&[Comparison]]); 9] = [
+const ELIMINATED: [(&[Comparison], usize, &[&[Comparison]]); 11] = [
     // the atoms between $0 and $1
     (&[(0, Lt, 2), (2, Lt, 1)], 2, &[&[(0, Lt, 1)]]),
     (&[(0, Lt, 2), (2, Ne, 1)], 2, &[&[]]),
@@ -39,6 +39,8 @@ const ELIMINATED: [(&[Comparison], usize, &[&[Comparison]]); 9] = [
         2,
         &[&[(0, Lt, 1), (1, Ne, 0)]],
     ),
+    (&[(0, AtMost, 2), (2, AtMost, 1)], 2, &[&[(0, AtMost, 1)]]),
+    (&[(0, AtMost, 2), (2, Lt, 1)], 2, &[&[(0, Lt, 1)]]),
     (&[], 0, &[&[]]),
 ];
 
@@ -47,6 +49,6 @@ fn levels_are_eliminated(rt: HostRuntime) -> Result<(), Fail> {
     for (literals, level, answer) in ELIMINATED {
         eliminates(&rt, rt.alloc(), literals, level, answer)?;
     }
-    assert!(rt; OrderAtoms::admits(Lt));
+    assert!(rt; OrderAtoms::admits(Lt) && OrderAtoms::admits(AtMost));
     Ok(())
 }

@@ -4,11 +4,11 @@ use Rattle.std.specs.List.{All}
 use Rattle.lois_base.specs.Data.{coll, comps_of}
 use Rattle.lois_base.specs.Fits.{Fits}
 use Rattle.lois_base.specs.Tree.{tree}
-use Rattle.lois_base.specs.Validity.{AdmitsTerm, HasBoundedWidths}
+use Rattle.lois_base.specs.Validity.{AdmitsTerm, HasBoundedWidths, IsStrictTerm}
 use Rattle.lois_base.specs.Values.{PointValue, point, IsMember, IsIn}
 use Rattle.lois_census.specs.Left.{IsTakenFromSome, IsCoveredByOrbits}
 use Rattle.lois_census.specs.Orbits.{value_of, IsInListedOrbit, FitsSample, AreTakenInOrder, AreTakenFrom}
-use Rattle.lois_census.proofs.TheCensus.{all_fit, all_members, each_listed, all_admitted, all_wide}
+use Rattle.lois_census.proofs.TheCensus.{all_fit, all_members, each_listed, all_admitted, all_wide, all_strict}
 use Rattle.lois_census.proofs.listing.census.Goals as goal
 
 pub returns-clause-levels : goal.returns-clause-levels
@@ -46,3 +46,9 @@ returns-clause-widths g c =
     let ks = c.in-Coll.comps in
     let set : tree c.args.set.now ≡ coll (comps_of ks) = ap tree c.in-Coll.is in
     IfOk-weaker c.all_orbits.result (All (IsTakenFromSome ks)) (λ r. HasBoundedWidths (tree c.args.set.now) → All (λ k. HasBoundedWidths k.item) r) (λ r h w. all_wide ks (subst HasBoundedWidths set w) r h) c.all_orbits.ensures.taken
+
+pub returns-clause-strict : goal.returns-clause-strict
+returns-clause-strict g c =
+    let ks = c.in-Coll.comps in
+    let set : tree c.args.set.now ≡ coll (comps_of ks) = ap tree c.in-Coll.is in
+    IfOk-weaker c.all_orbits.result (All (IsTakenFromSome ks)) (λ r. IsStrictTerm (tree c.args.set.now) → All (λ k. IsStrictTerm k.item) r) (λ r h w. all_strict ks (subst IsStrictTerm set w) r h) c.all_orbits.ensures.taken
