@@ -18,6 +18,7 @@ fn literal_holds(lit: Lit, choice: &[u64]) -> bool {
         Op::Eq => left == right,
         Op::Ne => left != right,
         Op::Lt => left < right,
+        Op::AtMost => left <= right,
     }
 }
 

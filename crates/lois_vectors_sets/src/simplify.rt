@@ -1,10 +1,11 @@
 //! Worked sets, over atoms with an order.
 
 use crate::making::{comps_of, each, guard_of, lit, set_of};
-use lois_base::{Comp, Comps, Decider, Lit, NoMemory, Op, Term};
+use lois_base::{Comp, Comps, Constraint, Decider, Lit, NoMemory, Op, Term};
 use lois_deciders::{Chosen, GraphDecider};
 use lois_order::OrderAtoms;
-use lois_simplify::simplify;
+use lois_simplify::{shortest, simplify};
+use lois_strict::split_term;
 use std::alloc::Global;
 use std::process::Abort;
 use std::test::Fail;
@@ -150,4 +151,49 @@ fn many_of_which_few_differ(rt: HostRuntime) -> Result<(), Fail> {
     }
     assert!(rt; simple(&rt, alloc, comps, &[], 7)?.len() == 7);
     Ok(())
+}
+
+fn is_strict(c: &Constraint) -> bool {
+    c.as_slice().iter().all(|cube| cube.as_slice().iter().all(|lit| lit.op != Op::AtMost))
+}
+
+// where `$0` is at most `$1`
+#[test]
+fn what_is_read_has_no_weak_inequality(rt: HostRuntime) -> Result<(), Fail> {
+    let alloc = rt.alloc();
+    let weak = guard_of(alloc, &[lit(Op::AtMost, 0, 1)])?;
+    let always = Constraint::always(alloc)?;
+    let read = shortest(alloc, &weak, &always)?;
+    assert!(rt; is_strict(&read) && read.fits(2));
+    assert!(rt; read.at(&[1, 2]) && read.at(&[2, 2]) && !read.at(&[2, 1]));
+    Ok(())
+}
+
+// `{{$1 for $1 if $1<=$0}}`
+fn set_of_those_at_most(alloc: Global) -> Result<Term, NoMemory> {
+    let inner = Term::Coll(set_of(alloc, 1, &[lit(Op::AtMost, 1, 0)], Term::Var(1))?);
+    Ok(Term::Coll(set_of(alloc, 0, &[], inner)?))
+}
+
+// whether the comprehension has the atom at `$1` where it is at most `$0`, without a weak inequality
+fn has_those_at_most(comp: &Comp) -> bool {
+    is_strict(&comp.guard)
+        && holds_at(comp, &[2, 1])
+        && holds_at(comp, &[1, 1])
+        && !holds_at(comp, &[1, 2])
+}
+
+#[test]
+fn sets_inside_are_split(rt: HostRuntime) -> Result<(), Fail> {
+    let alloc = rt.alloc();
+    let weak = set_of_those_at_most(alloc)?;
+    let split = split_term(alloc, &weak)?;
+    match &split {
+        Term::Coll(outer) => {
+            let inner = inside(outer).ok_or("not one set")?;
+            assert!(rt; inner.as_slice().iter().any(|comp| has_those_at_most(comp)));
+            Ok(())
+        }
+        _ => Err("not a set".into()),
+    }
 }

@@ -2,7 +2,7 @@
 
 use crate::making::{guard, lines, lit, name, names, numbers, set};
 use lois_answers::{Case, Cases, FaultKind, Lines, Results, Trace, is_sound_term, tags_are_names};
-use lois_base::Op::{Eq, Lt, Ne};
+use lois_base::Op::{AtMost, Eq, Lt, Ne};
 use lois_base::{Comps, NoMemory, Op, Term, Terms};
 use std::alloc::Global;
 use std::process::Abort;
@@ -130,7 +130,7 @@ fn terms_within_the_limits_are_sound(rt: HostRuntime) -> Result<(), Fail> {
     Ok(are_sound(&rt, rt.alloc(), &WITHIN_THE_LIMITS, true)?)
 }
 
-const PAST_A_LIMIT: [Row<'static>; 6] = [
+const PAST_A_LIMIT: [Row<'static>; 7] = [
     (false, &[b"a"], Value::Tuple(9), "9 parts"),
     (false, &[b"a"], Value::Tuple(1), "1 part"),
     (false, &[], Value::Nested(65), "65 brackets"),
@@ -147,6 +147,7 @@ const PAST_A_LIMIT: [Row<'static>; 6] = [
         Value::Pairs(Lt),
         "an order among unordered atoms",
     ),
+    (true, &[], Value::Pairs(AtMost), "a weak inequality"),
 ];
 
 #[test]
@@ -179,10 +180,11 @@ fn names_out_of_place_are_not_sound(rt: HostRuntime) -> Result<(), Fail> {
     Ok(())
 }
 
-// whether results over unordered atoms are sound whose case holds where the literal does
+// whether results are sound whose case holds where the literal does
 fn is_sound_where(
     rt: &impl Abort,
     alloc: Global,
+    order: bool,
     parameters: &[&[u8]],
     op: Op,
 ) -> Result<bool, NoMemory> {
@@ -190,19 +192,24 @@ fn is_sound_where(
         when: guard(alloc, &[lit(op, 0, 1)])?,
         lines: lines(rt, alloc, b"s", empty(alloc))?,
     };
-    Ok(results(rt, alloc, false, parameters, case)?.sound())
+    Ok(results(rt, alloc, order, parameters, case)?.sound())
 }
 
 #[test]
 fn cases_out_of_place_are_not_sound(rt: HostRuntime) -> Result<(), Fail> {
     let alloc = rt.alloc();
     assert!(rt;
-        !is_sound_where(&rt, alloc, &[b"a"], Ne)?,
+        !is_sound_where(&rt, alloc, false, &[b"a"], Ne)?,
         "no such parameter"
     );
     assert!(rt;
-        !is_sound_where(&rt, alloc, &[b"a", b"b"], Lt)?,
+        !is_sound_where(&rt, alloc, false, &[b"a", b"b"], Lt)?,
         "an order among unordered atoms"
+    );
+    assert!(rt; is_sound_where(&rt, alloc, true, &[b"a", b"b"], Lt)?);
+    assert!(rt;
+        !is_sound_where(&rt, alloc, true, &[b"a", b"b"], AtMost)?,
+        "a weak inequality"
     );
     Ok(())
 }
