@@ -14,7 +14,7 @@ ghost use Rattle.lois_minimise.specs.Classes.{IsPartition, AddsPartition};
 use crate::indexed::indexed_membership;
 use lois_algebra::push_comp;
 use lois_base::{Comp, Comps, Constraint, NoMemory, Structure};
-use lois_constraint::{meet, negate};
+use lois_constraint::{and_not, meet};
 use lois_terms::{Index, index_by_shape};
 use std::alloc::Global;
 
@@ -67,9 +67,8 @@ fn partition_comp<T: Structure>(
     ensures { OnOk result (AddsPartition size (comp_of one.now) (coll (comps_of set.now)) (comps_of inside.old) (comps_of inside.new) (comps_of outside.old) (comps_of outside.new)) }
 {
     let found = indexed_membership::<T>(alloc, &one.item, set, index, size, one.binders)?;
-    let missing = negate(alloc, &found)?;
     let here = meet(alloc, &one.guard, &found)?;
-    let there = meet(alloc, &one.guard, &missing)?;
+    let there = and_not(alloc, &one.guard, &found)?;
     put_under(alloc, inside, one, here)?;
     put_under(alloc, outside, one, there)
 }
