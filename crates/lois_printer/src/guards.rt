@@ -7,6 +7,7 @@ use crate::pieces::{append, append_operand, append_separator};
 use lois_base::{Constraint, Cube, Lit, Names, NoMemory, Op};
 use std::alloc::Global;
 
+// No answer has `<=`.
 fn op_words(op: Op) -> &'static [u8]
     ensures { result.now ≡ op_text op }
 {
@@ -14,6 +15,7 @@ fn op_words(op: Op) -> &'static [u8]
         Op::Eq => b"=",
         Op::Ne => b"!=",
         Op::Lt => b"<",
+        Op::AtMost => b"<=",
     }
 }
 
