@@ -1,0 +1,2 @@
+pub mod ApartLiterals
+pub mod SplitTerms
