@@ -9,7 +9,7 @@ use Rattle.lois_base.specs.Patterns.{Agree, AreAlike}
 use Rattle.lois_base.specs.Truth.{atom_at, op_holds, sampled}
 use Rattle.lois_base.specs.Validity.{is_admitted}
 use Rattle.lois_base.specs.declared.guards.Op.{Op}
-use Rattle.lois_base.specs.declared.guards.Op.TheVariants.{Eq, Ne, Lt}
+use Rattle.lois_base.specs.declared.guards.Op.TheVariants.{Eq, Ne, Lt, AtMost}
 use Rattle.lois_base.proofs.Choices.{atom_at_end}
 use Rattle.lois_base.proofs.Order.{equal_refl, equal_sym, equal_is_neither, below_irrefl, below_asym, below_at_most, equals_from, same_truth, test}
 use Rattle.lois_base.proofs.Samples.{below_whole}
@@ -241,6 +241,7 @@ module _ (c : List Atom) (hs : List ℕ) (k : ℕ) (a : Atom) (h : Stands false 
       go Eq ok = equal_beside
       go Ne ok = λ i j l m. ap not (equal_beside i j l m)
       go Lt ok = absurd (cc)
+      go AtMost ok = absurd (cc)
 
 -- one more than the greatest number of an atom below a
 abbrev place : List Atom → List ℕ → Atom → ℕ
@@ -305,6 +306,7 @@ ordered_alike c d e below_same = record { count = e; agree = λ op ok. go op }
     go Eq = equal_same
     go Ne = λ i j l m. ap not (equal_same i j l m)
     go Lt = below_same
+    go AtMost = λ i j l m. ap not (below_same j i m l)
 
 -- the atom is a new one, in a gap of the order
 module _ (c : List Atom) (hs : List ℕ) (k : ℕ) (a : Atom) (h : Stands true c hs k) (new : (i : ℕ) → i < length c → IsFalse (equal (atom_at c i) a)) where
