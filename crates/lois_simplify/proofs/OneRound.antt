@@ -32,7 +32,7 @@ use Rattle.lois_simplify.specs.declared.rounds.Round.TheVariants.{Lean, Empty, S
 use Rattle.lois_simplify.proofs.Always.{always_adds_nothing, always_is_normalised}
 use Rattle.lois_simplify.proofs.Inserted.{moved_below, moved_at, moved_above}
 use Rattle.lois_simplify.proofs.Kept.{kept_refl, kept_trans}
-use Rattle.lois_simplify.proofs.Plain.{plain_under}
+use Rattle.lois_simplify.proofs.Plain.{always_is_plain, plain_under}
 use Rattle.lois_simplify.proofs.Single.{guard_changed, item_changed, nothing_there, CanLeave, binder_left_out}
 use Rattle.lois_simplify.proofs.Under.{normal_under}
 
@@ -167,7 +167,7 @@ always_open brief u n m g none always fits met =
       operators = λ o a b. a;
       here = always_adds_nothing u g always;
       guard = subst IsNormalised (sym always) always_is_normalised;
-      plain = λ read h. always;
+      plain = λ read. always_is_plain g u (n + m) always;
       met = subst (λ j. ConstraintIsSatisfiable j u) same met;
       free = λ b from below. absurd (omega (arith, none, from, below));
     }

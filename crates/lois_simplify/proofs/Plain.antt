@@ -1,5 +1,5 @@
 -- Guards that always hold are written as `true`.
-use Rattle.std.proofs.Common.{◌≡◌, ℕ, zero, suc, ◌+◌, ◌<◌, Bool, true, false, not, ◌&&◌, inl, inr, List, [], ◌∷◌, ◌++◌, length, get_or, take, drop, refl, sym, ap, ◌∙◌, subst, arith}
+use Rattle.std.proofs.Common.{◌≡◌, ℕ, zero, suc, ◌+◌, ◌<◌, Bool, true, false, not, ◌&&◌, inl, inr, List, [], ◌∷◌, ◌++◌, length, get_or, take, drop, Result, Ok, Err, IfOk, refl, sym, ap, ◌∙◌, subst, arith}
 use Rattle.std.specs.Bool.{IsTrue, IsFalse}
 use Rattle.std.specs.List.{All, Contains}
 use Rattle.std.proofs.lemmas.Bool.{and_parts, or_left, or_right, or_cases}
@@ -10,7 +10,7 @@ use Rattle.lois_base.specs.Data.{TermD, var, tag, tup, coll, TermsD, no_terms, t
 use Rattle.lois_base.specs.Fits.{LitFits, CubeFits, ConstraintFits}
 use Rattle.lois_base.specs.Normal.{both}
 use Rattle.lois_base.specs.Truth.{atom_at, cube_holds, holds}
-use Rattle.lois_base.specs.Validity.{AdmitsLit, AdmitsCube}
+use Rattle.lois_base.specs.Validity.{AdmitsLit, AdmitsCube, IsStrictLit, IsStrictCube, IsStrictConstraint, IsStrictTerm, PartsAreStrict, CompIsStrict, ItemsAreStrict}
 use Rattle.lois_base.specs.declared.guards.Lit.{Lit}
 use Rattle.lois_base.proofs.Both.{holds_append}
 use Rattle.lois_base.proofs.Truths.{LitAgrees, holds_agree}
@@ -97,15 +97,29 @@ always_shortened u g r follows is = subst (IsShortened u g) (sym is) (record {
   operators = λ o f. All-cons (AdmitsCube o) [] [] (All-nil (AdmitsLit o)) (All-nil (AdmitsCube o));
 })
 
--- what fails somewhere where u holds is plain
-pub plain_elsewhere : (u g r : List (List Lit)) → IsShortened u g r → (e : List Atom) × IsTrue (holds e u) × IsFalse (holds e g) → (n : ℕ) → ConstraintFits n u → ConstraintFits n g → IsPlain r u n
-plain_elsewhere u g r s (e, o, fails) n f h entailed =
-    let there : IsTrue (holds e r) = entailed_anywhere n u r f (s.levels n h) entailed e o in
-    absurd (cc (s.back e o there, fails))
+pub always_is_plain : (r u : List (List Lit)) (n : ℕ) → r ≡ [] ∷ [] → IsPlain r u n
+always_is_plain r u n is = record {
+  always = λ h. is;
+  strict = subst IsStrictConstraint (sym is) (All-cons IsStrictCube [] [] (All-nil IsStrictLit) (All-nil IsStrictCube));
+}
+
+-- what fails somewhere where u holds is plain if it has no `<=`
+plain_elsewhere : (u g r : List (List Lit)) → IsShortened u g r → IsStrictConstraint r → (e : List Atom) × IsTrue (holds e u) × IsFalse (holds e g) → (n : ℕ) → ConstraintFits n u → ConstraintFits n g → IsPlain r u n
+plain_elsewhere u g r s strict (e, o, fails) n f h = record {
+  always = λ entailed.
+      let there : IsTrue (holds e r) = entailed_anywhere n u r f (s.levels n h) entailed e o in
+      absurd (cc (s.back e o there, fails));
+  strict = strict;
+}
+
+pub plain_answer : {E : Type 0} (u g : List (List Lit)) (r : Result (List (List Lit)) E) → (e : List Atom) × IsTrue (holds e u) × IsFalse (holds e g) → IfOk r (IsShortened u g) → IfOk r IsStrictConstraint → IfOk r (λ x. (n : ℕ) → ConstraintFits n u → ConstraintFits n g → IsPlain x u n)
+plain_answer u g (Ok x) fails short strict = plain_elsewhere u g x short strict fails
+plain_answer u g (Err e) fails short strict = strict
 
 -- ---- what is plain under a constraint is plain under each with the same truth
 plain_same : (g u v : List (List Lit)) (n : ℕ) → ((c : List Atom) → holds c u ≡ holds c v) → IsPlain g u n → IsPlain g v n
-plain_same g u v n same plain h = plain (λ c l o. h c l (sym (same c) ∙ o))
+plain_same g u v n same plain =
+    record { always = λ h. plain.always (λ c l o. h c l (sym (same c) ∙ o)); strict = plain.strict }
 
 mutual
   pub plain_under : (t : TermD) (u v : List (List Lit)) (n : ℕ) → ((c : List Atom) → holds c u ≡ holds c v) → HasPlainGuards t u n → HasPlainGuards t v n
@@ -131,3 +145,23 @@ pub set_has_plain_guards : (u : List (List Lit)) (n : ℕ) (cs : List CompD) →
 set_has_plain_guards u n [] plain = tt
 set_has_plain_guards u n (k ∷ ks) plain =
     (plain k (contains_first k ks), set_has_plain_guards u n ks (λ j h. plain j (contains_later k j ks h)))
+
+-- ---- terms with plain guards have no `<=`
+mutual
+  pub strict_of_plain : (t : TermD) (u : List (List Lit)) (n : ℕ) → HasPlainGuards t u n → IsStrictTerm t
+  strict_of_plain (var i) u n h = tt
+  strict_of_plain (tag t) u n h = tt
+  strict_of_plain (tup ts) u n h = strict_parts ts u n h
+  strict_of_plain (coll cs) u n h = strict_items cs u n h
+
+  strict_parts : (ts : TermsD) (u : List (List Lit)) (n : ℕ) → PartsHavePlainGuards ts u n → PartsAreStrict ts
+  strict_parts no_terms u n h = tt
+  strict_parts (term t ts) u n h = (strict_of_plain t u n h.0, strict_parts ts u n h.1)
+
+  strict_comp : (k : CompD) (u : List (List Lit)) (n : ℕ) → CompHasPlainGuards k u n → CompIsStrict k
+  strict_comp (comp m g t) u n h =
+      ((h.0).strict, strict_of_plain t (both u g) (n + m) h.1)
+
+  strict_items : (cs : CompsD) (u : List (List Lit)) (n : ℕ) → ItemsHavePlainGuards cs u n → ItemsAreStrict cs
+  strict_items no_comps u n h = tt
+  strict_items (more k ks) u n h = (strict_comp k u n h.0, strict_items ks u n h.1)

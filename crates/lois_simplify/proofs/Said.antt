@@ -10,7 +10,7 @@ use Rattle.lois_base.specs.Truth.{holds}
 use Rattle.lois_base.specs.Validity.{is_admitted, AdmitsLit, AdmitsCube, AdmitsConstraint}
 use Rattle.lois_base.specs.declared.guards.Lit.{Lit}
 use Rattle.lois_base.specs.declared.guards.Op.{Op}
-use Rattle.lois_base.specs.declared.guards.Op.TheVariants.{Eq, Ne, Lt}
+use Rattle.lois_base.specs.declared.guards.Op.TheVariants.{Eq, Ne, Lt, AtMost}
 use Rattle.lois_base.proofs.Validity.{level_fits}
 use Rattle.lois_simplify.specs.Shortened.{IsShortened, SpeaksOfBoth, SpeaksOfAll}
 
@@ -19,6 +19,7 @@ admitted_anyhow : (o : Bool) (op : Op) → IsTrue (is_admitted false op) → IsT
 admitted_anyhow o Eq h = refl
 admitted_anyhow o Ne h = refl
 admitted_anyhow o Lt h = absurd (cc)
+admitted_anyhow o AtMost h = absurd (cc)
 
 pub order_free_anyhow : (r : List (List Lit)) → AdmitsConstraint false r → (o : Bool) → AdmitsConstraint o r
 order_free_anyhow r h o = All-weaker (AdmitsCube false) (AdmitsCube o) (λ k i. All-weaker (AdmitsLit false) (AdmitsLit o) (λ l j. admitted_anyhow o l.op j) k i) r h
@@ -27,12 +28,13 @@ all_admitted : (op : Op) → IsTrue (is_admitted true op)
 all_admitted Eq = refl
 all_admitted Ne = refl
 all_admitted Lt = refl
+all_admitted AtMost = refl
 
 pub not_both : (b : Bool) → IsTrue (not b) → IsTrue b → ⊥
 not_both true h i = absurd (cc)
 not_both false h i = absurd (cc)
 
--- a guard that isn't free of `<` is admitted under an order alone
+-- a guard that compares by the order of atoms is admitted under an order alone
 pub no_more_order : (g r : List (List Lit)) → (AdmitsConstraint false g → ⊥) → (o : Bool) → AdmitsConstraint o g → AdmitsConstraint o r
 no_more_order g r some true h = λ i k p j l q. all_admitted _
 no_more_order g r some false h = absurd (some h)

@@ -191,8 +191,12 @@ equally_true u g r s e o = go (holds e r) (holds e g) refl refl
     go false true i j = s.there e o j ∙ sym j
     go false false i j = i ∙ sym j
 
--- what is written anew with the same truth, levels and operators stands for the guard as well
+-- what is written anew with the same truth, levels and operators stands for it, and for a guard that it stands for
 pub normalised_alike : {E : Type 0} (u g s : List (List Lit)) (r : Result (List (List Lit)) E) → IsShortened u g s → IfOk r (λ x. (e : List Atom) → holds e x ≡ holds e s) → IfOk r (λ x. (n : ℕ) → ConstraintFits n s → ConstraintFits n x) → IfOk r (λ x. (o : Bool) → AdmitsConstraint o s → AdmitsConstraint o x) → IfOk r (IsShortened u g)
 normalised_alike u g s (Ok x) short truth fits operators =
     shortened_then u g s x short (shortened_alike u s x truth fits operators)
 normalised_alike u g s (Err e) short truth fits operators = truth
+
+pub split_alike : {E : Type 0} (s : List (List Lit)) (r : Result (List (List Lit)) E) → IfOk r (λ x. (e : List Atom) → holds e x ≡ holds e s) → IfOk r (λ x. (n : ℕ) → ConstraintFits n s → ConstraintFits n x) → IfOk r (λ x. (o : Bool) → AdmitsConstraint o s → AdmitsConstraint o x) → IfOk r (λ x. (u : List (List Lit)) → IsShortened u s x)
+split_alike s (Ok x) truth fits operators = λ u. shortened_alike u s x truth fits operators
+split_alike s (Err e) truth fits operators = truth

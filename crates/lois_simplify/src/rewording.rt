@@ -1,5 +1,5 @@
-//! Other words for a guard, found by widening its cubes under what surrounds it. Nothing rests on how they are found: whoever takes
-//! them asks first whether they say the same.
+//! Other words for a guard without `<=`, found by widening its cubes under what surrounds it. Nothing rests on how they are found:
+//! whoever takes them asks first whether they say the same.
 
 use crate::shortening::{constraint_of, follows, joined_literals};
 use lois_base::{Constraint, Cube, Lit, NoMemory, Op};

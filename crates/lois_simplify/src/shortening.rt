@@ -6,7 +6,8 @@ ghost use Rattle.lois_base.specs.Atom.{Atom};
 ghost use Rattle.lois_base.specs.Fits.{ConstraintFits};
 ghost use Rattle.lois_base.specs.Truth.{lit_holds, cube_holds, holds};
 ghost use Rattle.lois_base.specs.Normal.{LitUses, GuardUses};
-ghost use Rattle.lois_base.specs.Validity.{AdmitsCube, AdmitsConstraint};
+ghost use Rattle.lois_base.specs.Validity.{AdmitsCube, AdmitsConstraint, IsStrictCube, IsStrictConstraint};
+ghost use Rattle.lois_base.specs.declared.guards.Lit.{Lit};
 ghost use Rattle.lois_constraint.specs.Normalised.{IsNormalised};
 ghost use Rattle.lois_simplify.specs.Plain.{IsPlain};
 ghost use Rattle.lois_simplify.specs.Shortened.{IsWeakenedCube, IsShortened, SpeaksOfBoth, SpeaksOfAll};
@@ -15,6 +16,7 @@ use crate::refuting::is_refuted;
 use crate::rewording::{is_worth_rewording, reading_length, reworded};
 use lois_base::{Constraint, Cube, Lit, NoMemory, Op};
 use lois_constraint::{alternatives, and_not, covers_cube, meet, normalise, prune, singleton};
+use lois_strict::split_constraint;
 use std::alloc::Global;
 
 // Each cube is compared with all others.
@@ -192,7 +194,7 @@ fn lit_uses_only(lit: &Lit, guard: &Constraint) -> bool
     speaks_of(guard, lit.left) && speaks_of(guard, lit.right)
 }
 
-// Whether the constraint has no `<`.
+// Whether the constraint has neither `<` nor `<=`.
 fn is_order_free(constraint: &Constraint) -> bool
     ensures { IsTrue result ↔ AdmitsConstraint false constraint.now }
 {
@@ -205,10 +207,12 @@ fn is_order_free(constraint: &Constraint) -> bool
 fn is_order_free_cube(cube: &Cube) -> bool
     ensures { IsTrue result ↔ AdmitsCube false cube.now }
 {
-    cube.as_slice().iter().all(|lit| lit.op != Op::Lt)
+    cube.as_slice()
+        .iter()
+        .all(|lit| lit.op != Op::Lt && lit.op != Op::AtMost)
 }
 
-// Whether the constraint has `<` only if the guard has it.
+// Whether the constraint compares by the order of atoms only if the guard does.
 fn has_no_more_order(constraint: &Constraint, guard: &Constraint) -> bool
     ensures { IsTrue result → (o : Bool) → AdmitsConstraint o guard.now → AdmitsConstraint o constraint.now }
 {
@@ -271,6 +275,33 @@ fn always_follows(alloc: Global, guard: &Constraint, under: &Constraint) -> Resu
     follows(alloc, guard, under)
 }
 
+// Whether the constraint has no `<=`.
+fn is_strict(constraint: &Constraint) -> bool
+    ensures { IsTrue result ↔ IsStrictConstraint constraint.now }
+{
+    constraint
+        .as_slice()
+        .iter()
+        .all(|cube| is_strict_cube(cube))
+}
+
+fn is_strict_cube(cube: &Cube) -> bool
+    ensures { IsTrue result ↔ IsStrictCube cube.now }
+{
+    cube.as_slice().iter().all(|lit| lit.op != Op::AtMost)
+}
+
+// The constraint as it is where it has no `<=`, and otherwise with cubes without `<=` in the place of those that have it.
+fn made_strict(alloc: Global, constraint: Constraint) -> Result<Constraint, NoMemory>
+    ensures shortened { IfOk result (λ r. (u : List (List Lit)) → IsShortened u constraint r) }
+    ensures strict { IfOk result IsStrictConstraint }
+{
+    if is_strict(&constraint) {
+        return Ok(constraint);
+    }
+    split_constraint(alloc, &constraint)
+}
+
 // A short constraint for the guard, where the search for it takes little time.
 fn reread(alloc: Global, guard: &Constraint, under: &Constraint) -> Result<Constraint, NoMemory>
     ensures { IfOk result (IsShortened under.now guard.now) }
@@ -285,8 +316,8 @@ fn reread(alloc: Global, guard: &Constraint, under: &Constraint) -> Result<Const
     shorter(alloc, short, guard, under)
 }
 
-/// A short constraint that holds at the same choices as the guard wherever `under` does: `true` where the guard holds wherever
-/// `under` does. Errors: `NoMemory`.
+/// A short constraint without `<=` that holds at the same choices as the guard wherever `under` does: `true` where the guard
+/// holds wherever `under` does. Errors: `NoMemory`.
 pub fn shortest(
     alloc: Global,
     guard: &Constraint,
@@ -299,12 +330,15 @@ pub fn shortest(
     if always_follows(alloc, guard, under)? {
         return Constraint::always(alloc);
     }
-    let short = reread(alloc, guard, under)?;
-    normalise(alloc, &short)
+    let own = guard.copy(alloc)?;
+    let whole = made_strict(alloc, own)?;
+    let short = reread(alloc, &whole, under)?;
+    let strict = made_strict(alloc, short)?;
+    normalise(alloc, &strict)
 }
 
 /// A constraint that holds at the same choices as the guard wherever `under` does. Where it is to be read it is the shortest
-/// that is found, and otherwise one that is found at once.
+/// without `<=` that is found, and otherwise one that is found at once.
 pub(crate) fn reduced(
     alloc: Global,
     guard: &Constraint,

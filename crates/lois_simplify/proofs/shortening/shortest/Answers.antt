@@ -1,8 +1,9 @@
-use Rattle.std.proofs.Common.{◌≡◌, [], ◌∷◌}
+use Rattle.std.proofs.Common.{◌≡◌, [], ◌∷◌, subst}
 use Rattle.std.proofs.lemmas.Result.{IfOk-weaker}
+use Rattle.lois_base.specs.Validity.{IsStrictConstraint}
 use Rattle.lois_simplify.specs.Shortened.{IsShortened}
-use Rattle.lois_simplify.proofs.Plain.{always_shortened, plain_elsewhere}
-use Rattle.lois_simplify.proofs.Shortened.{normalised_alike}
+use Rattle.lois_simplify.proofs.Plain.{always_shortened, always_is_plain, plain_answer}
+use Rattle.lois_simplify.proofs.Shortened.{normalised_alike, shortened_then}
 use Rattle.lois_simplify.proofs.shortening.shortest.Goals as goal
 
 pub returns-then-branch-clause-shortened : goal.returns-then-branch-clause-shortened
@@ -11,13 +12,22 @@ returns-then-branch-clause-shortened c =
     let g = c.args.guard.now in
     IfOk-weaker c.always.result (λ r. r ≡ [] ∷ []) (IsShortened u g) (λ r e. always_shortened u g r (c.in_ok-always_follows.ensures.yes c.if-branch.true) e) c.always.ensures
 
+pub returns-then-branch-clause-plain : goal.returns-then-branch-clause-plain
+returns-then-branch-clause-plain c =
+    IfOk-weaker c.always.result (λ r. r ≡ [] ∷ []) _ (λ r e n f h. always_is_plain r c.args.under.now n e) c.always.ensures
+
 pub returns-clause-shortened : goal.returns-clause-shortened
 returns-clause-shortened c =
+    let u = c.args.under.now in
+    let g = c.args.guard.now in
+    let whole = c.in_ok-whole.whole in
+    let short = c.in_ok-short.short in
+    let split : IsShortened u g whole = subst (λ z. IsShortened u z whole) c.in_ok-own.ensures (c.in_ok-whole.ensures.shortened u) in
+    let read : IsShortened u g short = shortened_then u g whole short split c.in_ok-short.ensures in
     let e = c.normalise.ensures in
-    normalised_alike c.args.under.now c.args.guard.now c.in_ok-short.short c.normalise.result c.in_ok-short.ensures e.truth e.fits e.operators
+    normalised_alike u g c.in_ok-strict.strict c.normalise.result (shortened_then u g short c.in_ok-strict.strict read (c.in_ok-strict.ensures.shortened u)) e.truth e.fits e.operators
 
 pub returns-clause-plain : goal.returns-clause-plain
 returns-clause-plain c =
-    let u = c.args.under.now in
-    let g = c.args.guard.now in
-    IfOk-weaker c.normalise.result (IsShortened u g) _ (λ r s. plain_elsewhere u g r s (c.in_ok-always_follows.ensures.no c.if-branch.false)) (returns-clause-shortened c)
+    let strict = IfOk-weaker c.normalise.result (λ r. IsStrictConstraint c.in_ok-strict.strict → IsStrictConstraint r) IsStrictConstraint (λ r h. h c.in_ok-strict.ensures.strict) c.normalise.ensures.strict in
+    plain_answer c.args.under.now c.args.guard.now c.normalise.result (c.in_ok-always_follows.ensures.no c.if-branch.false) (returns-clause-shortened c) strict
