@@ -7,7 +7,7 @@ ghost use Rattle.lois_base.specs.Truth.{holds};
 ghost use Rattle.lois_base.specs.Validity.{AdmitsConstraint};
 
 use lois_base::{Constraint, NoMemory};
-use lois_constraint::{and, meet, negate, or};
+use lois_constraint::{and, and_not, meet, or};
 use std::alloc::Global;
 
 /// The constraint that has this truth at every choice.
@@ -54,6 +54,5 @@ pub(crate) fn sought(
     if wanted {
         return meet(alloc, a, b);
     }
-    let denied = negate(alloc, b)?;
-    meet(alloc, a, &denied)
+    and_not(alloc, a, b)
 }
