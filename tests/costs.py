@@ -35,17 +35,6 @@ def names_of_states(count, slow):
             "let r = reach(product(m, m)); print r;")
 
 
-def order(count, slow):
-    """A product of states that keep increasing atoms, or such that don't decrease."""
-    names = [f"x{i}" for i in range(count)]
-    rising = [f"not {y} < {x}" if slow else f"{x} < {y}" for x, y in zip(names, names[1:])]
-    moved = [f"part(s, {i + 1}) = part(t, {i})" for i in range(1, count)]
-    return (f"atoms order;\nlet states = {{({listed(names)}) for {listed(x + ' in atoms' for x in names)} "
-            f"where {' and '.join(rising)}}};\nlet steps = {{(s, u, t) for s in states, t in states, u in atoms where "
-            f"part(t, {count}) = u and {' and '.join(moved)}}};\nlet m = (states, atoms, steps, states, states);\n"
-            "let r = reach(product(m, m)); print r;")
-
-
 def queue(last):
     """A queue with room for six atoms, and what is asked of it."""
     names = [f"x{i}" for i in range(7)]
@@ -74,7 +63,6 @@ HOISTED = ("let r = {s for s in states where s in {part(p, 1) for p in reach(pro
            "let k = {part(p, 1) for p in reach(product(m, m))}; let r = {s for s in states where s in k};")
 PAIRS = [("if, or a condition of a comprehension", cases(True), cases(False))]
 PAIRS += [(f"{n} states, named by parameters or tags", names_of_states(n, True), names_of_states(n, False)) for n in (4, 5, 6)]
-PAIRS += [(f"{n} atoms in order, with equal ones or without", order(n, True), order(n, False)) for n in (4, 5, 6)]
 PAIRS += [("common letters, by quantifiers or over steps", queue(COMMON[0]), queue(COMMON[1])),
           ("reach in a condition, or before", queue(HOISTED[0]), queue(HOISTED[1]))]
 
