@@ -41,7 +41,7 @@ module _ (ordered : Bool) (n : ℕ) (small : n ≤ 4) where
       let ka : k.left ≤ 4 = omega (arith, i.left, small) in
       let kb : k.right ≤ 4 = omega (arith, i.right, small) in
       let one = operand_unique l.left k.left (op_text l.op ++ operand_text l.right) (op_text k.op ++ operand_text k.right) la ka (sym (literal_is l la lb) ∙ (e ∙ literal_is k ka kb)) in
-      let two = op_unique l.op k.op (operand_text l.right) (operand_text k.right) one.1 in
+      let two = op_unique l.op k.op (operand_text l.right) (operand_text k.right) h.strict i.strict one.1 in
       let three = operand_unique l.right k.right [] [] lb kb (append-nil (operand_text l.right) ∙ (two.1 ∙ sym (append-nil (operand_text k.right)))) in
       ap (λ z. record { op = z; left = l.left; right = l.right }) two.0 ∙ (ap (λ z. record { op = k.op; left = z; right = l.right }) one.0 ∙ ap (λ z. record { op = k.op; left = k.left; right = z }) three.0)
 

@@ -9,7 +9,7 @@ use Rattle.lois_answers.specs.Sound.{IsFreeName, IsSoundTerm, IsSoundLine, IsSou
 use Rattle.lois_base.proofs.Connectives.{both_true}
 use Rattle.lois_base.specs.Data.{TermD}
 use Rattle.lois_base.specs.Fits.{CubeFits, LitFits}
-use Rattle.lois_base.specs.Validity.{AdmitsCube, AdmitsLit}
+use Rattle.lois_base.specs.Validity.{AdmitsCube, AdmitsLit, IsStrictCube, IsStrictLit}
 use Rattle.lois_lexer.specs.Words.{reserved}
 use Rattle.lois_registers.proofs.Members.{contains_cases}
 
@@ -37,6 +37,7 @@ one_line_sound o t parameters cases sound none is =
     let good : IsSoundCase o 0 case = record {
       levels = All-cons (CubeFits 0) [] [] (All-nil (LitFits 0)) (All-nil (CubeFits 0));
       operators = All-cons (AdmitsCube o) [] [] (All-nil (AdmitsLit o)) (All-nil (AdmitsCube o));
+      strict = All-cons IsStrictCube [] [] (All-nil IsStrictLit) (All-nil IsStrictCube);
       lines = All-cons (IsSoundLine o 0) (record { name = codes "automaton"; term = t }) [] line (All-nil (IsSoundLine o 0));
     } in
     subst (λ z. IsSound (record { order = o; parameters = z; cases = cases })) (sym none)

@@ -7,7 +7,7 @@ use Rattle.std.proofs.lemmas.List.Elements.{All-nil, All-cons, All-head, All-tai
 use Rattle.lois_base.specs.Atom.{Atom}
 use Rattle.lois_base.specs.Fits.{LitFits, CubeFits, ConstraintFits}
 use Rattle.lois_base.specs.Truth.{atom_at, op_holds, lit_holds, cube_holds, holds}
-use Rattle.lois_base.specs.Validity.{AdmitsLit, AdmitsCube, AdmitsConstraint, is_admitted}
+use Rattle.lois_base.specs.Validity.{AdmitsLit, AdmitsCube, AdmitsConstraint, IsStrictLit, IsStrictCube, IsStrictConstraint, is_admitted, is_strict}
 use Rattle.lois_base.specs.declared.guards.Lit.{Lit}
 use Rattle.lois_base.specs.declared.guards.Op.{Op}
 use Rattle.lois_registers.specs.Placed.{placed_literal, placed_lit, with_literal, placed, constraint_of_cube, placed_guard}
@@ -89,32 +89,42 @@ level_below n (Some k ∷ os) (suc i) j h e = level_below n os i j h.1 e
 
 abbrev IsSoundLit : ℕ → Bool → Option Lit → Type 0
 IsSoundLit n o None = Unit {0}
-IsSoundLit n o (Some l) = LitFits n l × AdmitsLit o l
+IsSoundLit n o (Some l) = LitFits n l × AdmitsLit o l × IsStrictLit l
 
-lit_sound : (n : ℕ) (o : Bool) (op : Op) (u v : Option ℕ) → ((i : ℕ) → u ≡ Some i → i < n) → ((i : ℕ) → v ≡ Some i → i < n) → IsTrue (is_admitted o op) → IsSoundLit n o (placed_literal op u v)
-lit_sound n o op (Some i) (Some j) h k a = ((h i refl, k j refl), a)
-lit_sound n o op None v h k a = tt
-lit_sound n o op (Some i) None h k a = tt
+lit_sound : (n : ℕ) (o : Bool) (op : Op) (u v : Option ℕ) → ((i : ℕ) → u ≡ Some i → i < n) → ((i : ℕ) → v ≡ Some i → i < n) → IsTrue (is_admitted o op) → IsTrue (is_strict op) → IsSoundLit n o (placed_literal op u v)
+lit_sound n o op (Some i) (Some j) h k a s = ((h i refl, k j refl), a, s)
+lit_sound n o op None v h k a s = tt
+lit_sound n o op (Some i) None h k a s = tt
 
 abbrev IsSoundCube : ℕ → Bool → Option (List Lit) → Type 0
 IsSoundCube n o None = Unit {0}
-IsSoundCube n o (Some ls) = CubeFits n ls × AdmitsCube o ls
+IsSoundCube n o (Some ls) = CubeFits n ls × AdmitsCube o ls × IsStrictCube ls
 
 add_sound : (n : ℕ) (o : Bool) (l : Option Lit) (ls : Option (List Lit)) → IsSoundLit n o l → IsSoundCube n o ls → IsSoundCube n o (with_literal l ls)
-add_sound n o (Some l) (Some ls) h k = (All-cons (LitFits n) l ls h.0 k.0, All-cons (AdmitsLit o) l ls h.1 k.1)
+add_sound n o (Some l) (Some ls) h k = (All-cons (LitFits n) l ls h.0 k.0, All-cons (AdmitsLit o) l ls h.1 k.1, All-cons IsStrictLit l ls h.2 k.2)
 add_sound n o None ls h k = tt
 add_sound n o (Some l) None h k = tt
 
-cube_sound : (n : ℕ) (o : Bool) (os : List (Option ℕ)) (g : List Lit) → AreBelow n os → AdmitsCube o g → IsSoundCube n o (placed os g)
-cube_sound n o os [] b h = (All-nil (LitFits n), All-nil (AdmitsLit o))
-cube_sound n o os (l ∷ g) b h =
+cube_sound : (n : ℕ) (o : Bool) (os : List (Option ℕ)) (g : List Lit) → AreBelow n os → AdmitsCube o g → IsStrictCube g → IsSoundCube n o (placed os g)
+cube_sound n o os [] b h s = (All-nil (LitFits n), All-nil (AdmitsLit o), All-nil IsStrictLit)
+cube_sound n o os (l ∷ g) b h s =
     add_sound n o (placed_lit os l) (placed os g)
-    (lit_sound n o l.op (slice_index_or os l.left None) (slice_index_or os l.right None) (λ i e. level_below n os l.left i b e) (λ i e. level_below n os l.right i b e) (All-head (AdmitsLit o) l g h))
-    (cube_sound n o os g b (All-tail (AdmitsLit o) l g h))
+    (lit_sound n o l.op (slice_index_or os l.left None) (slice_index_or os l.right None) (λ i e. level_below n os l.left i b e) (λ i e. level_below n os l.right i b e) (All-head (AdmitsLit o) l g h) (All-head IsStrictLit l g s))
+    (cube_sound n o os g b (All-tail (AdmitsLit o) l g h) (All-tail IsStrictLit l g s))
 
-guard_sound : (n : ℕ) (o : Bool) (c : Option (List Lit)) → IsSoundCube n o c → ConstraintFits n (constraint_of_cube c) × AdmitsConstraint o (constraint_of_cube c)
-guard_sound n o None h = (All-nil (CubeFits n), All-nil (AdmitsCube o))
-guard_sound n o (Some ls) h = (All-cons (CubeFits n) ls [] h.0 (All-nil (CubeFits n)), All-cons (AdmitsCube o) ls [] h.1 (All-nil (AdmitsCube o)))
+-- what the guard of a sound comprehension inside n levels is
+pub record IsSoundGuard (n : ℕ) (o : Bool) (g : List (List Lit)) : Type 0 where
+  pub levels : ConstraintFits n g
+  pub operators : AdmitsConstraint o g
+  pub strict : IsStrictConstraint g
 
-pub placed_sound : (n : ℕ) (o : Bool) (os : List (Option ℕ)) (g : List Lit) → AreBelow n os → AdmitsCube o g → ConstraintFits n (placed_guard os g) × AdmitsConstraint o (placed_guard os g)
-placed_sound n o os g b h = guard_sound n o (placed os g) (cube_sound n o os g b h)
+guard_sound : (n : ℕ) (o : Bool) (c : Option (List Lit)) → IsSoundCube n o c → IsSoundGuard n o (constraint_of_cube c)
+guard_sound n o None h = record { levels = All-nil (CubeFits n); operators = All-nil (AdmitsCube o); strict = All-nil IsStrictCube }
+guard_sound n o (Some ls) h = record {
+  levels = All-cons (CubeFits n) ls [] h.0 (All-nil (CubeFits n));
+  operators = All-cons (AdmitsCube o) ls [] h.1 (All-nil (AdmitsCube o));
+  strict = All-cons IsStrictCube ls [] h.2 (All-nil IsStrictCube);
+}
+
+pub placed_sound : (n : ℕ) (o : Bool) (os : List (Option ℕ)) (g : List Lit) → AreBelow n os → AdmitsCube o g → IsStrictCube g → IsSoundGuard n o (placed_guard os g)
+placed_sound n o os g b h s = guard_sound n o (placed os g) (cube_sound n o os g b h s)

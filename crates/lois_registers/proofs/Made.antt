@@ -6,9 +6,9 @@ use Rattle.lois_base.specs.Atom.{Atom}
 use Rattle.lois_base.specs.Data.{TermD, CompD, comp, comps_of, depth_of_comp, depth_of_comps}
 use Rattle.lois_base.specs.Fits.{CompFits, ItemsFit}
 use Rattle.lois_base.specs.Truth.{holds}
-use Rattle.lois_base.specs.Validity.{AdmitsComp, AdmitsItems, CompHasBoundedWidths, ItemsHaveBoundedWidths}
+use Rattle.lois_base.specs.Validity.{AdmitsComp, AdmitsItems, CompIsStrict, ItemsAreStrict, CompHasBoundedWidths, ItemsHaveBoundedWidths}
 use Rattle.lois_base.specs.Values.{MakesAt, MemberAt}
-use Rattle.lois_base.specs.Validity.{AdmitsConstraint}
+use Rattle.lois_base.specs.Validity.{AdmitsConstraint, IsStrictConstraint}
 use Rattle.lois_base.specs.Fits.{ConstraintFits}
 use Rattle.lois_base.specs.declared.guards.Lit.{Lit}
 use Rattle.lois_base.proofs.Validity.{all_that_are}
@@ -86,6 +86,9 @@ fits_made n (comp m g t) (comp o h s) (i, j, same) f = go m o t s i j f
 pub admits_made : (o : Bool) (k l : CompD) → IsSpelledComp k l → AdmitsComp o k → AdmitsComp o l
 admits_made o (comp m g t) (comp n h s) (i, j, same) f = subst (λ z. AdmitsComp o (comp n h z)) j (same.operators o f.0, f.1)
 
+pub strict_made : (k l : CompD) → IsSpelledComp k l → CompIsStrict k → CompIsStrict l
+strict_made (comp m g t) (comp n h s) (i, j, same) f = subst (λ z. CompIsStrict (comp n h z)) j (same.strict f.0, f.1)
+
 pub widths_made : (k l : CompD) → IsSpelledComp k l → CompHasBoundedWidths k → CompHasBoundedWidths l
 widths_made (comp m g t) (comp n h s) (i, j, same) f = subst (λ z. CompHasBoundedWidths (comp n h z)) j f
 
@@ -104,6 +107,10 @@ pub items_admit : (o : Bool) (ks : List CompD) → Each (AdmitsComp o) ks → Ad
 items_admit o [] h = tt
 items_admit o (k ∷ ks) h = (h.0, items_admit o ks h.1)
 
+pub items_strict : (ks : List CompD) → Each CompIsStrict ks → ItemsAreStrict (comps_of ks)
+items_strict [] h = tt
+items_strict (k ∷ ks) h = (h.0, items_strict ks h.1)
+
 pub items_widths : (ks : List CompD) → Each CompHasBoundedWidths ks → ItemsHaveBoundedWidths (comps_of ks)
 items_widths [] h = tt
 items_widths (k ∷ ks) h = (h.0, items_widths ks h.1)
@@ -117,9 +124,9 @@ items_depth d [] h = omega arith
 items_depth d (k ∷ ks) h = omega (arith, h.0, items_depth d ks h.1)
 
 -- the guard that a step got
-pub guard_made : (g placed guard : List (List Lit)) → placed ≡ g → ((c : List Atom) → holds c guard ≡ holds c placed) → ((n : ℕ) → ConstraintFits n placed → ConstraintFits n guard) → ((o : Bool) → AdmitsConstraint o placed → AdmitsConstraint o guard) → HasGuard g guard
-guard_made g placed guard e truth fits operators =
-    subst (λ z. HasGuard z guard) e (record { truth = truth; levels = fits; operators = operators })
+pub guard_made : (g placed guard : List (List Lit)) → placed ≡ g → ((c : List Atom) → holds c guard ≡ holds c placed) → ((n : ℕ) → ConstraintFits n placed → ConstraintFits n guard) → ((o : Bool) → AdmitsConstraint o placed → AdmitsConstraint o guard) → (IsStrictConstraint placed → IsStrictConstraint guard) → HasGuard g guard
+guard_made g placed guard e truth fits operators strict =
+    subst (λ z. HasGuard z guard) e (record { truth = truth; levels = fits; operators = operators; strict = strict })
 
 pub guard_idle : (m : ℕ) (t : TermD) (g placed guard : List (List Lit)) → placed ≡ g → ((c : List Atom) → holds c guard ≡ holds c placed) → guard ≡ [] → IsIdle (comp m g t)
 guard_idle m t g placed guard e truth none c =

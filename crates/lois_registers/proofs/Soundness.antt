@@ -8,15 +8,15 @@ use Rattle.lois_answers.specs.Sound.{HasTags, PartsHaveTags, CompHasTags, IsSoun
 use Rattle.lois_base.specs.Data.{TermD, var, tup, coll, terms_of, CompD, comp, comps_of, depth, depth_of_parts, depth_of_comp}
 use Rattle.lois_base.specs.Fits.{Fits, PartsFit, CompFits, CubeFits, ConstraintFits}
 use Rattle.lois_base.specs.Names.{IsName}
-use Rattle.lois_base.specs.Validity.{AdmitsTerm, AdmitsParts, AdmitsComp, AdmitsCube, AdmitsConstraint, AdmitsLit, HasBoundedWidths, PartsHaveBoundedWidths, CompHasBoundedWidths, count_of_parts}
+use Rattle.lois_base.specs.Validity.{AdmitsTerm, AdmitsParts, AdmitsComp, AdmitsCube, AdmitsLit, IsStrictTerm, PartsAreStrict, CompIsStrict, IsStrictCube, IsStrictLit, HasBoundedWidths, PartsHaveBoundedWidths, CompHasBoundedWidths, count_of_parts}
 use Rattle.lois_base.specs.declared.guards.Lit.{Lit}
 use Rattle.lois_registers.specs.Placed.{full, placements, content_term, configuration_term, configuration_comp, configurations, step_item, step_comp, step_comps, AreMade, IsSpelledComp}
 use Rattle.lois_registers.specs.Runs.{stored_from}
 use Rattle.lois_registers.specs.Valid.{IsRegStep, IsLiteral}
 use Rattle.lois_registers.specs.declared.automata.RegStep.{RegStep}
 use Rattle.lois_registers.proofs.Contents.{AreBelow, below_stored, length_stored, full_few, IsPlace, place_is, below_more}
-use Rattle.lois_registers.proofs.Guards.{placed_sound}
-use Rattle.lois_registers.proofs.Made.{each_made, fits_made, admits_made, widths_made, tags_made, depth_made, items_fit, items_admit, items_widths, items_tags, items_depth}
+use Rattle.lois_registers.proofs.Guards.{IsSoundGuard, placed_sound}
+use Rattle.lois_registers.proofs.Made.{each_made, fits_made, admits_made, strict_made, widths_made, tags_made, depth_made, items_fit, items_admit, items_strict, items_widths, items_tags, items_depth}
 use Rattle.lois_registers.proofs.Members.{Each, each_flat, each_map}
 
 -- a sound set without free levels, in which few brackets are open
@@ -33,6 +33,7 @@ record IsSoundItem (o : Bool) (n d : ℕ) (t : TermD) : Type 0 where
   tags : HasTags t
   widths : HasBoundedWidths t
   operators : AdmitsTerm o t
+  strict : IsStrictTerm t
   low : depth t ≤ d
 
 parts_fit : (n : ℕ) (os : List (Option ℕ)) → AreBelow n os → PartsFit n (terms_of (map content_term os))
@@ -55,6 +56,11 @@ parts_admit o [] = tt
 parts_admit o (None ∷ os) = (tt, parts_admit o os)
 parts_admit o (Some i ∷ os) = (tt, parts_admit o os)
 
+parts_strict : (os : List (Option ℕ)) → PartsAreStrict (terms_of (map content_term os))
+parts_strict [] = tt
+parts_strict (None ∷ os) = (tt, parts_strict os)
+parts_strict (Some i ∷ os) = (tt, parts_strict os)
+
 parts_count : (os : List (Option ℕ)) → count_of_parts (terms_of (map content_term os)) ≡ length os
 parts_count [] = refl
 parts_count (o ∷ os) = ap suc (parts_count os)
@@ -70,6 +76,7 @@ configuration_sound o n name os is some few below = record {
   tags = (is, parts_tags os);
   widths = (omega (arith, parts_count os), omega (arith, parts_count os), (tt, parts_widths os));
   operators = (tt, parts_admit o os);
+  strict = (tt, parts_strict os);
   low = omega (arith, parts_low os);
 }
 
@@ -79,24 +86,27 @@ record IsSoundComp (o : Bool) (d : ℕ) (k : CompD) : Type 0 where
   tags : CompHasTags k
   widths : CompHasBoundedWidths k
   operators : AdmitsComp o k
+  strict : CompIsStrict k
   low : depth_of_comp k ≤ d
 
-comp_sound : (o : Bool) (d m : ℕ) (g : List (List Lit)) (t : TermD) → m < 2 ^ 64 → ConstraintFits m g → AdmitsConstraint o g → IsSoundItem o m d t → IsSoundComp o d (comp m g t)
-comp_sound o d m g t few fits admits item =
+comp_sound : (o : Bool) (d m : ℕ) (g : List (List Lit)) (t : TermD) → m < 2 ^ 64 → IsSoundGuard m o g → IsSoundItem o m d t → IsSoundComp o d (comp m g t)
+comp_sound o d m g t few guard item =
     let same : m ≡ 0 + m = sym (zero-add m) in
     record {
-      levels = (omega arith, subst (λ z. ConstraintFits z g) same fits, subst (λ z. Fits z t) same item.levels);
+      levels = (omega arith, subst (λ z. ConstraintFits z g) same guard.levels, subst (λ z. Fits z t) same item.levels);
       tags = item.tags;
       widths = item.widths;
-      operators = (admits, item.operators);
+      operators = (guard.operators, item.operators);
+      strict = (guard.strict, item.strict);
       low = item.low;
     }
 
-always_fits : (n : ℕ) → ConstraintFits n ([] ∷ [])
-always_fits n = All-cons (CubeFits n) [] [] (All-nil _) (All-nil (CubeFits n))
-
-always_admits : (o : Bool) → AdmitsConstraint o ([] ∷ [])
-always_admits o = All-cons (AdmitsCube o) [] [] (All-nil (AdmitsLit o)) (All-nil (AdmitsCube o))
+always_sound : (n : ℕ) (o : Bool) → IsSoundGuard n o ([] ∷ [])
+always_sound n o = record {
+  levels = All-cons (CubeFits n) [] [] (All-nil _) (All-nil (CubeFits n));
+  operators = All-cons (AdmitsCube o) [] [] (All-nil (AdmitsLit o)) (All-nil (AdmitsCube o));
+  strict = All-cons IsStrictCube [] [] (All-nil IsStrictLit) (All-nil IsStrictCube);
+}
 
 set_sound : (o : Bool) (d : ℕ) (ks : List CompD) → d ≤ 2 → Each (IsSoundComp o d) ks → IsSoundPart o (coll (comps_of ks))
 set_sound o d ks l h = record {
@@ -105,6 +115,7 @@ set_sound o d ks l h = record {
     tags = items_tags ks (each CompHasTags (λ k i. i.tags) ks h);
     widths = items_widths ks (each CompHasBoundedWidths (λ k i. i.widths) ks h);
     operators = items_admit o ks (each (AdmitsComp o) (λ k i. i.operators) ks h);
+    strict = items_strict ks (each CompIsStrict (λ k i. i.strict) ks h);
     brackets = omega (arith, items_depth d ks (each (λ k. depth_of_comp k ≤ d) (λ k i. i.low) ks h));
   };
   low = omega (arith, items_depth d ks (each (λ k. depth_of_comp k ≤ d) (λ k i. i.low) ks h));
@@ -121,7 +132,7 @@ module _ (o : Bool) (k : ℕ) (some : 1 ≤ k) (few : k ≤ 4) where
       one : (name : List ℕ) → IsName name → (os : List (Option ℕ)) → Contains (placements k) os → IsSoundComp o 1 (configuration_comp name os)
       one name is os j =
           let place = place_is k os j in
-          comp_sound o 1 (full os) ([] ∷ []) (configuration_term name os) (omega (arith, full_few os, place.count)) (always_fits (full os)) (always_admits o) (configuration_sound o (full os) name os is (omega (arith, place.count)) (omega (arith, place.count)) place.below)
+          comp_sound o 1 (full os) ([] ∷ []) (configuration_term name os) (omega (arith, full_few os, place.count)) (always_sound (full os) o) (configuration_sound o (full os) name os is (omega (arith, place.count)) (omega (arith, place.count)) place.below)
 
   step_sound : (states : List (List ℕ)) → All IsName states → (s : RegStep) → IsRegStep o k states s → (os : List (Option ℕ)) → IsPlace k os → IsSoundComp o 2 (step_comp s os)
   step_sound states names s valid os place =
@@ -131,7 +142,7 @@ module _ (o : Bool) (k : ℕ) (some : 1 ≤ k) (few : k ≤ 4) where
       let after : List (Option ℕ) = stored_from 1 s.stored m os in
       let count : length after ≡ k = length_stored 1 s.stored m os ∙ place.count in
       let within : m < n = omega arith in
-      let guard = placed_sound n o (Some m ∷ os) s.guard (within, below) (All-weaker (IsLiteral o k) (AdmitsLit o) (λ l h. h.operator) s.guard valid.guard.literals) in
+      let guard = placed_sound n o (Some m ∷ os) s.guard (within, below) (All-weaker (IsLiteral o k) (AdmitsLit o) (λ l h. h.operator) s.guard valid.guard.literals) (All-weaker (IsLiteral o k) IsStrictLit (λ l h. h.strict) s.guard valid.guard.literals) in
       let from = configuration_sound o n s.from os (All-contains IsName states s.from names valid.from) (omega (arith, place.count)) (omega (arith, place.count)) below in
       let to = configuration_sound o n s.to after (All-contains IsName states s.to names valid.to) (omega (arith, count)) (omega (arith, count)) (below_stored n 1 s.stored m os within below) in
       let item : IsSoundItem o n 2 (step_item s os) = record {
@@ -139,9 +150,10 @@ module _ (o : Bool) (k : ℕ) (some : 1 ≤ k) (few : k ≤ 4) where
         tags = (from.tags, (tt, (to.tags, tt)));
         widths = (omega arith, omega arith, (from.widths, (tt, (to.widths, tt))));
         operators = (from.operators, (tt, (to.operators, tt)));
+        strict = (from.strict, (tt, (to.strict, tt)));
         low = omega (arith, from.low, to.low);
       } in
-      comp_sound o 2 n _ (step_item s os) (omega (arith, full_few os, place.count)) guard.0 guard.1 item
+      comp_sound o 2 n _ (step_item s os) (omega (arith, full_few os, place.count)) guard item
 
   pub steps_sound : (states : List (List ℕ)) → All IsName states → (steps : List RegStep) → All (IsRegStep o k states) steps → (made : List CompD) → AreMade (step_comps (placements k) steps) made → IsSoundPart o (coll (comps_of made))
   steps_sound states names steps are made h =
@@ -153,6 +165,7 @@ module _ (o : Bool) (k : ℕ) (some : 1 ≤ k) (few : k ≤ 4) where
         tags = tags_made a b is h.tags;
         widths = widths_made a b is h.widths;
         operators = admits_made o a b is h.operators;
+        strict = strict_made a b is h.strict;
         low = depth_made 2 a b is h.low;
       }
 
@@ -164,11 +177,11 @@ module _ (o : Bool) (k : ℕ) (some : 1 ≤ k) (few : k ≤ 4) where
   first_sound name is =
       let os : List (Option ℕ) = replicate k None in
       let count : length os ≡ k = length-replicate k None in
-      set_sound o 1 (comp 0 ([] ∷ []) (configuration_term name os) ∷ []) (omega arith) (comp_sound o 1 0 ([] ∷ []) (configuration_term name os) (omega arith) (always_fits 0) (always_admits o) (configuration_sound o 0 name os is (omega arith) (omega arith) (empty_below 0 k)), tt)
+      set_sound o 1 (comp 0 ([] ∷ []) (configuration_term name os) ∷ []) (omega arith) (comp_sound o 1 0 ([] ∷ []) (configuration_term name os) (omega arith) (always_sound 0 o) (configuration_sound o 0 name os is (omega arith) (omega arith) (empty_below 0 k)), tt)
 
 pub atoms_sound : (o : Bool) → IsSoundPart o (coll (comps_of (comp 1 ([] ∷ []) (var 0) ∷ [])))
 atoms_sound o =
-    set_sound o 0 (comp 1 ([] ∷ []) (var 0) ∷ []) (omega arith) (comp_sound o 0 1 ([] ∷ []) (var 0) (omega arith) (always_fits 1) (always_admits o) (record { levels = omega arith; tags = tt; widths = tt; operators = tt; low = omega arith }), tt)
+    set_sound o 0 (comp 1 ([] ∷ []) (var 0) ∷ []) (omega arith) (comp_sound o 0 1 ([] ∷ []) (var 0) (omega arith) (always_sound 1 o) (record { levels = omega arith; tags = tt; widths = tt; operators = tt; strict = tt; low = omega arith }), tt)
 
 -- a tuple of five sound sets
 pub five_sound : (o : Bool) (a b c d e : TermD) → IsSoundPart o a → IsSoundPart o b → IsSoundPart o c → IsSoundPart o d → IsSoundPart o e → IsSoundTerm o 0 (tup (terms_of (a ∷ b ∷ c ∷ d ∷ e ∷ [])))
@@ -177,5 +190,6 @@ five_sound o a b c d e ha hb hc hd he = record {
   tags = (ha.sound.tags, (hb.sound.tags, (hc.sound.tags, (hd.sound.tags, (he.sound.tags, tt)))));
   widths = (omega arith, omega arith, (ha.sound.widths, (hb.sound.widths, (hc.sound.widths, (hd.sound.widths, (he.sound.widths, tt))))));
   operators = (ha.sound.operators, (hb.sound.operators, (hc.sound.operators, (hd.sound.operators, (he.sound.operators, tt)))));
+  strict = (ha.sound.strict, (hb.sound.strict, (hc.sound.strict, (hd.sound.strict, (he.sound.strict, tt)))));
   brackets = omega (arith, ha.low, hb.low, hc.low, hd.low, he.low);
 }

@@ -10,7 +10,7 @@ use Rattle.lois_answers.specs.TermText.{literal_text, op_text}
 use Rattle.lois_base.specs.Names.{IsName}
 use Rattle.lois_base.specs.declared.guards.Lit.{Lit}
 use Rattle.lois_base.specs.declared.guards.Op.{Op}
-use Rattle.lois_base.specs.declared.guards.Op.TheVariants.{Eq, Ne, Lt}
+use Rattle.lois_base.specs.declared.guards.Op.TheVariants.{Eq, Ne, Lt, AtMost}
 use Rattle.lois_base.proofs.Connectives.{both_true}
 use Rattle.lois_registers.specs.Reading.{is_clean, AreWords, AreOf, IsCutAt}
 use Rattle.lois_registers.specs.Texts.{operand_names, operand_text, digit, joined_by_and, guard_words, stored_words, step_words}
@@ -83,6 +83,7 @@ op_clean : (op : Op) → IsTrue (is_clean (op_text op))
 op_clean Eq = refl
 op_clean Ne = refl
 op_clean Lt = refl
+op_clean AtMost = refl
 
 pub digit_clean : (i : ℕ) → i ≤ 4 → IsTrue (is_clean (digit i))
 digit_clean zero l = refl

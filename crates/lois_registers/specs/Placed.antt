@@ -5,7 +5,7 @@ use Rattle.lois_base.specs.Atom.{Atom}
 use Rattle.lois_base.specs.Data.{TermD, var, tag, tup, no_terms, term, terms_of, CompD, comp}
 use Rattle.lois_base.specs.Fits.{ConstraintFits}
 use Rattle.lois_base.specs.Truth.{holds}
-use Rattle.lois_base.specs.Validity.{AdmitsConstraint}
+use Rattle.lois_base.specs.Validity.{AdmitsConstraint, IsStrictConstraint}
 use Rattle.lois_base.specs.declared.guards.Lit.{Lit}
 use Rattle.lois_base.specs.declared.guards.Op.{Op}
 use Rattle.lois_registers.specs.Runs.{stored_from}
@@ -91,6 +91,7 @@ pub record HasGuard (g h : List (List Lit)) : Type 0 where
   pub truth : (c : List Atom) → holds c h ≡ holds c g
   pub levels : (n : ℕ) → ConstraintFits n g → ConstraintFits n h
   pub operators : (o : Bool) → AdmitsConstraint o g → AdmitsConstraint o h
+  pub strict : IsStrictConstraint g → IsStrictConstraint h
 
 abbrev pub IsSpelledComp : CompD → CompD → Type 0
 IsSpelledComp (comp m g t) (comp n h s) = (m ≡ n) × (t ≡ s) × HasGuard g h

@@ -3,7 +3,7 @@ use Rattle.std.specs.Prelude.{ℕ, ◌<◌, ◌≤◌, Bool, List, [], ◌∷◌
 use Rattle.std.specs.List.{All, Contains}
 use Rattle.lois_answers.specs.Sound.{AreDistinct}
 use Rattle.lois_base.specs.Names.{IsName}
-use Rattle.lois_base.specs.Validity.{AdmitsLit}
+use Rattle.lois_base.specs.Validity.{AdmitsLit, IsStrictLit}
 use Rattle.lois_base.specs.declared.guards.Lit.{Lit}
 use Rattle.lois_registers.specs.declared.automata.RegStep.{RegStep}
 use Rattle.lois_registers.specs.declared.automata.Registers.{Registers}
@@ -28,11 +28,12 @@ pub record AreListed (states names : List (List ℕ)) : Type 0 where
   pub listed : All (Contains states) names
   pub distinct : AreDistinct names
 
--- a literal over the letter and k registers, with `<` only where atoms are ordered
+-- a literal over the letter and k registers, with `<` only where atoms are ordered, and no `<=`
 pub record IsLiteral (ordered : Bool) (k : ℕ) (l : Lit) : Type 0 where
   pub left : l.left ≤ k
   pub right : l.right ≤ k
   pub operator : AdmitsLit ordered l
+  pub strict : IsStrictLit l
 
 -- at least one literal
 pub record AreLiterals (ordered : Bool) (k : ℕ) (ls : List Lit) : Type 0 where

@@ -4,7 +4,7 @@ ghost use Rattle.std.specs.Prelude.{◌≡◌, ℕ, ◌+◌, ◌≤◌, List, �
 ghost use Rattle.std.specs.List.{All};
 ghost use Rattle.lois_answers.specs.TermText.{literal_text, op_text};
 ghost use Rattle.lois_base.specs.Names.{IsName};
-ghost use Rattle.lois_base.specs.Validity.{is_admitted};
+ghost use Rattle.lois_base.specs.Validity.{is_admitted, is_strict};
 ghost use Rattle.lois_registers.specs.Reading.{IsLeftAt, BeginsWithNoLine, AreOf, IsCutAt};
 ghost use Rattle.lois_registers.specs.Texts.{text_of_words, operand_names, operand_text, digit, guard_words, linked_words, stored_words, step_words};
 ghost use Rattle.lois_registers.specs.Valid.{IsCount, IsLiteral, AreLiterals, IsGuard, AreIncreasing, IsRegStep};
@@ -56,8 +56,8 @@ fn number(digit: u8, registers: u32) -> Option<u32>
 
 /// The operator at the front, and what follows it.
 fn operator(ordered: bool, text: &[u8]) -> Option<(Op, &[u8])>
-    ensures some { IfSome result (λ x. IsTrue (is_admitted ordered x.0) × (text.now ≡ op_text x.0 ++ x.1.now)) }
-    ensures none { IfNone result ((op : Op) (rest : List ℕ) → IsTrue (is_admitted ordered op) → text.now ≡ op_text op ++ rest → ⊥) }
+    ensures some { IfSome result (λ x. IsTrue (is_admitted ordered x.0) × IsTrue (is_strict x.0) × (text.now ≡ op_text x.0 ++ x.1.now)) }
+    ensures none { IfNone result ((op : Op) (rest : List ℕ) → IsTrue (is_admitted ordered op) → IsTrue (is_strict op) → text.now ≡ op_text op ++ rest → ⊥) }
 {
     match text {
         [b'=', rest @ ..] => Some((Op::Eq, rest)),

@@ -27,5 +27,5 @@ returns c =
     let is : c.in_ok-placed.placed ≡ g =
     c.in_ok-placed.ensures ∙ (ap (λ z. placed_guard (Some z ∷ c.contents.result.now) c.args.step.now.guard) c.levels-letter.ensures.counted ∙ ap (λ z. placed_guard (Some (full os) ∷ z) c.args.step.now.guard) c.contents.ensures.same) in
     let binders : full os + 1 ≡ c.levels-letter.result + 1 = ap (λ z. z + 1) (sym c.levels-letter.ensures.counted) in
-    let guard = guard_made g c.in_ok-placed.placed c.in_ok-guard.guard is c.in_ok-guard.ensures.truth c.in_ok-guard.ensures.fits c.in_ok-guard.ensures.operators in
+    let guard = guard_made g c.in_ok-placed.placed c.in_ok-guard.guard is c.in_ok-guard.ensures.truth c.in_ok-guard.ensures.fits c.in_ok-guard.ensures.operators c.in_ok-guard.ensures.strict in
     on_ok_weaker c.push.result (λ e. adds_one (step_comp c.args.step.now os) (comp (c.levels-letter.result + 1) c.in_ok-guard.guard (tree c.in_ok-item.item)) c.args.comps.now c.push.new.self e (binders, sym c.in_ok-item.ensures, guard)) c.push.ensures.ok
