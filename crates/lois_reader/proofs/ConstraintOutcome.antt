@@ -1,11 +1,13 @@
 -- What reading gives on the pieces of operands, literals and constraints.
 use Rattle.std.proofs.Common.{◌≡◌, ℕ, suc, ◌+◌, ◌<◌, ◌≤◌, Bool, true, false, cond, not, ◌&&◌, List, [], ◌∷◌, ◌++◌, length, map, Option, Some, None, Result, Ok, Err, refl, ap, ◌∙◌, append_assoc, arith, length-append}
-use Rattle.std.specs.Prelude.{codes, bytes_eq, nat_le, nat_lt}
+use Rattle.std.specs.Prelude.{codes, bytes_eq, nat_le, nat_lt, IsTrue}
 use Rattle.std.specs.List.{AllByRecursion, list_any, position_or_len}
+use Rattle.std.proofs.lemmas.Bool.{false≢true}
 use Rattle.std.proofs.lemmas.Bool.Decides.{nat_tests}
+use Rattle.lois_base.specs.Validity.{is_strict}
 use Rattle.lois_base.specs.declared.guards.Lit.{Lit}
 use Rattle.lois_base.specs.declared.guards.Op.{Op}
-use Rattle.lois_base.specs.declared.guards.Op.TheVariants.{Eq, Ne, Lt}
+use Rattle.lois_base.specs.declared.guards.Op.TheVariants.{Eq, Ne, Lt, AtMost}
 use Rattle.lois_lexer.specs.Forms.{is_word_form}
 use Rattle.lois_reader.specs.declared.scope.Scope.{Scope}
 use Rattle.lois_reader.specs.Draft.{Operand, word, level, LitDraft, ConstraintDraft, IsOperand, IsLitDraft, IsConstraintDraft}
@@ -36,11 +38,13 @@ pub op_begins_word : (s : Scope) (op : Op) (r : List ℕ) → EndsWord ((op_piec
 op_begins_word s Eq r = refl
 op_begins_word s Ne r = refl
 op_begins_word s Lt r = refl
+op_begins_word s AtMost r = refl
 
 pub op_begins : (s : Scope) (op : Op) (r : List ℕ) → begins_op ((op_piece s op).bytes ++ r) ≡ true
 op_begins s Eq r = refl
 op_begins s Ne r = refl
 op_begins s Lt r = refl
+op_begins s AtMost r = refl
 
 -- what is given on a test
 given_out : (b : Bool) (v l m : ℕ) (r : List ℕ) → l ≡ m → ◌>>=◌ {A = ℕ} {B = ℕ × List ℕ} (given (cond b (Some v) None) l) (λ i. Ok (i, r)) ≡ cond (not b) (Err m) (Ok (v, r))
@@ -78,11 +82,12 @@ unfolding op_at
 less_out true r = refl
 less_out false r = ap (λ (n : ℕ). Err n) (omega arith)
 
-pub op_out : (s : Scope) (op : Op) (r : List ℕ) → op_at s.ordered ((op_piece s op).bytes ++ r) ≡ out (op_piece s op ∷ []) op r
+pub op_out : (s : Scope) (op : Op) (r : List ℕ) → IsTrue (is_strict op) → op_at s.ordered ((op_piece s op).bytes ++ r) ≡ out (op_piece s op ∷ []) op r
 unfolding op_at
-op_out s Eq r = refl
-op_out s Ne r = refl
-op_out s Lt r = less_out s.ordered r
+op_out s Eq r strict = refl
+op_out s Ne r strict = refl
+op_out s Lt r strict = less_out s.ordered r
+op_out s AtMost r strict = absurd (false≢true strict)
 
 -- no byte of a word stands in front of an operator
 
@@ -99,7 +104,7 @@ literal_out s n l form r ends =
     let o : Op × List ℕ = (l.op, text_of_pieces (right ∷ []) ++ r) in
     step (operand_at s n) left (op ∷ right ∷ []) (level_of s l.left) (lit_of s l) r (λ a. op_at s.ordered a.1 >>= λ o. operand_at s n o.1 >>= made a o)
     (operand_out s n l.left form.0 (text_of_pieces (op ∷ right ∷ []) ++ r) ends_left)
-    (step (op_at s.ordered) op (right ∷ []) l.op (lit_of s l) r (λ o. operand_at s n o.1 >>= made a o) (op_out s l.op (text_of_pieces (right ∷ []) ++ r))
+    (step (op_at s.ordered) op (right ∷ []) l.op (lit_of s l) r (λ o. operand_at s n o.1 >>= made a o) (op_out s l.op (text_of_pieces (right ∷ []) ++ r) form.2)
     (step (operand_at s n) right [] (level_of s l.right) (lit_of s l) r (made a o) (operand_out s n l.right form.1 r ends) refl))
   where
     -- one piece, and what is read behind it

@@ -17,7 +17,7 @@ use Rattle.lois_base.specs.Data.{TermD, var, tup, coll, terms_of, TermsD, CompD,
 use Rattle.lois_base.specs.Data as data_of
 use Rattle.lois_base.specs.Fits.{LitFits, CubeFits, ConstraintFits, Fits, PartsFit, CompFits, ItemsFit}
 use Rattle.lois_base.specs.Names.{IsName, is_letter, is_name_byte}
-use Rattle.lois_base.specs.Validity.{AdmitsLit, AdmitsCube, AdmitsConstraint, AdmitsTerm, AdmitsParts, AdmitsComp, AdmitsItems, HasBoundedWidths, PartsHaveBoundedWidths, CompHasBoundedWidths, ItemsHaveBoundedWidths, count_of_parts}
+use Rattle.lois_base.specs.Validity.{AdmitsLit, AdmitsCube, AdmitsConstraint, AdmitsTerm, AdmitsParts, AdmitsComp, AdmitsItems, IsStrictLit, IsStrictCube, IsStrictConstraint, IsStrictTerm, PartsAreStrict, CompIsStrict, ItemsAreStrict, HasBoundedWidths, PartsHaveBoundedWidths, CompHasBoundedWidths, ItemsHaveBoundedWidths, count_of_parts}
 use Rattle.lois_base.specs.declared.guards.Lit.{Lit}
 use Rattle.lois_base.proofs.NumberTests.{less_true, less_false}
 use Rattle.lois_lexer.specs.Bytes.{is_word_byte}
@@ -222,16 +222,16 @@ constraint_text s n (c ∷ cs) =
 
 -- ---- constraints: form, rules, value
 
-lits_form : (ps : List (List ℕ)) (n : ℕ) (ls : List Lit) → Parameters ps → Small ps n → AllByRecursion (LitFits n) ls → AllByRecursion IsLitDraft (cube_draft ps ls)
-lits_form ps n [] good small fits = tt
-lits_form ps n (l ∷ ls) good small fits = ((operand_form ps n l.left good small fits.0.0, operand_form ps n l.right good small fits.0.1), lits_form ps n ls good small fits.1)
+lits_form : (ps : List (List ℕ)) (n : ℕ) (ls : List Lit) → Parameters ps → Small ps n → AllByRecursion (LitFits n) ls → AllByRecursion IsStrictLit ls → AllByRecursion IsLitDraft (cube_draft ps ls)
+lits_form ps n [] good small fits strict = tt
+lits_form ps n (l ∷ ls) good small fits strict = ((operand_form ps n l.left good small fits.0.0, operand_form ps n l.right good small fits.0.1, strict.0), lits_form ps n ls good small fits.1 strict.1)
 
-cubes_form : (ps : List (List ℕ)) (n : ℕ) (cs : List (List Lit)) → Parameters ps → Small ps n → AllByRecursion (CubeFits n) cs → IsConstraintDraft (constraint_draft ps cs)
-cubes_form ps n [] good small fits = tt
-cubes_form ps n (c ∷ cs) good small fits = (lits_form ps n c good small (recursion_from_All (LitFits n) c fits.0), cubes_form ps n cs good small fits.1)
+cubes_form : (ps : List (List ℕ)) (n : ℕ) (cs : List (List Lit)) → Parameters ps → Small ps n → AllByRecursion (CubeFits n) cs → AllByRecursion IsStrictCube cs → IsConstraintDraft (constraint_draft ps cs)
+cubes_form ps n [] good small fits strict = tt
+cubes_form ps n (c ∷ cs) good small fits strict = (lits_form ps n c good small (recursion_from_All (LitFits n) c fits.0) (recursion_from_All IsStrictLit c strict.0), cubes_form ps n cs good small fits.1 strict.1)
 
-pub constraint_form : (ps : List (List ℕ)) (n : ℕ) (cs : List (List Lit)) → Parameters ps → Small ps n → ConstraintFits n cs → IsConstraintDraft (constraint_draft ps cs)
-constraint_form ps n cs good small fits = cubes_form ps n cs good small (recursion_from_All (CubeFits n) cs fits)
+pub constraint_form : (ps : List (List ℕ)) (n : ℕ) (cs : List (List Lit)) → Parameters ps → Small ps n → ConstraintFits n cs → IsStrictConstraint cs → IsConstraintDraft (constraint_draft ps cs)
+constraint_form ps n cs good small fits strict = cubes_form ps n cs good small (recursion_from_All (CubeFits n) cs fits) (recursion_from_All IsStrictCube cs strict)
 
 literal_whole : (s : Scope) (n : ℕ) (l : Lit) → Small s.names n → LitFits n l → AdmitsLit s.ordered l → Unbroken (literal_pieces s n (lit_draft s.names l))
 literal_whole s n l small fits admits = (operand_whole s n l.left small fits.0, (ap not admits, (operand_whole s n l.right small fits.1, tt)))
@@ -390,35 +390,35 @@ numbers_form : (n m : ℕ) → n + m < 2 ^ 64 → AllByRecursion IsNumber (numbe
 numbers_form n zero lt = tt
 numbers_form n (suc m) lt = (decimal_is_number n (omega arith), numbers_form (suc n) m (omega arith))
 
-guard_form : (ps : List (List ℕ)) (n : ℕ) (g : List (List Lit)) → Parameters ps → Small ps n → ConstraintFits n g → IfSome (guard_draft ps g) IsConstraintDraft
-guard_form ps n [] good small fits = constraint_form ps n [] good small fits
-guard_form ps n ([] ∷ []) good small fits = tt
-guard_form ps n ([] ∷ d ∷ ds) good small fits = constraint_form ps n ([] ∷ d ∷ ds) good small fits
-guard_form ps n ((l ∷ ls) ∷ cs) good small fits = constraint_form ps n ((l ∷ ls) ∷ cs) good small fits
+guard_form : (ps : List (List ℕ)) (n : ℕ) (g : List (List Lit)) → Parameters ps → Small ps n → ConstraintFits n g → IsStrictConstraint g → IfSome (guard_draft ps g) IsConstraintDraft
+guard_form ps n [] good small fits strict = constraint_form ps n [] good small fits strict
+guard_form ps n ([] ∷ []) good small fits strict = tt
+guard_form ps n ([] ∷ d ∷ ds) good small fits strict = constraint_form ps n ([] ∷ d ∷ ds) good small fits strict
+guard_form ps n ((l ∷ ls) ∷ cs) good small fits strict = constraint_form ps n ((l ∷ ls) ∷ cs) good small fits strict
 
 parts_width : (ps : List (List ℕ)) (n : ℕ) (ts : TermsD) → draft_width (parts_draft ps n ts) ≡ count_of_parts ts
 parts_width ps n data_of.no_terms = refl
 parts_width ps n (data_of.term t ts) = ap suc (parts_width ps n ts)
 
 mutual
-  pub term_form : (ps : List (List ℕ)) (d n : ℕ) (t : TermD) → Parameters ps → Small ps n → Fits n t → HasTags t → HasBoundedWidths t → depth t ≤ d → IsTermDraft d (term_draft ps n t)
-  term_form ps d n (var i) good small fits tags widths deep = operand_form ps n i good small fits
-  term_form ps d n (data_of.tag t) good small fits tags widths deep = name_is_word t tags
-  term_form ps zero n (tup ts) good small fits tags widths deep = absurd (omega arith)
-  term_form ps (suc d) n (tup ts) good small fits tags widths deep = (rw (parts_width ps n ts) widths.0, parts_form ps d n ts good small fits tags widths.2 (omega arith))
-  term_form ps zero n (coll cs) good small fits tags widths deep = absurd (omega arith)
-  term_form ps (suc d) n (coll cs) good small fits tags widths deep = items_form ps d n cs good small fits tags widths (omega arith)
+  pub term_form : (ps : List (List ℕ)) (d n : ℕ) (t : TermD) → Parameters ps → Small ps n → Fits n t → HasTags t → HasBoundedWidths t → IsStrictTerm t → depth t ≤ d → IsTermDraft d (term_draft ps n t)
+  term_form ps d n (var i) good small fits tags widths strict deep = operand_form ps n i good small fits
+  term_form ps d n (data_of.tag t) good small fits tags widths strict deep = name_is_word t tags
+  term_form ps zero n (tup ts) good small fits tags widths strict deep = absurd (omega arith)
+  term_form ps (suc d) n (tup ts) good small fits tags widths strict deep = (rw (parts_width ps n ts) widths.0, parts_form ps d n ts good small fits tags widths.2 strict (omega arith))
+  term_form ps zero n (coll cs) good small fits tags widths strict deep = absurd (omega arith)
+  term_form ps (suc d) n (coll cs) good small fits tags widths strict deep = items_form ps d n cs good small fits tags widths strict (omega arith)
 
-  parts_form : (ps : List (List ℕ)) (d n : ℕ) (ts : TermsD) → Parameters ps → Small ps n → PartsFit n ts → PartsHaveTags ts → PartsHaveBoundedWidths ts → depth_of_parts ts ≤ d → AreTermDrafts d (parts_draft ps n ts)
-  parts_form ps d n data_of.no_terms good small fits tags widths deep = tt
-  parts_form ps d n (data_of.term t ts) good small fits tags widths deep = (term_form ps d n t good small fits.0 tags.0 widths.0 (omega arith), parts_form ps d n ts good small fits.1 tags.1 widths.1 (omega arith))
+  parts_form : (ps : List (List ℕ)) (d n : ℕ) (ts : TermsD) → Parameters ps → Small ps n → PartsFit n ts → PartsHaveTags ts → PartsHaveBoundedWidths ts → PartsAreStrict ts → depth_of_parts ts ≤ d → AreTermDrafts d (parts_draft ps n ts)
+  parts_form ps d n data_of.no_terms good small fits tags widths strict deep = tt
+  parts_form ps d n (data_of.term t ts) good small fits tags widths strict deep = (term_form ps d n t good small fits.0 tags.0 widths.0 strict.0 (omega arith), parts_form ps d n ts good small fits.1 tags.1 widths.1 strict.1 (omega arith))
 
-  comp_form : (ps : List (List ℕ)) (d n : ℕ) (c : CompD) → Parameters ps → CompFits n c → CompHasTags c → CompHasBoundedWidths c → depth_of_comp c ≤ d → IsCompDraft d (comp_draft ps n c)
-  comp_form ps d n (data_of.comp m g t) good fits tags widths deep = (term_form ps d (n + m) t good (small_inside ps (n + m) fits.0) fits.2 tags widths deep, numbers_form n m fits.0, guard_form ps (n + m) g good (small_inside ps (n + m) fits.0) fits.1)
+  comp_form : (ps : List (List ℕ)) (d n : ℕ) (c : CompD) → Parameters ps → CompFits n c → CompHasTags c → CompHasBoundedWidths c → CompIsStrict c → depth_of_comp c ≤ d → IsCompDraft d (comp_draft ps n c)
+  comp_form ps d n (data_of.comp m g t) good fits tags widths strict deep = (term_form ps d (n + m) t good (small_inside ps (n + m) fits.0) fits.2 tags widths strict.1 deep, numbers_form n m fits.0, guard_form ps (n + m) g good (small_inside ps (n + m) fits.0) fits.1 strict.0)
 
-  items_form : (ps : List (List ℕ)) (d n : ℕ) (cs : CompsD) → Parameters ps → Small ps n → ItemsFit n cs → ItemsHaveTags cs → ItemsHaveBoundedWidths cs → depth_of_items cs ≤ d → AreCompDrafts d (items_draft ps n cs)
-  items_form ps d n data_of.no_comps good small fits tags widths deep = tt
-  items_form ps d n (data_of.more c cs) good small fits tags widths deep = (comp_form ps d n c good fits.0 tags.0 widths.0 (omega arith), items_form ps d n cs good small fits.1 tags.1 widths.1 (omega arith))
+  items_form : (ps : List (List ℕ)) (d n : ℕ) (cs : CompsD) → Parameters ps → Small ps n → ItemsFit n cs → ItemsHaveTags cs → ItemsHaveBoundedWidths cs → ItemsAreStrict cs → depth_of_items cs ≤ d → AreCompDrafts d (items_draft ps n cs)
+  items_form ps d n data_of.no_comps good small fits tags widths strict deep = tt
+  items_form ps d n (data_of.more c cs) good small fits tags widths strict deep = (comp_form ps d n c good fits.0 tags.0 widths.0 strict.0 (omega arith), items_form ps d n cs good small fits.1 tags.1 widths.1 strict.1 (omega arith))
 
 -- ---- they break no rule
 

@@ -1,10 +1,11 @@
 -- Where constraints and terms end, the texts of their drafts standing in front.
 use Rattle.std.proofs.Common.{◌≡◌, ℕ, zero, suc, ◌+◌, ◌<◌, ◌≤◌, Bool, true, false, List, [], ◌∷◌, ◌++◌, length, Option, Some, None, Result, Ok, refl, sym, ap, subst, ◌∙◌, append_assoc, arith, length-append}
-use Rattle.std.specs.Prelude.{codes, IfSome}
+use Rattle.std.specs.Prelude.{codes, IfSome, IsTrue}
 use Rattle.std.specs.List.{AllByRecursion}
 use Rattle.std.proofs.lemmas.Bool.{false≢true}
+use Rattle.lois_base.specs.Validity.{is_strict}
 use Rattle.lois_base.specs.declared.guards.Op.{Op}
-use Rattle.lois_base.specs.declared.guards.Op.TheVariants.{Eq, Ne, Lt}
+use Rattle.lois_base.specs.declared.guards.Op.TheVariants.{Eq, Ne, Lt, AtMost}
 use Rattle.lois_reader.specs.declared.constraint_ends.Connective.{Connective}
 use Rattle.lois_reader.specs.declared.constraint_ends.Connective.TheVariants.{Start, And, Or}
 use Rattle.lois_reader.specs.declared.scope.Scope.{Scope}
@@ -26,15 +27,16 @@ unfolding operand_end
 operand_front s n (word w) r form ends = rw (word_begins 36 w r form refl) (word_ends w r form ends)
 operand_front s n (level ds) r form ends = level_front ds r form (ends_number r ends)
 
-op_front : (s : Scope) (op : Op) (r : List ℕ) → op_end ((op_piece s op).bytes ++ r) ≡ Ok r
+op_front : (s : Scope) (op : Op) (r : List ℕ) → IsTrue (is_strict op) → op_end ((op_piece s op).bytes ++ r) ≡ Ok r
 unfolding op_end
-op_front s Eq r = refl
-op_front s Ne r = refl
-op_front s Lt r = refl
+op_front s Eq r strict = refl
+op_front s Ne r strict = refl
+op_front s Lt r strict = refl
+op_front s AtMost r strict = absurd (false≢true strict)
 
-comparison_front : (s : Scope) (n : ℕ) (op : Op) (o : Operand) (r : List ℕ) → IsOperand o → EndsWord r → comparison_at ((op_piece s op).bytes ++ ((operand_piece s n o).bytes ++ r)) ≡ joint_at r
+comparison_front : (s : Scope) (n : ℕ) (op : Op) (o : Operand) (r : List ℕ) → IsTrue (is_strict op) → IsOperand o → EndsWord r → comparison_at ((op_piece s op).bytes ++ ((operand_piece s n o).bytes ++ r)) ≡ joint_at r
 unfolding comparison_at
-comparison_front s n op o r form ends = rw (op_front s op ((operand_piece s n o).bytes ++ r), operand_front s n o r form ends) refl
+comparison_front s n op o r strict form ends = rw (op_front s op ((operand_piece s n o).bytes ++ r) strict, operand_front s n o r form ends) refl
 
 first_front : (s : Scope) (n : ℕ) (joint : Connective) (o : Operand) (op : Op) (r : List ℕ) → IsOperand o → piece_at joint ((operand_piece s n o).bytes ++ ((op_piece s op).bytes ++ r)) ≡ comparison_at ((op_piece s op).bytes ++ r)
 unfolding piece_at
@@ -56,7 +58,7 @@ literal_front : (s : Scope) (n : ℕ) (joint : Connective) (l : LitDraft) (r : L
 literal_front s n joint l r form ends =
     ap (piece_at joint) (literal_text s n l r)
     ∙ first_front s n joint l.left l.op ((operand_piece s n l.right).bytes ++ r) form.0
-    ∙ comparison_front s n l.op l.right r form.1 ends
+    ∙ comparison_front s n l.op l.right r form.2 form.1 ends
 
 true_front : (joint : Connective) (r : List ℕ) → is_and joint ≡ false → EndsWord r → begins_op r ≡ false → piece_at joint (codes "true" ++ r) ≡ or_at r
 unfolding piece_at

@@ -145,7 +145,7 @@ pub lines_form : (ps : List (List ℕ)) (o : Bool) (n : ℕ) (ls : List LineD) �
 lines_form ps o n [] good small sound = tt
 lines_form ps o n (l ∷ ls) good small sound =
     let t = sound.0.term in
-    ((name_is_word l.name sound.0.name.form, term_form ps 64 n l.term good small t.levels t.tags t.widths t.brackets), lines_form ps o n ls good small sound.1)
+    ((name_is_word l.name sound.0.name.form, term_form ps 64 n l.term good small t.levels t.tags t.widths t.strict t.brackets), lines_form ps o n ls good small sound.1)
 
 line_whole : (s : Scope) (n : ℕ) (l : LineD) → Small s.names n → IsSoundLine s.ordered n l → Unbroken (line_pieces s n (line_draft s.names n l))
 line_whole s n l small sound =
@@ -166,7 +166,7 @@ small_top : (ps : List (List ℕ)) → Small ps (length ps)
 small_top ps i le lt = absurd (omega arith)
 
 case_form : (ps : List (List ℕ)) (o : Bool) (c : CaseD) → Parameters ps → IsSoundCase o (length ps) c → IsCaseDraft (case_draft ps c)
-case_form ps o c good sound = (constraint_form ps (length ps) c.«when» good (small_top ps) sound.levels, lines_form ps o (length ps) c.lines good (small_top ps) (recursion_from_All (IsSoundLine o (length ps)) c.lines sound.lines))
+case_form ps o c good sound = (constraint_form ps (length ps) c.«when» good (small_top ps) sound.levels sound.strict, lines_form ps o (length ps) c.lines good (small_top ps) (recursion_from_All (IsSoundLine o (length ps)) c.lines sound.lines))
 
 cases_form : (ps : List (List ℕ)) (o : Bool) (cs : List CaseD) → Parameters ps → AllByRecursion (IsSoundCase o (length ps)) cs → AllByRecursion IsCaseDraft (map (case_draft ps) cs)
 cases_form ps o [] good sound = tt

@@ -1,9 +1,10 @@
 -- What the readers of operands, constraints and terms pass over is the text of a draft.
 use Rattle.std.proofs.Common.{◌≡◌, ℕ, zero, suc, ◌+◌, ◌<◌, ◌⊎◌, inl, inr, true, false, cond, not, ◌&&◌, List, [], ◌∷◌, ◌++◌, length, Option, Some, None, Result, Ok, Err, refl, sym, ap, subst, ◌∙◌, append_assoc, arith}
-use Rattle.std.specs.Prelude.{codes, bytes_eq, IfSome}
+use Rattle.std.specs.Prelude.{codes, bytes_eq, IfSome, IsTrue}
 use Rattle.std.specs.List.{AllByRecursion}
 use Rattle.std.proofs.lemmas.Bool.{and_parts, false≢true, not-true}
 use Rattle.std.proofs.lemmas.Slice.Eq.{bytes_eq-Decides}
+use Rattle.lois_base.specs.Validity.{is_strict}
 use Rattle.lois_base.specs.declared.guards.Op.{Op}
 use Rattle.lois_base.specs.declared.guards.Op.TheVariants.{Eq, Ne, Lt}
 use Rattle.lois_answers.specs.TermText.{op_text}
@@ -76,14 +77,14 @@ operand_spelled s r e =
       | false ↦ λ h. let w = word_back s r (rw h at e) in (word w.0, record { form = w.1.form; text = w.1.split })
     ] refl
 
-op_spelled : (s r : List ℕ) → op_end s ≡ Ok r → (op : Op) × (s ≡ op_text op ++ r)
+op_spelled : (s r : List ℕ) → op_end s ≡ Ok r → (op : Op) × IsTrue (is_strict op) × (s ≡ op_text op ++ r)
 unfolding op_end
 op_spelled s r e =
-    elim (begins 61 s) as (λ v. begins 61 s ≡ v → (op : Op) × (s ≡ op_text op ++ r)) [
-      | true ↦ λ h. (Eq, fixed_back (codes "=") s r (rw h at e))
-      | false ↦ λ h. elim (begins 33 s) as (λ v. begins 33 s ≡ v → (op : Op) × (s ≡ op_text op ++ r)) [
-        | true ↦ λ g. (Ne, fixed_back (codes "!=") s r (rw (h, g) at e))
-        | false ↦ λ g. (Lt, fixed_back (codes "<") s r (rw (h, g) at e))
+    elim (begins 61 s) as (λ v. begins 61 s ≡ v → (op : Op) × IsTrue (is_strict op) × (s ≡ op_text op ++ r)) [
+      | true ↦ λ h. (Eq, refl, fixed_back (codes "=") s r (rw h at e))
+      | false ↦ λ h. elim (begins 33 s) as (λ v. begins 33 s ≡ v → (op : Op) × IsTrue (is_strict op) × (s ≡ op_text op ++ r)) [
+        | true ↦ λ g. (Ne, refl, fixed_back (codes "!=") s r (rw (h, g) at e))
+        | false ↦ λ g. (Lt, refl, fixed_back (codes "<") s r (rw (h, g) at e))
       ] refl
     ] refl
 
@@ -151,6 +152,7 @@ or_spelled s y e =
 -- behind the first operand of a literal
 record ComparedAt (s : List ℕ) (y : Option Connective × List ℕ) : Type 0 where
   pub op : Op
+  pub strict : IsTrue (is_strict op)
   pub right : Operand
   pub form : IsOperand right
   pub allowed : Joins y.0
@@ -164,7 +166,7 @@ compared s y e =
     let op = op_spelled s n.0 n.1 in
     let o = operand_spelled n.0 m.0 n.2 in
     let j = joint_spelled m.0 y m.2 in
-    record { op = op.0; right = o.0; form = o.1.form; allowed = j.allowed; text = then_text (op_text op.0) op.1 (then_text (operand_bytes o.0) o.1.text j.text) }
+    record { op = op.0; strict = op.1; right = o.0; form = o.1.form; allowed = j.allowed; text = then_text (op_text op.0) op.2 (then_text (operand_bytes o.0) o.1.text j.text) }
 
 -- A piece of a constraint: a literal; `true`, which no `and` stands before or behind; `false` alone.
 data PieceAt (joint : Connective) (s : List ℕ) (y : Option Connective × List ℕ) : Type 0 where
@@ -176,7 +178,7 @@ literal_is : (joint : Connective) (s m : List ℕ) (o : Operand) (y : Option Con
 literal_is joint s m o y form split h =
     let l : LitDraft = record { left = o; op = h.op; right = h.right } in
     let rest : List ℕ = joint_text y.0 ++ y.1 in
-    literal l (form, h.form) h.allowed
+    literal l (form, h.form, h.strict) h.allowed
     (λ c n. then_text (operand_bytes o) split h.text
     ∙ ap (λ (x : List ℕ). x ++ (op_text h.op ++ (operand_bytes h.right ++ rest))) (sym (bytes_are c n o))
     ∙ ap (λ (x : List ℕ). (operand_piece c n o).bytes ++ (op_text h.op ++ (x ++ rest))) (sym (bytes_are c n h.right))

@@ -12,7 +12,7 @@ use Rattle.std.proofs.lemmas.List.Elements.{All-from_recursion}
 use Rattle.std.proofs.lemmas.Slice.Eq.{bytes_eq-Decides}
 use Rattle.lois_base.specs.Data.{terms_of, comps_of, depth, depth_of_parts, depth_of_comp, depth_of_items}
 use Rattle.lois_base.specs.Fits.{LitFits, CubeFits, ConstraintFits, Fits, PartsFit, CompFits, ItemsFit}
-use Rattle.lois_base.specs.Validity.{is_admitted, AdmitsLit, AdmitsCube, AdmitsConstraint, AdmitsTerm, AdmitsParts, AdmitsComp, AdmitsItems, HasBoundedWidths, PartsHaveBoundedWidths, CompHasBoundedWidths, ItemsHaveBoundedWidths, count_of_parts}
+use Rattle.lois_base.specs.Validity.{is_admitted, AdmitsLit, AdmitsCube, AdmitsConstraint, AdmitsTerm, AdmitsParts, AdmitsComp, AdmitsItems, IsStrictLit, IsStrictCube, IsStrictConstraint, IsStrictTerm, PartsAreStrict, CompIsStrict, ItemsAreStrict, HasBoundedWidths, PartsHaveBoundedWidths, CompHasBoundedWidths, ItemsHaveBoundedWidths, count_of_parts}
 use Rattle.lois_base.proofs.NumberTests.{zero_alone, less_true, less_false}
 use Rattle.lois_answers.specs.Sound.{HasTags, PartsHaveTags, CompHasTags, ItemsHaveTags}
 use Rattle.lois_reader.specs.declared.scope.Scope.{Scope}
@@ -109,6 +109,7 @@ operand_good s n (level ds) form room whole =
 record LitGood (s : Scope) (n : ℕ) (l : LitDraft) : Type 0 where
   pub fits : LitFits n (lit_of s l)
   pub admits : AdmitsLit s.ordered (lit_of s l)
+  pub strict : IsStrictLit (lit_of s l)
   pub same : lit_draft s.names (lit_of s l) ≡ l
 
 lit_good : (s : Scope) (n : ℕ) (l : LitDraft) → IsLitDraft l → Room s n → Unbroken (literal_pieces s n l) → LitGood s n l
@@ -118,6 +119,7 @@ lit_good s n l form room whole =
     record {
       fits = (a.fits, b.fits);
       admits = not-false (is_admitted s.ordered l.op) whole.1.0;
+      strict = form.2;
       same = ap (λ (o : Operand). let x : LitDraft = record { left = o; op = l.op; right = operand_draft s.names (level_of s l.right) } in x) a.same
           ∙ ap (λ (o : Operand). let x : LitDraft = record { left = l.left; op = l.op; right = o } in x) b.same;
     }
@@ -125,21 +127,23 @@ lit_good s n l form room whole =
 record CubeGood (s : Scope) (n : ℕ) (c : List LitDraft) : Type 0 where
   pub fits : AllByRecursion (LitFits n) (cube_of s c)
   pub admits : AllByRecursion (AdmitsLit s.ordered) (cube_of s c)
+  pub strict : AllByRecursion IsStrictLit (cube_of s c)
   pub same : cube_draft s.names (cube_of s c) ≡ c
 
 lits_good : (s : Scope) (n : ℕ) (ls : List LitDraft) → AllByRecursion IsLitDraft ls → Room s n → AllByRecursion (λ k. Unbroken (plain (codes " and ") ∷ literal_pieces s n k)) ls → CubeGood s n ls
-lits_good s n [] forms room wholes = record { fits = tt; admits = tt; same = refl }
+lits_good s n [] forms room wholes = record { fits = tt; admits = tt; strict = tt; same = refl }
 lits_good s n (l ∷ ls) forms room wholes = add_lit s n l ls (lit_good s n l forms.0 room wholes.0.1) (lits_good s n ls forms.1 room wholes.1)
   where
     add_lit : (s : Scope) (n : ℕ) (l : LitDraft) (ls : List LitDraft) → LitGood s n l → CubeGood s n ls → CubeGood s n (l ∷ ls)
     add_lit s n l ls a b = record {
       fits = (a.fits, b.fits);
       admits = (a.admits, b.admits);
+      strict = (a.strict, b.strict);
       same = ap (λ (x : LitDraft). x ∷ cube_draft s.names (cube_of s ls)) a.same ∙ ap (λ (xs : List LitDraft). l ∷ xs) b.same;
     }
 
 cube_good : (s : Scope) (n : ℕ) (c : List LitDraft) → AllByRecursion IsLitDraft c → Room s n → Unbroken (cube_pieces s n c) → CubeGood s n c
-cube_good s n [] forms room whole = record { fits = tt; admits = tt; same = refl }
+cube_good s n [] forms room whole = record { fits = tt; admits = tt; strict = tt; same = refl }
 cube_good s n (l ∷ ls) forms room whole =
     let r = unbroken_split (literal_pieces s n l) (each (λ k. plain (codes " and ") ∷ literal_pieces s n k) ls) whole in
     lits_good s n (l ∷ ls) forms room ((refl, r.0), each_unbroken (λ k. plain (codes " and ") ∷ literal_pieces s n k) ls r.1)
@@ -147,29 +151,32 @@ cube_good s n (l ∷ ls) forms room whole =
 pub record ConstraintGood (s : Scope) (n : ℕ) (g : ConstraintDraft) : Type 0 where
   pub fits : ConstraintFits n (constraint_of s g)
   pub admits : AdmitsConstraint s.ordered (constraint_of s g)
+  pub strict : IsStrictConstraint (constraint_of s g)
   pub same : constraint_draft s.names (constraint_of s g) ≡ g
 
 record CubesGood (s : Scope) (n : ℕ) (cs : ConstraintDraft) : Type 0 where
   pub fits : AllByRecursion (CubeFits n) (constraint_of s cs)
   pub admits : AllByRecursion (AdmitsCube s.ordered) (constraint_of s cs)
+  pub strict : AllByRecursion IsStrictCube (constraint_of s cs)
   pub same : constraint_draft s.names (constraint_of s cs) ≡ cs
 
 add_cube : (s : Scope) (n : ℕ) (c : List LitDraft) (cs : ConstraintDraft) → CubeGood s n c → CubesGood s n cs → CubesGood s n (c ∷ cs)
 add_cube s n c cs a b = record {
   fits = (All-from_recursion (LitFits n) (cube_of s c) a.fits, b.fits);
   admits = (All-from_recursion (AdmitsLit s.ordered) (cube_of s c) a.admits, b.admits);
+  strict = (All-from_recursion IsStrictLit (cube_of s c) a.strict, b.strict);
   same = ap (λ (x : List LitDraft). x ∷ constraint_draft s.names (constraint_of s cs)) a.same ∙ ap (λ (xs : ConstraintDraft). c ∷ xs) b.same;
 }
 
 cubes_good : (s : Scope) (n : ℕ) (cs : ConstraintDraft) → IsConstraintDraft cs → Room s n → AllByRecursion (λ d. Unbroken (plain (codes " or ") ∷ cube_pieces s n d)) cs → CubesGood s n cs
-cubes_good s n [] forms room wholes = record { fits = tt; admits = tt; same = refl }
+cubes_good s n [] forms room wholes = record { fits = tt; admits = tt; strict = tt; same = refl }
 cubes_good s n (c ∷ cs) forms room wholes = add_cube s n c cs (cube_good s n c forms.0 room wholes.0.1) (cubes_good s n cs forms.1 room wholes.1)
 
 all_cubes : (s : Scope) (n : ℕ) (g : ConstraintDraft) → CubesGood s n g → ConstraintGood s n g
-all_cubes s n g h = record { fits = All-from_recursion (CubeFits n) (constraint_of s g) h.fits; admits = All-from_recursion (AdmitsCube s.ordered) (constraint_of s g) h.admits; same = h.same }
+all_cubes s n g h = record { fits = All-from_recursion (CubeFits n) (constraint_of s g) h.fits; admits = All-from_recursion (AdmitsCube s.ordered) (constraint_of s g) h.admits; strict = All-from_recursion IsStrictCube (constraint_of s g) h.strict; same = h.same }
 
 pub constraint_good : (s : Scope) (n : ℕ) (g : ConstraintDraft) → IsConstraintDraft g → Room s n → Unbroken (constraint_pieces s n g) → ConstraintGood s n g
-constraint_good s n [] forms room whole = all_cubes s n [] (record { fits = tt; admits = tt; same = refl })
+constraint_good s n [] forms room whole = all_cubes s n [] (record { fits = tt; admits = tt; strict = tt; same = refl })
 constraint_good s n (c ∷ cs) forms room whole =
     let r = unbroken_split (cube_pieces s n c) (each (λ d. plain (codes " or ") ∷ cube_pieces s n d) cs) whole in
     all_cubes s n (c ∷ cs) (cubes_good s n (c ∷ cs) forms room ((refl, r.0), each_unbroken (λ d. plain (codes " or ") ∷ cube_pieces s n d) cs r.1))
@@ -179,15 +186,17 @@ constraint_good s n (c ∷ cs) forms room whole =
 record GuardGood (s : Scope) (n : ℕ) (g : Option ConstraintDraft) : Type 0 where
   pub fits : ConstraintFits n (guard_of s g)
   pub admits : AdmitsConstraint s.ordered (guard_of s g)
+  pub strict : IsStrictConstraint (guard_of s g)
   pub same : guard_draft s.names (guard_of s g) ≡ g
 
 guard_of_good : (s : Scope) (n : ℕ) (g : ConstraintDraft) → ConstraintGood s n g → guard_draft s.names (constraint_of s g) ≡ Some (constraint_draft s.names (constraint_of s g)) → GuardGood s n (Some g)
-guard_of_good s n g h is = record { fits = h.fits; admits = h.admits; same = is ∙ ap (λ (x : ConstraintDraft). Some x) h.same }
+guard_of_good s n g h is = record { fits = h.fits; admits = h.admits; strict = h.strict; same = is ∙ ap (λ (x : ConstraintDraft). Some x) h.same }
 
 guard_good : (s : Scope) (n : ℕ) (g : Option ConstraintDraft) → IfSome g IsConstraintDraft → Room s n → Unbroken (guard_pieces s n g) → GuardGood s n g
 guard_good s n None form room whole = record {
   fits = All-from_recursion (CubeFits n) ([] ∷ []) (All-from_recursion (LitFits n) [] tt, tt);
   admits = All-from_recursion (AdmitsCube s.ordered) ([] ∷ []) (All-from_recursion (AdmitsLit s.ordered) [] tt, tt);
+  strict = All-from_recursion IsStrictCube ([] ∷ []) (All-from_recursion IsStrictLit [] tt, tt);
   same = refl;
 }
 guard_good s n (Some []) form room whole = guard_of_good s n [] (constraint_good s n [] form room whole.1) refl
@@ -222,6 +231,7 @@ pub record TermGood (s : Scope) (n d : ℕ) (t : TermDraft) : Type 0 where
   pub tags : HasTags (value_of s t)
   pub widths : HasBoundedWidths (value_of s t)
   pub admits : AdmitsTerm s.ordered (value_of s t)
+  pub strict : IsStrictTerm (value_of s t)
   pub deep : depth (value_of s t) ≤ d
   pub same : term_draft s.names n (value_of s t) ≡ t
 
@@ -230,6 +240,7 @@ record PartsGood (s : Scope) (n d : ℕ) (ts : TermDrafts) : Type 0 where
   pub tags : PartsHaveTags (terms_of (values_of s ts))
   pub widths : PartsHaveBoundedWidths (terms_of (values_of s ts))
   pub admits : AdmitsParts s.ordered (terms_of (values_of s ts))
+  pub strict : PartsAreStrict (terms_of (values_of s ts))
   pub deep : depth_of_parts (terms_of (values_of s ts)) ≤ d
   pub count : count_of_parts (terms_of (values_of s ts)) ≡ draft_width ts
   pub same : parts_draft s.names n (terms_of (values_of s ts)) ≡ ts
@@ -239,6 +250,7 @@ record CompGood (s : Scope) (n d : ℕ) (c : CompDraft) : Type 0 where
   pub tags : CompHasTags (item_of s c)
   pub widths : CompHasBoundedWidths (item_of s c)
   pub admits : AdmitsComp s.ordered (item_of s c)
+  pub strict : CompIsStrict (item_of s c)
   pub deep : depth_of_comp (item_of s c) ≤ d
   pub same : comp_draft s.names n (item_of s c) ≡ c
 
@@ -247,6 +259,7 @@ record ItemsGood (s : Scope) (n d : ℕ) (cs : CompDrafts) : Type 0 where
   pub tags : ItemsHaveTags (comps_of (items_of s cs))
   pub widths : ItemsHaveBoundedWidths (comps_of (items_of s cs))
   pub admits : AdmitsItems s.ordered (comps_of (items_of s cs))
+  pub strict : ItemsAreStrict (comps_of (items_of s cs))
   pub deep : depth_of_items (comps_of (items_of s cs)) ≤ d
   pub same : items_draft s.names n (comps_of (items_of s cs)) ≡ cs
 
@@ -259,6 +272,7 @@ tuple_good s n d ts many few h = record {
   tags = h.tags;
   widths = (omega (arith, h.count), omega (arith, h.count), h.widths);
   admits = h.admits;
+  strict = h.strict;
   deep = omega (arith, h.deep);
   same = ap tuple h.same;
 }
@@ -269,6 +283,7 @@ add_part s n d t ts a b = record {
   tags = (a.tags, b.tags);
   widths = (a.widths, b.widths);
   admits = (a.admits, b.admits);
+  strict = (a.strict, b.strict);
   deep = omega (arith, a.deep, b.deep);
   count = ap suc b.count;
   same = ap (λ (x : TermDraft). term x (parts_draft s.names n (terms_of (values_of s ts)))) a.same ∙ ap (term t) b.same;
@@ -280,6 +295,7 @@ add_item s n d c cs a b = record {
   tags = (a.tags, b.tags);
   widths = (a.widths, b.widths);
   admits = (a.admits, b.admits);
+  strict = (a.strict, b.strict);
   deep = omega (arith, a.deep, b.deep);
   same = ap (λ (x : CompDraft). more x (items_draft s.names n (comps_of (items_of s cs)))) a.same ∙ ap (more c) b.same;
 }
@@ -290,6 +306,7 @@ comp_of_good s n d t bs g small a levels b = record {
   tags = a.tags;
   widths = a.widths;
   admits = (b.admits, a.admits);
+  strict = (b.strict, a.strict);
   deep = a.deep;
   same = ap (λ (x : TermDraft). comp x (numbers_from n (length bs)) (guard_draft s.names (guard_of s g))) a.same
       ∙ ap (λ (x : List (List ℕ)). comp t x (guard_draft s.names (guard_of s g))) levels
@@ -300,9 +317,9 @@ mutual
   pub term_good : (s : Scope) (n d : ℕ) (t : TermDraft) → Room s n → IsTermDraft d t → Unbroken (term_pieces s n t) → n + size (term_pieces s n t) < 2 ^ 64 → TermGood s n d t
   term_good s n d (atom o) room form whole short =
       let a = operand_good s n o form room whole.0 in
-      record { fits = a.fits; tags = tt; widths = tt; admits = tt; deep = omega arith; same = ap atom a.same }
+      record { fits = a.fits; tags = tt; widths = tt; admits = tt; strict = tt; deep = omega arith; same = ap atom a.same }
   term_good s n d (tag w) room form whole short =
-      record { fits = tt; tags = word_is_name w form (le_back (length w) 64 whole.0); widths = tt; admits = tt; deep = omega arith; same = refl }
+      record { fits = tt; tags = word_is_name w form (le_back (length w) 64 whole.0); widths = tt; admits = tt; strict = tt; deep = omega arith; same = refl }
   term_good s n zero (tuple ts) room form whole short = absurd form
   term_good s n zero (set cs) room form whole short = absurd form
   term_good s n (suc d) (tuple ts) room form whole short =
@@ -312,10 +329,10 @@ mutual
   term_good s n (suc d) (set cs) room form whole short =
       let r = unbroken_split (item_pieces s n [] cs) (plain (codes "}") ∷ []) whole.1 in
       let h = items_good s n d [] cs room form r.0 (omega (arith, size_append (item_pieces s n [] cs) (plain (codes "}") ∷ []))) in
-      record { fits = h.fits; tags = h.tags; widths = h.widths; admits = h.admits; deep = omega (arith, h.deep); same = ap set h.same }
+      record { fits = h.fits; tags = h.tags; widths = h.widths; admits = h.admits; strict = h.strict; deep = omega (arith, h.deep); same = ap set h.same }
 
   parts_good : (s : Scope) (n d : ℕ) (first : List Piece) (ts : TermDrafts) → Room s n → AreTermDrafts d ts → Unbroken (part_pieces s n first ts) → n + size (part_pieces s n first ts) < 2 ^ 64 → PartsGood s n d ts
-  parts_good s n d first no_terms room form whole short = record { fits = tt; tags = tt; widths = tt; admits = tt; deep = omega arith; count = refl; same = refl }
+  parts_good s n d first no_terms room form whole short = record { fits = tt; tags = tt; widths = tt; admits = tt; strict = tt; deep = omega arith; count = refl; same = refl }
   parts_good s n d first (term t ts) room form whole short =
       let r = unbroken_split (first ++ term_pieces s n t) (part_pieces s n comma ts) whole in
       let q = unbroken_split first (term_pieces s n t) r.0 in
@@ -340,7 +357,7 @@ mutual
       comp_of_good s n d t bs g small (term_good s m d t inner form.0 q.0 (omega arith)) (binders_good n bs form.1 q.1 small) (guard_good s m g form.2 inner r.1)
 
   items_good : (s : Scope) (n d : ℕ) (first : List Piece) (cs : CompDrafts) → Room s n → AreCompDrafts d cs → Unbroken (item_pieces s n first cs) → n + size (item_pieces s n first cs) < 2 ^ 64 → ItemsGood s n d cs
-  items_good s n d first no_comps room form whole short = record { fits = tt; tags = tt; widths = tt; admits = tt; deep = omega arith; same = refl }
+  items_good s n d first no_comps room form whole short = record { fits = tt; tags = tt; widths = tt; admits = tt; strict = tt; deep = omega arith; same = refl }
   items_good s n d first (more c cs) room form whole short =
       let r = unbroken_split (first ++ comp_pieces s n c) (item_pieces s n comma cs) whole in
       let q = unbroken_split first (comp_pieces s n c) r.0 in

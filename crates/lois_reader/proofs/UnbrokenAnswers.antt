@@ -86,7 +86,7 @@ pub record LineGood (s : Scope) (n : ℕ) (l : LineDraft) : Type 0 where
 
 line_of_good : (s : Scope) (n : ℕ) (l : LineDraft) → IsFreeName l.name → TermGood s n 64 l.term → LineGood s n l
 line_of_good s n l name h = record {
-  sound = record { name = name; term = record { levels = h.fits; tags = h.tags; widths = h.widths; operators = h.admits; brackets = h.deep } };
+  sound = record { name = name; term = record { levels = h.fits; tags = h.tags; widths = h.widths; operators = h.admits; strict = h.strict; brackets = h.deep } };
   same = ap (λ (t : TermDraft). let x : LineDraft = record { name = l.name; term = t } in x) h.same;
 }
 
@@ -121,7 +121,7 @@ record CaseGood (s : Scope) (c : CaseDraft) : Type 0 where
 
 case_of_good : (s : Scope) (c : CaseDraft) → ConstraintGood s (length s.names) c.«when» → LinesGood s (length s.names) c.lines → CaseGood s c
 case_of_good s c a b = record {
-  sound = record { levels = a.fits; operators = a.admits; lines = All-from_recursion (IsSoundLine s.ordered (length s.names)) (map (line_of s (length s.names)) c.lines) b.sound };
+  sound = record { levels = a.fits; operators = a.admits; strict = a.strict; lines = All-from_recursion (IsSoundLine s.ordered (length s.names)) (map (line_of s (length s.names)) c.lines) b.sound };
   same = ap (λ (g : ConstraintDraft). let x : CaseDraft = record { «when» = g; lines = map (line_draft s.names (length s.names)) (map (line_of s (length s.names)) c.lines) } in x) a.same
       ∙ ap (λ (ls : List LineDraft). let x : CaseDraft = record { «when» = c.«when»; lines = ls } in x) b.same;
 }

@@ -2,6 +2,7 @@
 use Rattle.std.specs.Prelude.{ℕ, zero, suc, ◌≤◌, Bool, ◌&&◌, ◌||◌, ◌==◌, not, List, length, slice_index, Option, IfSome, IsTrue}
 use Rattle.std.specs.Char.{is_ascii_digit}
 use Rattle.std.specs.List.{list_all, AllByRecursion}
+use Rattle.lois_base.specs.Validity.{is_strict}
 use Rattle.lois_base.specs.declared.guards.Op.{Op}
 use Rattle.lois_lexer.specs.Forms.{is_word_form}
 use Rattle.lois_answers.specs.declared.faults.FaultKind.{FaultKind}
@@ -81,8 +82,9 @@ abbrev pub IsOperand : Operand → Type 0
 IsOperand (word w) = IsWord w
 IsOperand (level ds) = IsNumber ds
 
+-- `<=` is no operator of a text
 abbrev pub IsLitDraft : LitDraft → Type 0
-IsLitDraft l = IsOperand l.left × IsOperand l.right
+IsLitDraft l = IsOperand l.left × IsOperand l.right × IsTrue (is_strict l.op)
 
 abbrev pub IsConstraintDraft : ConstraintDraft → Type 0
 IsConstraintDraft = AllByRecursion (AllByRecursion IsLitDraft)
