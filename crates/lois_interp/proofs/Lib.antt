@@ -31,5 +31,6 @@ pub mod Opened
 pub mod FreeNames
 pub mod OneCase
 pub mod CaseCount
+pub mod SplitElements
 pub mod ScriptRuns
 pub mod Nowhere

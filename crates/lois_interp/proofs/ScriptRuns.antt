@@ -24,6 +24,7 @@ use Rattle.lois_meaning.specs.Store.{NamedValues, AreSameNamed, IsShallow, openi
 use Rattle.lois_meaning.specs.declared.faults.Fault.{Fault}
 use Rattle.lois_simplify.specs.Irredundant.{HasNormalGuards}
 use Rattle.lois_simplify.specs.Plain.{IsPlain, HasPlainGuards}
+use Rattle.lois_simplify.proofs.Plain.{strict_of_plain}
 use Rattle.lois_context.specs.Choices.{IsAdmitted, AdmitsContext, ContextHasBoundedWidths}
 use Rattle.lois_context.specs.Counted.{times}
 use Rattle.lois_context.specs.Merged.{AreDisjoint, HasSameContents, HasSameContentsAsOne, AreMerged}
@@ -38,6 +39,7 @@ use Rattle.lois_interp.specs.Opened.{IsOpening}
 use Rattle.lois_interp.specs.Printed.{IsPrintedLine, IsPrinted, IsCaseOf}
 use Rattle.lois_interp.specs.Reached.{IsReachedAt, RunsAs}
 use Rattle.lois_interp.specs.Run.{block_run}
+use Rattle.lois_interp.specs.Split.{IsSplitFault}
 use Rattle.lois_interp.specs.WellScoped.{BlockIsWellScoped}
 use Rattle.lois_interp.proofs.Compose.{one_apart}
 use Rattle.lois_interp.proofs.OneCase.{zip_from, times_printed, one_admits, Picked, pick, same_held, cases_apart}
@@ -48,6 +50,7 @@ use Rattle.lois_base.proofs.Validity.{all_that_are}
 use Rattle.lois_base.proofs.Lists.{all_one}
 use Rattle.lois_interp.proofs.Lists.{only_one}
 use Rattle.lois_interp.proofs.Opened.{opens_at, opening_admits, opening_widths, body_placed}
+use Rattle.lois_interp.proofs.SplitElements.{split_all, split_strict, split_named}
 use Rattle.lois_interp.proofs.Shallow.{AreShallow, same_shallow, list_shallow}
 use Rattle.lois_interp.proofs.Weaker.{IsWeaker, normal_weaker, plain_weaker}
 
@@ -151,6 +154,7 @@ module _ (text : List ℕ) (s : ScriptD) (spelled : Spells text s) (scoped : IsW
                 tags = from.2.tags;
                 widths = from.2.widths (All-contains (λ l. HasBoundedWidths l.term) e.lines from.0 wide.lines from.1);
                 operators = from.2.operators s.ordered (All-contains (λ l. AdmitsTerm s.ordered l.term) e.lines from.0 admits.lines from.1);
+                strict = strict_of_plain l.term e.«when» e.size from.2.plain;
                 brackets = brackets_there l inside (normal_there l inside);
               };
             }
@@ -273,6 +277,7 @@ module _ (text : List ℕ) (s : ScriptD) (spelled : Spells text s) (scoped : IsW
             record {
               levels = case_fits c m.0 m.1 m.2;
               operators = m.2.operators s.ordered admits.«when»;
+              strict = m.2.plain.strict;
               lines = subst (All (IsSoundLine s.ordered n)) (sym (m.2.lines ∙ like_lines d.0 m.0 d.3)) (all_that_are (IsSoundLine s.ordered n) d.0.lines (sound_printed d.0 d.1));
             }
 
@@ -325,19 +330,23 @@ module _ (text : List ℕ) (s : ScriptD) (spelled : Spells text s) (scoped : IsW
             choices : (c : List Atom) → IsChoiceOf s c → IsRightAt s r.cases c
             choices c count = subst (λ k. IsRightAt s k c) (sym is) (right_at c count)
 
-  -- ---- a fault
-  pub failure_of : (f : Fault) → FailsWithin (block_run s.body) o f → IsFailureOf s f
-  failure_of f h =
+  -- ---- a fault, whose elements are split
+  pub failure_of : (f g : Fault) → IsSplitFault f g → FailsWithin (block_run s.body) o f → IsFailureOf s g
+  failure_of f g split h =
       let c = sampled (take o.size f.sample.items) in
       let count : length (take o.size f.sample.items) ≡ o.size = sym (length-map (take o.size f.sample.items) whole) ∙ h.admitted.0 in
-      let first : take o.size f.sample.items ≡ take n f.sample.items = ap (λ k. take k f.sample.items) opened.size in
+      let first : take o.size f.sample.items ≡ take n g.sample.items = ap (λ k. take k f.sample.items) opened.size ∙ ap (take n) (sym split.sample) in
+      let failed : ListFails s.body (opening s.parameters (sampled (take n g.sample.items))) f.pos.offset f.kind h.path = subst (λ k. ListFails s.body (opening s.parameters (sampled k)) f.pos.offset f.kind h.path) first (subst (λ st. ListFails s.body st f.pos.offset f.kind h.path) (opens_at s.parameters o opened c) h.failed) in
+      let levels : LinesFit (length f.sample.items) g.elements = split_all (λ l. Fits (length f.sample.items) l.term) (λ l. Fits (length f.sample.items) l.term) (λ l r is. is.levels (length f.sample.items)) f.elements g.elements split.elements h.elements.levels in
       record {
-        enough = omega (arith, count, opened.size, length-take o.size f.sample.items);
+        enough = omega (arith, count, opened.size, length-take o.size f.sample.items, ap length split.sample);
         path = h.path;
-        failed = subst (λ k. ListFails s.body (opening s.parameters (sampled k)) f.pos.offset f.kind h.path) first (subst (λ st. ListFails s.body st f.pos.offset f.kind h.path) (opens_at s.parameters o opened c) h.failed);
-        named = h.named;
-        levels = h.elements.levels;
-        brackets = h.elements.brackets;
-        operators = h.elements.operators s.ordered (body_placed s text o spelled scoped opened s.ordered refl);
-        widths = h.elements.widths (opening_widths s.parameters o opened);
+        failed = subst (λ z. ListFails s.body (opening s.parameters (sampled (take n g.sample.items))) z.offset g.kind h.path) (sym split.pos)
+            (subst (λ z. ListFails s.body (opening s.parameters (sampled (take n g.sample.items))) f.pos.offset z h.path) (sym split.kind) failed);
+        named = subst (λ k. AreSameNamed h.path (line_values (sampled k) g.elements)) (sym split.sample) (split_named (sampled f.sample.items) h.path f.elements g.elements split.elements h.named);
+        levels = subst (λ k. LinesFit (length k) g.elements) (sym split.sample) levels;
+        brackets = split_all (λ l. depth l.term ≤ 64) (λ l. depth l.term ≤ 64) (λ l r is most. subst (λ k. k ≤ 64) (sym is.depth) most) f.elements g.elements split.elements h.elements.brackets;
+        operators = split_all (λ l. AdmitsTerm s.ordered l.term) (λ l. AdmitsTerm s.ordered l.term) (λ l r is. is.operators s.ordered) f.elements g.elements split.elements (h.elements.operators s.ordered (body_placed s text o spelled scoped opened s.ordered refl));
+        widths = split_all (λ l. HasBoundedWidths l.term) (λ l. HasBoundedWidths l.term) (λ l r is. is.widths) f.elements g.elements split.elements (h.elements.widths (opening_widths s.parameters o opened));
+        strict = split_strict f.elements g.elements split.elements;
       }

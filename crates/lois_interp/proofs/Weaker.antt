@@ -92,4 +92,7 @@ mutual
       (guard_longer, plain_weaker t (both u g) (both v g) (n + m) both_w f.2 h.1)
     where
       guard_longer : IsPlain g v (n + m)
-      guard_longer entailed = h.0 (λ c count o. entailed c count (implied_longer n u v w m c count o))
+      guard_longer = record {
+        always = λ entailed. h.0.always (λ c count o. entailed c count (implied_longer n u v w m c count o));
+        strict = h.0.strict;
+      }

@@ -5,7 +5,7 @@ use Rattle.lois_base.specs.Atom.{Atom}
 use Rattle.lois_base.specs.Data.{depth}
 use Rattle.lois_base.specs.Normal.{IsNormal}
 use Rattle.lois_base.specs.Truth.{holds, sampled}
-use Rattle.lois_base.specs.Validity.{AdmitsTerm, HasBoundedWidths}
+use Rattle.lois_base.specs.Validity.{AdmitsTerm, HasBoundedWidths, IsStrictTerm}
 use Rattle.lois_base.specs.declared.guards.Lit.{Lit}
 use Rattle.lois_constraint.specs.Normalised.{IsNormalised}
 use Rattle.lois_simplify.specs.Irredundant.{HasNormalGuards}
@@ -94,3 +94,4 @@ pub record IsFailureOf (s : ScriptD) (f : Fault) : Type 0 where
   pub brackets : All (λ l. depth l.term ≤ 64) f.elements
   pub operators : All (λ l. AdmitsTerm s.ordered l.term) f.elements
   pub widths : All (λ l. HasBoundedWidths l.term) f.elements
+  pub strict : All (λ l. IsStrictTerm l.term) f.elements

@@ -8,6 +8,7 @@ pub mod Failed
 pub mod Merged
 pub mod Decided
 pub mod Elements
+pub mod Split
 pub mod Looped
 pub mod Entered
 pub mod Tidied

@@ -4,12 +4,19 @@ ghost use Rattle.std.specs.Prelude.{◌≡◌, ℕ, List, length, map, bytes_eq,
 ghost use Rattle.std.specs.List.{IsDistinct};
 ghost use Rattle.lois_deciders.specs.OnlyAsked.{HasOnlyAsked};
 ghost use Rattle.lois_script.specs.Limits.{Spells};
-ghost use Rattle.lois_script.specs.View.{params_list, script_tree};
+ghost use Rattle.lois_script.specs.View.{params_list, script_tree, stmts_list, stmts_of};
 ghost use Rattle.lois_eval.specs.Throughout.{IfFault};
+ghost use Rattle.lois_eval.specs.WellFormed.{IsWellFormedIn};
+ghost use Rattle.lois_interp.specs.Failed.{FailsWithin};
 ghost use Rattle.lois_interp.specs.Interpreted.{AreResultsOf, ScriptFailsNowhere, IsFailureOf, parameter_name};
 ghost use Rattle.lois_interp.specs.Opened.{IsOpening, opening_slots};
+ghost use Rattle.lois_interp.specs.Reached.{RunsAs};
+ghost use Rattle.lois_interp.specs.Run.{block_run};
+ghost use Rattle.lois_interp.specs.Split.{IsSplitFrom};
+ghost use Rattle.lois_interp.specs.WellScoped.{BlockIsWellScoped};
 
 use crate::cases::results;
+use crate::failures::split_stop;
 use crate::printing::all_printed;
 use crate::running::run_block;
 use lois_answers::{Lines, Results};
@@ -18,13 +25,13 @@ use lois_context::{Context, Shared, Slot, Store, merge_equal};
 use lois_deciders::Chosen;
 use lois_meaning::Stop;
 use lois_scope::Scoped;
-use lois_script::Params;
+use lois_script::{Params, Stmts};
 use std::alloc::Global;
 
 /// Runs a script at all choices of its parameters. At each choice exactly one case of the results holds, and its lines are those
 /// that the script prints there. Constraints and guards are normalised, and one that always holds under what surrounds it is `true`.
-/// Each term is normal under its case, and no two cases have equal lines. Ok comes exactly where no choice fails. Errors: a fault at
-/// some choice, and `NoMemory`, also where a level would pass the greatest usize.
+/// Each term is normal under its case, and no two cases have equal lines. No `<=` is in results, nor in the elements of a fault. Ok
+/// comes exactly where no choice fails. Errors: a fault at some choice, and `NoMemory`, also where a level would pass the greatest usize.
 pub fn interpret<T: Structure>(
     alloc: Global,
     script: &Scoped,
@@ -41,10 +48,28 @@ pub fn interpret<T: Structure>(
 {
     let script = script.script();
     let opening = opening(alloc, &script.parameters)?;
-    let ends = run_block::<T>(alloc, &script.body, opening, chosen)?;
+    let ends = run_body::<T>(alloc, &script.body, opening, chosen)?;
     let printed = all_printed::<T>(alloc, ends, chosen)?;
     let merged = merge_equal(alloc, printed)?;
     Ok(results(alloc, script, merged)?)
+}
+
+// The contexts in which the body ends. The elements of a fault are split.
+fn run_body<T: Structure>(
+    alloc: Global,
+    body: &Stmts,
+    opening: Context,
+    chosen: &mut Chosen,
+) -> Result<Vec<Context>, Stop>
+    requires { IsWellFormedIn (BlockIsWellScoped (stmts_of (stmts_list body.now))) T.ordered opening }
+    ensures runs { IfOk result (λ r. RunsAs (block_run (stmts_of (stmts_list body.now))) opening r.items) }
+    ensures fault { IfErr result (λ s. IfFault s (IsSplitFrom (FailsWithin (block_run (stmts_of (stmts_list body.now))) opening))) }
+    ensures only_asked { HasOnlyAsked (λ b. (⟦<dyn Decider as Decider>⟧ b.vtable).kind_of b.value) (λ b. (⟦<dyn Decider as Decider>⟧ b.vtable).questions b.value) chosen.old chosen.new }
+{
+    match run_block::<T>(alloc, body, opening, chosen) {
+        Ok(ends) => Ok(ends),
+        Err(stop) => Err(split_stop(alloc, stop)),
+    }
 }
 
 // Nothing is known of the parameters, of which each holds a level of its own.

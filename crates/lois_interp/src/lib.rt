@@ -5,6 +5,7 @@ mod blocks;
 mod cases;
 mod checks;
 mod elements;
+mod failures;
 mod interpreting;
 mod joining;
 mod leaves;

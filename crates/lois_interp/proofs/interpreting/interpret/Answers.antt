@@ -8,6 +8,7 @@ use Rattle.lois_eval.specs.Throughout.{IfFault}
 use Rattle.lois_interp.specs.Failed.{FailsWithin}
 use Rattle.lois_interp.specs.Interpreted.{AreResultsOf, IsFailureOf}
 use Rattle.lois_interp.specs.Run.{block_run}
+use Rattle.lois_interp.specs.Split.{IsSplitFrom}
 use Rattle.lois_interp.specs.WellScoped.{BlockIsWellScoped}
 use Rattle.lois_interp.proofs.Opened.{parameters_distinct, body_placed}
 use Rattle.lois_interp.proofs.Nowhere.{script_fails_nowhere}
@@ -22,8 +23,8 @@ opening-requires g c =
     let s = script_tree c.script-script.result.now in
     parameters_distinct s (subst (λ x. IsWellScoped (script_tree x)) same c.script-script.ensures.scoped)
 
-pub run_block-requires : goal.run_block-requires
-run_block-requires g c =
+pub run_body-requires : goal.run_body-requires
+run_body-requires g c =
     let same = sym c.script-script.ensures.same in
     let s = script_tree c.script-script.result.now in
     let text = c.requires.spelled.0 in
@@ -40,7 +41,7 @@ returns-in_err-ends-clause-fault g c =
     let scoped = subst (λ x. IsWellScoped (script_tree x)) (sym same) c.script-script.ensures.scoped in
     let r = c.from_residual-in_err-ends.result in
     subst (λ x. IfErr r (λ z. IfFault z (IsFailureOf (script_tree x)))) same
-    (passed_on r c.in_err-ends.field-0.0 (FailsWithin (block_run s.body) o) (IsFailureOf s) c.from_residual-in_err-ends.ensures.1 (failure_of text s spelled scoped o c.in_ok-opening.ensures) c.in_err-ends.ensures.fault)
+    (passed_on r c.in_err-ends.field-0.0 (IsSplitFrom (FailsWithin (block_run s.body) o)) (IsFailureOf s) c.from_residual-in_err-ends.ensures.1 (λ g h. failure_of text s spelled scoped o c.in_ok-opening.ensures h.0 g h.2 h.1) c.in_err-ends.ensures.fault)
 
 pub all_printed-requires : goal.all_printed-requires
 all_printed-requires g c =
