@@ -7,8 +7,8 @@ use Rattle.lois_simplify.specs.Irredundant.{HasNormalGuards}
 use Rattle.lois_simplify.specs.Plain.{HasPlainGuards}
 use Rattle.lois_simplify.specs.Simplification.{IsSimplification}
 
--- r stands for t where u holds, inside n levels, and is normal there, with normalised guards, of which one that always holds
--- is `true`
+-- r stands for t where u holds, inside n levels, and is normal there, with normalised guards without `<=`, of which one that
+-- always holds is `true`
 pub record IsReadable (u : List (List Lit)) (n : ℕ) (t r : TermD) : Type 0 where
   pub kept : IsSimplification u n t r
   pub normal : IsNormal r u n

@@ -11,7 +11,7 @@ fn cube_has_order(cube: &Cube) -> bool
     ensures { IsTrue result → (ordered : Bool) → AdmitsCube ordered cube.now → IsTrue ordered }
 {
     for lit in cube.as_slice() {
-        if lit.op == Op::Lt {
+        if lit.op == Op::Lt || lit.op == Op::AtMost {
             return true;
         }
     }
@@ -64,7 +64,7 @@ fn items_have_order(comps: &Comps) -> bool
     false
 }
 
-/// Whether `<` stands in the guard or in the item. Where it does, the atoms are ordered.
+/// Whether `<` or `<=` stands in the guard or in the item. Where it does, the atoms are ordered.
 #[cycle(ordering)]
 pub(crate) fn comp_has_order(comp: &Comp) -> bool
     ensures { IsTrue result → (ordered : Bool) → AdmitsComp ordered (comp_of comp.now) → IsTrue ordered }
