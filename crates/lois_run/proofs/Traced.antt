@@ -8,7 +8,7 @@ use Rattle.lois_base.specs.Atom.{Atom}
 use Rattle.lois_base.specs.Data.{TermD, depth}
 use Rattle.lois_base.specs.Fits.{Fits}
 use Rattle.lois_base.specs.Truth.{sampled}
-use Rattle.lois_base.specs.Validity.{AdmitsTerm, HasBoundedWidths}
+use Rattle.lois_base.specs.Validity.{AdmitsTerm, HasBoundedWidths, IsStrictTerm}
 use Rattle.lois_base.specs.Values.{point}
 use Rattle.lois_base.specs.declared.limits.TheConstants.{LONGEST_TEXT}
 use Rattle.lois_base.proofs.Members.{same_trans}
@@ -19,7 +19,7 @@ use Rattle.lois_script.specs.Limits.{Spells}
 use Rattle.lois_script.specs.Scope.{IsWellScoped}
 use Rattle.lois_script.specs.Tree.{ScriptD}
 use Rattle.lois_answers.specs.ResultsData.{LineD}
-use Rattle.lois_answers.specs.Sound.{HasTags, IsFreeName, IsSoundTerm, IsSoundLine, AreParameters, IsPlaceNumber}
+use Rattle.lois_answers.specs.Sound.{HasTags, IsFreeName, IsSoundLine, AreParameters, IsPlaceNumber}
 use Rattle.lois_answers.specs.declared.faults.Trace.{Trace}
 use Rattle.lois_meaning.specs.Runs.{ScriptFails}
 use Rattle.lois_meaning.specs.Kinds.{AreSame}
@@ -64,7 +64,7 @@ module _ (text : List ℕ) (s : ScriptD) (spelled : Spells text s) (scoped : IsW
   free = named_free (sampled f.sample.items) h.path f.elements h.named (path_free text s spelled (sampled (take n f.sample.items)) f.pos.offset f.kind h.path h.failed)
 
   -- ---- the elements with other terms, which have the same values at the numbers of the trace
-  module _ (w r : Word) (sample : w.sample ≡ f.sample.items) (letters : w.letters ≡ map (λ l. l.term) f.elements) (short : IsShortenedWord n w r) (ms : List LineD) (names : map (λ l. l.name) ms ≡ map (λ l. l.name) f.elements) (terms : map (λ l. l.term) ms ≡ r.letters) (written : All (IsSoundTerm s.ordered (length r.sample)) r.letters) where
+  module _ (w r : Word) (sample : w.sample ≡ f.sample.items) (letters : w.letters ≡ map (λ l. l.term) f.elements) (short : IsShortenedWord n w r) (ms : List LineD) (names : map (λ l. l.name) ms ≡ map (λ l. l.name) f.elements) (terms : map (λ l. l.term) ms ≡ r.letters) where
     free_names : All (λ l. IsFreeName l.name) ms
     free_names = All-of_map IsFreeName (λ l. l.name) ms (subst (All IsFreeName) (sym names) (All-map IsFreeName (λ l. l.name) f.elements free))
 
@@ -87,7 +87,7 @@ module _ (text : List ℕ) (s : ScriptD) (spelled : Spells text s) (scoped : IsW
         tags = All-contains (λ l. HasTags l.term) ms l tags there;
         widths = All-contains (λ l. HasBoundedWidths l.term) ms l (all_terms HasBoundedWidths (short.widths (all_letters HasBoundedWidths h.widths))) there;
         operators = All-contains (λ l. AdmitsTerm s.ordered l.term) ms l (all_terms (AdmitsTerm s.ordered) (short.operators s.ordered (all_letters (AdmitsTerm s.ordered) h.operators))) there;
-        strict = (All-contains (λ l. IsSoundTerm s.ordered (length r.sample) l.term) ms l (all_terms (IsSoundTerm s.ordered (length r.sample)) written) there).strict;
+        strict = All-contains (λ l. IsStrictTerm l.term) ms l (all_terms IsStrictTerm (short.strict (all_letters IsStrictTerm h.strict))) there;
         brackets = All-contains (λ l. depth l.term ≤ 64) ms l (all_terms (λ t. depth t ≤ 64) shallow) there;
       };
     }

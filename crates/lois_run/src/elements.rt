@@ -1,12 +1,10 @@
 //! The elements of a trace: their terms, and other terms under their names.
 
-ghost use Rattle.std.specs.Prelude.{◌≡◌, ◌↔◌, ◌<◌, length, get_or, map, IfOk, IsTrue};
-ghost use Rattle.std.specs.List.{All};
-ghost use Rattle.lois_answers.specs.Sound.{IsSoundTerm};
+ghost use Rattle.std.specs.Prelude.{◌≡◌, ◌<◌, length, get_or, map, IfOk};
 ghost use Rattle.lois_base.specs.Tree.{tree};
 
-use lois_answers::{Line, Lines, is_sound_term};
-use lois_base::{NoMemory, Numbers, Term, Terms};
+use lois_answers::{Line, Lines};
+use lois_base::{NoMemory, Term, Terms};
 use std::alloc::Global;
 
 /// The terms of the elements, in order. Errors: `NoMemory`.
@@ -18,29 +16,6 @@ pub(crate) fn terms_of(alloc: Global, elements: &Lines) -> Result<Terms, NoMemor
         terms.push(element.term.copy(alloc)?)?;
     }
     Ok(terms)
-}
-
-/// The terms, which can be written with an atom for each number. Errors: `NoMemory`, also where one can't.
-pub(crate) fn writable(terms: Terms, ordered: bool, sample: &Numbers) -> Result<Terms, NoMemory>
-    ensures same { IfOk result (λ r. r ≡ terms) }
-    ensures sound { IfOk result (λ r. All (IsSoundTerm ordered (length sample.now)) r) }
-{
-    if can_be_written(&terms, ordered, sample.len()) {
-        Ok(terms)
-    } else {
-        Err(NoMemory)
-    }
-}
-
-fn can_be_written(terms: &Terms, ordered: bool, levels: usize) -> bool
-    ensures exact { IsTrue result ↔ All (IsSoundTerm ordered levels) terms.now }
-{
-    for term in terms.as_slice() {
-        if !is_sound_term(term, ordered, levels) {
-            return false;
-        }
-    }
-    true
 }
 
 /// Elements of the same names with other terms, in order. Errors: `NoMemory`.

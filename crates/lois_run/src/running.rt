@@ -12,7 +12,7 @@ ghost use Rattle.lois_script.specs.Limits.{Spells};
 ghost use Rattle.lois_script.specs.View.{script_tree};
 
 use crate::Outcome;
-use crate::elements::{terms_of, with_terms, writable};
+use crate::elements::{terms_of, with_terms};
 use lois_answers::{Lines, Results, Trace, tags_are_names};
 use lois_base::{NoMemory, Numbers};
 use lois_command::place_at;
@@ -71,9 +71,7 @@ fn trace(alloc: Global, text: &[u8], script: &Scoped, fault: Fault) -> Result<Tr
     };
     let short = drop_unused_numbers(alloc, word, script.parameters.len())?;
     let Word { sample, letters } = short;
-    // they always are: the terms had no `<=`, and dropping numbers turns no operator into another
-    let terms = writable(letters, script.order, &sample)?;
-    let elements = with_terms(alloc, &fault.elements, &terms)?;
+    let elements = with_terms(alloc, &fault.elements, &letters)?;
     let numbers = sample.as_slice();
     numbers_are_small(numbers);
     element_tags_are_names(&elements);

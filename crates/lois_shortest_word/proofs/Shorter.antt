@@ -11,7 +11,7 @@ use Rattle.lois_base.specs.Fits.{Fits}
 use Rattle.lois_base.specs.Normal.{OccursInPart}
 use Rattle.lois_base.specs.Rename.{rename, rename_parts}
 use Rattle.lois_base.specs.Truth.{holds, sampled}
-use Rattle.lois_base.specs.Validity.{AdmitsTerm, HasBoundedWidths}
+use Rattle.lois_base.specs.Validity.{AdmitsTerm, HasBoundedWidths, IsStrictTerm}
 use Rattle.lois_base.specs.declared.guards.Lit.{Lit}
 use Rattle.lois_base.proofs.RenamedForm.{admits_renamed, depth_renamed, widths_renamed}
 use Rattle.lois_base.proofs.Lists.{parts_renamed}
@@ -24,6 +24,7 @@ use Rattle.lois_shortest_word.specs.Words.{values_at, first_sampled, AreUsedBetw
 use Rattle.lois_shortest_word.specs.declared.words.Word.{Word}
 use Rattle.lois_shortest_word.proofs.Lowered.{lowered_above, length_removed, same_lowered, fits_lowered, part_renamed}
 use Rattle.lois_shortest_word.proofs.Readings.{accepts_alike}
+use Rattle.lois_shortest_word.proofs.RenamedStrict.{strict_renamed}
 
 first_left : (s : List ℕ) (n gone : ℕ) → n ≤ gone → gone < length s → take n (remove s gone) ≡ take n s
 first_left [] n gone l below = absurd (omega arith)
@@ -59,6 +60,7 @@ shortened_none n w count levels = record {
   depths = refl;
   operators = λ o h. h;
   widths = λ h. h;
+  strict = λ h. h;
 }
 
 module _ (n gone : ℕ) (w v r : Word) (from : n ≤ gone) (below : gone < length v.sample) (unused : OccursInPart gone (terms_of v.letters) → ⊥) (is : IsWithoutLevel gone v r) where
@@ -73,6 +75,7 @@ module _ (n gone : ℕ) (w v r : Word) (from : n ≤ gone) (below : gone < lengt
     depths = ap (map depth) is.letters ∙ (depths_lowered gone v.letters ∙ was.depths);
     operators = λ o h. subst (All (AdmitsTerm o)) (sym is.letters) (All-map (AdmitsTerm o) (rename (lowered gone)) v.letters (All-weaker (AdmitsTerm o) (λ t. AdmitsTerm o (rename (lowered gone) t)) (λ t a. admits_renamed (lowered gone) o t a) v.letters (was.operators o h)));
     widths = λ h. subst (All HasBoundedWidths) (sym is.letters) (All-map HasBoundedWidths (rename (lowered gone)) v.letters (All-weaker HasBoundedWidths (λ t. HasBoundedWidths (rename (lowered gone) t)) (λ t a. widths_renamed (lowered gone) t a) v.letters (was.widths h)));
+    strict = λ h. subst (All IsStrictTerm) (sym is.letters) (All-map IsStrictTerm (rename (lowered gone)) v.letters (All-weaker IsStrictTerm (λ t. IsStrictTerm (rename (lowered gone) t)) (λ t a. strict_renamed (lowered gone) t a) v.letters (was.strict h)));
   }
     where
       count : suc (length r.sample) ≡ length v.sample

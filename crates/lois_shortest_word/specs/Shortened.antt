@@ -5,7 +5,7 @@ use Rattle.lois_base.specs.Data.{depth}
 use Rattle.lois_base.specs.Fits.{Fits}
 use Rattle.lois_base.specs.Rename.{rename}
 use Rattle.lois_base.specs.Truth.{sampled}
-use Rattle.lois_base.specs.Validity.{AdmitsTerm, HasBoundedWidths}
+use Rattle.lois_base.specs.Validity.{AdmitsTerm, HasBoundedWidths, IsStrictTerm}
 use Rattle.lois_meaning.specs.Kinds.{AreSame}
 use Rattle.lois_shortest_word.specs.Words.{values_at, first_sampled}
 use Rattle.lois_shortest_word.specs.declared.words.Word.{Word}
@@ -28,3 +28,4 @@ pub record IsShortenedWord (n : ℕ) (w r : Word) : Type 0 where
   pub depths : map depth r.letters ≡ map depth w.letters
   pub operators : (o : Bool) → All (AdmitsTerm o) w.letters → All (AdmitsTerm o) r.letters
   pub widths : All HasBoundedWidths w.letters → All HasBoundedWidths r.letters
+  pub strict : All IsStrictTerm w.letters → All IsStrictTerm r.letters

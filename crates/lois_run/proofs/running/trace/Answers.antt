@@ -1,7 +1,6 @@
 use Rattle.std.proofs.Common.{◌≡◌, ◌<◌, ◌^◌, length, map, refl, sym, ap, subst, ◌∙◌}
 use Rattle.std.proofs.lemmas.List.Elements.{All-map}
 use Rattle.std.specs.List.{All}
-use Rattle.lois_answers.specs.Sound.{IsSoundTerm}
 use Rattle.lois_base.specs.Fits.{Fits}
 use Rattle.lois_script.specs.View.{script_tree}
 use Rattle.lois_script.specs.declared.script.Script.{Script}
@@ -24,11 +23,9 @@ returns c =
     let count : c.len.result ≡ length (script_tree c.args.script.now).parameters = c.len.ensures.counted ∙ ap (λ (x : Script). length (script_tree x).parameters) same in
     let w : Word = record { sample = c.from_vec.result; letters = c.in_ok-terms_of.field-0 } in
     let r = c.in_ok-short.short in
-    let written = subst (λ o. All (IsSoundTerm o (length r.sample)) r.letters) (ap (λ (x : Script). (script_tree x).ordered) same)
-    (subst (All (IsSoundTerm c.script-script.result.now.order (length r.sample))) c.in_ok-terms.ensures.same c.in_ok-terms.ensures.sound) in
     traced c.args.text.now (script_tree c.args.script.now) c.requires.spelled c.script-script.ensures.scoped c.requires.fits c.args.fault c.requires.fault w r c.from_vec.ensures c.in_ok-terms_of.ensures.terms
     (subst (λ k. IsShortenedWord k w r) count c.in_ok-short.ensures.shortened)
-    c.in_ok-elements.elements c.in_ok-elements.ensures.names (c.in_ok-elements.ensures.terms ∙ c.in_ok-terms.ensures.same) written c.place_at-place.result _ c.place_at-place.ensures
+    c.in_ok-elements.elements c.in_ok-elements.ensures.names c.in_ok-elements.ensures.terms c.place_at-place.result _ c.place_at-place.ensures
     (ap (λ (x : Script). (script_tree x).ordered) same)
     (c.in_ok-parameter_names.ensures.names ∙ ap (λ (x : Script). map parameter_name (script_tree x).parameters) same)
     refl refl refl refl refl c.element_tags_are_names.ensures (subst (All (λ a. a < 2 ^ 64)) c.as_slice-numbers.ensures c.numbers_are_small.ensures)
