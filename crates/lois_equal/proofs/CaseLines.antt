@@ -7,7 +7,7 @@ use Rattle.std.proofs.lemmas.List.Elements.{All-head, All-tail, All-more, All-ma
 use Rattle.lois_base.specs.Atom.{whole}
 use Rattle.lois_base.specs.Data.{TermD}
 use Rattle.lois_base.specs.Truth.{sampled}
-use Rattle.lois_base.specs.Validity.{AdmitsTerm, HasBoundedWidths}
+use Rattle.lois_base.specs.Validity.{AdmitsTerm, HasBoundedWidths, IsStrictTerm}
 use Rattle.lois_base.specs.declared.guards.Lit.{Lit}
 use Rattle.lois_answers.specs.LastNamed.{last_line, last_named, lines_named}
 use Rattle.lois_answers.specs.ResultsData.{LineD, CaseD}
@@ -113,10 +113,10 @@ lines_ok n a b c t s (Ok e) first second same is = lines_equal n a b c t s e fir
 lines_ok n a b c t s (Err e) first second same is = is
 
 -- ---- the terms of a difference
-pub usual_ok : {E : Type 0} (o : Bool) (n : ℕ) (t s : TermD) (r : Result Equality E) → IsSoundTerm o n t → IsSoundTerm o n s → IfOk r (IfDiffers (λ d. (p : Bool) → AdmitsTerm p t → AdmitsTerm p s → All (AdmitsTerm p) d.word)) → IfOk r (IfDiffers (λ d. HasBoundedWidths t → HasBoundedWidths s → All HasBoundedWidths d.word)) → IfOk r (IfDiffers (λ d. AreBounded o d.word))
-usual_ok o n t s (Ok Same) first second operators widths = tt
-usual_ok o n t s (Ok (Differs d)) first second operators widths = record { operators = operators o first.operators second.operators; widths = widths first.widths second.widths }
-usual_ok o n t s (Err e) first second operators widths = operators
+pub usual_ok : {E : Type 0} (o : Bool) (n : ℕ) (t s : TermD) (r : Result Equality E) → IsSoundTerm o n t → IsSoundTerm o n s → IfOk r (IfDiffers (λ d. (p : Bool) → AdmitsTerm p t → AdmitsTerm p s → All (AdmitsTerm p) d.word)) → IfOk r (IfDiffers (λ d. HasBoundedWidths t → HasBoundedWidths s → All HasBoundedWidths d.word)) → IfOk r (IfDiffers (λ d. All IsStrictTerm d.word)) → IfOk r (IfDiffers (λ d. AreBounded o d.word))
+usual_ok o n t s (Ok Same) first second operators widths strict = tt
+usual_ok o n t s (Ok (Differs d)) first second operators widths strict = record { operators = operators o first.operators second.operators; strict = strict; widths = widths first.widths second.widths }
+usual_ok o n t s (Err e) first second operators widths strict = operators
 
 pub usual_at : (o : Bool) (found : Equality) (d : Difference) → found ≡ Differs d → IfDiffers (λ z. AreBounded o z.word) found → AreBounded o d.word
 usual_at o found d e h = subst (IfDiffers (λ z. AreBounded o z.word)) e h

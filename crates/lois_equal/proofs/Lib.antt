@@ -5,4 +5,5 @@ pub mod Total
 pub mod Sinks
 pub mod Differences
 pub mod Shorter
+pub mod SplitLetters
 pub mod CaseLines

@@ -5,7 +5,7 @@ use Rattle.lois_base.specs.Atom.{Atom}
 use Rattle.lois_base.specs.Data.{TermD}
 use Rattle.lois_base.specs.Fits.{Fits}
 use Rattle.lois_base.specs.Truth.{holds, sampled}
-use Rattle.lois_base.specs.Validity.{AdmitsTerm, HasBoundedWidths}
+use Rattle.lois_base.specs.Validity.{AdmitsTerm, HasBoundedWidths, IsStrictTerm}
 use Rattle.lois_base.specs.Values.{PointValue}
 use Rattle.lois_base.specs.declared.guards.Lit.{Lit}
 use Rattle.lois_automata.specs.Throughout.{HoldsThroughout}
@@ -59,9 +59,10 @@ pub record IsShortestDifference (n : ℕ) (u : List (List Lit)) (t s : TermD) (w
   pub shortest : HoldsThroughout n u (λ c. (word : List PointValue) → AcceptsOnlyFirst t s c word → length w.letters ≤ length word)
   pub used : AreUsedBetween n (length w.sample) w.letters
 
--- each term admits the operators and has tuples of 2 to 8 parts
+-- each term admits the operators, has no `<=`, and has tuples of 2 to 8 parts
 pub record AreBounded (o : Bool) (ts : List TermD) : Type 0 where
   pub operators : All (AdmitsTerm o) ts
+  pub strict : All IsStrictTerm ts
   pub widths : All HasBoundedWidths ts
 
 -- ---- what private contracts say

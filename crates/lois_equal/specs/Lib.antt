@@ -1,5 +1,6 @@
 pub mod Distinguishing
 pub mod Completed
+pub mod SplitWords
 pub mod Differing
 pub mod Comparing
 pub mod DifferenceText

@@ -4,13 +4,14 @@ ghost use Rattle.std.specs.Prelude.{Bool, IfOk, IfSome, IsNone, ◌↔◌};
 ghost use Rattle.std.specs.List.{All};
 ghost use Rattle.lois_base.specs.Fits.{ConstraintFits, Fits};
 ghost use Rattle.lois_base.specs.Tree.{tree};
-ghost use Rattle.lois_base.specs.Validity.{AdmitsConstraint, AdmitsTerm, HasBoundedWidths};
+ghost use Rattle.lois_base.specs.Validity.{AdmitsConstraint, AdmitsTerm, HasBoundedWidths, IsStrictTerm};
 ghost use Rattle.lois_deciders.specs.OnlyAsked.{HasOnlyAsked};
 ghost use Rattle.lois_automata.specs.Machines.{IsAutomatonAt, IsDeterministicAt};
 ghost use Rattle.lois_automata.specs.Throughout.{HoldsThroughout};
 ghost use Rattle.lois_equal.specs.Differing.{IsLanguageIncluded, IsShortestDifference};
 
 use crate::completion::complete_automaton;
+use crate::splitting::split_found;
 use lois_automata::{complement, five};
 use lois_base::{Constraint, Decider, NoMemory, Structure, Term};
 use lois_deciders::Chosen;
@@ -21,6 +22,34 @@ use std::alloc::Global;
 /// that `under` admits, or `None` where there is none at any. Errors: `NoMemory`, also where a level would pass the greatest
 /// usize.
 pub fn shortest_difference<T: Structure>(
+    alloc: Global,
+    a: &Term,
+    b: &Term,
+    under: &Constraint,
+    size: usize,
+    chosen: &mut Chosen,
+) -> Result<Option<Word>, NoMemory>
+    requires levels { Fits size (tree a.now) }
+    requires operators { AdmitsTerm T.ordered (tree a.now) }
+    requires other_levels { Fits size (tree b.now) }
+    requires other_operators { AdmitsTerm T.ordered (tree b.now) }
+    requires under { ConstraintFits size under.now }
+    requires under_operators { AdmitsConstraint T.ordered under.now }
+    requires automaton { HoldsThroughout size under.now (IsAutomatonAt (tree a.now)) }
+    requires deterministic { HoldsThroughout size under.now (IsDeterministicAt (tree b.now)) }
+    ensures none { IfOk result (λ o. IsNone o → IsLanguageIncluded size under.now (tree a.now) (tree b.now)) }
+    ensures found { IfOk result (λ o. IfSome o (IsShortestDifference size under.now (tree a.now) (tree b.now))) }
+    ensures operators { IfOk result (λ o. IfSome o (λ w. (o : Bool) → AdmitsTerm o (tree a.now) → AdmitsTerm o (tree b.now) → All (AdmitsTerm o) w.letters)) }
+    ensures widths { IfOk result (λ o. IfSome o (λ w. HasBoundedWidths (tree a.now) → HasBoundedWidths (tree b.now) → All HasBoundedWidths w.letters)) }
+    ensures strict { IfOk result (λ o. IfSome o (λ w. All IsStrictTerm w.letters)) }
+    ensures only_asked { HasOnlyAsked (λ b. (⟦<dyn Decider as Decider>⟧ b.vtable).kind_of b.value) (λ b. (⟦<dyn Decider as Decider>⟧ b.vtable).questions b.value) chosen.old chosen.new }
+{
+    let found = find_difference::<T>(alloc, a, b, under, size, chosen)?;
+    split_found(alloc, found, size)
+}
+
+// The same, with letters as the two automata and the complement give them.
+fn find_difference<T: Structure>(
     alloc: Global,
     a: &Term,
     b: &Term,

@@ -6,9 +6,11 @@ mod completion;
 mod difference;
 mod differing;
 mod sink_steps;
+mod splitting;
 mod texts;
 
 pub use comparing::{Comparison, ComparisonFault, compare, is_deterministic};
 pub use difference::shortest_difference;
 pub use differing::{Difference, Equality, equal};
+pub use splitting::split_found;
 pub use texts::{append_letters, print_difference};

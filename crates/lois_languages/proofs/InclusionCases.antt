@@ -4,7 +4,7 @@ use Rattle.std.specs.Prelude.{IfSome, IfOk, Result, Ok, Err}
 use Rattle.std.specs.List.{All}
 use Rattle.lois_base.specs.Data.{TermD}
 use Rattle.lois_base.specs.Truth.{sampled}
-use Rattle.lois_base.specs.Validity.{AdmitsTerm, HasBoundedWidths}
+use Rattle.lois_base.specs.Validity.{AdmitsTerm, HasBoundedWidths, IsStrictTerm}
 use Rattle.lois_base.specs.Values.{IsIn}
 use Rattle.lois_base.specs.declared.guards.Lit.{Lit}
 use Rattle.lois_answers.specs.ResultsData.{CaseD}
@@ -35,10 +35,10 @@ excess_word n u t s w is =
 pub beyond_here : (n : ℕ) (a b : List ℕ) (w : Word) (c : CaseD) → IsExcessWord n a b w c → IsBeyond n a b (excess_of w) a c
 beyond_here n a b w c (t, s, first, second, is) = (t, s, first, second, is, refl)
 
-pub bounded_excess : {E : Type 0} (o : Bool) (n : ℕ) (t s : TermD) (r : Result (Option Word) E) → IsSoundTerm o n t → IsSoundTerm o n s → IfOk r (λ x. IfSome x (λ w. (p : Bool) → AdmitsTerm p t → AdmitsTerm p s → All (AdmitsTerm p) w.letters)) → IfOk r (λ x. IfSome x (λ w. HasBoundedWidths t → HasBoundedWidths s → All HasBoundedWidths w.letters)) → IfOk r (λ x. IfSome x (λ w. AreBounded o w.letters))
-bounded_excess o n t s (Ok None) first second operators widths = tt
-bounded_excess o n t s (Ok (Some w)) first second operators widths = record { operators = operators o first.operators second.operators; widths = widths first.widths second.widths }
-bounded_excess o n t s (Err e) first second operators widths = operators
+pub bounded_excess : {E : Type 0} (o : Bool) (n : ℕ) (t s : TermD) (r : Result (Option Word) E) → IsSoundTerm o n t → IsSoundTerm o n s → IfOk r (λ x. IfSome x (λ w. (p : Bool) → AdmitsTerm p t → AdmitsTerm p s → All (AdmitsTerm p) w.letters)) → IfOk r (λ x. IfSome x (λ w. HasBoundedWidths t → HasBoundedWidths s → All HasBoundedWidths w.letters)) → IfOk r (λ x. IfSome x (λ w. All IsStrictTerm w.letters)) → IfOk r (λ x. IfSome x (λ w. AreBounded o w.letters))
+bounded_excess o n t s (Ok None) first second operators widths strict = tt
+bounded_excess o n t s (Ok (Some w)) first second operators widths strict = record { operators = operators o first.operators second.operators; strict = strict; widths = widths first.widths second.widths }
+bounded_excess o n t s (Err e) first second operators widths strict = operators
 
 -- ---- all cases
 pub inclusion_of_cases : (n : ℕ) (a b : List ℕ) (cs : List CaseD) → All (AreSuited n a b) cs → (r : Inclusion) → IsFirstBeyond n a b cs r → IsInclusion n a b cs r

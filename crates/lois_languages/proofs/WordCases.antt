@@ -1,24 +1,49 @@
 -- Cases that are asked for a word, one after the other.
-use Rattle.std.proofs.Common.{◌≡◌, ℕ, Bool, List, Option, Some, None, subst}
-use Rattle.std.specs.Prelude.{IfSome, IfOk, Result, Ok, Err}
+use Rattle.std.proofs.Common.{◌≡◌, ℕ, Bool, List, Option, Some, None, sym, subst}
+use Rattle.std.specs.Bool.{IsTrue}
+use Rattle.std.specs.Prelude.{IfSome}
 use Rattle.std.specs.List.{All}
+use Rattle.lois_base.specs.Atom.{Atom}
 use Rattle.lois_base.specs.Data.{TermD}
+use Rattle.lois_base.specs.Truth.{holds, sampled}
 use Rattle.lois_base.specs.Validity.{AdmitsTerm, HasBoundedWidths}
+use Rattle.lois_base.specs.Values.{point}
+use Rattle.lois_base.specs.declared.guards.Lit.{Lit}
 use Rattle.lois_answers.specs.ResultsData.{CaseD}
 use Rattle.lois_answers.specs.Sound.{IsSoundTerm}
+use Rattle.lois_shortest_word.specs.Words.{AcceptsAt, AreAsLong, IsShortestWord, first_sampled, values_at}
 use Rattle.lois_shortest_word.specs.declared.words.Word.{Word}
+use Rattle.lois_shortest_word.proofs.Readings.{accepted_letters}
 use Rattle.lois_equal.specs.Differing.{AreBounded}
+use Rattle.lois_equal.specs.SplitWords.{IsSplitWord, IsSplitOrNone}
+use Rattle.lois_equal.proofs.SplitLetters.{accepted_split, as_many}
 use Rattle.lois_languages.specs.Faults.{HasAutomaton}
 use Rattle.lois_languages.specs.Witnesses.{IsFirstWordReason, IsFirstWord, IsWitness}
 use Rattle.lois_languages.specs.declared.faults.LineFault.{LineFault}
 use Rattle.lois_languages.specs.declared.witnesses.Witness.{Witness}
 use Rattle.lois_languages.specs.declared.witnesses.Witness.TheVariants.{Nothing, Found, Refused}
 
--- the terms of a word
-pub bounded_word : {E : Type 0} (o : Bool) (n : ℕ) (t : TermD) (r : Result (Option Word) E) → IsSoundTerm o n t → IfOk r (λ x. IfSome x (λ w. (p : Bool) → AdmitsTerm p t → All (AdmitsTerm p) w.letters)) → IfOk r (λ x. IfSome x (λ w. HasBoundedWidths t → All HasBoundedWidths w.letters)) → IfOk r (λ x. IfSome x (λ w. AreBounded o w.letters))
-bounded_word o n t (Ok None) sound operators widths = tt
-bounded_word o n t (Ok (Some w)) sound operators widths = record { operators = operators o sound.operators; widths = widths sound.widths }
-bounded_word o n t (Err e) sound operators widths = operators
+-- ---- a word whose letters are split
+pub shortest_split : (n : ℕ) (u : List (List Lit)) (t : TermD) (w r : Word) → IsShortestWord n u t w → IsSplitWord n w r → IsShortestWord n u t r
+shortest_split n u t w r is split =
+    let c = first_sampled n r.sample in
+    let values = values_at (sampled r.sample) r.letters in
+    let accepted : AcceptsAt t c values = accepted_split t n w r split.short is.accepted in
+    record {
+      count = split.short.count;
+      admitted = subst (λ (z : List Atom). IsTrue (holds z u)) (sym split.short.first) is.admitted;
+      levels = split.short.levels;
+      letters = (accepted.0, accepted.1, accepted_letters (point t c) accepted.0 values accepted.1 accepted.2);
+      accepted = accepted;
+      shortest = subst (AreAsLong n u t) (sym (as_many n w r split.short)) is.shortest;
+      used = split.used;
+    }
+
+pub bounded_word : (o : Bool) (n : ℕ) (t : TermD) (found r : Option Word) → IsSoundTerm o n t → IsSplitOrNone n found r → IfSome found (λ w. (p : Bool) → AdmitsTerm p t → All (AdmitsTerm p) w.letters) → IfSome found (λ w. HasBoundedWidths t → All HasBoundedWidths w.letters) → IfSome r (λ w. AreBounded o w.letters)
+bounded_word o n t None None sound is operators widths = tt
+bounded_word o n t None (Some r) sound is operators widths = absurd is
+bounded_word o n t (Some w) None sound is operators widths = absurd is
+bounded_word o n t (Some w) (Some r) sound is operators widths = record { operators = is.short.operators o (operators o sound.operators); strict = is.strict; widths = is.short.widths (widths sound.widths) }
 
 -- ---- all cases
 pub witness_of : (n : ℕ) (a : List ℕ) (cs : List CaseD) → All (HasAutomaton n a) cs → (r : Witness) → IsFirstWord n a cs r → IsWitness n a cs r

@@ -13,6 +13,7 @@ use crate::faults::{LineFault, is_automaton};
 use lois_answers::{Case, Cases, Results};
 use lois_base::{Decider, Name, NoMemory, Structure};
 use lois_deciders::Chosen;
+use lois_equal::split_found;
 use lois_shortest_word::{Word, shortest_word};
 use std::alloc::Global;
 
@@ -138,5 +139,6 @@ fn word_in<T: Structure>(
     let Some(line) = case.lines.last_named(name) else {
         unreachable!()
     };
-    shortest_word::<T>(alloc, &line.term, &case.when, size, chosen)
+    let found = shortest_word::<T>(alloc, &line.term, &case.when, size, chosen)?;
+    split_found(alloc, found, size)
 }

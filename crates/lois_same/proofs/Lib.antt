@@ -5,3 +5,4 @@ pub mod SameCases
 pub mod Distinct
 pub mod TextEnds
 pub mod Flaws
+pub mod StrictMembers

@@ -3,6 +3,7 @@ use Rattle.std.specs.Prelude.{◌≡◌, ℕ, ◌+◌, ◌≤◌, Bool, true, fa
 use Rattle.lois_base.specs.Fits.{Fits}
 use Rattle.lois_base.specs.Tree.{tree}
 use Rattle.lois_base.specs.Truth.{sampled}
+use Rattle.lois_base.specs.Validity.{IsStrictTerm}
 use Rattle.lois_base.specs.Values.{PointValue, point, IsIn, IsMember, IsSame}
 use Rattle.lois_answers.specs.ResultsData.{LineD, CaseD}
 use Rattle.lois_answers.specs.declared.results.Results.{Results}
@@ -57,3 +58,13 @@ pub record IsContrast (r q : Results) (d : Contrast) : Type 0 where
   pub first_holds : HoldsAt (first_sampled (length r.parameters) d.sample) first
   pub second_holds : HoldsAt (first_sampled (length r.parameters) d.sample) second
   pub detail : IsDetail (length r.parameters) d.sample first.lines second.lines d.detail
+
+-- the member's guards have no `<=`
+abbrev pub DetailIsStrict : Detail → Type 0
+DetailIsStrict (Count k j) = Unit {0}
+DetailIsStrict (Names i a b) = Unit {0}
+DetailIsStrict (Values i a) = Unit {0}
+DetailIsStrict (Member i a t first) = IsStrictTerm (tree t)
+
+abbrev pub ContrastIsStrict : Contrast → Type 0
+ContrastIsStrict d = DetailIsStrict d.detail

@@ -5,6 +5,7 @@ ghost use Rattle.lois_answers.specs.Sound.{IsSound};
 ghost use Rattle.lois_deciders.specs.OnlyAsked.{HasOnlyAsked};
 ghost use Rattle.lois_same.specs.ContrastText.{ContrastFits};
 ghost use Rattle.lois_cases.specs.declared.partitions.Partition.TheVariants.{Whole};
+ghost use Rattle.lois_same.specs.Contrasts.{ContrastIsStrict};
 ghost use Rattle.lois_same.specs.Likenesses.{ArePartitions, IsLikeness, IfDiffer};
 ghost use Rattle.lois_same.specs.Rows.{IsCasesContrastOrNone};
 
@@ -45,6 +46,7 @@ pub fn compare_results(
     requires second { IsSound second.now }
     ensures likeness { IfOk result (IsLikeness first.now second.now) }
     ensures levels { IfOk result (IfDiffer ContrastFits) }
+    ensures strict { IfOk result (IfDiffer ContrastIsStrict) }
 
     // whatever is answered
     ensures only_asked { HasOnlyAsked (λ b. (⟦<dyn Decider as Decider>⟧ b.vtable).kind_of b.value) (λ b. (⟦<dyn Decider as Decider>⟧ b.vtable).questions b.value) chosen.old chosen.new }
@@ -72,6 +74,7 @@ fn compare_partitions(
     requires partitions { ArePartitions first.now second.now }
     ensures likeness { IfOk result (IsLikeness first.now second.now) }
     ensures levels { IfOk result (IfDiffer ContrastFits) }
+    ensures strict { IfOk result (IfDiffer ContrastIsStrict) }
     ensures only_asked { HasOnlyAsked (λ b. (⟦<dyn Decider as Decider>⟧ b.vtable).kind_of b.value) (λ b. (⟦<dyn Decider as Decider>⟧ b.vtable).questions b.value) chosen.old chosen.new }
 {
     if first.order != second.order {

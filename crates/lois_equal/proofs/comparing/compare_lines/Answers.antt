@@ -40,4 +40,4 @@ returns-clause-usual g c =
     let o = g.T.Structure.ordered in
     let n = c.args.size in
     let case = case_of c.args.case.now in
-    usual_ok o n (tree c.in-Some.one.now.term) (tree c.in-Some-last_named.other.now.term) c.equal.result (found_sound o n c.args.first.now case (line_of c.in-Some.one.now) c.requires.sound c.in-Some.ensures.line) (found_sound o n c.args.second.now case (line_of c.in-Some-last_named.other.now) c.requires.sound c.in-Some-last_named.ensures.line) c.equal.ensures.operators c.equal.ensures.widths
+    usual_ok o n (tree c.in-Some.one.now.term) (tree c.in-Some-last_named.other.now.term) c.equal.result (found_sound o n c.args.first.now case (line_of c.in-Some.one.now) c.requires.sound c.in-Some.ensures.line) (found_sound o n c.args.second.now case (line_of c.in-Some-last_named.other.now) c.requires.sound c.in-Some-last_named.ensures.line) c.equal.ensures.operators c.equal.ensures.widths c.equal.ensures.strict

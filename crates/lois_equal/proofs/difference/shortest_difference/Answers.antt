@@ -1,38 +1,20 @@
 use Rattle.std.specs.List.{All}
-use Rattle.std.specs.Prelude.{◌↔◌, Bool, List, IfSome, IsNone}
+use Rattle.std.specs.Prelude.{Bool, IfSome, IsNone}
 use Rattle.std.proofs.lemmas.Result.{IfOk-weaker}
-use Rattle.lois_base.specs.Data.{comps_of}
 use Rattle.lois_base.specs.Tree.{tree}
-use Rattle.lois_base.specs.Validity.{AdmitsTerm, HasBoundedWidths}
-use Rattle.lois_automata.specs.Throughout.{HoldsThroughout}
-use Rattle.lois_base.specs.Values.{PointValue}
-use Rattle.lois_shortest_word.specs.Common.{AcceptBothAt, AcceptNoneInCommon, IsShortestCommonWord}
-use Rattle.lois_equal.specs.Distinguishing.{AcceptsOnlyFirst}
-use Rattle.lois_equal.proofs.Differences.{whole_throughout, alone_throughout, others_automaton, letters_admit, letters_bounded}
-use Rattle.lois_equal.proofs.Shorter.{never_alone, some_alone, some_has}
+use Rattle.lois_base.specs.Validity.{AdmitsTerm, HasBoundedWidths, IsStrictTerm}
+use Rattle.lois_equal.specs.Differing.{IsShortestDifference}
+use Rattle.lois_equal.specs.SplitWords.{IsSplitOrNone}
+use Rattle.lois_equal.proofs.SplitLetters.{may_split, split_none, split_some, split_strict, split_difference}
 use Rattle.lois_equal.proofs.difference.shortest_difference.Goals as goal
 
-pub returns-in_default-clause-none : goal.returns-in_default-clause-none
-returns-in_default-clause-none g c = λ _ d k h word alone. absurd (c.in_default.ensures.none d (c.requires.automaton d k h))
-
-pub complement-requires-clause-whole : goal.complement-requires-clause-whole
-complement-requires-clause-whole g c =
-    let sets = c.in-Some.sets in
-    whole_throughout c.args.size c.args.under.now (tree c.args.a.now) (tree c.args.b.now) (tree c.in_ok-whole.whole) (comps_of sets.states.now) (comps_of sets.letters.now) (comps_of sets.steps.now) (comps_of sets.initial.now) (comps_of sets.accepting.now) c.in-Some.ensures.some c.requires.deterministic c.in_ok-whole.ensures.completion
-
-pub shortest_common_word-requires-clause-other_automaton : goal.shortest_common_word-requires-clause-other_automaton
-shortest_common_word-requires-clause-other_automaton g c = others_automaton c.args.size c.args.under.now (tree c.in_ok-whole.whole) (tree c.in_ok-others.others) c.in_ok-others.ensures.words
+pub split_found-requires : goal.split_found-requires
+split_found-requires g c =
+    may_split c.args.size c.args.under.now (tree c.args.a.now) (tree c.args.b.now) c.in_ok-found.found c.in_ok-found.ensures.found
 
 pub returns-clause-none : goal.returns-clause-none
 returns-clause-none g c =
-    let n = c.args.size in
-    let u = c.args.under.now in
-    let a = tree c.args.a.now in
-    let b = tree c.args.b.now in
-    let others = tree c.in_ok-others.others in
-    let sets = c.in-Some.sets in
-    let words : HoldsThroughout n u (λ d. (word : List PointValue) → AcceptBothAt a others d word ↔ AcceptsOnlyFirst a b d word) = alone_throughout n u a b (tree c.in_ok-whole.whole) (comps_of sets.states.now) (comps_of sets.letters.now) (comps_of sets.steps.now) (comps_of sets.initial.now) (comps_of sets.accepting.now) c.in-Some.ensures.some c.requires.deterministic c.in_ok-whole.ensures.completion others c.in_ok-others.ensures.words in
-    IfOk-weaker c.shortest_common_word.result (λ o. IsNone o ↔ AcceptNoneInCommon n u a others) _ (λ o is. (never_alone n u a b others words (IsNone o) is).0) c.shortest_common_word.ensures.none
+    IfOk-weaker c.split_found.result (IsSplitOrNone c.args.size c.in_ok-found.found) _ (λ o is none. c.in_ok-found.ensures.none (split_none c.args.size c.in_ok-found.found o is none)) c.split_found.ensures
 
 pub returns-clause-found : goal.returns-clause-found
 returns-clause-found g c =
@@ -40,25 +22,22 @@ returns-clause-found g c =
     let u = c.args.under.now in
     let a = tree c.args.a.now in
     let b = tree c.args.b.now in
-    let others = tree c.in_ok-others.others in
-    let sets = c.in-Some.sets in
-    let words : HoldsThroughout n u (λ d. (word : List PointValue) → AcceptBothAt a others d word ↔ AcceptsOnlyFirst a b d word) = alone_throughout n u a b (tree c.in_ok-whole.whole) (comps_of sets.states.now) (comps_of sets.letters.now) (comps_of sets.steps.now) (comps_of sets.initial.now) (comps_of sets.accepting.now) c.in-Some.ensures.some c.requires.deterministic c.in_ok-whole.ensures.completion others c.in_ok-others.ensures.words in
-    IfOk-weaker c.shortest_common_word.result (λ o. IfSome o (IsShortestCommonWord n u a others)) _ (λ o is. some_alone n u a b others words o is) c.shortest_common_word.ensures.found
+    IfOk-weaker c.split_found.result (IsSplitOrNone n c.in_ok-found.found) _ (λ o is. split_some n (IsShortestDifference n u a b) (IsShortestDifference n u a b) (split_difference n u a b) c.in_ok-found.found o is c.in_ok-found.ensures.found) c.split_found.ensures
 
 pub returns-clause-operators : goal.returns-clause-operators
 returns-clause-operators g c =
+    let n = c.args.size in
     let a = tree c.args.a.now in
     let b = tree c.args.b.now in
-    let r = tree c.in_ok-others.others in
-    let sets = c.in-Some.sets in
-    IfOk-weaker c.shortest_common_word.result (λ o. IfSome o (λ w. (p : Bool) → AdmitsTerm p a → AdmitsTerm p r → All (AdmitsTerm p) w.letters)) _ (λ o is.
-    some_has (λ ts. (p : Bool) → AdmitsTerm p a → AdmitsTerm p r → All (AdmitsTerm p) ts) (λ ts. (p : Bool) → AdmitsTerm p a → AdmitsTerm p b → All (AdmitsTerm p) ts) (λ ts h p x y. h p x (c.in_ok-others.ensures.operators p (c.in_ok-whole.ensures.operators p y (letters_admit (tree c.args.a.now) (comps_of sets.states.now) (comps_of sets.letters.now) (comps_of sets.steps.now) (comps_of sets.initial.now) (comps_of sets.accepting.now) c.in-Some.ensures.some p x)))) o is) c.shortest_common_word.ensures.operators
+    IfOk-weaker c.split_found.result (IsSplitOrNone n c.in_ok-found.found) _ (λ o is. split_some n (λ w. (p : Bool) → AdmitsTerm p a → AdmitsTerm p b → All (AdmitsTerm p) w.letters) (λ w. (p : Bool) → AdmitsTerm p a → AdmitsTerm p b → All (AdmitsTerm p) w.letters) (λ w r h s p x y. s.short.operators p (h p x y)) c.in_ok-found.found o is c.in_ok-found.ensures.operators) c.split_found.ensures
 
 pub returns-clause-widths : goal.returns-clause-widths
 returns-clause-widths g c =
+    let n = c.args.size in
     let a = tree c.args.a.now in
     let b = tree c.args.b.now in
-    let r = tree c.in_ok-others.others in
-    let sets = c.in-Some.sets in
-    IfOk-weaker c.shortest_common_word.result (λ o. IfSome o (λ w. HasBoundedWidths a → HasBoundedWidths r → All HasBoundedWidths w.letters)) _ (λ o is.
-    some_has (λ ts. HasBoundedWidths a → HasBoundedWidths r → All HasBoundedWidths ts) (λ ts. HasBoundedWidths a → HasBoundedWidths b → All HasBoundedWidths ts) (λ ts h x y. h x (c.in_ok-others.ensures.widths (c.in_ok-whole.ensures.widths y (letters_bounded (tree c.args.a.now) (comps_of sets.states.now) (comps_of sets.letters.now) (comps_of sets.steps.now) (comps_of sets.initial.now) (comps_of sets.accepting.now) c.in-Some.ensures.some x)))) o is) c.shortest_common_word.ensures.widths
+    IfOk-weaker c.split_found.result (IsSplitOrNone n c.in_ok-found.found) _ (λ o is. split_some n (λ w. HasBoundedWidths a → HasBoundedWidths b → All HasBoundedWidths w.letters) (λ w. HasBoundedWidths a → HasBoundedWidths b → All HasBoundedWidths w.letters) (λ w r h s x y. s.short.widths (h x y)) c.in_ok-found.found o is c.in_ok-found.ensures.widths) c.split_found.ensures
+
+pub returns-clause-strict : goal.returns-clause-strict
+returns-clause-strict g c =
+    IfOk-weaker c.split_found.result (IsSplitOrNone c.args.size c.in_ok-found.found) _ (λ o is. split_strict c.args.size c.in_ok-found.found o is) c.split_found.ensures

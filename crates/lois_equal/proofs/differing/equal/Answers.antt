@@ -1,7 +1,7 @@
 use Rattle.std.specs.List.{All}
 use Rattle.std.specs.Prelude.{Bool}
 use Rattle.lois_base.specs.Tree.{tree}
-use Rattle.lois_base.specs.Validity.{AdmitsTerm, HasBoundedWidths}
+use Rattle.lois_base.specs.Validity.{AdmitsTerm, HasBoundedWidths, IsStrictTerm}
 use Rattle.lois_equal.proofs.Shorter.{shorter_found, shorter_has}
 use Rattle.lois_equal.proofs.differing.equal.Goals as goal
 
@@ -26,3 +26,7 @@ returns-clause-widths g c =
     let b = tree c.args.b.now in
     shorter_has (λ ts. HasBoundedWidths a → HasBoundedWidths b → All HasBoundedWidths ts) (λ ts. HasBoundedWidths b → HasBoundedWidths a → All HasBoundedWidths ts) (λ ts. HasBoundedWidths a → HasBoundedWidths b → All HasBoundedWidths ts)
     c.in_ok-first.first c.in_ok-second.second c.shorter.result c.in_ok-first.ensures.widths c.in_ok-second.ensures.widths (λ ts h. h) (λ ts h p q. h q p) c.shorter.ensures
+
+pub returns-clause-strict : goal.returns-clause-strict
+returns-clause-strict g c =
+    shorter_has (All IsStrictTerm) (All IsStrictTerm) (All IsStrictTerm) c.in_ok-first.first c.in_ok-second.second c.shorter.result c.in_ok-first.ensures.strict c.in_ok-second.ensures.strict (λ ts h. h) (λ ts h. h) c.shorter.ensures

@@ -60,4 +60,4 @@ returns-clause-usual g c =
     let o = g.T.Structure.ordered in
     let n = c.args.size in
     let case = case_of c.args.case.now in
-    bounded_excess o n (tree c.in-Some.one.now.term) (tree c.in-Some-last_named.other.now.term) c.shortest_difference.result (found_sound o n c.args.first.now case (line_of c.in-Some.one.now) c.requires.sound c.in-Some.ensures.line) (found_sound o n c.args.second.now case (line_of c.in-Some-last_named.other.now) c.requires.sound c.in-Some-last_named.ensures.line) c.shortest_difference.ensures.operators c.shortest_difference.ensures.widths
+    bounded_excess o n (tree c.in-Some.one.now.term) (tree c.in-Some-last_named.other.now.term) c.shortest_difference.result (found_sound o n c.args.first.now case (line_of c.in-Some.one.now) c.requires.sound c.in-Some.ensures.line) (found_sound o n c.args.second.now case (line_of c.in-Some-last_named.other.now) c.requires.sound c.in-Some-last_named.ensures.line) c.shortest_difference.ensures.operators c.shortest_difference.ensures.widths c.shortest_difference.ensures.strict

@@ -35,8 +35,8 @@ returns-clause-graph g c =
     let o = g.T.Structure.ordered in
     let found = c.in_ok-orbits.ensures in
     let moved = c.in_ok-moved.ensures in
-    let nodes : AreOrbitsOf o (tree c.args.nodes.now) c.in_ok-orbits.orbits = record { levels = found.levels; members = found.members; each = found.each; once = found.once; taken = found.taken; operators = found.operators; widths = found.widths } in
-    let edges : AreOrbitsOf o (tree c.args.moves.now) c.in_ok-moved.moved = record { levels = moved.levels; members = moved.members; each = moved.each; once = moved.once; taken = moved.taken; operators = moved.operators; widths = moved.widths } in
+    let nodes : AreOrbitsOf o (tree c.args.nodes.now) c.in_ok-orbits.orbits = record { levels = found.levels; members = found.members; each = found.each; once = found.once; taken = found.taken; operators = found.operators; widths = found.widths; strict = found.strict } in
+    let edges : AreOrbitsOf o (tree c.args.moves.now) c.in_ok-moved.moved = record { levels = moved.levels; members = moved.members; each = moved.each; once = moved.once; taken = moved.taken; operators = moved.operators; widths = moved.widths; strict = moved.strict } in
     record {
       nodes_are = subst (AreOrbitsOf o (tree c.args.nodes.now)) (sym c.in_ok-marked.ensures.orbits) nodes;
       edges_are = subst (AreOrbitsOf o (tree c.args.moves.now)) (sym c.in_ok-edges.ensures.orbits) edges;
