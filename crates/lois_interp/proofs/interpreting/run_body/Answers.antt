@@ -4,6 +4,6 @@ use Rattle.lois_interp.specs.Run.{block_run}
 use Rattle.lois_interp.proofs.SplitElements.{split_from}
 use Rattle.lois_interp.proofs.interpreting.run_body.Goals as goal
 
-pub returns-clause-fault : goal.returns-clause-fault
-returns-clause-fault g c =
+pub returns-in-Err-clause-fault : goal.returns-in-Err-clause-fault
+returns-in-Err-clause-fault g c =
     split_from c.in-Err.stop c.split_stop.result (FailsWithin (block_run (stmts_of (stmts_list c.args.body.now))) c.args.opening) c.in-Err.ensures.fault c.split_stop.ensures
