@@ -13,7 +13,7 @@ use Rattle.lois_base.specs.Validity.{is_admitted, AdmitsConstraint, AdmitsComp}
 use Rattle.lois_base.specs.Values.{PointValue, point, IsExtension, MakesAt, InAt, IsSame, IsIn, SameAt, SamePartsAt}
 use Rattle.lois_base.specs.declared.guards.Lit.{Lit}
 use Rattle.lois_base.specs.declared.guards.Op.{Op}
-use Rattle.lois_base.specs.declared.guards.Op.TheVariants.{Eq, Ne, Lt}
+use Rattle.lois_base.specs.declared.guards.Op.TheVariants.{Eq, Ne, Lt, AtMost}
 use Rattle.lois_base.proofs.Members.{same_sym}
 use Rattle.lois_base.proofs.Order.{equal_refl, equal_sym, equal_respects, same_truth}
 use Rattle.lois_base.proofs.Truths.{holds_alike}
@@ -103,6 +103,7 @@ module _ (m i j : ℕ) (covers : (p : ℕ) → p < m → (i ≡ p) ⊎ (j ≡ p)
   operators_agree Eq h p q p_in q_in = tests_agree p q (omega arith) (omega arith)
   operators_agree Ne h p q p_in q_in = ap not (tests_agree p q (omega arith) (omega arith))
   operators_agree Lt h p q p_in q_in = absurd (true≢false (sym h))
+  operators_agree AtMost h p q p_in q_in = absurd (true≢false (sym h))
 
   alike : AreAlike false c d
   alike = record { count = count ∙ sym count'; agree = operators_agree }
