@@ -42,6 +42,7 @@ GROUPS = {
     "each part of a term is asked the same": "lois_answers/src/sound lois_terms/src/reading",
     "a fault of depth, asked of an oracle and of a decider": "lois_eval/src/checks lois_interp/src/checks",
     "two facts of one tree": "lois_interp/specs/WithinLimits lois_script/specs/Limits",
+    "two facts of a term's guards": "lois_base/specs/Validity lois_simplify/specs/Irredundant",
     "tests make the same small values": """lois_vectors/src/tests lois_vectors_rows/src/calling lois_vectors_rows/src/spelling
         lois_vectors_contexts/src/making lois_vectors_expressions/src/making lois_vectors_sets/src/making lois_vectors_statements/src/making
         lois_vectors_atoms/src/constraint""",
