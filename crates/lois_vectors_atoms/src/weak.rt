@@ -102,7 +102,7 @@ fn is_strict(c: &Constraint) -> bool {
 fn what_is_made_holds_where_it_has_to(rt: HostRuntime) -> Result<(), Fail> {
     let alloc = rt.alloc();
     let mut dice = Dice { state: 11 };
-    for round in 0..60usize {
+    for round in 0..24usize {
         let levels = 2 + round % 4;
         let first = made(alloc, &mut dice, levels)?;
         let second = made(alloc, &mut dice, levels)?;
@@ -170,7 +170,7 @@ fn is_met(alloc: Global, cube: &Cube, levels: usize) -> Result<bool, NoMemory>
 fn what_no_order_meets_is_refused(rt: HostRuntime) -> Result<(), Fail> {
     let alloc = rt.alloc();
     let mut dice = Dice { state: 3 };
-    for round in 0..200usize {
+    for round in 0..60usize {
         let levels = 2 + round % 4;
         let cube = made_cube(alloc, &mut dice, levels)?;
         let met = is_met(alloc, &cube, levels)?;

@@ -2,7 +2,7 @@ use Rattle.std.proofs.Common.{List, Bool, refl, ap, subst}
 use Rattle.lois_base.specs.Atom.{Atom}
 use Rattle.lois_base.specs.Data.{coll, comps_of, no_comps}
 use Rattle.lois_base.specs.Tree.{tree}
-use Rattle.lois_base.specs.Validity.{AdmitsTerm, AdmitsItems}
+use Rattle.lois_base.specs.Validity.{AdmitsTerm, AdmitsItems, HasBoundedWidths, ItemsHaveBoundedWidths}
 use Rattle.lois_automata.specs.Built.{ArePairs}
 use Rattle.lois_automata.specs.Projections.{five_of, automaton_at}
 use Rattle.lois_deciders.proofs.Oracle.{some_is, none_is}
@@ -72,3 +72,14 @@ returns-clause-operators g c = λ o x y.
     let begins : AdmitsTerm o (coll starts) = subst (AdmitsTerm o) (ap tree c.in-Coll.is) (c.in_ok-starts.ensures.operators o five.1.1.1.0 five'.1.1.1.0) in
     let made = some_is (λ r. (o : Bool) → AdmitsItems o starts → AdmitsItems o steps → AdmitsItems o steps' → AdmitsItems o (comps_of r.steps)) c.in_ok-met.field-0 c.in-Some-2.met c.in-Some-2.is c.in_ok-met.ensures.operators in
     c.in_ok-shorter.ensures.shortened.operators o (c.in_ok-word.ensures.operators o (made o begins five.1.1.0 five'.1.1.0))
+
+pub returns-clause-widths : goal.returns-clause-widths
+returns-clause-widths g c = λ x y.
+    let one = c.in-Some.one in
+    let other = c.in-Some-five.other in
+    let steps = comps_of one.steps.now in
+    let steps' = comps_of other.steps.now in
+    let five : HasBoundedWidths (five_of (comps_of one.states.now) (comps_of one.letters.now) (comps_of one.steps.now) (comps_of one.initial.now) (comps_of one.accepting.now)) = subst HasBoundedWidths c.in-Some.ensures.some x in
+    let five' : HasBoundedWidths (five_of (comps_of other.states.now) (comps_of other.letters.now) (comps_of other.steps.now) (comps_of other.initial.now) (comps_of other.accepting.now)) = subst HasBoundedWidths c.in-Some-five.ensures.some y in
+    let made = some_is (λ r. ItemsHaveBoundedWidths steps → ItemsHaveBoundedWidths steps' → ItemsHaveBoundedWidths (comps_of r.steps)) c.in_ok-met.field-0 c.in-Some-2.met c.in-Some-2.is c.in_ok-met.ensures.widths in
+    c.in_ok-shorter.ensures.shortened.widths (c.in_ok-word.ensures.widths (made five.2.1.1.0 five'.2.1.1.0))
