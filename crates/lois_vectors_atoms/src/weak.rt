@@ -58,7 +58,7 @@ fn made(alloc: Global, dice: &mut Dice, levels: usize) -> Result<Constraint, NoM
 
 /// Two constraints, and what is made of them.
 #[derive(Drop)]
-struct Made {
+struct Combined {
     first: Constraint,
     second: Constraint,
     met: Constraint,
@@ -69,8 +69,8 @@ struct Made {
     split: Constraint,
 }
 
-fn make(alloc: Global, first: Constraint, second: Constraint) -> Result<Made, NoMemory> {
-    Ok(Made {
+fn combine(alloc: Global, first: Constraint, second: Constraint) -> Result<Combined, NoMemory> {
+    Ok(Combined {
         met: meet(alloc, &first, &second)?,
         taken_off: and_not(alloc, &first, &second)?,
         negated: negate(alloc, &first)?,
@@ -83,15 +83,15 @@ fn make(alloc: Global, first: Constraint, second: Constraint) -> Result<Made, No
 }
 
 // Whether all hold at the numbers where they have to.
-fn agree_at(made: &Made, numbers: &[u64]) -> bool {
-    let here = made.first.at(numbers);
-    let there = made.second.at(numbers);
-    made.met.at(numbers) == (here && there)
-        && made.taken_off.at(numbers) == (here && !there)
-        && made.negated.at(numbers) != here
-        && made.pruned.at(numbers) == here
-        && made.normalised.at(numbers) == here
-        && made.split.at(numbers) == here
+fn agree_at(combined: &Combined, numbers: &[u64]) -> bool {
+    let here = combined.first.at(numbers);
+    let there = combined.second.at(numbers);
+    combined.met.at(numbers) == (here && there)
+        && combined.taken_off.at(numbers) == (here && !there)
+        && combined.negated.at(numbers) != here
+        && combined.pruned.at(numbers) == here
+        && combined.normalised.at(numbers) == here
+        && combined.split.at(numbers) == here
 }
 
 fn is_strict(c: &Constraint) -> bool {
@@ -106,11 +106,11 @@ fn what_is_made_holds_where_it_has_to(rt: HostRuntime) -> Result<(), Fail> {
         let levels = 2 + round % 4;
         let first = made(alloc, &mut dice, levels)?;
         let second = made(alloc, &mut dice, levels)?;
-        let made = make(alloc, first, second)?;
-        assert!(rt; is_strict(&made.split), "{round}");
+        let combined = combine(alloc, first, second)?;
+        assert!(rt; is_strict(&combined.split), "{round}");
         for index in 0..orders_of(levels) {
             let numbers = numbers_at(alloc, index, levels)?;
-            assert!(rt; agree_at(&made, &numbers), "{round} {index}");
+            assert!(rt; agree_at(&combined, &numbers), "{round} {index}");
         }
     }
     Ok(())
