@@ -9,7 +9,7 @@ ghost use Rattle.lois_deciders.specs.Labels.{IsUnmet};
 
 use crate::labels::{has_conflicting_disequality, label_levels};
 use crate::ranks::rank_labels;
-use crate::strict::strict_part;
+use crate::strict::{is_strict, strict_part, tightest_part};
 use lois_base::{Cube, Decider, Kind, NoMemory};
 use std::alloc::Global;
 
@@ -50,12 +50,19 @@ fn ranked_sample(alloc: Global, cube: &Cube, size: usize) -> Result<Option<Vec<u
     Ok(Some(sample))
 }
 
-// Of a `<=` one of its two parts is enough.
+// Of a `<=` one of its two parts is enough, and mostly all may be `<`.
 fn sample(alloc: Global, cube: &Cube, size: usize) -> Result<Option<Vec<u64>>, NoMemory>
     requires { CubeFits size cube.now }
     ensures found { IfOk result (λ o. IfSome o (λ s. IsSampleOf size cube.now s.items)) }
     ensures none { IfOk result (λ o. IfNone o (IsUnmet size cube.now)) }
 {
+    if is_strict(cube) {
+        return ranked_sample(alloc, cube, size);
+    }
+    let tightest = tightest_part(alloc, cube)?;
+    if let Some(sample) = ranked_sample(alloc, &tightest, size)? {
+        return Ok(Some(sample));
+    }
     let part = strict_part(alloc, cube)?;
     ranked_sample(alloc, &part, size)
 }

@@ -1,6 +1,6 @@
 //! Cubes without `<=`.
 
-ghost use Rattle.std.specs.Prelude.{◌≡◌, ℕ, List, ◌∷◌, ◌++◌, IfOk, IsTrue};
+ghost use Rattle.std.specs.Prelude.{◌≡◌, ◌↔◌, ℕ, List, ◌∷◌, ◌++◌, IfOk, IsTrue};
 ghost use Rattle.lois_base.specs.Atom.{Atom};
 ghost use Rattle.lois_base.specs.Fits.{CubeFits};
 ghost use Rattle.lois_base.specs.Truth.{lit_holds};
@@ -10,6 +10,44 @@ ghost use Rattle.lois_constraint.specs.Entailment.{CubeIsSatisfiable, Entails};
 use lois_base::{Cube, Lit, NoMemory, Op};
 use lois_constraint::tighten;
 use std::alloc::Global;
+
+/// Whether no literal has `<=`.
+pub(crate) fn is_strict(cube: &Cube) -> bool
+    ensures { IsTrue result ↔ IsStrictCube cube.now }
+{
+    cube.as_slice().iter().all(|lit| lit.op != Op::AtMost)
+}
+
+// The literal, with `<` for `<=`.
+fn tightest(lit: Lit) -> Lit
+    ensures strict { IsStrictLit result }
+    ensures entails { (c : List Atom) → IsTrue (lit_holds c result) → IsTrue (lit_holds c lit) }
+    ensures left { result.left ≡ lit.left }
+    ensures right { result.right ≡ lit.right }
+{
+    let Lit { op, left, right } = lit;
+    if op != Op::AtMost {
+        return lit;
+    }
+    Lit {
+        op: Op::Lt,
+        left,
+        right,
+    }
+}
+
+/// The cube with `<` for each `<=`. Mostly it can be met where the cube can.
+pub(crate) fn tightest_part(alloc: Global, cube: &Cube) -> Result<Cube, NoMemory>
+    ensures strict { IfOk result IsStrictCube }
+    ensures entails { IfOk result (λ r. Entails r cube.now) }
+    ensures levels { IfOk result (λ r. (n : ℕ) → CubeFits n cube.now → CubeFits n r) }
+{
+    let mut part = Cube::new(alloc);
+    for lit in cube.as_slice() {
+        part.push(tightest(*lit))?;
+    }
+    Ok(part)
+}
 
 // The literals of the cube, one more, and those behind it.
 fn joined_literals(alloc: Global, before: &Cube, lit: Lit, behind: &[Lit]) -> Result<Cube, NoMemory>
