@@ -18,8 +18,7 @@ IMPORT = re.compile(r"(?m)^(?:pub )?use (?P<path>[^\s{]+?)(?:\.\{(?P<items>[^}]*
 COMMENT = re.compile(r"(?m)(?:^|(?<=\s))--(?=\s|-|$).*$")
 ANSWERS = ("Answers.antt", "Invariants.antt", "Proof.antt")
 # why a lemma that no text cites stays: `FILE NAME: reason`
-KEPT = {
-    "crates/lois_order/proofs/Projects.antt put_last": "to take it away proves all crates above lois_order anew: so with the next change there"}
+KEPT = {}
 
 
 def sources(top):

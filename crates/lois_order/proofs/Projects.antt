@@ -48,6 +48,3 @@ alone_eliminates x cube r g p is c e = (λ f. (p c e).0 (sym (is c) ∙ f), λ q
 pub put_absurd : (c : List Atom) (k : List Lit) → list_any is_absurd k ≡ true → (b : Bool) → b ≡ (b || cube_holds c k)
 put_absurd c k h true = refl
 put_absurd c k h false = sym (absurd_fails c k h)
-
-pub put_last : (c : List Atom) (g : List (List Lit)) (k : List Lit) → holds c (g ++ k ∷ []) ≡ (holds c g || cube_holds c k)
-put_last c g k = list_any-append (cube_holds c) g (k ∷ []) ∙ ap (λ b. holds c g || b) (or_false (cube_holds c k))
