@@ -10,10 +10,13 @@ use Rattle.lois_base.specs.Atom.{Atom}
 use Rattle.lois_base.specs.Data.{TermD, var, tag, tup, coll, CompD, comp, CompsD, no_comps, more, comps_of}
 use Rattle.lois_base.specs.Fits.{ConstraintFits, Fits, CompFits, ItemsFit}
 use Rattle.lois_base.specs.Shift.{shift, shift_comp, shift_items}
+use Rattle.lois_base.specs.Tree.{tree}
 use Rattle.lois_base.specs.Truth.{holds}
 use Rattle.lois_base.specs.Validity.{AdmitsTerm, AdmitsComp, AdmitsItems, HasBoundedWidths, CompHasBoundedWidths, ItemsHaveBoundedWidths}
 use Rattle.lois_base.specs.Values.{PointValue, point, IsSame, IsIn, SameAt, SomeIsAt, OneIsAt}
 use Rattle.lois_base.specs.declared.guards.Lit.{Lit}
+use Rattle.lois_base.specs.declared.values.Term.{Term}
+use Rattle.lois_base.specs.declared.values.Term.TheVariants.{Var, Tag, Tup, Coll}
 use Rattle.lois_base.proofs.Members.{same_in, same_sym}
 use Rattle.lois_base.proofs.Shifted.{shift_items_of}
 use Rattle.lois_meaning.specs.Store.{looked_up}
@@ -22,6 +25,7 @@ use Rattle.lois_base.proofs.Validity.{fits_longer}
 use Rattle.lois_base.proofs.Booleans.{and_true}
 use Rattle.lois_base.proofs.Lists.{items_fit_append}
 use Rattle.lois_context.specs.Choices.{IsAdmitted, AdmitsContext, ContextHasBoundedWidths}
+use Rattle.lois_context.specs.Content.{with_comps}
 use Rattle.lois_context.specs.Entered.{binders_of, item_of, items_listed, comps_listed, carried, element_slot, AreMemberContexts}
 use Rattle.lois_context.specs.Joined.{IsGoneOn, IsEndSlot, AreEndSlots, IsEnd, IsMovedOutOfLoop, AreMovedOutOfLoop, added_to, IsJoinedTerm, IsGrownTerm, IsJoinedSlot, AreJoinedSlots, AreJoined, IsAddedInside, HasJoined, IsWithMoved}
 use Rattle.lois_context.specs.Slots.{IsNew, SlotD, slot_name, count_of_items, comps_in, store_at}
@@ -375,24 +379,30 @@ slots_more g by [] (p ∷ ss) ts e s t h at l j = absurd h
 slots_more g by (q ∷ es) (p ∷ ss) [] e s t h at l j = absurd h
 slots_more g by (q ∷ es) (p ∷ ss) (u ∷ ts) e s t h at l j = (h.0, slots_more g by es ss ts e s t h.1 at (omega arith) j)
 
+-- what is moved out of a loop, one list behind another
+moved_append : (g : List (List Lit)) (by : ℕ) (ks rs js ss : List CompD) → AreMovedOutOfLoop g by ks rs → AreMovedOutOfLoop g by js ss → AreMovedOutOfLoop g by (ks ++ js) (rs ++ ss)
+moved_append g by [] [] js ss h i = i
+moved_append g by [] (r ∷ rs) js ss h i = absurd h
+moved_append g by (k ∷ ks) [] js ss h i = absurd h
+moved_append g by (k ∷ ks) (r ∷ rs) js ss h i = (h.0, moved_append g by ks rs js ss h.1 i)
+
+pub with_both : (n : ℕ) (g : List (List Lit)) (by : ℕ) (first second ks rs ss : List CompD) → IsWithMoved n g by first ks rs → IsWithMoved n g by second rs ss → IsWithMoved n g by (first ++ second) ks ss
+with_both n g by first second ks rs ss h i = record {
+  behind = h.behind ++ i.behind;
+  moved = moved_append g by first h.behind second i.behind h.moved i.moved;
+  comps = i.comps ∙ (ap (λ z. z ++ i.behind) h.comps ∙ append_assoc ks h.behind i.behind);
+  levels = items_fit_append n h.behind i.behind h.levels i.levels;
+}
+
 -- one comprehension more
 pub with_more : (n : ℕ) (g : List (List Lit)) (by : ℕ) (added ks rs : List CompD) (k r : CompD) → IsWithMoved n g by added ks rs → IsMovedOutOfLoop g by k r → CompFits n r → IsWithMoved n g by (added ++ k ∷ []) ks (rs ++ r ∷ [])
-with_more n g by added ks rs k r h moved fits = record {
-  behind = h.behind ++ r ∷ [];
-  moved = moved_append added h.behind h.moved;
-  comps = ap (λ z. z ++ r ∷ []) h.comps ∙ append_assoc ks h.behind (r ∷ []);
-  levels = fits_append h.behind h.levels;
-}
-  where
-    moved_append : (ks rs : List CompD) → AreMovedOutOfLoop g by ks rs → AreMovedOutOfLoop g by (ks ++ k ∷ []) (rs ++ r ∷ [])
-    moved_append [] [] h = (moved, tt)
-    moved_append [] (p ∷ rs) h = absurd h
-    moved_append (q ∷ ks) [] h = absurd h
-    moved_append (q ∷ ks) (p ∷ rs) h = (h.0, moved_append ks rs h.1)
+with_more n g by added ks rs k r h moved fits =
+    with_both n g by added (k ∷ []) ks rs (rs ++ r ∷ []) h (record { behind = r ∷ []; moved = (moved, tt); comps = refl; levels = (fits, tt) })
 
-    fits_append : (rs : List CompD) → ItemsFit n (comps_of rs) → ItemsFit n (comps_of (rs ++ r ∷ []))
-    fits_append [] h = (fits, tt)
-    fits_append (p ∷ rs) h = (h.0, fits_append rs h.1)
+pub items_fit_parts : (n : ℕ) (ks ls : List CompD) → ItemsFit n (comps_of (ks ++ ls)) → ItemsFit n (comps_of ks) × ItemsFit n (comps_of ls)
+items_fit_parts n [] ls h = (tt, h)
+items_fit_parts n (k ∷ ks) ls h =
+    let rest = items_fit_parts n ks ls h.1 in ((h.0, rest.0), rest.1)
 
 -- a comprehension with the end's levels fits where the set does
 pub moved_fits : (n by m : ℕ) (g q h : List (List Lit)) (t : TermD) → ConstraintFits (n + by) g → CompFits (n + by) (comp m q t) → ((j : ℕ) → ConstraintFits j g → ConstraintFits j q → ConstraintFits j h) → CompFits n (comp (by + m) h t)
@@ -410,22 +420,33 @@ count_behind [] rs = omega arith
 count_behind (k ∷ ks) rs = omega (arith, count_behind ks rs)
 
 -- where nothing was added, a term is as it was
-pub nothing_added : (g : List (List Lit)) (by : ℕ) (added : List CompD) (t : TermD) → length added ≡ 0 → IsJoinedTerm g by added t t
-nothing_added g by added (var i) e = refl
-nothing_added g by added (tag x) e = refl
-nothing_added g by added (tup ts) e = refl
-nothing_added g by [] (coll ks) e =
-    ([], tt, sym (ap (λ z. coll (comps_of z)) (append-nil (items_listed ks)) ∙ ap coll (of_listed ks)))
-nothing_added g by (k ∷ added) (coll ks) e = absurd (omega arith)
+pub nothing_added : (n : ℕ) (g : List (List Lit)) (by : ℕ) (added moved : List CompD) (t : TermD) → IsWithMoved n g by added [] moved → length moved ≡ 0 → IsJoinedTerm g by added t t
+nothing_added n g by added moved t h e = as_it_was t
+  where
+    none : (ks rs : List CompD) → AreMovedOutOfLoop g by ks rs → length rs ≡ 0 → ks ≡ []
+    none [] rs m l = refl
+    none (k ∷ ks) [] m l = absurd m
+    none (k ∷ ks) (r ∷ rs) m l = absurd (omega arith)
 
-pub set_grown : (n : ℕ) (g : List (List Lit)) (by : ℕ) (added ks rs : List CompD) (s t : TermD) → s ≡ coll (comps_of ks) → t ≡ coll (comps_of rs) → Fits n s → IsWithMoved n g by added ks rs → IsGrownTerm n g by added s t
-set_grown n g by added ks rs s t e d fits h =
-    let behind : t ≡ coll (comps_of (ks ++ h.behind)) = d ∙ ap (λ z. coll (comps_of z)) h.comps in
-    subst (λ z. IsGrownTerm n g by added z t) (sym e) (subst (λ z. IsGrownTerm n g by added (coll (comps_of ks)) z) (sym behind) (record {
-      joined = (h.behind, h.moved, ap (λ z. coll (comps_of (z ++ h.behind))) (sym (listed_of ks)));
-      levels = items_fit_append n ks h.behind (subst (Fits n) e fits) h.levels;
-      more = count_behind ks h.behind;
-    }))
+    none_added : added ≡ []
+    none_added = none added h.behind h.moved (sym (ap length h.comps) ∙ e)
+
+    as_it_was : (t : TermD) → IsJoinedTerm g by added t t
+    as_it_was (var i) = refl
+    as_it_was (tag x) = refl
+    as_it_was (tup ts) = refl
+    as_it_was (coll ks) =
+        ([], subst (λ z. AreMovedOutOfLoop g by z []) (sym none_added) tt, sym (ap (λ z. coll (comps_of z)) (append-nil (items_listed ks)) ∙ ap coll (of_listed ks)))
+
+pub term_grown : (n : ℕ) (g : List (List Lit)) (by : ℕ) (added moved : List CompD) (t : Term) → Fits n (tree t) → IsWithMoved n g by added [] moved → IsGrownTerm n g by added (tree t) (tree (with_comps t moved))
+term_grown n g by added moved (Coll ks) fits h = record {
+  joined = (h.behind, h.moved, ap (λ z. coll (comps_of (ks ++ z))) h.comps ∙ ap (λ z. coll (comps_of (z ++ h.behind))) (sym (listed_of ks)));
+  levels = subst (λ z. ItemsFit n (comps_of (ks ++ z))) (sym h.comps) (items_fit_append n ks h.behind fits h.levels);
+  more = count_behind ks moved;
+}
+term_grown n g by added moved (Var i) fits h = record { joined = refl; levels = fits; more = omega arith }
+term_grown n g by added moved (Tag x) fits h = record { joined = refl; levels = fits; more = omega arith }
+term_grown n g by added moved (Tup ts) fits h = record { joined = refl; levels = fits; more = omega arith }
 
 -- ---- what is true of all terms of a store
 module _ (OfTerm : TermD → Type 0) (OfComp : CompD → Type 0) (of_set : (ks : List CompD) → OfTerm (coll (comps_of ks)) ↔ All OfComp ks) where

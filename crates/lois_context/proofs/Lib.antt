@@ -4,6 +4,7 @@ pub mod Longer
 pub mod Unshifted
 pub mod Carried
 pub mod Entered
+pub mod Contents
 pub mod Joined
 pub mod Counts
 pub mod Merged

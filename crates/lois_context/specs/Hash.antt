@@ -3,12 +3,22 @@
 use Rattle.std.specs.Prelude.{ℕ, List}
 use Rattle.std.specs.List.{fold}
 use Rattle.lois_answers.specs.ResultsData.{LineD}
-use Rattle.lois_terms.specs.Hash.{name_hash, term_hash}
+use Rattle.lois_base.specs.Data.{TermD, coll, CompD}
+use Rattle.lois_terms.specs.Hash.{mixed, name_hash, term_hash, written_hash}
+use Rattle.lois_context.specs.Entered.{items_listed}
 use Rattle.lois_context.specs.Slots.{SlotD}
 use Rattle.lois_context.specs.declared.contexts.Context.{Context}
 
+-- the hash with those of comprehensions
+abbrev pub comps_hash : ℕ → List CompD → ℕ
+comps_hash = fold (λ h k. mixed h (written_hash k))
+
+abbrev pub content_hash : ℕ → TermD → ℕ
+content_hash h (coll ks) = comps_hash h (items_listed ks)
+content_hash h t = term_hash h t
+
 abbrev pub store_hash : ℕ → List SlotD → ℕ
-store_hash = fold (λ h s. term_hash h s.term)
+store_hash = fold (λ h s. content_hash h s.term)
 
 abbrev pub lines_hash : ℕ → List LineD → ℕ
 lines_hash = fold (λ h l. term_hash (name_hash h l.name) l.term)

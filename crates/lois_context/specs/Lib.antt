@@ -1,9 +1,11 @@
+pub mod Content
 pub mod Slots
 pub mod SlotView
 pub mod Kept
 pub mod Choices
 pub mod Sides
 pub mod Entered
+pub mod Put
 pub mod Counted
 pub mod Merged
 pub mod Hash

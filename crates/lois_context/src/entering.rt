@@ -10,10 +10,10 @@ ghost use Rattle.lois_deciders.specs.OnlyAsked.{HasOnlyAsked};
 ghost use Rattle.lois_terms.specs.Guarded.{IsColl};
 ghost use Rattle.lois_context.specs.Entered.{carried, carried_line, element_slot, IsCarried, IsMemberContext, HasNoMembers, AreMemberContexts, AreEntered};
 ghost use Rattle.lois_context.specs.Kept.{IsSlot, AreSlots, LinesFit, HasDistinctNames};
-ghost use Rattle.lois_context.specs.Slots.{IsNew, comps_in};
+ghost use Rattle.lois_context.specs.Slots.{IsNew};
 ghost use Rattle.lois_context.specs.SlotView.{slot_of};
 
-use crate::{Context, Shared, Slot, Store};
+use crate::{Content, Context, Shared, Slot, Store};
 use lois_answers::{Line, Lines};
 use lois_base::{Comp, Comps, Decider, Name, NoMemory, Term};
 use lois_deciders::Chosen;
@@ -211,28 +211,30 @@ fn carried_slot(alloc: Global, slot: &Slot, size: usize, by: usize) -> Result<Sl
 {
     Ok(Slot {
         name: slot.name.copy(alloc)?,
-        term: carried_shared(alloc, &slot.term, size, by)?,
-        from: count_of_comps(slot.term.get()),
+        term: carried_content(alloc, &slot.term, size, by)?,
+        from: slot.term.count(),
     })
 }
 
 // A term that doesn't change is shared. So a loop over a set that lists its members holds each of the other sets once, and any
 // loop does so with sets that list theirs.
-fn carried_shared(
+fn carried_content(
     alloc: Global,
-    term: &Shared<Term>,
+    content: &Content,
     size: usize,
     by: usize,
-) -> Result<Shared<Term>, NoMemory>
-    requires fits { Fits size (tree term.now) }
+) -> Result<Content, NoMemory>
+    requires fits { Fits size (tree content.now) }
     requires levels { size + by < 2 ^ 64 }
-    ensures carried { IfOk result (λ r. tree r ≡ shift size by (tree term.now)) }
+    ensures carried { IfOk result (λ r. tree r ≡ shift size by (tree content.now)) }
     ensures fits { IfOk result (λ r. Fits (size + by) (tree r)) }
 {
+    let settled = content.settled(alloc)?;
+    let term = settled.whole(alloc)?;
     if stays(term.get(), size, by) {
-        return term.share();
+        return Ok(settled);
     }
-    Shared::new(alloc, carried_term(alloc, term.get(), size, by)?)
+    Content::new(alloc, carried_term(alloc, term.get(), size, by)?)
 }
 
 // Whether no level is put in, or the term has none that would move.
@@ -292,13 +294,4 @@ fn carried_term(alloc: Global, term: &Term, size: usize, by: usize) -> Result<Te
         return Err(NoMemory);
     }
     shift_term(alloc, term, size, by)
-}
-
-fn count_of_comps(term: &Term) -> usize
-    ensures { result ≡ comps_in (tree term.now) }
-{
-    match term {
-        Term::Coll(comps) => comps.len(),
-        _ => 0,
-    }
 }

@@ -1,21 +1,21 @@
 //! Contexts behind loops.
 
-ghost use Rattle.std.specs.Prelude.{◌≡◌, ℕ, ◌+◌, ◌-◌, ◌<◌, ◌≤◌, Bool, List, length, get_or, map, drop, Some, IfOk};
+ghost use Rattle.std.specs.Prelude.{◌≡◌, ℕ, ◌+◌, ◌-◌, ◌<◌, ◌≤◌, Bool, List, [], length, get_or, map, Some, IfOk};
 ghost use Rattle.std.specs.List.{All};
 ghost use Rattle.lois_base.specs.Atom.{Atom};
 ghost use Rattle.lois_base.specs.Data.{comps_of};
-ghost use Rattle.lois_base.specs.Fits.{ConstraintFits, Fits, CompFits, ItemsFit};
-ghost use Rattle.lois_base.specs.Tree.{tree, comp_of};
+ghost use Rattle.lois_base.specs.Fits.{ConstraintFits, CompFits, ItemsFit};
+ghost use Rattle.lois_base.specs.Tree.{comp_of};
 ghost use Rattle.lois_base.specs.Values.{PointValue};
 ghost use Rattle.lois_meaning.specs.Store.{looked_up};
 ghost use Rattle.lois_context.specs.Choices.{IsAdmitted, AdmitsContext, ContextHasBoundedWidths};
-ghost use Rattle.lois_context.specs.Joined.{IsEnd, AreEndSlots, IsMovedOutOfLoop, IsJoinedSlot, AreJoinedSlots, AreJoined, HasJoined, IsWithMoved, IsGrownTerm, HoldsWithin, added_to};
+ghost use Rattle.lois_context.specs.Joined.{IsEnd, AreEndSlots, IsMovedOutOfLoop, IsJoinedSlot, AreJoinedSlots, AreJoined, HasJoined, IsWithMoved, HoldsWithin, added_to};
 ghost use Rattle.lois_context.specs.Kept.{IsSlot, AreSlots, HasDistinctNames};
-ghost use Rattle.lois_context.specs.Slots.{comps_in, store_at};
+ghost use Rattle.lois_context.specs.Slots.{store_at};
 ghost use Rattle.lois_context.specs.SlotView.{slot_of};
 
 use crate::{Context, Slot, Store};
-use lois_base::{Comp, Comps, Constraint, NoMemory, Term};
+use lois_base::{Comp, Comps, Constraint, NoMemory};
 use lois_constraint::meet;
 use std::alloc::Global;
 
@@ -85,8 +85,7 @@ fn slot_at(slots: &[Slot], index: usize) -> &Slot
     &slots[index]
 }
 
-// A slot to which nothing was added is left as it is. The term of another is taken out: after the first end with additions it
-// has no other owner.
+// A slot to which nothing was added is left as it is.
 fn joined_slot(
     alloc: Global,
     slot: Slot,
@@ -101,53 +100,30 @@ fn joined_slot(
     ensures joined { IfOk result (λ r. IsJoinedSlot when.now by (slot_of end.now) (slot_of slot) (slot_of r)) }
     ensures slot { IfOk result (λ r. IsSlot size (slot_of r)) }
 {
-    let added = added_inside(end);
-    if added.is_empty() {
+    let added = moved_out(alloc, end, when, size, by)?;
+    if added.len() == 0 {
         return Ok(slot);
     }
     let Slot { name, term, from } = slot;
-    let whole = term.into_term(alloc)?;
-    let grown = joined_term(alloc, whole, added, when, size, by)?;
-    Slot::new(alloc, name, grown, from)
+    let term = term.with_more(alloc, added)?;
+    Ok(Slot { name, term, from })
 }
 
-// What was appended to a set since the loop was entered.
-fn added_inside(slot: &Slot) -> &[Comp]
-    requires { slot.now.from ≤ comps_in (tree slot.now.term) }
-    ensures { map comp_of result.now ≡ added_to (slot_of slot.now) }
-{
-    match slot.term.get() {
-        Term::Coll(comps) => from_index(comps.as_slice(), slot.from),
-        _ => &[],
-    }
-}
-
-fn from_index(comps: &[Comp], from: usize) -> &[Comp]
-    requires { from ≤ length comps.now }
-    ensures { result.now ≡ drop from comps.now }
-{
-    &comps[from..]
-}
-
-fn joined_term(
+// What an end has added to its slot, for the end's levels too and where its constraint holds.
+fn moved_out(
     alloc: Global,
-    term: Term,
-    added: &[Comp],
+    end: &Slot,
     when: &Constraint,
     size: usize,
     by: usize,
-) -> Result<Term, NoMemory>
-    requires term { Fits size (tree term) }
-    requires fits { ItemsFit (size + by) (comps_of (map comp_of added.now)) }
+) -> Result<Comps, NoMemory>
+    requires end { IsSlot (size + by) (slot_of end.now) }
     requires when { ConstraintFits (size + by) when.now }
-    ensures { IfOk result (λ r. IsGrownTerm size when.now by (map comp_of added.now) (tree term) (tree r)) }
+    ensures { IfOk result (IsWithMoved size when.now by (added_to (slot_of end.now)) []) }
 {
-    match term {
-        Term::Coll(comps) => Ok(Term::Coll(with_moved(alloc, comps, added, when, size, by)?)),
-        Term::Var(level) => Ok(Term::Var(level)),
-        Term::Tag(name) => Ok(Term::Tag(name)),
-        Term::Tup(parts) => Ok(Term::Tup(parts)),
-    }
+    let (first, second) = end.term.behind(end.from);
+    let moved = with_moved(alloc, Comps::new(alloc), first, when, size, by)?;
+    with_moved(alloc, moved, second, when, size, by)
 }
 
 // The comprehensions, and behind them those that an end has added, for its levels too and where its constraint holds.

@@ -1,10 +1,10 @@
 //! Values with several owners.
 
-ghost use Rattle.std.specs.Prelude.{◌≡◌, ◌↔◌, IsTrue, IfOk, IfErr};
+ghost use Rattle.std.specs.Prelude.{◌≡◌, IfOk, IfErr};
 ghost use Rattle.lois_base.specs.Tree.{tree};
 
 use lois_answers::Lines;
-use lois_base::{NoMemory, Term};
+use lois_base::{Comps, NoMemory, Term};
 use std::alloc::Global;
 use std::marker::Model;
 use std::rc::Rc;
@@ -52,7 +52,7 @@ impl<T: Drop> Shared<T> {
     }
 
     /// The value, moved. Errors: itself, where it has other owners too.
-    fn into_inner(self) -> Result<T, Self>
+    pub(crate) fn into_inner(self) -> Result<T, Self>
         ensures moved { IfOk result (λ r. r ≡ self) }
         ensures kept { IfErr result (λ r. r ≡ self) }
     {
@@ -74,12 +74,17 @@ impl Shared<Term> {
             Err(shared) => shared.get().copy(alloc),
         }
     }
+}
 
-    /// Whether both are the same term.
-    pub fn is_equal(&self, other: &Self) -> bool
-        ensures { IsTrue result ↔ tree self.now ≡ tree other.now }
+impl Shared<Comps> {
+    /// The comprehensions by value: moved where this is their only owner, and else copied.
+    pub(crate) fn into_comps(self, alloc: Global) -> Result<Comps, NoMemory>
+        ensures same { IfOk result (λ r. r ≡ self) }
     {
-        self.get().is_equal(other.get())
+        match self.into_inner() {
+            Ok(comps) => Ok(comps),
+            Err(shared) => shared.get().copy(alloc),
+        }
     }
 }
 

@@ -3,7 +3,7 @@
 ghost use Rattle.std.specs.Prelude.{◌≡◌, ◌<◌, [], ◌∷◌, ◌++◌, length, map, take, slice_get, get_or, slice_set, option_map, ◌↔◌, IsTrue, IsFalse, IsNone, IfSome, IfOk, OnOk, OnErr};
 ghost use Rattle.std.specs.List.{HoldsAt};
 
-use crate::Shared;
+use crate::Content;
 use lois_base::{Name, NoMemory, Term};
 use std::alloc::Global;
 use std::marker::Model;
@@ -14,7 +14,7 @@ use std::mem::replace;
 #[derive(Drop)]
 pub struct Slot {
     pub name: Name,
-    pub term: Shared<Term>,
+    pub term: Content,
     pub from: usize,
 }
 
@@ -44,7 +44,7 @@ impl Slot {
     pub fn new(alloc: Global, name: Name, term: Term, from: usize) -> Result<Self, NoMemory>
         ensures made { IfOk result (λ r. slot_of r ≡ record { name = name; term = tree term; from = from }) }
     {
-        let term = Shared::new(alloc, term)?;
+        let term = Content::new(alloc, term)?;
         Ok(Slot { name, term, from })
     }
 

@@ -123,7 +123,8 @@ fn loops_have_a_context_for_each_comprehension(rt: HostRuntime) -> Result<(), Fa
 fn deepest(rt: &impl Abort, alloc: Global, x: &Name, y: &Name) -> Result<Context, Fail> {
     let context = outer(rt, alloc, x)?;
     let held = context.store.get(0).ok_or("no slot")?;
-    only_inside(rt, alloc, &context, held.term.get(), y)
+    let set = held.term.whole(alloc)?;
+    only_inside(rt, alloc, &context, set.get(), y)
 }
 
 #[test]
@@ -133,20 +134,22 @@ fn loops_stand_in_loops(rt: HostRuntime) -> Result<(), Fail> {
     let y = name_of(&rt, alloc, b"y")?;
     let deepest = deepest(&rt, alloc, &x, &y)?;
     assert!(rt; admits(&deepest, &[0, 1, 5, 5]) && !admits(&deepest, &[0, 1, 5, 6]));
-    assert!(rt; holds_one_set(&deepest.store, &x));
+    assert!(rt; holds_one_set(alloc, &deepest.store, &x)?);
     let last = deepest.store.get(1).ok_or("no slot")?;
-    assert!(rt; last.name == y && matches!(last.term.get(), Term::Var(3)) && last.from == 0);
+    let atom = last.term.whole(alloc)?;
+    assert!(rt; last.name == y && matches!(atom.get(), Term::Var(3)) && last.from == 0);
     let slots = deepest.store.into_vec();
     assert!(rt; slots.len() == 2 && slots[0].name == x && slots[1].name == y);
     Ok(())
 }
 
 // `{$4 for $4 if $4=$2}` under the name, of which all stood there before
-fn holds_one_set(store: &Store, name: &Name) -> bool {
+fn holds_one_set(alloc: Global, store: &Store, name: &Name) -> Result<bool, NoMemory> {
     let Some(slot) = store.get(0) else {
-        return false;
+        return Ok(false);
     };
-    slot.name == *name && slot.from == 1 && is_one_set(slot.term.get())
+    let set = slot.term.whole(alloc)?;
+    Ok(slot.name == *name && slot.from == 1 && is_one_set(set.get()))
 }
 
 fn is_one_set(term: &Term) -> bool {
@@ -205,7 +208,8 @@ fn a_loop_that_adds_nothing_changes_nothing(rt: HostRuntime) -> Result<(), Fail>
     assert!(rt; holds_only(&behind, &x));
     assert!(rt; admits(&behind, &[0, 1, 5]) && !admits(&behind, &[5, 1, 5]));
     let held = behind.store.get(0).ok_or("no slot")?;
-    assert!(rt; has_one_comprehension(held.term.get()));
+    let set = held.term.whole(alloc)?;
+    assert!(rt; has_one_comprehension(set.get()));
     Ok(())
 }
 
@@ -234,7 +238,8 @@ fn grown_slot(
     ensures name { IfOk result (λ r. r.name ≡ slot.now.name) }
     ensures end { IfOk result (λ r. (n by : ℕ) (s : SlotD) → IsEndSlot n by s (slot_of slot.now) → IsEndSlot n by s (slot_of r)) }
 {
-    let Term::Coll(comps) = slot.term.get() else {
+    let set = slot.term.whole(alloc)?;
+    let Term::Coll(comps) = set.get() else {
         return Err("no set".into());
     };
     let mut grown = comps.copy(alloc)?;
@@ -320,7 +325,8 @@ fn what_ends_add_is_joined(rt: HostRuntime) -> Result<(), Fail> {
     let behind = behind_a_body(&rt, alloc, &x)?;
     assert!(rt; holds_only(&behind, &x));
     let held = behind.store.get(0).ok_or("no slot")?;
-    let Term::Coll(comps) = held.term.get() else {
+    let set = held.term.whole(alloc)?;
+    let Term::Coll(comps) = set.get() else {
         return Err("no set".into());
     };
     assert!(rt; are_three_parts(comps.as_slice()));

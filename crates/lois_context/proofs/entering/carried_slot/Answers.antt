@@ -6,6 +6,6 @@ use Rattle.lois_context.proofs.entering.carried_slot.Goals as goal
 
 pub returns-clause-slot : goal.returns-clause-slot
 returns-clause-slot c = (
-  c.in_ok-carried_shared.ensures.fits,
-  omega (arith, c.count_of_comps.ensures, ap (λ z. comps_in (tree z)) c.get.ensures.same, ap comps_in c.in_ok-carried_shared.ensures.carried, comps_shifted c.args.size c.args.by (tree c.args.slot.now.term)),
+  c.in_ok-carried_content.ensures.fits,
+  omega (arith, c.count.ensures, ap comps_in c.in_ok-carried_content.ensures.carried, comps_shifted c.args.size c.args.by (tree c.args.slot.now.term)),
 )

@@ -29,13 +29,13 @@ end_slot_more n by s e r ks k name from was is end =
 pub returns-clause-slot : goal.returns-clause-slot
 returns-clause-slot g c =
     let fits : Fits c.args.size (coll (comps_of c.push.new.self)) = search rules in
-    subst (IsSlot c.args.size) (sym c.in_ok-new.ensures.made) (fits, omega (arith, c.requires.1, ap (λ z. comps_in (tree z)) (sym c.get.ensures.same ∙ c.in-Coll.is), count_of c.in-Coll.comps, count_of c.push.new.self, ap length c.in_ok-grown.ensures, ap length c.in_ok-push.ensures.ok, length-append c.in_ok-grown.grown (comp_of c.in_ok-copy.field-0 ∷ [])))
+    subst (IsSlot c.args.size) (sym c.in_ok-new.ensures.made) (fits, omega (arith, c.requires.1, ap (λ z. comps_in (tree z)) (sym (c.get.ensures.same ∙ c.in_ok-set.ensures.same) ∙ c.in-Coll.is), count_of c.in-Coll.comps, count_of c.push.new.self, ap length c.in_ok-grown.ensures, ap length c.in_ok-push.ensures.ok, length-append c.in_ok-grown.grown (comp_of c.in_ok-copy.field-0 ∷ [])))
 
 pub returns-clause-end : goal.returns-clause-end
 returns-clause-end g c = λ n by s end.
     let k = comp_of c.in_ok-copy.field-0 in
     subst (IsEndSlot n by s) (sym c.in_ok-new.ensures.made)
-    (end_slot_more n by s (slot_of c.args.slot.now) _ c.in-Coll.comps k c.in_ok-copy-2.ensures refl (ap tree (sym c.get.ensures.same ∙ c.in-Coll.is))
+    (end_slot_more n by s (slot_of c.args.slot.now) _ c.in-Coll.comps k c.in_ok-copy-2.ensures refl (ap tree (sym (c.get.ensures.same ∙ c.in_ok-set.ensures.same) ∙ c.in-Coll.is))
     (ap (λ z. coll (comps_of z)) (c.in_ok-push.ensures.ok ∙ ap (λ z. z ++ k ∷ []) c.in_ok-grown.ensures)) end)
 
 pub returns-clause-name : goal.returns-clause-name
