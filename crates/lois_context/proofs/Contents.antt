@@ -1,6 +1,6 @@
 -- Terms whose sets have further comprehensions at their ends.
 use Rattle.std.proofs.Common.{◌≡◌, ℕ, zero, suc, ◌+◌, ◌-◌, ◌<◌, ◌≤◌, inl, inr, ◌↔◌, List, [], ◌∷◌, ◌++◌, length, length-append, get_or, take, drop, append-nil, refl, sym, ap, ◌∙◌, subst, arith}
-use Rattle.std.proofs.lemmas.List.{append_assoc, take_all, length_push, take-append-le, drop-append-le, nil_from_length}
+use Rattle.std.proofs.lemmas.List.{append_assoc, nil_from_length}
 use Rattle.std.proofs.Math.Seq.{drop-nil}
 use Rattle.std.proofs.lemmas.List.Sums.{fold-append}
 use Rattle.std.proofs.lemmas.List.Elements.{Contains-append_left, Contains-append_right}
@@ -14,7 +14,7 @@ use Rattle.lois_terms.specs.Guarded.{IsColl}
 use Rattle.lois_terms.specs.Hash.{mixed, written_hash}
 use Rattle.lois_terms.proofs.Heights.{depth_append}
 use Rattle.lois_context.specs.Content.{own_count, with_comps, of_tree, of_tree-tree}
-use Rattle.lois_context.specs.Put.{AreParts, IsWithOnce}
+use Rattle.lois_context.specs.Put.{IsWithOnce}
 use Rattle.lois_context.specs.Entered.{items_listed, comps_listed}
 use Rattle.lois_context.specs.Hash.{comps_hash, content_hash}
 use Rattle.lois_context.specs.Slots.{comps_in, count_of_items}
@@ -174,25 +174,3 @@ first_of_both t ls old first h l is =
 pub rest_of_both : (t : Term) (ls : List CompD) (first : ℕ) → IsColl (tree t) → length (comps_listed (tree t)) ≤ first → drop (first - length (comps_listed (tree t))) ls ≡ drop first (comps_listed (tree (with_comps t ls)))
 rest_of_both t ls first h l =
     ap (λ z. z ++ drop (first - length (comps_listed (tree t))) ls) (sym (none_behind first (comps_listed (tree t)) l)) ∙ (dropped_parts first (comps_listed (tree t)) ls ∙ ap (drop first) (sym (with_listed t ls h)))
-
-fewer : (n : ℕ) (ks : List CompD) → length (take n ks) < n → length ks < n
-fewer zero ks l = absurd (omega arith)
-fewer (suc n) [] l = omega arith
-fewer (suc n) (k ∷ ks) l = omega (arith, fewer n ks (omega (arith, l)))
-
-enough : (n : ℕ) (ks : List CompD) → n ≤ length (take n ks) → n ≤ length ks
-enough zero ks l = omega arith
-enough (suc n) [] l = absurd (omega arith)
-enough (suc n) (k ∷ ks) l = omega (arith, enough n ks (omega (arith, l)))
-
-pub parts_first : (first : ℕ) (ks : List CompD) (k : CompD) (old added : List CompD) → length old < first → AreParts first ks old added → AreParts first (ks ++ k ∷ []) (old ++ k ∷ []) added
-parts_first first ks k old added l h =
-    let few = fewer first ks (subst (λ z. length z < first) h.0 l) in (
-      ap (λ z. z ++ k ∷ []) (h.0 ∙ take_all first ks (omega (arith, few))) ∙ sym (take_all first (ks ++ k ∷ []) (omega (arith, few, length_push ks k))),
-      h.1 ∙ (none_behind first ks (omega (arith, few)) ∙ sym (none_behind first (ks ++ k ∷ []) (omega (arith, few, length_push ks k)))),
-    )
-
-pub parts_behind : (first : ℕ) (ks : List CompD) (k : CompD) (old added : List CompD) → first ≤ length old → AreParts first ks old added → AreParts first (ks ++ k ∷ []) old (added ++ k ∷ [])
-parts_behind first ks k old added l h =
-    let many = enough first ks (subst (λ z. first ≤ length z) h.0 l) in
-    (h.0 ∙ sym (take-append-le first ks (k ∷ []) many), ap (λ z. z ++ k ∷ []) h.1 ∙ sym (drop-append-le first ks (k ∷ []) many))
