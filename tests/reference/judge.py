@@ -4,7 +4,7 @@ from collections import Counter
 from .answers import read_answer
 from .choices import guard_levels, levels_of, longer, meets, scaled, unscaled, value_at
 from .lexer import Refused, place_of, refusal_text
-from .meaning import STATUS, Failing, script_ends, script_fails
+from .meaning import STATUS, Failing, list_ends, opening, script_ends, script_fails
 from .parser import parse
 from .scope import check_scope
 from .values import SPREAD, merged, orbits_over, spelled
@@ -125,6 +125,22 @@ def judge_trace(script, source, answer, status):
     path = tuple((name, value_at(term, sample)) for name, term in answer.elements)
     if not script_fails(script, choice, (pos, answer.cause, path)):
         raise Wrong("it doesn't fail so; " + some_failure(script, source, answer, choice))
+    demand_first(script, source, answer, pos)
+
+
+def demand_first(script, source, answer, pos):
+    """The statements before the one that holds the place end at every choice."""
+    one = next(i for i, s in enumerate(script.body) if pos in places_in(s))
+    for choice in longer((), len(answer.parameters), (), (), script.order):
+        try:
+            list_ends(script.body[:one], opening(script, choice), [])
+        except Failing as f:
+            raise Wrong("a statement before fails: " + said(source, answer.parameters, choice, f)) from None
+
+
+def places_in(node):
+    """The places of a form and of all forms in it."""
+    return {node.pos}.union(*map(places_in, node.inner()))
 
 
 def some_failure(script, source, answer, choice):

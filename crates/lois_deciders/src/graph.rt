@@ -1,8 +1,10 @@
 //! The decider by identified and ordered levels.
 
-ghost use Rattle.std.specs.Prelude.{◌≡◌, IfOk, IfSome, IfNone};
+ghost use Rattle.std.specs.Prelude.{◌≡◌, List, IfOk, IfSome, IfNone, IsTrue, IsFalse};
+ghost use Rattle.lois_base.specs.Atom.{Atom};
 ghost use Rattle.lois_base.specs.Fits.{CubeFits};
 ghost use Rattle.lois_base.specs.Theory.{IsSampleOf};
+ghost use Rattle.lois_base.specs.Truth.{cube_holds};
 ghost use Rattle.lois_base.specs.Validity.{IsStrictCube};
 ghost use Rattle.lois_base.specs.declared.deciding.Kind.{Kind};
 ghost use Rattle.lois_deciders.specs.Labels.{IsUnmet};
@@ -11,6 +13,7 @@ use crate::labels::{has_conflicting_disequality, label_levels};
 use crate::ranks::rank_labels;
 use crate::strict::{is_strict, strict_part, tightest_part};
 use lois_base::{Cube, Decider, Kind, NoMemory};
+use lois_constraint::{prune, singleton};
 use std::alloc::Global;
 
 /// Takes a part without `<=`, identifies the levels that are equal there, and orders the rest by `<`. The part is met
@@ -50,6 +53,15 @@ fn ranked_sample(alloc: Global, cube: &Cube, size: usize) -> Result<Option<Vec<u
     Ok(Some(sample))
 }
 
+// Whether the cube is found to hold nowhere, by one look at all its literals.
+fn is_contradictory(alloc: Global, cube: &Cube) -> Result<bool, NoMemory>
+    ensures { IfOk result (λ b. IsTrue b → (e : List Atom) → IsFalse (cube_holds e cube.now)) }
+{
+    let one = singleton(alloc, cube)?;
+    let pruned = prune(alloc, &one)?;
+    Ok(pruned.len() == 0)
+}
+
 // Of a `<=` one of its two parts is enough, and mostly all may be `<`.
 fn sample(alloc: Global, cube: &Cube, size: usize) -> Result<Option<Vec<u64>>, NoMemory>
     requires { CubeFits size cube.now }
@@ -62,6 +74,9 @@ fn sample(alloc: Global, cube: &Cube, size: usize) -> Result<Option<Vec<u64>>, N
     let tightest = tightest_part(alloc, cube)?;
     if let Some(sample) = ranked_sample(alloc, &tightest, size)? {
         return Ok(Some(sample));
+    }
+    if is_contradictory(alloc, cube)? {
+        return Ok(None);
     }
     let part = strict_part(alloc, cube)?;
     ranked_sample(alloc, &part, size)

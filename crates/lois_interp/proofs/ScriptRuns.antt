@@ -15,11 +15,13 @@ use Rattle.lois_base.proofs.Members.{same_sym}
 use Rattle.lois_base.proofs.NormalDepths.{normal_depth}
 use Rattle.lois_answers.specs.ResultsData.{LineD, CaseD}
 use Rattle.lois_answers.specs.Sound.{IsFreeName, IsSoundLine, IsSoundCase, AreParameters, IsSound}
+use Rattle.lois_answers.specs.declared.faults.FaultKind.{FaultKind}
 use Rattle.lois_answers.specs.declared.results.Results.{Results}
 use Rattle.lois_script.specs.Limits.{Spells}
 use Rattle.lois_script.specs.Scope.{IsWellScoped}
-use Rattle.lois_script.specs.Tree.{ParamD, ScriptD}
-use Rattle.lois_meaning.specs.Runs.{ListEnds, ListFails}
+use Rattle.lois_script.specs.Tree.{ParamD, StmtD, ScriptD}
+use Rattle.lois_script.specs.View.{stmts_of}
+use Rattle.lois_meaning.specs.Runs.{ListEnds, StmtFails, ListFails, ScriptFails}
 use Rattle.lois_meaning.specs.Store.{NamedValues, AreSameNamed, IsShallow, opening_from, opening}
 use Rattle.lois_meaning.specs.declared.faults.Fault.{Fault}
 use Rattle.lois_simplify.specs.Irredundant.{HasNormalGuards}
@@ -32,9 +34,9 @@ use Rattle.lois_context.specs.Kept.{LinesFit}
 use Rattle.lois_context.specs.Slots.{SlotD, line_values}
 use Rattle.lois_context.specs.declared.contexts.Context.{Context}
 use Rattle.lois_eval.specs.WellFormed.{IsWellFormedIn}
-use Rattle.lois_interp.specs.Failed.{FailsWithin}
+use Rattle.lois_interp.specs.Failed.{FailsBehind}
 use Rattle.lois_interp.proofs.CaseCount.{few_enough}
-use Rattle.lois_interp.specs.Interpreted.{parameter_name, lines_of, IsChoiceOf, PrintsAt, IsRightAt, HoldsSomewhere, IsNormalLine, IsNormalCase, IsPlainCase, AreResultsOf, IsFailureOf}
+use Rattle.lois_interp.specs.Interpreted.{parameter_name, lines_of, IsChoiceOf, PrintsAt, IsRightAt, HoldsSomewhere, IsNormalLine, IsNormalCase, IsPlainCase, AreResultsOf, FailsBehindEnds, IsFailureOf}
 use Rattle.lois_interp.specs.Opened.{IsOpening}
 use Rattle.lois_interp.specs.Printed.{IsPrintedLine, IsPrinted, IsCaseOf}
 use Rattle.lois_interp.specs.Reached.{IsReachedAt, RunsAs}
@@ -51,6 +53,7 @@ use Rattle.lois_base.proofs.Lists.{all_one}
 use Rattle.lois_interp.proofs.Lists.{only_one}
 use Rattle.lois_interp.proofs.Opened.{opens_at, opening_admits, opening_widths, body_placed}
 use Rattle.lois_interp.proofs.SplitElements.{split_all, split_strict, split_named}
+use Rattle.lois_interp.proofs.Sequence.{fails_snoc}
 use Rattle.lois_interp.proofs.Shallow.{AreShallow, same_shallow, list_shallow}
 use Rattle.lois_interp.proofs.Weaker.{IsWeaker, normal_weaker, plain_weaker}
 
@@ -83,6 +86,12 @@ opening_shallow [] c i = tt
 opening_shallow (p ∷ ps) c i = (λ deep. deep, opening_shallow ps c (i + 1))
 
 -- ---- the contexts
+-- a script fails where one of its statements does, behind others
+script_fails : (s : ScriptD) (choice : List Atom) (at : ℕ) (kind : FaultKind) (path : NamedValues) → FailsBehindEnds s choice at kind path → ScriptFails s choice at kind path
+script_fails s choice at kind path h =
+    let start = opening s.parameters choice in
+    subst (λ z. ListFails z start at kind path) (sym h.body) (fails_snoc h.before h.one h.behind start h.fails.0 h.fails.1 at kind path h.fails.2 h.fails.3)
+
 module _ (text : List ℕ) (s : ScriptD) (spelled : Spells text s) (scoped : IsWellScoped s) (o : Context) (opened : IsOpening s.parameters o) where
   abbrev n : ℕ
   n = length s.parameters
@@ -331,22 +340,35 @@ module _ (text : List ℕ) (s : ScriptD) (spelled : Spells text s) (scoped : IsW
             choices c count = subst (λ k. IsRightAt s k c) (sym is) (right_at c count)
 
   -- ---- a fault, whose elements are split
-  pub failure_of : (f g : Fault) → IsSplitFault f g → FailsWithin (block_run s.body) o f → IsFailureOf s g
-  failure_of f g split h =
-      let c = sampled (take o.size f.sample.items) in
-      let count : length (take o.size f.sample.items) ≡ o.size = sym (length-map (take o.size f.sample.items) whole) ∙ h.admitted.0 in
-      let first : take o.size f.sample.items ≡ take n g.sample.items = ap (λ k. take k f.sample.items) opened.size ∙ ap (take n) (sym split.sample) in
-      let failed : ListFails s.body (opening s.parameters (sampled (take n g.sample.items))) f.pos.offset f.kind h.path = subst (λ k. ListFails s.body (opening s.parameters (sampled k)) f.pos.offset f.kind h.path) first (subst (λ st. ListFails s.body st f.pos.offset f.kind h.path) (opens_at s.parameters o opened c) h.failed) in
-      let levels : LinesFit (length f.sample.items) g.elements = split_all (λ l. Fits (length f.sample.items) l.term) (λ l. Fits (length f.sample.items) l.term) (λ l r is. is.levels (length f.sample.items)) f.elements g.elements split.elements h.elements.levels in
+  pub failure_of : (l : List StmtD) → s.body ≡ stmts_of l → (f g : Fault) → IsSplitFault f g → FailsBehind l o f → IsFailureOf s g
+  failure_of l is f g split h =
+      let bad = h.within in
+      let count : length (take o.size f.sample.items) ≡ o.size = sym (length-map (take o.size f.sample.items) whole) ∙ bad.admitted.0 in
+      let numbers : take o.size f.sample.items ≡ take n g.sample.items = ap (λ k. take k f.sample.items) opened.size ∙ ap (take n) (sym split.sample) in
+      let levels : LinesFit (length f.sample.items) g.elements = split_all (λ l. Fits (length f.sample.items) l.term) (λ l. Fits (length f.sample.items) l.term) (λ l r is. is.levels (length f.sample.items)) f.elements g.elements split.elements bad.elements.levels in
+      let body : s.body ≡ stmts_of (h.before ++ h.one ∷ h.behind) = is ∙ ap stmts_of h.whole in
+      let FailsAt : NamedValues → Type 0 = λ st. (t lines : NamedValues) × ListEnds (stmts_of h.before) st t lines × StmtFails h.one t f.pos.offset f.kind bad.path in
+      let here : FailsBehindEnds s (sampled (take n g.sample.items)) f.pos.offset f.kind bad.path = record {
+        before = h.before;
+        one = h.one;
+        behind = h.behind;
+        body = body;
+        end_always = λ c size. let e = h.end_always c (opening_admits s.parameters o opened c size) in (e.0, e.1, subst (λ st. ListEnds (stmts_of h.before) st e.0 e.1) (opens_at s.parameters o opened c) e.2);
+        fails = subst (λ k. FailsAt (opening s.parameters (sampled k))) numbers (subst FailsAt (opens_at s.parameters o opened (sampled (take o.size f.sample.items))) bad.failed);
+      } in
+      let first : FailsBehindEnds s (sampled (take n g.sample.items)) g.pos.offset g.kind bad.path =
+      subst (λ z. FailsBehindEnds s (sampled (take n g.sample.items)) z.offset g.kind bad.path) (sym split.pos)
+      (subst (λ z. FailsBehindEnds s (sampled (take n g.sample.items)) f.pos.offset z bad.path) (sym split.kind) here) in
       record {
         enough = omega (arith, count, opened.size, length-take o.size f.sample.items, ap length split.sample);
-        path = h.path;
-        failed = subst (λ z. ListFails s.body (opening s.parameters (sampled (take n g.sample.items))) z.offset g.kind h.path) (sym split.pos)
-            (subst (λ z. ListFails s.body (opening s.parameters (sampled (take n g.sample.items))) f.pos.offset z h.path) (sym split.kind) failed);
-        named = subst (λ k. AreSameNamed h.path (line_values (sampled k) g.elements)) (sym split.sample) (split_named (sampled f.sample.items) h.path f.elements g.elements split.elements h.named);
+        path = bad.path;
+        failed = script_fails s (sampled (take n g.sample.items)) g.pos.offset g.kind bad.path first;
+        first = first;
+        named = subst (λ k. AreSameNamed bad.path (line_values (sampled k) g.elements)) (sym split.sample) (split_named (sampled f.sample.items) bad.path f.elements g.elements split.elements bad.named);
         levels = subst (λ k. LinesFit (length k) g.elements) (sym split.sample) levels;
-        brackets = split_all (λ l. depth l.term ≤ 64) (λ l. depth l.term ≤ 64) (λ l r is most. subst (λ k. k ≤ 64) (sym is.depth) most) f.elements g.elements split.elements h.elements.brackets;
-        operators = split_all (λ l. AdmitsTerm s.ordered l.term) (λ l. AdmitsTerm s.ordered l.term) (λ l r is. is.operators s.ordered) f.elements g.elements split.elements (h.elements.operators s.ordered (body_placed s text o spelled scoped opened s.ordered refl));
-        widths = split_all (λ l. HasBoundedWidths l.term) (λ l. HasBoundedWidths l.term) (λ l r is. is.widths) f.elements g.elements split.elements (h.elements.widths (opening_widths s.parameters o opened));
+        brackets = split_all (λ l. depth l.term ≤ 64) (λ l. depth l.term ≤ 64) (λ l r is most. subst (λ k. k ≤ 64) (sym is.depth) most) f.elements g.elements split.elements bad.elements.brackets;
+        operators = split_all (λ l. AdmitsTerm s.ordered l.term) (λ l. AdmitsTerm s.ordered l.term) (λ l r is. is.operators s.ordered) f.elements g.elements split.elements
+            (bad.elements.operators s.ordered (subst (λ z. IsWellFormedIn (BlockIsWellScoped z) s.ordered o) body (body_placed s text o spelled scoped opened s.ordered refl)));
+        widths = split_all (λ l. HasBoundedWidths l.term) (λ l. HasBoundedWidths l.term) (λ l r is. is.widths) f.elements g.elements split.elements (bad.elements.widths (opening_widths s.parameters o opened));
         strict = split_strict f.elements g.elements split.elements;
       }

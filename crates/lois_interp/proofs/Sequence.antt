@@ -1,11 +1,11 @@
 -- Lists of statements, and blocks.
-use Rattle.std.proofs.Common.{◌≡◌, ℕ, zero, suc, ◌+◌, ◌⊎◌, inl, inr, Bool, List, [], ◌∷◌, ◌++◌, length, take, map, cond, IsTrue, refl, sym, ap, ◌∙◌, subst, append-nil, false, bytes_eq}
+use Rattle.std.proofs.Common.{◌≡◌, ℕ, zero, suc, ◌+◌, ◌<◌, ◌⊎◌, inl, inr, Bool, List, [], ◌∷◌, ◌++◌, length, take, map, cond, IsTrue, refl, sym, ap, ◌∙◌, subst, append-nil, false, bytes_eq}
 use Rattle.std.specs.List.{All, Contains, AllByRecursion, IsDistinct}
 use Rattle.std.proofs.lemmas.List.{append_assoc, take-map, length-map, map-append}
 use Rattle.std.proofs.lemmas.List.Elements.{Contains-append_left, Contains-append_right, Contains-push, All-contains, All-head, All-tail, All-cons, All-nil}
 use Rattle.lois_base.specs.Atom.{Atom}
 use Rattle.lois_base.specs.Data.{TermD, var, tag, tup, coll}
-use Rattle.lois_base.specs.Truth.{holds}
+use Rattle.lois_base.specs.Truth.{holds, sampled}
 use Rattle.lois_base.specs.Validity.{AdmitsConstraint, AdmitsTerm, HasBoundedWidths}
 use Rattle.lois_base.specs.Values.{point}
 use Rattle.lois_base.proofs.Members.{included_refl}
@@ -26,22 +26,22 @@ use Rattle.lois_context.specs.Choices.{IsAdmitted, AdmitsContext, ContextHasBoun
 use Rattle.lois_context.specs.Counted.{times}
 use Rattle.lois_context.specs.Slots.{SlotD, slot_name, slot_at, store_at, line_values}
 use Rattle.lois_context.specs.declared.contexts.Context.{Context}
-use Rattle.lois_context.proofs.Counts.{times_cons, admits_like}
+use Rattle.lois_context.proofs.Counts.{times_of, times_some, times_cons, admits_like}
 use Rattle.lois_context.specs.Counted.{admits}
 use Rattle.lois_context.proofs.Later.{first_or_later}
 use Rattle.lois_simplify.proofs.Members.{contains_none}
 use Rattle.lois_eval.specs.WellFormed.{names_of, IsWellFormedIn}
 use Rattle.lois_scope.proofs.Lists.{behind_all}
 use Rattle.lois_interp.specs.Assigned.{StmtAssigns, ListAssigns}
-use Rattle.lois_interp.specs.Failed.{FailsWithin, FailsFrom}
+use Rattle.lois_interp.specs.Failed.{FailsWithin, FailsBehind, FailsFrom}
 use Rattle.lois_interp.specs.WithinLimits.{StmtIsWithinLimits, StmtsAreWithinLimits}
 use Rattle.lois_interp.specs.Merged.{IsTruncatedContext, AreTruncatedContexts}
 use Rattle.lois_interp.specs.Reached.{IsReachedAt, RunsFrom, RunsAs}
-use Rattle.lois_interp.specs.Run.{Run, names_behind, names_behind_all, stmt_run, list_run, block_run}
+use Rattle.lois_interp.specs.Run.{Run, names_behind, names_behind_all, stmt_run, list_run, block_run, block_run_at}
 use Rattle.lois_interp.specs.Slots.{IsKeptTerm, AreKept}
 use Rattle.lois_interp.specs.WellScoped.{declared_name, StmtIsWellScoped, BlockIsWellScoped}
 use Rattle.lois_interp.proofs.Compose.{from_both, fails_later}
-use Rattle.lois_interp.proofs.Kept.{as_named}
+use Rattle.lois_interp.proofs.Kept.{as_named, as_reached}
 use Rattle.lois_interp.proofs.Lists.{only_one, of_one}
 use Rattle.lois_context.specs.Kept.{HasDistinctNames}
 
@@ -148,12 +148,35 @@ module _ (done : List StmtD) (a : StmtD) (rest : List StmtD) (k : Context) (ds :
         operators = All-contains (AdmitsContext o) ds d admit there;
       })
 
-  pub list_fails_at : (f : Fault) → FailsFrom (stmt_run a) ds f → FailsWithin (block_run (stmts_of (done ++ a ∷ rest))) k f
-  list_fails_at f (d, there, bad) =
-      fails_later (list_run done) (stmt_run a) (block_run (stmts_of (done ++ a ∷ rest))) k d f (fails_snoc done a rest)
-      (λ o placed. All-contains (IsWellFormedIn (StmtIsWellScoped a) o) ds d (may_at o placed) there)
-      (λ w. All-contains ContextHasBoundedWidths ds d (runs.widths (all_one ContextHasBoundedWidths k w)) there)
-      (runs.reached d there) bad
+  pub list_fails_at : (f : Fault) → FailsFrom (stmt_run a) ds f → FailsBehind (done ++ a ∷ rest) k f
+  list_fails_at f (d, there, bad) = record {
+    before = done;
+    one = a;
+    behind = rest;
+    whole = refl;
+    end_always = λ c adm.
+        let some = times_some c ds (subst (λ n. 0 < n) (sym (runs.choices c)) (times_of c (k ∷ []) k (Contains-push [] k) adm)) in
+        let end = (as_reached (list_run done) k ds runs some.0 some.1).ends_there c some.2 in
+        (store_at c some.0.store, end.printed, end.run);
+    within = fails_later (list_run done) (stmt_run a) (block_run_at done a rest) k d f (λ s t l at kind path ends fails. (t, l, ends, fails))
+        (λ o placed. All-contains (IsWellFormedIn (StmtIsWellScoped a) o) ds d (may_at o placed) there)
+        (λ w. All-contains ContextHasBoundedWidths ds d (runs.widths (all_one ContextHasBoundedWidths k w)) there)
+        (runs.reached d there) bad;
+  }
+
+-- a block fails where one of its statements does
+pub fails_whole : (block : List StmtD) (k : Context) (f : Fault) → FailsBehind block k f → FailsWithin (block_run (stmts_of block)) k f
+fails_whole block k f h =
+    let bad = h.within in
+    let store = store_at (sampled (take k.size f.sample.items)) k.store in
+    subst (λ z. FailsWithin (block_run (stmts_of z)) k f) (sym h.whole)
+    (record {
+      admitted = bad.admitted;
+      path = bad.path;
+      failed = fails_snoc h.before h.one h.behind store bad.failed.0 bad.failed.1 f.pos.offset f.kind bad.path bad.failed.2 bad.failed.3;
+      named = bad.named;
+      elements = record { levels = bad.elements.levels; brackets = bad.elements.brackets; operators = bad.elements.operators; widths = bad.elements.widths };
+    })
 
 -- ---- before the first statement
 kept_term_refl : (from : ℕ) (t : TermD) → IsKeptTerm from t t

@@ -1,10 +1,14 @@
 -- What a fault says of the context that a run began in.
-use Rattle.std.specs.Prelude.{ℕ, ◌≤◌, Bool, List, take, length}
+use Rattle.std.specs.Prelude.{◌≡◌, ℕ, ◌≤◌, Bool, List, ◌∷◌, ◌++◌, take, length}
 use Rattle.std.specs.List.{All, Contains}
+use Rattle.lois_base.specs.Atom.{Atom}
 use Rattle.lois_base.specs.Data.{depth}
 use Rattle.lois_base.specs.Truth.{sampled}
 use Rattle.lois_base.specs.Validity.{AdmitsTerm, HasBoundedWidths}
 use Rattle.lois_answers.specs.ResultsData.{LineD}
+use Rattle.lois_script.specs.Tree.{StmtD}
+use Rattle.lois_script.specs.View.{stmts_of}
+use Rattle.lois_meaning.specs.Runs.{ListEnds}
 use Rattle.lois_meaning.specs.Store.{NamedValues, AreSameNamed}
 use Rattle.lois_meaning.specs.declared.faults.Fault.{Fault}
 use Rattle.lois_context.specs.Choices.{IsAdmitted, ContextHasBoundedWidths}
@@ -13,7 +17,7 @@ use Rattle.lois_context.specs.Slots.{store_at, line_values}
 use Rattle.lois_context.specs.declared.contexts.Context.{Context}
 use Rattle.lois_eval.specs.Throughout.{Failure}
 use Rattle.lois_eval.specs.WellFormed.{IsWellFormedIn}
-use Rattle.lois_interp.specs.Run.{Run}
+use Rattle.lois_interp.specs.Run.{Run, block_run_at}
 
 -- The elements fit n levels, are written within 64 brackets, and have no operator or width that the context and what is run
 -- haven't.
@@ -31,6 +35,15 @@ pub record FailsWithin (run : Run) (k : Context) (f : Fault) : Type 0 where
   pub failed : run.fails (store_at (sampled (take k.size f.sample.items)) k.store) f.pos.offset f.kind path
   pub named : AreSameNamed path (line_values (sampled f.sample.items) f.elements)
   pub elements : AreElements run.stands k (length f.sample.items) f.elements
+
+-- The fault is of one of a block's statements, and those before it end at each choice that the context admits.
+pub record FailsBehind (block : List StmtD) (k : Context) (f : Fault) : Type 0 where
+  pub before : List StmtD
+  pub one : StmtD
+  pub behind : List StmtD
+  pub whole : block ≡ before ++ one ∷ behind
+  pub end_always : (c : List Atom) → IsAdmitted c k → (t lines : NamedValues) × ListEnds (stmts_of before) (store_at c k.store) t lines
+  pub within : FailsWithin (block_run_at before one behind) k f
 
 -- the run fails with this place and kind, along some path
 abbrev pub FailsAlongSome : Run → Failure

@@ -55,6 +55,16 @@ block_run body = record {
   behind = λ names. names;
 }
 
+-- a block that fails at one of its statements, behind those that have ended
+abbrev pub block_run_at : List StmtD → StmtD → List StmtD → Run
+block_run_at before one behind = record {
+  ends = BlockEnds (ListEnds (stmts_of (before ++ one ∷ behind)));
+  fails = λ s at kind path. (t lines : NamedValues) × ListEnds (stmts_of before) s t lines × StmtFails one t at kind path;
+  assigns = ListAssigns (stmts_of (before ++ one ∷ behind));
+  stands = BlockIsWellScoped (stmts_of (before ++ one ∷ behind));
+  behind = λ names. names;
+}
+
 -- one turn: the condition is true, and the body ends
 abbrev pub turn_run : CondD → StmtsD → Run
 turn_run c body = record {

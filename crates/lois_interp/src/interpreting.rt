@@ -7,7 +7,7 @@ ghost use Rattle.lois_script.specs.Limits.{Spells};
 ghost use Rattle.lois_script.specs.View.{params_list, script_tree, stmts_list, stmts_of};
 ghost use Rattle.lois_eval.specs.Throughout.{IfFault};
 ghost use Rattle.lois_eval.specs.WellFormed.{IsWellFormedIn};
-ghost use Rattle.lois_interp.specs.Failed.{FailsWithin};
+ghost use Rattle.lois_interp.specs.Failed.{FailsBehind};
 ghost use Rattle.lois_interp.specs.Interpreted.{AreResultsOf, ScriptFailsNowhere, IsFailureOf, parameter_name};
 ghost use Rattle.lois_interp.specs.Opened.{IsOpening, opening_slots};
 ghost use Rattle.lois_interp.specs.Reached.{RunsAs};
@@ -31,7 +31,8 @@ use std::alloc::Global;
 /// Runs a script at all choices of its parameters. At each choice exactly one case of the results holds, and its lines are those
 /// that the script prints there. Constraints and guards are normalised, and one that always holds under what surrounds it is `true`.
 /// Each term is normal under its case, and no two cases have equal lines. No `<=` is in results, nor in the elements of a fault. Ok
-/// comes exactly where no choice fails. Errors: a fault at some choice, and `NoMemory`, also where a level would pass the greatest usize.
+/// comes exactly where no choice fails. Errors: a fault at some choice, of a statement before which all others end at every choice,
+/// and `NoMemory`, also where a level would pass the greatest usize.
 pub fn interpret<T: Structure>(
     alloc: Global,
     script: &Scoped,
@@ -63,7 +64,7 @@ fn run_body<T: Structure>(
 ) -> Result<Vec<Context>, Stop>
     requires { IsWellFormedIn (BlockIsWellScoped (stmts_of (stmts_list body.now))) T.ordered opening }
     ensures runs { IfOk result (λ r. RunsAs (block_run (stmts_of (stmts_list body.now))) opening r.items) }
-    ensures fault { IfErr result (λ s. IfFault s (IsSplitFrom (FailsWithin (block_run (stmts_of (stmts_list body.now))) opening))) }
+    ensures fault { IfErr result (λ s. IfFault s (IsSplitFrom (FailsBehind (stmts_list body.now) opening))) }
     ensures only_asked { HasOnlyAsked (λ b. (⟦<dyn Decider as Decider>⟧ b.vtable).kind_of b.value) (λ b. (⟦<dyn Decider as Decider>⟧ b.vtable).questions b.value) chosen.old chosen.new }
 {
     match run_block::<T>(alloc, body, opening, chosen) {

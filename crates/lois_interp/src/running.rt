@@ -16,7 +16,7 @@ ghost use Rattle.lois_eval.specs.Throughout.{FailsNowhere, IsFaultOf, IfFault};
 ghost use Rattle.lois_interp.specs.Decided.{IsDecided, listed_context};
 ghost use Rattle.lois_interp.specs.Elements.{SetFails};
 ghost use Rattle.lois_interp.specs.Entered.{IsEntered};
-ghost use Rattle.lois_interp.specs.Failed.{FailsWithin, FailsAlongSome, FailsFrom};
+ghost use Rattle.lois_interp.specs.Failed.{FailsWithin, FailsBehind, FailsAlongSome, FailsFrom};
 ghost use Rattle.lois_interp.specs.Leaves.{IsLeaf};
 ghost use Rattle.lois_interp.specs.Looped.{LoopRuns, FailsInside, HoldsElement};
 ghost use Rattle.lois_interp.specs.Reached.{RunsFrom, RunsAs, HaveDifferentContents};
@@ -41,8 +41,8 @@ use std::alloc::Global;
 
 /// Runs a block at all choices that a context admits. The contexts of the answer share them out: each is admitted by exactly
 /// one, whose store and lines are those with which the block ends there. Ok comes exactly where the block fails at none of
-/// them. Errors: a fault at some choice that the context admits, and `NoMemory`, also where a level would pass the greatest
-/// usize.
+/// them. Errors: a fault at some choice that the context admits, of a statement before which all others end at each of them,
+/// and `NoMemory`, also where a level would pass the greatest usize.
 pub fn run_block<T: Structure>(
     alloc: Global,
     body: &Stmts,
@@ -54,6 +54,7 @@ pub fn run_block<T: Structure>(
     ensures different { IfOk result (λ r. HaveDifferentContents r.items) }
     ensures nowhere { IfOk result (λ r. FailsNowhere context (FailsAlongSome (block_run (stmts_of (stmts_list body.now))))) }
     ensures fault { IfErr result (λ s. IfFault s (FailsWithin (block_run (stmts_of (stmts_list body.now))) context)) }
+    ensures first { IfErr result (λ s. IfFault s (FailsBehind (stmts_list body.now) context)) }
 
     // whatever is answered
     ensures only_asked { HasOnlyAsked (λ b. (⟦<dyn Decider as Decider>⟧ b.vtable).kind_of b.value) (λ b. (⟦<dyn Decider as Decider>⟧ b.vtable).questions b.value) chosen.old chosen.new }
@@ -103,6 +104,7 @@ fn run_stmts<T: Structure, S: Oracle<T>>(
     ensures runs { IfOk result (λ r. RunsAs (block_run (stmts_of (stmts_list body.now))) context r.items) }
     ensures different { IfOk result (λ r. HaveDifferentContents r.items) }
     ensures fault { IfErr result (λ s. IfFault s (FailsWithin (block_run (stmts_of (stmts_list body.now))) context)) }
+    ensures first { IfErr result (λ s. IfFault s (FailsBehind (stmts_list body.now) context)) }
     ensures asked { S.reaches steps.old steps.new }
 {
     let outside = context.store.len();

@@ -26,7 +26,7 @@ use Rattle.lois_meaning.specs.Kinds.{AreSame}
 use Rattle.lois_meaning.specs.Store.{NamedValues, AreSameNamed}
 use Rattle.lois_meaning.specs.declared.faults.Fault.{Fault}
 use Rattle.lois_context.specs.Slots.{line_values}
-use Rattle.lois_interp.specs.Interpreted.{parameter_name, IsFailureOf}
+use Rattle.lois_interp.specs.Interpreted.{parameter_name, FailsBehindEnds, IsFailureOf}
 use Rattle.lois_interp.proofs.FreeNames.{are_parameters}
 use Rattle.lois_shortest_word.specs.Shortened.{IsShortenedWord}
 use Rattle.lois_shortest_word.specs.Words.{values_at, AreUsedBetween}
@@ -125,6 +125,9 @@ module _ (text : List ℕ) (s : ScriptD) (spelled : Spells text s) (scoped : IsW
           failed = subst (λ k. ScriptFails s (sampled (take n k)) f.pos.offset t.kind h.path) (sym numbers)
               (subst (λ c. ScriptFails s c f.pos.offset t.kind h.path) (sym first_numbers)
               (subst (λ k. ScriptFails s (sampled (take n f.sample.items)) f.pos.offset k h.path) (sym kind) h.failed));
+          first = subst (λ k. FailsBehindEnds s (sampled (take n k)) f.pos.offset t.kind h.path) (sym numbers)
+              (subst (λ c. FailsBehindEnds s c f.pos.offset t.kind h.path) (sym first_numbers)
+              (subst (λ k. FailsBehindEnds s (sampled (take n f.sample.items)) f.pos.offset k h.path) (sym kind) h.first));
           named = subst (λ k. AreSameNamed h.path (line_values (sampled k) t.elements)) (sym numbers)
               (subst (λ ls. AreSameNamed h.path (line_values (sampled r.sample) ls)) (sym elements) named_again);
           used = subst (λ k. AreUsedBetween n (length k) (map (λ l. l.term) t.elements)) (sym numbers)

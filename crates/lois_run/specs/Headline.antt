@@ -15,7 +15,7 @@ use Rattle.lois_script.specs.Tree.{ScriptD}
 use Rattle.lois_meaning.specs.Runs.{ScriptFails}
 use Rattle.lois_meaning.specs.Store.{NamedValues, AreSameNamed}
 use Rattle.lois_context.specs.Slots.{line_values}
-use Rattle.lois_interp.specs.Interpreted.{parameter_name, IsChoiceOf, AreResultsOf}
+use Rattle.lois_interp.specs.Interpreted.{parameter_name, IsChoiceOf, AreResultsOf, FailsBehindEnds}
 use Rattle.lois_command.specs.Places.{IsPlaceOf}
 use Rattle.lois_shortest_word.specs.Words.{AreUsedBetween}
 use Rattle.lois_run.specs.declared.outcomes.Outcome.{Outcome}
@@ -27,8 +27,8 @@ pub record Completes (s : ScriptD) (r : Results) : Type 0 where
   pub read_again : (q : Results) → IsSound q → results_text q ≡ results_text r → q ≡ r
 
 -- The trace names where the script that the text spells fails, how, and under which choice: the first numbers of its sample,
--- one for each parameter. The path of the failure has the names of the trace's elements, and their values at the whole sample. The
--- further numbers are for levels that stand in an element.
+-- one for each parameter. The statements before the one that holds the place end at every choice. The path of the failure has the
+-- names of the trace's elements, and their values at the whole sample. The further numbers are for levels that stand in an element.
 pub record NamesFailure (text : List ℕ) (s : ScriptD) (t : Trace) : Type 0 where
   pub sound : IsSoundTrace t
   pub structure : t.order ≡ s.ordered
@@ -37,6 +37,7 @@ pub record NamesFailure (text : List ℕ) (s : ScriptD) (t : Trace) : Type 0 whe
   pub place : IsPlaceOf text at (record { line = t.line; column = t.column })
   pub path : NamedValues
   pub failed : ScriptFails s (sampled (take (length s.parameters) t.sample)) at t.kind path
+  pub first : FailsBehindEnds s (sampled (take (length s.parameters) t.sample)) at t.kind path
   pub named : AreSameNamed path (line_values (sampled t.sample) t.elements)
   pub used : AreUsedBetween (length s.parameters) (length t.sample) (map (λ l. l.term) t.elements)
 

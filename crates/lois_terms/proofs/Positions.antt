@@ -4,7 +4,7 @@ use Rattle.std.proofs.lemmas.Bool.{eq-eqb, eqb-true}
 use Rattle.std.proofs.lemmas.List.{append_assoc, append-nil}
 use Rattle.std.proofs.lemmas.List.Elements.{All-nil, All-cons, All-append, All-contains, Contains-append_left, Contains-append_right}
 use Rattle.std.proofs.lemmas.Option.{none-some, same_Some, slice_get-get_or, slice_get-map}
-use Rattle.std.specs.Global.{Vec}
+use Rattle.smallvec.specs.SmallVec.{SmallVec}
 use Rattle.std.specs.Prelude.{Option, Some, None, option_map, slice_get, Contains}
 use Rattle.std.specs.List.{All}
 use Rattle.lois_terms.specs.Positions.{positions_from, positions_of, listed}
@@ -47,7 +47,7 @@ module _ (x : ℕ) where
   pushed_of y ys = pushed_from 0 (length ys) y ys (omega arith)
 
 -- a table with one number more, whose positions were taken out, got one more and were put back
-module _ (was mid found : ℕ → Option (Vec ℕ)) (ys : List ℕ) (y : ℕ) (v : Vec ℕ) where
+module _ (was mid found : ℕ → Option (SmallVec ℕ)) (ys : List ℕ) (y : ℕ) (v : SmallVec ℕ) where
   pub table_pushed : ((q : ℕ) → mid q ≡ cond (nat_eq y q) None (was q)) → ((q : ℕ) → found q ≡ cond (nat_eq y q) (Some v) (mid q)) → v.items ≡ listed (was y) ++ length ys ∷ [] → ((x : ℕ) → listed (was x) ≡ positions_of x ys) → (x : ℕ) → listed (found x) ≡ positions_of x (ys ++ y ∷ [])
   table_pushed out back is holds x = by (nat_eq y x) refl
     where

@@ -1,6 +1,6 @@
 -- The positions at which a list has a number.
 use Rattle.std.specs.Prelude.{ℕ, suc, ◌==◌, if◌then◌else◌, List, [], ◌∷◌, ◌++◌, Option, Some, None}
-use Rattle.std.specs.Global.{Vec}
+use Rattle.smallvec.specs.SmallVec.{SmallVec}
 
 -- ascending, counted from k on
 abbrev pub positions_from : ℕ → ℕ → List ℕ → List ℕ
@@ -11,6 +11,6 @@ abbrev pub positions_of : ℕ → List ℕ → List ℕ
 positions_of = positions_from 0
 
 -- what a table has for a number: none where it has no entry
-abbrev pub listed : Option (Vec ℕ) → List ℕ
+abbrev pub listed : Option (SmallVec ℕ) → List ℕ
 listed None = []
 listed (Some ps) = ps.items

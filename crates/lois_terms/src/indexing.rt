@@ -10,16 +10,20 @@ ghost use Rattle.lois_terms.specs.Shapes.{item_shape};
 
 use crate::hashing::{hash_written, shape};
 use lois_base::{Comp, NoMemory};
+use smallvec::SmallVec;
 use std::alloc::Global;
 use std::collections::HashMap;
 use std::marker::Model;
 use std::mem;
 
+// Most numbers stand at one position, which needs no allocation.
+type Positions = SmallVec<usize, 1>;
+
 /// A list of numbers that tells where it has a number.
 #[derive(Drop)]
 pub struct Index {
     numbers: Vec<u64>,
-    places: HashMap<u64, Vec<usize>>,
+    places: HashMap<u64, Positions>,
 }
 
 impl Model for Index {
@@ -82,13 +86,13 @@ impl Index {
 }
 
 // What the table has for the number, which it then has no entry for.
-fn taken(alloc: Global, places: &mut HashMap<u64, Vec<usize>>, number: u64) -> Vec<usize>
+fn taken(alloc: Global, places: &mut HashMap<u64, Positions>, number: u64) -> Positions
     ensures positions { result.items ≡ listed (get nat_eq places.old number) }
     ensures others { (q : ℕ) → get nat_eq places.new q ≡ cond (nat_eq number q) None (get nat_eq places.old q) }
 {
     match places.remove(&number) {
         Some(positions) => positions,
-        None => Vec::new(alloc),
+        None => SmallVec::new(alloc),
     }
 }
 
@@ -98,7 +102,7 @@ pub fn index_by_shape(alloc: Global, comps: &[Comp]) -> Result<Index, NoMemory>
 {
     let mut index = Index::new(alloc);
     for comp in comps {
-        index.push(alloc, shape(&comp.item))?;
+        index = index.pushed(alloc, shape(&comp.item))?;
     }
     Ok(index)
 }
@@ -109,7 +113,7 @@ pub fn index_as_written(alloc: Global, comps: &[Comp]) -> Result<Index, NoMemory
 {
     let mut index = Index::new(alloc);
     for comp in comps {
-        index.push(alloc, hash_written(comp))?;
+        index = index.pushed(alloc, hash_written(comp))?;
     }
     Ok(index)
 }

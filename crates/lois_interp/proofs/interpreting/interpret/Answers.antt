@@ -2,12 +2,11 @@ use Rattle.std.proofs.Common.{◌≡◌, IfErr, refl, sym, subst}
 use Rattle.lois_base.proofs.Lists.{all_one}
 use Rattle.lois_script.specs.Limits.{Spells}
 use Rattle.lois_script.specs.Scope.{IsWellScoped}
-use Rattle.lois_script.specs.View.{script_tree}
+use Rattle.lois_script.specs.View.{script_tree, stmts_list}
 use Rattle.lois_eval.specs.WellFormed.{IsWellFormedIn}
 use Rattle.lois_eval.specs.Throughout.{IfFault}
-use Rattle.lois_interp.specs.Failed.{FailsWithin}
+use Rattle.lois_interp.specs.Failed.{FailsBehind}
 use Rattle.lois_interp.specs.Interpreted.{AreResultsOf, IsFailureOf}
-use Rattle.lois_interp.specs.Run.{block_run}
 use Rattle.lois_interp.specs.Split.{IsSplitFrom}
 use Rattle.lois_interp.specs.WellScoped.{BlockIsWellScoped}
 use Rattle.lois_interp.proofs.Opened.{parameters_distinct, body_placed}
@@ -39,9 +38,10 @@ returns-in_err-ends-clause-fault g c =
     let text = c.requires.spelled.0 in
     let spelled = subst (λ x. Spells text (script_tree x)) (sym same) c.requires.spelled.1 in
     let scoped = subst (λ x. IsWellScoped (script_tree x)) (sym same) c.script-script.ensures.scoped in
+    let body = stmts_list c.script-script.result.now.body in
     let r = c.from_residual-in_err-ends.result in
     subst (λ x. IfErr r (λ z. IfFault z (IsFailureOf (script_tree x)))) same
-    (passed_on r c.in_err-ends.field-0.0 (IsSplitFrom (FailsWithin (block_run s.body) o)) (IsFailureOf s) c.from_residual-in_err-ends.ensures.1 (λ g h. failure_of text s spelled scoped o c.in_ok-opening.ensures h.0 g h.2 h.1) c.in_err-ends.ensures.fault)
+    (passed_on r c.in_err-ends.field-0.0 (IsSplitFrom (FailsBehind body o)) (IsFailureOf s) c.from_residual-in_err-ends.ensures.1 (λ g h. failure_of text s spelled scoped o c.in_ok-opening.ensures body refl h.0 g h.2 h.1) c.in_err-ends.ensures.fault)
 
 pub all_printed-requires : goal.all_printed-requires
 all_printed-requires g c =

@@ -19,7 +19,7 @@ use Rattle.lois_eval.proofs.FaultsAt.{if_fault}
 use Rattle.lois_eval.proofs.LoopExit.{item_there, passed_on, err_weaker}
 use Rattle.lois_interp.specs.Decided.{listed_context, IsTrueSide}
 use Rattle.lois_interp.specs.Elements.{SetFails}
-use Rattle.lois_interp.specs.Failed.{FailsWithin, FailsFrom}
+use Rattle.lois_interp.specs.Failed.{FailsWithin, FailsBehind, FailsFrom}
 use Rattle.lois_interp.specs.Looped.{LoopRuns, FailsInside}
 use Rattle.lois_interp.specs.Reached.{RunsFrom, RunsAs}
 use Rattle.lois_interp.specs.Run.{stmt_run, list_run, block_run, turn_run, leave_run}
@@ -30,7 +30,7 @@ use Rattle.lois_interp.proofs.Contents.{run_different}
 use Rattle.lois_interp.proofs.ForTurns.{set_placed, for_new, inside_may, inside_elements, for_fails_inside, for_ends, ends_admit, for_runs, for_fails_set}
 use Rattle.lois_interp.proofs.IfRuns.{if_placed, if_cond_fails, if_yes_fails, if_no_fails, if_may_yes, if_may_no, if_runs}
 use Rattle.lois_interp.proofs.Inside.{runs_none, runs_more, passing_runs, passing_none, cond_within, side_within, named_stop, long_enough, held_fits}
-use Rattle.lois_interp.proofs.Sequence.{list_more, list_fails_at, list_none, may_at, block_cut}
+use Rattle.lois_interp.proofs.Sequence.{list_more, list_fails_at, fails_whole, list_none, may_at, block_cut}
 use Rattle.lois_interp.proofs.Sizes.{stmt_size, list_size, item_size, size_for, size_if, size_while, is_leaf}
 use Rattle.lois_interp.proofs.WhileRuns.{HasTurned, turn_placed, turn_may, body_placed, turn_cond_fails, turn_body_fails, turn_parts, parts_none, parts_more, parts_merged, turned_none, turned_placed, turned_leaves, turned_apart, turned_more, turned_all, turned_out, turn_fails_at, leave_fails_at}
 use Rattle.lois_interp.proofs.Lists.{split_at}
@@ -316,15 +316,20 @@ run_stmts-run_each-requires g t c κs within =
       ),
     )
 
-pub run_stmts-returns-in_err-contexts-2-clause-fault : goal.run_stmts-returns-in_err-contexts-2-clause-fault
-run_stmts-returns-in_err-contexts-2-clause-fault g t c =
+pub run_stmts-returns-in_err-contexts-2-clause-first : goal.run_stmts-returns-in_err-contexts-2-clause-first
+run_stmts-returns-in_err-contexts-2-clause-first g t c =
     let k = c.args.context in let items = c.as_slice-stmt-items.result.now in let i = c.loop-stmt.stmt-index in
     let a = stmt_tree c.stmt-item.result in
     let done = map stmt_tree (take i items) in
     let rest = map stmt_tree (drop (suc i) items) in
     let whole : stmts_list c.args.body.now ≡ done ++ a ∷ rest = sym c.as_slice-stmt-items.ensures.items ∙ split_at stmt_tree items i c.stmt-item.result c.loop-stmt-test.true c.stmt-item.is in
-    subst (λ z. IfErr c.from_residual-in_err-contexts-2.result (λ t. IfFault t (FailsWithin (block_run (stmts_of z)) k))) (sym whole)
-    (passed_on c.from_residual-in_err-contexts-2.result c.in_err-contexts-2.field-0.0 (FailsFrom (stmt_run a) c.loop-stmt.contexts.items) (FailsWithin (block_run (stmts_of (done ++ a ∷ rest))) k) c.from_residual-in_err-contexts-2.ensures.1 (λ f h. list_fails_at done a rest k c.loop-stmt.contexts.items c.loop-stmt.invariant.runs f h) c.in_err-contexts-2.ensures.fault)
+    subst (λ z. IfErr c.from_residual-in_err-contexts-2.result (λ t. IfFault t (FailsBehind z k))) (sym whole)
+    (passed_on c.from_residual-in_err-contexts-2.result c.in_err-contexts-2.field-0.0 (FailsFrom (stmt_run a) c.loop-stmt.contexts.items) (FailsBehind (done ++ a ∷ rest) k) c.from_residual-in_err-contexts-2.ensures.1 (λ f h. list_fails_at done a rest k c.loop-stmt.contexts.items c.loop-stmt.invariant.runs f h) c.in_err-contexts-2.ensures.fault)
+
+pub run_stmts-returns-in_err-contexts-2-clause-fault : goal.run_stmts-returns-in_err-contexts-2-clause-fault
+run_stmts-returns-in_err-contexts-2-clause-fault g t c =
+    let k = c.args.context in let l = stmts_list c.args.body.now in
+    err_weaker c.from_residual-in_err-contexts-2.result (FailsBehind l k) (FailsWithin (block_run (stmts_of l)) k) (λ f h. fails_whole l k f h) (run_stmts-returns-in_err-contexts-2-clause-first g t c)
 
 pub run_stmts-loop-stmt-preserved : goal.run_stmts-loop-stmt-preserved
 run_stmts-loop-stmt-preserved g t c =

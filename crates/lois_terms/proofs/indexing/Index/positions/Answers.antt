@@ -7,7 +7,7 @@ use Rattle.lois_terms.proofs.indexing.Index.positions.Goals as goal
 
 pub returns-in-Some-clause-exact : goal.returns-in-Some-clause-exact
 returns-in-Some-clause-exact c =
-    c.as_slice.ensures.value
+    c.as_slice.ensures
     ∙ ap (λ o. listed (option_copied o)) (sym c.in-Some.is)
     ∙ ap listed c.get.ensures.value
     ∙ c.self.invariant c.args.number
