@@ -116,19 +116,19 @@ pub(crate) fn named_value<T: Structure, D: Oracle<T>>(
     ensures fault { IfErr result (λ s. IfFault s (IsFaultOf context.now (Fails (tree e.now)))) }
     ensures asked { D.reaches decider.old decider.new }
 {
-    let held = held_by::<T>(e, context)?;
+    let held = held_by::<T>(alloc, e, context)?;
     check_depth::<T, D>(alloc, e.pos(), held.get(), context, decider)?;
     Ok(held)
 }
 
-fn held_by<T: Structure>(e: &Expr, context: &Context) -> Result<Shared<Term>, Stop>
+fn held_by<T: Structure>(alloc: Global, e: &Expr, context: &Context) -> Result<Shared<Term>, Stop>
     requires form { IsName (tree e.now) }
     requires placed { IsWellFormedIn (IsWellFormed (tree e.now)) T.ordered context.now }
     ensures term { IfOk result (λ t. IsTermOf context.now (Makes (tree e.now)) (IsWellFormed (tree e.now)) (term_tree t)) }
     ensures fault { IfErr result (λ s. IfFault s (λ f. ⊥)) }
 {
     match e {
-        Expr::Var(_, name) => Ok(share_named(name, context)?),
+        Expr::Var(_, name) => Ok(share_named(alloc, name, context)?),
         _ => unreachable!(),
     }
 }

@@ -15,7 +15,7 @@ use crate::faults::fault_under;
 use lois_algebra::project;
 use lois_answers::FaultKind;
 use lois_base::{Comp, Comps, Constraint, Name, NoMemory, Term, Terms};
-use lois_context::{Context, Shared};
+use lois_context::{Content, Context, Shared};
 use lois_meaning::Stop;
 use lois_script::Pos;
 use std::alloc::Global;
@@ -25,18 +25,22 @@ pub(crate) fn look_up(alloc: Global, name: &Name, context: &Context) -> Result<T
     requires { IsNamed name.now (names_of context.now.store) }
     ensures { IfOk result (λ t. IsHeldBy name.now context.now.store (tree t)) }
 {
-    named(name, context).get().copy(alloc)
+    named(name, context).copy(alloc)
 }
 
-/// The same, shared with the context.
-pub(crate) fn share_named(name: &Name, context: &Context) -> Result<Shared<Term>, NoMemory>
+/// The same, shared with the context, but where a loop added to it.
+pub(crate) fn share_named(
+    alloc: Global,
+    name: &Name,
+    context: &Context,
+) -> Result<Shared<Term>, NoMemory>
     requires { IsNamed name.now (names_of context.now.store) }
     ensures { IfOk result (λ t. IsHeldBy name.now context.now.store (tree t)) }
 {
-    named(name, context).share()
+    named(name, context).whole(alloc)
 }
 
-fn named<'a>(name: &Name, context: &'a Context) -> &'a Shared<Term>
+fn named<'a>(name: &Name, context: &'a Context) -> &'a Content
     requires { IsNamed name.now (names_of context.now.store) }
     ensures { IsHeldBy name.now context.now.store (tree result.now) }
 {

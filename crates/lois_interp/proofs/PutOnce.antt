@@ -23,7 +23,8 @@ use Rattle.lois_context.proofs.Carried.{count_of}
 use Rattle.lois_context.proofs.Entered.{listed_of}
 use Rattle.lois_context.proofs.Joined.{of_listed}
 use Rattle.lois_eval.specs.Made.{bare}
-use Rattle.lois_interp.specs.Members.{IsPutOnce, IsWithItem, AreBehind}
+use Rattle.lois_context.specs.Put.{IsPutOnce}
+use Rattle.lois_interp.specs.Members.{IsWithItem, AreBehind}
 use Rattle.lois_interp.specs.Slots.{IsKeptTerm}
 use Rattle.lois_base.proofs.Choices.{no_atoms}
 

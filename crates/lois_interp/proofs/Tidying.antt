@@ -1,7 +1,7 @@
 -- Terms in which the last comprehensions are simplified.
 use Rattle.std.proofs.Common.{◌≡◌, ℕ, zero, suc, ◌+◌, ◌<◌, ◌≤◌, inl, inr, Bool, List, [], ◌∷◌, ◌++◌, length, get_or, take, drop, IsTrue, refl, sym, ap, ◌∙◌, subst, arith}
 use Rattle.std.specs.List.{All, Contains}
-use Rattle.std.proofs.lemmas.List.{length-append, length_push, length-take-le, take_all, take_more, take-append-drop, take-append-le, drop-append-le}
+use Rattle.std.proofs.lemmas.List.{length-append, length-take-le, take_more, take-append-drop}
 use Rattle.std.proofs.lemmas.List.Elements.{All-head, All-tail, All-cons, All-nil, Contains-append_left, Contains-append_right, Contains-append_cases}
 use Rattle.std.proofs.Math.Seq.{take-append_seam}
 use Rattle.lois_base.specs.Atom.{Atom}
@@ -26,7 +26,7 @@ use Rattle.lois_context.proofs.Entered.{listed_of}
 use Rattle.lois_context.proofs.Joined.{of_listed}
 use Rattle.lois_interp.specs.Members.{ArePutBehind}
 use Rattle.lois_interp.specs.Slots.{IsKeptTerm}
-use Rattle.lois_interp.specs.Tidied.{AreParts, IsTidied, IsTidiedSlot, AreTidied, counts_in, AreCounted}
+use Rattle.lois_interp.specs.Tidied.{IsTidied, IsTidiedSlot, AreTidied, counts_in, AreCounted}
 use Rattle.lois_interp.proofs.PutOnce.{append_same}
 use Rattle.lois_interp.proofs.Longer.{IsLongerTerm, AreLonger}
 
@@ -181,32 +181,3 @@ tidied_have P n g [] [] [] keeps h all = All-nil (λ (s : SlotD). P s.term)
 tidied_have P n g (i ∷ ns) (s ∷ ss) (e ∷ es) keeps h all =
     All-cons (λ (s : SlotD). P s.term) e es (keeps i s.term e.term h.0.term (All-head (λ (s : SlotD). P s.term) s ss all)) (tidied_have P n g ns ss es keeps h.1 (All-tail (λ (s : SlotD). P s.term) s ss all))
 tidied_have P n g _ _ _ keeps h all = absurd (assumption h)
-
--- ---- the first comprehensions and those behind them, with one more
-fewer : (n : ℕ) (ks : List CompD) → length (take n ks) < n → length ks < n
-fewer zero ks l = absurd (omega arith)
-fewer (suc n) [] l = omega arith
-fewer (suc n) (k ∷ ks) l = omega (arith, fewer n ks (omega (arith, l)))
-
-enough : (n : ℕ) (ks : List CompD) → n ≤ length (take n ks) → n ≤ length ks
-enough zero ks l = omega arith
-enough (suc n) [] l = absurd (omega arith)
-enough (suc n) (k ∷ ks) l = omega (arith, enough n ks (omega (arith, l)))
-
-none_behind : (n : ℕ) (ks : List CompD) → length ks ≤ n → drop n ks ≡ []
-none_behind zero [] l = refl
-none_behind zero (k ∷ ks) l = absurd (omega arith)
-none_behind (suc n) [] l = refl
-none_behind (suc n) (k ∷ ks) l = none_behind n ks (omega arith)
-
-pub parts_first : (first : ℕ) (ks : List CompD) (k : CompD) (old added : List CompD) → length old < first → AreParts first ks old added → AreParts first (ks ++ k ∷ []) (old ++ k ∷ []) added
-parts_first first ks k old added l h =
-    let few = fewer first ks (subst (λ z. length z < first) h.0 l) in (
-      ap (λ z. z ++ k ∷ []) (h.0 ∙ take_all first ks (omega (arith, few))) ∙ sym (take_all first (ks ++ k ∷ []) (omega (arith, few, length_push ks k))),
-      h.1 ∙ (none_behind first ks (omega (arith, few)) ∙ sym (none_behind first (ks ++ k ∷ []) (omega (arith, few, length_push ks k)))),
-    )
-
-pub parts_behind : (first : ℕ) (ks : List CompD) (k : CompD) (old added : List CompD) → first ≤ length old → AreParts first ks old added → AreParts first (ks ++ k ∷ []) old (added ++ k ∷ [])
-parts_behind first ks k old added l h =
-    let many = enough first ks (subst (λ z. first ≤ length z) h.0 l) in
-    (h.0 ∙ sym (take-append-le first ks (k ∷ []) many), ap (λ z. z ++ k ∷ []) h.1 ∙ sym (drop-append-le first ks (k ∷ []) many))

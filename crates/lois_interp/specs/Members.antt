@@ -1,20 +1,16 @@
 -- Sets that get members. What is written in a set already isn't put there again.
-use Rattle.std.specs.Prelude.{◌≡◌, ◌⊎◌, List, [], ◌∷◌, ◌++◌, Option, Some, None}
+use Rattle.std.specs.Prelude.{◌≡◌, List, ◌++◌, Option, Some, None}
 use Rattle.std.specs.List.{Contains}
 use Rattle.lois_base.specs.Data.{TermD, coll, CompD, comps_of}
 use Rattle.lois_base.specs.Tree.{tree}
 use Rattle.lois_base.specs.declared.values.Term.{Term}
 use Rattle.lois_terms.specs.Guarded.{IsColl}
-use Rattle.lois_context.specs.Entered.{comps_listed}
+use Rattle.lois_context.specs.Put.{IsWithOnce}
 use Rattle.lois_eval.specs.Made.{bare}
-
--- the list with the comprehension at its end, or as it was where it has it
-abbrev pub IsPutOnce : List CompD → CompD → List CompD → Type 0
-IsPutOnce ks k ls = (ls ≡ ks ++ k ∷ []) ⊎ (Contains ks k × (ls ≡ ks))
 
 -- a set with the item, which may have a comprehension more at its end
 abbrev pub IsWithItem : TermD → TermD → TermD → Type 0
-IsWithItem set item t = (ls : List CompD) × IsPutOnce (comps_listed set) (bare item) ls × (t ≡ coll (comps_of ls))
+IsWithItem set item t = IsWithOnce set (bare item) t
 
 -- the set with the item, or nothing where the term is no set
 abbrev pub IsExtended : TermD → TermD → Option Term → Type 0

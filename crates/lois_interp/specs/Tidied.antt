@@ -1,8 +1,8 @@
 -- The store behind a loop, where what was added is simplified.
-use Rattle.std.specs.Prelude.{◌≡◌, ℕ, ◌≤◌, Bool, List, [], ◌∷◌, length, take, drop, map, Some, IsTrue}
+use Rattle.std.specs.Prelude.{◌≡◌, ℕ, ◌≤◌, Bool, List, [], ◌∷◌, length, map, Some, IsTrue}
 use Rattle.std.specs.List.{All}
 use Rattle.lois_base.specs.Atom.{Atom}
-use Rattle.lois_base.specs.Data.{TermD, CompD}
+use Rattle.lois_base.specs.Data.{TermD}
 use Rattle.lois_base.specs.Fits.{Fits}
 use Rattle.lois_base.specs.Truth.{holds}
 use Rattle.lois_base.specs.Validity.{AdmitsTerm, HasBoundedWidths}
@@ -14,10 +14,6 @@ use Rattle.lois_context.specs.Joined.{AreJoined, HasJoined}
 use Rattle.lois_context.specs.Slots.{SlotD, comps_in, store_at}
 use Rattle.lois_context.specs.declared.contexts.Context.{Context}
 use Rattle.lois_interp.specs.Slots.{IsKeptTerm}
-
--- the first comprehensions of a set, and those behind them
-abbrev pub AreParts : ℕ → List CompD → List CompD → List CompD → Type 0
-AreParts first ks old added = (old ≡ take first ks) × (added ≡ drop first ks)
 
 -- A term of n levels with the value of s where g holds, and the first comprehensions of s, with no operator and no
 -- width that s hasn't.

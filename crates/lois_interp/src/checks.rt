@@ -14,20 +14,19 @@ ghost use Rattle.lois_eval.specs.Throughout.{IfFault};
 
 use lois_answers::FaultKind;
 use lois_base::limits::GREATEST_DEPTH;
-use lois_base::{Decider, Structure, Term};
-use lois_context::Context;
+use lois_base::{Decider, Structure};
+use lois_context::{Content, Context};
 use lois_deciders::Chosen;
 use lois_eval::{fault, too_deep};
 use lois_meaning::Stop;
 use lois_script::Pos;
-use lois_terms::is_within_depth;
 use std::alloc::Global;
 
 /// Errors: a fault at the place where the value of the term is too deep at some choice that the context admits.
 pub(crate) fn check_depth<T: Structure>(
     alloc: Global,
     pos: Pos,
-    term: &Term,
+    term: &Content,
     context: &Context,
     chosen: &mut Chosen,
 ) -> Result<(), Stop>
@@ -39,10 +38,11 @@ pub(crate) fn check_depth<T: Structure>(
     // whatever is answered
     ensures only_asked { HasOnlyAsked (λ b. (⟦<dyn Decider as Decider>⟧ b.vtable).kind_of b.value) (λ b. (⟦<dyn Decider as Decider>⟧ b.vtable).questions b.value) chosen.old chosen.new }
 {
-    if is_within_depth(term, GREATEST_DEPTH) {
+    if term.is_within_depth(GREATEST_DEPTH) {
         return Ok(());
     }
-    let deep = too_deep::<T>(alloc, term, context.size)?;
+    let whole = term.whole(alloc)?;
+    let deep = too_deep::<T>(alloc, whole.get(), context.size)?;
     match chosen.meet(alloc, &context.when, &deep, context.size)? {
         Some(met) => Err(fault(alloc, pos, FaultKind::DepthLimit, met.sample.into_vec())),
         None => Ok(()),

@@ -19,7 +19,7 @@ ghost use Rattle.lois_interp.specs.Looped.{Holds};
 use crate::values::normal_value;
 use lois_answers::{FaultKind, Line, Lines};
 use lois_base::{Decider, Name, NoMemory, Structure, Term};
-use lois_context::{Context, Store, enter_loop};
+use lois_context::{Content, Context, Store, enter_loop};
 use lois_deciders::Chosen;
 use lois_eval::fault_under;
 use lois_meaning::{Fault, Stop};
@@ -123,13 +123,13 @@ pub(crate) fn named_inside(alloc: Global, name: &Name, item: &Term, size: usize,
 }
 
 /// What a name holds.
-pub(crate) fn held_by<'a>(store: &'a Store, name: &Name) -> Option<&'a Term>
+pub(crate) fn held_by<'a>(store: &'a Store, name: &Name) -> Option<&'a Content>
     ensures found { IfSome result (λ t. Holds name.now store.now (term_tree t.now)) }
     ensures some { (t : TermD) → Holds name.now store.now t → IsSome result }
 {
     for slot in store.as_slice() {
         if slot.name == *name {
-            return Some(slot.term.get());
+            return Some(&slot.term);
         }
     }
     None

@@ -1,11 +1,10 @@
 //! What stands behind a loop. What the loop has added is simplified; what stood there before isn't looked at again.
 
-ghost use Rattle.std.specs.Prelude.{◌≡◌, ◌<◌, ◌≤◌, List, [], ◌∷◌, ◌++◌, length, get_or, take, drop, ◌↔◌, IsTrue, IfOk, OnOk};
+ghost use Rattle.std.specs.Prelude.{◌≡◌, ◌<◌, ◌≤◌, length, get_or, ◌↔◌, IsTrue, IfOk};
 ghost use Rattle.std.specs.List.{All};
-ghost use Rattle.lois_base.specs.Data.{coll, CompD, comps_of};
-ghost use Rattle.lois_base.specs.Fits.{ConstraintFits, Fits, ItemsFit};
-ghost use Rattle.lois_base.specs.Tree.{tree, comp_of};
-ghost use Rattle.lois_base.specs.Validity.{AdmitsConstraint, AdmitsTerm, AdmitsItems};
+ghost use Rattle.lois_base.specs.Fits.{ConstraintFits, Fits};
+ghost use Rattle.lois_base.specs.Tree.{tree};
+ghost use Rattle.lois_base.specs.Validity.{AdmitsConstraint, AdmitsTerm};
 ghost use Rattle.lois_deciders.specs.Satisfaction.{ConstraintIsSatisfiable};
 ghost use Rattle.lois_deciders.specs.OnlyAsked.{HasOnlyAsked};
 ghost use Rattle.lois_terms.specs.Guarded.{IsColl};
@@ -16,11 +15,10 @@ ghost use Rattle.lois_context.specs.Kept.{AreSlots};
 ghost use Rattle.lois_context.specs.Slots.{comps_in};
 ghost use Rattle.lois_context.specs.SlotView.{slot_of};
 ghost use Rattle.lois_interp.specs.Members.{ArePutBehind};
-ghost use Rattle.lois_interp.specs.Tidied.{AreParts, IsTidied, IsTidiedSlot, AreTidied, AreCounted, counts_in, IsBehindLoop};
+ghost use Rattle.lois_interp.specs.Tidied.{IsTidied, IsTidiedSlot, AreTidied, AreCounted, counts_in, IsBehindLoop};
 
-use crate::members::put_once;
-use lois_base::{Comp, Comps, Constraint, Decider, NoMemory, Structure, Term};
-use lois_context::{Context, Slot, Store, join_loop};
+use lois_base::{Constraint, Decider, NoMemory, Structure, Term};
+use lois_context::{Content, Context, Slot, Store, join_loop};
 use lois_deciders::Chosen;
 use lois_simplify::simplify;
 use std::alloc::Global;
@@ -65,18 +63,9 @@ fn counts_of(alloc: Global, store: &Store) -> Result<Vec<usize>, NoMemory>
 {
     let mut counts = Vec::new(alloc);
     for slot in store.as_slice() {
-        counts.push(count_of(slot.term.get()))?;
+        counts.push(slot.term.count())?;
     }
     Ok(counts)
-}
-
-fn count_of(term: &Term) -> usize
-    ensures { result ≡ comps_in (tree term.now) }
-{
-    match term {
-        Term::Coll(comps) => comps.len(),
-        _ => 0,
-    }
 }
 
 // The slots, in which the comprehensions behind so many are simplified.
@@ -139,104 +128,60 @@ fn tidied_slot<T: Structure>(
         return Ok(slot);
     }
     let Slot { name, term, from } = slot;
-    let whole = term.into_term(alloc)?;
-    let lean = tidied_term::<T>(alloc, whole, first, when, size, chosen)?;
-    Slot::new(alloc, name, lean, from)
+    let lean = tidied_set::<T>(alloc, term, first, when, size, chosen)?;
+    Ok(Slot {
+        name,
+        term: lean,
+        from,
+    })
 }
 
 // Whether there are comprehensions behind the first ones.
 fn has_more(slot: &Slot, first: usize) -> bool
     ensures { IsTrue result ↔ first < comps_in (tree slot.now.term) }
 {
-    first < count_of(slot.term.get())
+    first < slot.term.count()
 }
 
-// A term in which the comprehensions behind the first ones are simplified.
-fn tidied_term<T: Structure>(
-    alloc: Global,
-    term: Term,
-    first: usize,
-    when: &Constraint,
-    size: usize,
-    chosen: &mut Chosen,
-) -> Result<Term, NoMemory>
-    requires count { first ≤ comps_in (tree term) }
-    requires levels { Fits size (tree term) }
-    requires met { ConstraintIsSatisfiable size when.now }
-    requires when_levels { ConstraintFits size when.now }
-    requires operators { AdmitsTerm T.ordered (tree term) }
-    requires when_operators { AdmitsConstraint T.ordered when.now }
-    ensures tidied { IfOk result (λ r. IsTidied size when.now first (tree term) (tree r)) }
-
-    // whatever is answered
-    ensures only_asked { HasOnlyAsked (λ b. (⟦<dyn Decider as Decider>⟧ b.vtable).kind_of b.value) (λ b. (⟦<dyn Decider as Decider>⟧ b.vtable).questions b.value) chosen.old chosen.new }
-{
-    match term {
-        Term::Coll(comps) => tidied_set::<T>(alloc, comps, first, when, size, chosen),
-        other => Ok(other),
-    }
-}
-
+// A set in which the comprehensions behind the first ones are simplified.
 fn tidied_set<T: Structure>(
     alloc: Global,
-    comps: Comps,
+    set: Content,
     first: usize,
     when: &Constraint,
     size: usize,
     chosen: &mut Chosen,
-) -> Result<Term, NoMemory>
-    requires count { first ≤ length comps }
-    requires levels { ItemsFit size (comps_of comps) }
+) -> Result<Content, NoMemory>
+    requires count { first < comps_in (tree set) }
+    requires levels { Fits size (tree set) }
     requires met { ConstraintIsSatisfiable size when.now }
     requires when_levels { ConstraintFits size when.now }
-    requires operators { AdmitsItems T.ordered (comps_of comps) }
+    requires operators { AdmitsTerm T.ordered (tree set) }
     requires when_operators { AdmitsConstraint T.ordered when.now }
-    ensures tidied { IfOk result (λ r. IsTidied size when.now first (coll (comps_of comps)) (tree r)) }
+    ensures tidied { IfOk result (λ r. IsTidied size when.now first (tree set) (tree r)) }
 
     // whatever is answered
     ensures only_asked { HasOnlyAsked (λ b. (⟦<dyn Decider as Decider>⟧ b.vtable).kind_of b.value) (λ b. (⟦<dyn Decider as Decider>⟧ b.vtable).questions b.value) chosen.old chosen.new }
 {
-    let parts = parted(alloc, comps, first)?;
+    let parts = set.parted(alloc, first)?;
     let (old, added) = parts;
     let added = Term::Coll(added);
     let lean = simplify::<T>(alloc, &added, when, size, chosen)?;
-    with_items(old, lean)
-}
-
-// The first comprehensions, and those behind them.
-fn parted(alloc: Global, comps: Comps, first: usize) -> Result<(Comps, Comps), NoMemory>
-    ensures old { IfOk result (λ r. r.0 ≡ take first comps) }
-    ensures added { IfOk result (λ r. r.1 ≡ drop first comps) }
-{
-    let mut old = Comps::new(alloc);
-    let mut added = Comps::new(alloc);
-    for comp in comps.into_vec() {
-        put_part(&mut old, &mut added, first, comp)?;
-    }
-    Ok((old, added))
-}
-
-// One comprehension more, behind the first ones while there are fewer than `first`.
-fn put_part(old: &mut Comps, added: &mut Comps, first: usize, comp: Comp) -> Result<(), NoMemory>
-    ensures { OnOk result ((ks : List CompD) → AreParts first ks old.old added.old → AreParts first (ks ++ comp_of comp ∷ []) old.new added.new) }
-{
-    if old.len() < first {
-        return old.push(comp);
-    }
-    added.push(comp)
+    with_items(alloc, old, lean)
 }
 
 // The comprehensions of a set behind others, without those that are written there already.
-fn with_items(first: Comps, set: Term) -> Result<Term, NoMemory>
-    requires { IsColl (tree set) }
-    ensures { IfOk result (λ r. ArePutBehind first (comps_listed (tree set)) (tree r)) }
+fn with_items(alloc: Global, first: Content, set: Term) -> Result<Content, NoMemory>
+    requires set { IsColl (tree set) }
+    requires first { IsColl (tree first) }
+    ensures { IfOk result (λ r. ArePutBehind (comps_listed (tree first)) (comps_listed (tree set)) (tree r)) }
 {
     let Term::Coll(more) = set else {
         unreachable!();
     };
     let mut all = first;
     for comp in more.into_vec() {
-        put_once(&mut all, comp)?;
+        all = all.put_once(alloc, comp)?;
     }
-    Ok(Term::Coll(all))
+    Ok(all)
 }

@@ -24,7 +24,7 @@ use crate::members::with_member;
 use crate::values::normal_value;
 use lois_answers::{FaultKind, Line};
 use lois_base::{Comps, Decider, Name, NoMemory, Structure, Term};
-use lois_context::{Context, Shared, Slot};
+use lois_context::{Content, Context, Shared, Slot};
 use lois_deciders::Chosen;
 use lois_eval::{decide, fault, fault_under};
 use lois_meaning::Stop;
@@ -124,7 +124,11 @@ fn run_add<T: Structure>(
         return Err(fault_under(alloc, pos, FaultKind::NotASet, &rest.sample));
     };
     check_depth::<T>(alloc, pos, &set, &rest, chosen)?;
-    let slot = Slot::new(alloc, name, set, from)?;
+    let slot = Slot {
+        name,
+        term: set,
+        from,
+    };
     Ok(one(alloc, with_slot_at(rest, index, slot))?)
 }
 
@@ -194,7 +198,7 @@ fn with_slot(context: Context, slot: Slot) -> Result<Context, NoMemory>
 struct Taken {
     rest: Context,
     name: Name,
-    term: Term,
+    term: Content,
     from: usize,
 }
 
@@ -222,7 +226,7 @@ fn take_out(alloc: Global, context: Context, index: usize, name: &Name) -> Resul
             lines,
         },
         name,
-        term: term.into_term(alloc)?,
+        term,
         from,
     })
 }

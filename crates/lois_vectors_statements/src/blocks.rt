@@ -161,19 +161,23 @@ fn two_tags(rt: &impl Abort, alloc: Global) -> Result<Term, NoMemory> {
 }
 
 // The comprehensions of the only slot, in the only context.
-fn kept_comprehensions(contexts: &[Context], from: usize) -> Option<&[Comp]> {
+fn kept_comprehensions(
+    alloc: Global,
+    contexts: &[Context],
+    from: usize,
+) -> Result<Option<Comps>, NoMemory> {
     let [context] = contexts else {
-        return None;
+        return Ok(None);
     };
     let [slot] = context.store.as_slice() else {
-        return None;
+        return Ok(None);
     };
     if slot.from != from {
-        return None;
+        return Ok(None);
     }
-    match slot.term.get() {
-        Term::Coll(comps) => Some(comps.as_slice()),
-        _ => None,
+    match slot.term.copy(alloc)? {
+        Term::Coll(comps) => Ok(Some(comps)),
+        _ => Ok(None),
     }
 }
 
@@ -257,11 +261,11 @@ fn slots_keep_what_stood_outside(rt: HostRuntime) -> Result<(), Fail> {
         let Ok(Some(contexts)) = side_ran(alloc, &script, set, &mut chosen) else {
             return Err("it didn't run".into());
         };
-        let Some(comps) = kept_comprehensions(&contexts, 2) else {
+        let Some(comps) = kept_comprehensions(alloc, &contexts, 2)? else {
             panic!(rt; "not one set from outside: {statements}");
         };
         assert_eq!(rt; comps.len(), 2 + more, "{statements}");
-        for (comp, letter) in comps.iter().zip([b"a", b"b"]) {
+        for (comp, letter) in comps.as_slice().iter().zip([b"a", b"b"]) {
             assert!(rt;
                 matches!(&comp.item, Term::Tag(name) if name.bytes() == letter.as_slice()),
                 "{statements}"

@@ -1,6 +1,8 @@
 use Rattle.std.proofs.Common.{◌∙◌, sym, ap, subst}
 use Rattle.std.specs.Prelude.{IfSome, is_some}
+use Rattle.lois_base.specs.Fits.{Fits}
 use Rattle.lois_base.specs.Tree.{tree}
+use Rattle.lois_base.specs.Validity.{AdmitsTerm}
 use Rattle.lois_base.specs.Truth.{sampled}
 use Rattle.lois_base.specs.Values.{point, IsDeeper}
 use Rattle.lois_answers.specs.declared.faults.FaultKind.TheVariants.{DepthLimit}
@@ -10,6 +12,14 @@ use Rattle.lois_context.specs.Choices.{IsAdmitted}
 use Rattle.lois_eval.specs.Checks.{IsFaultWith, IsDepthFault}
 use Rattle.lois_eval.proofs.FaultsAt.{if_fault, fault_at, met_admitted, meets_both}
 use Rattle.lois_interp.proofs.checks.check_depth.Goals as goal
+
+pub too_deep-requires-clause-levels : goal.too_deep-requires-clause-levels
+too_deep-requires-clause-levels g c =
+    subst (λ z. Fits c.args.context.now.size (tree z)) (sym (c.get.ensures.same ∙ c.in_ok-whole.ensures.same)) c.requires.levels
+
+pub too_deep-requires-clause-operators : goal.too_deep-requires-clause-operators
+too_deep-requires-clause-operators g c =
+    subst (λ z. AdmitsTerm g.T.Structure.ordered (tree z)) (sym (c.get.ensures.same ∙ c.in_ok-whole.ensures.same)) c.requires.operators
 
 pub returns-in-Some-clause-fault : goal.returns-in-Some-clause-fault
 returns-in-Some-clause-fault g c =
@@ -22,9 +32,9 @@ returns-in-Some-clause-fault g c =
     if_fault c.fault.result (IsFaultWith c.args.pos DepthLimit c.into_vec.result.items) (IsDepthFault k (tree c.args.term.now) c.args.pos.offset) (λ f h. record {
       fault = fault_at k c.args.pos DepthLimit c.into_vec.result.items (subst (λ z. IsAdmitted (sampled z) k) (sym same) both.0) f h;
       kind = h.kind;
-      deep = subst (λ z. IsDeeper (point (tree c.args.term.now) (sampled z)) depth_limit) (sym (h.sample ∙ same)) ((c.in_ok-deep.ensures.truth (sampled met.sample) both.0.0).0 both.1);
+      deep = subst (λ z. IsDeeper (point (tree c.args.term.now) (sampled z)) depth_limit) (sym (h.sample ∙ same)) (subst (λ t. IsDeeper (point (tree t) (sampled met.sample)) depth_limit) (c.get.ensures.same ∙ c.in_ok-whole.ensures.same) ((c.in_ok-deep.ensures.truth (sampled met.sample) both.0.0).0 both.1));
     }) c.fault.ensures
 
 pub returns-clause-shallow : goal.returns-clause-shallow
 returns-clause-shallow g c = λ d a deep.
-    c.in_ok-met.ensures.none.0 (ap is_some c.in-None.is) d a.0 a.1 ((c.in_ok-deep.ensures.truth d a.0).1 deep)
+    c.in_ok-met.ensures.none.0 (ap is_some c.in-None.is) d a.0 a.1 ((c.in_ok-deep.ensures.truth d a.0).1 (subst (λ t. IsDeeper (point (tree t) d) depth_limit) (sym (c.get.ensures.same ∙ c.in_ok-whole.ensures.same)) deep))

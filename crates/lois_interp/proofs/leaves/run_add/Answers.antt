@@ -1,4 +1,4 @@
-use Rattle.std.proofs.Common.{[], ◌∷◌, ◌≡◌, ◌≤◌, slice_set, sym, ap, refl, subst, ◌∙◌, arith}
+use Rattle.std.proofs.Common.{[], ◌∷◌, ◌≡◌, slice_set, sym, ap, refl, subst, ◌∙◌, arith}
 use Rattle.lois_answers.specs.declared.faults.FaultKind.TheVariants.{NotASet}
 use Rattle.lois_base.specs.Fits.{Fits}
 use Rattle.lois_base.specs.Tree.{tree as term_tree}
@@ -7,7 +7,7 @@ use Rattle.lois_deciders.proofs.OnlyAsked.{only_asked_then}
 use Rattle.lois_script.specs.Tree.{add}
 use Rattle.lois_script.specs.View.{tree}
 use Rattle.lois_meaning.specs.Faults.{Fails}
-use Rattle.lois_context.specs.Slots.{SlotD, comps_in}
+use Rattle.lois_context.specs.Slots.{SlotD}
 use Rattle.lois_context.specs.declared.contexts.Context.{Context}
 use Rattle.lois_eval.specs.Throughout.{IsFaultOf}
 use Rattle.lois_eval.proofs.FaultsAt.{if_fault}
@@ -83,21 +83,19 @@ with_slot_at-requires-clause-levels g c =
     let k = c.args.context in let taken = c.in_ok-out.out in let T = c.in_ok-out.ensures in let item = term_tree c.in_ok-item.item in
     let set = term_tree c.in-Some-extended.set in
     let more = subst (IsExtended (term_tree taken.term) item) c.in-Some-extended.is c.in_ok-extended.ensures in
-    subst (λ (z : SlotD). Fits taken.rest.size z.term) (sym c.in_ok-slot.ensures.made)
-    (subst (λ n. Fits n set) (sym T.size) (set_fits k c.args.name.now c.in-Some.index (held_of taken) c.in-Some.ensures.found T.slot item set more (omega arith) c.in_ok-item.ensures.levels))
+    subst (λ n. Fits n set) (sym T.size) (set_fits k c.args.name.now c.in-Some.index (held_of taken) c.in-Some.ensures.found T.slot item set more (omega arith) c.in_ok-item.ensures.levels)
 
 pub with_slot_at-requires-clause-from : goal.with_slot_at-requires-clause-from
 with_slot_at-requires-clause-from g c =
     let k = c.args.context in let taken = c.in_ok-out.out in let item = term_tree c.in_ok-item.item in
     let more = subst (IsExtended (term_tree taken.term) item) c.in-Some-extended.is c.in_ok-extended.ensures in
-    subst (λ (z : SlotD). z.from ≤ comps_in z.term) (sym c.in_ok-slot.ensures.made)
-    (set_from k c.args.name.now c.in-Some.index (held_of taken) c.in-Some.ensures.found c.in_ok-out.ensures.slot item (term_tree c.in-Some-extended.set) more)
+    set_from k c.args.name.now c.in-Some.index (held_of taken) c.in-Some.ensures.found c.in_ok-out.ensures.slot item (term_tree c.in-Some-extended.set) more
 
 pub with_slot_at-requires-clause-index : goal.with_slot_at-requires-clause-index
 with_slot_at-requires-clause-index g c = omega (arith, c.in-Some.ensures.found.0, c.in_ok-out.ensures.count)
 
 pub with_slot_at-requires-clause-name : goal.with_slot_at-requires-clause-name
-with_slot_at-requires-clause-name g c = λ q. c.in_ok-out.ensures.named q ∙ sym (ap (λ (z : SlotD). z.name) c.in_ok-slot.ensures.made)
+with_slot_at-requires-clause-name g c = c.in_ok-out.ensures.named
 
 pub returns-clause-runs : goal.returns-clause-runs
 returns-clause-runs g c =
@@ -110,13 +108,17 @@ returns-clause-runs g c =
     let s : SlotD = record { name = taken.name; term = set; from = taken.from } in
     let d = c.with_slot_at.result in let W = c.with_slot_at.ensures in
     let named : taken.name ≡ x = ap (λ (z : SlotD). z.name) T.slot ∙ found.1 (held_of taken) in
-    let stored : IsWithStore (slice_set k.store i s) k d = record { size = W.size ∙ T.size; «when» = W.«when» ∙ T.«when»; stored = W.stored ∙ (ap (slice_set taken.rest.store i) c.in_ok-slot.ensures.made ∙ T.stored s); lines = W.lines ∙ T.lines } in
+    let stored : IsWithStore (slice_set k.store i s) k d = record { size = W.size ∙ T.size; «when» = W.«when» ∙ T.«when»; stored = W.stored ∙ T.stored s; lines = W.lines ∙ T.lines } in
     subst (RunsAs (stmt_run (add e p x)) k) (sym c.in_ok-one.ensures)
     (subst (λ z. RunsAs (stmt_run (add e p z)) k (d ∷ [])) named
     (add_runs (held_of taken) s item i k d stored found.0 (λ q. found.1 q ∙ sym named) T.slot more.0.0 more.0.1 refl more.1 p e V.value
     (λ a adm. c.in_ok-check_depth.ensures.shallow a (admitted_there k taken.rest T.size T.«when» a adm))
     (λ o h. set_admits k x i (held_of taken) found T.slot item set more o h.operators (V.operators o (add_set p s.name e o k h)))
     (λ w. set_widths k x i (held_of taken) found T.slot item set more w (V.widths w))))
+
+pub returns-in_err-check_depth-clause-only_asked : goal.returns-in_err-check_depth-clause-only_asked
+returns-in_err-check_depth-clause-only_asked g c =
+    only_asked_then (λ b. (goal.Decider-dyn g (b.vtable, b.value)).kind_of b.value) (λ b. (goal.Decider-dyn g (b.vtable, b.value)).questions b.value) c.args.chosen.now c.normal_value.new.chosen c.check_depth.new.chosen c.normal_value.ensures.only_asked c.check_depth.ensures.only_asked
 
 pub returns-in_err-one-clause-only_asked : goal.returns-in_err-one-clause-only_asked
 returns-in_err-one-clause-only_asked g c =

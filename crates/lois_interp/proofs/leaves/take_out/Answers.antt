@@ -1,9 +1,7 @@
 use Rattle.std.proofs.Common.{◌≡◌, ◌≤◌, length, get_or, slice_set, refl, sym, ap, ◌∙◌, subst, arith}
-use Rattle.std.proofs.lemmas.List.{get_or_default}
 use Rattle.std.proofs.lemmas.Grind.{get_or-set_at}
 use Rattle.lois_base.specs.Data.{coll, comps_of}
 use Rattle.lois_base.specs.Fits.{Fits}
-use Rattle.lois_base.specs.Tree.{tree}
 use Rattle.lois_context.specs.Kept.{IsSlot, AreSlots, HasDistinctNames}
 use Rattle.lois_context.specs.Slots.{SlotD}
 use Rattle.lois_context.specs.SlotView.{slot_of}
@@ -29,8 +27,6 @@ returns c =
     let k = c.args.context in let i = c.args.index in let x = c.args.name.now in
     let empty = slot_of c.in_ok-empty.empty in let held = slot_of c.replace-name.result in
     let after = c.replace-name.ensures.after in let before = c.replace-name.ensures.before in
-    let e : SlotD = record { name = held.name; term = tree c.in_ok-into_term.field-0; from = held.from } in
-    let same : e ≡ held = ap (λ z. record { name = held.name; term = z; from = held.from }) c.in_ok-into_term.ensures.same in
     let own : empty.name ≡ x = ap (λ (z : SlotD). z.name) c.in_ok-empty.ensures.made ∙ c.in_ok-copy.ensures in
     let there : held.name ≡ x = ap (λ (z : SlotD). z.name) before ∙ c.requires.name held in
     record {
@@ -41,5 +37,5 @@ returns c =
       stored = λ q. ap (λ z. slice_set z i q) after ∙ set_twice k.store i empty q;
       count = ap length after ∙ set_length k.store i empty;
       named = λ q. ap (λ z. (get_or z i q).name) after ∙ (ap (λ (z : SlotD). z.name) (get_or-set_at k.store i i empty q refl c.requires.index) ∙ (own ∙ sym there));
-      slot = same ∙ (before ∙ get_or_default k.store i held e c.requires.index);
+      slot = before;
     }
