@@ -1,4 +1,5 @@
 pub mod Compared
+pub mod Ordered
 pub mod Classes
 pub mod TheMinimal
 pub mod Seconds

@@ -4,6 +4,7 @@
 mod classing;
 mod indexed;
 mod minimising;
+mod ordering;
 mod pairs;
 mod partitioning;
 mod refining;
