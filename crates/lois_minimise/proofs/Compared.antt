@@ -141,7 +141,8 @@ module _ (a : Automaton) (moves apart alike told apart' alike' : PointValue) (on
   move_back : (x' x p q : PointValue) → IsPair x p q → LeadsTo moves x' x → (l p' q' : PointValue) × HasStep a p l p' × HasStep a q l q' × IsOrderedPair x' p' q'
   move_back x' x p q pair (y, i, lead) =
       let f = (back y).0 i in
-      go f.0 f.1 f.2 f.3 f.4 f.5 f.6 f.7 f.8 f.10 f.11 f.12
+      let h = f.4 in
+      go h.5 h.6 h.0 h.1 h.3 h.2 h.4 (f.0, f.2, h.7) (f.1, f.3, h.8) h.11 h.10 h.12
     where
       go : (x0 x1 p0 l q0 p1 q1 : PointValue) → HasStep a p0 l p1 → HasStep a q0 l q1 → IsOrderedPair x1 p1 q1 → IsPair x0 p0 q0 → IsPair y x1 x0 →
           (l p' q' : PointValue) × HasStep a p l p' × HasStep a q l q' × IsOrderedPair x' p' q'
@@ -169,7 +170,7 @@ module _ (a : Automaton) (moves apart alike told apart' alike' : PointValue) (on
   leads_back : (x x' p q l p' q' : PointValue) → IsPair x p q → IsBefore p q → HasStep a p l p' → HasStep a q l q' → IsOrderedPair x' p' q' → LeadsTo moves x' x
   leads_back x x' p q l p' q' pair order sp sq pair' =
       let y : (y : PointValue) × IsPair y x' x = pair_exists x' x in
-      (y.0, (back y.0).1 (x, x', p, l, q, p', q', sp, sq, order, pair', pair, y.1), y.1)
+      (y.0, (back y.0).1 (sp.0, sq.0, sp.1, sq.1, (p, l, p', q, q', x, x', sp.2, sq.2, order, pair, pair', y.1)), y.1)
 
   pub next_compared : AreCompared a apart' alike'
   next_compared = record {

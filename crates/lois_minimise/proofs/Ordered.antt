@@ -1,5 +1,5 @@
 -- Pairs in the order of the shapes of their parts, and what is made of comprehensions of pairs.
-use Rattle.std.proofs.Common.{◌≡◌, ℕ, ◌+◌, ◌≤◌, Bool, ◌⊎◌, inl, inr, ◌↔◌, List, ◌++◌, length, sym, subst, arith}
+use Rattle.std.proofs.Common.{◌≡◌, ℕ, ◌≤◌, Bool, ◌⊎◌, inl, inr, ◌↔◌, List, ◌++◌, length, sym, subst, arith}
 use Rattle.std.proofs.lemmas.Bool.{cases_lt}
 use Rattle.lois_base.specs.Atom.{Atom}
 use Rattle.lois_base.specs.Data.{TermD, coll, comp, CompsD}
@@ -14,12 +14,12 @@ use Rattle.lois_terms.specs.Shapes.{shape_of}
 use Rattle.lois_terms.proofs.Shapes.{one_shape}
 use Rattle.lois_meaning.specs.Automata.{IsPair}
 use Rattle.lois_meaning.proofs.Operations.{pair_exists, pair_same, pair_to}
-use Rattle.lois_meaning.proofs.Tuples.{pair_parts, triple_to}
+use Rattle.lois_meaning.proofs.Tuples.{pair_parts}
 use Rattle.lois_automata.specs.Adding.{IsMadeOfOne}
-use Rattle.lois_automata.specs.Projections.{AddsOfOne, pair_of, triple_of}
+use Rattle.lois_automata.specs.Projections.{AddsOfOne, pair_of}
 use Rattle.lois_automata.proofs.Adding.{added_put, adds_nothing, one_among}
-use Rattle.lois_automata.proofs.Written.{pair_here, pair_is, pair_term, triple_here, triple_is, triple_term}
-use Rattle.lois_minimise.specs.Classes.{AreBothWays, AreMadeOf, IsBefore, IsInOrder, IsMoveBack, IsOrderedPair, IsOrderedTerm, IsTurned}
+use Rattle.lois_automata.proofs.Written.{pair_here, pair_is, pair_term}
+use Rattle.lois_minimise.specs.Classes.{AreBothWays, AreMadeOf, IsBefore, IsInOrder, IsOrderedPair, IsOrderedTerm, IsTurned}
 
 -- ---- the order
 pub before_same : (p q p' q' : PointValue) → IsSame p p' → IsSame q q' → IsBefore p q → IsBefore p' q'
@@ -57,13 +57,13 @@ ordered_exists p q = elim (before_or p q) [
 ]
 
 -- the term of the two in order
-ordered_is : (a b r : TermD) (d : List Atom) → IsOrderedTerm a b r → IsOrderedPair (point r d) (point a d) (point b d)
+pub ordered_is : (a b r : TermD) (d : List Atom) → IsOrderedTerm a b r → IsOrderedPair (point r d) (point a d) (point b d)
 ordered_is a b r d h = elim h [
   | inl k ↦ inl (k.0, subst (λ z. IsPair (point z d) (point a d) (point b d)) (sym k.1) (pair_is a b d))
   | inr k ↦ inr (k.0, subst (λ z. IsPair (point z d) (point b d) (point a d)) (sym k.1) (pair_is b a d))
 ]
 
-ordered_same : (x y p q : PointValue) → IsOrderedPair x p q → IsOrderedPair y p q → IsSame x y
+pub ordered_same : (x y p q : PointValue) → IsOrderedPair x p q → IsOrderedPair y p q → IsSame x y
 ordered_same x y p q h h' = elim h [
   | inl k ↦ elim h' [
     | inl k' ↦ pair_same x y p q p q (same_refl p) (same_refl q) k.1 k'.1
@@ -75,19 +75,19 @@ ordered_same x y p q h h' = elim h [
   ]
 ]
 
-ordered_fits : (n : ℕ) (a b r : TermD) → IsOrderedTerm a b r → Fits n a → Fits n b → Fits n r
+pub ordered_fits : (n : ℕ) (a b r : TermD) → IsOrderedTerm a b r → Fits n a → Fits n b → Fits n r
 ordered_fits n a b r h f f' = elim h [
   | inl k ↦ subst (Fits n) (sym k.1) (f, (f', tt))
   | inr k ↦ subst (Fits n) (sym k.1) (f', (f, tt))
 ]
 
-ordered_admits : (o : Bool) (a b r : TermD) → IsOrderedTerm a b r → AdmitsTerm o a → AdmitsTerm o b → AdmitsTerm o r
+pub ordered_admits : (o : Bool) (a b r : TermD) → IsOrderedTerm a b r → AdmitsTerm o a → AdmitsTerm o b → AdmitsTerm o r
 ordered_admits o a b r h f f' = elim h [
   | inl k ↦ subst (AdmitsTerm o) (sym k.1) (f, (f', tt))
   | inr k ↦ subst (AdmitsTerm o) (sym k.1) (f', (f, tt))
 ]
 
-ordered_usual : (a b r : TermD) → IsOrderedTerm a b r → HasBoundedWidths (pair_of a b) → HasBoundedWidths r
+pub ordered_usual : (a b r : TermD) → IsOrderedTerm a b r → HasBoundedWidths (pair_of a b) → HasBoundedWidths r
 ordered_usual a b r h u = elim h [
   | inl k ↦ subst HasBoundedWidths (sym k.1) u
   | inr k ↦ subst HasBoundedWidths (sym k.1) (u.0, u.1, (u.2.1.0, (u.2.0, tt)))
@@ -137,52 +137,6 @@ module _ (m : ℕ) (g : List (List Lit)) (a b : TermD) (c : List Atom) (w : Poin
       let f = parts_here e x p q s pair in
       never (before_same (point b d) (point a d) q p (same_sym q (point b d) f.1) (same_sym p (point a d) f.0) h)
 
--- a step between pairs
-module _ (m : ℕ) (g : List (List Lit)) (a b l a' b' : TermD) (c : List Atom) (w : PointValue) where
-  made_back : (t : TermD) → IsOrderedTerm a' b' t → shape_of a ≤ shape_of b → IsCompMember (comp m g (pair_of t (pair_of a b))) c w ↔ IsMadeOfOne IsMoveBack (IsCompMember (comp m g (triple_of (pair_of a b) l (pair_of a' b'))) c) w
-  made_back t ordered h = (there, back)
-    where
-      there : IsCompMember (comp m g (pair_of t (pair_of a b))) c w → IsMadeOfOne IsMoveBack (IsCompMember (comp m g (triple_of (pair_of a b) l (pair_of a' b'))) c) w
-      there (e, ext, s) =
-          let d = c ++ e in
-          let x = point (triple_of (pair_of a b) l (pair_of a' b')) d in (
-            x,
-            (e, ext, same_refl x),
-            (
-              point (pair_of a b) d,
-              point l d,
-              point (pair_of a' b') d,
-              point a d,
-              point b d,
-              point a' d,
-              point b' d,
-              point t d,
-              triple_is (pair_of a b) l (pair_of a' b') d,
-              pair_is a b d,
-              pair_is a' b' d,
-              h,
-              ordered_is a' b' t d ordered,
-              pair_to (point (pair_of t (pair_of a b)) d) w (point t d) (point (pair_of a b) d) s (pair_is t (pair_of a b) d),
-            ),
-          )
-
-      back : IsMadeOfOne IsMoveBack (IsCompMember (comp m g (triple_of (pair_of a b) l (pair_of a' b'))) c) w → IsCompMember (comp m g (pair_of t (pair_of a b))) c w
-      back (x, (e, ext, s), (S, L, T, p, q, p', q', t', triple, source, target, _, ordered', pair)) =
-          let d = c ++ e in
-          let item = point (triple_of (pair_of a b) l (pair_of a' b')) d in
-          let f = triple_here (pair_of a b) l (pair_of a' b') d S L T (triple_to x item S L T (same_sym item x s) triple) in
-          let k = pair_here a' b' d p' q' (pair_to T (point (pair_of a' b') d) p' q' f.2 target) in
-          let same : IsSame (point t d) t' = ordered_same (point t d) t' (point a' d) (point b' d) (ordered_is a' b' t d ordered) (ordered_parts t' p' q' (point a' d) (point b' d) k.0 k.1 ordered') in
-          (e, ext, pair_same (point (pair_of t (pair_of a b)) d) w (point t d) (point (pair_of a b) d) t' S same (same_sym S (point (pair_of a b) d) f.0) (pair_is t (pair_of a b) d) pair)
-
-  not_back : (shape_of a ≤ shape_of b → ⊥) → IsMadeOfOne IsMoveBack (IsCompMember (comp m g (triple_of (pair_of a b) l (pair_of a' b'))) c) w → ⊥
-  not_back never (x, (e, ext, s), (S, L, T, p, q, p', q', t', triple, source, target, h, ordered', pair)) =
-      let d = c ++ e in
-      let item = point (triple_of (pair_of a b) l (pair_of a' b')) d in
-      let f = triple_here (pair_of a b) l (pair_of a' b') d S L T (triple_to x item S L T (same_sym item x s) triple) in
-      let k = pair_here a b d p q (pair_to S (point (pair_of a b) d) p q f.0 source) in
-      never (before_same p q (point a d) (point b d) k.0 k.1 h)
-
 module _ (n m : ℕ) (g : List (List Lit)) (a b : TermD) (before : CompsD) where
   pub adds_in_order : (after : CompsD) → shape_of a ≤ shape_of b → IsPut (comp m g (pair_of a b)) before after → AddsOfOne IsInOrder n (comp m g (pair_of a b)) before after
   adds_in_order after h put = added_put n (comp m g (pair_of a b)) _ _ _ _ before after put (λ c _ w. made_in_order m g a b c w h) (λ f. f) (λ o k. k) (λ u. u)
@@ -214,50 +168,6 @@ in_order_pair x w h = (h.1.0, h.1.1, h.1.2)
 
 pub turned_pair : (x w : PointValue) → IsTurned x w → (p q : PointValue) × IsPair x p q
 turned_pair x w h = (h.0, h.1, h.2)
-
--- ---- moves back
-module _ (n m : ℕ) (g : List (List Lit)) (a b l a' b' : TermD) (before : CompsD) where
-  pub adds_move_back : (t : TermD) (after : CompsD) → IsOrderedTerm a' b' t → shape_of a ≤ shape_of b → IsPut (comp m g (pair_of t (pair_of a b))) before after → AddsOfOne IsMoveBack n (comp m g (triple_of (pair_of a b) l (pair_of a' b'))) before after
-  adds_move_back t after ordered h put = added_put n (comp m g (pair_of t (pair_of a b))) _ _ _ _ before after put (λ c _ w. made_back m g a b l a' b' c w t ordered h)
-      (λ f. let to = f.2.1.1.0 in (f.0, f.1, (ordered_fits (n + m) a' b' t ordered to.0 to.1.0, (f.2.0, tt))))
-      (λ o k. let to = k.1.1.1.0 in (k.0, (ordered_admits o a' b' t ordered to.0 to.1.0, (k.1.0, tt))))
-      (λ u. let to = u.2.1.1.0 in (omega arith, omega arith, (ordered_usual a' b' t ordered to, (u.2.0, tt))))
-
-  pub no_move_in_order : (shape_of a ≤ shape_of b → ⊥) → AddsOfOne IsMoveBack n (comp m g (triple_of (pair_of a b) l (pair_of a' b'))) before before
-  no_move_in_order never = adds_nothing n _ _ _ _ before (λ c _ w. not_back m g a b l a' b' c w never)
-
--- a comprehension whose item is no step between pairs has none
-module _ (n m : ℕ) (g : List (List Lit)) (before : CompsD) where
-  pub no_step_back : (t : TermD) → ((a l b : TermD) → t ≡ triple_of a l b → ⊥) → AddsOfOne IsMoveBack n (comp m g t) before before
-  no_step_back t never = adds_nothing n _ _ _ _ before none
-    where
-      none : (c : List Atom) → length c ≡ n → (w : PointValue) → IsMadeOfOne IsMoveBack (IsCompMember (comp m g t) c) w → ⊥
-      none c k w (x, (e, ext, s), (S, L, T, p, q, p', q', t', triple, _, _, _, _, _)) =
-          let d = c ++ e in
-          let f = triple_term t d S L T (triple_to x (point t d) S L T (same_sym (point t d) x s) triple) in
-          never f.0 f.1 f.2 f.3
-
-  pub no_source_back : (s l t : TermD) → ((a b : TermD) → s ≡ pair_of a b → ⊥) → AddsOfOne IsMoveBack n (comp m g (triple_of s l t)) before before
-  no_source_back s l t never = adds_nothing n _ _ _ _ before none
-    where
-      none : (c : List Atom) → length c ≡ n → (w : PointValue) → IsMadeOfOne IsMoveBack (IsCompMember (comp m g (triple_of s l t)) c) w → ⊥
-      none c k w (x, (e, ext, same), (S, L, T, p, q, p', q', t', triple, source, _, _, _, _)) =
-          let d = c ++ e in
-          let item = point (triple_of s l t) d in
-          let f = triple_here s l t d S L T (triple_to x item S L T (same_sym item x same) triple) in
-          let h = pair_term s d p q (pair_to S (point s d) p q f.0 source) in
-          never h.0 h.1 h.2
-
-  pub no_target_back : (s l t : TermD) → ((a b : TermD) → t ≡ pair_of a b → ⊥) → AddsOfOne IsMoveBack n (comp m g (triple_of s l t)) before before
-  no_target_back s l t never = adds_nothing n _ _ _ _ before none
-    where
-      none : (c : List Atom) → length c ≡ n → (w : PointValue) → IsMadeOfOne IsMoveBack (IsCompMember (comp m g (triple_of s l t)) c) w → ⊥
-      none c k w (x, (e, ext, same), (S, L, T, p, q, p', q', t', triple, source, target, _, _, _)) =
-          let d = c ++ e in
-          let item = point (triple_of s l t) d in
-          let f = triple_here s l t d S L T (triple_to x item S L T (same_sym item x same) triple) in
-          let h = pair_term t d p' q' (pair_to T (point t d) p' q' f.2 target) in
-          never h.0 h.1 h.2
 
 -- ---- as sets
 pub are_made : (R : PointValue → PointValue → Type 0) (n : ℕ) (whole made : CompsD) → ((c : List Atom) → length c ≡ n → (w : PointValue) → IsIn w (point (coll made) c) ↔ IsMadeOfOne R (IsAmong whole c) w) → AreMadeOf R n (coll whole) (coll made)

@@ -2,17 +2,10 @@
 use Rattle.std.proofs.Common.{◌≡◌, ℕ, inl, inr, List, length}
 use Rattle.lois_base.specs.Atom.{Atom}
 use Rattle.lois_base.specs.Data.{TermD, coll, CompsD}
-use Rattle.lois_base.specs.Values.{PointValue, point, IsIn, IsSame}
+use Rattle.lois_base.specs.Values.{point}
 use Rattle.lois_algebra.specs.Sets.{IsUnion}
-use Rattle.lois_meaning.specs.Automata.{IsPair, IsTriple}
-use Rattle.lois_base.proofs.Members.{same_refl}
-use Rattle.lois_meaning.proofs.Operations.{triple_both, triple_exists, pair_both, pair_exists}
-use Rattle.lois_meaning.proofs.Tuples.{pair_parts}
 use Rattle.lois_automata.specs.Built.{ArePairs}
-use Rattle.lois_automata.specs.Adding.{IsMadeOfOne}
-use Rattle.lois_automata.specs.Projections.{HasStepIn, AreSideBySide}
-use Rattle.lois_minimise.specs.Classes.{AreMadeOf, IsPartition, ArePairsAcross, AreSplitPairs, AreBackward, IsBefore, IsMoveBack, IsOrderedPair}
-use Rattle.lois_minimise.proofs.Ordered.{before_same, ordered_parts}
+use Rattle.lois_minimise.specs.Classes.{IsPartition, ArePairsAcross, AreSplitPairs}
 
 pub are_across : (n : ℕ) (a b s t one other r : TermD) → ArePairs n a b one → ArePairs n s t other → IsUnion one other r → ArePairsAcross n a b s t r
 are_across n a b s t one other r first second all c l w = (
@@ -66,24 +59,3 @@ module _ (n : ℕ) (nodes set apart alike : TermD) (inside outside : CompsD) (c 
       | inr j ↦ inr ((shared.outer q).0 j).1
     ];
   }
-
--- of the steps side by side the moves back
-module _ (n : ℕ) (steps both r : TermD) (c : List Atom) (l : length c ≡ n) (along : AreSideBySide n steps steps both) (moves : AreMadeOf IsMoveBack n both r) where
-  pub are_backward : AreBackward (point steps c) (point r c)
-  are_backward y = (λ i. there ((moves c l y).0 i), back)
-    where
-      there : IsMadeOfOne IsMoveBack (λ x. IsIn x (point both c)) y → (x x' p a q p' q' : PointValue) × HasStepIn (point steps c) p a p' × HasStepIn (point steps c) q a q' × IsBefore p q × IsOrderedPair x' p' q' × IsPair x p q × IsPair y x' x
-      there (w, k, (s, b, t, u, v, u', v', t', triple, source, target, order, ordered, pair)) = from ((along c l w).0 k)
-        where
-          from : ((p a p' q q' x x' : PointValue) × HasStepIn (point steps c) p a p' × HasStepIn (point steps c) q a q' × IsPair x p q × IsPair x' p' q' × IsTriple w x a x') → (x x' p a q p' q' : PointValue) × HasStepIn (point steps c) p a p' × HasStepIn (point steps c) q a q' × IsBefore p q × IsOrderedPair x' p' q' × IsPair x p q × IsPair y x' x
-          from (p, a, p', q, q', x, x', step, step', source', target', triple') =
-              let ends = triple_both w s b t x a x' triple triple' in
-              let here : IsSame u p × IsSame v q = pair_both s x u v p q ends.0 source source' in
-              let there : IsSame u' p' × IsSame v' q' = pair_both t x' u' v' p' q' ends.2 target target' in
-              (x, t', p, a, q, p', q', step, step', before_same u v p q here.0 here.1 order, ordered_parts t' u' v' p' q' there.0 there.1 ordered, source', pair_parts y t' s t' x (same_refl t') ends.0 pair)
-
-      back : ((x x' p a q p' q' : PointValue) × HasStepIn (point steps c) p a p' × HasStepIn (point steps c) q a q' × IsBefore p q × IsOrderedPair x' p' q' × IsPair x p q × IsPair y x' x) → IsIn y (point r c)
-      back (x, x', p, a, q, p', q', step, step', order, ordered, source, pair) =
-          let to : (t : PointValue) × IsPair t p' q' = pair_exists p' q' in
-          let t : (t : PointValue) × IsTriple t x a to.0 = triple_exists x a to.0 in
-          (moves c l y).1 (t.0, (along c l t.0).1 (p, a, p', q, q', x, to.0, step, step', source, to.1, t.1), (x, a, to.0, p, q, p', q', x', t.1, source, to.1, order, ordered, pair))

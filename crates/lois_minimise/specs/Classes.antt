@@ -91,10 +91,10 @@ IsInOrder x w = IsSame x w × ((p q : PointValue) × IsPair x p q × IsBefore p 
 abbrev pub IsTurned : PointValue → PointValue → Type 0
 IsTurned x w = (p q : PointValue) × IsPair x p q × IsPair w q p × (IsBefore q p → ⊥)
 
--- x is a step from a pair in order, and w leads from the target, put in order, back to it
-abbrev pub IsMoveBack : PointValue → PointValue → Type 0
-IsMoveBack x w =
-    (s l t p q p' q' t' : PointValue) × IsTriple x s l t × IsPair s p q × IsPair t p' q' × IsBefore p q × IsOrderedPair t' p' q' × IsPair w t' s
+-- x and y are steps with the same letter, whose sources are in order, and w leads from their targets, put in order, back to them
+abbrev pub IsMoveBack : PointValue → PointValue → PointValue → Type 0
+IsMoveBack x y w =
+    (p l p' q q' s t : PointValue) × IsTriple x p l p' × IsTriple y q l q' × IsBefore p q × IsPair s p q × IsOrderedPair t p' q' × IsPair w t s
 
 -- r has exactly what R makes of the members of s
 abbrev pub AreMadeOf : (PointValue → PointValue → Type 0) → ℕ → TermD → TermD → Type 0
@@ -106,10 +106,9 @@ abbrev pub AreBothWays : PointValue → PointValue → Type 0
 AreBothWays pairs r =
     (w : PointValue) → IsIn w r ↔ (IsIn w pairs ⊎ IsMadeOfOne IsTurned (λ x. IsIn x pairs) w)
 
--- v leads from the targets of two steps with the same letter, in order, back to their sources, where these are in order
+-- v has exactly such moves of two of the steps
 abbrev pub AreBackward : PointValue → PointValue → Type 0
-AreBackward steps v =
-    (y : PointValue) → IsIn y v ↔ ((x x' p l q p' q' : PointValue) × HasStepIn steps p l p' × HasStepIn steps q l q' × IsBefore p q × IsOrderedPair x' p' q' × IsPair x p q × IsPair y x' x)
+AreBackward steps v = (w : PointValue) → IsIn w v ↔ IsMadeOfTwo IsMoveBack (λ x. IsIn x steps) (λ y. IsIn y steps) w
 
 -- ---- states with their classes
 -- x is the set of what p is led to

@@ -4,6 +4,7 @@
 mod classing;
 mod indexed;
 mod minimising;
+mod moving;
 mod ordering;
 mod pairs;
 mod partitioning;

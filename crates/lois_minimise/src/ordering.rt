@@ -4,14 +4,14 @@ ghost use Rattle.std.specs.Prelude.{◌≡◌, ℕ, Bool, List, length, IfOk, On
 ghost use Rattle.lois_base.specs.Atom.{Atom};
 ghost use Rattle.lois_base.specs.Data.{coll, comps_of};
 ghost use Rattle.lois_base.specs.Fits.{ItemsFit};
-ghost use Rattle.lois_base.specs.Tree.{tree, comp_of};
+ghost use Rattle.lois_base.specs.Tree.{comp_of};
 ghost use Rattle.lois_base.specs.Validity.{AdmitsItems, ItemsHaveBoundedWidths};
 ghost use Rattle.lois_base.specs.Values.{point};
 ghost use Rattle.lois_automata.specs.Projections.{AddsOfOne};
-ghost use Rattle.lois_minimise.specs.Classes.{AreMadeOf, AreBothWays, IsInOrder, IsTurned, IsMoveBack, IsOrderedTerm};
+ghost use Rattle.lois_minimise.specs.Classes.{AreMadeOf, AreBothWays, IsInOrder, IsTurned};
 
 use lois_algebra::{push_comp, union};
-use lois_automata::{pair, pair_parts, step_parts};
+use lois_automata::{pair, pair_parts};
 use lois_base::{Comp, Comps, NoMemory, Term};
 use lois_terms::shape;
 use std::alloc::Global;
@@ -99,55 +99,4 @@ fn add_turned(alloc: Global, made: &mut Comps, comp: &Comp) -> Result<(), NoMemo
             item,
         },
     )
-}
-
-/// Of each step between pairs whose source is in order, a move from its target, put in order, to its source.
-pub fn moves_back(alloc: Global, steps: &Comps) -> Result<Comps, NoMemory>
-    ensures members { IfOk result (λ r. (n : ℕ) → AreMadeOf IsMoveBack n (coll (comps_of steps.now)) (coll (comps_of r))) }
-    ensures levels { IfOk result (λ r. (n : ℕ) → ItemsFit n (comps_of steps.now) → ItemsFit n (comps_of r)) }
-    ensures operators { IfOk result (λ r. (o : Bool) → AdmitsItems o (comps_of steps.now) → AdmitsItems o (comps_of r)) }
-{
-    let mut moves = Comps::new(alloc);
-    for comp in steps.as_slice() {
-        add_move_back(alloc, &mut moves, comp)?;
-    }
-    Ok(moves)
-}
-
-fn add_move_back(alloc: Global, moves: &mut Comps, comp: &Comp) -> Result<(), NoMemory>
-    ensures { OnOk result ((n : ℕ) → AddsOfOne IsMoveBack n (comp_of comp.now) (comps_of moves.old) (comps_of moves.new)) }
-{
-    let Some(step) = step_parts(&comp.item) else {
-        return Ok(());
-    };
-    let Some((first, second)) = pair_parts(step.source) else {
-        return Ok(());
-    };
-    let Some((one, other)) = pair_parts(step.target) else {
-        return Ok(());
-    };
-    if shape(first) > shape(second) {
-        return Ok(());
-    }
-    let target = ordered_pair(alloc, one, other)?;
-    let guard = comp.guard.copy(alloc)?;
-    let item = pair(alloc, &target, step.source)?;
-    push_comp(
-        moves,
-        Comp {
-            binders: comp.binders,
-            guard,
-            item,
-        },
-    )
-}
-
-// The two in a pair, in order.
-fn ordered_pair(alloc: Global, one: &Term, other: &Term) -> Result<Term, NoMemory>
-    ensures { IfOk result (λ r. IsOrderedTerm (tree one.now) (tree other.now) (tree r)) }
-{
-    if shape(one) <= shape(other) {
-        return pair(alloc, one, other);
-    }
-    pair(alloc, other, one)
 }

@@ -7,13 +7,14 @@ ghost use Rattle.lois_base.specs.Fits.{ItemsFit};
 ghost use Rattle.lois_base.specs.Validity.{AdmitsItems, ItemsHaveBoundedWidths};
 ghost use Rattle.lois_base.specs.Values.{point};
 ghost use Rattle.lois_automata.specs.Projections.{automaton_at};
-ghost use Rattle.lois_minimise.specs.Classes.{IsCompleteDeterministicWithReach, AreIndistinguishable, ArePairsAcross, AreSplitPairs, AreBackward};
+ghost use Rattle.lois_minimise.specs.Classes.{IsCompleteDeterministicWithReach, AreIndistinguishable, ArePairsAcross, AreSplitPairs};
 
 use crate::indexed::targets_in;
-use crate::ordering::{both_ways, moves_back, pairs_in_order};
+use crate::moving::backward;
+use crate::ordering::{both_ways, pairs_in_order};
 use crate::partitioning::{Partition, partition_by};
 use lois_algebra::union;
-use lois_automata::{FiveSets, pair_steps, pairs};
+use lois_automata::{FiveSets, pairs};
 use lois_base::{Comps, NoMemory, Structure, Term};
 use std::alloc::Global;
 
@@ -115,19 +116,4 @@ fn pairs_across(
         unreachable!()
     };
     Ok(both)
-}
-
-// Of two steps with the same letter, whose sources are in order, a move from the pair of the targets, in order, back to the pair of
-// the sources.
-fn backward<T: Structure>(alloc: Global, steps: &Comps, size: usize) -> Result<Comps, NoMemory>
-    requires steps { ItemsFit size (comps_of steps.now) }
-    requires operators { AdmitsItems T.ordered (comps_of steps.now) }
-    ensures moves { IfOk result (λ r. (c : List Atom) → length c ≡ size → AreBackward (point (coll (comps_of steps.now)) c) (point (coll (comps_of r)) c)) }
-    ensures levels { IfOk result (λ r. ItemsFit size (comps_of r)) }
-    ensures operators { IfOk result (λ r. (o : Bool) → AdmitsItems o (comps_of steps.now) → AdmitsItems o (comps_of r)) }
-{
-    let Term::Coll(both) = pair_steps::<T>(alloc, steps, steps, size)? else {
-        unreachable!()
-    };
-    moves_back(alloc, &both)
 }
