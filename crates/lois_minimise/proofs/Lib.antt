@@ -1,4 +1,6 @@
 pub mod Compared
+pub mod Ordered
+pub mod Moves
 pub mod Classes
 pub mod TheMinimal
 pub mod Seconds

@@ -2,15 +2,10 @@
 use Rattle.std.proofs.Common.{◌≡◌, ℕ, inl, inr, List, length}
 use Rattle.lois_base.specs.Atom.{Atom}
 use Rattle.lois_base.specs.Data.{TermD, coll, CompsD}
-use Rattle.lois_base.specs.Values.{PointValue, point, IsIn}
+use Rattle.lois_base.specs.Values.{point}
 use Rattle.lois_algebra.specs.Sets.{IsUnion}
-use Rattle.lois_meaning.specs.Automata.{IsPair, IsTriple}
-use Rattle.lois_meaning.proofs.Operations.{triple_both, triple_exists}
-use Rattle.lois_meaning.proofs.Tuples.{pair_parts}
 use Rattle.lois_automata.specs.Built.{ArePairs}
-use Rattle.lois_automata.specs.Projections.{HasStepIn, AreProjected, AreSideBySide}
-use Rattle.lois_automata.specs.declared.projections.Projection.TheVariants.{Back}
-use Rattle.lois_minimise.specs.Classes.{IsPartition, ArePairsAcross, AreSplitPairs, AreBackward}
+use Rattle.lois_minimise.specs.Classes.{IsPartition, ArePairsAcross, AreSplitPairs}
 
 pub are_across : (n : ℕ) (a b s t one other r : TermD) → ArePairs n a b one → ArePairs n s t other → IsUnion one other r → ArePairsAcross n a b s t r
 are_across n a b s t one other r first second all c l w = (
@@ -64,21 +59,3 @@ module _ (n : ℕ) (nodes set apart alike : TermD) (inside outside : CompsD) (c 
       | inr j ↦ inr ((shared.outer q).0 j).1
     ];
   }
-
--- of the steps side by side the pairs (target, source)
-module _ (n : ℕ) (steps both r : TermD) (c : List Atom) (l : length c ≡ n) (along : AreSideBySide n steps steps both) (shaped : AreProjected n Back both r) where
-  pub are_backward : AreBackward (point steps c) (point r c)
-  are_backward y = (λ i. there ((shaped c l y).0 i), back)
-    where
-      there : ((P L Q : PointValue) × HasStepIn (point both c) P L Q × IsPair y Q P) → (x x' p a q p' q' : PointValue) × HasStepIn (point steps c) p a p' × HasStepIn (point steps c) q a q' × IsPair x' p' q' × IsPair x p q × IsPair y x' x
-      there (P, L, Q, (w, k, t), pair) = from ((along c l w).0 k)
-        where
-          from : ((p a p' q q' x x' : PointValue) × HasStepIn (point steps c) p a p' × HasStepIn (point steps c) q a q' × IsPair x p q × IsPair x' p' q' × IsTriple w x a x') → (x x' p a q p' q' : PointValue) × HasStepIn (point steps c) p a p' × HasStepIn (point steps c) q a q' × IsPair x' p' q' × IsPair x p q × IsPair y x' x
-          from (p, a, p', q, q', x, x', step, step', source, target, t') =
-              let both = triple_both w P L Q x a x' t t' in
-              (x, x', p, a, q, p', q', step, step', target, source, pair_parts y Q P x' x both.2 both.0 pair)
-
-      back : ((x x' p a q p' q' : PointValue) × HasStepIn (point steps c) p a p' × HasStepIn (point steps c) q a q' × IsPair x' p' q' × IsPair x p q × IsPair y x' x) → IsIn y (point r c)
-      back (x, x', p, a, q, p', q', step, step', target, source, pair) =
-          let t : (t : PointValue) × IsTriple t x a x' = triple_exists x a x' in
-          (shaped c l y).1 (x, a, x', (t.0, (along c l t.0).1 (p, a, p', q, q', x, x', step, step', source, target, t.1), t.1), pair)

@@ -1,5 +1,5 @@
 -- What the private contracts say: of states that words tell apart, of states with their classes, and of steps between classes.
-use Rattle.std.specs.Prelude.{◌≡◌, ℕ, Bool, List, ◌++◌, length, ◌↔◌, ◌⊎◌}
+use Rattle.std.specs.Prelude.{◌≡◌, ℕ, ◌≤◌, Bool, List, ◌++◌, length, ◌↔◌, ◌⊎◌}
 use Rattle.lois_base.specs.Atom.{Atom}
 use Rattle.lois_base.specs.Data.{TermD, CompD, CompsD}
 use Rattle.lois_base.specs.Fits.{CompFits, ItemsFit}
@@ -8,6 +8,7 @@ use Rattle.lois_base.specs.Values.{PointValue, point, IsIn, IsSame}
 use Rattle.lois_algebra.specs.Gathered.{IsAmong, IsCompMember}
 use Rattle.lois_meaning.specs.Automata.{Automaton, IsPair, IsTriple, IsAutomatonOf, HasStep, IsReachable, IsDeterministic, IsComplete, HaveSameWords}
 use Rattle.lois_meaning.specs.Kinds.{IsSetOf}
+use Rattle.lois_terms.specs.Shapes.{shape_of}
 use Rattle.lois_automata.specs.Adding.{Adds, IsMadeOfOne, IsMadeOfTwo, IsPairOf}
 use Rattle.lois_automata.specs.Projections.{HasStepIn, five_of, automaton_at, pair_of}
 use Rattle.lois_automata.specs.Reachability.{LeadsTo}
@@ -69,10 +70,45 @@ pub record AreSplitPairs (nodes final apart alike : PointValue) : Type 0 where
   pub within : (x : PointValue) → IsIn x alike ↔ ((p q : PointValue) × IsIn p nodes × IsIn q nodes × IsAlike final p q × IsPair x p q)
   pub decided : (q : PointValue) → IsIn q nodes → IsIn q final ⊎ (IsIn q final → ⊥)
 
--- v leads from the pair of the targets of two steps with the same letter back to the pair of their sources
+-- ---- pairs in the order of the shapes of their parts
+-- the shape of p isn't greater than that of q
+abbrev pub IsBefore : PointValue → PointValue → Type 0
+IsBefore p q = shape_of p.term_of ≤ shape_of q.term_of
+
+-- x is the pair of the two, the one that comes before the other first
+abbrev pub IsOrderedPair : PointValue → PointValue → PointValue → Type 0
+IsOrderedPair x p q = (IsBefore p q × IsPair x p q) ⊎ ((IsBefore p q → ⊥) × IsPair x q p)
+
+abbrev pub IsOrderedTerm : TermD → TermD → TermD → Type 0
+IsOrderedTerm a b r =
+    ((shape_of a ≤ shape_of b) × (r ≡ pair_of a b)) ⊎ ((shape_of a ≤ shape_of b → ⊥) × (r ≡ pair_of b a))
+
+-- w is x, a pair in order
+abbrev pub IsInOrder : PointValue → PointValue → Type 0
+IsInOrder x w = IsSame x w × ((p q : PointValue) × IsPair x p q × IsBefore p q)
+
+-- w is the pair x turned, which then isn't in order
+abbrev pub IsTurned : PointValue → PointValue → Type 0
+IsTurned x w = (p q : PointValue) × IsPair x p q × IsPair w q p × (IsBefore q p → ⊥)
+
+-- x and y are steps with the same letter, whose sources are in order, and w leads from their targets, put in order, back to them
+abbrev pub IsMoveBack : PointValue → PointValue → PointValue → Type 0
+IsMoveBack x y w =
+    (p l p' q q' s t : PointValue) × IsTriple x p l p' × IsTriple y q l q' × IsBefore p q × IsPair s p q × IsOrderedPair t p' q' × IsPair w t s
+
+-- r has exactly what R makes of the members of s
+abbrev pub AreMadeOf : (PointValue → PointValue → Type 0) → ℕ → TermD → TermD → Type 0
+AreMadeOf R n s r =
+    (c : List Atom) → length c ≡ n → (w : PointValue) → IsIn w (point r c) ↔ IsMadeOfOne R (λ x. IsIn x (point s c)) w
+
+-- r has exactly the pairs, and the turned ones
+abbrev pub AreBothWays : PointValue → PointValue → Type 0
+AreBothWays pairs r =
+    (w : PointValue) → IsIn w r ↔ (IsIn w pairs ⊎ IsMadeOfOne IsTurned (λ x. IsIn x pairs) w)
+
+-- v has exactly such moves of two of the steps
 abbrev pub AreBackward : PointValue → PointValue → Type 0
-AreBackward steps v =
-    (y : PointValue) → IsIn y v ↔ ((x x' p l q p' q' : PointValue) × HasStepIn steps p l p' × HasStepIn steps q l q' × IsPair x' p' q' × IsPair x p q × IsPair y x' x)
+AreBackward steps v = (w : PointValue) → IsIn w v ↔ IsMadeOfTwo IsMoveBack (λ x. IsIn x steps) (λ y. IsIn y steps) w
 
 -- ---- states with their classes
 -- x is the set of what p is led to

@@ -4,6 +4,8 @@
 mod classing;
 mod indexed;
 mod minimising;
+mod moving;
+mod ordering;
 mod pairs;
 mod partitioning;
 mod refining;

@@ -7,17 +7,20 @@ ghost use Rattle.lois_base.specs.Fits.{ItemsFit};
 ghost use Rattle.lois_base.specs.Validity.{AdmitsItems, ItemsHaveBoundedWidths};
 ghost use Rattle.lois_base.specs.Values.{point};
 ghost use Rattle.lois_automata.specs.Projections.{automaton_at};
-ghost use Rattle.lois_minimise.specs.Classes.{IsCompleteDeterministicWithReach, AreIndistinguishable, ArePairsAcross, AreSplitPairs, AreBackward};
+ghost use Rattle.lois_minimise.specs.Classes.{IsCompleteDeterministicWithReach, AreIndistinguishable, ArePairsAcross, AreSplitPairs};
 
 use crate::indexed::targets_in;
+use crate::moving::backward;
+use crate::ordering::{both_ways, pairs_in_order};
 use crate::partitioning::{Partition, partition_by};
 use lois_algebra::union;
-use lois_automata::{FiveSets, Projection, pair_steps, pairs, project_steps};
+use lois_automata::{FiveSets, pairs};
 use lois_base::{Comps, NoMemory, Structure, Term};
 use std::alloc::Global;
 
 /// The pairs of reachable states from which the same words are accepted. First these are the pairs of nodes that are both
 /// final or both not; each round takes those away from which a letter leads to a pair that the round before took away.
+/// Of a pair and the same pair turned one alone is kept, in the order of shapes, until the end.
 pub fn indistinguishable_pairs<T: Structure>(
     alloc: Global,
     sets: FiveSets<'_>,
@@ -36,7 +39,10 @@ pub fn indistinguishable_pairs<T: Structure>(
     ensures widths { IfOk result (λ r. ItemsHaveBoundedWidths (comps_of nodes.now) → ItemsHaveBoundedWidths (comps_of r)) }
 {
     let moves = backward::<T>(alloc, sets.steps, size)?;
-    let mut shares = split_pairs::<T>(alloc, nodes, sets.accepting, size)?;
+    let split = split_pairs::<T>(alloc, nodes, sets.accepting, size)?;
+    let inside = pairs_in_order(alloc, &split.inside)?;
+    let outside = pairs_in_order(alloc, &split.outside)?;
+    let mut shares = Partition { inside, outside };
     let mut count: usize = 0;
     'refining: while shares.inside.len() > 0 {
         if count == usize::MAX {
@@ -47,7 +53,7 @@ pub fn indistinguishable_pairs<T: Structure>(
         let next = partition_by::<T>(alloc, &shares.outside, &told, size)?;
         shares = next;
     }
-    Ok(shares.outside)
+    both_ways(alloc, &shares.outside)
 }
 
 // The pairs of nodes of which one is in the set and the other isn't, and the other pairs of nodes.
@@ -110,21 +116,4 @@ fn pairs_across(
         unreachable!()
     };
     Ok(both)
-}
-
-// Of two steps with the same letter, a move from the pair of the targets back to the pair of the sources.
-fn backward<T: Structure>(alloc: Global, steps: &Comps, size: usize) -> Result<Comps, NoMemory>
-    requires steps { ItemsFit size (comps_of steps.now) }
-    requires operators { AdmitsItems T.ordered (comps_of steps.now) }
-    ensures moves { IfOk result (λ r. (c : List Atom) → length c ≡ size → AreBackward (point (coll (comps_of steps.now)) c) (point (coll (comps_of r)) c)) }
-    ensures levels { IfOk result (λ r. ItemsFit size (comps_of r)) }
-    ensures operators { IfOk result (λ r. (o : Bool) → AdmitsItems o (comps_of steps.now) → AdmitsItems o (comps_of r)) }
-{
-    let Term::Coll(both) = pair_steps::<T>(alloc, steps, steps, size)? else {
-        unreachable!()
-    };
-    let Term::Coll(moves) = project_steps(alloc, &both, Projection::Back)? else {
-        unreachable!()
-    };
-    Ok(moves)
 }
