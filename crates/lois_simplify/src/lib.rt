@@ -13,6 +13,7 @@ mod rounds;
 mod sampling;
 mod shortening;
 mod simplifying;
+mod witness;
 
 pub use shortening::shortest;
 pub use simplifying::{simplify, simplify_to_read};

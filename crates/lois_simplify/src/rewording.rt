@@ -2,12 +2,13 @@
 //! whoever takes them asks first whether they say the same.
 
 use crate::shortening::{constraint_of, follows, joined_literals};
+use crate::witness::{TwoChoices, choices_at, is_seen_outside};
 use lois_base::{Constraint, Cube, Lit, NoMemory, Op};
-use lois_constraint::{implies, meet, prune, singleton};
+use lois_constraint::{covers_cube, implies, meet, prune, singleton};
 use std::alloc::Global;
 
-// The search takes more than the square of a guard's length: a longer one stays long to read, whatever is found.
-const LONGEST_READ: usize = 20;
+// Each cube without `<=` is compared with those of the guard and of what surrounds it.
+const MOST_COMPARED: usize = 8192;
 
 // Each cube is met with all of what surrounds the guard.
 const MOST_SURROUNDING: usize = 24;
@@ -15,9 +16,23 @@ const MOST_SURROUNDING: usize = 24;
 // All pairs of a cube's levels are looked at.
 const MOST_LEVELS: usize = 8;
 
-/// Whether other words for the guard are worth their time. A single cube hardly gets shorter.
-pub(crate) fn is_worth_rewording(guard: &Constraint, under: &Constraint) -> bool {
-    guard.len() > 1 && reading_length(guard) <= LONGEST_READ && under.len() <= MOST_SURROUNDING
+// Of more cubes only those are widened that the ones before don't cover.
+const MOST_WIDENED: usize = 12;
+
+/// Whether other words for the guard are worth their time, where `whole` is the guard without `<=`. A single cube hardly gets shorter.
+pub(crate) fn is_worth_rewording(
+    guard: &Constraint,
+    whole: &Constraint,
+    under: &Constraint,
+) -> bool {
+    if whole.len() < 2 || under.len() > MOST_SURROUNDING {
+        return false;
+    }
+    if guard.len() < 2 && reading_length(under) < 2 {
+        return false;
+    }
+    let compared = guard.len().saturating_add(under.len());
+    whole.len().saturating_mul(compared) <= MOST_COMPARED
 }
 
 /// How long the constraint is to read: its literals and its cubes.
@@ -36,20 +51,24 @@ fn put_level(levels: &mut Vec<usize>, level: usize) -> Result<(), NoMemory> {
     Ok(())
 }
 
+// The levels of which the cube speaks, the highest first.
 fn levels_of(alloc: Global, cube: &Cube) -> Result<Vec<usize>, NoMemory> {
     let mut levels = Vec::new(alloc);
     for lit in cube.as_slice() {
         put_level(&mut levels, lit.left)?;
         put_level(&mut levels, lit.right)?;
     }
+    levels.sort_unstable();
+    levels.reverse();
     Ok(levels)
 }
 
-// The literals that say the most of two levels come first.
+// The literals that say the most of two levels come first. One that fails at a choice at which the cube holds isn't asked for.
 fn put_strongest(
     alloc: Global,
     closed: &mut Cube,
     cube: &Cube,
+    seen: &TwoChoices,
     left: usize,
     right: usize,
 ) -> Result<(), NoMemory> {
@@ -74,7 +93,7 @@ fn put_strongest(
         right,
     };
     for lit in [equal, below, above, apart].iter() {
-        if implies(alloc, cube, *lit)? {
+        if seen.hold(*lit) && implies(alloc, cube, *lit)? {
             return closed.push(*lit);
         }
     }
@@ -85,12 +104,13 @@ fn put_strongest_of_level(
     alloc: Global,
     closed: &mut Cube,
     cube: &Cube,
+    seen: &TwoChoices,
     left: usize,
     levels: &[usize],
 ) -> Result<(), NoMemory> {
     for right in levels {
         if left < *right {
-            put_strongest(alloc, closed, cube, left, *right)?;
+            put_strongest(alloc, closed, cube, seen, left, *right)?;
         }
     }
     Ok(())
@@ -102,32 +122,52 @@ fn closed(alloc: Global, cube: &Cube) -> Result<Cube, NoMemory> {
     if levels.len() > MOST_LEVELS {
         return cube.copy(alloc);
     }
+    let seen = choices_at(alloc, cube)?;
     let mut closed = Cube::new(alloc);
     for left in levels.iter() {
-        put_strongest_of_level(alloc, &mut closed, cube, *left, &levels)?;
+        put_strongest_of_level(alloc, &mut closed, cube, &seen, *left, &levels)?;
     }
     Ok(closed)
 }
 
-// How many cubes of the guard entail the literal.
-fn count_entailing(alloc: Global, guard: &Constraint, lit: Lit) -> Result<usize, NoMemory> {
+fn closed_cubes(alloc: Global, constraint: &Constraint) -> Result<Constraint, NoMemory> {
+    let mut all = Constraint::new(alloc);
+    for cube in constraint.as_slice() {
+        all.push(closed(alloc, cube)?)?;
+    }
+    Ok(all)
+}
+
+// Whether one of the literals is the other one, or says more of its two levels.
+fn says(cube: &Cube, lit: Lit) -> bool {
+    for own in cube.as_slice() {
+        let same = own.left == lit.left && own.right == lit.right;
+        let turned = own.left == lit.right && own.right == lit.left;
+        if same && own.op == lit.op {
+            return true;
+        }
+        if (same || turned) && lit.op == Op::Ne && own.op == Op::Lt {
+            return true;
+        }
+    }
+    false
+}
+
+// How many of the closed cubes say what the literal does.
+fn count_saying(closed: &Constraint, lit: Lit) -> usize {
     let mut count = 0_usize;
-    for cube in guard.as_slice() {
-        if implies(alloc, cube, lit)? {
+    for cube in closed.as_slice() {
+        if says(cube, lit) {
             count = count.saturating_add(1);
         }
     }
-    Ok(count)
+    count
 }
 
-fn counts_entailing(
-    alloc: Global,
-    guard: &Constraint,
-    cube: &Cube,
-) -> Result<Vec<usize>, NoMemory> {
+fn counts_saying(alloc: Global, closed: &Constraint, cube: &Cube) -> Result<Vec<usize>, NoMemory> {
     let mut counts = Vec::new(alloc);
     for lit in cube.as_slice() {
-        counts.push(count_entailing(alloc, guard, *lit)?)?;
+        counts.push(count_saying(closed, *lit))?;
     }
     Ok(counts)
 }
@@ -146,23 +186,29 @@ fn put_counted(
     Ok(())
 }
 
-// First the literals that the fewest cubes of the guard entail, which go first.
-fn rarest_first(alloc: Global, guard: &Constraint, cube: &Cube) -> Result<Cube, NoMemory> {
-    let counts = counts_entailing(alloc, guard, cube)?;
+// First the literals that the fewest closed cubes say, which go first, and of the others those of high levels.
+fn rarest_first(alloc: Global, closed: &Constraint, cube: &Cube) -> Result<Cube, NoMemory> {
+    let counts = counts_saying(alloc, closed, cube)?;
     let mut sorted = Cube::new(alloc);
-    for count in 0..=guard.len() {
+    for count in 0..=closed.len() {
         put_counted(&mut sorted, cube, &counts, count)?;
     }
     Ok(sorted)
 }
 
-// Whether the guard holds wherever the cube and `under` do.
+// Whether the guard holds wherever the cube and `under` do. What takes little time is asked first.
 fn is_within(
     alloc: Global,
     cube: &Cube,
     guard: &Constraint,
     under: &Constraint,
 ) -> Result<bool, NoMemory> {
+    if is_seen_outside(alloc, guard, cube, under)? {
+        return Ok(false);
+    }
+    if covers_cube(alloc, guard, cube, under)? {
+        return Ok(true);
+    }
     let one = singleton(alloc, cube)?;
     let both = meet(alloc, under, &one)?;
     follows(alloc, guard, &both)
@@ -218,13 +264,51 @@ fn with_differences(
 fn widened(
     alloc: Global,
     cube: &Cube,
+    closed: &Constraint,
     guard: &Constraint,
     under: &Constraint,
 ) -> Result<Cube, NoMemory> {
-    let all = closed(alloc, cube)?;
-    let sorted = rarest_first(alloc, guard, &all)?;
+    let sorted = rarest_first(alloc, closed, cube)?;
     let fewer = without_literals(alloc, &sorted, guard, under)?;
     with_differences(alloc, &fewer, guard, under)
+}
+
+fn has_literals(cube: &Cube, literals: &[Lit]) -> bool {
+    for lit in literals {
+        if !cube.as_slice().contains(lit) {
+            return false;
+        }
+    }
+    true
+}
+
+fn has_alike(constraint: &Constraint, cube: &Cube) -> bool {
+    for other in constraint.as_slice() {
+        if other.len() == cube.len() && has_literals(other, cube.as_slice()) {
+            return true;
+        }
+    }
+    false
+}
+
+// The closed cubes as wide as `under` allows, each once.
+fn all_widened(
+    alloc: Global,
+    closed: &Constraint,
+    guard: &Constraint,
+    under: &Constraint,
+) -> Result<Constraint, NoMemory> {
+    let mut wide = Constraint::new(alloc);
+    for cube in closed.as_slice() {
+        if closed.len() > MOST_WIDENED && covers_cube(alloc, &wide, cube, under)? {
+            continue;
+        }
+        let wider = widened(alloc, cube, closed, guard, under)?;
+        if !has_alike(&wide, &wider) {
+            wide.push(wider)?;
+        }
+    }
+    Ok(wide)
 }
 
 // The first cube goes behind the others, or away if it has the length and they cover it.
@@ -269,16 +353,16 @@ fn longest_cube(constraint: &Constraint) -> usize {
 }
 
 /// The guard with its cubes as wide as `under` allows, without those that the others cover there, of which the longest go first.
+/// `whole` is the guard without `<=`.
 pub(crate) fn reworded(
     alloc: Global,
     guard: &Constraint,
+    whole: &Constraint,
     under: &Constraint,
 ) -> Result<Constraint, NoMemory> {
-    let pruned = prune(alloc, guard)?;
-    let mut wide = Constraint::new(alloc);
-    for cube in pruned.as_slice() {
-        wide.push(widened(alloc, cube, guard, under)?)?;
-    }
+    let pruned = prune(alloc, whole)?;
+    let closed = closed_cubes(alloc, &pruned)?;
+    let wide = all_widened(alloc, &closed, guard, under)?;
     without_longest(alloc, wide, under)
 }
 

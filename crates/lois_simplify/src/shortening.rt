@@ -250,12 +250,13 @@ fn shorter(
     alloc: Global,
     short: Constraint,
     guard: &Constraint,
+    whole: &Constraint,
     under: &Constraint,
 ) -> Result<Constraint, NoMemory>
     requires { IsShortened under.now guard.now short }
     ensures { IfOk result (IsShortened under.now guard.now) }
 {
-    let other = reworded(alloc, guard, under)?;
+    let other = reworded(alloc, guard, whole, under)?;
     if reading_length(&other) < reading_length(&short)
         && says_the_same(alloc, &other, guard, under)?
     {
@@ -302,18 +303,31 @@ fn made_strict(alloc: Global, constraint: Constraint) -> Result<Constraint, NoMe
     split_constraint(alloc, &constraint)
 }
 
-// A short constraint for the guard, where the search for it takes little time.
+// The constraint shortened, where that takes little time.
+fn soon_shortened(
+    alloc: Global,
+    constraint: &Constraint,
+    under: &Constraint,
+) -> Result<Constraint, NoMemory>
+    ensures { IfOk result (IsShortened under.now constraint.now) }
+{
+    if constraint.len() > MOST_SHORTENED {
+        return constraint.copy(alloc);
+    }
+    shortened(alloc, constraint, under)
+}
+
+// A short constraint for the guard. Its parts without `<=` often need fewer literals than the whole.
 fn reread(alloc: Global, guard: &Constraint, under: &Constraint) -> Result<Constraint, NoMemory>
     ensures { IfOk result (IsShortened under.now guard.now) }
 {
-    if guard.len() > MOST_SHORTENED {
-        return guard.copy(alloc);
-    }
-    let short = shortened(alloc, guard, under)?;
-    if !is_worth_rewording(guard, under) {
+    let own = guard.copy(alloc)?;
+    let whole = made_strict(alloc, own)?;
+    let short = soon_shortened(alloc, &whole, under)?;
+    if !is_worth_rewording(guard, &whole, under) {
         return Ok(short);
     }
-    shorter(alloc, short, guard, under)
+    shorter(alloc, short, guard, &whole, under)
 }
 
 /// A short constraint without `<=` that holds at the same choices as the guard wherever `under` does: `true` where the guard
@@ -330,9 +344,7 @@ pub fn shortest(
     if always_follows(alloc, guard, under)? {
         return Constraint::always(alloc);
     }
-    let own = guard.copy(alloc)?;
-    let whole = made_strict(alloc, own)?;
-    let short = reread(alloc, &whole, under)?;
+    let short = reread(alloc, guard, under)?;
     let strict = made_strict(alloc, short)?;
     normalise(alloc, &strict)
 }

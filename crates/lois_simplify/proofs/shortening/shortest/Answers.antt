@@ -1,4 +1,4 @@
-use Rattle.std.proofs.Common.{◌≡◌, [], ◌∷◌, subst}
+use Rattle.std.proofs.Common.{◌≡◌, [], ◌∷◌}
 use Rattle.std.proofs.lemmas.Result.{IfOk-weaker}
 use Rattle.lois_base.specs.Validity.{IsStrictConstraint}
 use Rattle.lois_simplify.specs.Shortened.{IsShortened}
@@ -20,12 +20,10 @@ pub returns-clause-shortened : goal.returns-clause-shortened
 returns-clause-shortened c =
     let u = c.args.under.now in
     let g = c.args.guard.now in
-    let whole = c.in_ok-whole.whole in
     let short = c.in_ok-short.short in
-    let split : IsShortened u g whole = subst (λ z. IsShortened u z whole) c.in_ok-own.ensures (c.in_ok-whole.ensures.shortened u) in
-    let read : IsShortened u g short = shortened_then u g whole short split c.in_ok-short.ensures in
+    let strict = c.in_ok-strict.strict in
     let e = c.normalise.ensures in
-    normalised_alike u g c.in_ok-strict.strict c.normalise.result (shortened_then u g short c.in_ok-strict.strict read (c.in_ok-strict.ensures.shortened u)) e.truth e.fits e.operators
+    normalised_alike u g strict c.normalise.result (shortened_then u g short strict c.in_ok-short.ensures (c.in_ok-strict.ensures.shortened u)) e.truth e.fits e.operators
 
 pub returns-clause-plain : goal.returns-clause-plain
 returns-clause-plain c =
