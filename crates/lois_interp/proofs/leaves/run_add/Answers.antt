@@ -8,7 +8,6 @@ use Rattle.lois_script.specs.Tree.{add}
 use Rattle.lois_script.specs.View.{tree}
 use Rattle.lois_meaning.specs.Faults.{Fails}
 use Rattle.lois_context.specs.Slots.{SlotD}
-use Rattle.lois_context.specs.declared.contexts.Context.{Context}
 use Rattle.lois_eval.specs.Throughout.{IsFaultOf}
 use Rattle.lois_eval.proofs.FaultsAt.{if_fault}
 use Rattle.lois_eval.proofs.LoopExit.{passed_on}
