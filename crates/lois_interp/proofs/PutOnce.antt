@@ -147,6 +147,10 @@ module _ (t item r : TermD) (ks : CompsD) (set : t ≡ coll ks) (more : IsWithIt
         | inr p ↦ inr ((in_one item c w).1 p)
       ]))
 
+-- before any is put there
+pub none_behind : (first : List CompD) → AreBehind first [] first
+none_behind first = ([], sym (append-nil first), λ k h. h, λ k h. absurd (contains_none k h))
+
 pub one_behind : (first added all after : List CompD) (k : CompD) → AreBehind first added all → IsPutOnce all k after → AreBehind first (added ++ k ∷ []) after
 one_behind first added all after k (more, e, only, whole) (inl is) = (
   more ++ k ∷ [],

@@ -66,6 +66,10 @@ loop-slot-preserved g c =
       only_asked = only_asked_then (λ b. (goal.Decider-dyn g (b.vtable, b.value)).kind_of b.value) (λ b. (goal.Decider-dyn g (b.vtable, b.value)).questions b.value) c.args.chosen.now c.loop-slot.chosen c.tidied_slot.new.chosen c.loop-slot.invariant.only_asked c.tidied_slot.ensures.only_asked;
     }
 
+pub returns-in_err-push-clause-only_asked : goal.returns-in_err-push-clause-only_asked
+returns-in_err-push-clause-only_asked g c =
+    only_asked_then (λ b. (goal.Decider-dyn g (b.vtable, b.value)).kind_of b.value) (λ b. (goal.Decider-dyn g (b.vtable, b.value)).questions b.value) c.args.chosen.now c.loop-slot.chosen c.tidied_slot.new.chosen c.loop-slot.invariant.only_asked c.tidied_slot.ensures.only_asked
+
 pub returns-clause-tidied : goal.returns-clause-tidied
 returns-clause-tidied g c =
     let n = c.args.size in let u = c.args.«when».now in

@@ -9,8 +9,11 @@ use Rattle.lois_context.specs.Put.{IsPutOnce}
 use Rattle.lois_context.proofs.Contents.{set_of}
 use Rattle.lois_context.proofs.Entered.{listed_of, listed_coll}
 use Rattle.lois_interp.specs.Members.{AreBehind}
-use Rattle.lois_interp.proofs.PutOnce.{one_behind}
+use Rattle.lois_interp.proofs.PutOnce.{none_behind, one_behind}
 use Rattle.lois_interp.proofs.joining.with_items.Goals as goal
+
+pub loop-comp-init : goal.loop-comp-init
+loop-comp-init c = (c.requires.first, none_behind (comps_listed (tree c.args.first)))
 
 pub loop-comp-preserved : goal.loop-comp-preserved
 loop-comp-preserved c =
