@@ -9,7 +9,9 @@ ghost use Rattle.lois_constraint.specs.Signature.{EntailsLit, RecordsLit};
 ghost use Rattle.lois_constraint.specs.Rules.{Rule, Obeys, CubeObeys};
 ghost use Rattle.lois_constraint.specs.Tight.{some_holds, SomeObeys};
 
-use crate::order_closure::{Row, copy_rows, extend, is_implied, is_refuted, low_order};
+use crate::order_closure::{
+    Row, copy_rows, extend, is_implied, is_refuted, low_order, may_be_implied,
+};
 use lois_base::{Cube, Lit, NoMemory};
 use std::alloc::Global;
 use std::marker::Model;
@@ -79,6 +81,13 @@ impl ClosedCube {
         is_implied(&self.rows, &self.cube, lit)
     }
 
+    // Where this says no, which takes no walk over literals, the literal doesn't hold wherever the cube does.
+    fn may_imply(&self, lit: Lit) -> bool
+        ensures { IsFalse result → ((c : List Atom) → IsTrue (cube_holds c self.now) → IsTrue (lit_holds c lit)) → ⊥ }
+    {
+        may_be_implied(&self.rows, lit)
+    }
+
     // Whether the literal holds nowhere where the cube does.
     fn refutes(&self, lit: Lit) -> bool
         ensures { IsTrue result → (c : List Atom) → IsTrue (cube_holds c self.now) → IsFalse (lit_holds c lit) }
@@ -95,6 +104,24 @@ impl ClosedCube {
 
     /// Whether the other cube holds wherever this one does.
     pub(crate) fn entails_cube(&self, other: &Cube) -> bool
+        ensures { IsTrue result ↔ Entails self.now other.now }
+    {
+        self.may_entail(other) && self.implies_all(other)
+    }
+
+    // Mostly some literal is out of order, which takes no walk over literals.
+    fn may_entail(&self, other: &Cube) -> bool
+        ensures { IsFalse result → Entails self.now other.now → ⊥ }
+    {
+        for lit in other.as_slice() {
+            if !self.may_imply(*lit) {
+                return false;
+            }
+        }
+        true
+    }
+
+    fn implies_all(&self, other: &Cube) -> bool
         ensures { IsTrue result ↔ Entails self.now other.now }
     {
         for lit in other.as_slice() {

@@ -1,6 +1,6 @@
 //! The levels that a cube puts at most as high as others, in a table that levels index.
 
-ghost use Rattle.std.specs.Prelude.{◌≡◌, ◌≢◌, ℕ, ◌+◌, ◌*◌, ◌^◌, Bool, List, length, max, vec_len, ◌<◌, ◌≤◌, get_or, bit_or, ◌||◌, ◌&&◌, ◌==◌, IsFalse, IfOk, OnOk};
+ghost use Rattle.std.specs.Prelude.{◌≡◌, ◌≢◌, ℕ, ◌+◌, ◌*◌, ◌^◌, Bool, List, length, max, vec_len, ◌<◌, ◌≤◌, get_or, bit_or, ◌||◌, ◌&&◌, ◌==◌, false, IsFalse, IfOk, OnOk};
 ghost use Rattle.std.specs.Int.{bit_at};
 ghost use Rattle.lois_constraint.specs.Order.{reaches, at_most, are_at_most, is_tied, is_apart, lies_between, joins, sets_apart, are_apart, is_implied, is_refuted, linked, extended};
 
@@ -280,12 +280,29 @@ fn joins(rows: &[Row], lit: Lit, a: usize, b: usize) -> bool
     are_tied(rows, lit.left, a) && are_tied(rows, lit.right, b)
 }
 
+// Whether one of the two levels is at most the third.
+#[inline]
+fn is_above_one(rows: &[Row], level: usize, a: usize, b: usize) -> bool
+    ensures { result ≡ (at_most rows.now a level || at_most rows.now b level) }
+{
+    at_most(rows, a, level) || at_most(rows, b, level)
+}
+
+// Mostly a level of the literal lies above neither, which takes two looks.
 fn sets_apart(rows: &[Row], lit: Lit, a: usize, b: usize) -> bool
     ensures { result ≡ sets_apart (at_most rows.now) a b lit }
 {
-    is_apart(lit.op)
-        && ((lies_between(rows, lit, a, b) || lies_between(rows, lit, b, a))
-            || (joins(rows, lit, a, b) || joins(rows, lit, b, a)))
+    if !is_apart(lit.op) {
+        return false;
+    }
+    if !is_above_one(rows, lit.left, a, b) {
+        return false;
+    }
+    if !is_above_one(rows, lit.right, a, b) {
+        return false;
+    }
+    (lies_between(rows, lit, a, b) || lies_between(rows, lit, b, a))
+        || (joins(rows, lit, a, b) || joins(rows, lit, b, a))
 }
 
 // Whether some literal sets the levels apart.
@@ -295,6 +312,17 @@ fn are_apart(rows: &[Row], cube: &Cube, a: usize, b: usize) -> bool
     cube.as_slice()
         .iter()
         .any(|lit| sets_apart(rows, *lit, a, b))
+}
+
+/// Whether the levels stand so in the rows that the literal may follow: what takes no walk over literals.
+pub(crate) fn may_be_implied(rows: &[Row], lit: Lit) -> bool
+    ensures { IsFalse result → (k : List Lit) → is_implied (at_most rows.now) k lit.op lit.left lit.right ≡ false }
+{
+    match lit.op {
+        Op::Eq => are_tied(rows, lit.left, lit.right),
+        Op::Ne => true,
+        Op::Lt | Op::AtMost => at_most(rows, lit.left, lit.right),
+    }
 }
 
 /// Whether the literal follows from the cube, whose rows these are.
