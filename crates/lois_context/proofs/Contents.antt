@@ -10,6 +10,7 @@ use Rattle.lois_base.specs.Tree.{tree}
 use Rattle.lois_base.specs.declared.values.Term.{Term}
 use Rattle.lois_base.specs.declared.values.Term.TheVariants.{Var, Tag, Tup, Coll}
 use Rattle.lois_base.proofs.Viewed.{rest_is}
+use Rattle.lois_terms.specs.Binding.{BindsNothing, CompBindsNothing, ItemsBindNothing}
 use Rattle.lois_terms.specs.Guarded.{IsColl}
 use Rattle.lois_terms.specs.Hash.{mixed, written_hash}
 use Rattle.lois_terms.proofs.Heights.{depth_append}
@@ -106,6 +107,20 @@ with_depth (Var i) ls n h l = h
 with_depth (Tag x) ls n h l = h
 with_depth (Tup ts) ls n h l = h
 with_depth (Coll ks) ls n h l = omega (arith, h, l, depth_append ks ls)
+
+items_unbound : (ks ls : List CompD) → ItemsBindNothing (comps_of ks) → ItemsBindNothing (comps_of ls) → ItemsBindNothing (comps_of (ks ++ ls))
+items_unbound [] ls h k = k
+items_unbound (c ∷ ks) ls h k = (h.0, items_unbound ks ls h.1 k)
+
+pub with_unbound : (t : Term) (ls : List CompD) → BindsNothing (tree t) → ItemsBindNothing (comps_of ls) → BindsNothing (tree (with_comps t ls))
+with_unbound (Var i) ls h k = tt
+with_unbound (Tag x) ls h k = tt
+with_unbound (Tup ts) ls h k = h
+with_unbound (Coll ks) ls h k = items_unbound ks ls h k
+
+-- one comprehension more that binds nothing
+pub one_unbound : (ks : List CompD) (c : CompD) → ItemsBindNothing (comps_of ks) → CompBindsNothing c → ItemsBindNothing (comps_of (ks ++ c ∷ []))
+one_unbound ks c h k = items_unbound ks (c ∷ []) h (k, tt)
 
 pub with_hash : (t : Term) (ls : List CompD) (h : ℕ) → IsColl (tree t) → content_hash h (tree (with_comps t ls)) ≡ comps_hash (comps_hash h (comps_listed (tree t))) ls
 with_hash (Var i) ls h (ks, e) = cc

@@ -1,4 +1,5 @@
 pub mod Content
+pub mod Noted
 pub mod Slots
 pub mod SlotView
 pub mod Kept

@@ -2,29 +2,42 @@
 
 ghost use Rattle.std.specs.Prelude.{◌≡◌, ◌+◌, ◌<◌, ◌≤◌, ◌^◌, ◌↔◌, List, [], ◌∷◌, ◌++◌, length, get_or, map, take, drop, IfOk, OnOk, IsTrue, Contains};
 ghost use Rattle.lois_base.specs.Atom.{Atom};
-ghost use Rattle.lois_base.specs.Data.{CompD, depth, depth_of_comps};
+ghost use Rattle.lois_base.specs.Data.{CompD, comps_of, depth, depth_of_comps};
 ghost use Rattle.lois_base.specs.Tree.{tree, comp_of};
 ghost use Rattle.lois_base.specs.Values.{point, IsDeeper};
+ghost use Rattle.lois_base.specs.declared.limits.TheConstants.{GREATEST_DEPTH};
+ghost use Rattle.lois_base.specs.declared.values.Term.{Term};
+ghost use Rattle.lois_terms.specs.Binding.{BindsNothing, ItemsBindNothing};
 ghost use Rattle.lois_terms.specs.Guarded.{IsColl};
 ghost use Rattle.lois_context.specs.Content.{with_comps};
 ghost use Rattle.lois_context.specs.Entered.{comps_listed};
 ghost use Rattle.lois_context.specs.Hash.{content_hash};
+ghost use Rattle.lois_context.specs.Noted.{IsNotedOf};
 ghost use Rattle.lois_context.specs.Put.{AreParts, IsWithOnce};
 ghost use Rattle.lois_context.specs.Slots.{comps_in};
 
 use crate::hashing::hash_comps;
 use crate::places::searched;
 use crate::{Places, Shared};
+use lois_base::limits::GREATEST_DEPTH;
 use lois_base::{Comp, Comps, NoMemory, Term};
-use lois_terms::{hash_term, is_within_depth};
+use lois_terms::{binds_nothing, hash_term, is_within_depth};
 use std::alloc::Global;
 use std::marker::Model;
+
+/// What is noted of a term, so that nobody goes through it again. Where it is `false`, nothing is known.
+#[derive(Clone, Copy, Drop)]
+struct Noted {
+    binds_nothing: bool,
+    is_shallow: bool,
+}
 
 /// What a slot holds: a term, and the comprehensions that were put behind its own while it had other owners. Copies share both,
 /// so a set isn't copied where one of its owners gets members.
 #[derive(Drop)]
 pub struct Content {
     base: Shared<Term>,
+    noted: Noted,
     base_places: Shared<Places>,
     added: Shared<Comps>,
     added_places: Shared<Places>,
@@ -34,6 +47,7 @@ impl Model for Content {
     ghost use Rattle.lois_base.specs.declared.values.Term.{Term};
     ghost use Rattle.std.specs.Prelude.{◌+◌, ◌<◌, ◌^◌, length};
     ghost use Rattle.lois_context.specs.Content.{own_count, with_comps, content_code};
+    ghost use Rattle.lois_context.specs.Noted.{IsNotedOf};
 
     ghost Value = { Term };
 
@@ -41,7 +55,7 @@ impl Model for Content {
 
     ghost view = { λ c. with_comps c.base c.added };
 
-    ghost invariant = { λ c. own_count c.base + length c.added < 2 ^ 64 };
+    ghost invariant = { λ c. (own_count c.base + length c.added < 2 ^ 64) × IsNotedOf c.noted c.base };
 }
 
 impl Content {
@@ -56,9 +70,10 @@ impl Content {
     fn alone(alloc: Global, base: Shared<Term>) -> Result<Self, NoMemory>
         ensures same { IfOk result (λ r. r ≡ base) }
     {
+        let noted = note(base.get());
         let places = Shared::new(alloc, Places::new(alloc))?;
         let none = Shared::new(alloc, Places::new(alloc))?;
-        holding(alloc, base, places, Comps::new(alloc), none)
+        holding(alloc, base, noted, places, Comps::new(alloc), none)
     }
 
     /// The same, which shares all that it has: nothing is copied.
@@ -67,6 +82,7 @@ impl Content {
     {
         Ok(Content {
             base: self.base.share()?,
+            noted: self.noted,
             base_places: self.base_places.share()?,
             added: self.added.share()?,
             added_places: self.added_places.share()?,
@@ -140,8 +156,15 @@ impl Content {
         ensures written { IsTrue result → depth (tree self.now) ≤ limit }
         ensures values { IsTrue result → (c : List Atom) → IsDeeper (point (tree self.now) c) limit → ⊥ }
     {
-        is_within_depth(self.base.get(), limit)
+        is_noted_within_depth(self.base.get(), self.noted, limit)
             && are_within_depth(self.added.get().as_slice(), limit)
+    }
+
+    /// Whether no comprehension in the term has binders. Then it is the same term among more levels.
+    pub(crate) fn binds_nothing(&self) -> bool
+        ensures { IsTrue result → BindsNothing (tree self.now) }
+    {
+        is_noted_unbound(self.base.get(), self.noted) && bind_nothing(self.added.get().as_slice())
     }
 
     /// The hash of the term, which follows from `seed`.
@@ -176,12 +199,13 @@ impl Content {
     {
         let Content {
             base,
+            noted,
             base_places,
             added,
             added_places,
         } = self;
         let added = appended(added.into_comps(alloc)?, more)?;
-        holding(alloc, base, base_places, added, added_places)
+        holding(alloc, base, noted, base_places, added, added_places)
     }
 
     /// The set with one comprehension at its end, but where one is there that is written alike: so what is added again and again
@@ -202,6 +226,7 @@ impl Content {
     {
         let Content {
             base,
+            noted,
             base_places,
             added,
             added_places,
@@ -210,6 +235,7 @@ impl Content {
         let added_places = searched(alloc, added_places, added.get().as_slice())?;
         Ok(Content {
             base,
+            noted,
             base_places,
             added,
             added_places,
@@ -236,6 +262,7 @@ impl Content {
     {
         let Content {
             base,
+            noted,
             base_places,
             added,
             added_places,
@@ -244,11 +271,12 @@ impl Content {
         more.push(comp)?;
         match base.into_inner() {
             Ok(term) => {
+                let noted = note_more(noted, more.as_slice());
                 let base = Shared::new(alloc, grown(term, more)?)?;
                 let none = Shared::new(alloc, Places::new(alloc))?;
-                holding(alloc, base, base_places, Comps::new(alloc), none)
+                holding(alloc, base, noted, base_places, Comps::new(alloc), none)
             }
-            Err(base) => holding(alloc, base, base_places, more, added_places),
+            Err(base) => holding(alloc, base, noted, base_places, more, added_places),
         }
     }
 
@@ -261,6 +289,7 @@ impl Content {
     {
         let Content {
             base,
+            noted,
             base_places,
             added,
             ..
@@ -274,7 +303,7 @@ impl Content {
         let parts = parted(alloc, more, first - count)?;
         let (old, added) = parts;
         let none = Shared::new(alloc, Places::new(alloc))?;
-        let content = holding(alloc, base, base_places, old, none)?;
+        let content = holding(alloc, base, noted, base_places, old, none)?;
         Ok((content, added))
     }
 }
@@ -283,10 +312,12 @@ impl Content {
 fn holding(
     alloc: Global,
     base: Shared<Term>,
+    noted: Noted,
     base_places: Shared<Places>,
     added: Comps,
     added_places: Shared<Places>,
 ) -> Result<Content, NoMemory>
+    requires { IsNotedOf noted base }
     ensures { IfOk result (λ r. r ≡ with_comps base added) }
 {
     if comps_of_set(base.get()).len() > usize::MAX - added.len() {
@@ -294,6 +325,7 @@ fn holding(
     }
     Ok(Content {
         base,
+        noted,
         base_places,
         added: Shared::new(alloc, added)?,
         added_places,
@@ -399,6 +431,65 @@ fn are_within_depth(comps: &[Comp], limit: usize) -> bool
         }
     }
     true
+}
+
+fn bind_nothing(comps: &[Comp]) -> bool
+    ensures { IsTrue result → ItemsBindNothing (comps_of (map comp_of comps.now)) }
+{
+    for comp in comps {
+        if comp.binders != 0 || !binds_nothing(&comp.item) {
+            return false;
+        }
+    }
+    true
+}
+
+fn is_noted_within_depth(term: &Term, noted: Noted, limit: usize) -> bool
+    requires { IsNotedOf noted term.now }
+    ensures { IsTrue result → depth (tree term.now) ≤ limit }
+{
+    if noted.is_shallow && limit >= GREATEST_DEPTH {
+        return true;
+    }
+    is_within_depth(term, limit)
+}
+
+fn is_noted_unbound(term: &Term, noted: Noted) -> bool
+    requires { IsNotedOf noted term.now }
+    ensures { IsTrue result → BindsNothing (tree term.now) }
+{
+    noted.binds_nothing || binds_nothing(term)
+}
+
+fn note(term: &Term) -> Noted
+    ensures { IsNotedOf result term.now }
+{
+    Noted {
+        binds_nothing: binds_nothing(term),
+        is_shallow: is_within_depth(term, GREATEST_DEPTH),
+    }
+}
+
+// What is noted of a term whose set gets further comprehensions.
+fn note_more(noted: Noted, more: &[Comp]) -> Noted
+    ensures { (t : Term) → IsNotedOf noted t → IsNotedOf result (with_comps t (map comp_of more.now)) }
+{
+    Noted {
+        binds_nothing: stays_unbound(noted, more),
+        is_shallow: stays_shallow(noted, more),
+    }
+}
+
+fn stays_unbound(noted: Noted, more: &[Comp]) -> bool
+    ensures { IsTrue result → IsTrue noted.binds_nothing × ItemsBindNothing (comps_of (map comp_of more.now)) }
+{
+    noted.binds_nothing && bind_nothing(more)
+}
+
+fn stays_shallow(noted: Noted, more: &[Comp]) -> bool
+    ensures { IsTrue result → IsTrue noted.is_shallow × (depth_of_comps (map comp_of more.now) < GREATEST_DEPTH) }
+{
+    noted.is_shallow && are_within_depth(more, GREATEST_DEPTH)
 }
 
 // Whether the first list with the second behind it is the third with the fourth behind it.

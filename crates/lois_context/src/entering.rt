@@ -17,7 +17,7 @@ use crate::{Content, Context, Shared, Slot, Store};
 use lois_answers::{Line, Lines};
 use lois_base::{Comp, Comps, Decider, Name, NoMemory, Term};
 use lois_deciders::Chosen;
-use lois_terms::{binds_nothing, shift_term};
+use lois_terms::shift_term;
 use std::alloc::Global;
 
 /// Enters a loop over a set: one context for each comprehension that has members where the context admits, in which `name`
@@ -230,22 +230,21 @@ fn carried_content(
     ensures fits { IfOk result (λ r. Fits (size + by) (tree r)) }
 {
     let settled = content.settled(alloc)?;
-    let term = settled.whole(alloc)?;
-    if stays(term.get(), size, by) {
+    if stays(&settled, size, by) {
         return Ok(settled);
     }
+    let term = settled.whole(alloc)?;
     Content::new(alloc, carried_term(alloc, term.get(), size, by)?)
 }
 
 // Whether no level is put in, or the term has none that would move.
-#[tactic(auto, using(crate::proofs::Unshifted::shift_none))]
-fn stays(term: &Term, size: usize, by: usize) -> bool
-    requires fits { Fits size (tree term.now) }
+fn stays(content: &Content, size: usize, by: usize) -> bool
+    requires fits { Fits size (tree content.now) }
     requires levels { size + by < 2 ^ 64 }
-    ensures carried { IsTrue result → tree term.now ≡ shift size by (tree term.now) }
-    ensures fits { IsTrue result → Fits (size + by) (tree term.now) }
+    ensures carried { IsTrue result → tree content.now ≡ shift size by (tree content.now) }
+    ensures fits { IsTrue result → Fits (size + by) (tree content.now) }
 {
-    by == 0 || binds_nothing(term)
+    by == 0 || content.binds_nothing()
 }
 
 // The lines are shared where no level is put in. So a loop over a set that lists its members holds them once.
