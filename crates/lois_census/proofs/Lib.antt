@@ -3,6 +3,7 @@ pub mod AlikeFormulas
 pub mod InOrbits
 pub mod Lists
 pub mod Measures
+pub mod Ranked
 pub mod Lefts
 pub mod Parting
 pub mod TheCensus

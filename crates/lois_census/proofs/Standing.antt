@@ -33,9 +33,6 @@ above_same a b x y e l =
     above_is a b ∙ (ap (λ p. not p && not (below a b)) e ∙ (ap (λ p. not (equal x y) && not p) l ∙ sym (above_is x y)))
 
 -- ---- numbers
-pub same_numbers : (m n : ℕ) → m ≡ n → IsTrue (equal (whole m) (whole n))
-same_numbers m n e = subst (λ k. IsTrue (equal (whole m) (whole k))) e (equal_refl (whole m))
-
 pub lower_number : (m n : ℕ) → m < n → IsTrue (below (whole m) (whole n))
 lower_number m n l = grind (arith, ints)
 

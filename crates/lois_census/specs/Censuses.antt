@@ -18,7 +18,7 @@ pub record AreOrbitsOf (ordered : Bool) (t : TermD) (os : List OrbitD) : Type 0 
   pub members : All (λ o. IsMember (value_of o) (point t [])) os
   pub each : (v : PointValue) → IsIn v (point t []) → IsInListedOrbit ordered os v
   pub once : AllPairs (AreDisjointOrbits ordered) os
-  pub taken : AreTakenFrom t os
+  pub taken : AreTakenFrom ordered t os
   pub operators : (o : Bool) → AdmitsTerm o t → All (λ k. AdmitsTerm o k.item) os
   pub widths : HasBoundedWidths t → All (λ k. HasBoundedWidths k.item) os
   pub strict : IsStrictTerm t → All (λ k. IsStrictTerm k.item) os

@@ -11,8 +11,8 @@ use Rattle.lois_census.specs.OrbitData.{OrbitD}
 use Rattle.lois_census.specs.Orbits.{IsInOrbit, IsInListedOrbit, FitsSample, IsTakenFrom}
 
 -- the orbit is taken from one of them
-abbrev pub IsTakenFromSome : List CompD → OrbitD → Type 0
-IsTakenFromSome ks o = Any (λ k. IsTakenFrom k o) ks
+abbrev pub IsTakenFromSome : Bool → List CompD → OrbitD → Type 0
+IsTakenFromSome ordered ks o = Any (λ k. IsTakenFrom ordered k o) ks
 
 -- each item of the comprehension, at each choice of its binders that its guard admits, is in one of the orbits
 abbrev pub IsCoveredByOrbits : Bool → List OrbitD → CompD → Type 0

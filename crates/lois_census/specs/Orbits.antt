@@ -9,6 +9,7 @@ use Rattle.lois_base.specs.Patterns.{AreAlike}
 use Rattle.lois_base.specs.Truth.{sampled}
 use Rattle.lois_base.specs.Values.{PointValue, point, IsSame}
 use Rattle.lois_deciders.specs.Satisfaction.{IsConstraintSample}
+use Rattle.lois_ranks.specs.Ranks.{AreRanks}
 use Rattle.lois_census.specs.OrbitData.{OrbitD}
 
 -- the orbit of the value of a term at a choice has all values that are the same as the term's at some choice alike to it
@@ -34,19 +35,19 @@ AreDisjointOrbits ordered o p = (v : PointValue) → IsInOrbit ordered v o → I
 abbrev pub FitsSample : OrbitD → Type 0
 FitsSample o = Fits (length o.sample) o.item
 
--- the orbit of the comprehension's item, as it is written, at numbers at which the guard holds
-abbrev pub IsTakenFrom : CompD → OrbitD → Type 0
-IsTakenFrom (comp m g t) o = (o.item ≡ t) × IsConstraintSample m g o.sample
+-- the orbit of the comprehension's item, as it is written, at ranks at which the guard holds
+abbrev pub IsTakenFrom : Bool → CompD → OrbitD → Type 0
+IsTakenFrom ordered (comp m g t) o = (o.item ≡ t) × IsConstraintSample m g o.sample × AreRanks ordered o.sample
 
 -- the orbits come in the order of the comprehensions that they are taken from
-abbrev pub AreTakenInOrder : CompsD → List OrbitD → Type 0
-AreTakenInOrder no_comps os = os ≡ []
-AreTakenInOrder (more k ks) os =
-    (first rest : List OrbitD) × (os ≡ first ++ rest) × All (IsTakenFrom k) first × AreTakenInOrder ks rest
+abbrev pub AreTakenInOrder : Bool → CompsD → List OrbitD → Type 0
+AreTakenInOrder ordered no_comps os = os ≡ []
+AreTakenInOrder ordered (more k ks) os =
+    (first rest : List OrbitD) × (os ≡ first ++ rest) × All (IsTakenFrom ordered k) first × AreTakenInOrder ordered ks rest
 
 -- the same of those of a set
-abbrev pub AreTakenFrom : TermD → List OrbitD → Type 0
-AreTakenFrom (var i) os = Unit {0}
-AreTakenFrom (tag t) os = Unit {0}
-AreTakenFrom (tup ts) os = Unit {0}
-AreTakenFrom (coll ks) os = AreTakenInOrder ks os
+abbrev pub AreTakenFrom : Bool → TermD → List OrbitD → Type 0
+AreTakenFrom ordered (var i) os = Unit {0}
+AreTakenFrom ordered (tag t) os = Unit {0}
+AreTakenFrom ordered (tup ts) os = Unit {0}
+AreTakenFrom ordered (coll ks) os = AreTakenInOrder ordered ks os

@@ -11,6 +11,7 @@ ghost use Rattle.lois_base.specs.Values.{PointValue, point, IsMember, IsIn};
 ghost use Rattle.lois_terms.specs.Guarded.{IsColl};
 ghost use Rattle.lois_deciders.specs.OnlyAsked.{HasOnlyAsked};
 ghost use Rattle.lois_deciders.specs.Satisfaction.{IsConstraintSample};
+ghost use Rattle.lois_ranks.specs.Ranks.{AreRanks};
 ghost use Rattle.lois_census.specs.Left.{IsTakenFromSome, IsCoveredByOrbits, AddsOnly, IsUsable, HoldsWhereListed};
 ghost use Rattle.lois_census.specs.Orbits.{value_of, IsInListedOrbit, AreDisjointOrbits, FitsSample, IsTakenFrom, AreTakenInOrder, AreTakenFrom};
 
@@ -20,6 +21,7 @@ use crate::orbits::{Orbit, Orbits};
 use lois_base::{Comp, Comps, Constraint, Decider, NoMemory, Numbers, Structure, Term};
 use lois_constraint::prune;
 use lois_deciders::Chosen;
+use lois_ranks::rank_sample;
 use std::alloc::Global;
 
 /// One member of each orbit of the set `set`, which uses no level outside of its binders. Errors: `NoMemory`, also where a
@@ -42,7 +44,7 @@ pub fn census<T: Structure>(
     ensures once { IfOk result (AllPairs (AreDisjointOrbits T.ordered)) }
 
     // which member stands for an orbit, and in which order they come
-    ensures taken { IfOk result (AreTakenFrom (tree set.now)) }
+    ensures taken { IfOk result (AreTakenFrom T.ordered (tree set.now)) }
 
     ensures operators { IfOk result (λ r. (o : Bool) → AdmitsTerm o (tree set.now) → All (λ k. AdmitsTerm o k.item) r) }
     ensures widths { IfOk result (λ r. HasBoundedWidths (tree set.now) → All (λ k. HasBoundedWidths k.item) r) }
@@ -64,8 +66,8 @@ fn all_orbits<T: Structure>(
 ) -> Result<Orbits, NoMemory>
     requires levels { ItemsFit 0 (comps_of comps.now) }
     requires operators { AdmitsItems T.ordered (comps_of comps.now) }
-    ensures taken { IfOk result (All (IsTakenFromSome comps.now)) }
-    ensures in_order { IfOk result (AreTakenInOrder (comps_of comps.now)) }
+    ensures taken { IfOk result (All (IsTakenFromSome T.ordered comps.now)) }
+    ensures in_order { IfOk result (AreTakenInOrder T.ordered (comps_of comps.now)) }
     ensures covered { IfOk result (λ r. All (IsCoveredByOrbits T.ordered r) comps.now) }
     ensures apart { IfOk result (AllPairs (AreDisjointOrbits T.ordered)) }
     ensures only_asked { HasOnlyAsked (λ b. (⟦<dyn Decider as Decider>⟧ b.vtable).kind_of b.value) (λ b. (⟦<dyn Decider as Decider>⟧ b.vtable).questions b.value) chosen.old chosen.new }
@@ -88,7 +90,7 @@ fn add_orbits<T: Structure>(
     requires operators { AdmitsComp T.ordered (comp_of comp.now) }
     requires usable { All (IsUsable T.ordered) orbits.old }
     requires apart { AllPairs (AreDisjointOrbits T.ordered) orbits.old }
-    ensures added { OnOk result (AddsOnly (IsTakenFrom (comp_of comp.now)) orbits.old orbits.new) }
+    ensures added { OnOk result (AddsOnly (IsTakenFrom T.ordered (comp_of comp.now)) orbits.old orbits.new) }
     ensures covered { OnOk result (IsCoveredByOrbits T.ordered orbits.new (comp_of comp.now)) }
     ensures apart { OnOk result (AllPairs (AreDisjointOrbits T.ordered) orbits.new) }
     ensures only_asked { HasOnlyAsked (λ b. (⟦<dyn Decider as Decider>⟧ b.vtable).kind_of b.value) (λ b. (⟦<dyn Decider as Decider>⟧ b.vtable).questions b.value) chosen.old chosen.new }
@@ -96,7 +98,7 @@ fn add_orbits<T: Structure>(
     let mut taken = in_listed::<T>(alloc, comp, orbits)?;
     let mut left = prune(alloc, &comp.guard)?;
     'samples: while let Some(found) = chosen.ask(alloc, &left, comp.binders)? {
-        let sample = Numbers::from_vec(found);
+        let sample = rank_sample::<T>(alloc, &found)?;
         taken = list_sample::<T>(alloc, comp, &sample, taken, orbits)?;
         left = without_cube_at(alloc, left, &taken, sample.as_slice())?;
     }
@@ -134,6 +136,7 @@ fn list_sample<T: Structure>(
     requires levels { CompFits 0 (comp_of comp.now) }
     requires operators { AdmitsComp T.ordered (comp_of comp.now) }
     requires sample { IsConstraintSample comp.now.binders comp.now.guard sample.now }
+    requires ranked { AreRanks T.ordered sample.now }
     requires taken { HoldsWhereListed T.ordered comp.now.binders (tree comp.now.item) orbits.old taken }
     requires taken_fits { ConstraintFits comp.now.binders taken }
     requires taken_operators { AdmitsConstraint T.ordered taken }
@@ -142,7 +145,7 @@ fn list_sample<T: Structure>(
     ensures holds { IfOk result (λ r. IsTrue (holds (sampled sample.now) r)) }
     ensures fits { IfOk result (ConstraintFits comp.now.binders) }
     ensures operators { IfOk result (AdmitsConstraint T.ordered) }
-    ensures added { OnOk result (AddsOnly (IsTakenFrom (comp_of comp.now)) orbits.old orbits.new) }
+    ensures added { OnOk result (AddsOnly (IsTakenFrom T.ordered (comp_of comp.now)) orbits.old orbits.new) }
     ensures apart { OnOk result (AllPairs (AreDisjointOrbits T.ordered) orbits.new) }
 {
     if taken.at(sample.as_slice()) {

@@ -2,7 +2,8 @@ use Rattle.std.proofs.Common.{◌≡◌, true, false, sym, ◌∙◌, arith}
 use Rattle.lois_base.specs.Atom.{whole}
 use Rattle.lois_base.specs.Truth.{atom_at}
 use Rattle.lois_base.proofs.Order.{numbers_differ}
-use Rattle.lois_census.proofs.Standing.{same_stand, apart_stand, below_stand, above_stand, same_numbers, lower_number, higher_number}
+use Rattle.lois_ranks.proofs.Alike.{same_numbers}
+use Rattle.lois_census.proofs.Standing.{same_stand, apart_stand, below_stand, above_stand, lower_number, higher_number}
 use Rattle.lois_census.proofs.alike.related.Goals as goal
 
 pub returns-then-number-other-clause-truth : goal.returns-then-number-other-clause-truth

@@ -13,7 +13,7 @@ invariant-samples g l = record {
   left : IsRemainder g.T.Structure.ordered l.comp.binders l.comp.guard (tree l.comp.item) l.orbits l.left;
   fits : ConstraintFits l.comp.binders l.left;
   operators : AdmitsConstraint g.T.Structure.ordered l.left;
-  added : AddsOnly (IsTakenFrom (comp_of l.comp)) l.fn.orbits l.orbits;
+  added : AddsOnly (IsTakenFrom g.T.Structure.ordered (comp_of l.comp)) l.fn.orbits l.orbits;
   listed : HoldsWhereListed g.T.Structure.ordered l.comp.binders (tree l.comp.item) l.orbits l.taken;
   listed_fits : ConstraintFits l.comp.binders l.taken;
   listed_operators : AdmitsConstraint g.T.Structure.ordered l.taken;

@@ -38,8 +38,8 @@ loop-comp-preserved g c =
     record {
       taken = still_taken g.T.Structure.ordered (comp_of k) before after c.in_ok-add_orbits.ensures.added ks (contains_item comp_of items ks i k c.as_slice-comp-items.ensures c.loop-comp-test.true c.comp-item.is) kept.taken;
       in_order =
-          subst (λ qs. AreTakenInOrder (comps_of qs) after) (sym (one_more comp_of items i k c.loop-comp-test.true c.comp-item.is))
-          (still_in_order (comp_of k) (map comp_of (take i items)) before after c.in_ok-add_orbits.ensures.added kept.in_order);
+          subst (λ qs. AreTakenInOrder g.T.Structure.ordered (comps_of qs) after) (sym (one_more comp_of items i k c.loop-comp-test.true c.comp-item.is))
+          (still_in_order g.T.Structure.ordered (comp_of k) (map comp_of (take i items)) before after c.in_ok-add_orbits.ensures.added kept.in_order);
       covered =
           subst (All Covered) (sym (one_more comp_of items i k c.loop-comp-test.true c.comp-item.is))
           (All-push Covered (map comp_of (take i items)) (comp_of k) (All-weaker (IsCoveredByOrbits g.T.Structure.ordered before) Covered (still_covered g.T.Structure.ordered (comp_of k) before after c.in_ok-add_orbits.ensures.added) (map comp_of (take i items)) kept.covered) c.in_ok-add_orbits.ensures.covered);
@@ -53,4 +53,4 @@ returns-clause-covered g c =
 
 pub returns-clause-in_order : goal.returns-clause-in_order
 returns-clause-in_order g c =
-    subst (λ qs. AreTakenInOrder (comps_of qs) c.loop-comp.orbits) (all_taken comp_of c.as_slice-comp-items.result.now c.args.comps.now c.loop-comp.comp-index c.as_slice-comp-items.ensures c.loop-comp-test.false) c.loop-comp.invariant.in_order
+    subst (λ qs. AreTakenInOrder g.T.Structure.ordered (comps_of qs) c.loop-comp.orbits) (all_taken comp_of c.as_slice-comp-items.result.now c.args.comps.now c.loop-comp.comp-index c.as_slice-comp-items.ensures c.loop-comp-test.false) c.loop-comp.invariant.in_order

@@ -15,13 +15,13 @@ pub returns-clause-levels : goal.returns-clause-levels
 returns-clause-levels g c =
     let ks = c.in-Coll.comps in
     let set : tree c.args.set.now ≡ coll (comps_of ks) = ap tree c.in-Coll.is in
-    IfOk-weaker c.all_orbits.result (All (IsTakenFromSome ks)) (All FitsSample) (λ r h. all_fit ks (subst (Fits 0) set c.requires.levels) r h) c.all_orbits.ensures.taken
+    IfOk-weaker c.all_orbits.result (All (IsTakenFromSome g.T.Structure.ordered ks)) (All FitsSample) (λ r h. all_fit g.T.Structure.ordered ks (subst (Fits 0) set c.requires.levels) r h) c.all_orbits.ensures.taken
 
 pub returns-clause-members : goal.returns-clause-members
 returns-clause-members g c =
     let ks = c.in-Coll.comps in
     let set : tree c.args.set.now ≡ coll (comps_of ks) = ap tree c.in-Coll.is in
-    IfOk-weaker c.all_orbits.result (All (IsTakenFromSome ks)) (All (λ o. IsMember (value_of o) (point (tree c.args.set.now) []))) (λ r h. subst (λ t. All (λ o. IsMember (value_of o) (point t [])) r) (sym set) (all_members ks r h)) c.all_orbits.ensures.taken
+    IfOk-weaker c.all_orbits.result (All (IsTakenFromSome g.T.Structure.ordered ks)) (All (λ o. IsMember (value_of o) (point (tree c.args.set.now) []))) (λ r h. subst (λ t. All (λ o. IsMember (value_of o) (point t [])) r) (sym set) (all_members g.T.Structure.ordered ks r h)) c.all_orbits.ensures.taken
 
 pub returns-clause-each : goal.returns-clause-each
 returns-clause-each g c =
@@ -33,22 +33,22 @@ pub returns-clause-taken : goal.returns-clause-taken
 returns-clause-taken g c =
     let ks = c.in-Coll.comps in
     let set : tree c.args.set.now ≡ coll (comps_of ks) = ap tree c.in-Coll.is in
-    IfOk-weaker c.all_orbits.result (AreTakenInOrder (comps_of ks)) (AreTakenFrom (tree c.args.set.now)) (λ r h. subst (λ t. AreTakenFrom t r) (sym set) h) c.all_orbits.ensures.in_order
+    IfOk-weaker c.all_orbits.result (AreTakenInOrder g.T.Structure.ordered (comps_of ks)) (AreTakenFrom g.T.Structure.ordered (tree c.args.set.now)) (λ r h. subst (λ t. AreTakenFrom g.T.Structure.ordered t r) (sym set) h) c.all_orbits.ensures.in_order
 
 pub returns-clause-operators : goal.returns-clause-operators
 returns-clause-operators g c =
     let ks = c.in-Coll.comps in
     let set : tree c.args.set.now ≡ coll (comps_of ks) = ap tree c.in-Coll.is in
-    IfOk-weaker c.all_orbits.result (All (IsTakenFromSome ks)) (λ r. (o : Bool) → AdmitsTerm o (tree c.args.set.now) → All (λ k. AdmitsTerm o k.item) r) (λ r h o a. all_admitted o ks (subst (AdmitsTerm o) set a) r h) c.all_orbits.ensures.taken
+    IfOk-weaker c.all_orbits.result (All (IsTakenFromSome g.T.Structure.ordered ks)) (λ r. (o : Bool) → AdmitsTerm o (tree c.args.set.now) → All (λ k. AdmitsTerm o k.item) r) (λ r h o a. all_admitted g.T.Structure.ordered o ks (subst (AdmitsTerm o) set a) r h) c.all_orbits.ensures.taken
 
 pub returns-clause-widths : goal.returns-clause-widths
 returns-clause-widths g c =
     let ks = c.in-Coll.comps in
     let set : tree c.args.set.now ≡ coll (comps_of ks) = ap tree c.in-Coll.is in
-    IfOk-weaker c.all_orbits.result (All (IsTakenFromSome ks)) (λ r. HasBoundedWidths (tree c.args.set.now) → All (λ k. HasBoundedWidths k.item) r) (λ r h w. all_wide ks (subst HasBoundedWidths set w) r h) c.all_orbits.ensures.taken
+    IfOk-weaker c.all_orbits.result (All (IsTakenFromSome g.T.Structure.ordered ks)) (λ r. HasBoundedWidths (tree c.args.set.now) → All (λ k. HasBoundedWidths k.item) r) (λ r h w. all_wide g.T.Structure.ordered ks (subst HasBoundedWidths set w) r h) c.all_orbits.ensures.taken
 
 pub returns-clause-strict : goal.returns-clause-strict
 returns-clause-strict g c =
     let ks = c.in-Coll.comps in
     let set : tree c.args.set.now ≡ coll (comps_of ks) = ap tree c.in-Coll.is in
-    IfOk-weaker c.all_orbits.result (All (IsTakenFromSome ks)) (λ r. IsStrictTerm (tree c.args.set.now) → All (λ k. IsStrictTerm k.item) r) (λ r h w. all_strict ks (subst IsStrictTerm set w) r h) c.all_orbits.ensures.taken
+    IfOk-weaker c.all_orbits.result (All (IsTakenFromSome g.T.Structure.ordered ks)) (λ r. IsStrictTerm (tree c.args.set.now) → All (λ k. IsStrictTerm k.item) r) (λ r h w. all_strict g.T.Structure.ordered ks (subst IsStrictTerm set w) r h) c.all_orbits.ensures.taken

@@ -5,6 +5,7 @@ use Rattle.lois_base.specs.Fits.{ConstraintFits}
 use Rattle.lois_base.specs.Tree.{tree, comp_of}
 use Rattle.lois_base.specs.Truth.{holds, sampled}
 use Rattle.lois_deciders.specs.Satisfaction.{IsConstraintSample}
+use Rattle.lois_ranks.specs.Ranks.{AreRanks}
 use Rattle.lois_census.specs.Left.{HoldsWhereListed}
 use Rattle.lois_census.specs.OrbitData.{OrbitD}
 use Rattle.lois_census.specs.Orbits.{AreDisjointOrbits, IsTakenFrom}
@@ -23,13 +24,13 @@ returns-then-at-clause-holds g c =
     subst (λ s. IsTrue (holds (sampled s) c.args.taken)) c.as_slice.ensures (sym c.at.ensures ∙ c.if-at.true)
 
 pub returns-then-at-clause-added : goal.returns-then-at-clause-added
-returns-then-at-clause-added g c = adds_nothing (IsTakenFrom (comp_of c.args.comp.now)) c.args.orbits.now
+returns-then-at-clause-added g c = adds_nothing (IsTakenFrom g.T.Structure.ordered (comp_of c.args.comp.now)) c.args.orbits.now
 
 pub or_in_orbit-requires-clause-orbit : goal.or_in_orbit-requires-clause-orbit
 or_in_orbit-requires-clause-orbit g c =
     let k = c.args.comp.now in
     let o : OrbitD = record { item = tree c.in_ok-copy.field-0; sample = c.in_ok-copy-2.field-0 } in
-    taken_usable g.T.Structure.ordered (comp_of k) o c.requires.levels c.requires.operators (ap tree c.in_ok-copy.ensures, subst (IsConstraintSample k.binders k.guard) (sym c.in_ok-copy-2.ensures) c.requires.sample)
+    taken_usable g.T.Structure.ordered (comp_of k) o c.requires.levels c.requires.operators (ap tree c.in_ok-copy.ensures, subst (IsConstraintSample k.binders k.guard) (sym c.in_ok-copy-2.ensures) c.requires.sample, subst (AreRanks g.T.Structure.ordered) (sym c.in_ok-copy-2.ensures) c.requires.ranked)
 
 pub returns-clause-truth : goal.returns-clause-truth
 returns-clause-truth g c =
@@ -48,7 +49,7 @@ pub returns-clause-added : goal.returns-clause-added
 returns-clause-added g c =
     let k = c.args.comp.now in
     let o : OrbitD = record { item = tree c.in_ok-copy.field-0; sample = c.in_ok-copy-2.field-0 } in
-    adds_one (IsTakenFrom (comp_of k)) c.args.orbits.now c.push.new.self o (ap tree c.in_ok-copy.ensures, subst (IsConstraintSample k.binders k.guard) (sym c.in_ok-copy-2.ensures) c.requires.sample) c.in_ok-push.ensures.appended
+    adds_one (IsTakenFrom g.T.Structure.ordered (comp_of k)) c.args.orbits.now c.push.new.self o (ap tree c.in_ok-copy.ensures, subst (IsConstraintSample k.binders k.guard) (sym c.in_ok-copy-2.ensures) c.requires.sample, subst (AreRanks g.T.Structure.ordered) (sym c.in_ok-copy-2.ensures) c.requires.ranked) c.in_ok-push.ensures.appended
 
 pub returns-clause-apart : goal.returns-clause-apart
 returns-clause-apart g c =

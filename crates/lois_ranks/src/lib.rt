@@ -1,0 +1,6 @@
+//! The numbers of a sample as ranks.
+#![tactic(auto)]
+
+mod ranking;
+
+pub use ranking::rank_sample;
