@@ -3,7 +3,7 @@ import re
 from itertools import permutations
 
 from .answers import read_answer, read_term
-from .choices import levels_of, meets, scaled, value_at
+from .choices import levels_of, meets, ranks, scaled, value_at
 from .equal import last_named
 from .judge import Wrong, demand, expect
 from .lexer import Refused, refusal_text
@@ -64,8 +64,8 @@ def taken_from(comps, item, sample):
 
 
 def judge_orbits(number, term, order, text):
-    """The orbits of the case of this number, which a text begins with, are exactly those of the set, each once, and
-    are taken from its comprehensions in their order; what is left."""
+    """The orbits of the case of this number, which a text begins with, are exactly those of the set, each once and at
+    ranks, and are taken from its comprehensions in their order; what is left."""
     head = re.match(rf"case {number}\norbits (0|[1-9]\d*)\n", text)
     demand(head, f"case {number} is expected")
     shapes = {shape for shape, _ in value_at(term, ()).orbits}
@@ -73,7 +73,9 @@ def judge_orbits(number, term, order, text):
     for _ in range(int(head[1])):
         form = re.match(r"orbit ([^\n]*)\nchoice((?: (?:0|[1-9]\d*))*)\n", text)
         demand(form, f"case {number}: another orbit is expected")
-        text, sample = text[form.end():], scaled(map(int, form[2].split()))
+        text, numbers = text[form.end():], list(map(int, form[2].split()))
+        demand(numbers == ranks(numbers, order), f"case {number}: the numbers of {form[1]} are no ranks")
+        sample = scaled(numbers)
         try:
             item = read_term(form[1], order, (), len(sample))
         except Refused:

@@ -16,6 +16,13 @@ def unscaled(choice):
     return [sorted(set(choice)).index(a) for a in choice]
 
 
+def ranks(numbers, order):
+    """Of each number how many different smaller ones there are, or, where atoms aren't ordered, how many different ones
+    come before its first place."""
+    different = sorted(set(numbers)) if order else list(dict.fromkeys(numbers))
+    return [different.index(n) for n in numbers]
+
+
 def meets(guard, choice):
     """Whether a guard holds at a choice, or may hold at a longer one where the choice is too short for some level."""
     known = len(choice)

@@ -139,15 +139,16 @@ PLANTED = [
     (("census", "s"), CENSUS, "case 1\norbits 4\norbit ($0, $1)\nchoice 0 1\n"
      "orbit ($0, $1)\nchoice 1 0\norbit ($0, $1)\nchoice 0 0\norbit 'p\nchoice\n", 0, [
          ("an orbit twice", "choice 1 0", "choice 0 1"), ("another case", "case 1", "case 2"),
+         ("a gap in the numbers", "choice 1 0", "choice 2 0"),
          ("an orbit missing", "orbits 4\norbit ($0, $1)\nchoice 0 1\n", "orbits 3\n"),
          ("an orbit too many", "'p\nchoice\n", "'p\nchoice\norbit 'p\nchoice\n"), ("no member", "'p", "'q"),
          ("another order", "orbits 4\n", "orbits 4\norbit 'p\nchoice\n"),
          ("another spelling", "($0, $1)\nchoice 0 0", "($0, $0)\nchoice 0"),
          ("a number too many", "'p\nchoice", "'p\nchoice 0")]),
-    (("census", "s"), UNORDERED, "case 1\norbits 2\norbit ($0, {$1})\nchoice 4 2\norbit ($0, {$1})\nchoice 7 7\n", 0, [
-        ("an orbit of the order", "orbits 2", "orbits 3\norbit ($0, {$1})\nchoice 2 4"),
-        ("an orbit twice", "choice 7 7", "choice 7 8"),
-        ("an orbit missing", "orbits 2\norbit ($0, {$1})\nchoice 4 2\n", "orbits 1\n")]),
+    (("census", "s"), UNORDERED, "case 1\norbits 2\norbit ($0, {$1})\nchoice 0 1\norbit ($0, {$1})\nchoice 0 0\n", 0, [
+        ("numbers of the order", "choice 0 1", "choice 1 0"),
+        ("an orbit twice", "choice 0 0", "choice 0 1"),
+        ("an orbit missing", "orbits 2\norbit ($0, {$1})\nchoice 0 1\n", "orbits 1\n")]),
     (("picture", "m"), GRAPHS, STATE_GRAPH, 0, [
         ("an edge turned", "n2 -> n3", "n3 -> n2"), ("another node", "n1 -> n2", "n1 -> n3"),
         ("a mark too many", "'same\", peri", "'same\", style=bold, peri"), ("a mark missing", ", style=bold", ""),
