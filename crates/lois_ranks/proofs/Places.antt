@@ -21,9 +21,6 @@ at_or_last : (i n : ℕ) → i < n + 1 → (i < n) ⊎ (i ≡ n)
 at_or_last i n l = grind arith
 
 -- ---- one number more
-pub places_none : (values : List ℕ) → ArePlaces values [] []
-places_none values = record { count = refl; stand = λ i l. absurd (omega (arith, l)) }
-
 pub places_more : (values xs ps : List ℕ) (x p : ℕ) → ArePlaces values xs ps → StandsAt values x p → ArePlaces values (xs ++ x ∷ []) (ps ++ p ∷ [])
 places_more values xs ps x p h s = record {
   count = omega (arith, length_push xs x, length_push ps p, h.count);
@@ -72,15 +69,6 @@ different_more values x h none i k l m e =
     go (inl a) (inr b) = absurd (none (contained values i x a (sym (old i a) ∙ (e ∙ last k b))))
     go (inr a) (inl b) = absurd (none (contained values k x b (sym (old k b) ∙ (sym e ∙ last i a))))
     go (inr a) (inr b) = a ∙ sym b
-
-pub numbering_none : IsNumbering [] [] []
-numbering_none = record {
-  different = λ i k l m e. absurd (omega (arith, l));
-  stand = places_none [];
-  turn = λ i k l m. absurd (omega (arith, l));
-  used = λ k l. absurd (omega (arith, l));
-  short = omega arith;
-}
 
 pub numbering_more : (xs values ps new : List ℕ) (x p : ℕ) → IsNumbering xs values ps → IsPlacedIn values x new p → IsNumbering (xs ++ x ∷ []) new (ps ++ p ∷ [])
 numbering_more xs values ps new x p h (inl (same, s)) = subst (λ z. IsNumbering (xs ++ x ∷ []) z (ps ++ p ∷ [])) (sym same) (record {
