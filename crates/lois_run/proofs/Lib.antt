@@ -9,3 +9,4 @@ pub mod Compared
 pub mod Counted
 pub mod Sure
 pub mod MadeRuns
+pub mod OldAgree
