@@ -9,4 +9,3 @@ pub mod Compared
 pub mod Counted
 pub mod Sure
 pub mod MadeRuns
-pub mod OldAgree

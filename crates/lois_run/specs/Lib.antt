@@ -9,5 +9,4 @@ pub mod Run
 pub mod Lines
 pub mod Services
 pub mod Causes
-pub mod OldCauses
 pub mod Laws

@@ -8,10 +8,3 @@ pub fn refusals_are_sure()
     ensures sure { RefusalsAreSure }
     ensures no_script { RefusedSpellNone }
 {}
-
-ghost use Rattle.lois_run.specs.OldCauses.{TablesAgree};
-
-/// The tables over command and outcome follow from the records of the commands, and the records from the tables.
-pub fn tables_agree()
-    ensures agree { TablesAgree }
-{}
