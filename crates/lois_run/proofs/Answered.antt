@@ -117,8 +117,8 @@ module _ (text : List ℕ) where
         record {
           cause = (s, spells, scoped, all);
           promise = record {
-            runs = λ other g. inl (inl tt);
-            completes = λ other g fine. inl tt;
+            runs = λ other g. inl (inl (r, refl));
+            completes = λ other g fine. inl (r, refl);
             fails = λ other g some. absurd (never_fails r h (subst FailsSomewhere (only_one other g.spelled) some));
             right = λ other g. subst (λ x. Completes x r) (sym (only_one other g)) all;
           };
@@ -135,9 +135,9 @@ module _ (text : List ℕ) where
     failed t h kind = record {
       cause = (s, spells, scoped, h);
       promise = record {
-        runs = λ other g. inl (inr tt);
+        runs = λ other g. inl (inr (t, refl));
         completes = λ other g fine. absurd (fine (subst FailsSomewhere (sym (only_one other g.spelled)) (fails_there t h)));
-        fails = λ other g some. inl tt;
+        fails = λ other g some. inl (t, refl);
         right = λ other g. subst (λ x. NamesFailure text x t) (sym (only_one other g)) h;
       };
       kind = tt;

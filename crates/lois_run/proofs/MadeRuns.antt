@@ -31,7 +31,7 @@ CompletedWith n o r = (o ≡ Completed r) × AreResultsOf (made_tree n) r × Has
 
 counted : (n : ℕ) (o : Outcome) → IsCompleted o → IsRight (made_script n) (made_tree n) o → (r : Results) × CompletedWith n o r
 counted n (Completed r) is right = (r, (refl, right.results, results_have_made_counts n r right.results))
-counted n _ is right = absurd is
+counted n _ (r, e) right = absurd (cc e)
 
 -- What keeps the headline for the made script completes, with the made script's counts, or is a read fault.
 pub made_completes : (n : ℕ) → n ≤ 10000 → (fault : Type 0) (o : Outcome) → Headline (made_script n) fault o →

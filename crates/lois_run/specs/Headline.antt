@@ -47,12 +47,10 @@ FailsSomewhere s =
     (choice : List Atom) × IsChoiceOf s choice × (at : ℕ) × (kind : FaultKind) × (path : NamedValues) × ScriptFails s choice at kind path
 
 abbrev pub IsCompleted : Outcome → Type 0
-IsCompleted (Completed r) = Unit {0}
-IsCompleted _ = ⊥
+IsCompleted o = (r : Results) × (o ≡ Completed r)
 
 abbrev pub IsFailed : Outcome → Type 0
-IsFailed (Failed t) = Unit {0}
-IsFailed _ = ⊥
+IsFailed o = (t : Trace) × (o ≡ Failed t)
 
 abbrev pub UnlessReadFault : Type 0 → Type 0 → Outcome → Type 0
 UnlessReadFault ran fault o = ran ⊎ ((o ≡ ReadFault) × fault)

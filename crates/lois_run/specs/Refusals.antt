@@ -48,14 +48,25 @@ SyntaxTells text tokens (WideTuple k) refusal = IsSyntax text tokens 3 k refusal
 SyntaxTells text tokens (TurnsTooMany k) refusal = IsSyntax text tokens 4 k refusal
 SyntaxTells text tokens _ refusal = ⊥
 
--- The text is refused so: at its first place without a token, at the least token at fault, or at the first break of a rule of
--- scope. A text that is too long isn't looked at, and a script isn't read as anything else.
-abbrev pub IsRefusedAs : List ℕ → Refusal → Type 0
-IsRefusedAs text (Lexical n place) = (error : LexError) × LexRefuses text error × LexicalTells text error (Lexical n place)
-IsRefusedAs text (Syntax n place) =
+-- a place of the text has no token
+abbrev pub HasNoTokens : List ℕ → ℕ → Place → Type 0
+HasNoTokens text n place = (error : LexError) × LexRefuses text error × LexicalTells text error (Lexical n place)
+
+-- the tokens of the text are no script, at the least one at fault
+abbrev pub HasNoScript : List ℕ → ℕ → Place → Type 0
+HasNoScript text n place =
     (tokens : List Token) × (error : SyntaxError) × HasTokens text tokens × SyntaxRefuses (tokens_in text tokens) error × SyntaxTells text tokens error (Syntax n place)
-IsRefusedAs text (Scope n place) =
+
+-- the text spells a script, of which this rule is the first to be broken
+abbrev pub BreaksRule : List ℕ → ℕ → Place → Type 0
+BreaksRule text n place =
     (s : ScriptD) × (rule : RuleD) × (at : ℕ) × Spells text s × BreaksFirst s rule at × (n ≡ rule_number rule) × IsPlaceOf text at place
+
+-- The text is refused so, as a script. A text that is too long isn't looked at, and a script isn't read as anything else.
+abbrev pub IsRefusedAs : List ℕ → Refusal → Type 0
+IsRefusedAs text (Lexical n place) = HasNoTokens text n place
+IsRefusedAs text (Syntax n place) = HasNoScript text n place
+IsRefusedAs text (Scope n place) = BreaksRule text n place
 IsRefusedAs text _ = ⊥
 
 -- no sound results and no sound trace
