@@ -1,5 +1,5 @@
 -- The answer to a text.
-use Rattle.std.proofs.Common.{◌≡◌, ◌≢◌, ℕ, ◌≤◌, List, Option, Result, Ok, Err, IfOk, length, take, sym, ap, subst, inl, inr, arith}
+use Rattle.std.proofs.Common.{◌≡◌, ◌≢◌, ℕ, ◌≤◌, List, Option, Result, Ok, Err, IfOk, length, take, refl, sym, ap, subst, inl, inr, arith}
 use Rattle.std.proofs.lemmas.List.{length-map, length-take}
 use Rattle.lois_base.specs.Atom.{whole}
 use Rattle.lois_base.specs.Truth.{sampled}
@@ -8,8 +8,9 @@ use Rattle.lois_base.specs.declared.memory.NoMemory.{NoMemory}
 use Rattle.lois_lexer.specs.Tokens.{HasTokens}
 use Rattle.lois_lexer.specs.declared.Token.{Token}
 use Rattle.lois_script.specs.Limits.{Spells}
-use Rattle.lois_script.specs.Scope.{IsWellScoped}
+use Rattle.lois_script.specs.Scope.{IsWellScoped, unknown, again, outer_assign, print_in_loop, order_in_equality}
 use Rattle.lois_script.specs.Tree.{ScriptD}
+use Rattle.lois_script.specs.declared.script.Script.{Script}
 use Rattle.lois_answers.specs.declared.faults.Trace.{Trace}
 use Rattle.lois_answers.specs.declared.results.Results.{Results}
 use Rattle.lois_meaning.proofs.TheLaws.{never_both}
@@ -25,14 +26,14 @@ use Rattle.lois_syntax.proofs.OneStatement.{one_script_of_text}
 use Rattle.lois_run.specs.Causes.{AnswersText}
 use Rattle.lois_run.specs.Headline.{Completes, NamesFailure, FailsSomewhere, Headline}
 use Rattle.lois_run.specs.Outcomes.{HasCauseNumber, HasText}
-use Rattle.lois_run.specs.Read.{IsReadOf, SpellsNone}
-use Rattle.lois_run.specs.Refusals.{SyntaxTells, ScopeTells, IsRefusedAs}
+use Rattle.lois_run.specs.Read.{IsReadOf, SpellsNone, ScopeTells}
+use Rattle.lois_run.specs.Refusals.{SyntaxTells, IsRefusedAs}
 use Rattle.lois_run.specs.Run.{IsRunOf}
 use Rattle.lois_run.specs.declared.outcomes.Outcome.{Outcome}
-use Rattle.lois_run.specs.declared.outcomes.Outcome.TheVariants.{Completed, Failed, Refused}
+use Rattle.lois_run.specs.declared.outcomes.Outcome.TheVariants.{Completed, Failed, Checked, Refused}
 use Rattle.lois_run.specs.declared.outcomes.Refusal.{Refusal}
 use Rattle.lois_run.specs.declared.outcomes.Refusal.TheVariants.{Lexical, Syntax, Scope}
-use Rattle.lois_run.specs.declared.reading.Read.TheVariants.{Refused as NotRead}
+use Rattle.lois_run.specs.declared.reading.Read.TheVariants.{Script as WasRead, Refused as NotRead}
 use Rattle.lois_run.specs.declared.words.Command.TheVariants.{Run, Check}
 
 -- ---- refusals
@@ -48,11 +49,11 @@ syntax_refused text ts (TurnsTooMany k) (Syntax n p) cut refuses told = ((ts, Tu
 syntax_refused text ts _ _ cut refuses told = absurd told
 
 pub scope_refused : (text : List ℕ) (s : ScriptD) (error : ScopeError) (r : Refusal) → Spells text s → ScopeRefuses s error → ScopeTells text error r → IsRefusedAs text r × HasCauseNumber r
-scope_refused text s (Unknown q) (Scope n p) spells refuses told = ((s, Unknown q, spells, refuses, told), one_of n 1 5 told.0 (omega arith) (omega arith))
-scope_refused text s (Again q) (Scope n p) spells refuses told = ((s, Again q, spells, refuses, told), one_of n 2 5 told.0 (omega arith) (omega arith))
-scope_refused text s (OuterAssign q) (Scope n p) spells refuses told = ((s, OuterAssign q, spells, refuses, told), one_of n 3 5 told.0 (omega arith) (omega arith))
-scope_refused text s (PrintInLoop q) (Scope n p) spells refuses told = ((s, PrintInLoop q, spells, refuses, told), one_of n 4 5 told.0 (omega arith) (omega arith))
-scope_refused text s (OrderInEquality q) (Scope n p) spells refuses told = ((s, OrderInEquality q, spells, refuses, told), one_of n 5 5 told.0 (omega arith) (omega arith))
+scope_refused text s (Unknown q) (Scope n p) spells refuses told = ((s, unknown, q.offset, spells, refuses, told.0, told.1), one_of n 1 5 told.0 (omega arith) (omega arith))
+scope_refused text s (Again q) (Scope n p) spells refuses told = ((s, again, q.offset, spells, refuses, told.0, told.1), one_of n 2 5 told.0 (omega arith) (omega arith))
+scope_refused text s (OuterAssign q) (Scope n p) spells refuses told = ((s, outer_assign, q.offset, spells, refuses, told.0, told.1), one_of n 3 5 told.0 (omega arith) (omega arith))
+scope_refused text s (PrintInLoop q) (Scope n p) spells refuses told = ((s, print_in_loop, q.offset, spells, refuses, told.0, told.1), one_of n 4 5 told.0 (omega arith) (omega arith))
+scope_refused text s (OrderInEquality q) (Scope n p) spells refuses told = ((s, order_in_equality, q.offset, spells, refuses, told.0, told.1), one_of n 5 5 told.0 (omega arith) (omega arith))
 scope_refused text s _ _ spells refuses told = absurd told
 
 -- an error that is told is never want of memory
@@ -88,13 +89,16 @@ module _ (text : List ℕ) where
   refused_is_run r (why, none, number) kind = refused_run kind r why none
 
   refused_check : (r : Refusal) → IsRefusedAs text r → SpellsNone text → AnswersText Check text (Refused r)
-  refused_check (Lexical n p) why none = record { cause = why; promise = λ l s h w. absurd (none s h w); kind = tt }
-  refused_check (Syntax n p) why none = record { cause = why; promise = λ l s h w. absurd (none s h w); kind = tt }
-  refused_check (Scope n p) why none = record { cause = why; promise = λ l s h w. absurd (none s h w); kind = tt }
+  refused_check (Lexical n p) why none = record { cause = why; promise = λ l s h. absurd (none s h.0 h.1); kind = tt }
+  refused_check (Syntax n p) why none = record { cause = why; promise = λ l s h. absurd (none s h.0 h.1); kind = tt }
+  refused_check (Scope n p) why none = record { cause = why; promise = λ l s h. absurd (none s h.0 h.1); kind = tt }
   refused_check _ why none = absurd why
 
   pub refused_is_checked : (r : Refusal) → IsReadOf text (NotRead r) → AnswersText Check text (Refused r)
   refused_is_checked r (why, none, number) = refused_check r why none
+
+  pub checked_is_answered : (scoped script : Script) → IsReadOf text (WasRead scoped) → script ≡ scoped → AnswersText Check text (Checked script)
+  checked_is_answered scoped script read same = subst (λ (x : Script). AnswersText Check text (Checked x)) (sym same) (record { cause = (scoped, read, refl); promise = λ l s h. inl (scoped, read, refl); kind = tt })
 
   module _ (s : ScriptD) (spells : Spells text s) (scoped : IsWellScoped s) where
     -- the text spells no other script
@@ -113,8 +117,8 @@ module _ (text : List ℕ) where
         record {
           cause = (s, spells, scoped, all);
           promise = record {
-            runs = λ other g. inl (inl tt);
-            completes = λ other g fine. inl tt;
+            runs = λ other g. inl (inl (r, refl));
+            completes = λ other g fine. inl (r, refl);
             fails = λ other g some. absurd (never_fails r h (subst FailsSomewhere (only_one other g.spelled) some));
             right = λ other g. subst (λ x. Completes x r) (sym (only_one other g)) all;
           };
@@ -131,9 +135,9 @@ module _ (text : List ℕ) where
     failed t h kind = record {
       cause = (s, spells, scoped, h);
       promise = record {
-        runs = λ other g. inl (inr tt);
+        runs = λ other g. inl (inr (t, refl));
         completes = λ other g fine. absurd (fine (subst FailsSomewhere (sym (only_one other g.spelled)) (fails_there t h)));
-        fails = λ other g some. inl tt;
+        fails = λ other g some. inl (t, refl);
         right = λ other g. subst (λ x. NamesFailure text x t) (sym (only_one other g)) h;
       };
       kind = tt;

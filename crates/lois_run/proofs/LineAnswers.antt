@@ -1,5 +1,5 @@
 -- What the commands about results and register automata answer.
-use Rattle.std.proofs.Common.{◌≡◌, ℕ, suc, Bool, List, [], ◌∷◌, codes, length, filter, sym, subst, inl}
+use Rattle.std.proofs.Common.{◌≡◌, ℕ, suc, Bool, List, [], ◌∷◌, codes, length, filter, refl, sym, subst, inl}
 use Rattle.std.specs.List.{All, AllZip}
 use Rattle.std.proofs.lemmas.List.Elements.{All-head, All-tail, All-cons, All-nil, All-filter}
 use Rattle.lois_answers.specs.ResultsData.{CaseD}
@@ -32,7 +32,7 @@ use Rattle.lois_registers.specs.declared.RegistersError.TheVariants.{NotRegister
 use Rattle.lois_registers.specs.declared.automata.Registers.{Registers as Automaton}
 use Rattle.lois_run.specs.Causes.{AnswersText}
 use Rattle.lois_command.specs.NoResults.{IsNoResults}
-use Rattle.lois_run.specs.Lines.{compared_outcome, listed_outcome}
+use Rattle.lois_run.specs.Lines.{Translates, compared_outcome, listed_outcome}
 use Rattle.lois_run.specs.declared.outcomes.Outcome.TheVariants.{Refused, Translated}
 use Rattle.lois_command.specs.Places.{IsPlaceOf}
 use Rattle.lois_run.specs.declared.outcomes.Refusal.TheVariants.{NotRegisters, NotResults}
@@ -43,22 +43,20 @@ module _ (text : List ℕ) where
   no_results place (k, none, at) r h = none.none r h
 
   pub no_comparison : (a b : List ℕ) (place : Place) → IsNoResults text place → AnswersText (Equal a b) text (Refused (NotResults place))
-  no_comparison a b place none = record { cause = none; promise = λ l r h. absurd (no_results place none r h); kind = tt }
+  no_comparison a b place none = record { cause = inl (place, none, refl); promise = λ l r h. absurd (no_results place none r h); kind = tt }
 
   pub no_census : (name : List ℕ) (place : Place) → IsNoResults text place → AnswersText (Census name) text (Refused (NotResults place))
-  no_census name place none = record { cause = none; promise = λ l r h. absurd (no_results place none r h); kind = tt }
+  no_census name place none = record { cause = inl (place, none, refl); promise = λ l r h. absurd (no_results place none r h); kind = tt }
 
   pub translated_is_answered : (r : Automaton) (s : Results) → IsRegistersOf text r → s.order ≡ r.order → s.parameters ≡ []
       → ((t : TermD) × (s.cases ≡ record { «when» = [] ∷ []; lines = record { name = codes "automaton"; term = t } ∷ [] } ∷ []) × IsTranslatedTo r t × IsWrittenFrom r t) → IsSound s
       → AnswersText Registers text (Translated s)
-  translated_is_answered r s read order none (t, is, translated, written) sound = record {
-    cause = record { automaton = r; read = read; term = t; translated = translated; written = written; structure = order; parameters = none; case = is; sound = sound };
-    promise = λ l q h. inl tt;
-    kind = tt;
-  }
+  translated_is_answered r s read order none (t, is, translated, written) sound =
+      let all : Translates text s = record { automaton = r; read = read; term = t; translated = translated; written = written; structure = order; parameters = none; case = is; sound = sound } in
+      record { cause = (s, all, refl); promise = λ l q h. inl (s, all, refl); kind = tt }
 
   pub no_translation : (k : ℕ) (place : Place) → SpellsNoRegisters text (NoRegisters k) → IsFaultPlace text (NoRegisters k) → IsPlaceOf text k place → AnswersText Registers text (Refused (NotRegisters place))
-  no_translation k place none is at = record { cause = (k, (none, is), at); promise = λ l r h. absurd (none r h); kind = tt }
+  no_translation k place none is at = record { cause = (place, (k, (none, is), at), refl); promise = λ l r h. absurd (none r h); kind = tt }
 
 -- ---- what is found can be written
 

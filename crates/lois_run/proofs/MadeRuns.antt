@@ -11,7 +11,7 @@ use Rattle.lois_make.proofs.MadeResults.{results_have_made_counts}
 use Rattle.lois_make.proofs.MadeScoped.{made_is_well_scoped}
 use Rattle.lois_make.proofs.MadeScript.{script_length}
 use Rattle.lois_make.proofs.MadeSpelled.{made_is_spelled}
-use Rattle.lois_run.specs.Headline.{FailsSomewhere, IsCompleted, IsRight, IsRunOrFault, IsToRun, Headline}
+use Rattle.lois_run.specs.Headline.{FailsSomewhere, IsCompleted, IsRight, UnlessReadFault, IsToRun, Headline}
 use Rattle.lois_run.specs.declared.outcomes.Outcome.{Outcome}
 use Rattle.lois_run.specs.declared.outcomes.Outcome.TheVariants.{Completed}
 
@@ -31,13 +31,13 @@ CompletedWith n o r = (o ≡ Completed r) × AreResultsOf (made_tree n) r × Has
 
 counted : (n : ℕ) (o : Outcome) → IsCompleted o → IsRight (made_script n) (made_tree n) o → (r : Results) × CompletedWith n o r
 counted n (Completed r) is right = (r, (refl, right.results, results_have_made_counts n r right.results))
-counted n _ is right = absurd is
+counted n _ (r, e) right = absurd (cc e)
 
 -- What keeps the headline for the made script completes, with the made script's counts, or is a read fault.
 pub made_completes : (n : ℕ) → n ≤ 10000 → (fault : Type 0) (o : Outcome) → Headline (made_script n) fault o →
-    IsRunOrFault ((r : Results) × CompletedWith n o r) fault o
+    UnlessReadFault ((r : Results) × CompletedWith n o r) fault o
 made_completes n few fault o h = go (h.completes (made_tree n) (made_is_to_run n few) (made_fails_nowhere n))
   where
-    go : IsRunOrFault (IsCompleted o) fault o → IsRunOrFault ((r : Results) × CompletedWith n o r) fault o
+    go : UnlessReadFault (IsCompleted o) fault o → UnlessReadFault ((r : Results) × CompletedWith n o r) fault o
     go (inl is) = inl (counted n o is (h.right (made_tree n) (made_is_spelled n)))
     go (inr read) = inr read

@@ -1,6 +1,5 @@
 -- What is refused comes to that refusal alone.
-use Rattle.std.proofs.Common.{◌≡◌, ℕ, List, Option, Some, refl, sym, ap, length, ◌∙◌, ◌⊎◌, inl, inr, subst, ⊎_elim, arith}
-use Rattle.std.proofs.lemmas.Bool.{cases_lt}
+use Rattle.std.proofs.Common.{◌≡◌, ℕ, List, Option, sym, ap, length, ◌∙◌, ◌⊎◌, inl, inr, subst}
 use Rattle.lois_base.specs.declared.deciding.Kind.{Kind}
 use Rattle.lois_lexer.proofs.OneReading.{one_list, one_refusal as one_lexical, never_both as tokens_or_refusal}
 use Rattle.lois_lexer.specs.Tokens.{HasTokens}
@@ -9,18 +8,15 @@ use Rattle.lois_lexer.specs.declared.LexError.TheVariants.{BadByte, LongName, Ba
 use Rattle.lois_lexer.specs.declared.Place.{Place}
 use Rattle.lois_lexer.specs.declared.Token.{Token}
 use Rattle.lois_script.specs.Limits.{Spells}
-use Rattle.lois_script.specs.Scope.{RuleD, rule_number, ScriptBreaks, IsWellScoped, BreaksFirst, unknown, again, outer_assign, print_in_loop, order_in_equality}
+use Rattle.lois_script.specs.Scope.{RuleD, rule_number, ScriptBreaks, IsWellScoped, BreaksFirst}
 use Rattle.lois_script.specs.Tree.{ScriptD}
 use Rattle.lois_answers.specs.declared.results.Results.{Results}
 use Rattle.lois_census.specs.Refusals.{IsCensusAnswer as IsCounted}
 use Rattle.lois_equal.specs.Comparing.{IsComparison}
-use Rattle.lois_reader.specs.Pieces.{Piece, answer_pieces, results_pieces}
+use Rattle.lois_reader.specs.Pieces.{answer_pieces}
 use Rattle.lois_reader.specs.Refusal.{IsAnswerOf, IsResultsOf}
-use Rattle.lois_reader.specs.Shape.{HasAnswerShape, SpellsAnswer, HasResultsShape, SpellsResults, LeavesShapeAt}
+use Rattle.lois_reader.specs.Shape.{HasAnswerShape, SpellsAnswer}
 use Rattle.lois_scope.proofs.First.{same_first}
-use Rattle.lois_scope.specs.Refusals.{IsScopeRefusal as ScopeRefuses}
-use Rattle.lois_scope.specs.declared.checking.ScopeError.{ScopeError}
-use Rattle.lois_scope.specs.declared.checking.ScopeError.TheVariants.{Unknown, Again, OuterAssign, PrintInLoop, OrderInEquality, NoMemory as ScopeMemory}
 use Rattle.lois_syntax.proofs.OneStatement.{one_script_of_text}
 use Rattle.lois_syntax.proofs.Refusing.{one_refusal as one_syntax, never_both as script_or_refusal}
 use Rattle.lois_syntax.specs.Refusals.{tokens_in, IsSyntaxRefusal as SyntaxRefuses}
@@ -28,18 +24,18 @@ use Rattle.lois_syntax.specs.declared.SyntaxError.{SyntaxError}
 use Rattle.lois_syntax.specs.declared.SyntaxError.TheVariants.{NoScript, TooNested, WideTuple, TurnsTooMany, NoMemory as SyntaxMemory}
 use Rattle.lois_run.specs.Causes.{IsRefusedBy, HasCause, IsOfText}
 use Rattle.lois_run.specs.Laws.{RefusalsAreSure}
-use Rattle.lois_run.specs.Read.{SpellsNone}
+use Rattle.lois_run.specs.Read.{SpellsNone, IsScope}
 use Rattle.lois_command.specs.NoResults.{IsNoResults}
 use Rattle.lois_command.proofs.OnePlace.{one_place, one_end, at_once, results_once, same_results}
 use Rattle.lois_registers.proofs.Unique.{one_place as one_line}
 use Rattle.lois_run.proofs.Compared.{compared_once}
 use Rattle.lois_run.proofs.Counted.{counted_once}
 use Rattle.lois_run.specs.Lines.{Compares, Lists, compared_outcome}
-use Rattle.lois_run.specs.Refusals.{token_place, IsLexical, LexicalTells, IsSyntax, SyntaxTells, IsScope, ScopeTells, IsRefusedAs, IsNoAnswer, IsNoAnswerAt, IsNoRegisters, IsNoRegistersAt}
+use Rattle.lois_run.specs.Refusals.{token_place, IsLexical, LexicalTells, IsSyntax, SyntaxTells, IsRefusedAs, IsNoAnswer, IsNoAnswerAt, IsNoRegisters, IsNoRegistersAt}
 use Rattle.lois_run.specs.declared.outcomes.Outcome.{Outcome}
-use Rattle.lois_run.specs.declared.outcomes.Outcome.TheVariants.{Completed, Failed, Reread as WrittenAgain, Checked, Made as WasMade, Same, Differ, Translated, Census as Listed, Refused, ReadFault, Usage}
+use Rattle.lois_run.specs.declared.outcomes.Outcome.TheVariants.{Completed, Failed, Made as WasMade, Refused, ReadFault, Usage}
 use Rattle.lois_run.specs.declared.outcomes.Refusal.{Refusal}
-use Rattle.lois_run.specs.declared.outcomes.Refusal.TheVariants.{TooLong, Lexical, Syntax, Scope, NotResults, NotRegisters, NoLine, NotDeterministic, HasParameters, NotASet}
+use Rattle.lois_run.specs.declared.outcomes.Refusal.TheVariants.{TooLong, Lexical, Syntax, Scope, NotResults, NotRegisters}
 use Rattle.lois_run.specs.declared.words.Command.TheVariants.{Run, Check, Reread, Make, Equal, Registers, Census}
 
 -- ---- one number, one place
@@ -72,14 +68,6 @@ syntax_told text tokens SyntaxMemory n m p q a b = absurd a
 abbrev FirstBreak : List ℕ → ScriptD → Refusal → Type 0
 FirstBreak text s r = (rule : RuleD) × (at : ℕ) × BreaksFirst s rule at × IsScope text (rule_number rule) at r
 
-first_break : (text : List ℕ) (s : ScriptD) (e : ScopeError) (r : Refusal) → ScopeRefuses s e → ScopeTells text e r → FirstBreak text s r
-first_break text s (Unknown x) r h a = (unknown, x.offset, h, a)
-first_break text s (Again x) r h a = (again, x.offset, h, a)
-first_break text s (OuterAssign x) r h a = (outer_assign, x.offset, h, a)
-first_break text s (PrintInLoop x) r h a = (print_in_loop, x.offset, h, a)
-first_break text s (OrderInEquality x) r h a = (order_in_equality, x.offset, h, a)
-first_break text s ScopeMemory r h a = absurd a
-
 scope_told : (text : List ℕ) (s : ScriptD) (n m : ℕ) (p q : Place) → FirstBreak text s (Scope n p) → FirstBreak text s (Scope m q) → Scope n p ≡ Scope m q
 scope_told text s n m p q (one, at, h, a) (other, there, g, b) =
     let e = same_first s one other at there h g in
@@ -96,10 +84,8 @@ module _ (text : List ℕ) where
   no_script n p (tokens, e, cut, refuses, told) s spells = script_or_refusal text tokens s e cut spells refuses
 
   not_scoped : (n : ℕ) (p : Place) → IsRefusedAs text (Scope n p) → (s : ScriptD) → Spells text s → IsWellScoped s → ⊥
-  not_scoped n p (t, e, spells, refuses, told) s spelled scoped =
-      let broken = first_break text t e (Scope n p) refuses told in
-      let rule = broken.0 in let at = broken.1 in
-      scoped rule at (subst (λ (x : ScriptD). ScriptBreaks x rule at) (one_script_of_text text t s spells spelled) broken.2.broken)
+  not_scoped n p (t, rule, at, spells, first, number, place) s spelled scoped =
+      scoped rule at (subst (λ (x : ScriptD). ScriptBreaks x rule at) (one_script_of_text text t s spells spelled) first.broken)
 
   pub refused_spell_none : (r : Refusal) → IsRefusedAs text r → SpellsNone text
   refused_spell_none (Lexical n p) why s spells scoped = no_tokens n p why spells.tokens spells.cut
@@ -119,19 +105,18 @@ module _ (text : List ℕ) where
       syntax_told text tokens f n m p q (subst (λ (x : SyntaxError). SyntaxTells text tokens x (Syntax n p)) (one_syntax (tokens_in text tokens) e f refuses refused_here) told) tells_here
 
   same_scope : (n m : ℕ) (p q : Place) → IsRefusedAs text (Scope n p) → IsRefusedAs text (Scope m q) → Scope n p ≡ Scope m q
-  same_scope n m p q (s, e, spells, refuses, told) (t, f, spelled, refused, tells) =
-      let other = first_break text t f (Scope m q) refused tells in
-      scope_told text s n m p q (first_break text s e (Scope n p) refuses told) (subst (λ (x : ScriptD). FirstBreak text x (Scope m q)) (one_script_of_text text t s spelled spells) other)
+  same_scope n m p q (s, rule, at, spells, first, number, place) (t, other, there, spelled, least, numbered, placed) =
+      scope_told text s n m p q (rule, at, first, (number, place)) (subst (λ (x : ScriptD). FirstBreak text x (Scope m q)) (one_script_of_text text t s spelled spells) (other, there, least, (numbered, placed)))
 
   same_refusal : (r q : Refusal) → IsRefusedAs text r → IsRefusedAs text q → q ≡ r
   same_refusal (Lexical n p) (Lexical m q) a b = same_lexical m n q p b a
   same_refusal (Lexical n p) (Syntax m q) a (tokens, e, cut, refuses, told) = absurd (no_tokens n p a tokens cut)
-  same_refusal (Lexical n p) (Scope m q) a (s, e, spells, refuses, told) = absurd (no_tokens n p a spells.tokens spells.cut)
+  same_refusal (Lexical n p) (Scope m q) a (s, rule, at, spells, first, number, place) = absurd (no_tokens n p a spells.tokens spells.cut)
   same_refusal (Syntax n p) (Lexical m q) (tokens, e, cut, refuses, told) b = absurd (no_tokens m q b tokens cut)
   same_refusal (Syntax n p) (Syntax m q) a b = same_syntax m n q p b a
-  same_refusal (Syntax n p) (Scope m q) a (s, e, spells, refuses, told) = absurd (no_script n p a s spells)
-  same_refusal (Scope n p) (Lexical m q) (s, e, spells, refuses, told) b = absurd (no_tokens m q b spells.tokens spells.cut)
-  same_refusal (Scope n p) (Syntax m q) (s, e, spells, refuses, told) b = absurd (no_script m q b s spells)
+  same_refusal (Syntax n p) (Scope m q) a (s, rule, at, spells, first, number, place) = absurd (no_script n p a s spells)
+  same_refusal (Scope n p) (Lexical m q) (s, rule, at, spells, first, number, place) b = absurd (no_tokens m q b spells.tokens spells.cut)
+  same_refusal (Scope n p) (Syntax m q) (s, rule, at, spells, first, number, place) b = absurd (no_script m q b s spells)
   same_refusal (Scope n p) (Scope m q) a b = same_scope m n q p b a
   same_refusal (Lexical n p) _ a b = absurd b
   same_refusal (Syntax n p) _ a b = absurd b
@@ -170,8 +155,7 @@ module _ (text : List ℕ) where
 
   reread_refusal : (r : Refusal) → IsOfText (Refused r) → IsRefusedBy Reread text r → (p : Place) × (r ≡ NotResults p) × IsNoAnswer text p
   reread_refusal TooLong is a = absurd is
-  reread_refusal (NotResults p) is a = (p, refl, a)
-  reread_refusal _ is a = absurd a
+  reread_refusal _ is (p, none, e) = (p, e, none)
 
   surely_run : (kind : Option Kind) (r : Refusal) (o : Outcome) → IsRefusedAs text r → IsOfText o → HasCause (Run kind) text o → o ≡ Refused r
   surely_run kind r (Completed results) a is (s, spells, scoped, answer) = absurd (never_runs r s a spells scoped)
@@ -183,22 +167,20 @@ module _ (text : List ℕ) where
   surely_run kind r _ a is b = absurd b
 
   surely_checked : (r : Refusal) (o : Outcome) → IsRefusedAs text r → IsOfText o → HasCause Check text o → o ≡ Refused r
-  surely_checked r (Checked script) a is (spells, scoped) = absurd (refused_spell_none r a _ spells scoped)
   surely_checked r (Refused q) a is b = ap Refused (same_refusal r q a (check_refusal q is b))
   surely_checked r (WasMade counts) a is b = absurd is
   surely_checked r ReadFault a is b = absurd is
   surely_checked r Usage a is b = absurd is
-  surely_checked r _ a is b = absurd b
+  surely_checked r _ a is (s, (spells, scoped), e) = absurd (refused_spell_none r a _ spells scoped)
 
   surely_reread : (p : Place) (o : Outcome) → IsNoAnswer text p → IsOfText o → HasCause Reread text o → o ≡ Refused (NotResults p)
-  surely_reread p (WrittenAgain answer) (k, none, at) is b = absurd (none.none answer b)
   surely_reread p (Refused q) a is b =
       let other = reread_refusal q is b in
       ap Refused (other.1 ∙ ap NotResults (same_answer p other.0 a other.2))
   surely_reread p (WasMade counts) a is b = absurd is
   surely_reread p ReadFault a is b = absurd is
   surely_reread p Usage a is b = absurd is
-  surely_reread p _ a is b = absurd b
+  surely_reread p _ (k, none, at) is (answer, holds, e) = absurd (none.none answer holds)
 
   -- ---- what is said of results
 
@@ -216,38 +198,21 @@ module _ (text : List ℕ) where
 
   equal_told : (first second : List ℕ) (o : Outcome) → IsOfText o → HasCause (Equal first second) text o → NoneOr (Compares first second text) o
   equal_told first second (Refused TooLong) is h = absurd is
-  equal_told first second (Refused (NotResults p)) is h = inl (p, refl, h)
-  equal_told first second (Refused (Lexical n p)) is h = inr h
-  equal_told first second (Refused (Syntax n p)) is h = inr h
-  equal_told first second (Refused (Scope n p)) is h = inr h
-  equal_told first second (Refused (NotRegisters p)) is h = inr h
-  equal_told first second (Refused (NoLine n k)) is h = inr h
-  equal_told first second (Refused (NotDeterministic n k)) is h = inr h
-  equal_told first second (Refused HasParameters) is h = inr h
-  equal_told first second (Refused (NotASet n k)) is h = inr h
-  equal_told first second Same is h = inr h
-  equal_told first second (Differ k d n ps) is h = inr h
+  equal_told first second (Refused _) is (inl (p, none, e)) = inl (p, ap Refused e, none)
+  equal_told first second (Refused _) is (inr h) = inr h
   equal_told first second (WasMade counts) is h = absurd is
   equal_told first second ReadFault is h = absurd is
   equal_told first second Usage is h = absurd is
-  equal_told first second _ is h = absurd h
+  equal_told first second _ is h = inr h
 
   census_told : (name : List ℕ) (o : Outcome) → IsOfText o → HasCause (Census name) text o → NoneOr (Lists name text) o
   census_told name (Refused TooLong) is h = absurd is
-  census_told name (Refused (NotResults p)) is h = inl (p, refl, h)
-  census_told name (Refused (Lexical n p)) is h = inr h
-  census_told name (Refused (Syntax n p)) is h = inr h
-  census_told name (Refused (Scope n p)) is h = inr h
-  census_told name (Refused (NotRegisters p)) is h = inr h
-  census_told name (Refused (NoLine n k)) is h = inr h
-  census_told name (Refused (NotDeterministic n k)) is h = inr h
-  census_told name (Refused HasParameters) is h = inr h
-  census_told name (Refused (NotASet n k)) is h = inr h
-  census_told name (Listed cs) is h = inr h
+  census_told name (Refused _) is (inl (p, none, e)) = inl (p, ap Refused e, none)
+  census_told name (Refused _) is (inr h) = inr h
   census_told name (WasMade counts) is h = absurd is
   census_told name ReadFault is h = absurd is
   census_told name Usage is h = absurd is
-  census_told name _ is h = absurd h
+  census_told name _ is h = inr h
 
   surely_compared : (first second : List ℕ) (r : Refusal) (o : Outcome) → Compares first second text (Refused r) → Compares first second text o → o ≡ Refused r
   surely_compared first second r o h g =
@@ -262,24 +227,26 @@ module _ (text : List ℕ) where
       let found = subst (λ (x : Results). IsCounted x.order x name g.answer) same g.found in
       g.told ∙ (counted_once h.results name h.results.order h.answer g.answer r h.found found h.told ∙ sym h.told)
 
+  make_refuses_none : (n : ℕ) (kind : Option Kind) (r : Refusal) → IsRefusedBy (Make n kind) text r → ⊥
+  make_refuses_none n kind TooLong h = h
+  make_refuses_none n kind _ h = h
+
   registers_refusal : (r : Refusal) → IsOfText (Refused r) → IsRefusedBy Registers text r → (p : Place) × (r ≡ NotRegisters p) × IsNoRegisters text p
   registers_refusal TooLong is a = absurd is
-  registers_refusal (NotRegisters p) is a = (p, refl, a)
-  registers_refusal _ is a = absurd a
+  registers_refusal _ is (p, none, e) = (p, e, none)
 
   surely_translated : (p : Place) (o : Outcome) → IsNoRegisters text p → IsOfText o → HasCause Registers text o → o ≡ Refused (NotRegisters p)
-  surely_translated p (Translated s) (k, none, at) is h = absurd (none.0 h.automaton h.read)
   surely_translated p (Refused q) a is b =
       let other = registers_refusal q is b in
       ap Refused (other.1 ∙ ap NotRegisters (same_registers p other.0 a other.2))
   surely_translated p (WasMade counts) a is b = absurd is
   surely_translated p ReadFault a is b = absurd is
   surely_translated p Usage a is b = absurd is
-  surely_translated p _ a is b = absurd b
+  surely_translated p _ (k, none, at) is (s, h, e) = absurd (none.0 h.automaton h.read)
 
 pub refusals_are_sure : RefusalsAreSure
 refusals_are_sure (Run kind) text r o of_text refused is cause = surely_run text kind r o (run_refusal text kind r of_text refused) is cause
-refusals_are_sure (Make n kind) text r o of_text refused is cause = absurd refused
+refusals_are_sure (Make n kind) text r o of_text refused is cause = absurd (make_refuses_none text n kind r refused)
 refusals_are_sure Check text r o of_text refused is cause = surely_checked text r o (check_refusal text r of_text refused) is cause
 refusals_are_sure Reread text r o of_text refused is cause =
     let why = reread_refusal text r of_text refused in

@@ -1,7 +1,7 @@
 -- The outcome of a call, by what became of the reading.
 use Rattle.std.proofs.Common.{◌≡◌, ℕ, ◌+◌, ◌≤◌, List, [], ◌++◌, length, refl, sym, ap, ◌∙◌, subst, ◌⊎◌, inl, inr, ◌↔◌, ◌&&◌, Bool, true, false, Option, Some, None, true≢false, arith, length-append, append-nil}
 use Rattle.std.specs.List.{All}
-use Rattle.std.specs.Prelude.{is_none, IfSome, IsSome, IsNone, IsTrue, IfOk, IfErr, Result, Ok, Err}
+use Rattle.std.specs.Prelude.{is_none, IfSome, IsSome, IsNone, IsTrue, IfOk, Result, Ok, Err}
 use Rattle.std.proofs.lemmas.Bool.{false≢true}
 use Rattle.lois_base.specs.declared.deciding.Kind.{Kind}
 use Rattle.lois_base.specs.declared.memory.NoMemory.{NoMemory}
@@ -11,7 +11,8 @@ use Rattle.lois_outside.specs.Reading.{TookAtMost, TookExactly, ReadsToEnd, Give
 use Rattle.lois_outside.specs.declared.reading.ReadError.TheVariants as unread
 use Rattle.lois_command.specs.Calls.{TakeRelation, GaveAtMost}
 use Rattle.lois_command.proofs.Given.{gave_nothing, more, exactly, given}
-use Rattle.lois_run.specs.Causes.{Serves, HasRead, HasTaken, HasCause, HasMadeResults, IsMadeBy, ReadsText, Promises, IsOutcomeOf, IsOfText, AnswersText}
+use Rattle.lois_run.specs.Causes.{Serves, HasRead, HasTaken, HasCause, ReadsText, Promises, IsOutcomeOf, IsOfText, AnswersText}
+use Rattle.lois_run.specs.Services.{HasMadeResults}
 use Rattle.lois_answers.specs.declared.faults.FaultKind.{FaultKind}
 use Rattle.lois_answers.specs.declared.faults.FaultKind.TheVariants.{Assertion, TurnLimit, DepthLimit, NotASet, NotAtoms, NotATuple, NoSuchPart, NotAutomaton, NotDeterministic, NotComplete}
 use Rattle.lois_run.specs.Outcomes.{made_counts, failure_status, status_of}
@@ -104,20 +105,8 @@ module _ {S : Type 0} (words : List (List ℕ)) (kinds : List Kind) (left : S �
   }
     where
       usage_cause : (c : Command) (at : Option (List ℕ)) → IfSome at (λ text. HasCause c text Usage)
-      usage_cause (Run kind) None = tt
-      usage_cause (Run kind) (Some text) = tt
-      usage_cause (Make n kind) None = tt
-      usage_cause (Make n kind) (Some text) = tt
-      usage_cause Check None = tt
-      usage_cause Check (Some text) = tt
-      usage_cause Reread None = tt
-      usage_cause Reread (Some text) = tt
-      usage_cause (Equal a b) None = tt
-      usage_cause (Equal a b) (Some text) = tt
-      usage_cause Registers None = tt
-      usage_cause Registers (Some text) = tt
-      usage_cause (Census a) None = tt
-      usage_cause (Census a) (Some text) = tt
+      usage_cause c None = tt
+      usage_cause c (Some text) = tt
 
   module _ (command : Command) (asks : Requests command words) (has : LacksDecider command kinds → ⊥) where
     no_usage : IsUsage words kinds → ⊥
@@ -135,7 +124,7 @@ module _ {S : Type 0} (words : List (List ℕ)) (kinds : List Kind) (left : S �
     made_is_told n kind is same made = record {
       usage = (λ e. absurd (made_is_not_usage (made_counts n) e), λ lacking. absurd (no_usage lacking));
       read_fault = λ e. absurd (made_is_not_fault (made_counts n) e);
-      read = (same, λ c a. for_command (λ d. IsMadeBy d (made_counts n)) counts c a);
+      read = (same, λ c a. for_command (λ d. HasCause d [] (WasMade (made_counts n)) × Promises d [] ⊥ (WasMade (made_counts n))) served_none c a);
       taken = ap left same;
       cause = λ c a. known (λ text. HasCause c text (WasMade (made_counts n))) (λ text. for_command (λ d. HasCause d text (WasMade (made_counts n))) (subst (λ d. HasCause d text (WasMade (made_counts n))) (sym is) (refl, made)) c a) before;
       made = λ m k a served. ap (λ j. WasMade (made_counts j)) (number_of (sym is ∙ one_command command (Make m k) words asks a));
@@ -143,8 +132,8 @@ module _ {S : Type 0} (words : List (List ℕ)) (kinds : List Kind) (left : S �
           (λ text. for_command (λ d. Promises d text (Rose faults_before faults_after) (WasMade (made_counts n))) (subst (λ d. Promises d text (Rose faults_before faults_after) (WasMade (made_counts n))) (sym is) refl) c a) before;
     }
       where
-        counts : IsMadeBy command (made_counts n)
-        counts = subst (λ d. IsMadeBy d (made_counts n)) (sym is) (refl, made)
+        served_none : HasCause command [] (WasMade (made_counts n)) × Promises command [] ⊥ (WasMade (made_counts n))
+        served_none = subst (λ d. HasCause d [] (WasMade (made_counts n)) × Promises d [] ⊥ (WasMade (made_counts n))) (sym is) ((refl, made), refl)
 
         number_of : {m : ℕ} {k : Option Kind} → Make n kind ≡ Make m k → n ≡ m
         number_of e = cc e
@@ -156,20 +145,11 @@ module _ {S : Type 0} (words : List (List ℕ)) (kinds : List Kind) (left : S �
     fault_promise : Rose faults_before faults_after → (c : Command) → ReadsText c → (text : List ℕ) → Promises c text (Rose faults_before faults_after) ReadFault
     fault_promise rose (Run kind) reads text = record { runs = λ s h. inr (refl, rose); completes = λ s h fine. inr (refl, rose); fails = λ s h some. inr (refl, rose); right = λ s h. tt }
     fault_promise rose (Make n kind) reads text = absurd reads
-    fault_promise rose Check reads text = λ l s h w. inr (refl, rose)
+    fault_promise rose Check reads text = λ l s h. inr (refl, rose)
     fault_promise rose Reread reads text = λ l answer h. inr (refl, rose)
     fault_promise rose (Equal a b) reads text = λ l results h. inr (refl, rose)
     fault_promise rose Registers reads text = λ l automaton h. inr (refl, rose)
     fault_promise rose (Census a) reads text = λ l results h. inr (refl, rose)
-
-    fault_cause : (c : Command) (text : List ℕ) → HasCause c text ReadFault
-    fault_cause (Run kind) text = tt
-    fault_cause (Make n kind) text = tt
-    fault_cause Check text = tt
-    fault_cause Reread text = tt
-    fault_cause (Equal a b) text = tt
-    fault_cause Registers text = tt
-    fault_cause (Census a) text = tt
 
     pub fault_is_told : ReadsText command → GivesUp takes LONGEST_TEXT from unread.ReadFault to → TookAtMost LONGEST_TEXT before after → Rose faults_before faults_after → IsOutcomeOf words kinds left faults takes from to ReadFault
     fault_is_told reads calls took rose = record {
@@ -177,7 +157,7 @@ module _ {S : Type 0} (words : List (List ℕ)) (kinds : List Kind) (left : S �
       read_fault = λ e. rose;
       read = calls;
       taken = took;
-      cause = λ c a. known (λ text. HasCause c text ReadFault) (fault_cause c) before;
+      cause = λ c a. known (λ text. HasCause c text ReadFault) (λ text. tt) before;
       made = λ n kind a served. no_make n kind reads a;
       promise = λ c a served. known (λ text. Promises c text (Rose faults_before faults_after) ReadFault) (fault_promise rose c (for_command ReadsText reads c a)) before;
     }
@@ -185,15 +165,6 @@ module _ {S : Type 0} (words : List (List ℕ)) (kinds : List Kind) (left : S �
     long_text : (text : List ℕ) (at : Option (List ℕ)) → TookExactly 1048577 (Some text) at → length text ≤ LONGEST_TEXT → ⊥
     long_text text None (bytes, took, count) l = took
     long_text text (Some rest) (bytes, took, count) l = omega (arith, l, count, ap length took, length-append bytes rest)
-
-    long_cause : (c : Command) → ReadsText c → (text : List ℕ) → HasCause c text (Refused TooLong)
-    long_cause (Run kind) reads text = tt
-    long_cause (Make n kind) reads text = absurd reads
-    long_cause Check reads text = tt
-    long_cause Reread reads text = tt
-    long_cause (Equal a b) reads text = tt
-    long_cause Registers reads text = tt
-    long_cause (Census a) reads text = tt
 
     long_promise : (c : Command) → ReadsText c → (from : Option (List ℕ)) → TookExactly 1048577 from after → IfSome from (λ text. Promises c text (Rose faults_before faults_after) (Refused TooLong))
     long_promise c reads None took = tt
@@ -204,7 +175,7 @@ module _ {S : Type 0} (words : List (List ℕ)) (kinds : List Kind) (left : S �
       fails = λ s h some. absurd (long_text text after took h.fits);
       right = λ s h. tt;
     }
-    long_promise Check reads (Some text) took = λ l s h w. absurd (long_text text after took l)
+    long_promise Check reads (Some text) took = λ l s h. absurd (long_text text after took l)
     long_promise Reread reads (Some text) took = λ l answer h. absurd (long_text text after took l)
     long_promise (Equal a b) reads (Some text) took = λ l results h. absurd (long_text text after took l)
     long_promise Registers reads (Some text) took = λ l automaton h. absurd (long_text text after took l)
@@ -216,7 +187,7 @@ module _ {S : Type 0} (words : List (List ℕ)) (kinds : List Kind) (left : S �
       read_fault = λ e. absurd (refused_is_not_fault e);
       read = calls;
       taken = took;
-      cause = λ c a. known (λ text. HasCause c text (Refused TooLong)) (long_cause c (for_command ReadsText reads c a)) before;
+      cause = λ c a. known (λ text. HasCause c text (Refused TooLong)) (λ text. for_command ReadsText reads c a) before;
       made = λ n kind a served. no_make n kind reads a;
       promise = λ c a served. long_promise c (for_command ReadsText reads c a) before took;
     }
@@ -250,7 +221,7 @@ module _ {S : Type 0} (words : List (List ℕ)) (kinds : List Kind) (left : S �
       right = h.right;
     }
     text_promise (Make n kind) text o h = h
-    text_promise Check text o h = λ l s sp w. no_fault o (h l s sp w)
+    text_promise Check text o h = λ l s is. no_fault o (h l s is)
     text_promise Reread text o h = λ l answer is. no_fault o (h l answer is)
     text_promise (Equal a b) text o h = λ l results is. no_fault o (h l results is)
     text_promise Registers text o h = λ l automaton is. no_fault o (h l automaton is)

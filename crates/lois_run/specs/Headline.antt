@@ -47,15 +47,13 @@ FailsSomewhere s =
     (choice : List Atom) × IsChoiceOf s choice × (at : ℕ) × (kind : FaultKind) × (path : NamedValues) × ScriptFails s choice at kind path
 
 abbrev pub IsCompleted : Outcome → Type 0
-IsCompleted (Completed r) = Unit {0}
-IsCompleted _ = ⊥
+IsCompleted o = (r : Results) × (o ≡ Completed r)
 
 abbrev pub IsFailed : Outcome → Type 0
-IsFailed (Failed t) = Unit {0}
-IsFailed _ = ⊥
+IsFailed o = (t : Trace) × (o ≡ Failed t)
 
-abbrev pub IsRunOrFault : Type 0 → Type 0 → Outcome → Type 0
-IsRunOrFault ran fault o = ran ⊎ ((o ≡ ReadFault) × fault)
+abbrev pub UnlessReadFault : Type 0 → Type 0 → Outcome → Type 0
+UnlessReadFault ran fault o = ran ⊎ ((o ≡ ReadFault) × fault)
 
 -- what completed or failed is that script
 abbrev pub IsRight : List ℕ → ScriptD → Outcome → Type 0
@@ -72,7 +70,7 @@ pub record IsToRun (text : List ℕ) (s : ScriptD) : Type 0 where
 -- For a text that was to be run. A fault is that the source's count of faults rose. Nothing fails and completes; that a script
 -- does one of the two isn't told by whether some choice fails, so it is said by itself.
 pub record Headline (text : List ℕ) (fault : Type 0) (o : Outcome) : Type 0 where
-  pub runs : (s : ScriptD) → IsToRun text s → IsRunOrFault (IsCompleted o ⊎ IsFailed o) fault o
-  pub completes : (s : ScriptD) → IsToRun text s → (FailsSomewhere s → ⊥) → IsRunOrFault (IsCompleted o) fault o
-  pub fails : (s : ScriptD) → IsToRun text s → FailsSomewhere s → IsRunOrFault (IsFailed o) fault o
+  pub runs : (s : ScriptD) → IsToRun text s → UnlessReadFault (IsCompleted o ⊎ IsFailed o) fault o
+  pub completes : (s : ScriptD) → IsToRun text s → (FailsSomewhere s → ⊥) → UnlessReadFault (IsCompleted o) fault o
+  pub fails : (s : ScriptD) → IsToRun text s → FailsSomewhere s → UnlessReadFault (IsFailed o) fault o
   pub right : (s : ScriptD) → Spells text s → IsRight text s o

@@ -7,5 +7,6 @@ pub mod Outcomes
 pub mod Headline
 pub mod Run
 pub mod Lines
+pub mod Services
 pub mod Causes
 pub mod Laws

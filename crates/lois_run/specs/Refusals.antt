@@ -7,13 +7,11 @@ use Rattle.lois_lexer.specs.declared.LexError.TheVariants.{BadByte, LongName, Ba
 use Rattle.lois_lexer.specs.declared.Place.{Place}
 use Rattle.lois_lexer.specs.declared.Token.{Token}
 use Rattle.lois_script.specs.Limits.{Spells}
+use Rattle.lois_script.specs.Scope.{RuleD, rule_number, BreaksFirst}
 use Rattle.lois_script.specs.Tree.{ScriptD}
 use Rattle.lois_reader.specs.Pieces.{answer_pieces}
 use Rattle.lois_reader.specs.Refusal.{IsAnswerOf}
 use Rattle.lois_reader.specs.Shape.{HasAnswerShape, SpellsAnswer}
-use Rattle.lois_scope.specs.Refusals.{IsScopeRefusal as ScopeRefuses}
-use Rattle.lois_scope.specs.declared.checking.ScopeError.{ScopeError}
-use Rattle.lois_scope.specs.declared.checking.ScopeError.TheVariants.{Unknown, Again, OuterAssign, PrintInLoop, OrderInEquality}
 use Rattle.lois_syntax.specs.Refusals.{tokens_in, IsSyntaxRefusal as SyntaxRefuses}
 use Rattle.lois_syntax.specs.declared.SyntaxError.{SyntaxError}
 use Rattle.lois_syntax.specs.declared.SyntaxError.TheVariants.{NoScript, TooNested, WideTuple, TurnsTooMany}
@@ -50,26 +48,25 @@ SyntaxTells text tokens (WideTuple k) refusal = IsSyntax text tokens 3 k refusal
 SyntaxTells text tokens (TurnsTooMany k) refusal = IsSyntax text tokens 4 k refusal
 SyntaxTells text tokens _ refusal = ⊥
 
-abbrev pub IsScope : List ℕ → ℕ → ℕ → Refusal → Type 0
-IsScope text number at (Scope n place) = (n ≡ number) × IsPlaceOf text at place
-IsScope text number at _ = ⊥
+-- a place of the text has no token
+abbrev pub HasNoTokens : List ℕ → ℕ → Place → Type 0
+HasNoTokens text n place = (error : LexError) × LexRefuses text error × LexicalTells text error (Lexical n place)
 
-abbrev pub ScopeTells : List ℕ → ScopeError → Refusal → Type 0
-ScopeTells text (Unknown p) refusal = IsScope text 1 p.offset refusal
-ScopeTells text (Again p) refusal = IsScope text 2 p.offset refusal
-ScopeTells text (OuterAssign p) refusal = IsScope text 3 p.offset refusal
-ScopeTells text (PrintInLoop p) refusal = IsScope text 4 p.offset refusal
-ScopeTells text (OrderInEquality p) refusal = IsScope text 5 p.offset refusal
-ScopeTells text _ refusal = ⊥
-
--- The text is refused so: at its first place without a token, at the least token at fault, or at the first break of a rule of
--- scope. A text that is too long isn't looked at, and a script isn't read as anything else.
-abbrev pub IsRefusedAs : List ℕ → Refusal → Type 0
-IsRefusedAs text (Lexical n place) = (error : LexError) × LexRefuses text error × LexicalTells text error (Lexical n place)
-IsRefusedAs text (Syntax n place) =
+-- the tokens of the text are no script, at the least one at fault
+abbrev pub HasNoScript : List ℕ → ℕ → Place → Type 0
+HasNoScript text n place =
     (tokens : List Token) × (error : SyntaxError) × HasTokens text tokens × SyntaxRefuses (tokens_in text tokens) error × SyntaxTells text tokens error (Syntax n place)
-IsRefusedAs text (Scope n place) =
-    (s : ScriptD) × (error : ScopeError) × Spells text s × ScopeRefuses s error × ScopeTells text error (Scope n place)
+
+-- the text spells a script, of which this rule is the first to be broken
+abbrev pub BreaksRule : List ℕ → ℕ → Place → Type 0
+BreaksRule text n place =
+    (s : ScriptD) × (rule : RuleD) × (at : ℕ) × Spells text s × BreaksFirst s rule at × (n ≡ rule_number rule) × IsPlaceOf text at place
+
+-- The text is refused so, as a script. A text that is too long isn't looked at, and a script isn't read as anything else.
+abbrev pub IsRefusedAs : List ℕ → Refusal → Type 0
+IsRefusedAs text (Lexical n place) = HasNoTokens text n place
+IsRefusedAs text (Syntax n place) = HasNoScript text n place
+IsRefusedAs text (Scope n place) = BreaksRule text n place
 IsRefusedAs text _ = ⊥
 
 -- no sound results and no sound trace

@@ -61,8 +61,8 @@ number_first (number ∷ option) = command_with_number (number_named number) (op
 
 -- the words behind `make`: an option, then a number
 abbrev pub number_last : List (List ℕ) → Option Command
-number_last (option ∷ number ∷ []) = command_with_number (number_named number) (option_named (option ∷ []))
-number_last (option ∷ kind ∷ number ∷ []) = command_with_number (number_named number) (option_named (option ∷ kind ∷ []))
+number_last (word ∷ number ∷ []) = command_with_number (number_named number) (option_named (word ∷ []))
+number_last (word ∷ kind ∷ number ∷ []) = command_with_number (number_named number) (option_named (word ∷ kind ∷ []))
 number_last _ = None
 
 -- a command that takes no further words

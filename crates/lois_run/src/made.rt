@@ -3,7 +3,7 @@
 ghost use Rattle.std.specs.Prelude.{◌≡◌, ◌≤◌, [], ◌∷◌, IfOk, IsSome};
 ghost use Rattle.lois_answers.specs.ResultsData.{CaseD, LineD};
 ghost use Rattle.lois_context.specs.Slots.{comps_in};
-ghost use Rattle.lois_run.specs.Causes.{HasMadeResults};
+ghost use Rattle.lois_run.specs.Services.{HasMadeResults};
 ghost use Rattle.lois_run.specs.Outcomes.{made_counts};
 ghost use Rattle.lois_run.specs.declared.outcomes.Outcome.TheVariants.{Made as WasMade};
 

@@ -5,8 +5,8 @@ ghost use Rattle.lois_lexer.specs.declared.LexError.{LexError};
 ghost use Rattle.lois_scope.specs.declared.checking.ScopeError.{ScopeError};
 ghost use Rattle.lois_syntax.specs.declared.SyntaxError.{SyntaxError};
 ghost use Rattle.lois_command.specs.Places.{IsPlaceOf};
-ghost use Rattle.lois_run.specs.Refusals.{token_place, LexicalTells, SyntaxTells, ScopeTells};
-ghost use Rattle.lois_run.specs.Read.{IsReadOf};
+ghost use Rattle.lois_run.specs.Refusals.{token_place, LexicalTells, SyntaxTells};
+ghost use Rattle.lois_run.specs.Read.{IsReadOf, ScopeTells};
 
 use crate::Refusal;
 use lois_base::NoMemory;

@@ -2,14 +2,14 @@ use Rattle.std.proofs.Common.{◌≡◌, ◌+◌, ◌*◌, inl, inr, None, lengt
 use Rattle.lois_answers.specs.declared.results.Results.{Results}
 use Rattle.lois_make.specs.MadeCounts.{HasMadeCounts}
 use Rattle.lois_make.specs.MadeScript.{made_script}
-use Rattle.lois_run.specs.Headline.{Headline, IsRunOrFault}
+use Rattle.lois_run.specs.Headline.{Headline, UnlessReadFault}
 use Rattle.lois_run.specs.declared.outcomes.Outcome.{Outcome}
 use Rattle.lois_run.specs.declared.outcomes.Outcome.TheVariants.{Completed, Made as WasMade}
 use Rattle.lois_run.proofs.MadeRuns.{made_completes}
 use Rattle.lois_run.proofs.made.run_make.Goals as goal
 
 -- no source is read, so nothing comes but this
-sure : {P : Type 0} (o : Outcome) → IsRunOrFault P ⊥ o → P
+sure : {P : Type 0} (o : Outcome) → UnlessReadFault P ⊥ o → P
 sure o (inl p) = p
 sure o (inr (e, none)) = absurd none
 
