@@ -136,7 +136,7 @@ module _ (a : Automaton) (nodes all_apart all_alike apart alike : PointValue) (r
   }
 
 -- ---- one round
-module _ (a : Automaton) (moves apart alike told apart' alike' : PointValue) (one : IsDeterministic a) (back : AreBackward a.steps moves) (targets : (w : PointValue) → IsIn w told ↔ ((p : PointValue) × IsIn p apart × LeadsTo moves p w)) (parted : IsPartition alike told apart' alike') (before : AreCompared a apart alike) where
+module _ (a : Automaton) (moves apart alike told apart' alike' : PointValue) (one : IsDeterministic a) (back : AreBackward a.steps moves) (only_led : (w : PointValue) → IsIn w told → (p : PointValue) × IsIn p apart × LeadsTo moves p w) (all_led : (p w : PointValue) → IsIn p apart → LeadsTo moves p w → IsIn w alike → IsIn w told) (parted : IsPartition alike told apart' alike') (before : AreCompared a apart alike) where
   -- one move back
   move_back : (x' x p q : PointValue) → IsPair x p q → LeadsTo moves x' x → (l p' q' : PointValue) × HasStep a p l p' × HasStep a q l q' × IsOrderedPair x' p' q'
   move_back x' x p q pair (y, i, lead) =
@@ -159,7 +159,7 @@ module _ (a : Automaton) (moves apart alike told apart' alike' : PointValue) (on
 
   now_differ : (x p q : PointValue) → IsIn x apart' → IsPair x p q → HaveSameWords a p q → ⊥
   now_differ x p q i pair same =
-      let t = (targets x).0 ((parted.inner x).0 i).1 in
+      let t = only_led x ((parted.inner x).0 i).1 in
       let m : (l p' q' : PointValue) × HasStep a p l p' × HasStep a q l q' × IsOrderedPair t.0 p' q' = move_back t.0 x p q pair t.2 in
       let after : HaveSameWords a m.1 m.2 = same_after a m.0 p q m.1 m.2 one m.3 m.4 same in
       elim m.5 [
@@ -185,7 +185,7 @@ module _ (a : Automaton) (moves apart alike told apart' alike' : PointValue) (on
     led = λ x x' p q l p' q' i pair sp sq pair'.
         let h = (parted.outer x).0 i in
         elim (before.led x x' p q l p' q' h.0 pair sp sq pair') [
-          | inl k ↦ absurd (h.1 ((targets x).1 (x', k, leads_back x x' p q l p' q' pair (before.ordered x p q h.0 pair) sp sq pair')))
+          | inl k ↦ absurd (h.1 (all_led x' x k (leads_back x x' p q l p' q' pair (before.ordered x p q h.0 pair) sp sq pair') h.0))
           | inr k ↦ parted.each x' k
         ];
   }

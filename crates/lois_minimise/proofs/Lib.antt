@@ -9,5 +9,6 @@ pub mod Partitioned
 pub mod Splits
 pub mod ClassTerms
 pub mod Matching
+pub mod OfShape
 pub mod StepMoves
 pub mod Quotients

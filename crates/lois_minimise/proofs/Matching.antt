@@ -19,9 +19,9 @@ use Rattle.lois_meaning.specs.Automata.{IsTriple}
 use Rattle.lois_meaning.proofs.Operations.{pair_both, pair_to}
 use Rattle.lois_meaning.proofs.Tuples.{triple_to}
 use Rattle.lois_relate.proofs.Parts.{comps_from, comps_are, no_comps_left, is_comp_of, IsCompOf}
-use Rattle.lois_automata.specs.Adding.{Adds, IsMadeOfTwo, IsPairOf}
+use Rattle.lois_automata.specs.Adding.{Adds, IsMadeOfOne, IsMadeOfTwo, IsPairOf}
 use Rattle.lois_automata.specs.Projections.{pair_of, triple_of}
-use Rattle.lois_automata.proofs.Adding.{first_split, first_none, second_split, second_none, two_among}
+use Rattle.lois_automata.proofs.Adding.{one_split, one_none, first_split, first_none, second_split, second_none, two_among}
 use Rattle.lois_automata.proofs.Written.{pair_term, triple_term}
 use Rattle.lois_minimise.specs.Classes.{HasStepOf, AreTransitions, AddsMatching, AddsTransition, AddsTransitions}
 
@@ -103,6 +103,28 @@ module _ (n : ℕ) (W M : List Atom → PointValue → Type 0) (F : Type 0) (A :
     operators = λ o a h. h;
     widths = λ u h. h;
   }
+
+-- ---- of each comprehension of a list, where X says what further operators have to be admitted
+module _ (R : List Atom → PointValue → PointValue → Type 0) (M : List Atom → PointValue → Type 0) (X : Bool → Type 0) (n : ℕ) (vs : List CompD) where
+  abbrev pub OnesMet : CompsD → CompsD → Type 0
+  OnesMet rest made = MatchingSoFar n (λ c. IsMadeOfOne (R c) (IsAmong rest c)) (λ c. IsMadeOfOne (R c) (IsAmong (comps_of vs) c)) M (ItemsFit n (comps_of vs)) (λ o. AdmitsItems o (comps_of vs) × X o) (ItemsHaveBoundedWidths (comps_of vs)) no_comps made
+
+  abbrev pub MatchesOnes : CompsD → Type 0
+  MatchesOnes made = AddsMatching n (λ c. IsMadeOfOne (R c) (IsAmong (comps_of vs) c)) M (ItemsFit n (comps_of vs)) (λ o. AdmitsItems o (comps_of vs) × X o) (ItemsHaveBoundedWidths (comps_of vs)) no_comps made
+
+  pub ones_met_begin : (items : List Comp) (made : List CompD) → map comp_of items ≡ vs → made ≡ [] → OnesMet (comps_from items 0) (comps_of made)
+  ones_met_begin items made e empty =
+      subst (λ z. OnesMet (comps_of z) (comps_of made)) (sym e) (subst (λ z. OnesMet (comps_of vs) (comps_of z)) (sym empty) (matching_begin n _ _ _ _ _ no_comps))
+
+  pub ones_met_more : (A : Bool → Type 0) (items : List Comp) (i : ℕ) (k : Comp) (made longer : CompsD) → map comp_of items ≡ vs → i < length items → k ≡ get_or items i k → ((o : Bool) → AdmitsComp o (comp_of k) × X o → A o) →
+      OnesMet (comps_from items i) made → AddsMatching n (λ c. IsMadeOfOne (R c) (IsCompMember (comp_of k) c)) M (CompFits n (comp_of k)) A (CompHasBoundedWidths (comp_of k)) made longer → OnesMet (comps_from items (i + 1)) longer
+  ones_met_more A items i k made longer e l is admits h add =
+      let of : IsCompOf vs k = is_comp_of items vs i k e l is in
+      matching_more n _ _ _ _ _ no_comps _ _ _ _ _ _ made longer (one_split R (comps_from items i) (comps_from items (i + 1)) (comp_of k) (comps_are items i k l is))
+      (λ f. of.fits n f) (λ o a. admits o (of.admits o a.0, a.1)) of.widths h add
+
+  pub ones_met_end : (items : List Comp) (i : ℕ) (made : CompsD) → length items ≤ i → OnesMet (comps_from items i) made → MatchesOnes made
+  ones_met_end items i made l h = matching_end n _ _ _ _ _ no_comps _ made (one_none R (comps_from items i) (no_comps_left items i l)) h
 
 -- ---- of a read and each class
 module _ (n : ℕ) (steps : TermD) (k : CompD) (qs : List CompD) (before : CompsD) where

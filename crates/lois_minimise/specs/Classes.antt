@@ -10,6 +10,7 @@ use Rattle.lois_meaning.specs.Automata.{Automaton, IsPair, IsTriple, IsAutomaton
 use Rattle.lois_meaning.specs.Kinds.{IsSetOf}
 use Rattle.lois_terms.specs.Shapes.{shape_of}
 use Rattle.lois_automata.specs.Adding.{Adds, IsMadeOfOne, IsMadeOfTwo, IsPairOf}
+use Rattle.lois_automata.specs.Built.{IsLedFrom}
 use Rattle.lois_automata.specs.Projections.{HasStepIn, five_of, automaton_at, pair_of}
 use Rattle.lois_automata.specs.Reachability.{LeadsTo}
 
@@ -110,6 +111,40 @@ AreBothWays pairs r =
 abbrev pub AreBackward : PointValue → PointValue → Type 0
 AreBackward steps v = (w : PointValue) → IsIn w v ↔ IsMadeOfTwo IsMoveBack (λ x. IsIn x steps) (λ y. IsIn y steps) w
 
+-- ---- members that may be left out
+-- of the values that W names those that M also names are added, and some of the others
+pub record AddsMatching (n : ℕ) (W M : List Atom → PointValue → Type 0) (F : Type 0) (A : Bool → Type 0) (U : Type 0) (before after : CompsD) : Type 0 where
+  pub only : (c : List Atom) → length c ≡ n → (w : PointValue) → IsAmong after c w → IsAmong before c w ⊎ W c w
+  pub kept : (c : List Atom) → length c ≡ n → (w : PointValue) → IsAmong before c w → IsAmong after c w
+  pub all : (c : List Atom) → length c ≡ n → (w : PointValue) → W c w → M c w → IsAmong after c w
+  pub levels : F → ItemsFit n before → ItemsFit n after
+  pub operators : (o : Bool) → A o → AdmitsItems o before → AdmitsItems o after
+  pub widths : U → ItemsHaveBoundedWidths before → ItemsHaveBoundedWidths after
+
+-- what the moves of k lead to from members of `held` is added, or at least what of it is in the set t
+abbrev pub AddsTold : ℕ → CompD → TermD → TermD → CompsD → CompsD → Type 0
+AddsTold n k held t =
+    AddsMatching n (λ c. IsMadeOfOne (IsLedFrom held c) (IsCompMember k c)) (λ c w. IsIn w (point t c)) (CompFits n k) (λ o. AdmitsComp o k × AdmitsTerm o held) (CompHasBoundedWidths k)
+
+-- r has only what moves lead to from members of `held`, and at least what of it is in the set t
+pub record AreTold (n : ℕ) (moves held t r : TermD) : Type 0 where
+  pub only : (c : List Atom) → length c ≡ n → (w : PointValue) → IsIn w (point r c) → (p : PointValue) × IsIn p (point held c) × LeadsTo (point moves c) p w
+  pub all : (c : List Atom) → length c ≡ n → (p w : PointValue) → IsIn p (point held c) → LeadsTo (point moves c) p w → IsIn w (point t c) → IsIn w (point r c)
+
+-- w is a pair whose first part has the shape s
+abbrev pub HasFirstOfShape : ℕ → PointValue → Type 0
+HasFirstOfShape s w = (p q : PointValue) × IsPair w p q × (shape_of p.term_of ≡ s)
+
+-- the members of k are added, or at least those pairs whose first part has the shape
+abbrev pub AddsOfShape : ℕ → ℕ → CompD → CompsD → CompsD → Type 0
+AddsOfShape n s k =
+    AddsMatching n (λ c. IsMadeOfOne IsSame (IsCompMember k c)) (λ _. HasFirstOfShape s) (CompFits n k) (λ o. AdmitsComp o k) (CompHasBoundedWidths k)
+
+-- r has only members of the set, and at least those pairs whose first part has the shape s
+pub record ArePairsOfShape (n s : ℕ) (pairs r : TermD) : Type 0 where
+  pub only : (c : List Atom) → length c ≡ n → (w : PointValue) → IsIn w (point r c) → IsIn w (point pairs c)
+  pub all : (c : List Atom) → length c ≡ n → (w : PointValue) → IsIn w (point pairs c) → HasFirstOfShape s w → IsIn w (point r c)
+
 -- ---- states with their classes
 -- x is the set of what p is led to
 abbrev pub IsSetOfLed : PointValue → PointValue → PointValue → Type 0
@@ -169,15 +204,6 @@ HasStepOf steps w = (q x l r z : PointValue) × IsTransition w q x l r z × HasS
 pub record AreTransitions (n : ℕ) (reads classes steps r : TermD) : Type 0 where
   pub only : (c : List Atom) → length c ≡ n → (w : PointValue) → IsIn w (point r c) → IsPairFrom (point reads c) (point classes c) w
   pub all : (c : List Atom) → length c ≡ n → (w : PointValue) → IsPairFrom (point reads c) (point classes c) w → HasStepOf (point steps c) w → IsIn w (point r c)
-
--- of the values that W names those that M also names are added, and some of the others
-pub record AddsMatching (n : ℕ) (W M : List Atom → PointValue → Type 0) (F : Type 0) (A : Bool → Type 0) (U : Type 0) (before after : CompsD) : Type 0 where
-  pub only : (c : List Atom) → length c ≡ n → (w : PointValue) → IsAmong after c w → IsAmong before c w ⊎ W c w
-  pub kept : (c : List Atom) → length c ≡ n → (w : PointValue) → IsAmong before c w → IsAmong after c w
-  pub all : (c : List Atom) → length c ≡ n → (w : PointValue) → W c w → M c w → IsAmong after c w
-  pub levels : F → ItemsFit n before → ItemsFit n after
-  pub operators : (o : Bool) → A o → AdmitsItems o before → AdmitsItems o after
-  pub widths : U → ItemsHaveBoundedWidths before → ItemsHaveBoundedWidths after
 
 -- so of the pairs of a member of the comprehension and one of the other, or of the list, those between whose states there is a step
 abbrev pub AddsTransition : ℕ → CompD → CompD → TermD → CompsD → CompsD → Type 0

@@ -8,11 +8,14 @@ ghost use Rattle.lois_base.specs.Tree.{tree, comp_of};
 ghost use Rattle.lois_base.specs.Validity.{AdmitsTerm, AdmitsComp, AdmitsItems, HasBoundedWidths, ItemsHaveBoundedWidths};
 ghost use Rattle.lois_base.specs.Values.{point};
 ghost use Rattle.lois_terms.specs.Guarded.{IsColl};
-ghost use Rattle.lois_minimise.specs.Classes.{AreClassed, AddsClass, IsClassTerm, IsSingletonOf};
+ghost use Rattle.lois_terms.specs.Shapes.{shape_of};
+ghost use Rattle.lois_minimise.specs.Classes.{AreClassed, ArePairsOfShape, AddsClass, AddsOfShape, IsClassTerm, IsSingletonOf};
 
+use crate::pairs::pair_of_terms;
 use lois_algebra::push_comp;
-use lois_automata::{insert_levels, pair, targets_from};
+use lois_automata::{insert_levels, pair_parts, targets_from};
 use lois_base::{Comp, Comps, Constraint, NoMemory, Structure, Term};
+use lois_terms::shape;
 use std::alloc::Global;
 
 /// Each member of the set `nodes` in a pair with its class: the set of the values that a pair of the set `alike` leads it to.
@@ -53,7 +56,8 @@ fn add_class<T: Structure>(
 {
     let class = class_of::<T>(alloc, &comp.item, alike, size, comp.binders)?;
     let guard = comp.guard.copy(alloc)?;
-    let item = pair(alloc, &comp.item, &class)?;
+    let own = comp.item.copy(alloc)?;
+    let item = pair_of_terms(alloc, own, class)?;
     push_comp(
         classes,
         Comp {
@@ -83,12 +87,48 @@ fn class_of<T: Structure>(
     ensures operators { IfOk result (λ r. (o : Bool) → AdmitsTerm o (tree item.now) → AdmitsItems o (comps_of alike.now) → AdmitsTerm o (tree r)) }
     ensures widths { IfOk result (λ r. ItemsHaveBoundedWidths (comps_of alike.now) → HasBoundedWidths (tree r)) }
 {
-    let pairs = Term::Coll(alike.copy(alloc)?);
+    let pairs = Term::Coll(pairs_of_shape(alloc, alike, item)?);
     let Term::Coll(raised) = insert_levels(alloc, &pairs, size, by)? else {
         unreachable!()
     };
     let own = single(alloc, item)?;
     targets_from::<T>(alloc, &raised, &own, size + by)
+}
+
+// The pairs whose first part has the shape of the term: no others lead on from its values.
+fn pairs_of_shape(alloc: Global, pairs: &Comps, t: &Term) -> Result<Comps, NoMemory>
+    ensures members { IfOk result (λ r. (n : ℕ) → ArePairsOfShape n (shape_of (tree t.now)) (coll (comps_of pairs.now)) (coll (comps_of r))) }
+    ensures levels { IfOk result (λ r. (n : ℕ) → ItemsFit n (comps_of pairs.now) → ItemsFit n (comps_of r)) }
+    ensures operators { IfOk result (λ r. (o : Bool) → AdmitsItems o (comps_of pairs.now) → AdmitsItems o (comps_of r)) }
+    ensures widths { IfOk result (λ r. ItemsHaveBoundedWidths (comps_of pairs.now) → ItemsHaveBoundedWidths (comps_of r)) }
+{
+    let wanted = shape(t);
+    let mut made = Comps::new(alloc);
+    for comp in pairs.as_slice() {
+        add_of_shape(alloc, &mut made, comp, wanted)?;
+    }
+    Ok(made)
+}
+
+fn add_of_shape(alloc: Global, made: &mut Comps, comp: &Comp, wanted: u64) -> Result<(), NoMemory>
+    ensures { OnOk result ((n : ℕ) → AddsOfShape n wanted (comp_of comp.now) (comps_of made.old) (comps_of made.new)) }
+{
+    let Some((first, _)) = pair_parts(&comp.item) else {
+        return Ok(());
+    };
+    if shape(first) != wanted {
+        return Ok(());
+    }
+    let guard = comp.guard.copy(alloc)?;
+    let item = comp.item.copy(alloc)?;
+    push_comp(
+        made,
+        Comp {
+            binders: comp.binders,
+            guard,
+            item,
+        },
+    )
 }
 
 // The set of one item.

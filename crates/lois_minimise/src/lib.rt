@@ -9,6 +9,7 @@ mod ordering;
 mod pairs;
 mod partitioning;
 mod refining;
+mod telling;
 mod transitions;
 
 pub use minimising::minimise;

@@ -11,6 +11,7 @@ ghost use Rattle.lois_algebra.specs.Gathered.{IsCompMember};
 ghost use Rattle.lois_automata.specs.Adding.{AddsOfTwo, AddsWithEach, IsMadeOfTwo};
 ghost use Rattle.lois_minimise.specs.Classes.{AreBackward, IsMoveBack, IsOrderedTerm};
 
+use crate::pairs::pair_of_terms;
 use lois_algebra::push_comp;
 use lois_automata::{pair, pair_comps, step_parts};
 use lois_base::{Comp, Comps, NoMemory, Structure, Term};
@@ -87,7 +88,7 @@ fn add_move_back<T: Structure>(
     let guard = meet(alloc, &both.guard, &found)?;
     let source = pair(alloc, one.source, other.source)?;
     let target = ordered_pair(alloc, one.target, other.target)?;
-    let item = pair(alloc, &target, &source)?;
+    let item = pair_of_terms(alloc, target, source)?;
     push_comp(
         moves,
         Comp {

@@ -9,10 +9,10 @@ ghost use Rattle.lois_base.specs.Values.{point};
 ghost use Rattle.lois_automata.specs.Projections.{automaton_at};
 ghost use Rattle.lois_minimise.specs.Classes.{IsCompleteDeterministicWithReach, AreIndistinguishable, ArePairsAcross, AreSplitPairs};
 
-use crate::indexed::targets_in;
 use crate::moving::backward;
 use crate::ordering::{both_ways, pairs_in_order};
 use crate::partitioning::{Partition, partition_by};
+use crate::telling::told_pairs;
 use lois_algebra::union;
 use lois_automata::{FiveSets, pairs};
 use lois_base::{Comps, NoMemory, Structure, Term};
@@ -49,7 +49,7 @@ pub fn indistinguishable_pairs<T: Structure>(
             return Err(NoMemory);
         }
         count += 1;
-        let told = targets_in::<T>(alloc, &moves, &shares.inside, size)?;
+        let told = told_pairs::<T>(alloc, &moves, &shares.inside, &shares.outside, size)?;
         let next = partition_by::<T>(alloc, &shares.outside, &told, size)?;
         shares = next;
     }

@@ -13,8 +13,9 @@ ghost use Rattle.lois_automata.specs.Projections.{AddsOfOne, pair_of, triple_of}
 ghost use Rattle.lois_minimise.specs.Classes.{AreClassSteps, AreStepMoves, AreTransitions, AddsTransition, AddsTransitions, IsStepMove, transition_of};
 
 use crate::indexed::targets_in;
+use crate::pairs::pair_of_terms;
 use lois_algebra::push_comp;
-use lois_automata::{pair, pair_comps, pair_parts, pairs, triple};
+use lois_automata::{pair_comps, pair_parts, pairs, triple};
 use lois_base::{Comp, Comps, NoMemory, Structure, Term};
 use lois_terms::{Index, index_by_shape, shape};
 use std::alloc::Global;
@@ -117,7 +118,7 @@ fn add_transition(
         return Ok(());
     }
     let both = pair_comps(alloc, read, class, size)?;
-    let item = pair(alloc, &both.first, &both.second)?;
+    let item = pair_of_terms(alloc, both.first, both.second)?;
     push_comp(
         made,
         Comp {
@@ -182,7 +183,7 @@ fn step_move(alloc: Global, parts: Transition<'_>) -> Result<Term, NoMemory>
 {
     let step = triple(alloc, parts.source, parts.letter, parts.target)?;
     let between = triple(alloc, parts.class, parts.letter, parts.next)?;
-    pair(alloc, &step, &between)
+    pair_of_terms(alloc, step, between)
 }
 
 fn transition_parts(t: &Term) -> Option<Transition<'_>>

@@ -33,7 +33,7 @@ refining-preserved g c =
     let moves = c.in_ok-moves.moves in
     record {
       compared = λ d l whole. next_compared (automaton_at (comps_of sets.states.now) (comps_of sets.letters.now) (comps_of sets.steps.now) (comps_of sets.initial.now) (comps_of sets.accepting.now) d) (point (coll (comps_of moves)) d) (point (coll (comps_of shares.inside)) d) (point (coll (comps_of shares.outside)) d) (point (coll (comps_of told)) d) (point (coll (comps_of next.inside)) d) (point (coll (comps_of next.outside)) d)
-          whole.deterministic (c.in_ok-moves.ensures.moves d l) (c.in_ok-told.ensures.members d l) (c.in_ok-next.ensures.shared d l) (before.compared d l whole);
+          whole.deterministic (c.in_ok-moves.ensures.moves d l) (c.in_ok-told.ensures.members.only d l) (c.in_ok-told.ensures.members.all d l) (c.in_ok-next.ensures.shared d l) (before.compared d l whole);
       levels = c.in_ok-next.ensures.levels;
       operators = λ o a b e. let h = before.operators o a b e in c.in_ok-next.ensures.operators o h.1 (c.in_ok-told.ensures.operators o (c.in_ok-moves.ensures.operators o a) h.0);
       widths = λ u. (c.in_ok-next.ensures.widths (before.widths u)).1;
