@@ -1,3 +1,4 @@
+mod Joined
 mod Parted
 mod Readable
 mod Tuples

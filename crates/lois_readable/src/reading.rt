@@ -12,6 +12,7 @@ ghost use Rattle.lois_simplify.specs.Irredundant.{HasNormalGuards};
 ghost use Rattle.lois_simplify.specs.Plain.{HasPlainGuards};
 ghost use Rattle.lois_simplify.specs.Simplification.{IsSameWhere, IsSimplification};
 
+use crate::joining::join;
 use crate::splitting::split;
 use crate::weights::weight;
 use lois_base::{Constraint, Decider, NoMemory, Structure, Term};
@@ -26,8 +27,8 @@ const MOST_ROUNDS: usize = 16;
 // Parts are written longer than they are once they are simplified.
 const MOST_GROWTH: usize = 8;
 
-/// The term for a reader, as `simplify_to_read` gives it, with its comprehensions split where each part needs fewer binders. With the
-/// splits it is at most twice as long as the term. Errors: `NoMemory`.
+/// The term for a reader, as `simplify_to_read` gives it, with its comprehensions split where each part needs fewer binders, and joined
+/// where they have the same item. With the splits it is at most twice as long as the term. Errors: `NoMemory`.
 pub fn make_readable<T: Structure>(
     alloc: Global,
     term: &Term,
@@ -54,8 +55,57 @@ pub fn make_readable<T: Structure>(
     Ok(read::<T>(alloc, term, under, size, chosen)?)
 }
 
-// The same in one fact. A term that weighs more than twice as much once it is split is read whole.
+// The same in one fact. What is split and simplified may have comprehensions with the same item.
 fn read<T: Structure>(
+    alloc: Global,
+    term: &Term,
+    under: &Constraint,
+    size: usize,
+    chosen: &mut Chosen,
+) -> Result<Term, NoMemory>
+    requires levels { Fits size (tree term.now) }
+    requires under_levels { ConstraintFits size under.now }
+    requires operators { AdmitsTerm T.ordered (tree term.now) }
+    requires under_operators { AdmitsConstraint T.ordered under.now }
+    ensures readable { IfOk result (λ r. IsReadable under.now size (tree term.now) (tree r)) }
+    ensures only_asked { HasOnlyAsked (λ b. (⟦<dyn Decider as Decider>⟧ b.vtable).kind_of b.value) (λ b. (⟦<dyn Decider as Decider>⟧ b.vtable).questions b.value) chosen.old chosen.new }
+{
+    let parted = read_parted::<T>(alloc, term, under, size, chosen)?;
+    read_joined::<T>(alloc, parted, under, size, chosen)
+}
+
+// Joined comprehensions stay where they are shorter.
+fn read_joined<T: Structure>(
+    alloc: Global,
+    term: Term,
+    under: &Constraint,
+    size: usize,
+    chosen: &mut Chosen,
+) -> Result<Term, NoMemory>
+    requires levels { Fits size (tree term) }
+    requires under_levels { ConstraintFits size under.now }
+    requires operators { AdmitsTerm T.ordered (tree term) }
+    requires under_operators { AdmitsConstraint T.ordered under.now }
+    requires normal { IsNormal (tree term) under.now size }
+    requires guards { HasNormalGuards (tree term) }
+    requires plain { HasPlainGuards (tree term) under.now size }
+    ensures readable { IfOk result (λ r. IsReadable under.now size (tree term) (tree r)) }
+    ensures only_asked { HasOnlyAsked (λ b. (⟦<dyn Decider as Decider>⟧ b.vtable).kind_of b.value) (λ b. (⟦<dyn Decider as Decider>⟧ b.vtable).questions b.value) chosen.old chosen.new }
+{
+    let joined = join(alloc, &term)?;
+    if joined.is_equal(&term) {
+        return Ok(term);
+    }
+    let shorter = simplified::<T>(alloc, &joined, under, size, chosen)?;
+    let most = weight(&term);
+    if weight(&shorter) > most {
+        return Ok(term);
+    }
+    Ok(shorter)
+}
+
+// A term that weighs more than twice as much once it is split is read whole.
+fn read_parted<T: Structure>(
     alloc: Global,
     term: &Term,
     under: &Constraint,

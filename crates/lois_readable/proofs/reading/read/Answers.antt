@@ -4,24 +4,23 @@ use Rattle.lois_readable.specs.Readable.{IsReadable}
 use Rattle.lois_readable.proofs.Readable.{readable_from}
 use Rattle.lois_readable.proofs.reading.read.Goals as goal
 
-pub returns-then-is_equal-clause-readable : goal.returns-then-is_equal-clause-readable
-returns-then-is_equal-clause-readable g c =
-    readable_from c.args.under.now c.args.size (tree c.args.term.now) (tree c.in_ok-parted.parted) (tree c.in_ok-readable.readable) c.in_ok-parted.ensures c.in_ok-readable.ensures.readable
-
-pub read_parts-requires-clause-levels : goal.read_parts-requires-clause-levels
-read_parts-requires-clause-levels g c =
-    c.in_ok-readable.ensures.readable.kept.levels (c.in_ok-parted.ensures.levels c.requires.levels)
-
-pub read_parts-requires-clause-operators : goal.read_parts-requires-clause-operators
-read_parts-requires-clause-operators g c =
-    let o = g.T.Structure.ordered in
-    c.in_ok-readable.ensures.readable.kept.operators o (c.in_ok-parted.ensures.operators o c.requires.operators)
+pub read_joined-requires : goal.read_joined-requires
+read_joined-requires g c =
+    let parted = c.in_ok-parted.ensures.readable in
+    record {
+      levels = parted.kept.levels c.requires.levels;
+      under_levels = c.requires.under_levels;
+      operators = parted.kept.operators g.T.Structure.ordered c.requires.operators;
+      under_operators = c.requires.under_operators;
+      normal = parted.normal;
+      guards = parted.guards;
+      plain = parted.plain;
+    }
 
 pub returns-clause-readable : goal.returns-clause-readable
 returns-clause-readable g c =
     let u = c.args.under.now in
     let n = c.args.size in
     let t = tree c.args.term.now in
-    let s = tree c.in_ok-readable.readable in
-    let first = readable_from u n t (tree c.in_ok-parted.parted) s c.in_ok-parted.ensures c.in_ok-readable.ensures.readable in
-    IfOk-weaker c.read_parts.result (λ r. IsReadable u n s (tree r)) (λ r. IsReadable u n t (tree r)) (λ r h. readable_from u n t s (tree r) first.kept h) c.read_parts.ensures.readable
+    let s = tree c.in_ok-parted.parted in
+    IfOk-weaker c.read_joined.result (λ r. IsReadable u n s (tree r)) (λ r. IsReadable u n t (tree r)) (λ r h. readable_from u n t s (tree r) c.in_ok-parted.ensures.readable.kept h) c.read_joined.ensures.readable
