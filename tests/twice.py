@@ -30,7 +30,8 @@ GROUPS = {
     "readers stop with the same errors": "lois_reader/src/parse_error lois_registers/src/parse_error",
     "a comprehension is made for each step": """lois_automata/src/conditions lois_automata/src/frontier lois_automata/src/pairing
         lois_shortest_word/src/layers lois_shortest_word/src/steps lois_shortest_word/src/symbolic_states
-        lois_shortest_word/src/joint_steps lois_shortest_word/src/meeting lois_equal/src/sink_steps lois_minimise/src/moving""",
+        lois_shortest_word/src/joint_steps lois_shortest_word/src/meeting lois_equal/src/sink_steps lois_minimise/src/moving
+        lois_minimise/src/telling""",
     "two automata are handed in": "lois_equal/src/difference lois_shortest_word/src/common",
     "a tuple of five is made": "lois_automata/src/parts lois_registers/src/translating",
     "lines of results are asked case by case": "lois_equal/src/comparing lois_languages/src/inclusions",
