@@ -18,8 +18,17 @@ pub(crate) fn is_strict(cube: &Cube) -> bool
     cube.as_slice().iter().all(|lit| lit.op != Op::AtMost)
 }
 
-// The literal, with `<` for `<=`.
-fn tightest(lit: Lit) -> Lit
+// Whether a literal says that the atoms at the levels are equal.
+fn are_equated(cube: &Cube, left: usize, right: usize) -> bool {
+    cube.as_slice().iter().any(|lit| {
+        lit.op == Op::Eq
+            && ((lit.left == left && lit.right == right)
+                || (lit.left == right && lit.right == left))
+    })
+}
+
+// The literal, with `<` for `<=`, or `=` where the cube has it.
+fn tightest(cube: &Cube, lit: Lit) -> Lit
     ensures strict { IsStrictLit result }
     ensures entails { (c : List Atom) → IsTrue (lit_holds c result) → IsTrue (lit_holds c lit) }
     ensures left { result.left ≡ lit.left }
@@ -29,14 +38,15 @@ fn tightest(lit: Lit) -> Lit
     if op != Op::AtMost {
         return lit;
     }
-    Lit {
-        op: Op::Lt,
-        left,
-        right,
-    }
+    let op = if are_equated(cube, left, right) {
+        Op::Eq
+    } else {
+        Op::Lt
+    };
+    Lit { op, left, right }
 }
 
-/// The cube with `<` for each `<=`. Mostly it can be met where the cube can.
+/// The cube with `<` for each `<=`, or `=` where it says so too. Mostly it can be met where the cube can.
 pub(crate) fn tightest_part(alloc: Global, cube: &Cube) -> Result<Cube, NoMemory>
     ensures strict { IfOk result IsStrictCube }
     ensures entails { IfOk result (λ r. Entails r cube.now) }
@@ -44,7 +54,7 @@ pub(crate) fn tightest_part(alloc: Global, cube: &Cube) -> Result<Cube, NoMemory
 {
     let mut part = Cube::new(alloc);
     for lit in cube.as_slice() {
-        part.push(tightest(*lit))?;
+        part.push(tightest(cube, *lit))?;
     }
     Ok(part)
 }
