@@ -1,11 +1,11 @@
 -- The positions of a number in a list, and a table that has them.
-use Rattle.std.proofs.Common.{◌≡◌, ℕ, zero, suc, ◌+◌, ◌<◌, ◌==◌, Bool, true, false, cond, if◌then◌else◌, List, [], ◌∷◌, ◌++◌, length, map, nat_eq, eqb, refl, sym, ap, ◌∙◌, subst, arith}
+use Rattle.std.proofs.Common.{◌≡◌, ℕ, zero, suc, ◌+◌, ◌<◌, ◌==◌, Bool, true, false, if◌then◌else◌, List, [], ◌∷◌, ◌++◌, length, map, nat_eq, eqb, refl, sym, ap, ◌∙◌, subst, arith}
 use Rattle.std.proofs.lemmas.Bool.{eq-eqb, eqb-true}
 use Rattle.std.proofs.lemmas.List.{append_assoc, append-nil}
 use Rattle.std.proofs.lemmas.List.Elements.{All-nil, All-cons, All-append, All-contains, Contains-append_left, Contains-append_right}
 use Rattle.std.proofs.lemmas.Option.{none-some, same_Some, slice_get-get_or, slice_get-map}
 use Rattle.smallvec.specs.SmallVec.{SmallVec}
-use Rattle.std.specs.Prelude.{Option, Some, None, option_map, slice_get, Contains}
+use Rattle.std.specs.Prelude.{Option, Some, option_map, slice_get, Contains}
 use Rattle.std.specs.List.{All}
 use Rattle.lois_terms.specs.Positions.{positions_from, positions_of, listed}
 
@@ -46,21 +46,21 @@ module _ (x : ℕ) where
   pub pushed_of : (y : ℕ) (ys : List ℕ) → positions_of x (ys ++ y ∷ []) ≡ positions_of x ys ++ (if (y == x) then (length ys ∷ []) else [])
   pushed_of y ys = pushed_from 0 (length ys) y ys (omega arith)
 
--- a table with one number more, whose positions were taken out, got one more and were put back
-module _ (was mid found : ℕ → Option (SmallVec ℕ)) (ys : List ℕ) (y : ℕ) (v : SmallVec ℕ) where
-  pub table_pushed : ((q : ℕ) → mid q ≡ cond (nat_eq y q) None (was q)) → ((q : ℕ) → found q ≡ cond (nat_eq y q) (Some v) (mid q)) → v.items ≡ listed (was y) ++ length ys ∷ [] → ((x : ℕ) → listed (was x) ≡ positions_of x ys) → (x : ℕ) → listed (found x) ≡ positions_of x (ys ++ y ∷ [])
-  table_pushed out back is holds x = by (nat_eq y x) refl
+-- a table with one number more, whose positions got one more
+module _ (was found : ℕ → Option (SmallVec ℕ)) (ys : List ℕ) (y : ℕ) where
+  pub table_pushed : listed (found y) ≡ listed (was y) ++ length ys ∷ [] → ((q : ℕ) → nat_eq y q ≡ false → found q ≡ was q) → ((x : ℕ) → listed (was x) ≡ positions_of x ys) → (x : ℕ) → listed (found x) ≡ positions_of x (ys ++ y ∷ [])
+  table_pushed is others holds x = by (nat_eq y x) refl
     where
       by : (b : Bool) → nat_eq y x ≡ b → listed (found x) ≡ positions_of x (ys ++ y ∷ [])
       by true e =
-          ap listed (back x ∙ ap (λ b. cond b (Some v) (mid x)) e)
+          ap (λ z. listed (found z)) (sym (eqb-true y x e))
           ∙ is
           ∙ ap (λ z. listed (was z) ++ length ys ∷ []) (eqb-true y x e)
           ∙ ap (λ ps. ps ++ length ys ∷ []) (holds x)
           ∙ ap (λ b. positions_of x ys ++ (if b then (length ys ∷ []) else [])) (sym e)
           ∙ sym (pushed_of x y ys)
       by false e =
-          ap listed (back x ∙ ap (λ b. cond b (Some v) (mid x)) e ∙ out x ∙ ap (λ b. cond b None (was x)) e)
+          ap listed (others x e)
           ∙ holds x
           ∙ sym (append-nil (positions_of x ys))
           ∙ ap (λ b. positions_of x ys ++ (if b then (length ys ∷ []) else [])) (sym e)

@@ -1,6 +1,6 @@
 -- Hashes of terms as they are written: one number of 64 bits, folded from all that stands in them. A hash is a function of the term,
 -- and no more is asked of it: terms whose hashes differ differ.
-use Rattle.std.specs.Prelude.{ℕ, ◌+◌, ◌*◌, ◌^◌, ◌%◌, List}
+use Rattle.std.specs.Prelude.{ℕ, ◌+◌, ◌*◌, ◌^◌, ◌%◌, List, bit_xor}
 use Rattle.std.specs.List.{fold}
 use Rattle.lois_base.specs.Data.{TermD, var, tag, tup, coll, TermsD, no_terms, term, CompD, comp, CompsD, no_comps, more}
 use Rattle.lois_base.specs.declared.guards.Lit.{Lit}
@@ -50,3 +50,10 @@ abbrev mutual
 -- the hash by which comprehensions that are written alike are found
 abbrev pub written_hash : CompD → ℕ
 written_hash = comp_hash 0
+
+-- a state of 64 bits after further bytes, by a round of FNV-1a for each
+abbrev pub byte_round : ℕ → ℕ → ℕ
+byte_round s b = (bit_xor s b * 0x100000001B3) % 2 ^ 64
+
+abbrev pub after_bytes : ℕ → List ℕ → ℕ
+after_bytes = fold byte_round

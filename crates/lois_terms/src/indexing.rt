@@ -1,6 +1,6 @@
 //! Indexes: where in a list of comprehensions those stand that have a shape or a hash.
 
-ghost use Rattle.std.specs.Prelude.{◌≡◌, ℕ, ◌<◌, nat_eq, cond, [], ◌∷◌, ◌++◌, map, length, slice_get, Some, None, IfOk, OnOk, IsTrue, ◌↔◌, Contains};
+ghost use Rattle.std.specs.Prelude.{◌≡◌, ℕ, ◌<◌, nat_eq, false, [], ◌∷◌, ◌++◌, map, length, slice_get, Some, IfOk, OnOk, IsTrue, ◌↔◌, Contains};
 ghost use Rattle.std.specs.HashMap.{get};
 ghost use Rattle.std.specs.List.{All};
 ghost use Rattle.lois_base.specs.Tree.{comp_of};
@@ -13,17 +13,59 @@ use lois_base::{Comp, NoMemory};
 use smallvec::SmallVec;
 use std::alloc::Global;
 use std::collections::HashMap;
+use std::hash::{BuildHasherDefault, Hasher};
 use std::marker::Model;
 use std::mem;
 
 // Most numbers stand at one position, which needs no allocation.
 type Positions = SmallVec<usize, 1>;
 
+type Hashing = BuildHasherDefault<ByteHasher>;
+
+// The numbers are hashes already, so little is to be done with them: each byte takes a round of FNV-1a.
+#[derive(Clone, Copy)]
+struct ByteHasher {
+    state: u64,
+}
+
+impl Default for ByteHasher {
+    ghost use Rattle.std.specs.Prelude.{◌≡◌};
+
+    ghost is_default = { λ h. h.state ≡ 0xCBF29CE484222325 };
+
+    fn default() -> ByteHasher {
+        ByteHasher {
+            state: 0xCBF2_9CE4_8422_2325,
+        }
+    }
+}
+
+impl Hasher for ByteHasher {
+    ghost use Rattle.lois_terms.specs.Hash.{after_bytes};
+
+    ghost write = { λ h bytes. record { state = after_bytes h.state bytes } };
+
+    ghost finish = { λ h. h.state };
+
+    fn finish(&self) -> u64 {
+        self.state
+    }
+
+    #[inline(always)]
+    fn write(&mut self, bytes: &[u8]) {
+        let mut state = self.state;
+        for byte in bytes {
+            state = (state ^ u64::from(*byte)).wrapping_mul(0x100_0000_01B3);
+        }
+        self.state = state;
+    }
+}
+
 /// A list of numbers that tells where it has a number.
 #[derive(Drop)]
 pub struct Index {
     numbers: Vec<u64>,
-    places: HashMap<u64, Positions>,
+    places: HashMap<u64, Positions, Hashing>,
 }
 
 impl Model for Index {
@@ -45,7 +87,7 @@ impl Index {
     {
         Index {
             numbers: Vec::new(alloc),
-            places: HashMap::new(alloc),
+            places: HashMap::with_hasher(alloc, BuildHasherDefault::new()),
         }
     }
 
@@ -53,23 +95,14 @@ impl Index {
     pub fn push(&mut self, alloc: Global, number: u64) -> Result<(), NoMemory>
         ensures { OnOk result (self.new ≡ self.old ++ number ∷ []) }
     {
-        let index = mem::replace(self, Index::new(alloc));
-        *self = index.pushed(alloc, number)?;
-        Ok(())
-    }
-
-    fn pushed(self, alloc: Global, number: u64) -> Result<Index, NoMemory>
-        ensures { IfOk result (λ r. r ≡ self ++ number ∷ []) }
-    {
         let Index {
             mut numbers,
             mut places,
-        } = self;
-        let mut positions = taken(alloc, &mut places, number);
-        positions.push(numbers.len())?;
-        places.insert(number, positions)?;
+        } = mem::replace(self, Index::new(alloc));
+        add_place(alloc, &mut places, number, numbers.len())?;
         numbers.push(number)?;
-        Ok(Index { numbers, places })
+        *self = Index { numbers, places };
+        Ok(())
     }
 
     /// The positions of the number, ascending.
@@ -85,15 +118,19 @@ impl Index {
     }
 }
 
-// What the table has for the number, which it then has no entry for.
-fn taken(alloc: Global, places: &mut HashMap<u64, Positions>, number: u64) -> Positions
-    ensures positions { result.items ≡ listed (get nat_eq places.old number) }
-    ensures others { (q : ℕ) → get nat_eq places.new q ≡ cond (nat_eq number q) None (get nat_eq places.old q) }
+// Puts a position at the end of those that the table has for the number.
+fn add_place(
+    alloc: Global,
+    places: &mut HashMap<u64, Positions, Hashing>,
+    number: u64,
+    position: usize,
+) -> Result<(), NoMemory>
+    ensures number { OnOk result (listed (get nat_eq places.new number) ≡ listed (get nat_eq places.old number) ++ position ∷ []) }
+    ensures others { OnOk result ((q : ℕ) → nat_eq number q ≡ false → get nat_eq places.new q ≡ get nat_eq places.old q) }
 {
-    match places.remove(&number) {
-        Some(positions) => positions,
-        None => SmallVec::new(alloc),
-    }
+    let positions = places.entry(number)?.or_insert(SmallVec::new(alloc));
+    positions.push(position)?;
+    Ok(())
 }
 
 /// Where the comprehensions stand by the shapes of their items.
@@ -102,7 +139,7 @@ pub fn index_by_shape(alloc: Global, comps: &[Comp]) -> Result<Index, NoMemory>
 {
     let mut index = Index::new(alloc);
     for comp in comps {
-        index = index.pushed(alloc, shape(&comp.item))?;
+        index.push(alloc, shape(&comp.item))?;
     }
     Ok(index)
 }
@@ -113,7 +150,7 @@ pub fn index_as_written(alloc: Global, comps: &[Comp]) -> Result<Index, NoMemory
 {
     let mut index = Index::new(alloc);
     for comp in comps {
-        index = index.pushed(alloc, hash_written(comp))?;
+        index.push(alloc, hash_written(comp))?;
     }
     Ok(index)
 }
