@@ -1,6 +1,6 @@
 //! The decider by identified and ordered levels.
 
-ghost use Rattle.std.specs.Prelude.{◌≡◌, List, IfOk, IfSome, IfNone, IsTrue, IsFalse};
+ghost use Rattle.std.specs.Prelude.{◌≡◌, List, [], IfOk, IfSome, IfNone, IsTrue, IsFalse};
 ghost use Rattle.lois_base.specs.Atom.{Atom};
 ghost use Rattle.lois_base.specs.Fits.{CubeFits};
 ghost use Rattle.lois_base.specs.Theory.{IsSampleOf};
@@ -13,7 +13,7 @@ use crate::labels::{has_conflicting_disequality, label_levels};
 use crate::ranks::rank_labels;
 use crate::strict::{is_strict, strict_part, tightest_part};
 use lois_base::{Cube, Decider, Kind, NoMemory};
-use lois_constraint::{prune, singleton};
+use lois_constraint::tighten;
 use std::alloc::Global;
 
 /// Takes a part without `<=`, identifies the levels that are equal there, and orders the rest by `<`. The part is met
@@ -57,9 +57,21 @@ fn ranked_sample(alloc: Global, cube: &Cube, size: usize) -> Result<Option<Vec<u
 fn is_contradictory(alloc: Global, cube: &Cube) -> Result<bool, NoMemory>
     ensures { IfOk result (λ b. IsTrue b → (e : List Atom) → IsFalse (cube_holds e cube.now)) }
 {
-    let one = singleton(alloc, cube)?;
-    let pruned = prune(alloc, &one)?;
-    Ok(pruned.len() == 0)
+    match tighten(alloc, cube)? {
+        Some(_) => Ok(false),
+        None => Ok(true),
+    }
+}
+
+// The levels as numbers: a sample of the cube without literals.
+fn level_numbers(alloc: Global, size: usize) -> Result<Vec<u64>, NoMemory>
+    ensures { IfOk result (λ s. IsSampleOf size [] s.items) }
+{
+    let mut numbers = Vec::with_capacity(alloc, size)?;
+    for level in 0..size {
+        numbers.push(level as u64)?;
+    }
+    Ok(numbers)
 }
 
 // Of a `<=` one of its two parts is enough, and mostly all may be `<`.
@@ -68,6 +80,9 @@ fn sample(alloc: Global, cube: &Cube, size: usize) -> Result<Option<Vec<u64>>, N
     ensures found { IfOk result (λ o. IfSome o (λ s. IsSampleOf size cube.now s.items)) }
     ensures none { IfOk result (λ o. IfNone o (IsUnmet size cube.now)) }
 {
+    if cube.len() == 0 {
+        return Ok(Some(level_numbers(alloc, size)?));
+    }
     if is_strict(cube) {
         return ranked_sample(alloc, cube, size);
     }
