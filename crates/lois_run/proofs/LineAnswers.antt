@@ -30,7 +30,7 @@ use Rattle.lois_registers.specs.Translation.{IsTranslatedTo}
 use Rattle.lois_registers.specs.Written.{IsWrittenFrom}
 use Rattle.lois_registers.specs.declared.RegistersError.TheVariants.{NotRegisters as NoRegisters}
 use Rattle.lois_registers.specs.declared.automata.Registers.{Registers as Automaton}
-use Rattle.lois_run.specs.Causes.{AnswersText}
+use Rattle.lois_run.specs.TextAnswers.{AnswersText}
 use Rattle.lois_command.specs.NoResults.{IsNoResults}
 use Rattle.lois_run.specs.Lines.{Translates, compared_outcome, listed_outcome}
 use Rattle.lois_run.specs.declared.outcomes.Outcome.TheVariants.{Refused, Translated}
