@@ -16,7 +16,7 @@ use Rattle.lois_meaning.specs.Store.{named, AreSameNamed}
 use Rattle.lois_meaning.proofs.Alike.{set_of_to}
 use Rattle.lois_meaning.proofs.Stores.{named_trans}
 use Rattle.lois_meaning.proofs.TheLaws.{determined}
-use Rattle.lois_make.specs.MadeCounts.{ResultsHaveMadeCounts}
+use Rattle.lois_make.specs.Laws.{ResultsHaveMadeCounts}
 use Rattle.lois_make.specs.MadeTree.{made_tree}
 use Rattle.lois_make.specs.MadeValue.{IsMade}
 use Rattle.lois_make.proofs.MadeCounts.{normal_has_one_for_each}
