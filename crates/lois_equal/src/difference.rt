@@ -8,7 +8,7 @@ ghost use Rattle.lois_base.specs.Validity.{AdmitsConstraint, AdmitsTerm, HasBoun
 ghost use Rattle.lois_deciders.specs.OnlyAsked.{HasOnlyAsked};
 ghost use Rattle.lois_automata.specs.Machines.{IsAutomatonAt, IsDeterministicAt};
 ghost use Rattle.lois_automata.specs.Throughout.{HoldsThroughout};
-ghost use Rattle.lois_equal.specs.Differing.{IsLanguageIncluded, IsShortestDifference};
+ghost use Rattle.lois_equal.specs.Differences.{IsLanguageIncluded, IsShortestDifference};
 
 use crate::completion::complete_automaton;
 use crate::splitting::split_found;
