@@ -18,8 +18,10 @@ use Rattle.lois_automata.specs.declared.projections.Projection.{Projection}
 use Rattle.lois_automata.specs.declared.projections.Projection.TheVariants.{Source, Label, Target, Outgoing, Keyed}
 use Rattle.lois_automata.specs.declared.verdicts.Verdict.{Verdict}
 use Rattle.lois_automata.specs.declared.verdicts.Verdict.TheVariants.{Holds, Fails}
-use Rattle.lois_automata.specs.Machines.{IsAutomatonAt, IsDeterministicAt, IsCompleteAt}
-use Rattle.lois_automata.specs.Throughout.{HoldsThroughout, HoldsWhere, IsBreak, IsVerdictOn}
+use Rattle.lois_automata.specs.Machines.{IsAutomatonAt, IsCompleteAt}
+use Rattle.lois_automata.specs.Deterministic.{IsDeterministicAt}
+use Rattle.lois_automata.specs.Throughout.{HoldsThroughout}
+use Rattle.lois_automata.specs.Verdicts.{HoldsWhere, IsBreak, IsVerdictOn}
 use Rattle.lois_automata.proofs.Tests.{both_where}
 use Rattle.lois_automata.proofs.FiveMachine.{five_equal, five_machine}
 use Rattle.lois_automata.proofs.Written.{triple_is}

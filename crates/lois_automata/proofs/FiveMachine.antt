@@ -16,7 +16,8 @@ use Rattle.lois_automata.specs.Projections.{five_of, five_terms, automaton_at, A
 use Rattle.lois_automata.specs.declared.projections.Projection.TheVariants.{Move}
 use Rattle.lois_automata.specs.Machines.{IsAutomatonAt, IsReachAt, IsEmptyAt, AcceptsSomeAt, IsCompleteDeterministicAt, IsProductAt, IsComplementAt, AcceptsBothAt, AcceptsOthersAt}
 use Rattle.lois_automata.specs.Reachability.{graph_at, IsReached}
-use Rattle.lois_automata.specs.Throughout.{HoldsThroughout, HoldsUnless}
+use Rattle.lois_automata.specs.Throughout.{HoldsThroughout}
+use Rattle.lois_automata.specs.Verdicts.{HoldsUnless}
 use Rattle.lois_automata.proofs.Machines.{product_automaton, with_final, is_complement, complement_automaton, accepts_some}
 use Rattle.lois_automata.proofs.ReachIs.{reach_exactly}
 

@@ -11,7 +11,7 @@ ghost use Rattle.lois_algebra.specs.Gathered.{IsAmong, IsCompMember};
 ghost use Rattle.lois_terms.specs.Guarded.{IsColl};
 ghost use Rattle.lois_automata.specs.KeyShapes.{comp_key_shape};
 ghost use Rattle.lois_automata.specs.Projections.{AllAgree, IsFunction, HasOneAtMost, HasUniqueTargets, AreTriples, ArePartsIn, StepsJoin};
-ghost use Rattle.lois_automata.specs.Throughout.{HoldsWhere, HoldsUnless};
+ghost use Rattle.lois_automata.specs.Verdicts.{HoldsWhere, HoldsUnless};
 
 use crate::keys::{index_by_key, key_shape};
 use crate::pairing::{pair_comps, pairs};

@@ -12,8 +12,10 @@ use Rattle.lois_base.specs.declared.guards.Lit.{Lit}
 use Rattle.lois_answers.specs.LastNamed.{last_line, last_named, lines_named}
 use Rattle.lois_answers.specs.ResultsData.{LineD, CaseD}
 use Rattle.lois_answers.specs.Sound.{IsSoundTerm, IsSoundLine, IsSoundCase}
-use Rattle.lois_automata.specs.Machines.{IsAutomatonAt, IsDeterministicAt}
-use Rattle.lois_automata.specs.Throughout.{HoldsThroughout, IsBreak}
+use Rattle.lois_automata.specs.Machines.{IsAutomatonAt}
+use Rattle.lois_automata.specs.Deterministic.{IsDeterministicAt}
+use Rattle.lois_automata.specs.Throughout.{HoldsThroughout}
+use Rattle.lois_automata.specs.Verdicts.{IsBreak}
 use Rattle.lois_equal.specs.Differing.{HaveSameLanguage, IsDistinguishingWord}
 use Rattle.lois_equal.specs.Differences.{IfDiffers, IsSameAnswer, AreBounded}
 use Rattle.lois_equal.specs.declared.differing.Equality.{Equality}

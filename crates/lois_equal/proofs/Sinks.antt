@@ -13,7 +13,7 @@ use Rattle.lois_meaning.specs.Automata.{Automaton, JoinsStates, IsAutomatonOf, H
 use Rattle.lois_meaning.specs.Kinds.{HasParts}
 use Rattle.lois_meaning.proofs.Operations.{triple_both, step_move}
 use Rattle.lois_automata.specs.Projections.{five_of, five_terms, automaton_at}
-use Rattle.lois_automata.specs.Machines.{IsDeterministicAt}
+use Rattle.lois_automata.specs.Deterministic.{IsDeterministicAt}
 use Rattle.lois_automata.proofs.FiveMachine.{five_equal, five_machine}
 use Rattle.lois_automata.proofs.Paths.{source_in}
 use Rattle.lois_shortest_word.specs.Words.{AcceptsAt}

@@ -7,7 +7,7 @@ use Rattle.lois_base.specs.Truth.{holds}
 use Rattle.lois_base.specs.declared.guards.Lit.{Lit}
 use Rattle.lois_answers.specs.LastNamed.{last_named}
 use Rattle.lois_answers.specs.ResultsData.{CaseD}
-use Rattle.lois_automata.specs.Machines.{IsDeterministicAt}
+use Rattle.lois_automata.specs.Deterministic.{IsDeterministicAt}
 use Rattle.lois_automata.specs.Throughout.{HoldsThroughout}
 use Rattle.lois_equal.specs.Differing.{HaveSameLanguage, IsDistinguishingWord}
 use Rattle.lois_equal.specs.declared.differing.Difference.{Difference}

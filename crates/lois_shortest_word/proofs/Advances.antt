@@ -17,7 +17,7 @@ use Rattle.lois_meaning.specs.Automata.{IsTriple}
 use Rattle.lois_meaning.proofs.Automata.{triple_same}
 use Rattle.lois_automata.specs.Built.{HoldsWhereMember}
 use Rattle.lois_automata.specs.Projections.{triple_of}
-use Rattle.lois_automata.specs.Throughout.{HoldsWhere}
+use Rattle.lois_automata.specs.Verdicts.{HoldsWhere}
 use Rattle.lois_automata.proofs.Members.{raised_same, longer_is}
 use Rattle.lois_automata.proofs.Written.{triple_is, triple_here, triple_term}
 use Rattle.lois_deciders.specs.Satisfaction.{ConstraintIsSatisfiable, IsConstraintSample}
