@@ -14,7 +14,8 @@ use Rattle.lois_base.specs.declared.guards.Lit.{Lit}
 use Rattle.lois_base.proofs.Validity.{all_that_are}
 use Rattle.std.specs.List.{All, flat_map}
 use Rattle.std.proofs.lemmas.List.{take_more, flat_map_more}
-use Rattle.lois_registers.specs.Placed.{HasGuard, IsSpelledComp, IsIdle, AreMade, AddsMade, placements}
+use Rattle.lois_registers.specs.Placed.{HasGuard, IsSpelledComp, IsIdle, AreMade, placements}
+use Rattle.lois_registers.specs.MadeSteps.{AddsMade}
 use Rattle.lois_registers.proofs.Contents.{place_is}
 use Rattle.lois_registers.proofs.Members.{Each}
 
