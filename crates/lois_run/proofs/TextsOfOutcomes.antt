@@ -9,7 +9,8 @@ use Rattle.std.specs.Io.KnownBytes.{Consumes, IsAtEnd}
 use Rattle.lois_outside.specs.Faults.{Rose}
 use Rattle.lois_outside.specs.Reading.{TookAtMost, TookExactly, ReadsToEnd, GivesUp}
 use Rattle.lois_outside.specs.declared.reading.ReadError.TheVariants as unread
-use Rattle.lois_command.specs.Calls.{TakeRelation, GaveAtMost}
+use Rattle.lois_command.specs.Calls.{GaveAtMost}
+use Rattle.lois_command.specs.Sources.{TakeRelation}
 use Rattle.lois_command.proofs.Given.{gave_nothing, more, exactly, given}
 use Rattle.lois_run.specs.Causes.{Serves, HasRead, HasTaken, HasCause, ReadsText, Promises, IsOutcomeOf}
 use Rattle.lois_run.specs.TextAnswers.{IsOfText, AnswersText}

@@ -6,7 +6,7 @@ use Rattle.lois_outside.specs.Faults.{Rose}
 use Rattle.lois_outside.specs.Reading.{TookAtMost, TookExactly, ReadsToEnd, GivesUp}
 use Rattle.lois_outside.specs.declared.reading.ReadError.TheVariants as unread
 use Rattle.lois_base.specs.declared.limits.TheConstants.{LONGEST_TEXT}
-use Rattle.lois_command.specs.Calls.{TakeRelation}
+use Rattle.lois_command.specs.Sources.{TakeRelation}
 use Rattle.lois_run.specs.MadeCounts.{made_counts}
 use Rattle.lois_run.specs.Services.{service_of}
 use Rattle.lois_run.specs.Words.{Requests, IsUsage}
