@@ -18,7 +18,7 @@ use Rattle.lois_context.specs.Content.{own_count, with_comps, of_tree, of_tree-t
 use Rattle.lois_context.specs.Put.{IsWithOnce}
 use Rattle.lois_context.specs.Entered.{items_listed, comps_listed}
 use Rattle.lois_context.specs.Hash.{comps_hash, content_hash}
-use Rattle.lois_context.specs.Slots.{comps_in, count_of_items}
+use Rattle.lois_context.specs.ItemCounts.{comps_in, count_of_items}
 use Rattle.lois_context.proofs.Carried.{count_of}
 use Rattle.lois_context.proofs.Entered.{listed_of}
 use Rattle.lois_context.proofs.Joined.{of_listed}

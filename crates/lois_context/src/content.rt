@@ -14,7 +14,7 @@ ghost use Rattle.lois_context.specs.Entered.{comps_listed};
 ghost use Rattle.lois_context.specs.Hash.{content_hash};
 ghost use Rattle.lois_context.specs.Noted.{IsNotedOf};
 ghost use Rattle.lois_context.specs.Put.{AreParts, IsWithOnce};
-ghost use Rattle.lois_context.specs.Slots.{comps_in};
+ghost use Rattle.lois_context.specs.ItemCounts.{comps_in};
 
 use crate::hashing::hash_comps;
 use crate::places::searched;

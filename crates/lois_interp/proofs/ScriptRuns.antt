@@ -31,7 +31,8 @@ use Rattle.lois_context.specs.Choices.{IsAdmitted, AdmitsContext, ContextHasBoun
 use Rattle.lois_context.specs.Counted.{times}
 use Rattle.lois_context.specs.Merged.{AreDisjoint, HasSameContents, HasSameContentsAsOne, AreMerged}
 use Rattle.lois_context.specs.Kept.{LinesFit}
-use Rattle.lois_context.specs.Slots.{SlotD, line_values}
+use Rattle.lois_context.specs.Slots.{SlotD}
+use Rattle.lois_context.specs.LineValues.{line_values}
 use Rattle.lois_context.specs.declared.contexts.Context.{Context}
 use Rattle.lois_eval.specs.WellFormed.{IsWellFormedIn}
 use Rattle.lois_interp.specs.Failed.{FailsBehind}

@@ -20,7 +20,8 @@ use Rattle.lois_simplify.proofs.Members.{items_fit_each, each_fits_items, items_
 use Rattle.lois_terms.specs.Guarded.{IsColl}
 use Rattle.lois_context.specs.Entered.{items_listed, comps_listed}
 use Rattle.lois_context.specs.Kept.{IsSlot, AreSlots}
-use Rattle.lois_context.specs.Slots.{SlotD, comps_in, count_of_items}
+use Rattle.lois_context.specs.Slots.{SlotD}
+use Rattle.lois_context.specs.ItemCounts.{comps_in, count_of_items}
 use Rattle.lois_context.proofs.Carried.{count_of}
 use Rattle.lois_context.proofs.Entered.{listed_of}
 use Rattle.lois_context.proofs.Joined.{of_listed}

@@ -17,7 +17,7 @@ use Rattle.lois_script.specs.Tree.{ParamD, StmtD, ScriptD}
 use Rattle.lois_script.specs.View.{stmts_of}
 use Rattle.lois_meaning.specs.Runs.{ListEnds, StmtFails, ScriptEnds}
 use Rattle.lois_meaning.specs.Store.{NamedValues, AreSameNamed, opening}
-use Rattle.lois_context.specs.Slots.{line_values}
+use Rattle.lois_context.specs.LineValues.{line_values}
 
 abbrev pub parameter_name : ParamD → List ℕ
 parameter_name x = x.name

@@ -12,7 +12,7 @@ ghost use Rattle.lois_context.specs.Choices.{AdmitsContext};
 ghost use Rattle.lois_context.specs.Joined.{IsEnd};
 ghost use Rattle.lois_context.specs.Entered.{comps_listed};
 ghost use Rattle.lois_context.specs.Kept.{AreSlots};
-ghost use Rattle.lois_context.specs.Slots.{comps_in};
+ghost use Rattle.lois_context.specs.ItemCounts.{comps_in};
 ghost use Rattle.lois_context.specs.SlotView.{slot_of};
 ghost use Rattle.lois_interp.specs.Members.{ArePutBehind};
 ghost use Rattle.lois_interp.specs.Tidied.{IsTidied, IsTidiedSlot, AreTidied, AreCounted, counts_in, IsBehindLoop};

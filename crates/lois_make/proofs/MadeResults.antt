@@ -9,7 +9,7 @@ use Rattle.lois_base.proofs.Members.{same_sym}
 use Rattle.lois_answers.specs.ResultsData.{LineD, CaseD}
 use Rattle.lois_answers.specs.Sound.{IsSoundTerm, IsSoundLine, IsSoundCase}
 use Rattle.lois_answers.specs.declared.results.Results.{Results}
-use Rattle.lois_context.specs.Slots.{line_values}
+use Rattle.lois_context.specs.LineValues.{line_values}
 use Rattle.lois_interp.specs.Interpreted.{HoldsAt, HoldsSomewhere, IsNormalLine, IsNormalCase, IsRightAt, AreResultsOf}
 use Rattle.lois_meaning.specs.Kinds.{IsSetOf}
 use Rattle.lois_meaning.specs.Store.{named, AreSameNamed}

@@ -11,7 +11,7 @@ use Rattle.lois_base.specs.Fits.{Fits}
 use Rattle.lois_base.specs.Normal.{IsNormal}
 use Rattle.lois_base.specs.Validity.{IsOrderFreeTerm}
 use Rattle.lois_base.specs.declared.guards.Lit.{Lit}
-use Rattle.lois_context.specs.Slots.{comps_in}
+use Rattle.lois_context.specs.ItemCounts.{comps_in}
 use Rattle.lois_meaning.specs.Kinds.{IsSetOf}
 use Rattle.lois_meaning.specs.Runs.{ScriptEnds, ScriptFails}
 use Rattle.lois_meaning.specs.Store.{NamedValues, named}
