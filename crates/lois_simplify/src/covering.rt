@@ -12,7 +12,7 @@ ghost use Rattle.lois_relate.specs.Relations.{HoldsWhereItemIn};
 ghost use Rattle.lois_terms.specs.Shapes.{item_shape};
 ghost use Rattle.lois_simplify.specs.Candidates.{AddsCandidates, behind};
 ghost use Rattle.lois_simplify.specs.Covered.{IsCovered};
-ghost use Rattle.lois_simplify.specs.Irredundant.{IsIrredundantComp, HasOwn, EachHasOwn};
+ghost use Rattle.lois_simplify.specs.Lean.{IsIrredundantComp, HasOwn, EachHasOwn};
 ghost use Rattle.lois_simplify.specs.Simplification.{IsSimplification, set_of};
 
 use crate::guards::inside;

@@ -12,7 +12,8 @@ ghost use Rattle.lois_deciders.specs.Conjunction.{IsSampledConjunction, AreIncon
 ghost use Rattle.lois_deciders.specs.OnlyAsked.{HasOnlyAsked};
 ghost use Rattle.lois_simplify.specs.Simplification.{IsSimplification, IsSameWhere, set_of};
 ghost use Rattle.lois_simplify.specs.Irredundant.{HasNormalGuards, PartsHaveNormalGuards};
-ghost use Rattle.lois_simplify.specs.Plain.{HasPlainGuards, PartsHavePlainGuards, IsLeanComp};
+ghost use Rattle.lois_simplify.specs.Plain.{HasPlainGuards, PartsHavePlainGuards};
+ghost use Rattle.lois_simplify.specs.Lean.{IsLeanComp};
 ghost use Rattle.lois_simplify.specs.Rounds.{only, listed_comp, IsRoundOf};
 
 use crate::covering::uncovered;
