@@ -9,7 +9,7 @@ use Rattle.lois_base.specs.Truth.{holds, sampled}
 use Rattle.lois_base.specs.Values.{PointValue, point, IsSame, IsIn, IsIncluded}
 use Rattle.lois_base.specs.declared.guards.Lit.{Lit}
 use Rattle.lois_base.proofs.Members.{same_refl, same_sym, same_trans, in_same, in_included, member_in}
-use Rattle.lois_deciders.specs.Satisfaction.{IsCounterexample}
+use Rattle.lois_deciders.specs.Satisfiability.{IsCounterexample}
 use Rattle.lois_meaning.specs.Automata.{IsPair, IsTriple, HasStep, IsDeterministic, IsComplete}
 use Rattle.lois_meaning.proofs.Operations.{pair_exists, pair_both, triple_both, step_move}
 use Rattle.lois_automata.specs.Built.{ArePairs}

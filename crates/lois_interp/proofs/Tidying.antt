@@ -14,7 +14,7 @@ use Rattle.lois_base.specs.declared.guards.Lit.{Lit}
 use Rattle.lois_base.proofs.Members.{same_refl, same_trans, same_as_set}
 use Rattle.lois_base.proofs.Lists.{items_fit_append}
 use Rattle.lois_algebra.proofs.Among.{admits_items-append, widths-append}
-use Rattle.lois_deciders.specs.Satisfaction.{ConstraintIsSatisfiable}
+use Rattle.lois_deciders.specs.Satisfiability.{ConstraintIsSatisfiable}
 use Rattle.lois_simplify.proofs.Kept.{alike_kept}
 use Rattle.lois_simplify.proofs.Members.{items_fit_each, each_fits_items, items_admit_each, each_admits_items, items_wide_each, each_wide_items}
 use Rattle.lois_terms.specs.Guarded.{IsColl}

@@ -5,7 +5,7 @@ ghost use Rattle.std.specs.List.{All};
 ghost use Rattle.lois_base.specs.Fits.{ConstraintFits, Fits};
 ghost use Rattle.lois_base.specs.Tree.{tree};
 ghost use Rattle.lois_base.specs.Validity.{AdmitsConstraint, AdmitsTerm};
-ghost use Rattle.lois_deciders.specs.Satisfaction.{ConstraintIsSatisfiable};
+ghost use Rattle.lois_deciders.specs.Satisfiability.{ConstraintIsSatisfiable};
 ghost use Rattle.lois_deciders.specs.OnlyAsked.{HasOnlyAsked};
 ghost use Rattle.lois_terms.specs.Guarded.{IsColl};
 ghost use Rattle.lois_context.specs.Choices.{AdmitsContext};

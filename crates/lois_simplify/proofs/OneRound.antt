@@ -17,7 +17,7 @@ use Rattle.lois_base.specs.declared.values.Comp.{Comp}
 use Rattle.lois_base.proofs.Both.{holds_both}
 use Rattle.lois_base.proofs.RenamedForm.{NamesFit, depth_renamed, widths_renamed, admits_renamed, fits_renamed}
 use Rattle.lois_constraint.specs.Normalised.{IsNormalised}
-use Rattle.lois_deciders.specs.Satisfaction.{ConstraintIsSatisfiable}
+use Rattle.lois_deciders.specs.Satisfiability.{ConstraintIsSatisfiable}
 use Rattle.lois_base.specs.Bound.{HoldsForSome}
 use Rattle.lois_simplify.specs.Fixed.{IsFixed}
 use Rattle.lois_simplify.specs.Simplification.{IsSameWhere, IsSimplification, set_of}

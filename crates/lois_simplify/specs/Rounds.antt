@@ -10,7 +10,7 @@ use Rattle.lois_base.specs.Validity.{AdmitsConstraint}
 use Rattle.lois_base.specs.declared.guards.Lit.{Lit}
 use Rattle.lois_base.specs.declared.values.Comp.{Comp}
 use Rattle.lois_constraint.specs.Normalised.{IsNormalised}
-use Rattle.lois_deciders.specs.Satisfaction.{ConstraintIsSatisfiable}
+use Rattle.lois_deciders.specs.Satisfiability.{ConstraintIsSatisfiable}
 use Rattle.lois_simplify.specs.Fixed.{CanBeApart}
 use Rattle.lois_simplify.specs.Plain.{IsPlain}
 use Rattle.lois_simplify.specs.Lean.{IsLeanComp}
