@@ -11,7 +11,7 @@ use Rattle.lois_base.specs.declared.values.Term.{Term}
 use Rattle.lois_base.specs.declared.values.Term.TheVariants.{Var, Tag, Tup, Coll}
 use Rattle.lois_base.proofs.Viewed.{rest_is}
 use Rattle.lois_terms.specs.Binding.{BindsNothing, CompBindsNothing, ItemsBindNothing}
-use Rattle.lois_terms.specs.Guarded.{IsColl}
+use Rattle.lois_terms.specs.Collections.{IsColl}
 use Rattle.lois_terms.specs.Hash.{mixed, written_hash}
 use Rattle.lois_terms.proofs.Heights.{depth_append}
 use Rattle.lois_context.specs.Content.{own_count, with_comps, of_tree, of_tree-tree}

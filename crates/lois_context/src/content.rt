@@ -8,7 +8,7 @@ ghost use Rattle.lois_base.specs.Values.{point, IsDeeper};
 ghost use Rattle.lois_base.specs.declared.limits.TheConstants.{GREATEST_DEPTH};
 ghost use Rattle.lois_base.specs.declared.values.Term.{Term};
 ghost use Rattle.lois_terms.specs.Binding.{BindsNothing, ItemsBindNothing};
-ghost use Rattle.lois_terms.specs.Guarded.{IsColl};
+ghost use Rattle.lois_terms.specs.Collections.{IsColl};
 ghost use Rattle.lois_context.specs.Content.{with_comps};
 ghost use Rattle.lois_context.specs.Entered.{comps_listed};
 ghost use Rattle.lois_context.specs.Hash.{content_hash};

@@ -8,7 +8,7 @@ use Rattle.lois_base.proofs.Members.{same_refl, same_sym, same_trans, in_same}
 use Rattle.lois_algebra.specs.Gathered.{IsCompMember, IsPut}
 use Rattle.lois_algebra.specs.Sets.{IsUnion}
 use Rattle.lois_algebra.proofs.Among.{among_in}
-use Rattle.lois_terms.specs.Guarded.{IsColl}
+use Rattle.lois_terms.specs.Collections.{IsColl}
 use Rattle.lois_meaning.specs.Automata.{Automaton, JoinsStates, IsAutomatonOf, HasStep, Reads, Accepts, IsDeterministic, IsComplete}
 use Rattle.lois_meaning.specs.Kinds.{HasParts}
 use Rattle.lois_meaning.proofs.Operations.{triple_both, step_move}

@@ -24,7 +24,7 @@ use Rattle.lois_context.specs.Slots.{store_at}
 use Rattle.lois_context.specs.ItemCounts.{comps_in}
 use Rattle.lois_context.specs.Choices.{AdmitsContext}
 use Rattle.lois_context.specs.declared.contexts.Context.{Context}
-use Rattle.lois_terms.specs.Guarded.{IsColl as IsSetTerm}
+use Rattle.lois_terms.specs.Collections.{IsColl as IsSetTerm}
 use Rattle.lois_eval.specs.Evaluated.{IsTermOf, AreTermsOf}
 use Rattle.lois_eval.specs.Checks.{IsDepthFault}
 use Rattle.lois_eval.specs.Operands.{IsAppliedThroughout, IsUnfitAmong, IsUnfitFault}

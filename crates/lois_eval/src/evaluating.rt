@@ -15,7 +15,7 @@ ghost use Rattle.lois_meaning.specs.Faults.{Fails, Breaks, SomeFails, CondFails,
 ghost use Rattle.lois_script.specs.Tree.{each};
 ghost use Rattle.lois_script.specs.View.{tree, cond_tree, binding_tree, exprs_of, bindings_of, conds_of};
 ghost use Rattle.lois_script.specs.Lists.{exprs_list, conds_list};
-ghost use Rattle.lois_terms.specs.Guarded.{IsColl};
+ghost use Rattle.lois_terms.specs.Collections.{IsColl};
 ghost use Rattle.lois_context.specs.Choices.{IsAdmitted, IsAdmittedBy, AdmitsContext, ContextHasBoundedWidths};
 ghost use Rattle.lois_context.specs.Entered.{AreEntered};
 ghost use Rattle.lois_context.specs.Sides.{IsSide};

@@ -8,7 +8,7 @@ ghost use Rattle.lois_base.specs.Validity.{AdmitsTerm, AdmitsParts, HasBoundedWi
 ghost use Rattle.lois_script.specs.View.{exprs_of};
 ghost use Rattle.lois_script.specs.Lists.{exprs_list};
 ghost use Rattle.lois_script.specs.declared.syntax.Operation.TheVariants.{Flatten};
-ghost use Rattle.lois_terms.specs.Guarded.{IsColl};
+ghost use Rattle.lois_terms.specs.Collections.{IsColl};
 ghost use Rattle.lois_context.specs.Choices.{AdmitsContext};
 ghost use Rattle.lois_eval.specs.Checks.{IsSetFault};
 ghost use Rattle.lois_eval.specs.Operands.{IsOfTwoSets, IsAppliedThroughout, IsUnfitFault, IsMemberFault};

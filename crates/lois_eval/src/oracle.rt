@@ -13,7 +13,7 @@ ghost use Rattle.lois_deciders.specs.OnlyAsked.{HasOnlyAsked};
 ghost use Rattle.lois_meaning.specs.Faults.{IsNoAutomaton};
 ghost use Rattle.lois_script.specs.View.{exprs_of};
 ghost use Rattle.lois_script.specs.Lists.{exprs_list};
-ghost use Rattle.lois_terms.specs.Guarded.{IsColl};
+ghost use Rattle.lois_terms.specs.Collections.{IsColl};
 ghost use Rattle.lois_context.specs.Choices.{IsAdmitted, IsAdmittedBy, AdmitsContext};
 ghost use Rattle.lois_context.specs.Entered.{AreEntered};
 ghost use Rattle.lois_context.specs.Sides.{IsSide};

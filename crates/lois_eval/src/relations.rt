@@ -11,7 +11,7 @@ ghost use Rattle.lois_base.specs.Truth.{holds};
 ghost use Rattle.lois_base.specs.Validity.{AdmitsTerm, AdmitsConstraint, AdmitsFormula};
 ghost use Rattle.lois_base.specs.Values.{point, IsSame, IsIn, IsIncluded};
 ghost use Rattle.lois_relate.specs.Relations.{HoldsWhereIn};
-ghost use Rattle.lois_terms.specs.Guarded.{IsColl};
+ghost use Rattle.lois_terms.specs.Collections.{IsColl};
 ghost use Rattle.lois_eval.specs.Candidates.{HasValueAt};
 ghost use Rattle.lois_eval.specs.Compared.{IsBelowFault, AreAtomsBelow};
 ghost use Rattle.lois_eval.specs.Throughout.{IfFault};

@@ -13,7 +13,7 @@ use Rattle.lois_base.proofs.Lists.{items_fit_append}
 use Rattle.lois_algebra.proofs.Among.{admits_items-append, widths-append}
 use Rattle.lois_meaning.specs.Runs.{IsSetWith}
 use Rattle.lois_meaning.specs.declared.faults.Fault.{Fault}
-use Rattle.lois_terms.specs.Guarded.{IsColl}
+use Rattle.lois_terms.specs.Collections.{IsColl}
 use Rattle.lois_context.specs.Choices.{IsAdmitted, AdmitsContext, ContextHasBoundedWidths}
 use Rattle.lois_context.specs.Entered.{items_listed}
 use Rattle.lois_context.specs.Kept.{IsSlot}

@@ -19,7 +19,7 @@ use Rattle.lois_meaning.specs.Kinds.{IsSetTerm}
 use Rattle.lois_meaning.specs.Runs.{IsSetWith}
 use Rattle.lois_meaning.specs.Store.{looked_up, depth_limit}
 use Rattle.lois_meaning.specs.declared.faults.Fault.{Fault}
-use Rattle.lois_terms.specs.Guarded.{IsColl}
+use Rattle.lois_terms.specs.Collections.{IsColl}
 use Rattle.lois_context.specs.Choices.{IsAdmitted}
 use Rattle.lois_context.specs.Slots.{SlotD, IsNew, store_at}
 use Rattle.lois_context.specs.declared.contexts.Context.{Context}

@@ -7,7 +7,7 @@ ghost use Rattle.lois_base.specs.Tree.{tree};
 ghost use Rattle.lois_base.specs.Validity.{AdmitsConstraint, AdmitsTerm};
 ghost use Rattle.lois_deciders.specs.Satisfiability.{ConstraintIsSatisfiable};
 ghost use Rattle.lois_deciders.specs.OnlyAsked.{HasOnlyAsked};
-ghost use Rattle.lois_terms.specs.Guarded.{IsColl};
+ghost use Rattle.lois_terms.specs.Collections.{IsColl};
 ghost use Rattle.lois_context.specs.Choices.{AdmitsContext};
 ghost use Rattle.lois_context.specs.Joined.{IsEnd};
 ghost use Rattle.lois_context.specs.Entered.{comps_listed};

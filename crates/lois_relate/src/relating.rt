@@ -11,7 +11,7 @@ ghost use Rattle.lois_base.specs.Truth.{atom_at};
 ghost use Rattle.lois_base.specs.Tree.{tree, comp_of};
 ghost use Rattle.lois_base.specs.Validity.{AdmitsTerm, AdmitsParts, AdmitsComp, AdmitsItems, AdmitsFormula};
 ghost use Rattle.lois_base.specs.Values.{SameAt, SamePartsAt, AllInAt, EachInAt, SomeIsAt, OneIsAt};
-ghost use Rattle.lois_terms.specs.Guarded.{IsColl};
+ghost use Rattle.lois_terms.specs.Collections.{IsColl};
 ghost use Rattle.lois_terms.specs.Shapes.{item_shape};
 ghost use Rattle.lois_relate.specs.Candidates.{comps_at, AreCandidates};
 ghost use Rattle.lois_relate.specs.Built.{Defines};
