@@ -2,10 +2,10 @@
 use Rattle.std.specs.Prelude.{◌≡◌, ◌+◌, ◌≤◌, ◌⊎◌, ℕ, List, [], length, Option, None}
 use Rattle.std.specs.Io.KnownBytes.{Appends}
 use Rattle.lois_base.specs.declared.limits.TheConstants.{LONGEST_TEXT}
-use Rattle.lois_outside.specs.Calls.{TakesPieces, Writes}
+use Rattle.lois_outside.specs.Calls.{TakesPieces}
+use Rattle.lois_outside.specs.Writing.{Writes, AppendsProperPrefix, FailsWriting}
 use Rattle.lois_outside.specs.Faults.{Rose}
 use Rattle.lois_outside.specs.Reading.{TookAtMost}
-use Rattle.lois_outside.specs.Writing.{AppendsProperPrefix, FailsWriting}
 use Rattle.lois_command.specs.Sources.{TakeRelation}
 
 -- calls that gave these bytes, within one more than the limit in all, of which the last one may have failed
