@@ -1,7 +1,8 @@
 //! The members of the members of a set.
 
 ghost use Rattle.std.specs.Prelude.{◌+◌, ◌≤◌, Bool, IfOk, OnOk};
-ghost use Rattle.lois_base.specs.Data.{coll, comps_of, depth, depth_of_comps};
+ghost use Rattle.lois_base.specs.Data.{coll, comps_of, depth};
+ghost use Rattle.lois_base.specs.ListDepth.{depth_of_comps};
 ghost use Rattle.lois_base.specs.Fits.{ConstraintFits, Fits, CompFits, ItemsFit};
 ghost use Rattle.lois_base.specs.Tree.{tree, comp_of};
 ghost use Rattle.lois_base.specs.Validity.{AdmitsTerm, AdmitsItems, HasBoundedWidths, ItemsHaveBoundedWidths};

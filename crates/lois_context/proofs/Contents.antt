@@ -5,7 +5,8 @@ use Rattle.std.proofs.Math.Seq.{drop-nil}
 use Rattle.std.proofs.lemmas.List.Sums.{fold-append}
 use Rattle.std.proofs.lemmas.List.Elements.{Contains-append_left, Contains-append_right}
 use Rattle.std.specs.List.{Contains}
-use Rattle.lois_base.specs.Data.{TermD, var, tag, tup, coll, CompD, comps_of, depth, depth_of_comps}
+use Rattle.lois_base.specs.Data.{TermD, var, tag, tup, coll, CompD, comps_of, depth}
+use Rattle.lois_base.specs.ListDepth.{depth_of_comps}
 use Rattle.lois_base.specs.Tree.{tree}
 use Rattle.lois_base.specs.declared.values.Term.{Term}
 use Rattle.lois_base.specs.declared.values.Term.TheVariants.{Var, Tag, Tup, Coll}

@@ -2,7 +2,8 @@
 
 ghost use Rattle.std.specs.Prelude.{◌≡◌, ◌+◌, ◌<◌, ◌≤◌, ◌^◌, ◌↔◌, List, [], ◌∷◌, ◌++◌, length, get_or, map, take, drop, IfOk, OnOk, IsTrue, Contains};
 ghost use Rattle.lois_base.specs.Atom.{Atom};
-ghost use Rattle.lois_base.specs.Data.{CompD, comps_of, depth, depth_of_comps};
+ghost use Rattle.lois_base.specs.Data.{CompD, comps_of, depth};
+ghost use Rattle.lois_base.specs.ListDepth.{depth_of_comps};
 ghost use Rattle.lois_base.specs.Tree.{tree, comp_of};
 ghost use Rattle.lois_base.specs.Values.{point, IsDeeper};
 ghost use Rattle.lois_base.specs.declared.limits.TheConstants.{GREATEST_DEPTH};

@@ -9,7 +9,7 @@ use Rattle.lois_base.specs.Values.{PointValue, point}
 use Rattle.lois_base.specs.Data.{TermD}
 use Rattle.lois_base.specs.Fits.{Fits}
 use Rattle.lois_base.specs.Normal.{IsNormal}
-use Rattle.lois_base.specs.Validity.{IsOrderFreeTerm}
+use Rattle.lois_base.specs.OrderFree.{IsOrderFreeTerm}
 use Rattle.lois_base.specs.declared.guards.Lit.{Lit}
 use Rattle.lois_context.specs.ItemCounts.{comps_in}
 use Rattle.lois_meaning.specs.Kinds.{IsSetOf}

@@ -3,7 +3,8 @@ use Rattle.std.proofs.Common.{◌≡◌, ℕ, ◌+◌, ◌≤◌, ◌<◌, Bool,
 use Rattle.std.specs.Bool.{IsTrue}
 use Rattle.lois_answers.specs.Sound.{CompHasTags, ItemsHaveTags}
 use Rattle.lois_base.specs.Atom.{Atom}
-use Rattle.lois_base.specs.Data.{TermD, CompD, comp, comps_of, depth_of_comp, depth_of_comps}
+use Rattle.lois_base.specs.Data.{TermD, CompD, comp, comps_of, depth_of_comp}
+use Rattle.lois_base.specs.ListDepth.{depth_of_comps}
 use Rattle.lois_base.specs.Fits.{CompFits, ItemsFit}
 use Rattle.lois_base.specs.Truth.{holds}
 use Rattle.lois_base.specs.Validity.{AdmitsComp, AdmitsItems, CompIsStrict, ItemsAreStrict, CompHasBoundedWidths, ItemsHaveBoundedWidths}
