@@ -3,10 +3,12 @@
     trusted.py                    prints for `Headline` and for `IsOutcomeOf`, file by file, the definitions that are reached and their
                                   lines, and then those that are over 300 characters or 30 lines
     trusted.py --names            prints the names of the reached definitions alone, by file
+    trusted.py --beside           lists the definitions that stand in a file with reached ones and aren't reached themselves, and ends with 1
+                                  where there are any but those that BESIDE names, or where one that it names is none
     trusted.py --documents        lists the entries of docs/DEFINITIONS.md whose definition isn't where they say, and ends with 1 where
                                   there are any
-    trusted.py --selftest         plants a definition that the headline rests on, and an entry of a wrong file, in a copy, and ends with 0
-                                  where both are found
+    trusted.py --selftest         plants a definition that the headline rests on, one beside it, and an entry of a wrong file, in a copy, and
+                                  ends with 0 where all three are found
 
 Lines are those of the definitions themselves: comments, imports and empty lines aren't counted. Types of the code that a definition
 names are listed without lines: their declarations are read by the compiler too.
@@ -21,8 +23,13 @@ import finding
 
 ROOTS = [("lois_run", "Headline", "Headline"), ("lois_run", "Causes", "IsOutcomeOf")]
 LONGEST, TALLEST = 300, 30
+# What stands beside reached definitions though it isn't reached, and why.
+BESIDE = {
+    ("lois_base", "Values", "IsProper"): "the text above PointValue says by it what a value is",
+    ("lois_outside", "Faults", "next_count"): "the count that stands still at greatest_count, above it",
+}
 COMMENT = re.compile(r"(?:^|(?<=\s))--(?=\s|-|$).*$")
-IMPORT = re.compile(r"^(?:pub )?use (?P<path>\S+?)(?:\.\{(?P<items>[^}]*)\})?$")
+IMPORT = re.compile(r"^(?:pub )?use (?P<path>\S+?)(?:\.\{(?P<items>[^}]*)\}| as (?P<alias>\S+))?$")
 HEAD = re.compile(r"^(?P<indent> *)(?:(?:pub|abbrev|unfoldable|mutual|private) )*(?P<kind>record |data )?(?P<name>[^\s(){}\[\],;:]+)(?= [:({]|$)(?=.*:)")
 ENTRY = re.compile(r"^(?:- )?(?P<names>(?:`[^`]+`(?:, )?)+|\*\*[^*]+\*\*)(?: \((?P<said>[^)]*)\))?")
 WORD = re.compile(r"[^\s(){}\[\],;.]+")
@@ -50,7 +57,7 @@ class Definition:
 
 
 def read_file(path):
-    """The imports of a file, as (path, names by the name that they have here), and its definitions in order."""
+    """The imports of a file, as (path, name) by the name that they have here, with no name where it is a module; and its definitions."""
     with open(path, encoding="utf-8") as file:
         lines = [COMMENT.sub("", line).rstrip() for line in file.read().split("\n")]
     imports, definitions = {}, []
@@ -58,6 +65,8 @@ def read_file(path):
     for line in filter(None, lines):
         use = IMPORT.match(line)
         if use and not line[0].isspace():
+            if use.group("alias"):
+                imports[use.group("alias")] = (use.group("path"), None)
             for item in filter(None, re.split(r",\s*", use.group("items") or "")):
                 name, _, alias = item.partition(" as ")
                 imports[alias or name] = (use.group("path"), name)
@@ -99,6 +108,16 @@ def spelled(name):
     return [part for part in name.strip("«»").split("◌") if part] if "◌" in name else [name]
 
 
+def found_at(modules, path, name):
+    """The module and the definition of the name that the module at the path has or hands on."""
+    while path in modules:
+        imports, own = modules[path]
+        if name in own:
+            return path, own[name]
+        path, name = imports.get(name, (None, None))
+    return None
+
+
 def reached(modules, root):
     """The definitions that the root rests on, itself among them, and the types of the code that they name."""
     module, name = root
@@ -110,6 +129,7 @@ def reached(modules, root):
         done[definition] = module
         imports, own = modules[module]
         words = definition.words()
+        text = "\n".join(definition.lines)
         for name, other in own.items():
             if other is not definition and any(word in words for word in spelled(name)):
                 todo.append((module, other))
@@ -118,8 +138,9 @@ def reached(modules, root):
                 continue
             if ".specs.declared." in path:
                 types.add(path)
-            elif path in modules and original in modules[path][1]:
-                todo.append((path, modules[path][1][original]))
+                continue
+            originals = [original] if original else re.findall(rf"(?<![\w.]){re.escape(name)}\.([^\s(){{}}\[\],;.]+)", text)
+            todo += filter(None, (found_at(modules, path, it) for it in originals))
     return done, types
 
 
@@ -128,6 +149,19 @@ def by_file(done):
     for definition, module in done.items():
         files.setdefault(module, []).append(definition)
     return sorted(files.items())
+
+
+def beside(top):
+    """The definitions that stand in a file with reached ones and aren't reached from any root, as (crate, file, definition)."""
+    modules = read_crates(top)
+    done = {}
+    for crate, file, name in ROOTS:
+        done.update(reached(modules, (f"Rattle.{crate}.specs.{file}", name))[0])
+    for module, _ in by_file(done):
+        _, crate, _, file = module.split(".")
+        for definition in dict.fromkeys(modules[module][1].values()):
+            if definition not in done:
+                yield crate, file, definition
 
 
 def places_of(said, crates):
@@ -184,7 +218,7 @@ def report(top, names_alone=False):
 
 
 def selftest(top):
-    """Whether what is planted in a copy is found: a definition that the headline cites, and an entry of a wrong file."""
+    """Whether what is planted in a copy is found: a definition that the headline cites, one beside it, and an entry of a wrong file."""
     with tempfile.TemporaryDirectory() as work:
         for crate in os.listdir(os.path.join(top, "crates")):
             folder = os.path.join("crates", crate, "specs")
@@ -195,13 +229,18 @@ def selftest(top):
         with open(path, encoding="utf-8") as file:
             text = file.read()
         with open(path, "w", encoding="utf-8") as file:
-            file.write(text.replace("pub runs : ", "pub planted : IsPlanted s\n  pub runs : ") + "\nabbrev pub IsPlanted : ScriptD → Type 0\nIsPlanted s = ⊥\n")
+            file.write(text.replace("pub runs : ", "pub planted : IsPlanted s\n  pub runs : ") + "\nabbrev pub IsPlanted : ScriptD → Type 0\nIsPlanted s = ⊥\n"
+                + "\nabbrev pub IsPlantedBeside : ScriptD → Type 0\nIsPlantedBeside s = ⊥\n")
         with open(os.path.join(work, "docs/DEFINITIONS.md"), "a", encoding="utf-8") as file:
             file.write("\n- `IsPlanted` (`lois_base`: Values): nothing; P\n")
         done, _ = reached(read_crates(work), ("Rattle.lois_run.specs.Headline", "Headline"))
-        found = [any(it.name == "IsPlanted" for it in done), any("IsPlanted" in line for line in misplaced(work))]
-    print(f"the planted definition is {'' if found[0] else 'not '}found, and the planted entry is {'' if found[1] else 'not '}found")
-    return 0 if all(found) else 1
+        found = {
+            "definition": any(it.name == "IsPlanted" for it in done),
+            "one beside it": any(it.name == "IsPlantedBeside" for _, _, it in beside(work)),
+            "entry": any("IsPlanted" in line for line in misplaced(work)),
+        }
+    print("; ".join(f"planted {name}: {'' if it else 'not '}found" for name, it in found.items()))
+    return 0 if all(found.values()) else 1
 
 
 def main():
@@ -211,6 +250,14 @@ def main():
         found = list(misplaced(finding.TOP))
         print("\n".join(found + [f"{len(found)} misplaced"]))
         return 1 if found else 0
+    if sys.argv[1:] == ["--beside"]:
+        found = {(crate, file, it.name): len(it.lines) for crate, file, it in beside(finding.TOP)}
+        for (crate, file, name), lines in sorted(found.items()):
+            print(f"crates/{crate}/specs/{file}.antt: {name}, {lines} lines; {BESIDE.get((crate, file, name), 'it belongs in another file')}")
+        wrong = sorted(set(found) ^ set(BESIDE))
+        stale = [it for it in wrong if it not in found]
+        print("\n".join([f"BESIDE names {' '.join(it)}, which isn't there" for it in stale] + [f"{len(wrong)} wrong"]))
+        return 1 if wrong else 0
     report(finding.TOP, sys.argv[1:] == ["--names"])
     return 0
 

@@ -1,7 +1,8 @@
 -- The members of lists of comprehensions, as these lists are put together.
 use Rattle.std.proofs.Common.{◌≡◌, max, Bool, ◌⊎◌, inl, inr, ◌↔◌, List, [], ◌∷◌, ◌++◌, sym, subst, arith}
 use Rattle.lois_base.specs.Atom.{Atom}
-use Rattle.lois_base.specs.Data.{coll, CompD, CompsD, comps_of, depth_of_comps}
+use Rattle.lois_base.specs.Data.{coll, CompD, CompsD, comps_of}
+use Rattle.lois_base.specs.ListDepth.{depth_of_comps}
 use Rattle.lois_base.specs.Validity.{AdmitsItems, ItemsHaveBoundedWidths}
 use Rattle.lois_base.specs.Values.{PointValue, point, IsIn}
 use Rattle.lois_base.proofs.Lists.{items_fit_append}

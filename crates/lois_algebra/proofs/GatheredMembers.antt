@@ -15,7 +15,7 @@ use Rattle.lois_base.proofs.Members.{same_in, same_refl}
 use Rattle.lois_base.proofs.Truths.{holds_longer}
 use Rattle.lois_base.proofs.Connectives.{both_true}
 use Rattle.lois_relate.proofs.Parts.{comp_has}
-use Rattle.lois_terms.specs.Guarded.{IsColl}
+use Rattle.lois_terms.specs.Collections.{IsColl}
 use Rattle.lois_base.proofs.Validity.{fits_longer}
 use Rattle.lois_algebra.specs.Gathered.{IsAmong, IsCompMember, IsAmongExtended, IsInMember, IsInSome, IsPut, Gathers, GathersItems}
 use Rattle.lois_algebra.specs.Sets.{IsUnionOfMembers, ItemsAreSets, IsSetOfSets}

@@ -2,7 +2,8 @@
 use Rattle.std.proofs.Common.{◌≡◌, ℕ, suc, max, Bool, ◌⊎◌, inl, inr, ◌↔◌, List, [], ◌∷◌, ◌++◌, length, refl, sym, ap, subst, ◌∙◌, arith}
 use Rattle.std.specs.Bool.{IsTrue}
 use Rattle.lois_base.specs.Atom.{Atom, equal}
-use Rattle.lois_base.specs.Data.{TermD, var, coll, CompD, comp, no_comps, more, comps_of, depth, depth_of_comps}
+use Rattle.lois_base.specs.Data.{TermD, var, coll, CompD, comp, no_comps, more, comps_of, depth}
+use Rattle.lois_base.specs.ListDepth.{depth_of_comps}
 use Rattle.lois_base.specs.Fits.{Fits}
 use Rattle.lois_base.specs.Truth.{atom_at}
 use Rattle.lois_base.specs.Validity.{AdmitsTerm, HasBoundedWidths}

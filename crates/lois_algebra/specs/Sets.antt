@@ -5,7 +5,7 @@ use Rattle.lois_base.specs.Data.{TermD, var, coll, comp, CompsD, no_comps, more}
 use Rattle.lois_base.specs.FormulaData.{FormulaD}
 use Rattle.lois_base.specs.FormulaTruth.{FormulaHolds}
 use Rattle.lois_base.specs.Values.{PointValue, point, IsIn, IsDeeper}
-use Rattle.lois_terms.specs.Guarded.{IsColl}
+use Rattle.lois_terms.specs.Collections.{IsColl}
 
 -- at each choice r has exactly the members of s and those of t
 abbrev pub IsUnion : TermD → TermD → TermD → Type 0

@@ -1,11 +1,12 @@
 //! The members of the members of a set.
 
 ghost use Rattle.std.specs.Prelude.{◌+◌, ◌≤◌, Bool, IfOk, OnOk};
-ghost use Rattle.lois_base.specs.Data.{coll, comps_of, depth, depth_of_comps};
+ghost use Rattle.lois_base.specs.Data.{coll, comps_of, depth};
+ghost use Rattle.lois_base.specs.ListDepth.{depth_of_comps};
 ghost use Rattle.lois_base.specs.Fits.{ConstraintFits, Fits, CompFits, ItemsFit};
 ghost use Rattle.lois_base.specs.Tree.{tree, comp_of};
 ghost use Rattle.lois_base.specs.Validity.{AdmitsTerm, AdmitsItems, HasBoundedWidths, ItemsHaveBoundedWidths};
-ghost use Rattle.lois_terms.specs.Guarded.{IsColl};
+ghost use Rattle.lois_terms.specs.Collections.{IsColl};
 ghost use Rattle.lois_algebra.specs.Gathered.{Gathers, GathersItems};
 ghost use Rattle.lois_algebra.specs.Sets.{IsUnionOfMembers, ItemsAreSets, IsSetOfSets};
 

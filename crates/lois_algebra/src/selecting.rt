@@ -1,11 +1,12 @@
 //! The members of one set that are, or aren't, in another.
 
 ghost use Rattle.std.specs.Prelude.{◌≡◌, ℕ, ◌+◌, ◌≤◌, Bool, true, false, map, IfOk};
-ghost use Rattle.lois_base.specs.Data.{coll, comps_of, depth, depth_of_comps};
+ghost use Rattle.lois_base.specs.Data.{coll, comps_of, depth};
+ghost use Rattle.lois_base.specs.ListDepth.{depth_of_comps};
 ghost use Rattle.lois_base.specs.Fits.{ConstraintFits, Fits, CompFits, ItemsFit};
 ghost use Rattle.lois_base.specs.Tree.{tree, comp_of};
 ghost use Rattle.lois_base.specs.Validity.{AdmitsConstraint, AdmitsTerm, AdmitsComp, AdmitsItems, HasBoundedWidths, ItemsHaveBoundedWidths};
-ghost use Rattle.lois_terms.specs.Guarded.{IsColl};
+ghost use Rattle.lois_terms.specs.Collections.{IsColl};
 ghost use Rattle.lois_terms.specs.Shapes.{item_shape};
 ghost use Rattle.lois_algebra.specs.Selected.{IsSelection, IsSelectedGuard, IsSelectedPart};
 ghost use Rattle.lois_algebra.specs.Sets.{IsIntersection, IsDifference};

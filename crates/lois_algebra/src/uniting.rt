@@ -5,7 +5,7 @@ ghost use Rattle.lois_base.specs.Data.{depth};
 ghost use Rattle.lois_base.specs.Fits.{Fits};
 ghost use Rattle.lois_base.specs.Tree.{tree, comp_of};
 ghost use Rattle.lois_base.specs.Validity.{AdmitsTerm, HasBoundedWidths};
-ghost use Rattle.lois_terms.specs.Guarded.{IsColl};
+ghost use Rattle.lois_terms.specs.Collections.{IsColl};
 ghost use Rattle.lois_algebra.specs.Sets.{IsUnion, HasAllAtoms};
 
 use lois_base::{Comp, Comps, Constraint, NoMemory, Term};

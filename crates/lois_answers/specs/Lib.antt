@@ -1,4 +1,5 @@
 pub mod ResultsData
+pub mod ResultsCodes
 pub mod LineView
 pub mod CaseView
 pub mod LastNamed

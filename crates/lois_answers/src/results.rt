@@ -21,7 +21,8 @@ pub struct Lines {
 
 impl Model for Lines {
     ghost use Rattle.std.specs.Prelude.{List, map};
-    ghost use Rattle.lois_answers.specs.ResultsData.{LineD, lines_code};
+    ghost use Rattle.lois_answers.specs.ResultsData.{LineD};
+    ghost use Rattle.lois_answers.specs.ResultsCodes.{lines_code};
     ghost use Rattle.lois_answers.specs.LineView.{line_of};
 
     ghost Value = { List LineD };
@@ -46,7 +47,8 @@ pub struct Cases {
 
 impl Model for Cases {
     ghost use Rattle.std.specs.Prelude.{List, map};
-    ghost use Rattle.lois_answers.specs.ResultsData.{CaseD, cases_code};
+    ghost use Rattle.lois_answers.specs.ResultsData.{CaseD};
+    ghost use Rattle.lois_answers.specs.ResultsCodes.{cases_code};
     ghost use Rattle.lois_answers.specs.CaseView.{case_of};
 
     ghost Value = { List CaseD };

@@ -2,7 +2,8 @@
 
 ghost use Rattle.std.specs.Prelude.{◌≡◌, ◌↔◌, ◌<◌, ◌≤◌, IsTrue, Contains};
 ghost use Rattle.std.specs.List.{All};
-ghost use Rattle.lois_base.specs.Data.{depth, depth_of_terms, depth_of_comps, terms_of, comps_of};
+ghost use Rattle.lois_base.specs.Data.{depth, terms_of, comps_of};
+ghost use Rattle.lois_base.specs.ListDepth.{depth_of_terms, depth_of_comps};
 ghost use Rattle.lois_base.specs.Tree.{tree, comp_of};
 ghost use Rattle.lois_base.specs.Validity.{is_admitted, is_strict, AdmitsCube, AdmitsConstraint, AdmitsTerm, AdmitsParts, AdmitsItems, AdmitsComp, IsStrictCube, IsStrictConstraint, IsStrictTerm, PartsAreStrict, ItemsAreStrict, CompIsStrict, HasBoundedWidths, PartsHaveBoundedWidths, ItemsHaveBoundedWidths};
 ghost use Rattle.lois_answers.specs.LineView.{line_of};

@@ -13,7 +13,7 @@ use Rattle.lois_relate.specs.Apart.{AreNeverSame}
 use Rattle.lois_meaning.proofs.Tuples.{triple_to}
 use Rattle.lois_automata.specs.Adding.{AddsOfTwo, IsMadeOfTwo, IsStepOf}
 use Rattle.lois_automata.specs.Projections.{AllAgree, pair_of, triple_of}
-use Rattle.lois_automata.specs.Throughout.{HoldsUnless}
+use Rattle.lois_automata.specs.Verdicts.{HoldsUnless}
 use Rattle.lois_automata.proofs.Adding.{adds_nothing}
 use Rattle.lois_automata.proofs.Written.{pair_here, pair_term, triple_here, triple_term}
 

@@ -9,7 +9,7 @@ use Rattle.lois_base.specs.Truth.{holds, sampled}
 use Rattle.lois_base.specs.Values.{PointValue, point, IsSame, IsIn, IsIncluded}
 use Rattle.lois_base.specs.declared.guards.Lit.{Lit}
 use Rattle.lois_base.proofs.Members.{same_refl, same_sym, same_trans, in_same, in_included, member_in}
-use Rattle.lois_deciders.specs.Satisfaction.{IsCounterexample}
+use Rattle.lois_deciders.specs.Satisfiability.{IsCounterexample}
 use Rattle.lois_meaning.specs.Automata.{IsPair, IsTriple, HasStep, IsDeterministic, IsComplete}
 use Rattle.lois_meaning.proofs.Operations.{pair_exists, pair_both, triple_both, step_move}
 use Rattle.lois_automata.specs.Built.{ArePairs}
@@ -18,8 +18,10 @@ use Rattle.lois_automata.specs.declared.projections.Projection.{Projection}
 use Rattle.lois_automata.specs.declared.projections.Projection.TheVariants.{Source, Label, Target, Outgoing, Keyed}
 use Rattle.lois_automata.specs.declared.verdicts.Verdict.{Verdict}
 use Rattle.lois_automata.specs.declared.verdicts.Verdict.TheVariants.{Holds, Fails}
-use Rattle.lois_automata.specs.Machines.{IsAutomatonAt, IsDeterministicAt, IsCompleteAt}
-use Rattle.lois_automata.specs.Throughout.{HoldsThroughout, HoldsWhere, IsBreak, IsVerdictOn}
+use Rattle.lois_automata.specs.Machines.{IsAutomatonAt, IsCompleteAt}
+use Rattle.lois_automata.specs.Deterministic.{IsDeterministicAt}
+use Rattle.lois_automata.specs.Throughout.{HoldsThroughout}
+use Rattle.lois_automata.specs.Verdicts.{HoldsWhere, IsBreak, IsVerdictOn}
 use Rattle.lois_automata.proofs.Tests.{both_where}
 use Rattle.lois_automata.proofs.FiveMachine.{five_equal, five_machine}
 use Rattle.lois_automata.proofs.Written.{triple_is}

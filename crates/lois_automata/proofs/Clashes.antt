@@ -17,7 +17,7 @@ use Rattle.lois_meaning.proofs.Operations.{pair_to}
 use Rattle.lois_meaning.proofs.Tuples.{pair_parts}
 use Rattle.lois_automata.specs.Built.{AreBeside}
 use Rattle.lois_automata.specs.Projections.{AllAgree, pair_of}
-use Rattle.lois_automata.specs.Throughout.{HoldsWhere, HoldsUnless}
+use Rattle.lois_automata.specs.Verdicts.{HoldsWhere, HoldsUnless}
 use Rattle.lois_automata.proofs.Written.{pair_is, pair_here, pair_term}
 
 -- where one of the two makes no pairs, all pairs agree

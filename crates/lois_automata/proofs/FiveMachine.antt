@@ -7,7 +7,7 @@ use Rattle.lois_base.specs.Truth.{holds}
 use Rattle.lois_base.specs.Values.{PointValue, point, IsIn}
 use Rattle.lois_base.specs.declared.guards.Lit.{Lit}
 use Rattle.lois_algebra.specs.Sets.{IsIntersection, IsDifference}
-use Rattle.lois_terms.specs.Guarded.{IsColl}
+use Rattle.lois_terms.specs.Collections.{IsColl}
 use Rattle.lois_meaning.specs.Automata.{Automaton, IsAutomatonOf, Accepts, IsDeterministic, IsComplete, IsProductOf}
 use Rattle.lois_meaning.specs.Kinds.{IsSetOf}
 use Rattle.lois_meaning.proofs.Operations.{products_accept_both, complements_accept_others}
@@ -16,7 +16,8 @@ use Rattle.lois_automata.specs.Projections.{five_of, five_terms, automaton_at, A
 use Rattle.lois_automata.specs.declared.projections.Projection.TheVariants.{Move}
 use Rattle.lois_automata.specs.Machines.{IsAutomatonAt, IsReachAt, IsEmptyAt, AcceptsSomeAt, IsCompleteDeterministicAt, IsProductAt, IsComplementAt, AcceptsBothAt, AcceptsOthersAt}
 use Rattle.lois_automata.specs.Reachability.{graph_at, IsReached}
-use Rattle.lois_automata.specs.Throughout.{HoldsThroughout, HoldsUnless}
+use Rattle.lois_automata.specs.Throughout.{HoldsThroughout}
+use Rattle.lois_automata.specs.Verdicts.{HoldsUnless}
 use Rattle.lois_automata.proofs.Machines.{product_automaton, with_final, is_complement, complement_automaton, accepts_some}
 use Rattle.lois_automata.proofs.ReachIs.{reach_exactly}
 

@@ -18,7 +18,7 @@ use Rattle.lois_elim.specs.Bound.{AgreesWith, HoldsForSomeMore}
 use Rattle.lois_base.proofs.Connectives.{both_true, either_true}
 use Rattle.lois_relate.proofs.Parts.{comps_from, comps_are, no_comps_left}
 use Rattle.lois_automata.specs.Projections.{AllAgree, IsFunction}
-use Rattle.lois_automata.specs.Throughout.{HoldsWhere, HoldsUnless}
+use Rattle.lois_automata.specs.Verdicts.{HoldsWhere, HoldsUnless}
 
 either_false : (p q : Bool) → IsFalse (p || q) → IsFalse p × IsFalse q
 either_false true q h = absurd (false≢true (sym h))

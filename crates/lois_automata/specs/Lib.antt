@@ -1,5 +1,7 @@
 pub mod Throughout
+pub mod Verdicts
 pub mod Machines
+pub mod Deterministic
 pub mod Reachability
 pub mod Rounds
 pub mod RoundsLaw

@@ -3,17 +3,13 @@ use Rattle.std.specs.Prelude.{List, [], ◌∷◌, ◌↔◌}
 use Rattle.lois_base.specs.Atom.{Atom}
 use Rattle.lois_base.specs.Data.{TermD}
 use Rattle.lois_base.specs.Values.{PointValue, point}
-use Rattle.lois_meaning.specs.Automata.{Automaton, IsAutomatonOf, IsAutomaton, Accepts, IsDeterministic, IsComplete}
+use Rattle.lois_meaning.specs.Automata.{Automaton, IsAutomatonOf, IsAutomaton, Accepts, IsComplete}
 use Rattle.lois_meaning.specs.Expressions.{IsResultOf, IsCompleteDeterministic}
 use Rattle.lois_meaning.specs.Operations.{AreLetters}
 use Rattle.lois_script.specs.declared.syntax.Operation.TheVariants.{Reach, Product, Complement}
 
 abbrev pub IsAutomatonAt : TermD → List Atom → Type 0
 IsAutomatonAt t c = IsAutomaton (point t c)
-
--- an automaton with exactly one initial state, and at most one step for a state and a letter
-abbrev pub IsDeterministicAt : TermD → List Atom → Type 0
-IsDeterministicAt t c = (a : Automaton) × IsAutomatonOf (point t c) a × IsDeterministic a
 
 -- an automaton with at least one step for a state and a letter
 abbrev pub IsCompleteAt : TermD → List Atom → Type 0

@@ -1,30 +1,9 @@
 -- What is said of the choices that a constraint admits, and of a verdict.
-use Rattle.std.specs.Prelude.{◌≡◌, ℕ, List, length, IsTrue, IsFalse, ◌↔◌}
+use Rattle.std.specs.Prelude.{◌≡◌, ℕ, List, length, IsTrue}
 use Rattle.lois_base.specs.Atom.{Atom}
-use Rattle.lois_base.specs.Truth.{holds, sampled}
+use Rattle.lois_base.specs.Truth.{holds}
 use Rattle.lois_base.specs.declared.guards.Lit.{Lit}
-use Rattle.lois_automata.specs.declared.verdicts.Verdict.{Verdict}
-use Rattle.lois_automata.specs.declared.verdicts.Verdict.TheVariants.{Holds, Fails}
 
 -- the property holds at each choice of n atoms that u admits
 abbrev pub HoldsThroughout : ℕ → List (List Lit) → (List Atom → Type 0) → Type 0
 HoldsThroughout n u P = (c : List Atom) → length c ≡ n → IsTrue (holds c u) → P c
-
--- at each choice of n atoms the constraint holds exactly where P does
-abbrev pub HoldsWhere : ℕ → (List Atom → Type 0) → List (List Lit) → Type 0
-HoldsWhere n P r = (c : List Atom) → length c ≡ n → IsTrue (holds c r) ↔ P c
-
--- at each choice of n atoms at which the constraint holds P doesn't, and at the others it does
-abbrev pub HoldsUnless : ℕ → (List Atom → Type 0) → List (List Lit) → Type 0
-HoldsUnless n P r = (c : List Atom) → length c ≡ n → (IsTrue (holds c r) → P c → ⊥) × (IsFalse (holds c r) → P c)
-
--- a sample of n numbers that u admits, at which the property doesn't hold
-pub record IsBreak (n : ℕ) (u : List (List Lit)) (P : List Atom → Type 0) (s : List ℕ) : Type 0 where
-  pub count : length s ≡ n
-  pub admitted : IsTrue (holds (sampled s) u)
-  pub broken : P (sampled s) → ⊥
-
--- the verdict is that the property holds throughout, or where it doesn't
-abbrev pub IsVerdictOn : ℕ → List (List Lit) → (List Atom → Type 0) → Verdict → Type 0
-IsVerdictOn n u P Holds = HoldsThroughout n u P
-IsVerdictOn n u P (Fails s) = IsBreak n u P s.items

@@ -7,8 +7,10 @@ ghost use Rattle.lois_base.specs.Tree.{tree};
 ghost use Rattle.lois_base.specs.Truth.{holds};
 ghost use Rattle.lois_base.specs.Validity.{AdmitsTerm};
 ghost use Rattle.lois_deciders.specs.OnlyAsked.{HasOnlyAsked};
-ghost use Rattle.lois_automata.specs.Machines.{IsAutomatonAt, IsDeterministicAt, IsCompleteAt};
-ghost use Rattle.lois_automata.specs.Throughout.{HoldsThroughout, IsVerdictOn};
+ghost use Rattle.lois_automata.specs.Machines.{IsAutomatonAt, IsCompleteAt};
+ghost use Rattle.lois_automata.specs.Deterministic.{IsDeterministicAt};
+ghost use Rattle.lois_automata.specs.Throughout.{HoldsThroughout};
+ghost use Rattle.lois_automata.specs.Verdicts.{IsVerdictOn};
 
 use crate::conditions::{
     where_included, where_inhabited, where_inside, where_joined, where_single, where_targets_unique,

@@ -8,10 +8,10 @@ ghost use Rattle.lois_base.specs.Tree.{tree, comp_of};
 ghost use Rattle.lois_base.specs.Validity.{AdmitsConstraint, AdmitsTerm, AdmitsComp, AdmitsItems};
 ghost use Rattle.lois_base.specs.Values.{PointValue, point, IsIn, IsIncluded, IsSame};
 ghost use Rattle.lois_algebra.specs.Gathered.{IsAmong, IsCompMember};
-ghost use Rattle.lois_terms.specs.Guarded.{IsColl};
+ghost use Rattle.lois_terms.specs.Collections.{IsColl};
 ghost use Rattle.lois_automata.specs.KeyShapes.{comp_key_shape};
 ghost use Rattle.lois_automata.specs.Projections.{AllAgree, IsFunction, HasOneAtMost, HasUniqueTargets, AreTriples, ArePartsIn, StepsJoin};
-ghost use Rattle.lois_automata.specs.Throughout.{HoldsWhere, HoldsUnless};
+ghost use Rattle.lois_automata.specs.Verdicts.{HoldsWhere, HoldsUnless};
 
 use crate::keys::{index_by_key, key_shape};
 use crate::pairing::{pair_comps, pairs};

@@ -6,7 +6,7 @@ ghost use Rattle.lois_base.specs.Fits.{ConstraintFits, Fits, CompFits};
 ghost use Rattle.lois_base.specs.Shift.{shift};
 ghost use Rattle.lois_base.specs.Tree.{tree, comp_of};
 ghost use Rattle.lois_base.specs.Validity.{AdmitsConstraint, AdmitsTerm, AdmitsComp, HasBoundedWidths};
-ghost use Rattle.lois_terms.specs.Guarded.{IsColl};
+ghost use Rattle.lois_terms.specs.Collections.{IsColl};
 ghost use Rattle.lois_terms.specs.Shifted.{IsShifted};
 ghost use Rattle.lois_automata.specs.Built.{HoldsWhereMember, HoldsWhereAdmittedIn};
 ghost use Rattle.lois_automata.specs.KeyShapes.{shapes_in};

@@ -9,7 +9,7 @@ ghost use Rattle.lois_base.specs.Truth.{holds};
 ghost use Rattle.lois_algebra.specs.Sets.{IsIntersection};
 ghost use Rattle.lois_base.specs.Validity.{AdmitsConstraint, AdmitsTerm, AdmitsItems, HasBoundedWidths, ItemsHaveBoundedWidths};
 ghost use Rattle.lois_deciders.specs.OnlyAsked.{HasOnlyAsked};
-ghost use Rattle.lois_terms.specs.Guarded.{IsColl};
+ghost use Rattle.lois_terms.specs.Collections.{IsColl};
 ghost use Rattle.lois_automata.specs.Machines.{IsAutomatonAt, IsCompleteDeterministicAt, IsReachAt, IsEmptyAt, AcceptsSomeAt, IsProductAt, IsComplementAt, AcceptsBothAt, AcceptsOthersAt};
 ghost use Rattle.lois_automata.specs.Throughout.{HoldsThroughout};
 

@@ -5,7 +5,7 @@ ghost use Rattle.lois_base.specs.Data.{coll, comps_of};
 ghost use Rattle.lois_base.specs.Fits.{Fits, ItemsFit};
 ghost use Rattle.lois_base.specs.Tree.{tree, comp_of};
 ghost use Rattle.lois_base.specs.Validity.{AdmitsTerm, AdmitsItems};
-ghost use Rattle.lois_terms.specs.Guarded.{IsColl};
+ghost use Rattle.lois_terms.specs.Collections.{IsColl};
 ghost use Rattle.lois_automata.specs.Projections.{AreProjected, AreNonTriples, AddsOfOne, IsProjectionOf, IsNonTriple, projected_term};
 
 use crate::parts::{Step, pair, step_parts};

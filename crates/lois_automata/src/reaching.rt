@@ -8,7 +8,7 @@ ghost use Rattle.lois_base.specs.Tree.{tree};
 ghost use Rattle.lois_base.specs.Validity.{AdmitsConstraint, AdmitsTerm, AdmitsItems, HasBoundedWidths};
 ghost use Rattle.lois_base.specs.Values.{point};
 ghost use Rattle.lois_meaning.specs.Kinds.{IsSetOf};
-ghost use Rattle.lois_terms.specs.Guarded.{IsColl};
+ghost use Rattle.lois_terms.specs.Collections.{IsColl};
 ghost use Rattle.lois_automata.specs.Reachability.{graph_at, IsReached};
 ghost use Rattle.lois_automata.specs.Throughout.{HoldsThroughout};
 

@@ -5,7 +5,7 @@ use Rattle.std.proofs.lemmas.List.{get_or_past, get_or_append_left, get_or-appen
 use Rattle.std.specs.Bool.{IsTrue}
 use Rattle.std.proofs.Math.Seq.{get_or-append_seam}
 use Rattle.lois_base.specs.Atom.{Atom, equal, whole}
-use Rattle.lois_base.specs.Patterns.{AreEqualFor}
+use Rattle.lois_base.specs.AtomMaps.{AreEqualFor}
 use Rattle.lois_base.specs.Truth.{atom_at}
 use Rattle.lois_base.proofs.Order.{equal_refl, equal_sym}
 

@@ -3,7 +3,7 @@ use Rattle.std.proofs.Common.{◌≡◌, ℕ, ◌+◌, List, [], ◌∷◌, refl
 use Rattle.lois_base.specs.Atom.{Atom}
 use Rattle.lois_base.specs.Data.{TermD, var, tag, tup, coll, TermsD, no_terms, term, CompD, comp, CompsD, no_comps, more}
 use Rattle.lois_base.specs.Normal.{GuardUses, Occurs}
-use Rattle.lois_base.specs.Patterns.{AreEqualFor}
+use Rattle.lois_base.specs.AtomMaps.{AreEqualFor}
 use Rattle.lois_base.specs.Rename.{rename, rename_parts, rename_comp, rename_items, rename_cube, rename_constraint}
 use Rattle.lois_base.specs.Truth.{holds}
 use Rattle.lois_base.specs.Values.{SameAt}

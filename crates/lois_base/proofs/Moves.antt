@@ -7,9 +7,11 @@ use Rattle.lois_base.specs.Data.{TermD, var, tag, tup, coll, TermsD, no_terms, t
 use Rattle.lois_base.specs.Fits.{LitFits, ConstraintFits, Fits, PartsFit, CompFits, ItemsFit}
 use Rattle.lois_base.specs.FormulaData.{FormulaD, lit, all, any, neg, exists, forall, FormulasD, no_formulas, formula, FormulaFits, FormulasFit}
 use Rattle.lois_base.specs.FormulaTruth.{FormulaHolds, AllHold, AnyHolds}
-use Rattle.lois_base.specs.Patterns.{AreAlike, IsEmbedding}
+use Rattle.lois_base.specs.Patterns.{AreAlike}
+use Rattle.lois_base.specs.AtomMaps.{IsEmbedding}
 use Rattle.lois_base.specs.Truth.{atom_at, holds}
-use Rattle.lois_base.specs.Validity.{AdmitsLit, AdmitsConstraint, AdmitsFormula, AdmitsFormulas, AdmitsTerm, AdmitsParts, AdmitsComp, AdmitsItems}
+use Rattle.lois_base.specs.Validity.{AdmitsLit, AdmitsConstraint, AdmitsTerm, AdmitsParts, AdmitsComp, AdmitsItems}
+use Rattle.lois_base.specs.FormulaOperators.{AdmitsFormula, AdmitsFormulas}
 use Rattle.lois_base.specs.Values.{IsExtension, MemberAt, SameAt, SamePartsAt, AllInAt, EachInAt, InAt, SomeIsAt, OneIsAt}
 use Rattle.lois_base.specs.declared.guards.Lit.{Lit}
 use Rattle.lois_base.specs.declared.guards.Op.TheVariants.{Eq}

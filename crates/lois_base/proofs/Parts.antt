@@ -2,7 +2,8 @@
 use Rattle.std.proofs.Common.{◌≡◌, ℕ, zero, suc, ◌+◌, ◌≤◌, List, [], ◌∷◌, drop, ◌<◌, length, get_or, map, refl, arith, add-one, subst, sym}
 use Rattle.std.specs.List.{slice_get}
 use Rattle.std.specs.declared.option.Option.TheVariants.{Some}
-use Rattle.lois_base.specs.Data.{TermD, tup, coll, CompD, terms_of, comps_of, depth_of_terms, depth_of_comps}
+use Rattle.lois_base.specs.Data.{TermD, tup, coll, CompD, terms_of, comps_of}
+use Rattle.lois_base.specs.ListDepth.{depth_of_terms, depth_of_comps}
 use Rattle.lois_base.specs.Depth.{deep_le-depth}
 use Rattle.lois_base.specs.Tree.{tree, comp_of}
 use Rattle.lois_base.specs.declared.values.Comp.{Comp}

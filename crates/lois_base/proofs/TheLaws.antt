@@ -6,10 +6,12 @@ use Rattle.lois_base.specs.Data.{coll}
 use Rattle.lois_base.specs.FormulaData.{FormulaD, FormulaFits}
 use Rattle.lois_base.specs.FormulaTruth.{FormulaHolds}
 use Rattle.lois_base.specs.Laws.{EqualIsEquivalence, IsDenseOrder, TruthRespectsEqual, SameIsEquivalence, SameIsRespected, SetsAreTheirMembers, OnlyItsLevelsCount, OnlyThePatternCounts, mapped, MapsKeepMeaning, SmallNumbersSuffice}
-use Rattle.lois_base.specs.Patterns.{AreAlike, IsEmbedding}
+use Rattle.lois_base.specs.Patterns.{AreAlike}
+use Rattle.lois_base.specs.AtomMaps.{IsEmbedding}
 use Rattle.lois_base.specs.Fits.{Fits}
 use Rattle.lois_base.specs.Truth.{sampled}
-use Rattle.lois_base.specs.Validity.{AdmitsFormula, AdmitsTerm}
+use Rattle.lois_base.specs.Validity.{AdmitsTerm}
+use Rattle.lois_base.specs.FormulaOperators.{AdmitsFormula}
 use Rattle.lois_base.specs.Values.{PointValue, point, IsProper, IsSame}
 use Rattle.lois_base.proofs.Order.{equal_refl, equal_sym, equal_trans, below_respects, trichotomy, below_asym, below_trans, between, lower, higher, below_not_equal}
 use Rattle.lois_base.proofs.Members.{same_refl, same_sym, same_trans, in_same, same_in, same_included, included_same, same_sets, deeper_same}

@@ -8,7 +8,8 @@ use Rattle.lois_base.specs.Atom.{Atom, whole, equal}
 use Rattle.lois_base.specs.Fits.{LitFits, CubeFits, ConstraintFits}
 use Rattle.lois_base.specs.FormulaData.{FormulaD, lit, all, any, neg, exists, forall, FormulasD, no_formulas, formula}
 use Rattle.lois_base.specs.FormulaTruth.{FormulaHolds, AllHold, AnyHolds}
-use Rattle.lois_base.specs.Patterns.{AreEqual, AreAlike}
+use Rattle.lois_base.specs.Patterns.{AreAlike}
+use Rattle.lois_base.specs.AtomMaps.{AreEqual}
 use Rattle.lois_base.specs.Truth.{atom_at, op_holds, lit_holds, cube_holds, holds}
 use Rattle.lois_base.specs.Validity.{AdmitsConstraint}
 use Rattle.lois_base.specs.declared.guards.Lit.{Lit}

@@ -6,7 +6,9 @@ use Rattle.lois_base.specs.Data.{TermD, var, tag, tup, coll, TermsD, no_terms, t
 use Rattle.lois_base.specs.Fits.{ConstraintFits}
 use Rattle.lois_base.specs.FormulaData.{FormulaD, lit, all, any, neg, exists, forall, FormulasD, no_formulas, formula}
 use Rattle.lois_base.specs.Normal.{LitUses, GuardUses}
-use Rattle.lois_base.specs.Validity.{is_admitted, AdmitsLit, AdmitsCube, AdmitsConstraint, AdmitsFormula, AdmitsFormulas, AdmitsTerm, AdmitsParts, AdmitsItems, UsesOnly}
+use Rattle.lois_base.specs.Validity.{is_admitted, AdmitsLit, AdmitsCube, AdmitsConstraint, AdmitsTerm, AdmitsParts, AdmitsItems}
+use Rattle.lois_base.specs.FormulaOperators.{AdmitsFormula, AdmitsFormulas}
+use Rattle.lois_base.specs.UsedLevels.{UsesOnly}
 use Rattle.lois_base.specs.declared.guards.Lit.{Lit}
 use Rattle.lois_base.specs.declared.guards.Op.{Op}
 use Rattle.lois_base.specs.declared.guards.Op.TheVariants.{Eq, Ne, Lt, AtMost}

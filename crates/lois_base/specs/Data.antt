@@ -47,9 +47,3 @@ abbrev mutual
   pub depth_of_items : CompsD → ℕ
   depth_of_items no_comps = 0
   depth_of_items (more c cs) = max (depth_of_comp c) (depth_of_items cs)
-
-abbrev pub depth_of_terms : List TermD → ℕ
-depth_of_terms ts = depth_of_parts (terms_of ts)
-
-abbrev pub depth_of_comps : List CompD → ℕ
-depth_of_comps cs = depth_of_items (comps_of cs)

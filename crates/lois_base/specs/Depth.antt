@@ -1,7 +1,8 @@
 -- Each part of a list is less deep than the list.
 use Rattle.std.specs.Prelude.{◌≤◌, List, [], ◌∷◌, map, max}
 use Rattle.std.proofs.Common.{arith}
-use Rattle.lois_base.specs.Data.{depth, depth_of_terms, depth_of_comps}
+use Rattle.lois_base.specs.Data.{depth}
+use Rattle.lois_base.specs.ListDepth.{depth_of_terms, depth_of_comps}
 use Rattle.lois_base.specs.Tree.{tree, comp_of}
 use Rattle.lois_base.specs.declared.values.Comp.{Comp}
 use Rattle.lois_base.specs.declared.values.Term.{Term}

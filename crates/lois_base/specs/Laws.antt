@@ -7,9 +7,11 @@ use Rattle.lois_base.specs.Fits.{ConstraintFits, Fits}
 use Rattle.lois_base.specs.FormulaData.{FormulaD, FormulaFits}
 use Rattle.lois_base.specs.FormulaTruth.{FormulaHolds}
 use Rattle.lois_base.specs.Normal.{GuardUses, Occurs, Satisfies, IsNormal}
-use Rattle.lois_base.specs.Patterns.{AreEqualFor, AreEqual, AreAlike, IsEmbedding}
+use Rattle.lois_base.specs.Patterns.{AreAlike}
+use Rattle.lois_base.specs.AtomMaps.{AreEqualFor, AreEqual, IsEmbedding}
 use Rattle.lois_base.specs.Truth.{holds, sampled}
-use Rattle.lois_base.specs.Validity.{AdmitsConstraint, AdmitsFormula, AdmitsTerm}
+use Rattle.lois_base.specs.Validity.{AdmitsConstraint, AdmitsTerm}
+use Rattle.lois_base.specs.FormulaOperators.{AdmitsFormula}
 use Rattle.lois_base.specs.Values.{PointValue, point, IsProper, IsSame, IsIn, IsIncluded, IsDeeper}
 use Rattle.lois_base.specs.declared.guards.Lit.{Lit}
 

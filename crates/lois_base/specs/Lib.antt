@@ -7,6 +7,7 @@ pub mod FormulaData
 pub mod FormulaTruth
 pub mod FormulaView
 pub mod Data
+pub mod ListDepth
 pub mod Tree
 pub mod Depth
 pub mod Pairs
@@ -16,7 +17,11 @@ pub mod Normal
 pub mod Rename
 pub mod Shift
 pub mod Validity
+pub mod UsedLevels
+pub mod OrderFree
+pub mod FormulaOperators
 pub mod Theory
 pub mod Bound
 pub mod Patterns
+pub mod AtomMaps
 pub mod Laws

@@ -6,8 +6,6 @@ use Rattle.lois_base.specs.declared.guards.Op.{Op}
 use Rattle.lois_base.specs.declared.guards.Op.TheVariants.{Eq, Ne, Lt, AtMost}
 use Rattle.lois_base.specs.declared.limits.TheConstants.{LEAST_WIDTH, GREATEST_WIDTH}
 use Rattle.lois_base.specs.Data.{TermD, var, tag, tup, coll, TermsD, no_terms, term, CompD, comp, CompsD, no_comps, more}
-use Rattle.lois_base.specs.FormulaData.{FormulaD, lit, all, any, neg, exists, forall, FormulasD, no_formulas, formula}
-use Rattle.lois_base.specs.Normal.{GuardUses}
 
 -- `=` and `!=` are admitted over all atoms, and `<` and `<=` where the atoms are ordered
 abbrev pub is_admitted : Bool → Op → Bool
@@ -27,19 +25,6 @@ abbrev pub AdmitsConstraint : Bool → List (List Lit) → Type 0
 AdmitsConstraint ordered = All (AdmitsCube ordered)
 
 abbrev mutual
-  pub AdmitsFormula : Bool → FormulaD → Type 0
-  AdmitsFormula ordered (lit l) = AdmitsLit ordered l
-  AdmitsFormula ordered (all fs) = AdmitsFormulas ordered fs
-  AdmitsFormula ordered (any fs) = AdmitsFormulas ordered fs
-  AdmitsFormula ordered (neg f) = AdmitsFormula ordered f
-  AdmitsFormula ordered (exists f) = AdmitsFormula ordered f
-  AdmitsFormula ordered (forall f) = AdmitsFormula ordered f
-
-  pub AdmitsFormulas : Bool → FormulasD → Type 0
-  AdmitsFormulas ordered no_formulas = Unit {0}
-  AdmitsFormulas ordered (formula f fs) = AdmitsFormula ordered f × AdmitsFormulas ordered fs
-
-abbrev mutual
   pub AdmitsTerm : Bool → TermD → Type 0
   AdmitsTerm ordered (var i) = Unit {0}
   AdmitsTerm ordered (tag t) = Unit {0}
@@ -56,19 +41,6 @@ abbrev mutual
   pub AdmitsItems : Bool → CompsD → Type 0
   AdmitsItems ordered no_comps = Unit {0}
   AdmitsItems ordered (more c cs) = AdmitsComp ordered c × AdmitsItems ordered cs
-
--- neither `<` nor `<=` occurs
-abbrev pub IsOrderFreeCube : List Lit → Type 0
-IsOrderFreeCube = AdmitsCube false
-
-abbrev pub IsOrderFree : List (List Lit) → Type 0
-IsOrderFree = AdmitsConstraint false
-
-abbrev pub IsOrderFreeFormula : FormulaD → Type 0
-IsOrderFreeFormula = AdmitsFormula false
-
-abbrev pub IsOrderFreeTerm : TermD → Type 0
-IsOrderFreeTerm = AdmitsTerm false
 
 -- `<=` is the one operator that isn't strict
 abbrev pub is_strict : Op → Bool
@@ -127,13 +99,3 @@ abbrev mutual
   pub ItemsHaveBoundedWidths : CompsD → Type 0
   ItemsHaveBoundedWidths no_comps = Unit {0}
   ItemsHaveBoundedWidths (more c cs) = CompHasBoundedWidths c × ItemsHaveBoundedWidths cs
-
--- a literal, a cube, a constraint uses only levels that the constraint g uses
-abbrev pub LitUsesOnly : List (List Lit) → Lit → Type 0
-LitUsesOnly g l = GuardUses l.left g × GuardUses l.right g
-
-abbrev pub CubeUsesOnly : List (List Lit) → List Lit → Type 0
-CubeUsesOnly g = All (LitUsesOnly g)
-
-abbrev pub UsesOnly : List (List Lit) → List (List Lit) → Type 0
-UsesOnly g = All (CubeUsesOnly g)

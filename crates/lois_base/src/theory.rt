@@ -3,7 +3,8 @@
 ghost use Rattle.std.specs.Prelude.{◌≡◌, ◌+◌, IfOk, Bool};
 ghost use Rattle.lois_base.specs.Fits.{CubeFits, ConstraintFits};
 ghost use Rattle.lois_base.specs.Theory.{Eliminates};
-ghost use Rattle.lois_base.specs.Validity.{is_admitted, AdmitsCube, AdmitsConstraint, IsOrderFreeCube, IsOrderFree};
+ghost use Rattle.lois_base.specs.Validity.{is_admitted, AdmitsCube, AdmitsConstraint};
+ghost use Rattle.lois_base.specs.OrderFree.{IsOrderFreeCube, IsOrderFree};
 
 use crate::{Constraint, Cube, NoMemory, Op};
 use std::alloc::Global;

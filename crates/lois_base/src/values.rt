@@ -52,7 +52,7 @@ impl Model for Terms {
     ghost coded = { terms_code };
 
     ghost use Rattle.std.specs.Prelude.{map};
-    ghost use Rattle.lois_base.specs.Data.{depth_of_terms};
+    ghost use Rattle.lois_base.specs.ListDepth.{depth_of_terms};
     ghost use Rattle.lois_base.specs.Tree.{tree};
 
     ghost view = { λ a. map tree a.items.items };
@@ -74,7 +74,7 @@ impl Model for Comps {
     ghost coded = { comps_code };
 
     ghost use Rattle.std.specs.Prelude.{map};
-    ghost use Rattle.lois_base.specs.Data.{depth_of_comps};
+    ghost use Rattle.lois_base.specs.ListDepth.{depth_of_comps};
     ghost use Rattle.lois_base.specs.Tree.{comp_of};
 
     ghost view = { λ a. map comp_of a.items.items };

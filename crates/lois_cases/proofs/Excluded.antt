@@ -13,7 +13,8 @@ use Rattle.lois_answers.specs.CaseView.{case_of}
 use Rattle.lois_answers.specs.ResultsData.{CaseD}
 use Rattle.lois_answers.specs.declared.results.Case.{Case}
 use Rattle.lois_deciders.specs.Conjunction.{AreInconsistent}
-use Rattle.lois_deciders.specs.Satisfaction.{IsConstraintSample, ConstraintIsSatisfiable}
+use Rattle.lois_deciders.specs.Satisfaction.{IsConstraintSample}
+use Rattle.lois_deciders.specs.Satisfiability.{ConstraintIsSatisfiable}
 use Rattle.lois_cases.specs.Cases.{HoldsAt, NoneHoldsAt}
 use Rattle.lois_cases.specs.Holding.{IsFirstAt}
 use Rattle.lois_cases.specs.Partitions.{ArePartition, NeverOverlap, ExcludeEachOther, AllExclude, IsCommonSample, IsMeeting, IsOverlap, HoldsWhereNone, IsGapOrNone}

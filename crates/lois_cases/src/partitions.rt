@@ -6,7 +6,8 @@ ghost use Rattle.lois_base.specs.Fits.{ConstraintFits};
 ghost use Rattle.lois_answers.specs.CaseView.{case_of};
 ghost use Rattle.lois_deciders.specs.Conjunction.{AreInconsistent};
 ghost use Rattle.lois_deciders.specs.OnlyAsked.{HasOnlyAsked};
-ghost use Rattle.lois_deciders.specs.Satisfaction.{IsConstraintSample, ConstraintIsSatisfiable};
+ghost use Rattle.lois_deciders.specs.Satisfaction.{IsConstraintSample};
+ghost use Rattle.lois_deciders.specs.Satisfiability.{ConstraintIsSatisfiable};
 ghost use Rattle.lois_cases.specs.Cases.{CaseFits};
 ghost use Rattle.lois_cases.specs.Partitions.{IsPartitioned, IsCommonSample, IsMeetingOrNone, IsOverlapOrNone, HoldsWhereNone, IsGapOrNone};
 

@@ -18,7 +18,7 @@ use Rattle.lois_base.specs.Truth.{holds, sampled}
 use Rattle.lois_base.specs.Validity.{AdmitsConstraint}
 use Rattle.lois_base.specs.Values.{point, IsSame}
 use Rattle.lois_base.specs.declared.guards.Lit.{Lit}
-use Rattle.lois_deciders.specs.Satisfaction.{ConstraintIsSatisfiable}
+use Rattle.lois_deciders.specs.Satisfiability.{ConstraintIsSatisfiable}
 use Rattle.lois_relate.specs.Apart.{AreNeverSame}
 use Rattle.lois_census.specs.Left.{HoldsWhereInOrbit, HoldsWhereListed, HoldsOrInOrbit, IsLeftOf, IsRemainder, IsCoveredByOrbits}
 use Rattle.lois_census.specs.OrbitData.{OrbitD}

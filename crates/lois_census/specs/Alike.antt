@@ -4,7 +4,8 @@ use Rattle.lois_base.specs.Atom.{Atom}
 use Rattle.lois_base.specs.FormulaData.{FormulaD, FormulaFits}
 use Rattle.lois_base.specs.FormulaTruth.{FormulaHolds}
 use Rattle.lois_base.specs.Truth.{atom_at, op_holds, sampled}
-use Rattle.lois_base.specs.Validity.{is_admitted, AdmitsFormula}
+use Rattle.lois_base.specs.Validity.{is_admitted}
+use Rattle.lois_base.specs.FormulaOperators.{AdmitsFormula}
 use Rattle.lois_base.specs.declared.guards.Op.{Op}
 
 -- two atoms stand to one another as two others do

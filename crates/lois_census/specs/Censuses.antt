@@ -1,5 +1,5 @@
 -- The orbits of a set in each case of results without parameters.
-use Rattle.std.specs.Prelude.{◌≡◌, ℕ, suc, Bool, List, [], ◌∷◌, ◌++◌, filter, Some}
+use Rattle.std.specs.Prelude.{◌≡◌, ℕ, suc, Bool, List, [], ◌∷◌, filter, Some}
 use Rattle.std.specs.List.{All, AllPairs, AllZip}
 use Rattle.lois_base.specs.Data.{TermD}
 use Rattle.lois_base.specs.Truth.{holds}
@@ -7,7 +7,7 @@ use Rattle.lois_base.specs.Validity.{AdmitsTerm, HasBoundedWidths, IsStrictTerm}
 use Rattle.lois_base.specs.Values.{PointValue, point, IsMember, IsIn}
 use Rattle.lois_answers.specs.LastNamed.{last_named}
 use Rattle.lois_answers.specs.ResultsData.{LineD, CaseD}
-use Rattle.lois_terms.specs.Guarded.{IsColl}
+use Rattle.lois_terms.specs.Collections.{IsColl}
 use Rattle.lois_census.specs.CensusData.{CensusD}
 use Rattle.lois_census.specs.OrbitData.{OrbitD}
 use Rattle.lois_census.specs.Orbits.{value_of, IsInListedOrbit, AreDisjointOrbits, FitsSample, AreTakenFrom}
@@ -57,11 +57,6 @@ IsCensusOf ordered name k e = (e.case ≡ k.number) × AreOrbitsIn ordered name 
 -- an entry for each of the cases whose constraint holds, in order
 abbrev pub AreCensusesOf : Bool → List ℕ → List NumberedD → List CensusD → Type 0
 AreCensusesOf ordered name ks es = AllZip (IsCensusOf ordered name) (filter is_met ks) es
-
--- one more case: where its constraint holds its census is put behind the others
-abbrev pub IsCensusAdded : Bool → List ℕ → NumberedD → List CensusD → List CensusD → Type 0
-IsCensusAdded ordered name k before after =
-    (ks : List NumberedD) → AreCensusesOf ordered name ks before → AreCensusesOf ordered name (ks ++ k ∷ []) after
 
 -- each item can be spelled among as many levels as its sample has numbers
 abbrev pub HaveText : List CensusD → Type 0

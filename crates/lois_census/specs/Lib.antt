@@ -4,7 +4,9 @@ pub mod Orbits
 pub mod Alike
 pub mod Left
 pub mod CensusData
+pub mod CensusCodes
 pub mod CensusView
 pub mod Censuses
+pub mod CensusSteps
 pub mod Refusals
 pub mod CensusText

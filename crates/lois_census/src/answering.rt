@@ -5,7 +5,8 @@ ghost use Rattle.std.specs.List.{All};
 ghost use Rattle.lois_answers.specs.CaseView.{case_of};
 ghost use Rattle.lois_answers.specs.Sound.{IsSound, IsSoundCase};
 ghost use Rattle.lois_deciders.specs.OnlyAsked.{HasOnlyAsked};
-ghost use Rattle.lois_census.specs.Censuses.{HasNamedLine, HasSet, AreOrbitsIn, AreCensusesOf, IsCensusAdded, numbered};
+ghost use Rattle.lois_census.specs.Censuses.{HasNamedLine, HasSet, AreOrbitsIn, AreCensusesOf, numbered};
+ghost use Rattle.lois_census.specs.CensusSteps.{IsCensusAdded};
 ghost use Rattle.lois_census.specs.Refusals.{IsFirstWithout, IsCensusAnswer};
 
 use crate::counting::{Answer, Census, Censuses, Refusal};

@@ -22,7 +22,8 @@ pub struct Censuses {
 
 impl Model for Censuses {
     ghost use Rattle.std.specs.Prelude.{List, map};
-    ghost use Rattle.lois_census.specs.CensusData.{CensusD, censuses_code};
+    ghost use Rattle.lois_census.specs.CensusData.{CensusD};
+    ghost use Rattle.lois_census.specs.CensusCodes.{censuses_code};
     ghost use Rattle.lois_census.specs.CensusView.{entry_of};
 
     ghost Value = { List CensusD };

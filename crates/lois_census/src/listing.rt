@@ -8,7 +8,7 @@ ghost use Rattle.lois_base.specs.Tree.{tree, comp_of};
 ghost use Rattle.lois_base.specs.Truth.{holds, sampled};
 ghost use Rattle.lois_base.specs.Validity.{AdmitsConstraint, AdmitsTerm, AdmitsComp, AdmitsItems, HasBoundedWidths, IsStrictTerm};
 ghost use Rattle.lois_base.specs.Values.{PointValue, point, IsMember, IsIn};
-ghost use Rattle.lois_terms.specs.Guarded.{IsColl};
+ghost use Rattle.lois_terms.specs.Collections.{IsColl};
 ghost use Rattle.lois_deciders.specs.OnlyAsked.{HasOnlyAsked};
 ghost use Rattle.lois_deciders.specs.Satisfaction.{IsConstraintSample};
 ghost use Rattle.lois_ranks.specs.Ranks.{AreRanks};

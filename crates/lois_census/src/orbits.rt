@@ -21,7 +21,8 @@ pub struct Orbits {
 
 impl Model for Orbits {
     ghost use Rattle.std.specs.Prelude.{List, map};
-    ghost use Rattle.lois_census.specs.OrbitData.{OrbitD, orbits_code};
+    ghost use Rattle.lois_census.specs.OrbitData.{OrbitD};
+    ghost use Rattle.lois_census.specs.CensusCodes.{orbits_code};
     ghost use Rattle.lois_census.specs.OrbitView.{orbit_of};
 
     ghost Value = { List OrbitD };

@@ -4,7 +4,8 @@ use Rattle.std.specs.Prelude.{IfErr, Result, Ok, Err}
 use Rattle.std.specs.Io.KnownBytes.{Consumes}
 use Rattle.lois_outside.specs.Calls.{TakesPieces, no_take, one_more_take}
 use Rattle.lois_outside.specs.Reading.{TookAtMost, TookExactly, ReadsToEnd}
-use Rattle.lois_command.specs.Calls.{TakeRelation, GaveUnder}
+use Rattle.lois_command.specs.Calls.{GaveUnder}
+use Rattle.lois_command.specs.Sources.{TakeRelation}
 
 module _ {S : Type 0} (left : S → Option (List ℕ)) (takes : TakeRelation S) (limit : ℕ) where
   nothing_taken : (most : ℕ) (at : Option (List ℕ)) → TookAtMost most at at

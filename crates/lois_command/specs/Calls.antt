@@ -2,14 +2,11 @@
 use Rattle.std.specs.Prelude.{◌≡◌, ◌+◌, ◌≤◌, ◌⊎◌, ℕ, List, [], length, Option, None}
 use Rattle.std.specs.Io.KnownBytes.{Appends}
 use Rattle.lois_base.specs.declared.limits.TheConstants.{LONGEST_TEXT}
-use Rattle.lois_outside.specs.Calls.{TakesPieces, Writes}
+use Rattle.lois_outside.specs.Calls.{TakesPieces}
+use Rattle.lois_outside.specs.Writing.{Writes, AppendsProperPrefix, FailsWriting}
 use Rattle.lois_outside.specs.Faults.{Rose}
 use Rattle.lois_outside.specs.Reading.{TookAtMost}
-use Rattle.lois_outside.specs.Writing.{AppendsProperPrefix, FailsWriting}
-
--- one call of a source: how many bytes it asked for, and what it was given, or `None` where it failed
-abbrev pub TakeRelation : Type 0 → Type 1
-TakeRelation S = S → ℕ → Option (List ℕ) → S → Type 0
+use Rattle.lois_command.specs.Sources.{TakeRelation}
 
 -- calls that gave these bytes, within one more than the limit in all, of which the last one may have failed
 abbrev pub Gave : {S : Type 0} → TakeRelation S → ℕ → S → List ℕ → S → Type 0

@@ -6,8 +6,6 @@ use Rattle.lois_reader.specs.Refusal.{NoValueHolds, IsResultsOf, IsOffsetInText,
 use Rattle.lois_reader.specs.Shape.{HasResultsShape, SpellsResults}
 use Rattle.lois_reader.specs.declared.ResultError.TheVariants as results
 use Rattle.lois_command.specs.Places.{IsPlaceOf}
-use Rattle.lois_command.specs.declared.results.ResultsRead.{ResultsRead}
-use Rattle.lois_command.specs.declared.results.ResultsRead.TheVariants.{Results as Read, NotResults as NotRead}
 
 -- Nothing of a kind has the text. It is refused at k: where it leaves the shape of all texts of the kind, or, where it is of that
 -- shape, at the first side rule that it breaks.
@@ -26,8 +24,3 @@ IsAtPlace At text place = (k : ℕ) × At text k × IsPlaceOf text k place
 
 abbrev pub IsNoResults : List ℕ → Place → Type 0
 IsNoResults = IsAtPlace IsNoResultsAt
-
--- ---- what a text is that is to be results
-abbrev pub IsResultsRead : List ℕ → ResultsRead → Type 0
-IsResultsRead text (Read r) = IsResultsOf text r
-IsResultsRead text (NotRead place) = IsNoResults text place

@@ -1,7 +1,7 @@
 //! From a text to the results that it spells.
 
 ghost use Rattle.std.specs.Prelude.{IfOk};
-ghost use Rattle.lois_command.specs.NoResults.{IsResultsRead};
+ghost use Rattle.lois_command.specs.ResultsRead.{IsResultsRead};
 
 use crate::places::place_at;
 use lois_answers::Results;

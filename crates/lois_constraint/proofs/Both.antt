@@ -1,7 +1,7 @@
 -- The product of two constraints has the levels of both.
 use Rattle.std.proofs.Common.{List, ◌++◌}
 use Rattle.lois_base.specs.Normal.{both}
-use Rattle.lois_base.specs.Validity.{LitUsesOnly, UsesOnly}
+use Rattle.lois_base.specs.UsedLevels.{LitUsesOnly, UsesOnly}
 use Rattle.lois_base.specs.declared.guards.Lit.{Lit}
 use Rattle.lois_base.proofs.Both.{all_both}
 use Rattle.lois_base.proofs.Validity.{uses_only-append_left, uses_only-append_right, uses_only-refl}

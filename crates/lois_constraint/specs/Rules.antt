@@ -2,7 +2,8 @@
 use Rattle.std.specs.Prelude.{ℕ, Bool, List}
 use Rattle.std.specs.List.{All}
 use Rattle.lois_base.specs.Fits.{LitFits}
-use Rattle.lois_base.specs.Validity.{AdmitsLit, LitUsesOnly, IsStrictLit}
+use Rattle.lois_base.specs.Validity.{AdmitsLit, IsStrictLit}
+use Rattle.lois_base.specs.UsedLevels.{LitUsesOnly}
 use Rattle.lois_base.specs.declared.guards.Lit.{Lit}
 
 -- to use only levels that a constraint uses, to use only levels below a bound, to have an operator that is admitted, to have another one than `<=`

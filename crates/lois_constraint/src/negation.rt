@@ -4,7 +4,8 @@ ghost use Rattle.std.specs.Prelude.{◌≡◌, ℕ, Bool, List, ◌∷◌, [], �
 ghost use Rattle.lois_base.specs.Atom.{Atom};
 ghost use Rattle.lois_base.specs.Fits.{ConstraintFits};
 ghost use Rattle.lois_base.specs.Truth.{holds};
-ghost use Rattle.lois_base.specs.Validity.{AdmitsConstraint, UsesOnly};
+ghost use Rattle.lois_base.specs.Validity.{AdmitsConstraint};
+ghost use Rattle.lois_base.specs.UsedLevels.{UsesOnly};
 ghost use Rattle.lois_constraint.specs.Alternatives.{alternatives, denials};
 ghost use Rattle.lois_constraint.specs.Entailment.{IsPruned};
 ghost use Rattle.lois_constraint.specs.Rules.{Rule, ConstraintObeys, IsKeptByDenial};

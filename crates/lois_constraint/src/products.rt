@@ -5,7 +5,8 @@ ghost use Rattle.lois_base.specs.Atom.{Atom};
 ghost use Rattle.lois_base.specs.Fits.{ConstraintFits};
 ghost use Rattle.lois_base.specs.Normal.{both};
 ghost use Rattle.lois_base.specs.Truth.{cube_holds, holds};
-ghost use Rattle.lois_base.specs.Validity.{AdmitsConstraint, UsesOnly};
+ghost use Rattle.lois_base.specs.Validity.{AdmitsConstraint};
+ghost use Rattle.lois_base.specs.UsedLevels.{UsesOnly};
 
 use lois_base::{Constraint, Cube, NoMemory};
 use std::alloc::Global;

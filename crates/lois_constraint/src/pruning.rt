@@ -4,7 +4,8 @@ ghost use Rattle.std.specs.Prelude.{◌≡◌, ℕ, Bool, List, ◌++◌, ◌&&�
 ghost use Rattle.lois_base.specs.Atom.{Atom};
 ghost use Rattle.lois_base.specs.Fits.{ConstraintFits};
 ghost use Rattle.lois_base.specs.Truth.{cube_holds, holds};
-ghost use Rattle.lois_base.specs.Validity.{AdmitsConstraint, IsStrictConstraint, UsesOnly};
+ghost use Rattle.lois_base.specs.Validity.{AdmitsConstraint, IsStrictConstraint};
+ghost use Rattle.lois_base.specs.UsedLevels.{UsesOnly};
 ghost use Rattle.lois_constraint.specs.Entailment.{CubeIsSatisfiable, IsPruned};
 ghost use Rattle.lois_constraint.specs.Rules.{Rule, CubeObeys};
 ghost use Rattle.lois_constraint.specs.Tight.{some_holds};

@@ -16,7 +16,9 @@ use Rattle.lois_meaning.specs.Store.{named, looked_up, stored, AreSameNamed}
 use Rattle.lois_terms.proofs.MoreAtoms.{is_raised}
 use Rattle.lois_context.specs.Entered.{carried, carried_line, element_slot, IsCarried}
 use Rattle.lois_context.specs.Kept.{AreSlots, LinesFit, HasDistinctNames}
-use Rattle.lois_context.specs.Slots.{IsNew, SlotD, slot_name, count_of_items, comps_in, store_at, line_values}
+use Rattle.lois_context.specs.Slots.{IsNew, SlotD, slot_name, store_at}
+use Rattle.lois_context.specs.ItemCounts.{count_of_items, comps_in}
+use Rattle.lois_context.specs.LineValues.{line_values}
 use Rattle.lois_context.specs.declared.contexts.Context.{Context}
 use Rattle.lois_context.specs.declared.entering.Held.{Held}
 

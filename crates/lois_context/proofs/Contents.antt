@@ -5,20 +5,21 @@ use Rattle.std.proofs.Math.Seq.{drop-nil}
 use Rattle.std.proofs.lemmas.List.Sums.{fold-append}
 use Rattle.std.proofs.lemmas.List.Elements.{Contains-append_left, Contains-append_right}
 use Rattle.std.specs.List.{Contains}
-use Rattle.lois_base.specs.Data.{TermD, var, tag, tup, coll, CompD, comps_of, depth, depth_of_comps}
+use Rattle.lois_base.specs.Data.{TermD, var, tag, tup, coll, CompD, comps_of, depth}
+use Rattle.lois_base.specs.ListDepth.{depth_of_comps}
 use Rattle.lois_base.specs.Tree.{tree}
 use Rattle.lois_base.specs.declared.values.Term.{Term}
 use Rattle.lois_base.specs.declared.values.Term.TheVariants.{Var, Tag, Tup, Coll}
 use Rattle.lois_base.proofs.Viewed.{rest_is}
 use Rattle.lois_terms.specs.Binding.{BindsNothing, CompBindsNothing, ItemsBindNothing}
-use Rattle.lois_terms.specs.Guarded.{IsColl}
+use Rattle.lois_terms.specs.Collections.{IsColl}
 use Rattle.lois_terms.specs.Hash.{mixed, written_hash}
 use Rattle.lois_terms.proofs.Heights.{depth_append}
 use Rattle.lois_context.specs.Content.{own_count, with_comps, of_tree, of_tree-tree}
 use Rattle.lois_context.specs.Put.{IsWithOnce}
 use Rattle.lois_context.specs.Entered.{items_listed, comps_listed}
 use Rattle.lois_context.specs.Hash.{comps_hash, content_hash}
-use Rattle.lois_context.specs.Slots.{comps_in, count_of_items}
+use Rattle.lois_context.specs.ItemCounts.{comps_in, count_of_items}
 use Rattle.lois_context.proofs.Carried.{count_of}
 use Rattle.lois_context.proofs.Entered.{listed_of}
 use Rattle.lois_context.proofs.Joined.{of_listed}

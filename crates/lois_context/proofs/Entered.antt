@@ -14,7 +14,8 @@ use Rattle.lois_base.proofs.Booleans.{and_true}
 use Rattle.lois_meaning.specs.Store.{looked_up, stored, AreSameNamed}
 use Rattle.lois_context.specs.Choices.{IsAdmitted, AdmitsContext, ContextHasBoundedWidths}
 use Rattle.lois_context.specs.Entered.{binders_of, guard_of, item_of, items_listed, comps_listed, carried, carried_line, element_slot, IsMemberContext, HasNoMembers, AreMemberContexts, IsHeldInside, ExtendsContext, IsLoopContext, AreEntered}
-use Rattle.lois_context.specs.Slots.{IsNew, SlotD, slot_name, store_at, line_values}
+use Rattle.lois_context.specs.Slots.{IsNew, SlotD, slot_name, store_at}
+use Rattle.lois_context.specs.LineValues.{line_values}
 use Rattle.lois_context.specs.declared.contexts.Context.{Context}
 use Rattle.lois_context.proofs.Carried.{lines_same, store_same, carried_new, held_last, carried_admits, carried_widths, lines_admit, lines_widths}
 use Rattle.lois_context.proofs.Longer.{holds_at_start}

@@ -28,7 +28,8 @@ use Rattle.lois_context.specs.Choices.{IsAdmitted, AdmitsContext, ContextHasBoun
 use Rattle.lois_context.specs.Content.{with_comps}
 use Rattle.lois_context.specs.Entered.{binders_of, item_of, items_listed, comps_listed, carried, element_slot, AreMemberContexts}
 use Rattle.lois_context.specs.Joined.{IsGoneOn, IsEndSlot, AreEndSlots, IsEnd, IsMovedOutOfLoop, AreMovedOutOfLoop, added_to, IsJoinedTerm, IsGrownTerm, IsJoinedSlot, AreJoinedSlots, AreJoined, IsAddedInside, HasJoined, IsWithMoved}
-use Rattle.lois_context.specs.Slots.{IsNew, SlotD, slot_name, count_of_items, comps_in, store_at}
+use Rattle.lois_context.specs.Slots.{IsNew, SlotD, slot_name, store_at}
+use Rattle.lois_context.specs.ItemCounts.{count_of_items, comps_in}
 use Rattle.lois_context.specs.declared.contexts.Context.{Context}
 use Rattle.lois_context.proofs.Carried.{raised_same, count_of}
 use Rattle.lois_context.proofs.Entered.{listed_of, all_entries, goes_on}

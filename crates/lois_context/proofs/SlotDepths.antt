@@ -2,7 +2,8 @@
 use Rattle.std.proofs.Common.{◌≡◌, ℕ, zero, suc, ◌-◌, ◌≤◌, List, [], ◌∷◌, ◌++◌, drop, refl, sym, ap, subst, ◌∙◌, arith}
 use Rattle.std.specs.List.{All}
 use Rattle.std.proofs.lemmas.List.Elements.{All-nil, All-cons, All-head, All-tail, All-weaker}
-use Rattle.lois_base.specs.Data.{TermD, var, tag, tup, coll, CompD, comp, depth, depth_of_comp, depth_of_items, depth_of_comps}
+use Rattle.lois_base.specs.Data.{TermD, var, tag, tup, coll, CompD, comp, depth, depth_of_comp, depth_of_items}
+use Rattle.lois_base.specs.ListDepth.{depth_of_comps}
 use Rattle.lois_base.specs.declared.guards.Lit.{Lit}
 use Rattle.lois_terms.proofs.Heights.{depth_append}
 use Rattle.lois_context.specs.Entered.{item_of, items_listed, comps_listed}

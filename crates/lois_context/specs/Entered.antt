@@ -13,7 +13,9 @@ use Rattle.lois_answers.specs.ResultsData.{LineD}
 use Rattle.lois_meaning.specs.Store.{looked_up, stored, AreSameNamed}
 use Rattle.lois_deciders.specs.Conjunction.{AreInconsistent}
 use Rattle.lois_context.specs.Choices.{IsAdmitted, AdmitsContext, ContextHasBoundedWidths}
-use Rattle.lois_context.specs.Slots.{SlotD, slot_name, comps_in, store_at, line_values}
+use Rattle.lois_context.specs.Slots.{SlotD, slot_name, store_at}
+use Rattle.lois_context.specs.ItemCounts.{comps_in}
+use Rattle.lois_context.specs.LineValues.{line_values}
 use Rattle.lois_context.specs.Kept.{AreSlots, LinesFit}
 use Rattle.lois_context.specs.declared.contexts.Context.{Context}
 use Rattle.lois_context.specs.declared.entering.Held.{Held}

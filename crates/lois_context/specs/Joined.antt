@@ -13,7 +13,8 @@ use Rattle.lois_base.specs.declared.guards.Lit.{Lit}
 use Rattle.lois_meaning.specs.Store.{looked_up}
 use Rattle.lois_context.specs.Choices.{IsAdmitted}
 use Rattle.lois_context.specs.Entered.{binders_of, guard_of, item_of, items_listed, comps_listed}
-use Rattle.lois_context.specs.Slots.{SlotD, comps_in, store_at}
+use Rattle.lois_context.specs.Slots.{SlotD, store_at}
+use Rattle.lois_context.specs.ItemCounts.{comps_in}
 use Rattle.lois_context.specs.declared.contexts.Context.{Context}
 
 -- ---- what the end of a run of the body is

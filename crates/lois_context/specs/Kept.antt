@@ -6,7 +6,8 @@ use Rattle.std.proofs.lemmas.Map.Keys.{IsDistinct-prop}
 use Rattle.lois_base.specs.Fits.{Fits}
 use Rattle.lois_base.specs.OneProof.{all_prop, fits_prop}
 use Rattle.lois_answers.specs.ResultsData.{LineD}
-use Rattle.lois_context.specs.Slots.{SlotD, slot_name, comps_in}
+use Rattle.lois_context.specs.Slots.{SlotD, slot_name}
+use Rattle.lois_context.specs.ItemCounts.{comps_in}
 
 -- A slot of a context with n levels: its term fits, and not more than its comprehensions stood there before.
 abbrev pub IsSlot : ℕ → SlotD → Type 0

@@ -1,6 +1,8 @@
 pub mod Content
 pub mod Noted
 pub mod Slots
+pub mod ItemCounts
+pub mod LineValues
 pub mod SlotView
 pub mod Kept
 pub mod Choices

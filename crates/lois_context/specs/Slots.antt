@@ -1,13 +1,12 @@
 -- The slots of a store as contracts see them, and the values that a store and lines have at a choice of atoms.
-use Rattle.std.specs.Prelude.{ℕ, suc, List, map, IsFalse, bytes_eq}
+use Rattle.std.specs.Prelude.{ℕ, List, map, IsFalse, bytes_eq}
 use Rattle.std.specs.List.{All}
 use Rattle.std.proofs.Common.{refl}
 use Rattle.std.specs.Coded.{Coded, code_by, coded_ℕ, coded_list, coded×}
 use Rattle.lois_base.specs.Atom.{Atom}
 use Rattle.lois_base.specs.Codes.{term_code}
-use Rattle.lois_base.specs.Data.{TermD, coll, CompsD, no_comps, more}
+use Rattle.lois_base.specs.Data.{TermD}
 use Rattle.lois_base.specs.Values.{point}
-use Rattle.lois_answers.specs.ResultsData.{LineD}
 use Rattle.lois_meaning.specs.Store.{NamedValue, NamedValues, named}
 
 -- A name with the term that it holds. In a set from outside of a loop the first `from` comprehensions stood there when the
@@ -31,25 +30,9 @@ slot_name s = s.name
 abbrev pub IsNew : List ℕ → List SlotD → Type 0
 IsNew x = All (λ s. IsFalse (bytes_eq s.name x))
 
--- how many comprehensions a set has; what is no set has none
-abbrev pub count_of_items : CompsD → ℕ
-count_of_items no_comps = 0
-count_of_items (more k ks) = suc (count_of_items ks)
-
-abbrev pub comps_in : TermD → ℕ
-comps_in (coll ks) = count_of_items ks
-comps_in _ = 0
-
 -- what a store holds at a choice
 abbrev pub slot_at : List Atom → SlotD → NamedValue
 slot_at c s = named s.name (point s.term c)
 
 abbrev pub store_at : List Atom → List SlotD → NamedValues
 store_at c = map (slot_at c)
-
--- the values of lines at a choice
-abbrev pub line_value : List Atom → LineD → NamedValue
-line_value c l = named l.name (point l.term c)
-
-abbrev pub line_values : List Atom → List LineD → NamedValues
-line_values c = map (line_value c)

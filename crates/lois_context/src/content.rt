@@ -2,19 +2,20 @@
 
 ghost use Rattle.std.specs.Prelude.{◌≡◌, ◌+◌, ◌<◌, ◌≤◌, ◌^◌, ◌↔◌, List, [], ◌∷◌, ◌++◌, length, get_or, map, take, drop, IfOk, OnOk, IsTrue, Contains};
 ghost use Rattle.lois_base.specs.Atom.{Atom};
-ghost use Rattle.lois_base.specs.Data.{CompD, comps_of, depth, depth_of_comps};
+ghost use Rattle.lois_base.specs.Data.{CompD, comps_of, depth};
+ghost use Rattle.lois_base.specs.ListDepth.{depth_of_comps};
 ghost use Rattle.lois_base.specs.Tree.{tree, comp_of};
 ghost use Rattle.lois_base.specs.Values.{point, IsDeeper};
 ghost use Rattle.lois_base.specs.declared.limits.TheConstants.{GREATEST_DEPTH};
 ghost use Rattle.lois_base.specs.declared.values.Term.{Term};
 ghost use Rattle.lois_terms.specs.Binding.{BindsNothing, ItemsBindNothing};
-ghost use Rattle.lois_terms.specs.Guarded.{IsColl};
+ghost use Rattle.lois_terms.specs.Collections.{IsColl};
 ghost use Rattle.lois_context.specs.Content.{with_comps};
 ghost use Rattle.lois_context.specs.Entered.{comps_listed};
 ghost use Rattle.lois_context.specs.Hash.{content_hash};
 ghost use Rattle.lois_context.specs.Noted.{IsNotedOf};
 ghost use Rattle.lois_context.specs.Put.{AreParts, IsWithOnce};
-ghost use Rattle.lois_context.specs.Slots.{comps_in};
+ghost use Rattle.lois_context.specs.ItemCounts.{comps_in};
 
 use crate::hashing::hash_comps;
 use crate::places::searched;

@@ -3,7 +3,8 @@ use Rattle.std.proofs.Common.{◌≡◌, ℕ, ◌<◌, List, length, map, get_or
 use Rattle.std.proofs.lemmas.List.{get_or-map, length-map}
 use Rattle.std.specs.List.{All, HoldsAt}
 use Rattle.lois_base.specs.declared.deciding.Kind.{Kind}
-use Rattle.lois_deciders.specs.Choice.{IsWanted, IsUnwanted, IsFirstWanted}
+use Rattle.lois_deciders.specs.Choice.{IsWanted, IsUnwanted}
+use Rattle.lois_deciders.specs.FirstWanted.{IsFirstWanted}
 
 module _ {X : Type 0} (f : X → Kind) (kind : Option Kind) (xs : List X) (at : ℕ) (x : X) (l : at < length xs) (e : x ≡ get_or xs at x) where
   kind_at : (d : Kind) → f x ≡ get_or (map f xs) at d

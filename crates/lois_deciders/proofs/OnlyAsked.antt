@@ -6,7 +6,7 @@ use Rattle.std.specs.declared.alloc.Global.{Global}
 use Rattle.std.specs.declared.dyn_box.DynBox.{DynBox}
 use Rattle.lois_base.specs.Theory.{risen}
 use Rattle.lois_base.specs.declared.deciding.Kind.{Kind}
-use Rattle.lois_deciders.specs.Satisfaction.{IsNoLower}
+use Rattle.lois_deciders.specs.QuestionCounts.{IsNoLower}
 use Rattle.lois_deciders.specs.OnlyAsked.{HasOnlyAsked}
 use Rattle.lois_deciders.specs.declared.chosen.Chosen.{Chosen}
 

@@ -12,7 +12,9 @@ use Rattle.lois_base.specs.Fits.{CubeFits, ConstraintFits}
 use Rattle.lois_base.specs.Theory.{IsSatisfiable, risen}
 use Rattle.lois_base.specs.Truth.{cube_holds, holds, sampled}
 use Rattle.lois_base.specs.declared.guards.Lit.{Lit}
-use Rattle.lois_deciders.specs.Satisfaction.{ConstraintIsSatisfiable, HasRisen, IsConstraintSample, IsCounterexample, IsEntailed}
+use Rattle.lois_deciders.specs.Satisfaction.{IsConstraintSample, IsEntailed}
+use Rattle.lois_deciders.specs.Satisfiability.{ConstraintIsSatisfiable, IsCounterexample}
+use Rattle.lois_deciders.specs.QuestionCounts.{HasRisen}
 use Rattle.lois_deciders.specs.Conjunction.{AreInconsistent}
 
 -- the count of questions after k of them

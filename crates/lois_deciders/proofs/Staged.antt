@@ -9,7 +9,7 @@ use Rattle.lois_base.specs.Fits.{ConstraintFits}
 use Rattle.lois_base.specs.Theory.{Eliminates, IsSatisfiable}
 use Rattle.lois_base.specs.Truth.{cube_holds, holds, sampled}
 use Rattle.lois_base.specs.declared.guards.Lit.{Lit}
-use Rattle.lois_deciders.specs.Satisfaction.{ConstraintIsSatisfiable}
+use Rattle.lois_deciders.specs.Satisfiability.{ConstraintIsSatisfiable}
 use Rattle.lois_base.specs.Bound.{SomeAtomMeets, HoldsForSome}
 use Rattle.lois_base.proofs.Booleans.{or_second}
 use Rattle.lois_deciders.specs.Stages.{AreStages}

@@ -1,8 +1,11 @@
 pub mod Labels
 pub mod Ranks
 pub mod Satisfaction
+pub mod QuestionCounts
+pub mod Satisfiability
 pub mod Conjunction
 pub mod Choice
+pub mod FirstWanted
 pub mod OnlyAsked
 pub mod Reached
 pub mod Oracle

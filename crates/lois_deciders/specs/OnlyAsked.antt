@@ -3,7 +3,7 @@ use Rattle.std.specs.Prelude.{◌≡◌, ℕ, get_or, map}
 use Rattle.std.specs.declared.alloc.Global.{Global}
 use Rattle.std.specs.declared.dyn_box.DynBox.{DynBox}
 use Rattle.lois_base.specs.declared.deciding.Kind.{Kind}
-use Rattle.lois_deciders.specs.Satisfaction.{IsNoLower}
+use Rattle.lois_deciders.specs.QuestionCounts.{IsNoLower}
 use Rattle.lois_deciders.specs.declared.chosen.Chosen.{Chosen}
 
 -- The same decider is chosen, and nothing but it may have been asked: the others are as before, each is of the kind that it

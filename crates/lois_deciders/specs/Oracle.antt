@@ -6,7 +6,8 @@ use Rattle.std.specs.declared.alloc.Global.{Global}
 use Rattle.lois_base.specs.Fits.{ConstraintFits}
 use Rattle.lois_base.specs.declared.NoMemory.{NoMemory}
 use Rattle.lois_base.specs.declared.guards.Constraint.{Constraint}
-use Rattle.lois_deciders.specs.Satisfaction.{IsConstraintSample, ConstraintIsSatisfiable}
+use Rattle.lois_deciders.specs.Satisfaction.{IsConstraintSample}
+use Rattle.lois_deciders.specs.Satisfiability.{ConstraintIsSatisfiable}
 
 -- what a call of f is given and leaves, with one constraint and with two
 abbrev pub CallsWithOne : Type 0 → Type 0 → Type 1

@@ -6,8 +6,11 @@ ghost use Rattle.lois_base.specs.Atom.{Atom};
 ghost use Rattle.lois_base.specs.Fits.{CubeFits, ConstraintFits};
 ghost use Rattle.lois_base.specs.Theory.{IsSatisfiable, IsSampleOf, risen};
 ghost use Rattle.lois_base.specs.Truth.{holds};
-ghost use Rattle.lois_deciders.specs.Satisfaction.{IsConstraintSample, ConstraintIsSatisfiable, IsCounterexample, IsEntailed, HasRisen, IsNoLower};
-ghost use Rattle.lois_deciders.specs.Choice.{IsWanted, IsUnwanted, IsFirstWanted};
+ghost use Rattle.lois_deciders.specs.Satisfaction.{IsConstraintSample, IsEntailed};
+ghost use Rattle.lois_deciders.specs.Satisfiability.{ConstraintIsSatisfiable, IsCounterexample};
+ghost use Rattle.lois_deciders.specs.QuestionCounts.{HasRisen, IsNoLower};
+ghost use Rattle.lois_deciders.specs.Choice.{IsWanted, IsUnwanted};
+ghost use Rattle.lois_deciders.specs.FirstWanted.{IsFirstWanted};
 ghost use Rattle.lois_deciders.specs.Conjunction.{IsSampledConjunction, AreInconsistent};
 
 use lois_base::{Constraint, Cube, Decider, Kind, NoMemory, Numbers};

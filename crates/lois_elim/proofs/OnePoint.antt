@@ -6,7 +6,7 @@ use Rattle.std.proofs.lemmas.List.{get_or_append_left, get_or_push}
 use Rattle.lois_base.specs.Atom.{Atom, equal, whole}
 use Rattle.lois_base.specs.FormulaData.{FormulaD, exists}
 use Rattle.lois_base.specs.FormulaTruth.{FormulaHolds}
-use Rattle.lois_base.specs.Patterns.{AreEqual}
+use Rattle.lois_base.specs.AtomMaps.{AreEqual}
 use Rattle.lois_base.specs.Truth.{atom_at}
 use Rattle.lois_base.specs.declared.guards.Lit.{Lit}
 use Rattle.lois_base.proofs.Choices.{length_same}

@@ -13,7 +13,9 @@ use Rattle.lois_base.specs.FormulaTruth.{AnyHolds}
 use Rattle.lois_base.specs.FormulaView.{view}
 use Rattle.lois_base.specs.Theory.{Eliminates}
 use Rattle.lois_base.specs.Truth.{cube_holds, holds}
-use Rattle.lois_base.specs.Validity.{AdmitsCube, AdmitsConstraint, AdmitsFormula, AdmitsFormulas, IsOrderFreeCube, IsOrderFree}
+use Rattle.lois_base.specs.Validity.{AdmitsCube, AdmitsConstraint}
+use Rattle.lois_base.specs.FormulaOperators.{AdmitsFormula, AdmitsFormulas}
+use Rattle.lois_base.specs.OrderFree.{IsOrderFreeCube, IsOrderFree}
 use Rattle.lois_base.specs.declared.guards.Lit.{Lit}
 use Rattle.lois_base.specs.declared.logic.Formula.{Formula}
 use Rattle.lois_base.proofs.Connectives.{either_true}

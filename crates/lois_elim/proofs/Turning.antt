@@ -10,7 +10,8 @@ use Rattle.lois_base.specs.FormulaData.{FormulaD, lit, all, any, neg, exists, fo
 use Rattle.lois_base.specs.FormulaTruth.{FormulaHolds, AllHold}
 use Rattle.lois_base.specs.FormulaView.{view}
 use Rattle.lois_base.specs.Truth.{lit_holds, cube_holds, holds}
-use Rattle.lois_base.specs.Validity.{is_admitted, AdmitsLit, AdmitsCube, AdmitsConstraint, AdmitsFormula, AdmitsFormulas}
+use Rattle.lois_base.specs.Validity.{is_admitted, AdmitsLit, AdmitsCube, AdmitsConstraint}
+use Rattle.lois_base.specs.FormulaOperators.{AdmitsFormula, AdmitsFormulas}
 use Rattle.lois_base.specs.declared.guards.Lit.{Lit}
 use Rattle.lois_base.specs.declared.logic.Formula.{Formula}
 use Rattle.lois_base.proofs.Connectives.{both_true}

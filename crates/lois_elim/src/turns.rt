@@ -6,7 +6,8 @@ ghost use Rattle.lois_base.specs.Fits.{CubeFits};
 ghost use Rattle.lois_base.specs.FormulaData.{FormulasFit, formulas_of, lit};
 ghost use Rattle.lois_base.specs.FormulaView.{view, views};
 ghost use Rattle.lois_base.specs.Truth.{cube_holds};
-ghost use Rattle.lois_base.specs.Validity.{AdmitsCube, AdmitsFormulas};
+ghost use Rattle.lois_base.specs.Validity.{AdmitsCube};
+ghost use Rattle.lois_base.specs.FormulaOperators.{AdmitsFormulas};
 ghost use Rattle.lois_elim.specs.Names.{named_atoms, AreNames};
 ghost use Rattle.lois_elim.specs.Turns.{is_literal, in_turn, HoldWhere};
 

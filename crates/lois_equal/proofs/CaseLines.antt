@@ -12,12 +12,16 @@ use Rattle.lois_base.specs.declared.guards.Lit.{Lit}
 use Rattle.lois_answers.specs.LastNamed.{last_line, last_named, lines_named}
 use Rattle.lois_answers.specs.ResultsData.{LineD, CaseD}
 use Rattle.lois_answers.specs.Sound.{IsSoundTerm, IsSoundLine, IsSoundCase}
-use Rattle.lois_automata.specs.Machines.{IsAutomatonAt, IsDeterministicAt}
-use Rattle.lois_automata.specs.Throughout.{HoldsThroughout, IsBreak}
-use Rattle.lois_equal.specs.Differing.{HaveSameLanguage, IsDistinguishingWord, IfDiffers, IsSameAnswer, AreBounded}
+use Rattle.lois_automata.specs.Machines.{IsAutomatonAt}
+use Rattle.lois_automata.specs.Deterministic.{IsDeterministicAt}
+use Rattle.lois_automata.specs.Throughout.{HoldsThroughout}
+use Rattle.lois_automata.specs.Verdicts.{IsBreak}
+use Rattle.lois_equal.specs.Differing.{HaveSameLanguage, IsDistinguishingWord}
+use Rattle.lois_equal.specs.Differences.{IfDiffers, IsSameAnswer, AreBounded}
 use Rattle.lois_equal.specs.declared.differing.Equality.{Equality}
 use Rattle.lois_equal.specs.declared.differing.Equality.TheVariants.{Same, Differs}
-use Rattle.lois_equal.specs.Comparing.{HasTerm, HasLine, IsComparable, IsSomewhereNotDeterministic, AreComparable, LinesHaveSameLanguage, LinesDiffer, IsReason, number_of, IsFirst, IsReasonOrNone, HasFaultNumber, IsFirstReason, IsFirstDifference, IsComparison, LinesAgreeOrDiffer, side_name}
+use Rattle.lois_equal.specs.Comparing.{HasTerm, HasLine, IsComparable, IsSomewhereNotDeterministic, AreComparable, LinesHaveSameLanguage, LinesDiffer, IsReason, number_of, IsFirst, IsComparison, side_name}
+use Rattle.lois_equal.specs.ComparedCases.{IsReasonOrNone, HasFaultNumber, IsFirstReason, IsFirstDifference, LinesAgreeOrDiffer}
 use Rattle.lois_equal.specs.declared.comparing.Comparison.{Comparison}
 use Rattle.lois_equal.specs.declared.comparing.Comparison.TheVariants.{Alike, Differ, Refused}
 use Rattle.lois_equal.specs.declared.comparing.ComparisonFault.{ComparisonFault}

@@ -12,7 +12,8 @@ use Rattle.lois_meaning.specs.Automata.{Automaton, IsAutomatonOf, Reads, Accepts
 use Rattle.lois_meaning.specs.Operations.{AreLetters}
 use Rattle.lois_meaning.proofs.Automata.{automaton_both, automaton_same}
 use Rattle.lois_automata.specs.Projections.{five_of}
-use Rattle.lois_automata.specs.Machines.{IsAutomatonAt, IsDeterministicAt, IsCompleteDeterministicAt, AcceptsOthersAt}
+use Rattle.lois_automata.specs.Machines.{IsAutomatonAt, IsCompleteDeterministicAt, AcceptsOthersAt}
+use Rattle.lois_automata.specs.Deterministic.{IsDeterministicAt}
 use Rattle.lois_automata.specs.Throughout.{HoldsThroughout}
 use Rattle.lois_automata.proofs.FiveMachine.{five_equal}
 use Rattle.lois_automata.proofs.Paths.{letter_in}

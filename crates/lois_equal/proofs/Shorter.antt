@@ -14,7 +14,8 @@ use Rattle.lois_shortest_word.specs.declared.words.Word.{Word}
 use Rattle.lois_equal.specs.declared.differing.Difference.{Difference}
 use Rattle.lois_equal.specs.declared.differing.Equality.{Equality}
 use Rattle.lois_equal.specs.declared.differing.Equality.TheVariants.{Differs}
-use Rattle.lois_equal.specs.Differing.{IsSameAnswer, IfDiffers, HaveSameLanguage, IsAcceptedByOne, IsDistinguishingWord, IsLanguageIncluded, IsShortestDifference, IsShorterOf}
+use Rattle.lois_equal.specs.Differing.{HaveSameLanguage, IsAcceptedByOne, IsDistinguishingWord}
+use Rattle.lois_equal.specs.Differences.{IsSameAnswer, IfDiffers, IsLanguageIncluded, IsShortestDifference, IsShorterOf}
 use Rattle.lois_equal.specs.Distinguishing.{AcceptsOnlyFirst, TellsApart, HasLetterAt}
 use Rattle.lois_equal.proofs.Differences.{all_letters}
 

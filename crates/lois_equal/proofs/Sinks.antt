@@ -8,12 +8,12 @@ use Rattle.lois_base.proofs.Members.{same_refl, same_sym, same_trans, in_same}
 use Rattle.lois_algebra.specs.Gathered.{IsCompMember, IsPut}
 use Rattle.lois_algebra.specs.Sets.{IsUnion}
 use Rattle.lois_algebra.proofs.Among.{among_in}
-use Rattle.lois_terms.specs.Guarded.{IsColl}
+use Rattle.lois_terms.specs.Collections.{IsColl}
 use Rattle.lois_meaning.specs.Automata.{Automaton, JoinsStates, IsAutomatonOf, HasStep, Reads, Accepts, IsDeterministic, IsComplete}
 use Rattle.lois_meaning.specs.Kinds.{HasParts}
 use Rattle.lois_meaning.proofs.Operations.{triple_both, step_move}
 use Rattle.lois_automata.specs.Projections.{five_of, five_terms, automaton_at}
-use Rattle.lois_automata.specs.Machines.{IsDeterministicAt}
+use Rattle.lois_automata.specs.Deterministic.{IsDeterministicAt}
 use Rattle.lois_automata.proofs.FiveMachine.{five_equal, five_machine}
 use Rattle.lois_automata.proofs.Paths.{source_in}
 use Rattle.lois_shortest_word.specs.Words.{AcceptsAt}

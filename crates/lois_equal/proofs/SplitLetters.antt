@@ -21,7 +21,7 @@ use Rattle.lois_shortest_word.specs.Shortened.{IsShortenedWord}
 use Rattle.lois_shortest_word.specs.Words.{AcceptsAt, values_at, first_sampled, AreUsedBetween}
 use Rattle.lois_shortest_word.specs.declared.words.Word.{Word}
 use Rattle.lois_shortest_word.proofs.Readings.{accepts_alike}
-use Rattle.lois_equal.specs.Differing.{IsShortestDifference}
+use Rattle.lois_equal.specs.Differences.{IsShortestDifference}
 use Rattle.lois_equal.specs.Distinguishing.{AcceptsOnlyFirst}
 use Rattle.lois_equal.specs.SplitWords.{IsSplitWord, IsSplitOrNone, MaySplit, IsSplitLetter}
 

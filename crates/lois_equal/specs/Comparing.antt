@@ -1,5 +1,5 @@
 -- Results, and what is found where their lines of two names are compared, case by case.
-use Rattle.std.specs.Prelude.{◌≡◌, ℕ, ◌+◌, Bool, true, false, List, ◌∷◌, ◌++◌, length, IsTrue, ◌⊎◌, Option, Some, None, option_map}
+use Rattle.std.specs.Prelude.{◌≡◌, ℕ, ◌+◌, Bool, true, false, List, ◌∷◌, ◌++◌, length, IsTrue, ◌⊎◌, Some, None, option_map}
 use Rattle.std.specs.List.{All}
 use Rattle.lois_base.specs.Atom.{Atom}
 use Rattle.lois_base.specs.Data.{TermD}
@@ -7,12 +7,10 @@ use Rattle.lois_base.specs.Truth.{holds}
 use Rattle.lois_base.specs.declared.guards.Lit.{Lit}
 use Rattle.lois_answers.specs.LastNamed.{last_named}
 use Rattle.lois_answers.specs.ResultsData.{CaseD}
-use Rattle.lois_automata.specs.Machines.{IsDeterministicAt}
+use Rattle.lois_automata.specs.Deterministic.{IsDeterministicAt}
 use Rattle.lois_automata.specs.Throughout.{HoldsThroughout}
 use Rattle.lois_equal.specs.Differing.{HaveSameLanguage, IsDistinguishingWord}
 use Rattle.lois_equal.specs.declared.differing.Difference.{Difference}
-use Rattle.lois_equal.specs.declared.differing.Equality.{Equality}
-use Rattle.lois_equal.specs.declared.differing.Equality.TheVariants.{Same, Differs}
 use Rattle.lois_equal.specs.declared.comparing.Comparison.{Comparison}
 use Rattle.lois_equal.specs.declared.comparing.Comparison.TheVariants.{Alike, Differ, Refused}
 use Rattle.lois_equal.specs.declared.comparing.ComparisonFault.{ComparisonFault}
@@ -85,39 +83,3 @@ abbrev pub IsComparison : ℕ → List ℕ → List ℕ → List CaseD → Compa
 IsComparison n a b cases Alike = All (AreComparable n a b) cases × All (LinesHaveSameLanguage n a b) cases
 IsComparison n a b cases (Differ k d name) = All (AreComparable n a b) cases × IsFirst (LinesHaveSameLanguage n a b) (LinesDiffer n a b d name) k cases
 IsComparison n a b cases (Refused r) = IsFirst (AreComparable n a b) (IsReason n a b r) (number_of r) cases
-
-abbrev pub IfDiffer : (Difference → Type 0) → Comparison → Type 0
-IfDiffer P Alike = Unit {0}
-IfDiffer P (Differ k d name) = P d
-IfDiffer P (Refused r) = Unit {0}
-
--- the answer says whether the value is a deterministic automaton at each choice that u admits
-abbrev pub DecidesDeterminism : ℕ → List (List Lit) → TermD → Bool → Type 0
-DecidesDeterminism n u t true = HoldsThroughout n u (IsDeterministicAt t)
-DecidesDeterminism n u t false = IsSomewhereNotDeterministic n u t
-
--- ---- what private contracts say
--- no reason that a case can't be compared; the reason
-abbrev pub IsReasonOrNone : ℕ → List ℕ → List ℕ → CaseD → Option ComparisonFault → Type 0
-IsReasonOrNone n a b c None = AreComparable n a b c
-IsReasonOrNone n a b c (Some r) = IsReason n a b r c
-
-abbrev pub HasFaultNumber : ℕ → Option ComparisonFault → Type 0
-HasFaultNumber k None = Unit {0}
-HasFaultNumber k (Some r) = number_of r ≡ k
-
--- so of all cases: of the first that can't be compared
-abbrev pub IsFirstReason : ℕ → List ℕ → List ℕ → List CaseD → Option ComparisonFault → Type 0
-IsFirstReason n a b cases None = All (AreComparable n a b) cases
-IsFirstReason n a b cases (Some r) = IsFirst (AreComparable n a b) (IsReason n a b r) (number_of r) cases
-
--- of cases that can all be compared: the first in which the lines differ
-abbrev pub IsFirstDifference : ℕ → List ℕ → List ℕ → List CaseD → Comparison → Type 0
-IsFirstDifference n a b cases Alike = All (LinesHaveSameLanguage n a b) cases
-IsFirstDifference n a b cases (Differ k d name) = IsFirst (LinesHaveSameLanguage n a b) (LinesDiffer n a b d name) k cases
-IsFirstDifference n a b cases (Refused r) = ⊥
-
--- nothing tells the two lines apart, or the difference does
-abbrev pub LinesAgreeOrDiffer : ℕ → List ℕ → List ℕ → CaseD → Equality → Type 0
-LinesAgreeOrDiffer n a b c Same = LinesHaveSameLanguage n a b c
-LinesAgreeOrDiffer n a b c (Differs d) = LinesDiffer n a b d (side_name d.left a b) c

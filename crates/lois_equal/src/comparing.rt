@@ -8,8 +8,9 @@ ghost use Rattle.lois_base.specs.Validity.{AdmitsConstraint, AdmitsTerm};
 ghost use Rattle.lois_answers.specs.CaseView.{case_of};
 ghost use Rattle.lois_answers.specs.Sound.{IsSound, IsSoundCase};
 ghost use Rattle.lois_deciders.specs.OnlyAsked.{HasOnlyAsked};
-ghost use Rattle.lois_equal.specs.Comparing.{AreComparable, IsReasonOrNone, HasFaultNumber, IsFirstReason, IsFirstDifference, DecidesDeterminism, IsComparison, LinesAgreeOrDiffer, IfDiffer, side_name};
-ghost use Rattle.lois_equal.specs.Differing.{IfDiffers, AreBounded};
+ghost use Rattle.lois_equal.specs.Comparing.{AreComparable, IsComparison, side_name};
+ghost use Rattle.lois_equal.specs.ComparedCases.{IsReasonOrNone, HasFaultNumber, IsFirstReason, IsFirstDifference, DecidesDeterminism, LinesAgreeOrDiffer, IfDiffer};
+ghost use Rattle.lois_equal.specs.Differences.{IfDiffers, AreBounded};
 
 use crate::differing::{Difference, Equality, equal};
 use lois_answers::{Case, Cases, Results};

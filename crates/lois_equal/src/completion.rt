@@ -8,7 +8,7 @@ ghost use Rattle.lois_base.specs.Tree.{tree};
 ghost use Rattle.lois_base.specs.Validity.{AdmitsTerm, AdmitsItems, HasBoundedWidths, ItemsHaveBoundedWidths};
 ghost use Rattle.lois_base.specs.Values.{point, IsIn};
 ghost use Rattle.lois_algebra.specs.Sets.{IsUnion};
-ghost use Rattle.lois_automata.specs.Machines.{IsDeterministicAt};
+ghost use Rattle.lois_automata.specs.Deterministic.{IsDeterministicAt};
 ghost use Rattle.lois_equal.specs.Completed.{IsCompletionAt, HasOneMore};
 
 use crate::sink_steps::total_steps;

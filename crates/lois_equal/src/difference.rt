@@ -6,9 +6,10 @@ ghost use Rattle.lois_base.specs.Fits.{ConstraintFits, Fits};
 ghost use Rattle.lois_base.specs.Tree.{tree};
 ghost use Rattle.lois_base.specs.Validity.{AdmitsConstraint, AdmitsTerm, HasBoundedWidths, IsStrictTerm};
 ghost use Rattle.lois_deciders.specs.OnlyAsked.{HasOnlyAsked};
-ghost use Rattle.lois_automata.specs.Machines.{IsAutomatonAt, IsDeterministicAt};
+ghost use Rattle.lois_automata.specs.Machines.{IsAutomatonAt};
+ghost use Rattle.lois_automata.specs.Deterministic.{IsDeterministicAt};
 ghost use Rattle.lois_automata.specs.Throughout.{HoldsThroughout};
-ghost use Rattle.lois_equal.specs.Differing.{IsLanguageIncluded, IsShortestDifference};
+ghost use Rattle.lois_equal.specs.Differences.{IsLanguageIncluded, IsShortestDifference};
 
 use crate::completion::complete_automaton;
 use crate::splitting::split_found;

@@ -6,9 +6,10 @@ ghost use Rattle.lois_base.specs.Fits.{ConstraintFits, Fits};
 ghost use Rattle.lois_base.specs.Tree.{tree};
 ghost use Rattle.lois_base.specs.Validity.{AdmitsConstraint, AdmitsTerm, HasBoundedWidths, IsStrictTerm};
 ghost use Rattle.lois_deciders.specs.OnlyAsked.{HasOnlyAsked};
-ghost use Rattle.lois_automata.specs.Machines.{IsDeterministicAt};
+ghost use Rattle.lois_automata.specs.Deterministic.{IsDeterministicAt};
 ghost use Rattle.lois_automata.specs.Throughout.{HoldsThroughout};
-ghost use Rattle.lois_equal.specs.Differing.{IsSameAnswer, IfDiffers, HaveSameLanguage, IsDistinguishingWord, IsShorterOf, sided};
+ghost use Rattle.lois_equal.specs.Differing.{HaveSameLanguage, IsDistinguishingWord};
+ghost use Rattle.lois_equal.specs.Differences.{IsSameAnswer, IfDiffers, IsShorterOf, sided};
 
 use crate::difference::shortest_difference;
 use lois_base::{Constraint, Decider, NoMemory, Numbers, Structure, Term, Terms};

@@ -8,7 +8,7 @@ use Rattle.lois_algebra.specs.Sets.{IsUnion, IsIntersection, IsDifference, IsUni
 use Rattle.lois_meaning.specs.Kinds.{IsSet, IsSetTerm as IsSetOfTerm}
 use Rattle.lois_script.specs.declared.syntax.Operation.TheVariants.{Union, Inter, Minus, Flatten}
 use Rattle.lois_context.specs.declared.contexts.Context.{Context}
-use Rattle.lois_terms.specs.Guarded.{IsColl as IsSetTerm}
+use Rattle.lois_terms.specs.Collections.{IsColl as IsSetTerm}
 use Rattle.lois_eval.specs.Operands.{IsAppliedThroughout, HasSetsOf}
 use Rattle.lois_eval.proofs.TermKinds.{set_at}
 

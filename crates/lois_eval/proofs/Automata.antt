@@ -14,8 +14,10 @@ use Rattle.lois_meaning.specs.Faults.{IsNoAutomaton, IsInvalidOperand}
 use Rattle.lois_meaning.specs.declared.faults.Fault.{Fault}
 use Rattle.lois_answers.specs.declared.faults.FaultKind.{FaultKind}
 use Rattle.lois_answers.specs.declared.faults.FaultKind.TheVariants.{NotAutomaton, NotDeterministic, NotComplete}
-use Rattle.lois_automata.specs.Machines.{IsAutomatonAt, IsDeterministicAt, IsCompleteAt, IsCompleteDeterministicAt}
-use Rattle.lois_automata.specs.Throughout.{HoldsThroughout, IsVerdictOn}
+use Rattle.lois_automata.specs.Machines.{IsAutomatonAt, IsCompleteAt, IsCompleteDeterministicAt}
+use Rattle.lois_automata.specs.Deterministic.{IsDeterministicAt}
+use Rattle.lois_automata.specs.Throughout.{HoldsThroughout}
+use Rattle.lois_automata.specs.Verdicts.{IsVerdictOn}
 use Rattle.lois_automata.specs.declared.verdicts.Verdict.{Verdict}
 use Rattle.lois_automata.specs.declared.verdicts.Verdict.TheVariants.{Holds, Fails}
 use Rattle.lois_script.specs.Tree.{ExprD, pos}

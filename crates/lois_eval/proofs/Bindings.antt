@@ -10,7 +10,7 @@ use Rattle.lois_base.specs.Fits.{ConstraintFits}
 use Rattle.lois_base.specs.Truth.{holds, sampled}
 use Rattle.lois_base.specs.Validity.{AdmitsConstraint}
 use Rattle.lois_base.specs.declared.guards.Lit.{Lit}
-use Rattle.lois_terms.specs.Guarded.{IsColl as IsSetTerm}
+use Rattle.lois_terms.specs.Collections.{IsColl as IsSetTerm}
 use Rattle.lois_base.proofs.Viewed.{rest_is}
 use Rattle.lois_script.specs.Tree.{each, BindingsD, no_bindings, bind, binding, pos}
 use Rattle.lois_script.specs.View.{tree, cond_tree, binding_tree, bindings_of}

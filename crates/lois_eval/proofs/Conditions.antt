@@ -20,7 +20,7 @@ use Rattle.lois_meaning.specs.declared.faults.Fault.{Fault}
 use Rattle.lois_context.specs.Choices.{IsAdmitted}
 use Rattle.lois_context.specs.Slots.{store_at}
 use Rattle.lois_context.specs.declared.contexts.Context.{Context}
-use Rattle.lois_terms.specs.Guarded.{IsColl as IsSetTerm}
+use Rattle.lois_terms.specs.Collections.{IsColl as IsSetTerm}
 use Rattle.lois_eval.specs.Checks.{IsSetFault}
 use Rattle.lois_eval.specs.Compared.{AreAtomsBelow}
 use Rattle.lois_eval.specs.Evaluated.{AreTermsOf, IsConstraintOf}

@@ -20,10 +20,11 @@ use Rattle.lois_meaning.specs.Kinds.{IsAtomAt, IsAtomValue, IsOneOf, part_values
 use Rattle.lois_meaning.specs.Store.{NamedValues}
 use Rattle.lois_script.specs.Tree.{ExprD, atoms, var, tuple, listed, part, apply, ExprsD, no_exprs, expr, pos}
 use Rattle.lois_meaning.proofs.Alike.{are_same_refl}
-use Rattle.lois_context.specs.Slots.{store_at, comps_in}
+use Rattle.lois_context.specs.Slots.{store_at}
+use Rattle.lois_context.specs.ItemCounts.{comps_in}
 use Rattle.lois_context.specs.Choices.{AdmitsContext}
 use Rattle.lois_context.specs.declared.contexts.Context.{Context}
-use Rattle.lois_terms.specs.Guarded.{IsColl as IsSetTerm}
+use Rattle.lois_terms.specs.Collections.{IsColl as IsSetTerm}
 use Rattle.lois_eval.specs.Evaluated.{IsTermOf, AreTermsOf}
 use Rattle.lois_eval.specs.Checks.{IsDepthFault}
 use Rattle.lois_eval.specs.Operands.{IsAppliedThroughout, IsUnfitAmong, IsUnfitFault}

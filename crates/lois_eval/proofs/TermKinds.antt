@@ -7,7 +7,7 @@ use Rattle.lois_base.specs.Values.{point}
 use Rattle.lois_base.specs.declared.values.Term.{Term}
 use Rattle.lois_base.specs.declared.values.Term.TheVariants.{Var, Tag, Tup, Coll}
 use Rattle.lois_meaning.specs.Kinds.{IsSet, IsSetTerm as IsSetOfTerm, IsAtomAt}
-use Rattle.lois_terms.specs.Guarded.{IsColl as IsSetTerm}
+use Rattle.lois_terms.specs.Collections.{IsColl as IsSetTerm}
 
 pub no_coll : (t : Term) → ((x : _) → t ≡ Coll x → ⊥) → IsSetTerm (tree t) → ⊥
 no_coll (Var i) n (ks, e) = cc

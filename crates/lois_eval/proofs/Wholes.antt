@@ -22,7 +22,7 @@ use Rattle.lois_context.specs.Choices.{IsAdmitted, AdmitsContext}
 use Rattle.lois_context.specs.Entered.{AreEntered, IsLoopContext}
 use Rattle.lois_context.specs.Slots.{SlotD, IsNew, slot_name, store_at}
 use Rattle.lois_context.specs.declared.contexts.Context.{Context}
-use Rattle.lois_terms.specs.Guarded.{IsColl as IsSetTerm}
+use Rattle.lois_terms.specs.Collections.{IsColl as IsSetTerm}
 use Rattle.lois_eval.specs.Checks.{IsTruncatedFrom}
 use Rattle.lois_eval.specs.Evaluated.{IsTermOf, IsConstraintOf, HasMembersOnlyWhereAdmitted}
 use Rattle.lois_eval.specs.Folded.{IsGatheredInside, IsFoundInside, IsFaultInside}

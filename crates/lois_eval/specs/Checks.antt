@@ -5,7 +5,7 @@ use Rattle.lois_base.specs.Truth.{holds, sampled}
 use Rattle.lois_base.specs.declared.guards.Lit.{Lit}
 use Rattle.lois_deciders.specs.Satisfaction.{IsSmall}
 use Rattle.lois_base.specs.Values.{point, IsDeeper}
-use Rattle.lois_terms.specs.Guarded.{IsColl}
+use Rattle.lois_terms.specs.Collections.{IsColl}
 use Rattle.lois_meaning.specs.Store.{depth_limit}
 use Rattle.lois_meaning.specs.declared.faults.Fault.{Fault}
 use Rattle.lois_answers.specs.declared.faults.FaultKind.TheVariants.{NotASet, NotAtoms, DepthLimit}

@@ -18,7 +18,7 @@ use Rattle.lois_script.specs.declared.syntax.Operation.TheVariants.{Union, Inter
 use Rattle.lois_base.specs.Truth.{sampled}
 use Rattle.lois_context.specs.Choices.{IsAdmitted}
 use Rattle.lois_context.specs.Entered.{HasNoMembers, item_of}
-use Rattle.lois_terms.specs.Guarded.{IsColl as IsSetTerm}
+use Rattle.lois_terms.specs.Collections.{IsColl as IsSetTerm}
 use Rattle.lois_context.specs.declared.contexts.Context.{Context}
 use Rattle.lois_eval.specs.Checks.{IsFaultAt}
 

@@ -15,11 +15,12 @@ use Rattle.lois_base.specs.declared.guards.Constraint.{Constraint}
 use Rattle.lois_base.specs.declared.values.Term.{Term}
 use Rattle.lois_meaning.specs.Faults.{IsNoAutomaton}
 use Rattle.lois_meaning.specs.declared.faults.Stop.{Stop}
-use Rattle.lois_script.specs.View.{exprs_of, exprs_list}
+use Rattle.lois_script.specs.View.{exprs_of}
+use Rattle.lois_script.specs.Lists.{exprs_list}
 use Rattle.lois_script.specs.declared.syntax.Exprs.{Exprs}
 use Rattle.lois_script.specs.declared.syntax.Operation.{Operation}
 use Rattle.lois_script.specs.declared.syntax.Pos.{Pos}
-use Rattle.lois_terms.specs.Guarded.{IsColl}
+use Rattle.lois_terms.specs.Collections.{IsColl}
 use Rattle.lois_context.specs.Choices.{IsAdmitted, IsAdmittedBy, AdmitsContext}
 use Rattle.lois_context.specs.Entered.{AreEntered}
 use Rattle.lois_context.specs.Sides.{IsSide}

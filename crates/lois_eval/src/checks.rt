@@ -8,7 +8,7 @@ ghost use Rattle.lois_base.specs.Truth.{holds};
 ghost use Rattle.lois_base.specs.Validity.{AdmitsTerm};
 ghost use Rattle.lois_base.specs.Values.{point, IsDeeper};
 ghost use Rattle.lois_meaning.specs.Store.{depth_limit, IsShallow};
-ghost use Rattle.lois_terms.specs.Guarded.{IsColl};
+ghost use Rattle.lois_terms.specs.Collections.{IsColl};
 ghost use Rattle.lois_context.specs.Choices.{IsAdmitted};
 ghost use Rattle.lois_eval.specs.Checks.{IsSetFault, IsDepthFault};
 ghost use Rattle.lois_eval.specs.Throughout.{IfFault};

@@ -8,7 +8,7 @@ ghost use Rattle.lois_base.specs.Truth.{holds};
 ghost use Rattle.lois_base.specs.Validity.{AdmitsConstraint};
 ghost use Rattle.lois_context.specs.Entered.{AreEntered};
 ghost use Rattle.lois_context.specs.Slots.{IsNew};
-ghost use Rattle.lois_terms.specs.Guarded.{IsColl};
+ghost use Rattle.lois_terms.specs.Collections.{IsColl};
 ghost use Rattle.lois_eval.specs.Checks.{IsSetFault, IsTruncated};
 ghost use Rattle.lois_eval.specs.Throughout.{IfFault};
 

@@ -4,7 +4,7 @@ ghost use Rattle.std.specs.Prelude.{◌↔◌, [], ◌∷◌, IfOk, IfErr, OnOk,
 ghost use Rattle.lois_base.specs.Data.{comps_of, coll};
 ghost use Rattle.lois_base.specs.Fits.{Fits, CompFits, ItemsFit};
 ghost use Rattle.lois_base.specs.Tree.{tree, comp_of};
-ghost use Rattle.lois_terms.specs.Guarded.{IsColl};
+ghost use Rattle.lois_terms.specs.Collections.{IsColl};
 ghost use Rattle.lois_context.specs.Entered.{HasNoMembers};
 ghost use Rattle.lois_eval.specs.Operands.{HasSetsOf, IsKeptIfSet, IsMemberFault};
 ghost use Rattle.lois_eval.specs.Throughout.{IfFault};

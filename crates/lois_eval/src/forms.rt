@@ -5,7 +5,7 @@ ghost use Rattle.lois_base.specs.Fits.{Fits};
 ghost use Rattle.lois_base.specs.Tree.{tree as term_tree};
 ghost use Rattle.lois_base.specs.Validity.{AdmitsTerm, HasBoundedWidths};
 ghost use Rattle.lois_algebra.specs.Sets.{HasAllAtoms};
-ghost use Rattle.lois_terms.specs.Guarded.{IsColl};
+ghost use Rattle.lois_terms.specs.Collections.{IsColl};
 ghost use Rattle.lois_meaning.specs.Expressions.{Gives, Makes, HasTruth};
 ghost use Rattle.lois_meaning.specs.Faults.{Breaks, Fails, CondFails, IsNoAutomaton};
 ghost use Rattle.lois_script.specs.View.{tree, cond_tree};

@@ -2,7 +2,8 @@
 
 ghost use Rattle.std.specs.Prelude.{◌≡◌, [], ◌∷◌, length};
 ghost use Rattle.lois_base.specs.Tree.{tree as term_tree};
-ghost use Rattle.lois_script.specs.View.{tree, exprs_list};
+ghost use Rattle.lois_script.specs.View.{tree};
+ghost use Rattle.lois_script.specs.Lists.{exprs_list};
 
 use lois_base::{Term, Terms};
 use lois_script::{Expr, Exprs};

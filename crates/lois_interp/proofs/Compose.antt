@@ -12,7 +12,8 @@ use Rattle.lois_base.proofs.Members.{included_trans}
 use Rattle.lois_base.proofs.Validity.{all_that_are}
 use Rattle.lois_base.proofs.Lists.{all_right}
 use Rattle.lois_context.specs.Choices.{IsAdmitted, AdmitsContext, ContextHasBoundedWidths}
-use Rattle.lois_context.specs.Slots.{SlotD, slot_name, store_at, line_values}
+use Rattle.lois_context.specs.Slots.{SlotD, slot_name, store_at}
+use Rattle.lois_context.specs.LineValues.{line_values}
 use Rattle.lois_context.specs.declared.contexts.Context.{Context}
 use Rattle.lois_context.specs.Counted.{admits}
 use Rattle.lois_simplify.proofs.Members.{contains_none}

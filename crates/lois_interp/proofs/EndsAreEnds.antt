@@ -10,7 +10,8 @@ use Rattle.lois_base.specs.Shift.{shift_comp}
 use Rattle.lois_context.specs.Choices.{IsAdmitted}
 use Rattle.lois_context.specs.Entered.{items_listed}
 use Rattle.lois_context.specs.Joined.{IsGoneOn, AreEndSlots, IsEnd}
-use Rattle.lois_context.specs.Slots.{SlotD, slot_name, comps_in, count_of_items}
+use Rattle.lois_context.specs.Slots.{SlotD, slot_name}
+use Rattle.lois_context.specs.ItemCounts.{comps_in, count_of_items}
 use Rattle.lois_context.specs.declared.contexts.Context.{Context}
 use Rattle.lois_context.proofs.Carried.{count_of}
 use Rattle.lois_context.proofs.Entered.{listed_of}

@@ -15,7 +15,7 @@ use Rattle.lois_meaning.specs.Expressions.{Gives}
 use Rattle.lois_meaning.specs.Kinds.{IsSetTerm}
 use Rattle.lois_meaning.specs.Store.{looked_up}
 use Rattle.lois_meaning.specs.declared.faults.Fault.{Fault}
-use Rattle.lois_terms.specs.Guarded.{IsColl}
+use Rattle.lois_terms.specs.Collections.{IsColl}
 use Rattle.lois_context.specs.Choices.{IsAdmitted, AdmitsContext, ContextHasBoundedWidths}
 use Rattle.lois_context.specs.Entered.{carried, element_slot, binders_of, item_of, items_listed, comps_listed, IsMemberContext, AreMemberContexts, AreEntered, ExtendsContext, IsLoopContext}
 use Rattle.lois_context.specs.Joined.{IsEnd}

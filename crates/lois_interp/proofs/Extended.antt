@@ -13,11 +13,12 @@ use Rattle.lois_base.proofs.Lists.{items_fit_append}
 use Rattle.lois_algebra.proofs.Among.{admits_items-append, widths-append}
 use Rattle.lois_meaning.specs.Runs.{IsSetWith}
 use Rattle.lois_meaning.specs.declared.faults.Fault.{Fault}
-use Rattle.lois_terms.specs.Guarded.{IsColl}
+use Rattle.lois_terms.specs.Collections.{IsColl}
 use Rattle.lois_context.specs.Choices.{IsAdmitted, AdmitsContext, ContextHasBoundedWidths}
 use Rattle.lois_context.specs.Entered.{items_listed}
 use Rattle.lois_context.specs.Kept.{IsSlot}
-use Rattle.lois_context.specs.Slots.{SlotD, comps_in, count_of_items}
+use Rattle.lois_context.specs.Slots.{SlotD}
+use Rattle.lois_context.specs.ItemCounts.{comps_in, count_of_items}
 use Rattle.lois_context.specs.declared.contexts.Context.{Context}
 use Rattle.lois_context.proofs.Carried.{count_of}
 use Rattle.lois_context.proofs.Joined.{of_listed}

@@ -12,7 +12,8 @@ use Rattle.lois_base.specs.Truth.{sampled}
 use Rattle.lois_base.specs.Values.{PointValue, point, IsMember}
 use Rattle.lois_context.specs.Choices.{IsAdmitted, ContextHasBoundedWidths}
 use Rattle.lois_context.specs.Entered.{IsHeldInside, ExtendsContext}
-use Rattle.lois_context.specs.Slots.{store_at, line_values}
+use Rattle.lois_context.specs.Slots.{store_at}
+use Rattle.lois_context.specs.LineValues.{line_values}
 use Rattle.lois_context.specs.declared.contexts.Context.{Context}
 use Rattle.lois_eval.specs.WellFormed.{IsWellFormedIn}
 use Rattle.lois_eval.specs.Throughout.{Failure, IsFaultOf}

@@ -13,7 +13,9 @@ use Rattle.lois_context.specs.Choices.{IsAdmitted, AdmitsContext, ContextHasBoun
 use Rattle.lois_context.specs.Entered.{items_listed}
 use Rattle.lois_context.specs.Joined.{AreJoined, IsEnd, HasJoined}
 use Rattle.lois_context.specs.Kept.{IsSlot, AreSlots}
-use Rattle.lois_context.specs.Slots.{SlotD, slot_name, comps_in, count_of_items, store_at, line_values}
+use Rattle.lois_context.specs.Slots.{SlotD, slot_name, store_at}
+use Rattle.lois_context.specs.ItemCounts.{comps_in, count_of_items}
+use Rattle.lois_context.specs.LineValues.{line_values}
 use Rattle.lois_context.specs.declared.contexts.Context.{Context}
 use Rattle.lois_context.proofs.Carried.{count_of}
 use Rattle.lois_context.proofs.Entered.{listed_of}

@@ -23,7 +23,8 @@ use Rattle.lois_meaning.specs.Store.{NamedValues, named, looked_up, AreSameNamed
 use Rattle.lois_meaning.specs.declared.faults.Fault.{Fault}
 use Rattle.lois_meaning.proofs.Determined.{truth_same}
 use Rattle.lois_context.specs.Choices.{IsAdmitted, AdmitsContext, ContextHasBoundedWidths}
-use Rattle.lois_context.specs.Slots.{SlotD, store_at, line_values}
+use Rattle.lois_context.specs.Slots.{SlotD, store_at}
+use Rattle.lois_context.specs.LineValues.{line_values}
 use Rattle.lois_context.specs.declared.contexts.Context.{Context}
 use Rattle.lois_context.specs.declared.contexts.Split.{Split}
 use Rattle.lois_context.proofs.Carried.{raised_same}

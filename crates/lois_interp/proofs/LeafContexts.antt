@@ -7,7 +7,7 @@ use Rattle.lois_base.specs.Data.{TermD, var, tag, tup, coll}
 use Rattle.lois_base.specs.Truth.{holds, sampled}
 use Rattle.lois_base.specs.Values.{PointValue, point, IsDeeper}
 use Rattle.lois_base.specs.declared.guards.Lit.{Lit}
-use Rattle.lois_deciders.specs.Satisfaction.{IsCounterexample}
+use Rattle.lois_deciders.specs.Satisfiability.{IsCounterexample}
 use Rattle.lois_answers.specs.declared.faults.FaultKind.TheVariants.{NotASet, Assertion, DepthLimit}
 use Rattle.lois_script.specs.Scope.{unknown, again}
 use Rattle.lois_script.specs.Tree.{ExprD, CondD, «let», assign, add, assert, print}
@@ -19,7 +19,7 @@ use Rattle.lois_meaning.specs.Kinds.{IsSetTerm}
 use Rattle.lois_meaning.specs.Runs.{IsSetWith}
 use Rattle.lois_meaning.specs.Store.{looked_up, depth_limit}
 use Rattle.lois_meaning.specs.declared.faults.Fault.{Fault}
-use Rattle.lois_terms.specs.Guarded.{IsColl}
+use Rattle.lois_terms.specs.Collections.{IsColl}
 use Rattle.lois_context.specs.Choices.{IsAdmitted}
 use Rattle.lois_context.specs.Slots.{SlotD, IsNew, store_at}
 use Rattle.lois_context.specs.declared.contexts.Context.{Context}

@@ -21,7 +21,9 @@ use Rattle.lois_meaning.proofs.Stores.{named_refl}
 use Rattle.lois_context.specs.Choices.{IsAdmitted, AdmitsContext, ContextHasBoundedWidths}
 use Rattle.lois_context.specs.Entered.{items_listed, carried, element_slot}
 use Rattle.lois_context.specs.Kept.{IsSlot, HasDistinctNames}
-use Rattle.lois_context.specs.Slots.{SlotD, IsNew, slot_name, slot_at, store_at, line_values, comps_in, count_of_items}
+use Rattle.lois_context.specs.Slots.{SlotD, IsNew, slot_name, slot_at, store_at}
+use Rattle.lois_context.specs.LineValues.{line_values}
+use Rattle.lois_context.specs.ItemCounts.{comps_in, count_of_items}
 use Rattle.lois_context.specs.declared.contexts.Context.{Context}
 use Rattle.lois_context.proofs.Carried.{count_of, distinct_more}
 use Rattle.lois_context.proofs.Counts.{times_like, admits_like}

@@ -2,7 +2,8 @@
 use Rattle.std.proofs.Common.{◌≡◌, ℕ, zero, suc, Bool, true, false, List, [], ◌∷◌, ◌++◌, length, take, map, Some, refl, sym, ap, ◌∙◌, if◌then◌else◌, bytes_eq, ◌+◌, ◌<◌, ◌≤◌, get_or, drop, None, subst, arith, add-one}
 use Rattle.std.proofs.lemmas.Slice.Eq.{bytes_eq-Decides}
 use Rattle.lois_base.specs.Values.{PointValue, point}
-use Rattle.lois_meaning.specs.Store.{named, name_of, NamedValues, looked_up, stored}
+use Rattle.lois_meaning.specs.Store.{named, NamedValues, looked_up, stored}
+use Rattle.lois_meaning.specs.ProperStores.{name_of}
 use Rattle.lois_base.specs.Atom.{Atom}
 use Rattle.lois_base.specs.Data.{TermD}
 use Rattle.lois_base.specs.Tree.{tree}

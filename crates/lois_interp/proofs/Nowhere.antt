@@ -9,7 +9,8 @@ use Rattle.lois_context.specs.declared.contexts.Context.{Context}
 use Rattle.lois_context.proofs.Counts.{times_of, times_some}
 use Rattle.lois_eval.specs.Throughout.{FailsNowhere}
 use Rattle.lois_interp.specs.Failed.{FailsAlongSome}
-use Rattle.lois_interp.specs.Interpreted.{AreResultsOf, ScriptFailsNowhere}
+use Rattle.lois_interp.specs.Interpreted.{AreResultsOf}
+use Rattle.lois_interp.specs.Failures.{ScriptFailsNowhere}
 use Rattle.lois_interp.specs.Reached.{RunsAs}
 use Rattle.lois_interp.specs.Run.{block_run}
 use Rattle.lois_interp.proofs.Kept.{as_reached}

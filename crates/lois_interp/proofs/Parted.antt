@@ -9,7 +9,8 @@ use Rattle.lois_meaning.specs.Expressions.{HasTruth}
 use Rattle.lois_meaning.specs.Store.{NamedValues}
 use Rattle.lois_meaning.specs.declared.faults.Fault.{Fault}
 use Rattle.lois_context.specs.Choices.{IsAdmitted}
-use Rattle.lois_context.specs.Slots.{slot_name, store_at, line_values}
+use Rattle.lois_context.specs.Slots.{slot_name, store_at}
+use Rattle.lois_context.specs.LineValues.{line_values}
 use Rattle.lois_context.specs.declared.contexts.Context.{Context}
 use Rattle.lois_simplify.proofs.Members.{contains_none}
 use Rattle.lois_eval.specs.WellFormed.{names_of, IsWellFormedIn, CondIsWellFormed}

@@ -18,7 +18,7 @@ use Rattle.lois_simplify.specs.Simplification.{IsSimplification, set_of}
 use Rattle.lois_simplify.proofs.Kept.{alike_kept}
 use Rattle.lois_simplify.proofs.Members.{contains_none}
 use Rattle.lois_context.specs.Entered.{items_listed, comps_listed}
-use Rattle.lois_context.specs.Slots.{comps_in, count_of_items}
+use Rattle.lois_context.specs.ItemCounts.{comps_in, count_of_items}
 use Rattle.lois_context.proofs.Carried.{count_of}
 use Rattle.lois_context.proofs.Entered.{listed_of}
 use Rattle.lois_context.proofs.Joined.{of_listed}

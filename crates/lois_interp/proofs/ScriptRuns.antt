@@ -31,12 +31,14 @@ use Rattle.lois_context.specs.Choices.{IsAdmitted, AdmitsContext, ContextHasBoun
 use Rattle.lois_context.specs.Counted.{times}
 use Rattle.lois_context.specs.Merged.{AreDisjoint, HasSameContents, HasSameContentsAsOne, AreMerged}
 use Rattle.lois_context.specs.Kept.{LinesFit}
-use Rattle.lois_context.specs.Slots.{SlotD, line_values}
+use Rattle.lois_context.specs.Slots.{SlotD}
+use Rattle.lois_context.specs.LineValues.{line_values}
 use Rattle.lois_context.specs.declared.contexts.Context.{Context}
 use Rattle.lois_eval.specs.WellFormed.{IsWellFormedIn}
 use Rattle.lois_interp.specs.Failed.{FailsBehind}
 use Rattle.lois_interp.proofs.CaseCount.{few_enough}
-use Rattle.lois_interp.specs.Interpreted.{parameter_name, lines_of, IsChoiceOf, PrintsAt, IsRightAt, HoldsSomewhere, IsNormalLine, IsNormalCase, IsPlainCase, AreResultsOf, FailsBehindEnds, IsFailureOf}
+use Rattle.lois_interp.specs.Interpreted.{parameter_name, lines_of, IsChoiceOf, PrintsAt, IsRightAt, HoldsSomewhere, IsNormalLine, IsNormalCase, IsPlainCase, AreResultsOf, FailsBehindEnds}
+use Rattle.lois_interp.specs.Failures.{IsFailureOf}
 use Rattle.lois_interp.specs.Opened.{IsOpening}
 use Rattle.lois_interp.specs.Printed.{IsPrintedLine, IsPrinted, IsCaseOf}
 use Rattle.lois_interp.specs.Reached.{IsReachedAt, RunsAs}

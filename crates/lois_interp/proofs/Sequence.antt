@@ -24,7 +24,8 @@ use Rattle.lois_meaning.proofs.Runs.{stmt_fails_move}
 use Rattle.lois_meaning.proofs.Stores.{named_refl}
 use Rattle.lois_context.specs.Choices.{IsAdmitted, AdmitsContext, ContextHasBoundedWidths}
 use Rattle.lois_context.specs.Counted.{times}
-use Rattle.lois_context.specs.Slots.{SlotD, slot_name, slot_at, store_at, line_values}
+use Rattle.lois_context.specs.Slots.{SlotD, slot_name, slot_at, store_at}
+use Rattle.lois_context.specs.LineValues.{line_values}
 use Rattle.lois_context.specs.declared.contexts.Context.{Context}
 use Rattle.lois_context.proofs.Counts.{times_of, times_some, times_cons, admits_like}
 use Rattle.lois_context.specs.Counted.{admits}

@@ -1,7 +1,8 @@
 -- How large a statement is: what the functions that run statements go down.
 use Rattle.std.proofs.Common.{◌≡◌, ℕ, ◌+◌, ◌<◌, List, [], ◌∷◌, ◌++◌, refl, sym, ap, ◌∙◌, subst, arith}
 use Rattle.lois_script.specs.Tree.{CondD, BindingD, StmtD, «let», assign, add, for, if, while, assert, print, StmtsD, no_stmts, stmt}
-use Rattle.lois_script.specs.View.{stmts_of, stmt_tree}
+use Rattle.lois_script.specs.View.{stmts_of}
+use Rattle.lois_script.specs.Lists.{stmt_tree}
 use Rattle.lois_script.specs.declared.script.Stmt.{Stmt, roll-Stmt}
 use Rattle.lois_script.specs.declared.script.Stmt.TheFolds.{ind-Stmt}
 use Rattle.lois_script.specs.declared.script.Stmt.TheOpen.{Stmt-F}

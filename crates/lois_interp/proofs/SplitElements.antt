@@ -11,7 +11,7 @@ use Rattle.lois_meaning.specs.Store.{NamedValues, AreSameNamed}
 use Rattle.lois_meaning.specs.declared.faults.Fault.{Fault}
 use Rattle.lois_meaning.specs.declared.faults.Stop.{Stop}
 use Rattle.lois_meaning.specs.declared.faults.Stop.TheVariants.{Fault as Faulted, NoMemory}
-use Rattle.lois_context.specs.Slots.{line_values}
+use Rattle.lois_context.specs.LineValues.{line_values}
 use Rattle.lois_eval.specs.Throughout.{IfFault}
 use Rattle.lois_interp.specs.Split.{IsSplitLine, IsSplitStop, IsSplitFrom}
 

@@ -14,13 +14,14 @@ use Rattle.lois_base.specs.declared.guards.Lit.{Lit}
 use Rattle.lois_base.proofs.Members.{same_refl, same_trans, same_as_set}
 use Rattle.lois_base.proofs.Lists.{items_fit_append}
 use Rattle.lois_algebra.proofs.Among.{admits_items-append, widths-append}
-use Rattle.lois_deciders.specs.Satisfaction.{ConstraintIsSatisfiable}
+use Rattle.lois_deciders.specs.Satisfiability.{ConstraintIsSatisfiable}
 use Rattle.lois_simplify.proofs.Kept.{alike_kept}
 use Rattle.lois_simplify.proofs.Members.{items_fit_each, each_fits_items, items_admit_each, each_admits_items, items_wide_each, each_wide_items}
-use Rattle.lois_terms.specs.Guarded.{IsColl}
+use Rattle.lois_terms.specs.Collections.{IsColl}
 use Rattle.lois_context.specs.Entered.{items_listed, comps_listed}
 use Rattle.lois_context.specs.Kept.{IsSlot, AreSlots}
-use Rattle.lois_context.specs.Slots.{SlotD, comps_in, count_of_items}
+use Rattle.lois_context.specs.Slots.{SlotD}
+use Rattle.lois_context.specs.ItemCounts.{comps_in, count_of_items}
 use Rattle.lois_context.proofs.Carried.{count_of}
 use Rattle.lois_context.proofs.Entered.{listed_of}
 use Rattle.lois_context.proofs.Joined.{of_listed}

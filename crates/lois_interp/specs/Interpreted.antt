@@ -1,11 +1,9 @@
 -- What the results of a script say, and what its failure says.
-use Rattle.std.specs.Prelude.{◌≡◌, ℕ, ◌≤◌, List, [], ◌∷◌, ◌++◌, length, map, take, IsTrue}
+use Rattle.std.specs.Prelude.{◌≡◌, ℕ, ◌≤◌, List, [], ◌∷◌, ◌++◌, length, map, IsTrue}
 use Rattle.std.specs.List.{All, AllPairs}
 use Rattle.lois_base.specs.Atom.{Atom}
-use Rattle.lois_base.specs.Data.{depth}
 use Rattle.lois_base.specs.Normal.{IsNormal}
-use Rattle.lois_base.specs.Truth.{holds, sampled}
-use Rattle.lois_base.specs.Validity.{AdmitsTerm, HasBoundedWidths, IsStrictTerm}
+use Rattle.lois_base.specs.Truth.{holds}
 use Rattle.lois_base.specs.declared.guards.Lit.{Lit}
 use Rattle.lois_constraint.specs.Normalised.{IsNormalised}
 use Rattle.lois_simplify.specs.Irredundant.{HasNormalGuards}
@@ -17,11 +15,9 @@ use Rattle.lois_answers.specs.declared.results.Results.{Results}
 use Rattle.lois_cases.specs.CaseCount.{patterns}
 use Rattle.lois_script.specs.Tree.{ParamD, StmtD, ScriptD}
 use Rattle.lois_script.specs.View.{stmts_of}
-use Rattle.lois_meaning.specs.Runs.{ListEnds, StmtFails, ScriptEnds, ScriptFails}
+use Rattle.lois_meaning.specs.Runs.{ListEnds, StmtFails, ScriptEnds}
 use Rattle.lois_meaning.specs.Store.{NamedValues, AreSameNamed, opening}
-use Rattle.lois_meaning.specs.declared.faults.Fault.{Fault}
-use Rattle.lois_context.specs.Kept.{LinesFit}
-use Rattle.lois_context.specs.Slots.{line_values}
+use Rattle.lois_context.specs.LineValues.{line_values}
 
 abbrev pub parameter_name : ParamD → List ℕ
 parameter_name x = x.name
@@ -80,10 +76,6 @@ pub record AreResultsOf (s : ScriptD) (r : Results) : Type 0 where
   pub different : AllPairs (λ x y. x ≡ y → ⊥) (map lines_of r.cases)
   pub few : length r.cases ≤ patterns r.order (length r.parameters) 0
 
--- at no choice of the parameters
-abbrev pub ScriptFailsNowhere : ScriptD → Type 0
-ScriptFailsNowhere s = (choice : List Atom) → IsChoiceOf s choice → (at : ℕ) (kind : FaultKind) (path : NamedValues) → ScriptFails s choice at kind path → ⊥
-
 -- The script fails at one of its statements, behind others that end at every choice.
 pub record FailsBehindEnds (s : ScriptD) (choice : List Atom) (at : ℕ) (kind : FaultKind) (path : NamedValues) : Type 0 where
   pub before : List StmtD
@@ -92,17 +84,3 @@ pub record FailsBehindEnds (s : ScriptD) (choice : List Atom) (at : ℕ) (kind :
   pub body : s.body ≡ stmts_of (before ++ one ∷ behind)
   pub end_always : (c : List Atom) → IsChoiceOf s c → (t lines : NamedValues) × ListEnds (stmts_of before) (opening s.parameters c) t lines
   pub fails : (t lines : NamedValues) × ListEnds (stmts_of before) (opening s.parameters choice) t lines × StmtFails one t at kind path
-
--- The sample begins with a choice of the parameters, under which the script fails with this place and kind along a path that
--- the elements name at the whole sample. The statements before the one with the place end at every choice.
-pub record IsFailureOf (s : ScriptD) (f : Fault) : Type 0 where
-  pub enough : length s.parameters ≤ length f.sample.items
-  pub path : NamedValues
-  pub failed : ScriptFails s (sampled (take (length s.parameters) f.sample.items)) f.pos.offset f.kind path
-  pub first : FailsBehindEnds s (sampled (take (length s.parameters) f.sample.items)) f.pos.offset f.kind path
-  pub named : AreSameNamed path (line_values (sampled f.sample.items) f.elements)
-  pub levels : LinesFit (length f.sample.items) f.elements
-  pub brackets : All (λ l. depth l.term ≤ 64) f.elements
-  pub operators : All (λ l. AdmitsTerm s.ordered l.term) f.elements
-  pub widths : All (λ l. HasBoundedWidths l.term) f.elements
-  pub strict : All (λ l. IsStrictTerm l.term) f.elements

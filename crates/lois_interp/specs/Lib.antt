@@ -17,5 +17,6 @@ pub mod Members
 pub mod Leaves
 pub mod Oracle
 pub mod Interpreted
+pub mod Failures
 pub mod Opened
 pub mod Printed

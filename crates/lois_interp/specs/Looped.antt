@@ -11,7 +11,8 @@ use Rattle.lois_meaning.specs.Runs.{BlockEnds, ListEnds}
 use Rattle.lois_meaning.specs.Store.{NamedValues, named, looked_up, AreSameNamed}
 use Rattle.lois_meaning.specs.declared.faults.Fault.{Fault}
 use Rattle.lois_context.specs.Choices.{IsAdmitted, AdmitsContext, ContextHasBoundedWidths}
-use Rattle.lois_context.specs.Slots.{SlotD, store_at, line_values}
+use Rattle.lois_context.specs.Slots.{SlotD, store_at}
+use Rattle.lois_context.specs.LineValues.{line_values}
 use Rattle.lois_context.specs.declared.contexts.Context.{Context}
 use Rattle.lois_eval.specs.WellFormed.{IsWellFormedIn}
 use Rattle.lois_interp.specs.Assigned.{ListAssigns}

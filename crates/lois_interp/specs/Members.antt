@@ -4,7 +4,7 @@ use Rattle.std.specs.List.{Contains}
 use Rattle.lois_base.specs.Data.{TermD, coll, CompD, comps_of}
 use Rattle.lois_base.specs.Tree.{tree}
 use Rattle.lois_base.specs.declared.values.Term.{Term}
-use Rattle.lois_terms.specs.Guarded.{IsColl}
+use Rattle.lois_terms.specs.Collections.{IsColl}
 use Rattle.lois_context.specs.Put.{IsWithOnce}
 use Rattle.lois_eval.specs.Made.{bare}
 

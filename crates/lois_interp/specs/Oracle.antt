@@ -5,7 +5,8 @@ use Rattle.std.specs.Global.{Vec}
 use Rattle.std.specs.List.{All}
 use Rattle.std.specs.declared.alloc.Global.{Global}
 use Rattle.lois_base.specs.declared.NoMemory.{NoMemory}
-use Rattle.lois_script.specs.View.{tree, cond_tree, stmt_tree}
+use Rattle.lois_script.specs.View.{tree, cond_tree}
+use Rattle.lois_script.specs.Lists.{stmt_tree}
 use Rattle.lois_script.specs.declared.script.Stmt.{Stmt}
 use Rattle.lois_script.specs.declared.syntax.Cond.{Cond}
 use Rattle.lois_script.specs.declared.syntax.Expr.{Expr}

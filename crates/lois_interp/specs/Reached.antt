@@ -7,7 +7,8 @@ use Rattle.lois_meaning.specs.Runs.{Ending}
 use Rattle.lois_meaning.specs.Store.{NamedValues}
 use Rattle.lois_context.specs.Choices.{IsAdmitted, AdmitsContext, ContextHasBoundedWidths}
 use Rattle.lois_context.specs.Counted.{AdmitAlike}
-use Rattle.lois_context.specs.Slots.{SlotD, slot_name, store_at, line_values}
+use Rattle.lois_context.specs.Slots.{SlotD, slot_name, store_at}
+use Rattle.lois_context.specs.LineValues.{line_values}
 use Rattle.lois_context.specs.declared.contexts.Context.{Context}
 use Rattle.lois_eval.specs.WellFormed.{IsWellFormedIn}
 use Rattle.lois_interp.specs.Run.{Run}

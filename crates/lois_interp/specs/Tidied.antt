@@ -11,7 +11,8 @@ use Rattle.lois_base.specs.declared.guards.Lit.{Lit}
 use Rattle.lois_meaning.specs.Store.{looked_up}
 use Rattle.lois_context.specs.Choices.{IsAdmitted, AdmitsContext, ContextHasBoundedWidths}
 use Rattle.lois_context.specs.Joined.{AreJoined, HasJoined}
-use Rattle.lois_context.specs.Slots.{SlotD, comps_in, store_at}
+use Rattle.lois_context.specs.Slots.{SlotD, store_at}
+use Rattle.lois_context.specs.ItemCounts.{comps_in}
 use Rattle.lois_context.specs.declared.contexts.Context.{Context}
 use Rattle.lois_interp.specs.Slots.{IsKeptTerm}
 

@@ -7,7 +7,7 @@ ghost use Rattle.lois_base.specs.Tree.{tree as term_tree};
 ghost use Rattle.lois_base.specs.Validity.{AdmitsTerm, HasBoundedWidths};
 ghost use Rattle.lois_deciders.specs.OnlyAsked.{HasOnlyAsked};
 ghost use Rattle.lois_script.specs.View.{tree};
-ghost use Rattle.lois_terms.specs.Guarded.{IsColl};
+ghost use Rattle.lois_terms.specs.Collections.{IsColl};
 ghost use Rattle.lois_context.specs.Choices.{ContextHasBoundedWidths};
 ghost use Rattle.lois_context.specs.Slots.{IsNew};
 ghost use Rattle.lois_eval.specs.WellFormed.{IsWellFormedIn, IsWellFormed};

@@ -8,7 +8,8 @@ ghost use Rattle.lois_script.specs.View.{params_list, script_tree, stmts_list, s
 ghost use Rattle.lois_eval.specs.Throughout.{IfFault};
 ghost use Rattle.lois_eval.specs.WellFormed.{IsWellFormedIn};
 ghost use Rattle.lois_interp.specs.Failed.{FailsBehind};
-ghost use Rattle.lois_interp.specs.Interpreted.{AreResultsOf, ScriptFailsNowhere, IsFailureOf, parameter_name};
+ghost use Rattle.lois_interp.specs.Interpreted.{AreResultsOf, parameter_name};
+ghost use Rattle.lois_interp.specs.Failures.{ScriptFailsNowhere, IsFailureOf};
 ghost use Rattle.lois_interp.specs.Opened.{IsOpening, opening_slots};
 ghost use Rattle.lois_interp.specs.Reached.{RunsAs};
 ghost use Rattle.lois_interp.specs.Run.{block_run};

@@ -4,7 +4,8 @@
 ghost use Rattle.std.specs.Prelude.{IfOk, IfErr};
 ghost use Rattle.std.specs.List.{All};
 ghost use Rattle.lois_meaning.specs.Faults.{CondFails};
-ghost use Rattle.lois_script.specs.View.{tree, cond_tree, stmt_tree};
+ghost use Rattle.lois_script.specs.View.{tree, cond_tree};
+ghost use Rattle.lois_script.specs.Lists.{stmt_tree};
 ghost use Rattle.lois_context.specs.Choices.{AdmitsContext};
 ghost use Rattle.lois_context.specs.Joined.{IsEnd};
 ghost use Rattle.lois_context.specs.Slots.{IsNew};

@@ -11,7 +11,7 @@ use Rattle.lois_answers.specs.ResultsData.{CaseD}
 use Rattle.lois_answers.specs.Sound.{IsSoundTerm}
 use Rattle.lois_shortest_word.specs.Words.{first_sampled, values_at}
 use Rattle.lois_shortest_word.specs.declared.words.Word.{Word}
-use Rattle.lois_equal.specs.Differing.{IsShortestDifference, AreBounded}
+use Rattle.lois_equal.specs.Differences.{IsShortestDifference, AreBounded}
 use Rattle.lois_equal.proofs.Differences.{all_letters, are_letters, letter_of}
 use Rattle.lois_languages.specs.Inclusions.{AreSuited, IsExcess, IsExcessWord, IsBeyond, IsFirstWithinReason, IsFirstBeyond, IsInclusion, excess_of}
 use Rattle.lois_languages.specs.declared.faults.LineFault.{LineFault}

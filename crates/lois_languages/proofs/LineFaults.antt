@@ -7,7 +7,8 @@ use Rattle.lois_base.specs.Truth.{sampled}
 use Rattle.lois_base.specs.declared.guards.Lit.{Lit}
 use Rattle.lois_answers.specs.ResultsData.{CaseD}
 use Rattle.lois_automata.specs.Machines.{IsAutomatonAt}
-use Rattle.lois_automata.specs.Throughout.{HoldsThroughout, IsBreak}
+use Rattle.lois_automata.specs.Throughout.{HoldsThroughout}
+use Rattle.lois_automata.specs.Verdicts.{IsBreak}
 use Rattle.lois_equal.specs.Comparing.{HasTerm}
 use Rattle.lois_equal.proofs.CaseLines.{one_term}
 use Rattle.lois_languages.specs.Faults.{HasAutomaton, IsSomewhereNotAutomaton}

@@ -11,10 +11,11 @@ use Rattle.lois_base.specs.Values.{point}
 use Rattle.lois_base.specs.declared.guards.Lit.{Lit}
 use Rattle.lois_answers.specs.ResultsData.{CaseD}
 use Rattle.lois_answers.specs.Sound.{IsSoundTerm}
-use Rattle.lois_shortest_word.specs.Words.{AcceptsAt, AreAsLong, IsShortestWord, first_sampled, values_at}
+use Rattle.lois_shortest_word.specs.Words.{AcceptsAt, first_sampled, values_at}
+use Rattle.lois_shortest_word.specs.Shortest.{AreAsLong, IsShortestWord}
 use Rattle.lois_shortest_word.specs.declared.words.Word.{Word}
 use Rattle.lois_shortest_word.proofs.Readings.{accepted_letters}
-use Rattle.lois_equal.specs.Differing.{AreBounded}
+use Rattle.lois_equal.specs.Differences.{AreBounded}
 use Rattle.lois_equal.specs.SplitWords.{IsSplitWord, IsSplitOrNone}
 use Rattle.lois_equal.proofs.SplitLetters.{accepted_split, as_many}
 use Rattle.lois_languages.specs.Faults.{HasAutomaton}

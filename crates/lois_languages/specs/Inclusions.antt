@@ -5,10 +5,11 @@ use Rattle.lois_base.specs.Data.{TermD}
 use Rattle.lois_base.specs.Truth.{sampled}
 use Rattle.lois_base.specs.declared.guards.Lit.{Lit}
 use Rattle.lois_answers.specs.ResultsData.{CaseD}
-use Rattle.lois_shortest_word.specs.Words.{HasLettersAt, values_at, first_sampled}
+use Rattle.lois_shortest_word.specs.Words.{values_at, first_sampled}
+use Rattle.lois_shortest_word.specs.Shortest.{HasLettersAt}
 use Rattle.lois_shortest_word.specs.declared.words.Word.{Word}
 use Rattle.lois_equal.specs.Comparing.{HasTerm, HasLine, HasNoLine, IsComparable, IsNotDeterministic, IsFirst}
-use Rattle.lois_equal.specs.Differing.{IsLanguageIncluded, IsShortestDifference}
+use Rattle.lois_equal.specs.Differences.{IsLanguageIncluded, IsShortestDifference}
 use Rattle.lois_equal.specs.declared.differing.Difference.{Difference}
 use Rattle.lois_languages.specs.Faults.{HasAutomaton, LacksAutomaton, fault_number}
 use Rattle.lois_languages.specs.declared.faults.LineFault.{LineFault}

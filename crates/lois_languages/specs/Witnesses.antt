@@ -5,7 +5,7 @@ use Rattle.lois_base.specs.Data.{TermD}
 use Rattle.lois_answers.specs.ResultsData.{CaseD}
 use Rattle.lois_automata.specs.Machines.{IsEmptyAt}
 use Rattle.lois_automata.specs.Throughout.{HoldsThroughout}
-use Rattle.lois_shortest_word.specs.Words.{IsShortestWord}
+use Rattle.lois_shortest_word.specs.Shortest.{IsShortestWord}
 use Rattle.lois_shortest_word.specs.declared.words.Word.{Word}
 use Rattle.lois_equal.specs.Comparing.{HasTerm, HasNoLine, IsFirst}
 use Rattle.lois_languages.specs.Faults.{HasAutomaton, LacksAutomaton, fault_number}

@@ -5,7 +5,7 @@ ghost use Rattle.std.specs.List.{All};
 ghost use Rattle.lois_answers.specs.CaseView.{case_of};
 ghost use Rattle.lois_answers.specs.Sound.{IsSound, IsSoundCase};
 ghost use Rattle.lois_deciders.specs.OnlyAsked.{HasOnlyAsked};
-ghost use Rattle.lois_equal.specs.Differing.{AreBounded};
+ghost use Rattle.lois_equal.specs.Differences.{AreBounded};
 ghost use Rattle.lois_languages.specs.Faults.{HasFaultNumber};
 ghost use Rattle.lois_languages.specs.Inclusions.{AreSuited, IsWithin, IsExcessWord, IsWithinReasonOrNone, IsFirstWithinReason, IsFirstBeyond, IsInclusion, IfBeyond, excess_of};
 

@@ -6,7 +6,7 @@ use Rattle.std.proofs.lemmas.List.Elements.{All-head, All-tail}
 use Rattle.lois_base.specs.Atom.{Atom, whole}
 use Rattle.lois_answers.specs.ResultsData.{CaseD}
 use Rattle.lois_answers.specs.declared.results.Results.{Results}
-use Rattle.lois_context.specs.Slots.{line_values}
+use Rattle.lois_context.specs.LineValues.{line_values}
 use Rattle.lois_equal.specs.Comparing.{IsFirst}
 use Rattle.lois_meaning.specs.Store.{AreSameNamed}
 use Rattle.lois_script.specs.Tree.{ScriptD}

@@ -12,7 +12,7 @@ use Rattle.lois_census.specs.Censuses.{HasSet, NumberedD, numbered, is_met, IsCe
 use Rattle.lois_census.specs.Orbits.{value_of}
 use Rattle.lois_meaning.proofs.Alike.{is_set_same}
 use Rattle.lois_meaning.specs.Kinds.{IsSet, IsSetTerm as IsSetTermOf}
-use Rattle.lois_terms.specs.Guarded.{IsColl}
+use Rattle.lois_terms.specs.Collections.{IsColl}
 use Rattle.lois_interp.specs.Interpreted.{IsChoiceOf, IsRightAt}
 use Rattle.lois_laws.specs.Laws.{CensusIsOfTheRun}
 use Rattle.lois_laws.proofs.CaseHere.{HoldNowhere, as_choice, said_here}

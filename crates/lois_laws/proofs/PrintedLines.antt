@@ -5,7 +5,7 @@ use Rattle.lois_base.specs.Data.{TermD}
 use Rattle.lois_base.specs.Values.{PointValue, point, IsSame}
 use Rattle.lois_answers.specs.LastNamed.{last_line}
 use Rattle.lois_answers.specs.ResultsData.{LineD, CaseD}
-use Rattle.lois_context.specs.Slots.{line_values}
+use Rattle.lois_context.specs.LineValues.{line_values}
 use Rattle.lois_equal.specs.Comparing.{HasTerm}
 use Rattle.lois_meaning.specs.Store.{NamedValue, NamedValues, AreSameNamed}
 use Rattle.lois_laws.specs.Printed.{last_value, printed_as}

@@ -5,7 +5,7 @@ use Rattle.lois_answers.specs.ResultsData.{CaseD}
 use Rattle.lois_answers.specs.declared.results.Results.{Results}
 use Rattle.lois_cases.specs.Cases.{IsTheCaseAt}
 use Rattle.lois_cases.proofs.OneCase.{one_case}
-use Rattle.lois_context.specs.Slots.{line_values}
+use Rattle.lois_context.specs.LineValues.{line_values}
 use Rattle.lois_interp.specs.Interpreted.{AreResultsOf, IsRightAt}
 use Rattle.lois_meaning.proofs.Stores.{named_sym, named_trans}
 use Rattle.lois_meaning.proofs.TheLaws.{determined}

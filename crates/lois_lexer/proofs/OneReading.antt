@@ -9,9 +9,10 @@ use Rattle.lois_lexer.specs.declared.TokenKind.TheVariants.{Number}
 use Rattle.lois_lexer.specs.declared.Token.{Token}
 use Rattle.lois_lexer.specs.declared.LexError.{LexError}
 use Rattle.lois_lexer.specs.Forms.{HasForm, is_within_limits}
-use Rattle.lois_lexer.specs.Tokens.{Longest, IsTrivia, IsCut, HasTokens, IsTokenOf, AreInOrder}
+use Rattle.lois_lexer.specs.Tokens.{Longest, IsTrivia, IsCut, HasTokens}
+use Rattle.lois_lexer.specs.InText.{IsTokenOf, AreInOrder, IsPlaceInText}
 use Rattle.lois_lexer.specs.Tokens.IsCut.{at_start, past_gap, past_token}
-use Rattle.lois_lexer.specs.Refusals.{IsWrongAt, IsLexicalRefusal, IsPlaceInText}
+use Rattle.lois_lexer.specs.Refusals.{IsWrongAt, IsLexicalRefusal}
 use Rattle.lois_lexer.specs.Refusals.IsWrongAt.{bad_byte, bad_comment, long_name, bad_number}
 use Rattle.lois_lexer.specs.Laws.{OneList, OneRefusal, NeverBoth}
 use Rattle.lois_lexer.proofs.Cutting.{gap_positive, gap_within, token_positive}

@@ -14,7 +14,8 @@ use Rattle.lois_lexer.specs.declared.Token.{Token}
 use Rattle.lois_lexer.specs.Bytes.{is_blank, is_word_byte}
 use Rattle.lois_lexer.specs.Words.{symbols}
 use Rattle.lois_lexer.specs.Forms.{is_word_form, HasForm, is_within_limits}
-use Rattle.lois_lexer.specs.Tokens.{Longest, IsTrivia, IsCut, spelled, bytes_of}
+use Rattle.lois_lexer.specs.Tokens.{Longest, IsTrivia, IsCut, bytes_of}
+use Rattle.lois_lexer.specs.SpelledTokens.{spelled}
 use Rattle.lois_lexer.specs.Tokens.IsTrivia.{one_blank}
 use Rattle.lois_lexer.specs.Tokens.IsCut.{at_start, past_gap, past_token}
 use Rattle.lois_lexer.specs.Laws.{Written, IsWritten, text_of, WrittenIsRead}

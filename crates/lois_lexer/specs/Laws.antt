@@ -5,7 +5,8 @@ use Rattle.lois_lexer.specs.declared.Token.{Token}
 use Rattle.lois_lexer.specs.declared.LexError.{LexError}
 use Rattle.lois_lexer.specs.Bytes.{is_blank}
 use Rattle.lois_lexer.specs.Forms.{HasForm, is_within_limits}
-use Rattle.lois_lexer.specs.Tokens.{HasTokens, Spelled, spelled}
+use Rattle.lois_lexer.specs.Tokens.{HasTokens}
+use Rattle.lois_lexer.specs.SpelledTokens.{Spelled, spelled}
 use Rattle.lois_lexer.specs.Refusals.{IsLexicalRefusal}
 
 -- a text has at most one list of tokens

@@ -2,6 +2,8 @@ pub mod Bytes
 pub mod Words
 pub mod Forms
 pub mod Tokens
+pub mod InText
+pub mod SpelledTokens
 pub mod Refusals
 pub mod Laws
 pub mod Causes

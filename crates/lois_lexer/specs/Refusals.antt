@@ -5,7 +5,7 @@ use Rattle.lois_lexer.specs.declared.TokenKind.{TokenKind}
 use Rattle.lois_lexer.specs.declared.TokenKind.TheVariants.{Number}
 use Rattle.lois_lexer.specs.declared.Token.{Token}
 use Rattle.lois_lexer.specs.declared.LexError.{LexError}
-use Rattle.lois_lexer.specs.declared.LexError.TheVariants.{BadByte, LongName, BadNumber, NoMemory}
+use Rattle.lois_lexer.specs.declared.LexError.TheVariants.{BadByte, LongName, BadNumber}
 use Rattle.lois_lexer.specs.Bytes.{is_blank, is_comment_byte}
 use Rattle.lois_lexer.specs.Forms.{HasForm, is_within_limits}
 use Rattle.lois_lexer.specs.Tokens.{Longest, IsCut}
@@ -39,10 +39,3 @@ pub data IsWrongAt (at : ℕ) (bytes : List ℕ) : LexError → Type 0 where
 -- The text is refused so.
 abbrev pub IsLexicalRefusal : List ℕ → LexError → Type 0
 IsLexicalRefusal text error = (at : ℕ) × (tokens : List Token) × IsCut text at tokens × IsWrongAt at (drop at text) error
-
--- the place of a refusal is a byte of the text
-abbrev pub IsPlaceInText : List ℕ → LexError → Type 0
-IsPlaceInText text (BadByte at) = at < length text
-IsPlaceInText text (LongName at) = at < length text
-IsPlaceInText text (BadNumber at) = at < length text
-IsPlaceInText text NoMemory = Unit {0}

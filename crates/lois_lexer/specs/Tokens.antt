@@ -1,6 +1,6 @@
 -- Which tokens a text has.
-use Rattle.std.specs.Prelude.{◌≡◌, ℕ, ◌+◌, ◌<◌, ◌≤◌, ◌⊎◌, List, [], ◌∷◌, ◌++◌, length, take, drop, map, slice_index, slice_range, IsTrue}
-use Rattle.std.specs.List.{list_all, AllAdjacentBelow}
+use Rattle.std.specs.Prelude.{◌≡◌, ℕ, ◌+◌, ◌<◌, ◌≤◌, ◌⊎◌, List, [], ◌∷◌, ◌++◌, length, take, drop, slice_index, slice_range, IsTrue}
+use Rattle.std.specs.List.{list_all}
 use Rattle.lois_lexer.specs.declared.TokenKind.{TokenKind}
 use Rattle.lois_lexer.specs.declared.Token.{Token}
 use Rattle.lois_lexer.specs.Bytes.{is_blank, is_comment_byte}
@@ -40,23 +40,3 @@ HasTokens text tokens = IsCut text (length text) tokens
 -- the bytes of a token
 abbrev pub bytes_of : List ℕ → Token → List ℕ
 bytes_of text token = slice_range text token.from token.to
-
--- A token without its place: what a grammar is about.
-pub record Spelled : Type 0 where
-  pub kind : TokenKind
-  pub bytes : List ℕ
-
--- the tokens of a text without their places
-abbrev pub spelled : List ℕ → List Token → List Spelled
-spelled text tokens = map (λ (t : Token). record { kind = t.kind; bytes = bytes_of text t }) tokens
-
--- a token lies in the text, and has the form of its kind within the limits
-pub record IsTokenOf (text : List ℕ) (token : Token) : Type 0 where
-  pub nonempty : token.from < token.to
-  pub within : token.to ≤ length text
-  pub form : HasForm token.kind (bytes_of text token)
-  pub limits : IsTrue (is_within_limits token.kind (bytes_of text token))
-
--- each token ends before the next begins
-abbrev pub AreInOrder : List Token → Type 0
-AreInOrder tokens = AllAdjacentBelow (λ (t : Token) (u : Token). t.to ≤ u.from) tokens (length tokens)

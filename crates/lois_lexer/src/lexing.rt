@@ -9,8 +9,9 @@ ghost use Rattle.lois_lexer.specs.declared.LexError.{LexError};
 ghost use Rattle.lois_lexer.specs.Bytes.{is_word_byte, is_blank, is_comment_byte};
 ghost use Rattle.lois_lexer.specs.Words.{symbols};
 ghost use Rattle.lois_lexer.specs.Forms.{HasForm, is_within_limits};
-ghost use Rattle.lois_lexer.specs.Tokens.{Longest, IsTrivia, HasTokens, IsTokenOf, AreInOrder};
-ghost use Rattle.lois_lexer.specs.Refusals.{IsWrongAt, IsLexicalRefusal, IsPlaceInText};
+ghost use Rattle.lois_lexer.specs.Tokens.{Longest, IsTrivia, HasTokens};
+ghost use Rattle.lois_lexer.specs.InText.{IsTokenOf, AreInOrder, IsPlaceInText};
+ghost use Rattle.lois_lexer.specs.Refusals.{IsWrongAt, IsLexicalRefusal};
 ghost use Rattle.lois_lexer.specs.Laws.{OneList, OneRefusal, NeverBoth, WrittenIsRead};
 
 use crate::words::is_reserved;

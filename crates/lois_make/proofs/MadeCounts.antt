@@ -13,7 +13,7 @@ use Rattle.lois_base.specs.Validity.{AdmitsItems}
 use Rattle.lois_base.specs.Values.{PointValue, point, MakesAt, IsSame, IsIn}
 use Rattle.lois_base.specs.declared.guards.Lit.{Lit}
 use Rattle.lois_base.proofs.Members.{same_refl, same_trans}
-use Rattle.lois_context.specs.Slots.{count_of_items}
+use Rattle.lois_context.specs.ItemCounts.{count_of_items}
 use Rattle.lois_meaning.specs.Kinds.{IsSetOf}
 use Rattle.lois_make.specs.Laws.{NormalHasOneForEach}
 use Rattle.lois_make.specs.MadeTree.{made_tag}

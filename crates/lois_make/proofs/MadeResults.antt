@@ -9,14 +9,14 @@ use Rattle.lois_base.proofs.Members.{same_sym}
 use Rattle.lois_answers.specs.ResultsData.{LineD, CaseD}
 use Rattle.lois_answers.specs.Sound.{IsSoundTerm, IsSoundLine, IsSoundCase}
 use Rattle.lois_answers.specs.declared.results.Results.{Results}
-use Rattle.lois_context.specs.Slots.{line_values}
+use Rattle.lois_context.specs.LineValues.{line_values}
 use Rattle.lois_interp.specs.Interpreted.{HoldsAt, HoldsSomewhere, IsNormalLine, IsNormalCase, IsRightAt, AreResultsOf}
 use Rattle.lois_meaning.specs.Kinds.{IsSetOf}
 use Rattle.lois_meaning.specs.Store.{named, AreSameNamed}
 use Rattle.lois_meaning.proofs.Alike.{set_of_to}
 use Rattle.lois_meaning.proofs.Stores.{named_trans}
 use Rattle.lois_meaning.proofs.TheLaws.{determined}
-use Rattle.lois_make.specs.MadeCounts.{ResultsHaveMadeCounts}
+use Rattle.lois_make.specs.Laws.{ResultsHaveMadeCounts}
 use Rattle.lois_make.specs.MadeTree.{made_tree}
 use Rattle.lois_make.specs.MadeValue.{IsMade}
 use Rattle.lois_make.proofs.MadeCounts.{normal_has_one_for_each}

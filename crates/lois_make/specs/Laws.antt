@@ -9,14 +9,17 @@ use Rattle.lois_base.specs.Values.{PointValue, point}
 use Rattle.lois_base.specs.Data.{TermD}
 use Rattle.lois_base.specs.Fits.{Fits}
 use Rattle.lois_base.specs.Normal.{IsNormal}
-use Rattle.lois_base.specs.Validity.{IsOrderFreeTerm}
+use Rattle.lois_base.specs.OrderFree.{IsOrderFreeTerm}
 use Rattle.lois_base.specs.declared.guards.Lit.{Lit}
-use Rattle.lois_context.specs.Slots.{comps_in}
+use Rattle.lois_context.specs.ItemCounts.{comps_in}
 use Rattle.lois_meaning.specs.Kinds.{IsSetOf}
 use Rattle.lois_meaning.specs.Runs.{ScriptEnds, ScriptFails}
 use Rattle.lois_meaning.specs.Store.{NamedValues, named}
 use Rattle.lois_make.specs.MadeTree.{made_tree}
 use Rattle.lois_make.specs.MadeValue.{IsMade}
+use Rattle.lois_answers.specs.declared.results.Results.{Results}
+use Rattle.lois_interp.specs.Interpreted.{AreResultsOf}
+use Rattle.lois_make.specs.MadeCounts.{HasMadeCounts}
 
 -- The made script spells its tree, which keeps the limits.
 abbrev pub MadeIsSpelled : Type 0
@@ -41,3 +44,7 @@ MadeNeverFails = (n : ℕ) (choice : List Atom) (at : ℕ) (kind : FaultKind) (p
 abbrev pub NormalHasOneForEach : Type 0
 NormalHasOneForEach = (n : ℕ) (t : TermD) (u : List (List Lit)) →
     Fits 0 t → IsOrderFreeTerm t → IsNormal t u 0 → IsSetOf (point t []) (IsMade n) → comps_in t ≡ min n 7
+
+-- All results of the made script have the same counts.
+abbrev pub ResultsHaveMadeCounts : Type 0
+ResultsHaveMadeCounts = (n : ℕ) (r : Results) → AreResultsOf (made_tree n) r → HasMadeCounts n r

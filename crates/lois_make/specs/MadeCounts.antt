@@ -2,9 +2,7 @@
 use Rattle.std.specs.Prelude.{◌≡◌, ℕ, min, [], ◌∷◌, codes}
 use Rattle.lois_answers.specs.ResultsData.{LineD, CaseD}
 use Rattle.lois_answers.specs.declared.results.Results.{Results}
-use Rattle.lois_context.specs.Slots.{comps_in}
-use Rattle.lois_interp.specs.Interpreted.{AreResultsOf}
-use Rattle.lois_make.specs.MadeTree.{made_tree}
+use Rattle.lois_context.specs.ItemCounts.{comps_in}
 
 -- One case, with one line, the set `s`, which has a comprehension for each of the tags: there are seven.
 pub record HasMadeCounts (n : ℕ) (r : Results) : Type 0 where
@@ -14,7 +12,3 @@ pub record HasMadeCounts (n : ℕ) (r : Results) : Type 0 where
   pub lines : one.lines ≡ line ∷ []
   pub name : line.name ≡ codes "s"
   pub comprehensions : comps_in line.term ≡ min n 7
-
--- All results of the made script have the same counts.
-abbrev pub ResultsHaveMadeCounts : Type 0
-ResultsHaveMadeCounts = (n : ℕ) (r : Results) → AreResultsOf (made_tree n) r → HasMadeCounts n r

@@ -1,7 +1,6 @@
 //! The laws of the made script: each function does nothing, and its contract states a law that is proved.
 
-ghost use Rattle.lois_make.specs.Laws.{MadeIsSpelled, MadeIsWellScoped, MadeEnds, MadeNeverFails, NormalHasOneForEach};
-ghost use Rattle.lois_make.specs.MadeCounts.{ResultsHaveMadeCounts};
+ghost use Rattle.lois_make.specs.Laws.{MadeIsSpelled, MadeIsWellScoped, MadeEnds, MadeNeverFails, NormalHasOneForEach, ResultsHaveMadeCounts};
 
 /// The made script spells a script that keeps the limits.
 pub fn made_script_is_spelled()

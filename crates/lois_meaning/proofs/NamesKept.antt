@@ -5,7 +5,8 @@ use Rattle.lois_base.specs.Values.{PointValue}
 use Rattle.lois_meaning.specs.Expressions.{HasTruth}
 use Rattle.lois_meaning.specs.Laws.{KeepsNames}
 use Rattle.lois_meaning.specs.Runs.{Ending, BlockEnds, TurnsEnd, AreGathered, StmtEnds, ListEnds}
-use Rattle.lois_meaning.specs.Store.{name_of, NamedValues, stored, AreSameNamed}
+use Rattle.lois_meaning.specs.Store.{NamedValues, stored, AreSameNamed}
+use Rattle.lois_meaning.specs.ProperStores.{name_of}
 use Rattle.lois_script.specs.Tree.{binding, CondD, StmtD, «let», assign, add, for, if, while, assert, print, StmtsD, no_stmts, stmt}
 use Rattle.lois_meaning.proofs.Stores.{stored_names}
 

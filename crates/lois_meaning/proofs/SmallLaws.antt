@@ -16,7 +16,8 @@ use Rattle.lois_meaning.specs.Expressions.{Given, Makes, Reaches, Gives, HasTrut
 use Rattle.lois_meaning.specs.Faults.{Fails}
 use Rattle.lois_meaning.specs.Kinds.{IsAtomAt, IsTagTerm, IsSetTerm, IsAtomValue, IsTagValue, HasParts, IsSet, IsSetOf, AreSame}
 use Rattle.lois_meaning.specs.Runs.{Ending, BlockEnds, TurnsEnd, IsGathered, AreGathered, StmtEnds, ListEnds, StmtFails, ScriptEnds}
-use Rattle.lois_meaning.specs.Store.{named, NamedValues, looked_up, stored, AreSameNamed, IsShallow, depth_limit, name_of, opening_from}
+use Rattle.lois_meaning.specs.Store.{named, NamedValues, looked_up, stored, AreSameNamed, IsShallow, depth_limit, opening_from}
+use Rattle.lois_meaning.specs.ProperStores.{name_of}
 use Rattle.lois_script.specs.Tree.{ExprD, atoms, listed, no_exprs, binding, no_bindings, bind, CondD, truth, same, for, while, assert, StmtsD, no_stmts, stmt, ParamD}
 use Rattle.lois_answers.specs.declared.faults.FaultKind.TheVariants.{Assertion, TurnLimit}
 use Rattle.lois_answers.specs.declared.faults.FaultKind.{FaultKind}

@@ -3,7 +3,8 @@ use Rattle.std.proofs.Common.{◌≡◌, ℕ, zero, suc, Bool, true, false, List
 use Rattle.std.proofs.lemmas.Slice.Eq.{bytes_eq-Decides}
 use Rattle.lois_base.specs.Values.{PointValue, IsSame}
 use Rattle.lois_base.proofs.Members.{same_refl, same_sym, same_trans}
-use Rattle.lois_meaning.specs.Store.{named, name_of, NamedValues, looked_up, stored, AreSameNamed}
+use Rattle.lois_meaning.specs.Store.{named, NamedValues, looked_up, stored, AreSameNamed}
+use Rattle.lois_meaning.specs.ProperStores.{name_of}
 
 pub named_refl : (s : NamedValues) → AreSameNamed s s
 named_refl [] = tt

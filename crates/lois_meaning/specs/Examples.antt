@@ -10,7 +10,8 @@ use Rattle.lois_meaning.specs.Expressions.{Gives, HasTruth}
 use Rattle.lois_meaning.specs.Faults.{Fails}
 use Rattle.lois_meaning.specs.Kinds.{IsAtomValue, IsSet}
 use Rattle.lois_meaning.specs.Runs.{BlockEnds, TurnsEnd, StmtEnds, ListEnds, StmtFails, ScriptEnds}
-use Rattle.lois_meaning.specs.Store.{named, NamedValues, looked_up, stored, AreSameNamed, IsStore, opening, depth_limit}
+use Rattle.lois_meaning.specs.Store.{named, NamedValues, looked_up, stored, AreSameNamed, opening, depth_limit}
+use Rattle.lois_meaning.specs.ProperStores.{IsStore}
 use Rattle.lois_script.specs.Tree.{ExprD, atoms, listed, each, no_exprs, expr, binding, no_bindings, bind, CondD, truth, same, StmtD, «let», add, for, while, assert, print, StmtsD, no_stmts, stmt, ParamD, ScriptD}
 use Rattle.lois_answers.specs.declared.faults.FaultKind.{FaultKind}
 use Rattle.lois_answers.specs.declared.faults.FaultKind.TheVariants.{Assertion, TurnLimit, DepthLimit}

@@ -5,7 +5,8 @@ use Rattle.lois_base.specs.Values.{PointValue, IsSame}
 use Rattle.lois_meaning.specs.Expressions.{Gives, HasTruth}
 use Rattle.lois_meaning.specs.Faults.{Fails, CondFails}
 use Rattle.lois_meaning.specs.Runs.{ListEnds, ListFails, ScriptEnds, ScriptFails}
-use Rattle.lois_meaning.specs.Store.{NamedValues, AreSameNamed, name_of}
+use Rattle.lois_meaning.specs.Store.{NamedValues, AreSameNamed}
+use Rattle.lois_meaning.specs.ProperStores.{name_of}
 use Rattle.lois_script.specs.Tree.{ExprD, CondD, StmtsD, ScriptD}
 use Rattle.lois_answers.specs.declared.faults.FaultKind.{FaultKind}
 

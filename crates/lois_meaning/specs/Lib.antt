@@ -1,5 +1,6 @@
 pub mod Kinds
 pub mod Store
+pub mod ProperStores
 pub mod Automata
 pub mod Expressions
 pub mod Faults

@@ -1,9 +1,8 @@
 -- Stores: the names in scope with their values, in the order in which they were made.
-use Rattle.std.specs.Prelude.{◌≡◌, ℕ, ◌+◌, All, List, [], ◌∷◌, map, Option, Some, None, if◌then◌else◌, bytes_eq}
-use Rattle.std.specs.List.{IsDistinct}
+use Rattle.std.specs.Prelude.{◌≡◌, ℕ, ◌+◌, List, [], ◌∷◌, Option, Some, None, if◌then◌else◌, bytes_eq}
 use Rattle.lois_base.specs.Atom.{Atom}
 use Rattle.lois_base.specs.Data.{var}
-use Rattle.lois_base.specs.Values.{PointValue, point, IsProper, IsSame, IsDeeper}
+use Rattle.lois_base.specs.Values.{PointValue, point, IsSame, IsDeeper}
 use Rattle.lois_script.specs.Tree.{ParamD}
 
 -- A name with a value: a name of a store, a line that was printed, or a loop's name with the element it stands for.
@@ -14,16 +13,8 @@ pub record NamedValue : Type 0 where
 abbrev pub named : List ℕ → PointValue → NamedValue
 named x v = record { name = x; holds = v }
 
-abbrev pub name_of : NamedValue → List ℕ
-name_of b = b.name
-
 abbrev pub NamedValues : Type 0
 NamedValues = List NamedValue
-
--- A store has distinct names, and its values are proper ones. The laws hold of other lists too, so the definitions don't ask for it.
-pub record IsStore (s : NamedValues) : Type 0 where
-  pub distinct : IsDistinct bytes_eq (map name_of s)
-  pub proper : All (λ b. IsProper b.holds) s
 
 -- what a name holds
 abbrev pub looked_up : List ℕ → NamedValues → Option PointValue

@@ -9,7 +9,7 @@ use Rattle.lois_base.specs.declared.guards.Lit.{Lit}
 use Rattle.lois_base.proofs.Members.{same_refl, same_sym, same_in}
 use Rattle.lois_algebra.specs.Gathered.{IsAmong, IsCompMember, IsPut}
 use Rattle.lois_algebra.proofs.Among.{among_in}
-use Rattle.lois_terms.specs.Guarded.{IsColl}
+use Rattle.lois_terms.specs.Collections.{IsColl}
 use Rattle.lois_terms.specs.Shifted.{IsShifted}
 use Rattle.lois_meaning.specs.Kinds as kinds
 use Rattle.lois_meaning.proofs.Alike.{set_of_same, set_of_shift}

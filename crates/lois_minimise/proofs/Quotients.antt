@@ -4,7 +4,7 @@ use Rattle.lois_base.specs.Atom.{Atom}
 use Rattle.lois_base.specs.Data.{TermD, coll, CompsD}
 use Rattle.lois_base.specs.Values.{point, IsSame}
 use Rattle.lois_base.proofs.Members.{same_refl}
-use Rattle.lois_terms.specs.Guarded.{IsColl}
+use Rattle.lois_terms.specs.Collections.{IsColl}
 use Rattle.lois_automata.specs.Built.{AreTargets}
 use Rattle.lois_automata.specs.Projections.{five_terms}
 use Rattle.lois_minimise.specs.Classes.{AreSeconds, AreClassSteps, IsQuotientTerm}

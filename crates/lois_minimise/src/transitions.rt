@@ -7,7 +7,7 @@ ghost use Rattle.lois_base.specs.Fits.{Fits, CompFits, ItemsFit};
 ghost use Rattle.lois_base.specs.Tree.{tree, comp_of};
 ghost use Rattle.lois_base.specs.Validity.{AdmitsTerm, AdmitsItems, HasBoundedWidths, ItemsHaveBoundedWidths};
 ghost use Rattle.lois_base.specs.Values.{point};
-ghost use Rattle.lois_terms.specs.Guarded.{IsColl};
+ghost use Rattle.lois_terms.specs.Collections.{IsColl};
 ghost use Rattle.lois_terms.specs.Shapes.{shape_of, item_shape};
 ghost use Rattle.lois_automata.specs.Projections.{AddsOfOne, pair_of, triple_of};
 ghost use Rattle.lois_minimise.specs.Classes.{AreClassSteps, AreStepMoves, AreTransitions, AddsTransition, AddsTransitions, IsStepMove, transition_of};

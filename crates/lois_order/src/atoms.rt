@@ -4,7 +4,7 @@ ghost use Rattle.std.specs.Prelude.{◌≡◌, ◌+◌, true, false, IfOk, List}
 ghost use Rattle.std.specs.List.{list_any};
 ghost use Rattle.lois_base.specs.Fits.{CubeFits, ConstraintFits};
 ghost use Rattle.lois_base.specs.Theory.{Eliminates};
-ghost use Rattle.lois_base.specs.Validity.{IsOrderFreeCube, IsOrderFree};
+ghost use Rattle.lois_base.specs.OrderFree.{IsOrderFreeCube, IsOrderFree};
 ghost use Rattle.lois_order.specs.Cubes.{is_absurd};
 ghost use Rattle.lois_order.specs.Equations.{equates};
 

@@ -5,7 +5,7 @@ ghost use Rattle.std.specs.List.{list_any};
 ghost use Rattle.lois_base.specs.Atom.{Atom};
 ghost use Rattle.lois_base.specs.Fits.{CubeFits, ConstraintFits};
 ghost use Rattle.lois_base.specs.Truth.{cube_holds, holds};
-ghost use Rattle.lois_base.specs.Validity.{IsOrderFreeCube, IsOrderFree};
+ghost use Rattle.lois_base.specs.OrderFree.{IsOrderFreeCube, IsOrderFree};
 ghost use Rattle.lois_order.specs.Bounds.{is_step, is_weak, is_ne, is_lower, is_upper, is_weak_lower, parts, chained, taken_as, is_met, AddsLowerBounds, JoinsBounds};
 ghost use Rattle.lois_order.specs.Equations.{equates, Equates, renamed_level, renamed, AreEquivalentCubes};
 

@@ -4,8 +4,8 @@ use Rattle.std.proofs.Math.Seq.{take-append_seam}
 use Rattle.std.specs.Prelude.{Err, Ok, OnErr, Option, Result}
 use Rattle.std.proofs.KnownBytes.{Appends-kept, Appends-nil, Appends-trans, Consumes-nil, Consumes-trans}
 use Rattle.std.specs.Io.KnownBytes.{Appends, Consumes, Keeps}
-use Rattle.lois_outside.specs.Calls.{TakesPieces, Writes, no_put, no_take, one_more_put, one_more_take}
-use Rattle.lois_outside.specs.Writing.{AppendsProperPrefix}
+use Rattle.lois_outside.specs.Calls.{TakesPieces, no_take, one_more_take}
+use Rattle.lois_outside.specs.Writing.{Writes, no_put, one_more_put, AppendsProperPrefix}
 
 -- the source gave these bytes since the loop began
 pub record HasRead {S : Type 0} (left : S → Option (List ℕ)) (faults : S → ℕ) (takes : S → ℕ → Option (List ℕ) → S → Type 0) (most : ℕ) (from : S) (bytes : List ℕ) (to : S) : Type 0 where

@@ -13,13 +13,6 @@ TookAtMost most before after = (bytes : List ℕ) × Consumes before after bytes
 abbrev pub TookExactly : ℕ → Option (List ℕ) → Option (List ℕ) → Type 0
 TookExactly count before after = (bytes : List ℕ) × Consumes before after bytes × (length bytes ≡ count)
 
--- How many bytes an error has taken: one more than the limit where the input is too long, which is
--- the number that it names, and in every other case no more than the limit.
-abbrev pub HasConsumed : ℕ → Option (List ℕ) → Option (List ℕ) → ReadError → Type 0
-HasConsumed limit before after (TooLong n) = (n ≡ limit + 1) × TookExactly n before after
-HasConsumed limit before after ReadFault = TookAtMost limit before after
-HasConsumed limit before after NoMemory = TookAtMost limit before after
-
 -- calls that gave these bytes, within this many in all, and then one that asked for a byte and was given none
 abbrev pub ReadsToEnd : {S : Type 0} → (S → ℕ → Option (List ℕ) → S → Type 0) → ℕ → S → List ℕ → S → Type 0
 ReadsToEnd {S} takes most from bytes to =

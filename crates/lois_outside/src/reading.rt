@@ -2,7 +2,8 @@
 ghost use Rattle.std.specs.Prelude.{◌≡◌, ◌+◌, ◌<◌, ◌≤◌, ◌++◌, Err, IfErr, IfOk, OnOk, length, vec_capacity, vec_len};
 ghost use Rattle.std.specs.Io.KnownBytes.{Consumes, IsAtEnd};
 ghost use Rattle.lois_outside.specs.Faults.{Rose};
-ghost use Rattle.lois_outside.specs.Reading.{GivesUp, HasConsumed, ReadsToEnd};
+ghost use Rattle.lois_outside.specs.Reading.{GivesUp, ReadsToEnd};
+ghost use Rattle.lois_outside.specs.Consumed.{HasConsumed};
 
 use crate::{Failed, Source};
 use std::alloc::Global;

@@ -1,7 +1,7 @@
 // Where bytes come from.
 ghost use Rattle.std.specs.Prelude.{◌≡◌, ◌≤◌, ◌<◌, ℕ, List, Option, length, take, ⊤, Ok, IfOk, OnErr};
 ghost use Rattle.std.specs.Io.KnownBytes.{Consumes, IsAtEnd, Keeps};
-ghost use Rattle.lois_outside.specs.Calls.{given_bytes};
+ghost use Rattle.lois_outside.specs.GivenBytes.{given_bytes};
 ghost use Rattle.lois_outside.specs.Faults.{Rose};
 
 use crate::Failed;

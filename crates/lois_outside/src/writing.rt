@@ -1,9 +1,8 @@
 // Writing all bytes to a sink.
 ghost use Rattle.std.specs.Prelude.{◌≤◌, [], OnErr, OnOk};
 ghost use Rattle.std.specs.Io.KnownBytes.{Appends};
-ghost use Rattle.lois_outside.specs.Calls.{Writes};
+ghost use Rattle.lois_outside.specs.Writing.{Writes, AppendsProperPrefix, FailsWriting};
 ghost use Rattle.lois_outside.specs.Faults.{Rose};
-ghost use Rattle.lois_outside.specs.Writing.{AppendsProperPrefix, FailsWriting};
 
 use crate::{Failed, Sink};
 

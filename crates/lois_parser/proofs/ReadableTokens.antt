@@ -11,7 +11,8 @@ use Rattle.lois_lexer.specs.declared.TokenKind.{TokenKind}
 use Rattle.lois_lexer.specs.declared.TokenKind.TheVariants as kinds
 use Rattle.lois_lexer.specs.declared.Token.{Token}
 use Rattle.lois_lexer.specs.Forms.{HasForm, is_within_limits}
-use Rattle.lois_lexer.specs.Tokens.{HasTokens, IsTokenOf, bytes_of}
+use Rattle.lois_lexer.specs.Tokens.{HasTokens, bytes_of}
+use Rattle.lois_lexer.specs.InText.{IsTokenOf}
 use Rattle.lois_lexer.proofs.OneReading.{tokens_of_cut}
 use Rattle.lois_descent.specs.Lexemes.{as_tag, lexeme_from, accepts}
 use Rattle.lois_parser.specs.Readable.{is_name, is_digits, is_tag, suits, is_readable, are_readable}

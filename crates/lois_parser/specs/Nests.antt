@@ -2,7 +2,8 @@
 use Rattle.std.specs.Prelude.{◌≡◌, ℕ, suc, ◌<◌, length, Result, IfOk}
 use Rattle.std.specs.declared.alloc.Global.{Global}
 use Rattle.lois_script.specs.Tree.{ExprD, BindingD, CondD, StmtD}
-use Rattle.lois_script.specs.View.{tree, cond_tree, binding_tree, stmt_tree, exprs_list, bindings_list, conds_list, stmts_list}
+use Rattle.lois_script.specs.View.{tree, cond_tree, binding_tree, stmts_list}
+use Rattle.lois_script.specs.Lists.{stmt_tree, exprs_list, bindings_list, conds_list}
 use Rattle.lois_script.specs.declared.syntax.Expr.{Expr}
 use Rattle.lois_script.specs.declared.syntax.Cond.{Cond}
 use Rattle.lois_script.specs.declared.syntax.Binding.{Binding}

@@ -2,7 +2,8 @@
 
 ghost use Rattle.std.specs.Prelude.{◌≡◌, [], ◌∷◌, ◌++◌, IfOk};
 ghost use Rattle.lois_script.specs.Tree as trees;
-ghost use Rattle.lois_script.specs.View.{tree, cond_tree, binding_tree, bindings_of, bindings_list, exprs_list};
+ghost use Rattle.lois_script.specs.View.{tree, cond_tree, binding_tree, bindings_of};
+ghost use Rattle.lois_script.specs.Lists.{bindings_list, exprs_list};
 ghost use Rattle.lois_descent.specs.Descent.{compared};
 
 use lois_base::NoMemory;

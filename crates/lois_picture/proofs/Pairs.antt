@@ -20,7 +20,8 @@ use Rattle.lois_automata.proofs.Loops.{AddsOnes}
 use Rattle.lois_automata.proofs.Written.{pair_is, pair_here, pair_term}
 use Rattle.lois_automata.specs.Adding.{IsMadeOfOne}
 use Rattle.lois_automata.specs.Projections.{pair_of, AddsOfOne}
-use Rattle.lois_deciders.specs.Satisfaction.{IsConstraintSample, ConstraintIsSatisfiable}
+use Rattle.lois_deciders.specs.Satisfaction.{IsConstraintSample}
+use Rattle.lois_deciders.specs.Satisfiability.{ConstraintIsSatisfiable}
 use Rattle.lois_meaning.proofs.Operations.{pair_to}
 use Rattle.lois_meaning.specs.Automata.{IsPair}
 use Rattle.lois_picture.specs.Drawing.{MakesPairs, AddsEnds, AddsEndsOrNot, AreEndsOf}

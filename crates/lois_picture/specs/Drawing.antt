@@ -15,7 +15,7 @@ use Rattle.lois_automata.specs.Projections.{pair_of, triple_of, AddsOfOne}
 use Rattle.lois_census.specs.OrbitData.{OrbitD}
 use Rattle.lois_census.specs.Orbits.{value_of, IsInOrbit, IsInListedOrbit}
 use Rattle.lois_meaning.specs.Automata.{IsPair}
-use Rattle.lois_terms.specs.Guarded.{IsColl}
+use Rattle.lois_terms.specs.Collections.{IsColl}
 use Rattle.lois_terms.specs.Shapes.{shape_of}
 use Rattle.lois_picture.specs.GraphData.{NodeD, EdgeD}
 use Rattle.lois_picture.specs.Graphs.{node_orbits, LeadsBy, IsInNode, HasItsEnds, IsRelation, IsEndOf, IsEndIn, IsAutomatonGraph, IsRelationGraph}

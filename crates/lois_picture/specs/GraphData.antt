@@ -2,7 +2,8 @@
 use Rattle.std.specs.Prelude.{ℕ, Bool, List}
 use Rattle.std.proofs.Common.{refl}
 use Rattle.std.specs.Coded.{Coded, code_by, coded_ℕ, coded_bool, coded_list, coded×}
-use Rattle.lois_census.specs.OrbitData.{OrbitD, orbit_code}
+use Rattle.lois_census.specs.OrbitData.{OrbitD}
+use Rattle.lois_census.specs.CensusCodes.{orbit_code}
 
 -- an orbit of states, or of ends of pairs, with its marks
 pub record NodeD : Type 0 where

@@ -14,7 +14,7 @@ use Rattle.lois_cases.specs.declared.partitions.Partition.TheVariants as partiti
 use Rattle.lois_answers.specs.ResultsData.{CaseD}
 use Rattle.lois_answers.specs.declared.results.Results.{Results}
 use Rattle.lois_command.specs.NoResults.{IsNoResults}
-use Rattle.lois_equal.specs.Differing.{AreBounded}
+use Rattle.lois_equal.specs.Differences.{AreBounded}
 use Rattle.lois_languages.specs.Inclusions.{IsInclusion, IfBeyond}
 use Rattle.lois_languages.specs.Witnesses.{IsWitness, IfFound}
 use Rattle.lois_languages.specs.declared.inclusions.Inclusion.{Inclusion}

@@ -8,7 +8,8 @@ use Rattle.lois_lexer.specs.declared.Place.{Place}
 use Rattle.lois_answers.specs.LastNamed.{last_named}
 use Rattle.lois_answers.specs.ResultsData.{CaseD, LineD}
 use Rattle.lois_answers.specs.declared.results.Results.{Results}
-use Rattle.lois_automata.specs.Machines.{IsAutomatonAt, IsDeterministicAt}
+use Rattle.lois_automata.specs.Machines.{IsAutomatonAt}
+use Rattle.lois_automata.specs.Deterministic.{IsDeterministicAt}
 use Rattle.lois_cases.proofs.OneCase.{one_case}
 use Rattle.lois_cases.specs.Cases.{IsTheCaseAt}
 use Rattle.lois_cases.specs.declared.partitions.Partition.{Partition}

@@ -6,7 +6,8 @@ use Rattle.lois_base.specs.declared.deciding.Kind.{Kind}
 use Rattle.lois_outside.specs.Faults.{Rose}
 use Rattle.lois_outside.specs.Reading.{TookAtMost, TookExactly, ReadsToEnd, GivesUp}
 use Rattle.lois_outside.specs.declared.reading.ReadError.TheVariants as unread
-use Rattle.lois_command.specs.Calls.{TakeRelation, GaveUnder}
+use Rattle.lois_command.specs.Calls.{GaveUnder}
+use Rattle.lois_command.specs.Sources.{TakeRelation}
 use Rattle.lois_command.proofs.Given.{gave_nothing, more, exactly, given}
 use Rattle.lois_questions.specs.Causes.{Serves, HasRead, HasTaken, HasCause, Promises, IsOutcomeOf, IsOfText, AnswersText}
 use Rattle.lois_questions.specs.Outcomes.{status_of}

@@ -8,7 +8,8 @@ use Rattle.lois_outside.specs.Reading.{TookAtMost, TookExactly, ReadsToEnd, Give
 use Rattle.lois_outside.specs.declared.reading.ReadError.TheVariants as unread
 use Rattle.lois_reader.specs.Refusal.{IsResultsOf}
 use Rattle.lois_same.specs.TwoTexts.{first_text, second_text}
-use Rattle.lois_command.specs.Calls.{TakeRelation, Puts, TextIsWritten}
+use Rattle.lois_command.specs.Calls.{Puts, TextIsWritten}
+use Rattle.lois_command.specs.Sources.{TakeRelation}
 use Rattle.lois_command.specs.NoResults.{IsNoResults}
 use Rattle.lois_questions.specs.Answers.{Answers}
 use Rattle.lois_questions.specs.Outcomes.{status_of, outcome_text}

@@ -2,7 +2,7 @@
 
 ghost use Rattle.std.specs.Prelude.{◌≡◌, length, IfOk};
 ghost use Rattle.lois_answers.specs.Sound.{IsSound};
-ghost use Rattle.lois_equal.specs.Differing.{AreBounded};
+ghost use Rattle.lois_equal.specs.Differences.{AreBounded};
 ghost use Rattle.lois_languages.specs.Inclusions.{IsInclusion, IfBeyond};
 ghost use Rattle.lois_languages.specs.Witnesses.{IsWitness, IfFound};
 ghost use Rattle.lois_picture.specs.Pictures.{IsPicture, HasPictureText};

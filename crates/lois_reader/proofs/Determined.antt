@@ -1,7 +1,7 @@
 -- Values with the same text are the same, since reading the text gives them back.
 use Rattle.std.proofs.Common.{ℕ, ◌^◌, ◌<◌, List, length, sym, ap, subst, ◌∙◌}
 use Rattle.lois_reader.specs.Laws.{ResultsAreTold, AnswersAreTold}
-use Rattle.lois_reader.specs.Refusal.{results_reading, answer_reading}
+use Rattle.lois_reader.specs.WholeTexts.{results_reading, answer_reading}
 use Rattle.lois_reader.proofs.Backs.{same_ok}
 use Rattle.lois_reader.proofs.ResultsBack.{results_back}
 use Rattle.lois_reader.proofs.TraceBack.{answer_back}

@@ -15,7 +15,7 @@ use Rattle.lois_answers.specs.declared.results.Results.{Results}
 use Rattle.lois_reader.specs.declared.scope.Scope.{Scope}
 use Rattle.lois_reader.specs.Draft.{LineDraft, CaseDraft, ResultsDraft, IsWord, IsLineDraft, IsCaseDraft, IsResultsDraft}
 use Rattle.lois_reader.specs.Pieces.{Piece, each, is_among, is_unreserved, constraint_pieces, term_pieces, line_end, line_pieces, case_pieces, name_pieces, end_piece, results_pieces}
-use Rattle.lois_reader.specs.Refusal.{results_reading}
+use Rattle.lois_reader.specs.WholeTexts.{results_reading}
 use Rattle.lois_reader.specs.Shape.{text_of_pieces, first_broken}
 use Rattle.lois_reader.specs.Reading.{◌>>=◌}
 use Rattle.lois_reader.specs.AnswerValues.{results_text_at}

@@ -20,7 +20,8 @@ use Rattle.lois_reader.specs.declared.scope.Scope.{Scope}
 use Rattle.lois_reader.specs.Draft.{LineDraft, TraceDraft, AnswerDraft, IsNumber, IsTraceDraft}
 use Rattle.lois_reader.specs.Draft as draft
 use Rattle.lois_reader.specs.Pieces.{Piece, plain, ruled, each, value, term_pieces, line_end, line_pieces, end_piece, failure_pieces, trace_pieces, answer_pieces}
-use Rattle.lois_reader.specs.Refusal.{IsSoundAnswer, answer_reading}
+use Rattle.lois_reader.specs.Refusal.{IsSoundAnswer}
+use Rattle.lois_reader.specs.WholeTexts.{answer_reading}
 use Rattle.lois_reader.specs.Shape.{text_of_pieces}
 use Rattle.lois_reader.specs.Reading.{◌>>=◌}
 use Rattle.lois_reader.proofs.Outcome.{text_append}

@@ -16,7 +16,7 @@ use Rattle.lois_reader.specs.declared.scope.Scope.{Scope}
 use Rattle.lois_reader.specs.Draft.{LineDraft, TraceDraft, AnswerDraft, IsWord, IsNumber, IsLineDraft, IsTraceDraft, IsAnswerDraft}
 use Rattle.lois_reader.specs.Draft as draft
 use Rattle.lois_reader.specs.Pieces.{Piece, plain, ruled, each, value, term_pieces, line_end, line_pieces, end_piece, place_piece, failure_pieces, trace_pieces, answer_pieces}
-use Rattle.lois_reader.specs.Refusal.{answer_reading}
+use Rattle.lois_reader.specs.WholeTexts.{answer_reading}
 use Rattle.lois_reader.specs.Shape.{text_of_pieces}
 use Rattle.lois_reader.specs.Reading.{◌>>=◌, begins}
 use Rattle.lois_reader.specs.Ends.{fixed_end, many_end}

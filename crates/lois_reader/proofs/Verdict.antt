@@ -7,7 +7,8 @@ use Rattle.lois_reader.specs.Draft as draft
 use Rattle.lois_reader.specs.Pieces.{Piece, results_pieces, trace_pieces, answer_pieces}
 use Rattle.lois_reader.specs.Shape.{text_of_pieces, first_broken, SpellsResults, SpellsAnswer, HasResultsShape, HasAnswerShape, LeavesShapeAt, BreaksRuleAt}
 use Rattle.lois_reader.specs.Reading.{◌>>=◌, End, ErrorIs}
-use Rattle.lois_reader.specs.Refusal.{IsResultsOf, IsAnswerOf, NoValueHolds, IsErrorPlace, IsErrorOfHalt, results_reading, answer_reading}
+use Rattle.lois_reader.specs.Refusal.{IsResultsOf, IsAnswerOf, NoValueHolds, IsErrorPlace}
+use Rattle.lois_reader.specs.WholeTexts.{IsErrorOfHalt, results_reading, answer_reading}
 use Rattle.lois_reader.specs.AnswerEnds.{results_text_end, answer_text_end}
 use Rattle.lois_reader.specs.AnswerValues.{results_text_at, answer_text_at}
 use Rattle.lois_reader.specs.declared.ResultError.{ResultError}

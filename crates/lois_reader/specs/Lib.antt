@@ -2,6 +2,7 @@ pub mod Draft
 pub mod Pieces
 pub mod Shape
 pub mod Refusal
+pub mod WholeTexts
 pub mod Reading
 pub mod Ends
 pub mod AnswerEnds

@@ -10,7 +10,8 @@ ghost use Rattle.lois_reader.specs.Pieces.{results_pieces, answer_pieces};
 ghost use Rattle.lois_reader.specs.Reading.{ResultIs};
 ghost use Rattle.lois_reader.specs.Shape.{SpellsResults, SpellsAnswer, HasResultsShape, HasAnswerShape};
 ghost use Rattle.lois_reader.specs.declared.ResultError.{ResultError};
-ghost use Rattle.lois_reader.specs.Refusal.{IsSoundAnswer, IsOffsetInText, NoValueHolds, IsErrorPlace, IsResultsOf, IsAnswerOf, results_reading, answer_reading, IsErrorOfHalt};
+ghost use Rattle.lois_reader.specs.Refusal.{IsSoundAnswer, IsOffsetInText, NoValueHolds, IsErrorPlace, IsResultsOf, IsAnswerOf};
+ghost use Rattle.lois_reader.specs.WholeTexts.{results_reading, answer_reading, IsErrorOfHalt};
 
 use crate::ResultError;
 use crate::answer_ends::{answer_text_end, results_text_end};

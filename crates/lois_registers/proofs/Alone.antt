@@ -7,7 +7,8 @@ use Rattle.std.proofs.lemmas.List.Elements.{All-head, All-tail, All-weaker}
 use Rattle.lois_answers.specs.TermText.{literal_text, op_text}
 use Rattle.lois_base.specs.declared.guards.Lit.{Lit}
 use Rattle.lois_registers.specs.Places.{IsRegistersOf}
-use Rattle.lois_registers.specs.Texts.{operand_names, operand_text, digit, linked_words, guard_words, stored_words, step_words, order_words, count_words, text_of_words, front_lines, end_words}
+use Rattle.lois_registers.specs.Texts.{operand_names, digit, linked_words, guard_words, stored_words, step_words, order_words, count_words, text_of_words, front_lines, end_words}
+use Rattle.lois_registers.specs.Reading.{operand_text}
 use Rattle.lois_registers.specs.Valid.{IsLiteral, IsRegStep, IsRegisters}
 use Rattle.lois_registers.specs.declared.automata.RegStep.{RegStep}
 use Rattle.lois_registers.specs.declared.automata.Registers.{Registers}

@@ -7,7 +7,8 @@ use Rattle.std.proofs.lemmas.List.Elements.{All-map, All-weaker, All-head, All-t
 use Rattle.lois_answers.specs.TermText.{literal_text}
 use Rattle.lois_base.specs.declared.guards.Lit.{Lit}
 use Rattle.lois_registers.specs.Texts.{operand_names, joined_by_and, linked_words}
-use Rattle.lois_registers.specs.Valid.{IsLiteral, AreLiterals}
+use Rattle.lois_registers.specs.Valid.{IsLiteral}
+use Rattle.lois_registers.specs.ReadParts.{AreLiterals}
 
 -- the words, with `and` behind each
 abbrev pub anded : List (List ℕ) → List (List ℕ)

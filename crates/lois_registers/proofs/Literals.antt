@@ -7,7 +7,8 @@ use Rattle.lois_base.specs.Validity.{is_strict}
 use Rattle.lois_base.specs.declared.guards.Lit.{Lit}
 use Rattle.lois_base.specs.declared.guards.Op.{Op}
 use Rattle.lois_base.specs.declared.guards.Op.TheVariants.{Eq, Ne, Lt, AtMost}
-use Rattle.lois_registers.specs.Texts.{operand_names, operand_text}
+use Rattle.lois_registers.specs.Texts.{operand_names}
+use Rattle.lois_registers.specs.Reading.{operand_text}
 
 pub register_text : (i : ℕ) → i ≤ 3 → operand_text (suc i) ≡ 114 ∷ (49 + i) ∷ []
 register_text zero l = refl

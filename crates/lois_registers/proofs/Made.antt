@@ -3,7 +3,8 @@ use Rattle.std.proofs.Common.{◌≡◌, ℕ, ◌+◌, ◌≤◌, ◌<◌, Bool,
 use Rattle.std.specs.Bool.{IsTrue}
 use Rattle.lois_answers.specs.Sound.{CompHasTags, ItemsHaveTags}
 use Rattle.lois_base.specs.Atom.{Atom}
-use Rattle.lois_base.specs.Data.{TermD, CompD, comp, comps_of, depth_of_comp, depth_of_comps}
+use Rattle.lois_base.specs.Data.{TermD, CompD, comp, comps_of, depth_of_comp}
+use Rattle.lois_base.specs.ListDepth.{depth_of_comps}
 use Rattle.lois_base.specs.Fits.{CompFits, ItemsFit}
 use Rattle.lois_base.specs.Truth.{holds}
 use Rattle.lois_base.specs.Validity.{AdmitsComp, AdmitsItems, CompIsStrict, ItemsAreStrict, CompHasBoundedWidths, ItemsHaveBoundedWidths}
@@ -14,7 +15,8 @@ use Rattle.lois_base.specs.declared.guards.Lit.{Lit}
 use Rattle.lois_base.proofs.Validity.{all_that_are}
 use Rattle.std.specs.List.{All, flat_map}
 use Rattle.std.proofs.lemmas.List.{take_more, flat_map_more}
-use Rattle.lois_registers.specs.Placed.{HasGuard, IsSpelledComp, IsIdle, AreMade, AddsMade, placements}
+use Rattle.lois_registers.specs.Placed.{HasGuard, IsSpelledComp, IsIdle, AreMade, placements}
+use Rattle.lois_registers.specs.MadeSteps.{AddsMade}
 use Rattle.lois_registers.proofs.Contents.{place_is}
 use Rattle.lois_registers.proofs.Members.{Each}
 

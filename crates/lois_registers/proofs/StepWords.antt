@@ -12,8 +12,8 @@ use Rattle.lois_base.specs.declared.guards.Lit.{Lit}
 use Rattle.lois_base.specs.declared.guards.Op.{Op}
 use Rattle.lois_base.specs.declared.guards.Op.TheVariants.{Eq, Ne, Lt, AtMost}
 use Rattle.lois_base.proofs.Connectives.{both_true}
-use Rattle.lois_registers.specs.Reading.{is_clean, AreWords, AreOf, IsCutAt}
-use Rattle.lois_registers.specs.Texts.{operand_names, operand_text, digit, joined_by_and, guard_words, stored_words, step_words}
+use Rattle.lois_registers.specs.Reading.{is_clean, AreWords, AreOf, IsCutAt, operand_text}
+use Rattle.lois_registers.specs.Texts.{operand_names, digit, joined_by_and, guard_words, stored_words, step_words}
 use Rattle.lois_registers.specs.Valid.{AreIncreasing, IsLiteral, IsRegStep}
 use Rattle.lois_registers.specs.declared.automata.RegStep.{RegStep}
 use Rattle.lois_registers.proofs.Cuts.{clean_words, name_clean}

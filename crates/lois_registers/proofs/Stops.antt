@@ -5,10 +5,12 @@ use Rattle.std.specs.List.{All, Contains, flat_map}
 use Rattle.std.proofs.lemmas.List.{length-append, length-map}
 use Rattle.std.proofs.lemmas.List.Elements.{All-nil, All-cons, All-contains, Contains-append_left, Contains-push}
 use Rattle.lois_base.specs.Names.{IsName}
-use Rattle.lois_registers.specs.Places.{AreGoodLines, BreaksAt, StopsIn, IsRegistersOf}
+use Rattle.lois_registers.specs.Places.{AreGoodLines, BreaksAt, IsRegistersOf}
+use Rattle.lois_registers.specs.Stops.{StopsIn}
 use Rattle.lois_registers.specs.Reading.{IsLeftAt, BeginsWithNoLine}
 use Rattle.lois_registers.specs.Texts.{text_of_words, title_words, order_words, count_words, states_words, initial_words, final_words, step_words, end_words, head_lines, front_lines}
-use Rattle.lois_registers.specs.Valid.{IsCount, AreStates, AreListed, IsRegStep, IsRegisters}
+use Rattle.lois_registers.specs.Valid.{AreStates, AreListed, IsRegStep, IsRegisters}
+use Rattle.lois_registers.specs.ReadParts.{IsCount}
 use Rattle.lois_registers.specs.declared.automata.RegStep.{RegStep}
 use Rattle.lois_registers.specs.declared.automata.Registers.{Registers}
 use Rattle.lois_registers.specs.declared.parse_error.ParseError.{ParseError}

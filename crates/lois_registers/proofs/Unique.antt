@@ -5,7 +5,8 @@ use Rattle.std.specs.List.{All, Contains, flat_map}
 use Rattle.std.proofs.lemmas.List.{length-append}
 use Rattle.std.proofs.lemmas.List.Elements.{All-nil, All-cons, All-head, All-tail, All-append, All-map, All-weaker, All-contains, Contains-append_left, Contains-append_right}
 use Rattle.lois_base.specs.Names.{IsName}
-use Rattle.lois_registers.specs.Places.{AreGoodLines, BreaksAt, IsFaultPlace, StopsIn, IsRegistersOf}
+use Rattle.lois_registers.specs.Places.{AreGoodLines, BreaksAt, IsFaultPlace, IsRegistersOf}
+use Rattle.lois_registers.specs.Stops.{StopsIn}
 use Rattle.lois_registers.specs.Reading.{AreWords, is_clean}
 use Rattle.lois_registers.specs.Texts.{text_of_words, title_words, order_words, count_words, states_words, initial_words, final_words, step_words, end_words, digit, head_lines, front_lines}
 use Rattle.lois_registers.specs.Valid.{IsRegStep, IsRegisters}

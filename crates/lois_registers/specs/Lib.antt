@@ -1,8 +1,11 @@
 pub mod Runs
 pub mod Valid
+pub mod ReadParts
 pub mod Texts
 pub mod Translation
 pub mod Placed
+pub mod MadeSteps
 pub mod Written
 pub mod Reading
 pub mod Places
+pub mod Stops

@@ -105,12 +105,3 @@ abbrev pub AreMade : List CompD → List CompD → Type 0
 AreMade [] made = made ≡ []
 AreMade (k ∷ ks) made =
     (IsIdle k × AreMade ks made) ⊎ ((l : CompD) × (rest : List CompD) × (made ≡ l ∷ rest) × IsSpelledComp k l × AreMade ks rest)
-
--- what is made of the wanted comprehensions was appended
-abbrev pub AddsMade : List CompD → List CompD → List CompD → Type 0
-AddsMade wanted old new = (made : List CompD) × (new ≡ old ++ made) × AreMade wanted made
-
--- the literals, and others behind them if there are some
-abbrev pub joined_literals : List Lit → Option (List Lit) → Option (List Lit)
-joined_literals before None = None
-joined_literals before (Some ls) = Some (before ++ ls)

@@ -6,8 +6,6 @@ use Rattle.lois_registers.specs.Valid.{IsRegisters}
 use Rattle.lois_registers.specs.declared.RegistersError.{RegistersError}
 use Rattle.lois_registers.specs.declared.RegistersError.TheVariants.{NotRegisters, NoMemory as OutOfMemory}
 use Rattle.lois_registers.specs.declared.automata.Registers.{Registers}
-use Rattle.lois_registers.specs.declared.parse_error.ParseError.{ParseError}
-use Rattle.lois_registers.specs.declared.parse_error.ParseError.TheVariants.{Left, NoMemory}
 
 -- the text is that of r
 pub record IsRegistersOf (text : List ℕ) (r : Registers) : Type 0 where
@@ -33,17 +31,7 @@ IsFaultPlace text (NotRegisters at) =
     (lines : List (List (List ℕ))) × (rest : List ℕ) × BreaksAt text lines rest × (at ≡ length (flat_map text_of_words lines))
 IsFaultPlace text OutOfMemory = Unit {0}
 
--- no other offset is
-abbrev pub IsOnlyPlace : List ℕ → RegistersError → Type 0
-IsOnlyPlace text (NotRegisters at) = (other : ℕ) → IsFaultPlace text (NotRegisters other) → other ≡ at
-IsOnlyPlace text OutOfMemory = Unit {0}
-
 -- no register automaton has the text
 abbrev pub SpellsNoRegisters : List ℕ → RegistersError → Type 0
 SpellsNoRegisters text (NotRegisters at) = (r : Registers) → IsRegistersOf text r → ⊥
 SpellsNoRegisters text OutOfMemory = Unit {0}
-
--- the same by how many bytes are left
-abbrev pub StopsIn : List ℕ → ParseError → Type 0
-StopsIn text (Left n) = (lines : List (List (List ℕ))) × (rest : List ℕ) × BreaksAt text lines rest × (n ≡ length rest)
-StopsIn text NoMemory = Unit {0}

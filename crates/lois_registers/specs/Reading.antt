@@ -1,8 +1,8 @@
 -- What is read of a text, line by line.
-use Rattle.std.specs.Prelude.{◌≡◌, ℕ, Bool, not, ◌&&◌, List, ◌∷◌, ◌++◌, Option, length, nat_eq, MatchOption, IsTrue}
+use Rattle.std.specs.Prelude.{◌≡◌, ℕ, Bool, not, ◌&&◌, List, ◌∷◌, ◌++◌, Option, length, nat_eq, MatchOption, IsTrue, [], slice_index_or}
 use Rattle.std.specs.List.{All, list_all, slice_split, join_with_byte}
 use Rattle.lois_base.specs.Names.{IsName}
-use Rattle.lois_registers.specs.Texts.{text_of_words}
+use Rattle.lois_registers.specs.Texts.{text_of_words, operand_names}
 use Rattle.lois_registers.specs.declared.parse_error.ParseError.{ParseError}
 use Rattle.lois_registers.specs.declared.parse_error.ParseError.TheVariants.{Left, NoMemory}
 
@@ -36,3 +36,6 @@ HasNames first names text = All IsName names × ((more : List ℕ) × (text ≡ 
 -- the words are those before a word and those after it, and it isn't one of those before
 abbrev pub IsCutAt : List ℕ → List (List ℕ) → List (List ℕ) → List (List ℕ) → Type 0
 IsCutAt word words before after = (words ≡ before ++ word ∷ after) × All (λ w. w ≡ word → ⊥) before
+
+abbrev pub operand_text : ℕ → List ℕ
+operand_text i = slice_index_or operand_names i []

@@ -1,5 +1,5 @@
 -- The text of a register automaton: lines of words.
-use Rattle.std.specs.Prelude.{ℕ, ◌+◌, Bool, true, false, List, [], ◌∷◌, ◌++◌, map, codes, slice_index_or}
+use Rattle.std.specs.Prelude.{ℕ, ◌+◌, Bool, true, false, List, [], ◌∷◌, ◌++◌, map, codes}
 use Rattle.std.specs.List.{flat_map, join_with_byte}
 use Rattle.lois_answers.specs.ResultsText.{lined}
 use Rattle.lois_answers.specs.TermText.{literal_text}
@@ -14,9 +14,6 @@ operand_names = codes "x" ∷ codes "r1" ∷ codes "r2" ∷ codes "r3" ∷ codes
 -- the digit of a number below 10
 abbrev pub digit : ℕ → List ℕ
 digit k = (48 + k) ∷ []
-
-abbrev pub operand_text : ℕ → List ℕ
-operand_text i = slice_index_or operand_names i []
 
 -- the words, with `and` between each two
 abbrev pub joined_by_and : List (List ℕ) → List (List ℕ)

@@ -13,9 +13,6 @@ abbrev pub AreIncreasing : ℕ → ℕ → List ℕ → Type 0
 AreIncreasing m n [] = Unit {0}
 AreIncreasing m n (i ∷ is) = (m < i) × (i ≤ n) × AreIncreasing i n is
 
-abbrev pub IsCount : ℕ → Type 0
-IsCount k = (1 ≤ k) × (k ≤ 4)
-
 -- 1 to 64 distinct names
 pub record AreStates (names : List (List ℕ)) : Type 0 where
   pub form : All IsName names
@@ -34,11 +31,6 @@ pub record IsLiteral (ordered : Bool) (k : ℕ) (l : Lit) : Type 0 where
   pub right : l.right ≤ k
   pub operator : AdmitsLit ordered l
   pub strict : IsStrictLit l
-
--- at least one literal
-pub record AreLiterals (ordered : Bool) (k : ℕ) (ls : List Lit) : Type 0 where
-  pub some : 1 ≤ length ls
-  pub literals : All (IsLiteral ordered k) ls
 
 pub record IsGuard (ordered : Bool) (k : ℕ) (guard : List Lit) : Type 0 where
   pub few : length guard ≤ 16

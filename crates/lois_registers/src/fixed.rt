@@ -2,7 +2,7 @@
 
 ghost use Rattle.std.specs.Prelude.{◌≡◌, ℕ, Bool, List, ◌++◌, IfOk, IfErr, IfSome, IfNone};
 ghost use Rattle.lois_registers.specs.Reading.{IsLeftAt, BeginsWithNoLine};
-ghost use Rattle.lois_registers.specs.Valid.{IsCount};
+ghost use Rattle.lois_registers.specs.ReadParts.{IsCount};
 ghost use Rattle.lois_registers.specs.Texts.{text_of_words, title_words, order_words, count_words};
 
 use crate::lines::is;

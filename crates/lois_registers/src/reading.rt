@@ -3,10 +3,12 @@
 ghost use Rattle.std.specs.Prelude.{◌≡◌, ◌≤◌, ◌++◌, length, map, IfOk, IfErr};
 ghost use Rattle.std.specs.List.{All, flat_map};
 ghost use Rattle.lois_base.specs.Names.{IsName};
-ghost use Rattle.lois_registers.specs.Places.{IsRegistersOf, IsFaultPlace, IsOnlyPlace, SpellsNoRegisters, StopsIn};
+ghost use Rattle.lois_registers.specs.Places.{IsRegistersOf, IsFaultPlace, SpellsNoRegisters};
+ghost use Rattle.lois_registers.specs.Stops.{IsOnlyPlace, StopsIn};
 ghost use Rattle.lois_registers.specs.Reading.{BeginsWithNoLine};
 ghost use Rattle.lois_registers.specs.Texts.{text_of_words, step_words};
-ghost use Rattle.lois_registers.specs.Valid.{IsCount, IsRegStep};
+ghost use Rattle.lois_registers.specs.Valid.{IsRegStep};
+ghost use Rattle.lois_registers.specs.ReadParts.{IsCount};
 ghost use Rattle.lois_registers.specs.declared.automata.Registers.{Registers};
 ghost use Rattle.std.specs.Prelude.{◌⊎◌};
 

@@ -5,9 +5,10 @@ ghost use Rattle.std.specs.List.{All};
 ghost use Rattle.lois_answers.specs.TermText.{literal_text, op_text};
 ghost use Rattle.lois_base.specs.Names.{IsName};
 ghost use Rattle.lois_base.specs.Validity.{is_admitted, is_strict};
-ghost use Rattle.lois_registers.specs.Reading.{IsLeftAt, BeginsWithNoLine, AreOf, IsCutAt};
-ghost use Rattle.lois_registers.specs.Texts.{text_of_words, operand_names, operand_text, digit, guard_words, linked_words, stored_words, step_words};
-ghost use Rattle.lois_registers.specs.Valid.{IsCount, IsLiteral, AreLiterals, IsGuard, AreIncreasing, IsRegStep};
+ghost use Rattle.lois_registers.specs.Reading.{IsLeftAt, BeginsWithNoLine, AreOf, IsCutAt, operand_text};
+ghost use Rattle.lois_registers.specs.Texts.{text_of_words, operand_names, digit, guard_words, linked_words, stored_words, step_words};
+ghost use Rattle.lois_registers.specs.Valid.{IsLiteral, IsGuard, AreIncreasing, IsRegStep};
+ghost use Rattle.lois_registers.specs.ReadParts.{IsCount, AreLiterals};
 ghost use Rattle.lois_base.specs.declared.guards.Lit.{Lit};
 ghost use Rattle.lois_base.specs.declared.guards.Op.{Op};
 

@@ -6,7 +6,8 @@ use Rattle.lois_base.specs.Data.{TermD, comp, CompsD}
 use Rattle.lois_base.specs.FormulaData.{FormulaD, FormulaFits, any, no_formulas}
 use Rattle.lois_base.specs.FormulaTruth.{FormulaHolds}
 use Rattle.lois_base.specs.Truth.{holds}
-use Rattle.lois_base.specs.Validity.{AdmitsConstraint, AdmitsTerm, AdmitsComp, AdmitsItems, AdmitsFormula}
+use Rattle.lois_base.specs.Validity.{AdmitsConstraint, AdmitsTerm, AdmitsComp, AdmitsItems}
+use Rattle.lois_base.specs.FormulaOperators.{AdmitsFormula}
 use Rattle.lois_base.specs.Values.{SameAt, EachInAt, InAt, SomeIsAt, OneIsAt}
 use Rattle.lois_base.specs.declared.guards.Lit.{Lit}
 use Rattle.lois_relate.specs.Built.{Defines, IsBoth, IsNegation, IsForSome}

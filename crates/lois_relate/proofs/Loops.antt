@@ -3,7 +3,7 @@ use Rattle.std.proofs.Common.{◌≡◌, ℕ, Bool, ◌⊎◌, inl, inr, ◌↔�
 use Rattle.lois_base.specs.Atom.{Atom}
 use Rattle.lois_base.specs.FormulaData.{FormulaD, all, any, no_formulas, FormulaFits}
 use Rattle.lois_base.specs.FormulaTruth.{FormulaHolds}
-use Rattle.lois_base.specs.Validity.{AdmitsFormula}
+use Rattle.lois_base.specs.FormulaOperators.{AdmitsFormula}
 use Rattle.lois_relate.specs.Built.{Defines, IsBoth, IsEither}
 
 -- f says what the parts before the rest say

@@ -1,7 +1,8 @@
 -- The parts of a tuple and the comprehensions of a set, one by one.
 use Rattle.std.proofs.Common.{◌≡◌, ℕ, zero, suc, ◌+◌, ◌<◌, ◌≤◌, Bool, List, [], ◌∷◌, length, get_or, drop, map, refl, sym, ap, subst, ◌∙◌, arith}
 use Rattle.std.proofs.lemmas.List.{drop_all}
-use Rattle.lois_base.specs.Data.{TermD, TermsD, term, terms_of, CompD, CompsD, no_comps, more, comps_of, depth, depth_of_terms, depth_of_comps}
+use Rattle.lois_base.specs.Data.{TermD, TermsD, term, terms_of, CompD, CompsD, no_comps, more, comps_of, depth}
+use Rattle.lois_base.specs.ListDepth.{depth_of_terms, depth_of_comps}
 use Rattle.lois_base.specs.Fits.{Fits, PartsFit, CompFits, ItemsFit}
 use Rattle.lois_base.specs.Tree.{tree, comp_of}
 use Rattle.lois_base.specs.Validity.{AdmitsTerm, AdmitsParts, AdmitsComp, AdmitsItems, HasBoundedWidths, PartsHaveBoundedWidths, CompHasBoundedWidths, ItemsHaveBoundedWidths}

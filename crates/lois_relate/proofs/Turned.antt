@@ -8,7 +8,8 @@ use Rattle.lois_base.specs.Data.{TermD, comp}
 use Rattle.lois_base.specs.FormulaData.{FormulaD}
 use Rattle.lois_base.specs.FormulaTruth.{FormulaHolds}
 use Rattle.lois_base.specs.Truth.{atom_at, holds}
-use Rattle.lois_base.specs.Validity.{AdmitsConstraint, AdmitsTerm, AdmitsComp, AdmitsFormula}
+use Rattle.lois_base.specs.Validity.{AdmitsConstraint, AdmitsTerm, AdmitsComp}
+use Rattle.lois_base.specs.FormulaOperators.{AdmitsFormula}
 use Rattle.lois_base.specs.Values.{SameAt}
 use Rattle.lois_base.specs.declared.guards.Lit.{Lit}
 use Rattle.lois_base.proofs.Same.{same_at_sym}

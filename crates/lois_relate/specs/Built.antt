@@ -3,7 +3,7 @@ use Rattle.std.specs.Prelude.{◌≡◌, ℕ, ◌+◌, Bool, List, ◌++◌, len
 use Rattle.lois_base.specs.Atom.{Atom}
 use Rattle.lois_base.specs.FormulaData.{FormulaD, FormulaFits}
 use Rattle.lois_base.specs.FormulaTruth.{FormulaHolds}
-use Rattle.lois_base.specs.Validity.{AdmitsFormula}
+use Rattle.lois_base.specs.FormulaOperators.{AdmitsFormula}
 
 -- A formula over n levels that holds at each choice of n atoms exactly where Q does. Which operators it has, A says.
 pub record Defines (n : ℕ) (Q : List Atom → Type 0) (A : Bool → Type 0) (f : FormulaD) : Type 0 where

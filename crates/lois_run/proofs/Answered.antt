@@ -23,7 +23,7 @@ use Rattle.lois_syntax.specs.Refusals.{tokens_in, IsSyntaxRefusal as SyntaxRefus
 use Rattle.lois_syntax.specs.declared.SyntaxError.{SyntaxError}
 use Rattle.lois_syntax.specs.declared.SyntaxError.TheVariants.{NoScript, TooNested, WideTuple, TurnsTooMany, NoMemory as SyntaxMemory}
 use Rattle.lois_syntax.proofs.OneStatement.{one_script_of_text}
-use Rattle.lois_run.specs.Causes.{AnswersText}
+use Rattle.lois_run.specs.TextAnswers.{AnswersText}
 use Rattle.lois_run.specs.Headline.{Completes, NamesFailure, FailsSomewhere, Headline}
 use Rattle.lois_run.specs.Outcomes.{HasCauseNumber, HasText}
 use Rattle.lois_run.specs.Read.{IsReadOf, SpellsNone, ScopeTells}

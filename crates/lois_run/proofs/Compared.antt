@@ -3,7 +3,7 @@ use Rattle.std.proofs.Common.{◌≡◌, ℕ, ◌+◌, List, Some, None, option_
 use Rattle.std.specs.List.{All}
 use Rattle.lois_base.specs.Data.{TermD}
 use Rattle.lois_answers.specs.ResultsData.{CaseD}
-use Rattle.lois_automata.specs.Machines.{IsDeterministicAt}
+use Rattle.lois_automata.specs.Deterministic.{IsDeterministicAt}
 use Rattle.lois_equal.proofs.CaseLines.{one_term}
 use Rattle.lois_equal.specs.Comparing.{HasTerm, HasNoLine, IsComparable, IsNotDeterministic, AreComparable, IsReason, number_of, IsFirst, IsComparison}
 use Rattle.lois_equal.specs.declared.comparing.Comparison.{Comparison}

@@ -17,8 +17,9 @@ use Rattle.lois_census.specs.Refusals.{IsCensusAnswer as IsCounted}
 use Rattle.lois_census.specs.declared.counting.Answer.{Answer}
 use Rattle.lois_census.specs.declared.counting.Answer.TheVariants.{Listed, Refused as Uncounted}
 use Rattle.lois_census.specs.declared.counting.Refusal.TheVariants as uncounted
-use Rattle.lois_equal.specs.Comparing.{IsComparison, IfDiffer}
-use Rattle.lois_equal.specs.Differing.{AreBounded}
+use Rattle.lois_equal.specs.Comparing.{IsComparison}
+use Rattle.lois_equal.specs.ComparedCases.{IfDiffer}
+use Rattle.lois_equal.specs.Differences.{AreBounded}
 use Rattle.lois_equal.specs.declared.comparing.Comparison.{Comparison}
 use Rattle.lois_equal.specs.declared.comparing.Comparison.TheVariants.{Alike, Differ as Unlike, Refused as Unfit}
 use Rattle.lois_equal.specs.declared.comparing.ComparisonFault.TheVariants as unfit
@@ -30,7 +31,7 @@ use Rattle.lois_registers.specs.Translation.{IsTranslatedTo}
 use Rattle.lois_registers.specs.Written.{IsWrittenFrom}
 use Rattle.lois_registers.specs.declared.RegistersError.TheVariants.{NotRegisters as NoRegisters}
 use Rattle.lois_registers.specs.declared.automata.Registers.{Registers as Automaton}
-use Rattle.lois_run.specs.Causes.{AnswersText}
+use Rattle.lois_run.specs.TextAnswers.{AnswersText}
 use Rattle.lois_command.specs.NoResults.{IsNoResults}
 use Rattle.lois_run.specs.Lines.{Translates, compared_outcome, listed_outcome}
 use Rattle.lois_run.specs.declared.outcomes.Outcome.TheVariants.{Refused, Translated}

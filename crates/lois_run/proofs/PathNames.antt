@@ -11,7 +11,7 @@ use Rattle.lois_answers.specs.Sound.{IsFreeName}
 use Rattle.lois_answers.specs.declared.faults.FaultKind.{FaultKind}
 use Rattle.lois_meaning.specs.Runs.{StmtFails, ListFails, ScriptFails}
 use Rattle.lois_meaning.specs.Store.{NamedValues, AreSameNamed}
-use Rattle.lois_context.specs.Slots.{line_values}
+use Rattle.lois_context.specs.LineValues.{line_values}
 use Rattle.lois_interp.proofs.FreeNames.{AreFree, free_name, none_free}
 use Rattle.lois_interp.proofs.Spelled.{spelled_prints}
 

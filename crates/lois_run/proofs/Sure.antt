@@ -22,7 +22,8 @@ use Rattle.lois_syntax.proofs.Refusing.{one_refusal as one_syntax, never_both as
 use Rattle.lois_syntax.specs.Refusals.{tokens_in, IsSyntaxRefusal as SyntaxRefuses}
 use Rattle.lois_syntax.specs.declared.SyntaxError.{SyntaxError}
 use Rattle.lois_syntax.specs.declared.SyntaxError.TheVariants.{NoScript, TooNested, WideTuple, TurnsTooMany, NoMemory as SyntaxMemory}
-use Rattle.lois_run.specs.Causes.{IsRefusedBy, HasCause, IsOfText}
+use Rattle.lois_run.specs.Causes.{IsRefusedBy, HasCause}
+use Rattle.lois_run.specs.TextAnswers.{IsOfText}
 use Rattle.lois_run.specs.Laws.{RefusalsAreSure}
 use Rattle.lois_run.specs.Read.{SpellsNone, IsScope}
 use Rattle.lois_command.specs.NoResults.{IsNoResults}

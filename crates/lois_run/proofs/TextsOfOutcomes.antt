@@ -9,13 +9,16 @@ use Rattle.std.specs.Io.KnownBytes.{Consumes, IsAtEnd}
 use Rattle.lois_outside.specs.Faults.{Rose}
 use Rattle.lois_outside.specs.Reading.{TookAtMost, TookExactly, ReadsToEnd, GivesUp}
 use Rattle.lois_outside.specs.declared.reading.ReadError.TheVariants as unread
-use Rattle.lois_command.specs.Calls.{TakeRelation, GaveAtMost}
+use Rattle.lois_command.specs.Calls.{GaveAtMost}
+use Rattle.lois_command.specs.Sources.{TakeRelation}
 use Rattle.lois_command.proofs.Given.{gave_nothing, more, exactly, given}
-use Rattle.lois_run.specs.Causes.{Serves, HasRead, HasTaken, HasCause, ReadsText, Promises, IsOutcomeOf, IsOfText, AnswersText}
+use Rattle.lois_run.specs.Causes.{Serves, HasRead, HasTaken, HasCause, ReadsText, Promises, IsOutcomeOf}
+use Rattle.lois_run.specs.TextAnswers.{IsOfText, AnswersText}
 use Rattle.lois_run.specs.Services.{HasMadeResults}
 use Rattle.lois_answers.specs.declared.faults.FaultKind.{FaultKind}
 use Rattle.lois_answers.specs.declared.faults.FaultKind.TheVariants.{Assertion, TurnLimit, DepthLimit, NotASet, NotAtoms, NotATuple, NoSuchPart, NotAutomaton, NotDeterministic, NotComplete}
-use Rattle.lois_run.specs.Outcomes.{made_counts, failure_status, status_of}
+use Rattle.lois_run.specs.Outcomes.{failure_status, status_of}
+use Rattle.lois_run.specs.MadeCounts.{made_counts}
 use Rattle.lois_run.specs.declared.outcomes.Made.{Made}
 use Rattle.lois_base.specs.declared.limits.TheConstants.{LONGEST_TEXT}
 use Rattle.lois_deciders.specs.Choice.{IsUnwanted}

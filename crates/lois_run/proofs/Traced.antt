@@ -25,8 +25,9 @@ use Rattle.lois_meaning.specs.Runs.{ScriptFails}
 use Rattle.lois_meaning.specs.Kinds.{AreSame}
 use Rattle.lois_meaning.specs.Store.{NamedValues, AreSameNamed}
 use Rattle.lois_meaning.specs.declared.faults.Fault.{Fault}
-use Rattle.lois_context.specs.Slots.{line_values}
-use Rattle.lois_interp.specs.Interpreted.{parameter_name, FailsBehindEnds, IsFailureOf}
+use Rattle.lois_context.specs.LineValues.{line_values}
+use Rattle.lois_interp.specs.Interpreted.{parameter_name, FailsBehindEnds}
+use Rattle.lois_interp.specs.Failures.{IsFailureOf}
 use Rattle.lois_interp.proofs.FreeNames.{are_parameters}
 use Rattle.lois_shortest_word.specs.Shortened.{IsShortenedWord}
 use Rattle.lois_shortest_word.specs.Words.{values_at, AreUsedBetween}

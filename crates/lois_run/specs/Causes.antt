@@ -6,8 +6,8 @@ use Rattle.lois_outside.specs.Faults.{Rose}
 use Rattle.lois_outside.specs.Reading.{TookAtMost, TookExactly, ReadsToEnd, GivesUp}
 use Rattle.lois_outside.specs.declared.reading.ReadError.TheVariants as unread
 use Rattle.lois_base.specs.declared.limits.TheConstants.{LONGEST_TEXT}
-use Rattle.lois_command.specs.Calls.{TakeRelation, Puts, TextIsWritten}
-use Rattle.lois_run.specs.Outcomes.{status_of, outcome_text, made_counts}
+use Rattle.lois_command.specs.Sources.{TakeRelation}
+use Rattle.lois_run.specs.MadeCounts.{made_counts}
 use Rattle.lois_run.specs.Services.{service_of}
 use Rattle.lois_run.specs.Words.{Requests, IsUsage}
 use Rattle.lois_run.specs.declared.outcomes.Outcome.{Outcome}
@@ -74,21 +74,3 @@ pub record IsOutcomeOf {S : Type 0} (words : List (List ℕ)) (kinds : List Kind
   pub made : (n : ℕ) (kind : Option Kind) → Requests (Make n kind) words → (IsUsage words kinds → ⊥) → o ≡ WasMade (made_counts n)
   -- unless it is usage, the outcome keeps what the command promises
   pub promise : (command : Command) → Requests command words → (IsUsage words kinds → ⊥) → IfSome (left from) (λ text. Promises command text (Rose (faults from) (faults to)) o)
-
--- the status is the outcome's, and its text is written
-abbrev pub OutcomeIsWritten : {K : Type 0} → (K → Option (List ℕ)) → (K → ℕ) → Puts K → K → K → Outcome → ℕ → Type 0
-OutcomeIsWritten {K} held faults puts from to o status = TextIsWritten held faults puts from to (outcome_text o) (status_of o) status
-
--- a text comes to one of these
-abbrev pub IsOfText : Outcome → Type 0
-IsOfText (Refused TooLong) = ⊥
-IsOfText ReadFault = ⊥
-IsOfText Usage = ⊥
-IsOfText (WasMade counts) = ⊥
-IsOfText _ = Unit {0}
-
--- the answer to a text, once it is read
-pub record AnswersText (command : Command) (text : List ℕ) (o : Outcome) : Type 0 where
-  pub cause : HasCause command text o
-  pub promise : Promises command text ⊥ o
-  pub kind : IsOfText o

@@ -14,7 +14,7 @@ use Rattle.lois_script.specs.Scope.{IsWellScoped}
 use Rattle.lois_script.specs.Tree.{ScriptD}
 use Rattle.lois_meaning.specs.Runs.{ScriptFails}
 use Rattle.lois_meaning.specs.Store.{NamedValues, AreSameNamed}
-use Rattle.lois_context.specs.Slots.{line_values}
+use Rattle.lois_context.specs.LineValues.{line_values}
 use Rattle.lois_interp.specs.Interpreted.{parameter_name, IsChoiceOf, AreResultsOf, FailsBehindEnds}
 use Rattle.lois_command.specs.Places.{IsPlaceOf}
 use Rattle.lois_shortest_word.specs.Words.{AreUsedBetween}

@@ -1,6 +1,7 @@
 -- Refusals exclude each other and whatever else a text comes to.
 use Rattle.std.specs.Prelude.{◌≡◌, ℕ, List}
-use Rattle.lois_run.specs.Causes.{IsRefusedBy, HasCause, IsOfText}
+use Rattle.lois_run.specs.Causes.{IsRefusedBy, HasCause}
+use Rattle.lois_run.specs.TextAnswers.{IsOfText}
 use Rattle.lois_run.specs.Read.{SpellsNone}
 use Rattle.lois_run.specs.Refusals.{IsRefusedAs}
 use Rattle.lois_run.specs.declared.outcomes.Outcome.{Outcome}

@@ -4,9 +4,11 @@ pub mod Texts
 pub mod Refusals
 pub mod Read
 pub mod Outcomes
+pub mod MadeCounts
 pub mod Headline
 pub mod Run
 pub mod Lines
 pub mod Services
 pub mod Causes
+pub mod TextAnswers
 pub mod Laws

@@ -1,5 +1,5 @@
 -- The status and the text of each outcome.
-use Rattle.std.specs.Prelude.{◌≤◌, ℕ, ◌+◌, ◌*◌, min, List, [], ◌++◌, length, codes}
+use Rattle.std.specs.Prelude.{◌≤◌, ℕ, List, [], ◌++◌, length, codes, Option}
 use Rattle.std.specs.Fmt.{decimal}
 use Rattle.std.specs.List.{All}
 use Rattle.lois_base.specs.Fits.{Fits}
@@ -25,6 +25,7 @@ use Rattle.lois_run.specs.declared.outcomes.Outcome.{Outcome}
 use Rattle.lois_run.specs.declared.outcomes.Outcome.TheVariants.{Completed, Failed, Reread, Checked, Made as WasMade, Same, Differ, Translated, Census, Refused, ReadFault, Usage}
 use Rattle.lois_run.specs.declared.outcomes.Refusal.{Refusal}
 use Rattle.lois_run.specs.declared.outcomes.Refusal.TheVariants.{TooLong, Lexical, Syntax, Scope, NotResults, NotRegisters, NoLine, NotDeterministic, HasParameters, NotASet}
+use Rattle.lois_command.specs.Calls.{Puts, TextIsWritten}
 
 -- a false assertion, a limit of turns, a limit of depth; any other is a value of the wrong kind
 abbrev pub failure_status : FaultKind → ℕ
@@ -58,11 +59,6 @@ refusal_text (NoLine name k) = refused_case_text (codes "no line ") name k []
 refusal_text (NotDeterministic name k) = refused_case_text [] name k (codes " is no deterministic automaton")
 refusal_text HasParameters = codes "refused: census of results with parameters"
 refusal_text (NotASet name k) = refused_case_text [] name k (codes " is no set")
-
--- What the made script of n loops comes to: 37 bytes and 74 for each loop, one case, and a comprehension for each of its tags,
--- of which there are seven.
-abbrev pub made_counts : ℕ → Made
-made_counts n = record { statements = n; bytes = 37 + 74 * n; cases = 1; comprehensions = min n 7 }
 
 abbrev pub made_text : Made → List ℕ
 made_text counts =
@@ -114,3 +110,7 @@ HasText (Translated r) = IsSound r
 HasText (Census cs) = All CanBeListed cs
 HasText (Refused refusal) = HasCauseNumber refusal
 HasText _ = Unit {0}
+
+-- the status is the outcome's, and its text is written
+abbrev pub OutcomeIsWritten : {K : Type 0} → (K → Option (List ℕ)) → (K → ℕ) → Puts K → K → K → Outcome → ℕ → Type 0
+OutcomeIsWritten {K} held faults puts from to o status = TextIsWritten held faults puts from to (outcome_text o) (status_of o) status

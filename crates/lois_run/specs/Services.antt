@@ -14,7 +14,7 @@ use Rattle.lois_base.specs.declared.limits.TheConstants.{LONGEST_TEXT}
 use Rattle.lois_command.specs.NoResults.{IsNoResults}
 use Rattle.lois_run.specs.Headline.{Headline, Completes, NamesFailure, UnlessReadFault}
 use Rattle.lois_run.specs.Lines.{Compares, Lists, Translates}
-use Rattle.lois_run.specs.Outcomes.{made_counts}
+use Rattle.lois_run.specs.MadeCounts.{made_counts}
 use Rattle.lois_run.specs.Refusals.{IsRefusedAs, IsNoAnswer, IsNoRegisters}
 use Rattle.lois_run.specs.declared.outcomes.Outcome.{Outcome}
 use Rattle.lois_run.specs.declared.outcomes.Outcome.TheVariants.{Completed, Failed, Reread, Checked, Made, Translated, Refused}

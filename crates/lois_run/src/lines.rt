@@ -3,9 +3,10 @@
 ghost use Rattle.std.specs.Prelude.{◌≡◌, length, IfOk};
 ghost use Rattle.lois_answers.specs.Sound.{IsSound};
 ghost use Rattle.lois_census.specs.Refusals.{IsCensusAnswer};
-ghost use Rattle.lois_equal.specs.Comparing.{IsComparison, IfDiffer};
-ghost use Rattle.lois_equal.specs.Differing.{AreBounded};
-ghost use Rattle.lois_run.specs.Causes.{AnswersText};
+ghost use Rattle.lois_equal.specs.Comparing.{IsComparison};
+ghost use Rattle.lois_equal.specs.ComparedCases.{IfDiffer};
+ghost use Rattle.lois_equal.specs.Differences.{AreBounded};
+ghost use Rattle.lois_run.specs.TextAnswers.{AnswersText};
 ghost use Rattle.lois_run.specs.Outcomes.{HasText};
 ghost use Rattle.lois_run.specs.Lines.{compared_outcome, listed_outcome};
 ghost use Rattle.lois_run.specs.declared.words.Command.TheVariants.{Equal, Registers, Census};

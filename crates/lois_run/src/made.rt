@@ -2,9 +2,9 @@
 
 ghost use Rattle.std.specs.Prelude.{◌≡◌, ◌≤◌, [], ◌∷◌, IfOk, IsSome};
 ghost use Rattle.lois_answers.specs.ResultsData.{CaseD, LineD};
-ghost use Rattle.lois_context.specs.Slots.{comps_in};
+ghost use Rattle.lois_context.specs.ItemCounts.{comps_in};
 ghost use Rattle.lois_run.specs.Services.{HasMadeResults};
-ghost use Rattle.lois_run.specs.Outcomes.{made_counts};
+ghost use Rattle.lois_run.specs.MadeCounts.{made_counts};
 ghost use Rattle.lois_run.specs.declared.outcomes.Outcome.TheVariants.{Made as WasMade};
 
 use crate::top::run_text;

@@ -4,9 +4,10 @@ ghost use Rattle.std.specs.Prelude.{◌≡◌, ℕ, ◌+◌, ◌≤◌, ◌⊎�
 ghost use Rattle.lois_base.specs.declared.deciding.Kind.{Kind};
 ghost use Rattle.lois_outside.specs.Faults.{Rose};
 ghost use Rattle.lois_command.specs.Calls.{GaveAtMost};
-ghost use Rattle.lois_run.specs.Causes.{AnswersText, ReadsText, IsOutcomeOf, OutcomeIsWritten};
+ghost use Rattle.lois_run.specs.Causes.{ReadsText, IsOutcomeOf};
+ghost use Rattle.lois_run.specs.TextAnswers.{AnswersText};
+ghost use Rattle.lois_run.specs.Outcomes.{OutcomeIsWritten, HasText};
 ghost use Rattle.lois_base.specs.declared.limits.TheConstants.{LONGEST_TEXT};
-ghost use Rattle.lois_run.specs.Outcomes.{HasText};
 ghost use Rattle.lois_run.specs.Words.{Requests, IsUsage, LacksDecider, wanted_kind, asks_decider};
 ghost use Rattle.lois_run.specs.declared.outcomes.Outcome.{Outcome};
 ghost use Rattle.lois_run.specs.declared.words.Command.TheVariants.{Run, Check, Reread, Make};

@@ -6,7 +6,7 @@ use Rattle.lois_base.specs.Values.{PointValue, point, IsSame}
 use Rattle.lois_base.proofs.Members.{same_sym, member_in, same_in}
 use Rattle.lois_answers.specs.ResultsData.{LineD}
 use Rattle.lois_cases.proofs.OneCase.{the_case}
-use Rattle.lois_context.specs.Slots.{line_values}
+use Rattle.lois_context.specs.LineValues.{line_values}
 use Rattle.lois_meaning.specs.Store.{AreSameNamed}
 use Rattle.lois_shortest_word.specs.Words.{first_sampled}
 use Rattle.lois_same.specs.Same.{HaveSameLinesAt}

@@ -10,10 +10,10 @@ use Rattle.lois_base.specs.Truth.{holds, sampled}
 use Rattle.lois_base.specs.Values.{point, IsSame}
 use Rattle.lois_base.specs.declared.guards.Lit.{Lit}
 use Rattle.lois_base.proofs.Members.{same_refl, same_sets}
-use Rattle.lois_deciders.specs.Satisfaction.{IsCounterexample}
+use Rattle.lois_deciders.specs.Satisfiability.{IsCounterexample}
 use Rattle.lois_elim.specs.Bound.{AgreesWith}
 use Rattle.lois_relate.specs.Relations.{HoldsWhereSame}
-use Rattle.lois_terms.specs.Guarded.{IsColl}
+use Rattle.lois_terms.specs.Collections.{IsColl}
 use Rattle.lois_same.specs.Members.{IsIncludedUnder, AreSameUnder, AreOtherUnder}
 
 -- a counterexample of what says where the values are the same

@@ -6,7 +6,7 @@ use Rattle.lois_base.specs.Truth.{holds, sampled}
 use Rattle.lois_base.specs.declared.guards.Lit.{Lit}
 use Rattle.lois_answers.specs.ResultsData.{LineD}
 use Rattle.lois_automata.specs.Throughout.{HoldsThroughout}
-use Rattle.lois_context.specs.Slots.{line_values}
+use Rattle.lois_context.specs.LineValues.{line_values}
 use Rattle.lois_deciders.specs.Satisfaction.{IsConstraintSample}
 use Rattle.lois_meaning.specs.Store.{AreSameNamed}
 use Rattle.lois_same.specs.Contrasts.{IsLine, LinesContrast, LinesContrastAt, IsDetail}

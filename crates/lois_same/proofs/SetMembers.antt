@@ -18,7 +18,8 @@ use Rattle.lois_base.proofs.Booleans.{never_both, true_if_not_false}
 use Rattle.lois_base.proofs.Connectives.{both_true}
 use Rattle.lois_automata.specs.Built.{HoldsWhereMember}
 use Rattle.lois_automata.proofs.Members.{longer_is}
-use Rattle.lois_deciders.specs.Satisfaction.{IsConstraintSample, ConstraintIsSatisfiable}
+use Rattle.lois_deciders.specs.Satisfaction.{IsConstraintSample}
+use Rattle.lois_deciders.specs.Satisfiability.{ConstraintIsSatisfiable}
 use Rattle.lois_shortest_word.specs.Words.{first_sampled}
 use Rattle.lois_shortest_word.proofs.Choices.{first_length, other_length, whole_sample}
 use Rattle.lois_same.specs.Members.{CompIsIncluded, IsIncludedUnder, IsItemAlone, IsSampleAlone, IsMemberAlone}

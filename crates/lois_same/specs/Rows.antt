@@ -6,7 +6,7 @@ use Rattle.lois_base.specs.declared.guards.Lit.{Lit}
 use Rattle.lois_answers.specs.ResultsData.{LineD, CaseD}
 use Rattle.lois_automata.specs.Throughout.{HoldsThroughout}
 use Rattle.lois_cases.specs.Cases.{HoldsAt, IsCase, IsTheCaseAt}
-use Rattle.lois_context.specs.Slots.{line_values}
+use Rattle.lois_context.specs.LineValues.{line_values}
 use Rattle.lois_deciders.specs.Satisfaction.{IsEntailed}
 use Rattle.lois_meaning.specs.Store.{AreSameNamed}
 use Rattle.lois_shortest_word.specs.Words.{first_sampled}

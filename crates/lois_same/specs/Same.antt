@@ -4,7 +4,7 @@ use Rattle.lois_base.specs.Atom.{Atom}
 use Rattle.lois_answers.specs.ResultsData.{CaseD}
 use Rattle.lois_answers.specs.declared.results.Results.{Results}
 use Rattle.lois_cases.specs.Cases.{IsTheCaseAt}
-use Rattle.lois_context.specs.Slots.{line_values}
+use Rattle.lois_context.specs.LineValues.{line_values}
 use Rattle.lois_meaning.specs.Store.{AreSameNamed}
 
 -- at the choice c the lines have the same names and values, one by one

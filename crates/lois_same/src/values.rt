@@ -5,8 +5,8 @@ ghost use Rattle.lois_base.specs.Fits.{ConstraintFits, Fits};
 ghost use Rattle.lois_base.specs.Tree.{tree};
 ghost use Rattle.lois_base.specs.Validity.{AdmitsTerm};
 ghost use Rattle.lois_deciders.specs.OnlyAsked.{HasOnlyAsked};
-ghost use Rattle.lois_deciders.specs.Satisfaction.{IsCounterexample};
-ghost use Rattle.lois_terms.specs.Guarded.{IsColl};
+ghost use Rattle.lois_deciders.specs.Satisfiability.{IsCounterexample};
+ghost use Rattle.lois_terms.specs.Collections.{IsColl};
 ghost use Rattle.lois_same.specs.Members.{AreSameUnder, AreOtherUnder, IsValueContrastOrNone};
 
 use crate::members::find_member_alone;

@@ -2,7 +2,8 @@
 use Rattle.std.proofs.Common.{◌≡◌, ℕ, ◌+◌, ◌≤◌, ◌<◌, List, [], ◌∷◌, map, length, get_or, refl}
 use Rattle.lois_script.specs.Scope.{ScopeD, declare, fixed, with_parameters, DeclarationBreaks, ParametersBreak, with_binder, bound, scope_behind, ExprBreaks, ExprsBreak, BindingBreaks, BindingsBreak, CondBreaks, CondsBreak, StmtBreaks, StmtsBreak}
 use Rattle.lois_script.specs.Tree.{ExprD, BindingD, CondD, StmtD, ParamD}
-use Rattle.lois_script.specs.View.{tree, exprs_of, binding_tree, bindings_of, cond_tree, conds_of, stmt_tree, stmts_of, param_tree}
+use Rattle.lois_script.specs.View.{tree, exprs_of, binding_tree, bindings_of, cond_tree, conds_of, stmts_of, param_tree}
+use Rattle.lois_script.specs.Lists.{stmt_tree}
 use Rattle.lois_script.specs.declared.syntax.Expr.{Expr}
 use Rattle.lois_script.specs.declared.syntax.Cond.{Cond}
 use Rattle.lois_script.specs.declared.syntax.Binding.{Binding}

@@ -2,7 +2,8 @@
 
 ghost use Rattle.std.specs.Prelude.{OnOk};
 ghost use Rattle.lois_script.specs.Scope.{bound, ExprBreaks, ExprsBreak, BindingBreaks, BindingsBreak, CondBreaks, CondsBreak};
-ghost use Rattle.lois_script.specs.View.{tree, exprs_of, exprs_list, binding_tree, bindings_of, bindings_list, cond_tree, conds_of, conds_list};
+ghost use Rattle.lois_script.specs.View.{tree, exprs_of, binding_tree, bindings_of, cond_tree, conds_of};
+ghost use Rattle.lois_script.specs.Lists.{exprs_list, bindings_list, conds_list};
 ghost use Rattle.lois_scope.specs.Walks.{seen, Walks, AdvancesScope};
 
 use crate::names::Made;

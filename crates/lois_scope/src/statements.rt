@@ -2,7 +2,8 @@
 
 ghost use Rattle.std.specs.Prelude.{◌≡◌, ◌+◌, ◌<◌, take, suc, OnOk, IfOk};
 ghost use Rattle.lois_script.specs.Scope.{entered, scope_behind, with_parameters, ParametersBreak, StmtBreaks, StmtsBreak};
-ghost use Rattle.lois_script.specs.View.{binding_tree, cond_tree, stmt_tree, stmts_of, stmts_list, params_list};
+ghost use Rattle.lois_script.specs.View.{binding_tree, cond_tree, stmts_of, stmts_list, params_list};
+ghost use Rattle.lois_script.specs.Lists.{stmt_tree};
 ghost use Rattle.lois_scope.specs.InScope.{made_of};
 ghost use Rattle.lois_scope.specs.Walks.{seen, state_of, IsWithin, Walks, AdvancesScope, Enters};
 

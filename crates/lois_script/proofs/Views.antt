@@ -2,7 +2,8 @@
 use Rattle.std.proofs.Common.{◌≡◌, ℕ, List, map, ap, sym, ◌∙◌}
 use Rattle.lois_base.specs.declared.words.Name.{Name}
 use Rattle.lois_script.specs.Tree.{ExprD, atoms, var, tag, tuple, listed, each, part, apply, BindingD, binding, CondD, truth, falsity, same, differ, below, member, included, empty, not, all, any, exists, every, StmtD, «let», assign, add, for, if, while, assert, print}
-use Rattle.lois_script.specs.View.{exprs_of, bindings_of, conds_of, stmts_of, cond_step, expr_step, binding_step, bindings_step, conds_step, exprs_step, tree, cond_tree, binding_tree, exprs_list, bindings_list, conds_list, stmt_step, stmts_step, stmt_tree, stmts_list, exprs_held, bindings_held, conds_held, stmts_held}
+use Rattle.lois_script.specs.View.{exprs_of, bindings_of, conds_of, stmts_of, cond_step, expr_step, binding_step, bindings_step, conds_step, exprs_step, tree, cond_tree, binding_tree, stmt_step, stmts_step, stmts_list}
+use Rattle.lois_script.specs.Lists.{exprs_list, bindings_list, conds_list, stmt_tree, exprs_held, bindings_held, conds_held, stmts_held}
 use Rattle.lois_script.specs.declared.syntax.Cond.TheFolds.{fold_out-Exprs, fold_out-Binding, fold_out-Bindings, fold_out-Conds, fold-roll-Expr, fold-roll-Cond}
 use Rattle.lois_script.specs.declared.syntax.Cond.TheOpen.{Expr-F, Cond-F}
 use Rattle.lois_script.specs.declared.syntax.Pos.{Pos}

@@ -1,5 +1,5 @@
 -- Scripts as data: positions are numbers, names are the lists of their bytes.
-use Rattle.std.specs.Prelude.{ℕ, Bool, List, [], ◌∷◌}
+use Rattle.std.specs.Prelude.{ℕ, Bool, List}
 use Rattle.lois_script.specs.declared.syntax.Operation.{Operation}
 
 mutual
@@ -76,7 +76,3 @@ pos (listed p _) = p
 pos (each p _ _ _) = p
 pos (part p _ _) = p
 pos (apply p _ _) = p
-
-abbrev pub positions : ExprsD → List ℕ
-positions no_exprs = []
-positions (expr e rest) = pos e ∷ positions rest

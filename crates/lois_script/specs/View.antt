@@ -4,12 +4,8 @@ use Rattle.lois_script.specs.Tree.{ExprD, atoms, var, tag, tuple, listed, each, 
 use Rattle.lois_script.specs.declared.syntax.Expr.{Expr}
 use Rattle.lois_script.specs.declared.syntax.Cond.{Cond}
 use Rattle.lois_script.specs.declared.syntax.Binding.{Binding}
-use Rattle.lois_script.specs.declared.syntax.Exprs.{Exprs}
-use Rattle.lois_script.specs.declared.syntax.Bindings.{Bindings, out-Bindings}
-use Rattle.lois_script.specs.declared.syntax.Conds.{Conds}
-use Rattle.lois_script.specs.declared.syntax.Cond.TheFolds.{fold-Cond, fold-Expr, fold-Binding, fold-Bindings, fold-Conds, fold-Exprs}
+use Rattle.lois_script.specs.declared.syntax.Cond.TheFolds.{fold-Cond, fold-Expr, fold-Binding}
 use Rattle.lois_script.specs.declared.syntax.Cond.TheOpen.{Cond-F, Expr-F, Binding-F, Bindings-F, Conds-F, Exprs-F}
-use Rattle.lois_script.specs.declared.script.Stmt.{Stmt, fold-Stmt}
 use Rattle.lois_script.specs.declared.script.Stmts.{Stmts}
 use Rattle.lois_script.specs.declared.script.Stmt.TheFolds.{fold-Stmts}
 use Rattle.lois_script.specs.declared.script.Stmt.TheOpen.{Stmt-F, Stmts-F}
@@ -81,15 +77,6 @@ cond_tree = fold-Cond CondD ExprD BindingD (List BindingD) (List CondD) (List Ex
 abbrev pub binding_tree : Binding → BindingD
 binding_tree = fold-Binding CondD ExprD BindingD (List BindingD) (List CondD) (List ExprD) cond_step expr_step binding_step bindings_step conds_step exprs_step
 
-abbrev pub exprs_list : Exprs → List ExprD
-exprs_list = fold-Exprs CondD ExprD BindingD (List BindingD) (List CondD) (List ExprD) cond_step expr_step binding_step bindings_step conds_step exprs_step
-
-abbrev pub bindings_list : Bindings → List BindingD
-bindings_list = fold-Bindings CondD ExprD BindingD (List BindingD) (List CondD) (List ExprD) cond_step expr_step binding_step bindings_step conds_step exprs_step
-
-abbrev pub conds_list : Conds → List CondD
-conds_list = fold-Conds CondD ExprD BindingD (List BindingD) (List CondD) (List ExprD) cond_step expr_step binding_step bindings_step conds_step exprs_step
-
 abbrev pub stmt_step : Stmt-F StmtD (List StmtD) → StmtD
 stmt_step (Stmt-F.Let p n e) = «let» p.offset n (tree e)
 stmt_step (Stmt-F.Assign p n e) = assign p.offset n (tree e)
@@ -103,24 +90,8 @@ stmt_step (Stmt-F.Print p q n) = print p.offset q.offset n
 abbrev pub stmts_step : Stmts-F StmtD (List StmtD) → List StmtD
 stmts_step l = l.items.items
 
-abbrev pub stmt_tree : Stmt → StmtD
-stmt_tree = fold-Stmt StmtD (List StmtD) stmt_step stmts_step
-
 abbrev pub stmts_list : Stmts → List StmtD
 stmts_list = fold-Stmts StmtD (List StmtD) stmt_step stmts_step
-
--- the items that a list holds
-abbrev pub exprs_held : Exprs → List Expr
-exprs_held es = es.items.items
-
-abbrev pub bindings_held : Bindings → List Binding
-bindings_held bs = (out-Bindings bs).items.items
-
-abbrev pub conds_held : Conds → List Cond
-conds_held cs = cs.items.items
-
-abbrev pub stmts_held : Stmts → List Stmt
-stmts_held l = l.items.items
 
 abbrev pub param_tree : Param → ParamD
 param_tree p = record { place = p.pos.offset; name = p.name }

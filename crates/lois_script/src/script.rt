@@ -1,7 +1,8 @@
 //! The syntax tree of a script: statements, parameters and the whole.
 
 ghost use Rattle.std.specs.Prelude.{◌≡◌, [], ◌∷◌, ◌++◌, length, map, slice_get, option_map, OnOk, OnErr};
-ghost use Rattle.lois_script.specs.View.{param_tree, params_list, stmt_tree, stmts_list, stmts_held};
+ghost use Rattle.lois_script.specs.View.{param_tree, params_list, stmts_list};
+ghost use Rattle.lois_script.specs.Lists.{stmt_tree, stmts_held};
 
 use crate::{Binding, Cond, Expr, Pos};
 use lois_base::{Name, NoMemory};

@@ -1,7 +1,8 @@
 //! The syntax tree of a script: expressions and conditions.
 
 ghost use Rattle.std.specs.Prelude.{◌≡◌, [], ◌∷◌, ◌++◌, length, map, slice_get, option_map, OnOk, OnErr};
-ghost use Rattle.lois_script.specs.View.{tree, binding_tree, cond_tree, exprs_list, bindings_list, conds_list, exprs_held, bindings_held, conds_held};
+ghost use Rattle.lois_script.specs.View.{tree, binding_tree, cond_tree};
+ghost use Rattle.lois_script.specs.Lists.{exprs_list, bindings_list, conds_list, exprs_held, bindings_held, conds_held};
 
 use lois_base::{Name, NoMemory};
 use std::alloc::Global;

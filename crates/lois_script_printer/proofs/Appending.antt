@@ -5,7 +5,8 @@ use Rattle.std.proofs.lemmas.List.{drop_more, drop_all}
 use Rattle.lois_lexer.specs.Laws.{Written}
 use Rattle.lois_script.specs.Tree.{ExprD, BindingD, CondD, StmtD, ParamD}
 use Rattle.lois_script.specs.Grammar.{is_unit, is_conjunction}
-use Rattle.lois_script.specs.View.{stmt_tree, param_tree, tree, cond_tree, binding_tree, exprs_of, bindings_of, conds_of, stmts_of}
+use Rattle.lois_script.specs.View.{param_tree, tree, cond_tree, binding_tree, exprs_of, bindings_of, conds_of, stmts_of}
+use Rattle.lois_script.specs.Lists.{stmt_tree}
 use Rattle.lois_script.specs.declared.syntax.Expr.{Expr}
 use Rattle.lois_script.specs.declared.syntax.Binding.{Binding}
 use Rattle.lois_script.specs.declared.syntax.Cond.{Cond}

@@ -5,7 +5,8 @@ use Rattle.std.proofs.lemmas.List.Elements.{All-nil}
 use Rattle.lois_lexer.specs.declared.TokenKind.{TokenKind}
 use Rattle.lois_lexer.specs.declared.TokenKind.TheVariants.{Name, Word, Tag, Number, Symbol}
 use Rattle.lois_lexer.specs.declared.Token.{Token}
-use Rattle.lois_lexer.specs.Tokens.{Spelled, spelled, bytes_of}
+use Rattle.lois_lexer.specs.Tokens.{bytes_of}
+use Rattle.lois_lexer.specs.SpelledTokens.{Spelled, spelled}
 use Rattle.lois_lexer.specs.Laws.{Written}
 use Rattle.lois_lexer.proofs.OneReading.{tokens_of_cut}
 use Rattle.lois_lexer.proofs.Written.{written_is_read}

@@ -2,7 +2,8 @@
 
 ghost use Rattle.std.specs.Prelude.{◌≡◌, OnOk};
 ghost use Rattle.lois_script.specs.Grammar.{is_base, is_unit, is_conjunction};
-ghost use Rattle.lois_script.specs.View.{tree, cond_tree, binding_tree, exprs_list, bindings_list, conds_list, exprs_of, bindings_of, conds_of};
+ghost use Rattle.lois_script.specs.View.{tree, cond_tree, binding_tree, exprs_of, bindings_of, conds_of};
+ghost use Rattle.lois_script.specs.Lists.{exprs_list, bindings_list, conds_list};
 ghost use Rattle.lois_script_printer.specs.Appended.{Appends};
 ghost use Rattle.lois_script_printer.specs.Printed.{enclosed, is_truth, where_clause, written_expr, written_exprs, written_binding, written_bindings, written_cond, written_units, written_conjunctions};
 

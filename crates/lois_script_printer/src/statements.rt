@@ -1,7 +1,8 @@
 //! Statements and blocks.
 
 ghost use Rattle.std.specs.Prelude.{OnOk};
-ghost use Rattle.lois_script.specs.View.{stmt_tree, stmts_list, stmts_of};
+ghost use Rattle.lois_script.specs.View.{stmts_list, stmts_of};
+ghost use Rattle.lois_script.specs.Lists.{stmt_tree};
 ghost use Rattle.lois_script_printer.specs.Appended.{Appends};
 ghost use Rattle.lois_script_printer.specs.Printed.{block, else_clause, written_stmt, written_stmts};
 

@@ -17,10 +17,11 @@ use Rattle.lois_meaning.specs.Automata.{IsTriple}
 use Rattle.lois_meaning.proofs.Automata.{triple_same}
 use Rattle.lois_automata.specs.Built.{HoldsWhereMember}
 use Rattle.lois_automata.specs.Projections.{triple_of}
-use Rattle.lois_automata.specs.Throughout.{HoldsWhere}
+use Rattle.lois_automata.specs.Verdicts.{HoldsWhere}
 use Rattle.lois_automata.proofs.Members.{raised_same, longer_is}
 use Rattle.lois_automata.proofs.Written.{triple_is, triple_here, triple_term}
-use Rattle.lois_deciders.specs.Satisfaction.{ConstraintIsSatisfiable, IsConstraintSample}
+use Rattle.lois_deciders.specs.Satisfaction.{IsConstraintSample}
+use Rattle.lois_deciders.specs.Satisfiability.{ConstraintIsSatisfiable}
 use Rattle.lois_meaning.proofs.Tuples.{triple_to}
 use Rattle.lois_shortest_word.specs.SymbolicStates.{IsSatisfiableCube}
 use Rattle.lois_shortest_word.specs.Steps.{AdvancesBy, HoldsWhereAdvancing, IsSymbolicStep, NeverAdvances}

@@ -17,7 +17,8 @@ use Rattle.lois_automata.specs.Throughout.{HoldsThroughout}
 use Rattle.lois_automata.proofs.FiveMachine.{five_equal, five_machine}
 use Rattle.lois_shortest_word.specs.Layers.{AcceptsIn}
 use Rattle.lois_shortest_word.specs.Walks.{IsOnWay, IsWay, HaveAtLeast, IsWordOf}
-use Rattle.lois_shortest_word.specs.Words.{AcceptsAt, values_at, first_sampled, AreUsedBetween, IsShortestWord}
+use Rattle.lois_shortest_word.specs.Words.{AcceptsAt, values_at, first_sampled, AreUsedBetween}
+use Rattle.lois_shortest_word.specs.Shortest.{IsShortestWord}
 use Rattle.lois_shortest_word.specs.declared.symbolic_states.SymbolicState.{SymbolicState}
 use Rattle.lois_shortest_word.specs.declared.words.Word.{Word}
 use Rattle.lois_shortest_word.proofs.Choices.{first_length, other_length, whole_sample}

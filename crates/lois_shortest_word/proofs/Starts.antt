@@ -9,7 +9,7 @@ use Rattle.lois_base.specs.declared.guards.Lit.{Lit}
 use Rattle.lois_base.proofs.Members.{same_refl, same_sym, in_same}
 use Rattle.lois_algebra.specs.Gathered.{IsAmong, IsCompMember}
 use Rattle.lois_automata.specs.Built.{HoldsWhereAdmittedIn}
-use Rattle.lois_deciders.specs.Satisfaction.{ConstraintIsSatisfiable}
+use Rattle.lois_deciders.specs.Satisfiability.{ConstraintIsSatisfiable}
 use Rattle.lois_shortest_word.specs.SymbolicStates.{IsSatisfiableCube, IsStart, IsInitialSymbolicState, HasNoInitialState}
 use Rattle.lois_shortest_word.specs.declared.symbolic_states.SymbolicState.{SymbolicState}
 

@@ -6,7 +6,7 @@ use Rattle.lois_base.specs.Fits.{Fits, CompFits}
 use Rattle.lois_base.specs.Validity.{AdmitsTerm, AdmitsComp, CompHasBoundedWidths}
 use Rattle.lois_base.specs.Values.{PointValue, point, IsIn}
 use Rattle.lois_algebra.specs.Gathered.{IsCompMember}
-use Rattle.lois_terms.specs.Guarded.{IsColl}
+use Rattle.lois_terms.specs.Collections.{IsColl}
 use Rattle.lois_meaning.specs.Automata.{Automaton, IsTriple, AcceptsFrom}
 use Rattle.lois_automata.specs.Adding.{Adds, IsMadeOfOne}
 use Rattle.lois_automata.specs.Projections.{HasStepIn}

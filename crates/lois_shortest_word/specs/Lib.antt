@@ -1,4 +1,5 @@
 pub mod Words
+pub mod Shortest
 pub mod Layers
 pub mod SymbolicStates
 pub mod Steps

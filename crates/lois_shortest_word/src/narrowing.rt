@@ -4,7 +4,7 @@ ghost use Rattle.std.specs.Prelude.{◌≡◌, List, [], ◌∷◌, length, IfOk
 ghost use Rattle.lois_base.specs.Atom.{Atom};
 ghost use Rattle.lois_base.specs.Fits.{ConstraintFits};
 ghost use Rattle.lois_base.specs.Truth.{holds, sampled};
-ghost use Rattle.lois_deciders.specs.Satisfaction.{ConstraintIsSatisfiable};
+ghost use Rattle.lois_deciders.specs.Satisfiability.{ConstraintIsSatisfiable};
 ghost use Rattle.lois_deciders.specs.OnlyAsked.{HasOnlyAsked};
 ghost use Rattle.lois_shortest_word.specs.SymbolicStates.{IsSatisfiableCube};
 

@@ -8,7 +8,7 @@ ghost use Rattle.lois_base.specs.Validity.{AdmitsConstraint, AdmitsTerm, HasBoun
 ghost use Rattle.lois_automata.specs.Machines.{IsAutomatonAt, IsEmptyAt};
 ghost use Rattle.lois_automata.specs.Throughout.{HoldsThroughout};
 ghost use Rattle.lois_deciders.specs.OnlyAsked.{HasOnlyAsked};
-ghost use Rattle.lois_shortest_word.specs.Words.{IsShortestWord};
+ghost use Rattle.lois_shortest_word.specs.Shortest.{IsShortestWord};
 
 use crate::shortening::drop_unused_numbers;
 use crate::walking::word_of;

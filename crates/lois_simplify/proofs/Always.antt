@@ -8,7 +8,7 @@ use Rattle.lois_base.specs.Atom.{Atom, whole}
 use Rattle.lois_base.specs.Truth.{holds}
 use Rattle.lois_base.specs.declared.guards.Lit.{Lit}
 use Rattle.lois_constraint.specs.Normalised.{IsOriented, lit_before, cube_before, is_part, IsNormalCube, IsNormalised}
-use Rattle.lois_deciders.specs.Satisfaction.{ConstraintIsSatisfiable}
+use Rattle.lois_deciders.specs.Satisfiability.{ConstraintIsSatisfiable}
 
 -- nothing is added where the guard always holds
 pub always_adds_nothing : (u g : List (List Lit)) → g ≡ [] ∷ [] → (c : List Atom) → holds c u ≡ (holds c u && holds c g)

@@ -11,7 +11,8 @@ use Rattle.lois_base.specs.Truth.{atom_at, holds, sampled}
 use Rattle.lois_base.specs.declared.guards.Lit.{Lit}
 use Rattle.lois_base.specs.declared.guards.Op.TheVariants.{Ne}
 use Rattle.lois_base.proofs.Order.{numbers_differ}
-use Rattle.lois_deciders.specs.Satisfaction.{IsConstraintSample, ConstraintIsSatisfiable}
+use Rattle.lois_deciders.specs.Satisfaction.{IsConstraintSample}
+use Rattle.lois_deciders.specs.Satisfiability.{ConstraintIsSatisfiable}
 use Rattle.lois_simplify.specs.Fixed.{IsFixed, CanBeApart}
 
 abbrev pub apart : ℕ → ℕ → List (List Lit)

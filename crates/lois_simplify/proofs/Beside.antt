@@ -20,7 +20,7 @@ use Rattle.lois_relate.specs.Relations.{HoldsWhereItemIn}
 use Rattle.lois_simplify.specs.Candidates.{FailsSomewhere}
 use Rattle.lois_simplify.specs.Covered.{IsCovered}
 use Rattle.lois_simplify.specs.Simplification.{IsSameWhere, set_of}
-use Rattle.lois_simplify.specs.Irredundant.{IsIrredundantAlone, HasOwn, EachHasOwn}
+use Rattle.lois_simplify.specs.Lean.{IsIrredundantAlone, HasOwn, EachHasOwn}
 use Rattle.lois_simplify.proofs.Inserted.{holds_before}
 use Rattle.lois_simplify.proofs.Members.{contains_cases, member_made, made_member, member_more, member_in, in_more, sets_same}
 

@@ -14,7 +14,7 @@ use Rattle.lois_terms.specs.Shapes.{shape_of, item_shape}
 use Rattle.lois_terms.proofs.Shapes.{one_shape}
 use Rattle.lois_simplify.specs.Candidates.{AddsCandidates, behind}
 use Rattle.lois_simplify.specs.Covered.{IsCovered}
-use Rattle.lois_simplify.specs.Irredundant.{HasOwn}
+use Rattle.lois_simplify.specs.Lean.{HasOwn}
 use Rattle.lois_simplify.proofs.Members.{contains_none, member_made, made_member, in_more, items_fit_each, each_fits_items, items_admit_each, each_admits_items}
 
 -- ---- what one position adds

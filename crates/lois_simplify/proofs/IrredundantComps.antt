@@ -5,7 +5,7 @@ use Rattle.std.proofs.lemmas.List.Elements.{All-nil, All-push, All-weaker, All-c
 use Rattle.lois_base.specs.Data.{CompD}
 use Rattle.lois_base.specs.declared.guards.Lit.{Lit}
 use Rattle.lois_simplify.specs.Simplification.{IsSimplification, set_of}
-use Rattle.lois_simplify.specs.Plain.{IsLeanComp}
+use Rattle.lois_simplify.specs.Lean.{IsLeanComp}
 use Rattle.lois_simplify.proofs.Kept.{kept_refl, kept_trans, alike_kept, kept-append}
 
 -- the comprehensions found are lean, and stand for those that are done

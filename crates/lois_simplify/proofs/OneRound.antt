@@ -17,13 +17,14 @@ use Rattle.lois_base.specs.declared.values.Comp.{Comp}
 use Rattle.lois_base.proofs.Both.{holds_both}
 use Rattle.lois_base.proofs.RenamedForm.{NamesFit, depth_renamed, widths_renamed, admits_renamed, fits_renamed}
 use Rattle.lois_constraint.specs.Normalised.{IsNormalised}
-use Rattle.lois_deciders.specs.Satisfaction.{ConstraintIsSatisfiable}
+use Rattle.lois_deciders.specs.Satisfiability.{ConstraintIsSatisfiable}
 use Rattle.lois_base.specs.Bound.{HoldsForSome}
 use Rattle.lois_simplify.specs.Fixed.{IsFixed}
 use Rattle.lois_simplify.specs.Simplification.{IsSameWhere, IsSimplification, set_of}
-use Rattle.lois_simplify.specs.Irredundant.{HasNormalGuards, IsIrredundantAlone}
+use Rattle.lois_simplify.specs.Irredundant.{HasNormalGuards}
+use Rattle.lois_simplify.specs.Lean.{IsIrredundantAlone, IsLeanComp}
 use Rattle.lois_simplify.specs.Moved.{moved}
-use Rattle.lois_simplify.specs.Plain.{HasPlainGuards, CompHasPlainGuards, IsLeanComp}
+use Rattle.lois_simplify.specs.Plain.{HasPlainGuards, CompHasPlainGuards}
 use Rattle.lois_simplify.specs.Rounds.{only, IsRoundOf, IsOpen, IsOpeningOf, IsClosingOf, IsKeptEverywhere}
 use Rattle.lois_simplify.specs.declared.rounds.Opening.{Opening}
 use Rattle.lois_simplify.specs.declared.rounds.Opening.TheVariants.{Over, Open}

@@ -14,7 +14,7 @@ use Rattle.lois_base.proofs.Viewed.{rest_is}
 use Rattle.lois_terms.specs.Shapes.{item_shape}
 use Rattle.lois_simplify.specs.Covered.{IsCovered}
 use Rattle.lois_simplify.specs.Simplification.{IsSimplification, set_of}
-use Rattle.lois_simplify.specs.Irredundant.{HasOwn, EachHasOwn}
+use Rattle.lois_simplify.specs.Lean.{HasOwn, EachHasOwn}
 use Rattle.lois_simplify.proofs.Beside.{skip_one, own_without, own_with, without_covered}
 use Rattle.lois_simplify.proofs.Kept.{kept_refl, kept_trans, fewer_kept}
 use Rattle.lois_simplify.proofs.Members.{contains_first, items_fit_each, each_fits_items, items_admit_each, each_admits_items}

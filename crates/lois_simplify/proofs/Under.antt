@@ -9,7 +9,8 @@ use Rattle.lois_base.specs.Normal.{both, concatenated, Satisfies, IsIrredundant,
 use Rattle.lois_base.specs.Truth.{holds}
 use Rattle.lois_base.specs.declared.guards.Lit.{Lit}
 use Rattle.lois_base.proofs.Both.{holds_both}
-use Rattle.lois_simplify.specs.Irredundant.{CompHasNormalGuards, ItemsHaveNormalGuards, IsIrredundantComp, HasOwn, EachHasOwn}
+use Rattle.lois_simplify.specs.Irredundant.{CompHasNormalGuards, ItemsHaveNormalGuards}
+use Rattle.lois_simplify.specs.Lean.{IsIrredundantComp, HasOwn, EachHasOwn}
 use Rattle.lois_simplify.proofs.Members.{contains_first, contains_later}
 
 module _ (u v : List (List Lit)) (same : (c : List Atom) → holds c u ≡ holds c v) where

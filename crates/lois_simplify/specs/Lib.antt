@@ -2,6 +2,7 @@ pub mod Covered
 pub mod Fixed
 pub mod Simplification
 pub mod Irredundant
+pub mod Lean
 pub mod Moved
 pub mod Rounds
 pub mod Shortened

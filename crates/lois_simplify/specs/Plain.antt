@@ -1,11 +1,10 @@
 -- Guards as they are written: `true` where they always hold, and without `<=`.
-use Rattle.std.specs.Prelude.{◌≡◌, ℕ, ◌+◌, Bool, List, [], ◌∷◌, IsTrue}
+use Rattle.std.specs.Prelude.{◌≡◌, ℕ, ◌+◌, List, [], ◌∷◌}
 use Rattle.lois_base.specs.Data.{TermD, var, tag, tup, coll, TermsD, no_terms, term, CompD, comp, CompsD, no_comps, more}
 use Rattle.lois_base.specs.Normal.{both}
 use Rattle.lois_base.specs.Validity.{IsStrictConstraint}
 use Rattle.lois_base.specs.declared.guards.Lit.{Lit}
 use Rattle.lois_deciders.specs.Satisfaction.{IsEntailed}
-use Rattle.lois_simplify.specs.Irredundant.{IsIrredundantComp}
 
 -- A guard that holds at each choice of n atoms at which u does is one cube without literals. No literal has `<=`.
 pub record IsPlain (g u : List (List Lit)) (n : ℕ) : Type 0 where
@@ -30,7 +29,3 @@ abbrev mutual
   pub ItemsHavePlainGuards : CompsD → List (List Lit) → ℕ → Type 0
   ItemsHavePlainGuards no_comps u n = Unit {0}
   ItemsHavePlainGuards (more c cs) u n = CompHasPlainGuards c u n × ItemsHavePlainGuards cs u n
-
--- lean by itself, and with plain guards if they are to be read
-abbrev pub IsLeanComp : Bool → List (List Lit) → ℕ → CompD → Type 0
-IsLeanComp brief u n k = IsIrredundantComp u n k × (IsTrue brief → CompHasPlainGuards k u n)

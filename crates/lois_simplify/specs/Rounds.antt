@@ -10,9 +10,10 @@ use Rattle.lois_base.specs.Validity.{AdmitsConstraint}
 use Rattle.lois_base.specs.declared.guards.Lit.{Lit}
 use Rattle.lois_base.specs.declared.values.Comp.{Comp}
 use Rattle.lois_constraint.specs.Normalised.{IsNormalised}
-use Rattle.lois_deciders.specs.Satisfaction.{ConstraintIsSatisfiable}
+use Rattle.lois_deciders.specs.Satisfiability.{ConstraintIsSatisfiable}
 use Rattle.lois_simplify.specs.Fixed.{CanBeApart}
-use Rattle.lois_simplify.specs.Plain.{IsPlain, IsLeanComp}
+use Rattle.lois_simplify.specs.Plain.{IsPlain}
+use Rattle.lois_simplify.specs.Lean.{IsLeanComp}
 use Rattle.lois_simplify.specs.Simplification.{IsSimplification, set_of}
 use Rattle.lois_simplify.specs.declared.rounds.Opening.{Opening}
 use Rattle.lois_simplify.specs.declared.rounds.Opening.TheVariants.{Over, Open}

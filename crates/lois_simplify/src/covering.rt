@@ -7,12 +7,13 @@ ghost use Rattle.lois_base.specs.Fits.{ConstraintFits, CompFits, ItemsFit};
 ghost use Rattle.lois_base.specs.FormulaData.{FormulaFits};
 ghost use Rattle.lois_base.specs.FormulaView.{view};
 ghost use Rattle.lois_base.specs.Tree.{tree, comp_of};
-ghost use Rattle.lois_base.specs.Validity.{AdmitsTerm, AdmitsComp, AdmitsItems, AdmitsFormula};
+ghost use Rattle.lois_base.specs.Validity.{AdmitsTerm, AdmitsComp, AdmitsItems};
+ghost use Rattle.lois_base.specs.FormulaOperators.{AdmitsFormula};
 ghost use Rattle.lois_relate.specs.Relations.{HoldsWhereItemIn};
 ghost use Rattle.lois_terms.specs.Shapes.{item_shape};
 ghost use Rattle.lois_simplify.specs.Candidates.{AddsCandidates, behind};
 ghost use Rattle.lois_simplify.specs.Covered.{IsCovered};
-ghost use Rattle.lois_simplify.specs.Irredundant.{IsIrredundantComp, HasOwn, EachHasOwn};
+ghost use Rattle.lois_simplify.specs.Lean.{IsIrredundantComp, HasOwn, EachHasOwn};
 ghost use Rattle.lois_simplify.specs.Simplification.{IsSimplification, set_of};
 
 use crate::guards::inside;

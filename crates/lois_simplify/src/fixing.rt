@@ -6,7 +6,8 @@ ghost use Rattle.lois_base.specs.Fits.{ConstraintFits};
 ghost use Rattle.lois_base.specs.Normal.{Occurs};
 ghost use Rattle.lois_base.specs.Tree.{tree};
 ghost use Rattle.lois_base.specs.Truth.{holds};
-ghost use Rattle.lois_deciders.specs.Satisfaction.{IsConstraintSample, ConstraintIsSatisfiable};
+ghost use Rattle.lois_deciders.specs.Satisfaction.{IsConstraintSample};
+ghost use Rattle.lois_deciders.specs.Satisfiability.{ConstraintIsSatisfiable};
 ghost use Rattle.lois_simplify.specs.Fixed.{IsFixed, CanBeApart};
 
 use crate::oracle::Oracle;

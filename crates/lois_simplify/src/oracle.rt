@@ -3,7 +3,8 @@
 
 ghost use Rattle.std.specs.Prelude.{◌↔◌, IfOk, IfSome, IsNone};
 ghost use Rattle.lois_base.specs.Fits.{ConstraintFits};
-ghost use Rattle.lois_deciders.specs.Satisfaction.{IsConstraintSample, ConstraintIsSatisfiable, IsCounterexample, IsEntailed};
+ghost use Rattle.lois_deciders.specs.Satisfaction.{IsConstraintSample, IsEntailed};
+ghost use Rattle.lois_deciders.specs.Satisfiability.{ConstraintIsSatisfiable, IsCounterexample};
 ghost use Rattle.lois_deciders.specs.Conjunction.{IsSampledConjunction, AreInconsistent};
 
 use lois_base::{Constraint, NoMemory};
@@ -89,7 +90,8 @@ impl<
     C: Fn(&mut D, Global, &Constraint, &Constraint, usize) -> Result<Option<Vec<u64>>, NoMemory>,
 > Oracle for Queries<'a, D, S, B, C> {
     ghost use Rattle.std.specs.Prelude.{◌≡◌, ◌⊎◌};
-    ghost use Rattle.lois_deciders.specs.Satisfaction.{IsCounterexample, IsEntailed};
+    ghost use Rattle.lois_deciders.specs.Satisfaction.{IsEntailed};
+    ghost use Rattle.lois_deciders.specs.Satisfiability.{IsCounterexample};
     ghost use Rattle.lois_deciders.specs.Conjunction.{IsSampledConjunction, AreInconsistent};
     ghost use Rattle.lois_deciders.specs.Oracle.{FindsSamples, AnswersPairs, LeadsByOne, LeadsByTwo};
     ghost use Rattle.lois_deciders.specs.Reached.{IsInClosure, still_reached, reached_further};

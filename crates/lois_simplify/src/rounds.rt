@@ -4,7 +4,7 @@ ghost use Rattle.std.specs.Prelude.{◌≡◌, ◌+◌, ◌≤◌, [], ◌∷◌
 ghost use Rattle.lois_base.specs.Fits.{ConstraintFits, CompFits};
 ghost use Rattle.lois_base.specs.Tree.{comp_of};
 ghost use Rattle.lois_base.specs.Validity.{AdmitsComp};
-ghost use Rattle.lois_deciders.specs.Satisfaction.{ConstraintIsSatisfiable};
+ghost use Rattle.lois_deciders.specs.Satisfiability.{ConstraintIsSatisfiable};
 ghost use Rattle.lois_simplify.specs.Rounds.{IsOpeningOf, IsClosingOf, IsKeptEverywhere};
 
 use crate::fixing::{fixed_binder, unused_binder};

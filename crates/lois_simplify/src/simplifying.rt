@@ -7,12 +7,14 @@ ghost use Rattle.lois_base.specs.Fits.{ConstraintFits, Fits, PartsFit, CompFits,
 ghost use Rattle.lois_base.specs.Normal.{IsNormal, PartsAreNormal};
 ghost use Rattle.lois_base.specs.Tree.{tree, comp_of};
 ghost use Rattle.lois_base.specs.Validity.{AdmitsConstraint, AdmitsTerm, AdmitsParts, AdmitsComp, AdmitsItems, HasBoundedWidths};
-ghost use Rattle.lois_deciders.specs.Satisfaction.{IsConstraintSample, ConstraintIsSatisfiable, IsCounterexample, IsEntailed};
+ghost use Rattle.lois_deciders.specs.Satisfaction.{IsConstraintSample, IsEntailed};
+ghost use Rattle.lois_deciders.specs.Satisfiability.{ConstraintIsSatisfiable, IsCounterexample};
 ghost use Rattle.lois_deciders.specs.Conjunction.{IsSampledConjunction, AreInconsistent};
 ghost use Rattle.lois_deciders.specs.OnlyAsked.{HasOnlyAsked};
 ghost use Rattle.lois_simplify.specs.Simplification.{IsSimplification, IsSameWhere, set_of};
 ghost use Rattle.lois_simplify.specs.Irredundant.{HasNormalGuards, PartsHaveNormalGuards};
-ghost use Rattle.lois_simplify.specs.Plain.{HasPlainGuards, PartsHavePlainGuards, IsLeanComp};
+ghost use Rattle.lois_simplify.specs.Plain.{HasPlainGuards, PartsHavePlainGuards};
+ghost use Rattle.lois_simplify.specs.Lean.{IsLeanComp};
 ghost use Rattle.lois_simplify.specs.Rounds.{only, listed_comp, IsRoundOf};
 
 use crate::covering::uncovered;

@@ -4,7 +4,8 @@ ghost use Rattle.std.specs.Prelude.{◌≡◌, ℕ, Bool, List, not, ◌&&◌, �
 ghost use Rattle.lois_base.specs.Atom.{Atom};
 ghost use Rattle.lois_base.specs.Fits.{ConstraintFits};
 ghost use Rattle.lois_base.specs.Truth.{lit_holds, cube_holds, holds};
-ghost use Rattle.lois_base.specs.Validity.{is_strict, AdmitsConstraint, IsStrictConstraint, UsesOnly};
+ghost use Rattle.lois_base.specs.Validity.{is_strict, AdmitsConstraint, IsStrictConstraint};
+ghost use Rattle.lois_base.specs.UsedLevels.{UsesOnly};
 ghost use Rattle.lois_constraint.specs.Rules.{Rule, Obeys, CubeObeys, ConstraintObeys};
 ghost use Rattle.lois_strict.specs.Literals.{with_less, with_equal, a_part_holds};
 

@@ -1,7 +1,8 @@
 -- How deep terms and lists of comprehensions are written.
 use Rattle.std.proofs.Common.{◌≡◌, ℕ, ◌≤◌, max, List, [], ◌∷◌, ◌++◌, arith}
 use Rattle.lois_base.specs.Atom.{Atom}
-use Rattle.lois_base.specs.Data.{TermD, CompD, depth, depth_of_comps}
+use Rattle.lois_base.specs.Data.{TermD, CompD, depth}
+use Rattle.lois_base.specs.ListDepth.{depth_of_comps}
 use Rattle.lois_base.specs.Values.{point, IsDeeper}
 use Rattle.lois_base.proofs.Depths.{deeper_depth}
 

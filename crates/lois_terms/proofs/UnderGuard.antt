@@ -13,7 +13,8 @@ use Rattle.lois_base.proofs.Both.{all_both, holds_both}
 use Rattle.lois_base.proofs.Truths.{holds_longer}
 use Rattle.lois_base.proofs.Validity.{fits_longer}
 use Rattle.lois_base.proofs.Same.{same_at_refl, is_all_in, is_some_is}
-use Rattle.lois_terms.specs.Guarded.{IsColl, KeepsWhere, IsEmptyElsewhere, guarded_comp, guarded_items, guarded}
+use Rattle.lois_terms.specs.Guarded.{KeepsWhere, IsEmptyElsewhere, guarded_comp, guarded_items, guarded}
+use Rattle.lois_terms.specs.Collections.{IsColl}
 
 pub guarded_items_of : (c : List (List Lit)) (cs : List CompD) → comps_of (map (guarded_comp c) cs) ≡ guarded_items c (comps_of cs)
 guarded_items_of c [] = refl

@@ -1,5 +1,5 @@
 -- Sets under a further guard.
-use Rattle.std.specs.Prelude.{◌≡◌, List, length, IsTrue, IsFalse}
+use Rattle.std.specs.Prelude.{List, length, IsTrue, IsFalse}
 use Rattle.lois_base.specs.Atom.{Atom}
 use Rattle.lois_base.specs.Data.{TermD, coll, CompD, comp, CompsD, no_comps, more}
 use Rattle.lois_base.specs.Fits.{ConstraintFits}
@@ -7,9 +7,6 @@ use Rattle.lois_base.specs.Normal.{both}
 use Rattle.lois_base.specs.Truth.{holds}
 use Rattle.lois_base.specs.Values.{PointValue, point, IsMember, IsSame}
 use Rattle.lois_base.specs.declared.guards.Lit.{Lit}
-
-abbrev pub IsColl : TermD → Type 0
-IsColl t = (ks : CompsD) × (t ≡ coll ks)
 
 -- the same value at each choice at which the constraint holds
 abbrev pub KeepsWhere : List (List Lit) → TermD → TermD → Type 0

@@ -6,7 +6,8 @@ ghost use Rattle.lois_base.specs.Fits.{ConstraintFits, Fits};
 ghost use Rattle.lois_base.specs.Normal.{both};
 ghost use Rattle.lois_base.specs.Tree.{tree};
 ghost use Rattle.lois_base.specs.Validity.{AdmitsConstraint, AdmitsTerm, HasBoundedWidths};
-ghost use Rattle.lois_terms.specs.Guarded.{IsColl, KeepsWhere, IsEmptyElsewhere, guarded, guarded_comp};
+ghost use Rattle.lois_terms.specs.Guarded.{KeepsWhere, IsEmptyElsewhere, guarded, guarded_comp};
+ghost use Rattle.lois_terms.specs.Collections.{IsColl};
 
 use lois_base::{Comp, Comps, Constraint, Cube, NoMemory, Term};
 use std::alloc::Global;

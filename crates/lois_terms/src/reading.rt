@@ -2,7 +2,8 @@
 
 ghost use Rattle.std.specs.Prelude.{◌≡◌, ℕ, ◌<◌, ◌≤◌, ◌^◌, IsTrue, ◌↔◌, List};
 ghost use Rattle.lois_base.specs.Atom.{Atom};
-ghost use Rattle.lois_base.specs.Data.{depth, depth_of_terms, depth_of_comps, terms_of, comps_of};
+ghost use Rattle.lois_base.specs.Data.{depth, terms_of, comps_of};
+ghost use Rattle.lois_base.specs.ListDepth.{depth_of_terms, depth_of_comps};
 ghost use Rattle.lois_base.specs.Fits.{Fits};
 ghost use Rattle.lois_base.specs.Normal.{LitUses, GuardUses, Occurs, OccursInPart, OccursInComp, OccursInItem};
 ghost use Rattle.lois_base.specs.Shift.{shift};

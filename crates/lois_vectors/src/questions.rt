@@ -5,7 +5,7 @@ ghost use Rattle.lois_base.specs.FormulaData.{FormulaFits};
 ghost use Rattle.lois_base.specs.FormulaView.{view};
 ghost use Rattle.lois_base.specs.Fits.{ConstraintFits};
 ghost use Rattle.lois_base.specs.Tree.{tree};
-ghost use Rattle.lois_terms.specs.Guarded.{IsColl};
+ghost use Rattle.lois_terms.specs.Collections.{IsColl};
 
 use lois_base::{
     Comp, Comps, Constraint, Cube, Decider, Formula, Lit, Name, NoMemory, Op, Term, is_name,

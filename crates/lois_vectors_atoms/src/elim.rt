@@ -3,7 +3,7 @@
 ghost use Rattle.std.specs.Prelude.{IsTrue};
 ghost use Rattle.lois_base.specs.FormulaData.{FormulaFits, FormulasFit, formulas_of};
 ghost use Rattle.lois_base.specs.FormulaView.{view, views};
-ghost use Rattle.lois_base.specs.Validity.{AdmitsFormula, AdmitsFormulas};
+ghost use Rattle.lois_base.specs.FormulaOperators.{AdmitsFormula, AdmitsFormulas};
 
 use crate::making::{Comparison, Dice, constraint_of, lit};
 use lois_base::Op::{Eq, Lt, Ne};

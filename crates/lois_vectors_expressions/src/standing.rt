@@ -1,7 +1,8 @@
 //! Whether an expression may be evaluated where some names are in scope, by a walk over its tree.
 
 ghost use Rattle.std.specs.Prelude.{◌≡◌, [], ◌∷◌, ◌++◌, IfSome, IsNone};
-ghost use Rattle.lois_script.specs.View.{tree, cond_tree, exprs_of, exprs_list, bindings_of, bindings_list, conds_of, conds_list};
+ghost use Rattle.lois_script.specs.View.{tree, cond_tree, exprs_of, bindings_of, conds_of};
+ghost use Rattle.lois_script.specs.Lists.{exprs_list, bindings_list, conds_list};
 ghost use Rattle.lois_eval.specs.WellFormed.{IsNamed, IsUnnamed, IsWellFormed, AreWellFormed, BindersAreWellFormed, CondIsWellFormed, CondsAreWellFormed, names_behind_bindings, arity};
 
 use lois_base::{Name, Names};

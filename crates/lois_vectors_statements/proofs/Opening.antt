@@ -5,7 +5,8 @@ use Rattle.std.proofs.lemmas.List.Elements.{All-nil, All-cons}
 use Rattle.lois_base.specs.Data.{var}
 use Rattle.lois_base.specs.Fits.{Fits}
 use Rattle.lois_context.specs.Kept.{IsSlot, AreSlots}
-use Rattle.lois_context.specs.Slots.{SlotD, comps_in}
+use Rattle.lois_context.specs.Slots.{SlotD}
+use Rattle.lois_context.specs.ItemCounts.{comps_in}
 
 pub pair_is : {X : Type 0} (xs : List X) (a b : X) → length xs ≡ 2 → a ≡ get_or xs 0 a → b ≡ get_or xs 1 b → xs ≡ a ∷ b ∷ []
 pair_is [] a b l p q = absurd (omega (arith, l))

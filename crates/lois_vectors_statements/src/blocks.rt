@@ -3,10 +3,11 @@
 ghost use Rattle.std.specs.Prelude.{◌≡◌, ◌≤◌, true, List, [], ◌∷◌, ℕ, IfOk, IfSome};
 ghost use Rattle.lois_base.specs.Fits.{Fits};
 ghost use Rattle.lois_base.specs.Tree.{tree};
-ghost use Rattle.lois_context.specs.Slots.{comps_in};
+ghost use Rattle.lois_context.specs.ItemCounts.{comps_in};
 ghost use Rattle.lois_script.specs.Limits.{Spells};
 ghost use Rattle.lois_script.specs.Tree.{ExprD, CondD, StmtsD, «let», if};
-ghost use Rattle.lois_script.specs.View.{params_list, script_tree, stmt_tree, stmts_of, stmts_list};
+ghost use Rattle.lois_script.specs.View.{params_list, script_tree, stmts_of, stmts_list};
+ghost use Rattle.lois_script.specs.Lists.{stmt_tree};
 ghost use Rattle.lois_interp.specs.Opened.{IsOpening};
 
 use crate::making::{chosen, script_of};

@@ -1,5 +1,5 @@
 use Rattle.std.proofs.Common.{drop, map, ◌↔◌, ◌≤◌}
-use Rattle.lois_base.specs.Data.{depth_of_terms, depth_of_comps}
+use Rattle.lois_base.specs.ListDepth.{depth_of_terms, depth_of_comps}
 use Rattle.lois_base.specs.Tree.{tree, comp_of}
 use Rattle.lois_answers.proofs.sound.+brackets.Given as goal
 

@@ -1,4 +1,4 @@
-use Rattle.lois_deciders.specs.Satisfaction.{IsCounterexample}
+use Rattle.lois_deciders.specs.Satisfiability.{IsCounterexample}
 use Rattle.lois_deciders.proofs.Oracle.{some_is, none_is}
 use Rattle.lois_automata.proofs.Checked.{parted_breaks}
 use Rattle.lois_automata.proofs.checks.asked.Goals as goal

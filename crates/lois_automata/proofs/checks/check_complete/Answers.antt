@@ -3,7 +3,7 @@ use Rattle.std.specs.Bool.{IsTrue}
 use Rattle.lois_base.specs.Data.{comps_of}
 use Rattle.lois_base.specs.Tree.{tree}
 use Rattle.lois_base.specs.Truth.{holds}
-use Rattle.lois_automata.specs.Throughout.{IsVerdictOn}
+use Rattle.lois_automata.specs.Verdicts.{IsVerdictOn}
 use Rattle.lois_automata.proofs.Checked.{found_complete}
 use Rattle.lois_automata.proofs.checks.check_complete.Goals as goal
 

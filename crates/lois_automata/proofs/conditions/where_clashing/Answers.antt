@@ -14,7 +14,7 @@ use Rattle.lois_relate.proofs.Parts.{is_comp_of}
 use Rattle.lois_relate.proofs.Places.{places_are}
 use Rattle.lois_automata.specs.KeyShapes.{comp_key_shape}
 use Rattle.lois_automata.specs.Projections.{AllAgree}
-use Rattle.lois_automata.specs.Throughout.{HoldsUnless}
+use Rattle.lois_automata.specs.Verdicts.{HoldsUnless}
 use Rattle.lois_automata.proofs.KeyShapes.{agree_all}
 use Rattle.lois_automata.proofs.Tests.{clash_begin, clash_more, clash_end, unless_as}
 use Rattle.lois_automata.proofs.conditions.where_clashing.Goals as goal

@@ -2,7 +2,7 @@ use Rattle.std.proofs.Common.{subst}
 use Rattle.std.proofs.lemmas.Result.{IfOk-weaker}
 use Rattle.lois_base.specs.Data.{coll, comps_of}
 use Rattle.lois_base.specs.Values.{point, IsIncluded}
-use Rattle.lois_automata.specs.Throughout.{HoldsWhere}
+use Rattle.lois_automata.specs.Verdicts.{HoldsWhere}
 use Rattle.lois_automata.proofs.conditions.where_inside.Goals as goal
 
 pub returns-clause-truth : goal.returns-clause-truth

@@ -4,7 +4,7 @@ use Rattle.lois_base.specs.Data.{coll, comps_of}
 use Rattle.lois_base.specs.Tree.{tree}
 use Rattle.lois_base.specs.Values.{point, IsIncluded}
 use Rattle.lois_automata.specs.Projections.{ArePartsIn}
-use Rattle.lois_automata.specs.Throughout.{HoldsWhere}
+use Rattle.lois_automata.specs.Verdicts.{HoldsWhere}
 use Rattle.lois_automata.proofs.Checked.{parts_in}
 use Rattle.lois_automata.proofs.Tests.{where_as}
 use Rattle.lois_automata.proofs.conditions.where_parts_in.Goals as goal

@@ -5,7 +5,7 @@ use Rattle.lois_base.specs.Tree.{tree}
 use Rattle.lois_base.specs.Values.{point}
 use Rattle.lois_automata.specs.Built.{ArePairs}
 use Rattle.lois_automata.specs.Projections.{IsFunction, HasOneAtMost}
-use Rattle.lois_automata.specs.Throughout.{HoldsWhere}
+use Rattle.lois_automata.specs.Verdicts.{HoldsWhere}
 use Rattle.lois_automata.proofs.Checked.{one_at_most}
 use Rattle.lois_automata.proofs.Tests.{where_as}
 use Rattle.lois_automata.proofs.conditions.where_single.Goals as goal

@@ -5,7 +5,7 @@ use Rattle.lois_base.specs.Tree.{tree}
 use Rattle.lois_base.specs.Values.{point}
 use Rattle.lois_automata.specs.Projections.{AreProjected, IsFunction, HasUniqueTargets}
 use Rattle.lois_automata.specs.declared.projections.Projection.TheVariants.{Keyed}
-use Rattle.lois_automata.specs.Throughout.{HoldsWhere}
+use Rattle.lois_automata.specs.Verdicts.{HoldsWhere}
 use Rattle.lois_automata.proofs.Checked.{led_once}
 use Rattle.lois_automata.proofs.Tests.{where_as}
 use Rattle.lois_automata.proofs.conditions.where_targets_unique.Goals as goal

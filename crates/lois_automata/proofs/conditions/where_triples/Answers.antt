@@ -4,7 +4,7 @@ use Rattle.lois_base.specs.Data.{coll, no_comps, comps_of}
 use Rattle.lois_base.specs.Tree.{tree}
 use Rattle.lois_base.specs.Values.{point, IsIncluded}
 use Rattle.lois_automata.specs.Projections.{AreTriples}
-use Rattle.lois_automata.specs.Throughout.{HoldsWhere}
+use Rattle.lois_automata.specs.Verdicts.{HoldsWhere}
 use Rattle.lois_automata.proofs.Checked.{all_triples}
 use Rattle.lois_automata.proofs.Tests.{where_as}
 use Rattle.lois_automata.proofs.conditions.where_triples.Goals as goal

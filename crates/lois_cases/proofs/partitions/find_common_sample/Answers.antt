@@ -2,7 +2,8 @@ use Rattle.std.specs.Prelude.{IfSome, IsNone}
 use Rattle.std.proofs.lemmas.Option.{IfSome_then}
 use Rattle.std.proofs.lemmas.Result.{IfOk-weaker}
 use Rattle.lois_deciders.specs.Conjunction.{IsSampledConjunction}
-use Rattle.lois_deciders.specs.Satisfaction.{IsConstraintSample, ConstraintIsSatisfiable}
+use Rattle.lois_deciders.specs.Satisfaction.{IsConstraintSample}
+use Rattle.lois_deciders.specs.Satisfiability.{ConstraintIsSatisfiable}
 use Rattle.lois_deciders.proofs.Oracle.{some_is}
 use Rattle.lois_cases.specs.Partitions.{IsCommonSample}
 use Rattle.lois_cases.proofs.Excluded.{common_of, none_common}

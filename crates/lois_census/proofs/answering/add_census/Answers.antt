@@ -2,7 +2,8 @@ use Rattle.std.proofs.Common.{◌≡◌, ◌++◌, ◌∷◌, [], true, refl, sy
 use Rattle.lois_answers.specs.CaseView.{case_of}
 use Rattle.lois_deciders.proofs.Oracle.{on_ok}
 use Rattle.lois_census.specs.CensusData.{CensusD}
-use Rattle.lois_census.specs.Censuses.{NumberedD, is_met, AreCensusesOf, IsCensusAdded}
+use Rattle.lois_census.specs.Censuses.{NumberedD, is_met, AreCensusesOf}
+use Rattle.lois_census.specs.CensusSteps.{IsCensusAdded}
 use Rattle.lois_census.proofs.Numbering.{census_put}
 use Rattle.lois_census.proofs.answering.add_census.Goals as goal
 

@@ -4,7 +4,8 @@ use Rattle.std.proofs.lemmas.List.Sorted.{All-permutation, list_any-IsPermutatio
 use Rattle.lois_base.specs.Atom.{Atom}
 use Rattle.lois_base.specs.Fits.{ConstraintFits}
 use Rattle.lois_base.specs.Truth.{cube_holds, holds}
-use Rattle.lois_base.specs.Validity.{AdmitsConstraint, IsStrictConstraint, UsesOnly}
+use Rattle.lois_base.specs.Validity.{AdmitsConstraint, IsStrictConstraint}
+use Rattle.lois_base.specs.UsedLevels.{UsesOnly}
 use Rattle.lois_base.specs.declared.guards.Lit.{Lit}
 use Rattle.lois_constraint.specs.Entailment.{IsPruned}
 use Rattle.lois_constraint.specs.Normalised.{IsNormalCube, IsNormalised}

@@ -4,7 +4,8 @@ use Rattle.lois_base.proofs.Both.{holds_both, all_both, both_step}
 use Rattle.lois_base.specs.Fits.{LitFits, ConstraintFits}
 use Rattle.lois_base.specs.Normal.{both}
 use Rattle.lois_base.specs.Truth.{holds}
-use Rattle.lois_base.specs.Validity.{AdmitsLit, AdmitsConstraint, UsesOnly}
+use Rattle.lois_base.specs.Validity.{AdmitsLit, AdmitsConstraint}
+use Rattle.lois_base.specs.UsedLevels.{UsesOnly}
 use Rattle.lois_constraint.proofs.Both.{both_levels}
 use Rattle.lois_constraint.proofs.products.and.Goals as goal
 

@@ -1,6 +1,6 @@
 use Rattle.std.proofs.Common.{◌≡◌, ◌++◌, sym, subst, arith}
 use Rattle.std.proofs.lemmas.Grind.{common_steps}
-use Rattle.lois_base.specs.Validity.{UsesOnly}
+use Rattle.lois_base.specs.UsedLevels.{UsesOnly}
 use Rattle.lois_base.proofs.Validity.{uses_only-refl}
 use Rattle.lois_constraint.proofs.products.or.Goals as goal
 

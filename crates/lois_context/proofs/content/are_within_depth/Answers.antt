@@ -1,5 +1,5 @@
 use Rattle.std.proofs.Common.{[], ◌∷◌, ◌<◌, take, map, sym, subst, arith}
-use Rattle.lois_base.specs.Data.{depth_of_comps}
+use Rattle.lois_base.specs.ListDepth.{depth_of_comps}
 use Rattle.lois_base.specs.Tree.{comp_of}
 use Rattle.lois_base.proofs.Viewed.{one_more}
 use Rattle.lois_terms.proofs.Heights.{depth_append}

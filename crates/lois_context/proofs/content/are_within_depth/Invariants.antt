@@ -1,5 +1,5 @@
 use Rattle.std.proofs.Common.{◌<◌, take, map}
-use Rattle.lois_base.specs.Data.{depth_of_comps}
+use Rattle.lois_base.specs.ListDepth.{depth_of_comps}
 use Rattle.lois_base.specs.Tree.{comp_of}
 use Rattle.lois_context.proofs.content.are_within_depth.Given as goal
 

@@ -1,6 +1,6 @@
 use Rattle.std.proofs.Common.{ap, arith}
 use Rattle.lois_base.specs.Tree.{tree}
-use Rattle.lois_context.specs.Slots.{comps_in}
+use Rattle.lois_context.specs.ItemCounts.{comps_in}
 use Rattle.lois_context.proofs.Carried.{comps_shifted}
 use Rattle.lois_context.proofs.entering.carried_slot.Goals as goal
 

@@ -2,7 +2,7 @@ use Rattle.std.proofs.Common.{◌≡◌, ◌≤◌, length, refl, sym, subst, ar
 use Rattle.lois_base.specs.Fits.{Fits}
 use Rattle.lois_base.specs.Tree.{tree}
 use Rattle.lois_context.specs.Joined.{IsJoinedTerm, added_to}
-use Rattle.lois_context.specs.Slots.{comps_in}
+use Rattle.lois_context.specs.ItemCounts.{comps_in}
 use Rattle.lois_context.specs.SlotView.{slot_of}
 use Rattle.lois_context.proofs.Joined.{nothing_added, term_grown}
 use Rattle.lois_context.proofs.joining.joined_slot.Goals as goal

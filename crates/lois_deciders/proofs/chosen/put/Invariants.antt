@@ -1,7 +1,7 @@
 use Rattle.std.proofs.Common.{◌≡◌, ℕ, ◌<◌, List, get_or}
 use Rattle.lois_base.specs.Theory.{IsSatisfiable}
 use Rattle.lois_base.specs.declared.guards.Lit.{Lit}
-use Rattle.lois_deciders.specs.Satisfaction.{IsNoLower}
+use Rattle.lois_deciders.specs.QuestionCounts.{IsNoLower}
 use Rattle.lois_deciders.proofs.Oracle.{HasAsked}
 use Rattle.lois_deciders.proofs.chosen.put.Given as goal
 

@@ -6,7 +6,8 @@ use Rattle.lois_base.specs.Fits.{LitFits, CubeFits, ConstraintFits}
 use Rattle.lois_base.specs.FormulaData.{FormulaD, FormulaFits, all, any, neg, exists, forall, no_formulas, formulas_of}
 use Rattle.lois_base.specs.FormulaView.{view, views}
 use Rattle.lois_base.specs.Truth.{holds}
-use Rattle.lois_base.specs.Validity.{AdmitsCube, AdmitsConstraint, AdmitsFormula, AdmitsFormulas}
+use Rattle.lois_base.specs.Validity.{AdmitsCube, AdmitsConstraint}
+use Rattle.lois_base.specs.FormulaOperators.{AdmitsFormula, AdmitsFormulas}
 use Rattle.lois_base.specs.declared.guards.Lit.{Lit}
 use Rattle.lois_base.proofs.FormulaViews.{formula_within, view_Not}
 use Rattle.lois_elim.specs.Bound.{HoldsForSome, HoldsForEach}

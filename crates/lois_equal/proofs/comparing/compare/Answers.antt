@@ -1,7 +1,8 @@
 use Rattle.std.proofs.Common.{length, subst}
 use Rattle.std.specs.Prelude.{IfOk}
 use Rattle.std.proofs.lemmas.Result.{IfOk-weaker}
-use Rattle.lois_equal.specs.Comparing.{IsFirstDifference, IsComparison}
+use Rattle.lois_equal.specs.Comparing.{IsComparison}
+use Rattle.lois_equal.specs.ComparedCases.{IsFirstDifference}
 use Rattle.lois_equal.proofs.CaseLines.{comparison_of, refused_at, all_fit, sound_cases}
 use Rattle.lois_equal.proofs.comparing.compare.Goals as goal
 

@@ -4,8 +4,9 @@ use Rattle.lois_answers.specs.CaseView.{case_of}
 use Rattle.lois_answers.specs.Sound.{IsSoundCase}
 use Rattle.lois_deciders.proofs.OnlyAsked.{only_asked_then}
 use Rattle.lois_printer.proofs.Fitting.{holds_of_each}
-use Rattle.lois_equal.specs.Comparing.{AreComparable, LinesHaveSameLanguage, LinesDiffer, IsFirstDifference, IfDiffer, side_name}
-use Rattle.lois_equal.specs.Differing.{AreBounded}
+use Rattle.lois_equal.specs.Comparing.{AreComparable, LinesHaveSameLanguage, LinesDiffer, side_name}
+use Rattle.lois_equal.specs.ComparedCases.{IsFirstDifference, IfDiffer}
+use Rattle.lois_equal.specs.Differences.{AreBounded}
 use Rattle.lois_equal.specs.declared.comparing.Comparison.TheVariants.{Differ}
 use Rattle.lois_equal.proofs.CaseLines.{holds_so_far, holds_of_all, first_here, alike_at, apart_at, usual_at}
 use Rattle.lois_equal.proofs.comparing.first_difference.Goals as goal

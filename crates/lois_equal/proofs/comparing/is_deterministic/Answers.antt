@@ -1,9 +1,10 @@
 use Rattle.std.proofs.Common.{sym, subst}
 use Rattle.std.specs.Prelude.{IfOk}
 use Rattle.lois_base.specs.Tree.{tree}
-use Rattle.lois_automata.specs.Machines.{IsAutomatonAt, IsDeterministicAt}
-use Rattle.lois_automata.specs.Throughout.{IsVerdictOn}
-use Rattle.lois_equal.specs.Comparing.{DecidesDeterminism}
+use Rattle.lois_automata.specs.Machines.{IsAutomatonAt}
+use Rattle.lois_automata.specs.Deterministic.{IsDeterministicAt}
+use Rattle.lois_automata.specs.Verdicts.{IsVerdictOn}
+use Rattle.lois_equal.specs.ComparedCases.{DecidesDeterminism}
 use Rattle.lois_equal.proofs.CaseLines.{unfit_automaton, unfit_deterministic}
 use Rattle.lois_equal.proofs.comparing.is_deterministic.Goals as goal
 use Rattle.lois_equal.proofs.comparing.is_deterministic.Goals.{in-Fails-2, in-Holds-2}

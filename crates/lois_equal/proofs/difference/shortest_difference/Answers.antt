@@ -3,7 +3,7 @@ use Rattle.std.specs.Prelude.{Bool, IfSome, IsNone}
 use Rattle.std.proofs.lemmas.Result.{IfOk-weaker}
 use Rattle.lois_base.specs.Tree.{tree}
 use Rattle.lois_base.specs.Validity.{AdmitsTerm, HasBoundedWidths, IsStrictTerm}
-use Rattle.lois_equal.specs.Differing.{IsShortestDifference}
+use Rattle.lois_equal.specs.Differences.{IsShortestDifference}
 use Rattle.lois_equal.specs.SplitWords.{IsSplitOrNone}
 use Rattle.lois_equal.proofs.SplitLetters.{may_split, split_none, split_some, split_strict, split_difference}
 use Rattle.lois_equal.proofs.difference.shortest_difference.Goals as goal

@@ -17,7 +17,8 @@ use Rattle.lois_context.specs.Entered.{AreEntered}
 use Rattle.lois_context.specs.Sides.{IsSide}
 use Rattle.lois_base.proofs.Viewed.{one_more}
 use Rattle.lois_script.specs.Tree.{each, part, pos, truth, falsity, same, differ, below, member, included, empty, not}
-use Rattle.lois_script.specs.View.{tree, cond_tree, binding_tree, exprs_of, exprs_list, bindings_of, bindings_list, conds_of, conds_list}
+use Rattle.lois_script.specs.View.{tree, cond_tree, binding_tree, exprs_of, bindings_of, conds_of}
+use Rattle.lois_script.specs.Lists.{exprs_list, bindings_list, conds_list}
 use Rattle.lois_script.specs.declared.syntax.Cond.{Cond}
 use Rattle.lois_script.specs.declared.syntax.Expr.{Expr}
 use Rattle.lois_script.proofs.Views.{tree_Part, tree_Each, cond_Not, cond_True, cond_False, cond_Same, cond_Differ, cond_Below, cond_Member, cond_Included, cond_Empty}

@@ -1,7 +1,8 @@
 use Rattle.std.proofs.Common.{◌+◌, ◌*◌, take, map}
 use Rattle.lois_base.specs.Data.{comps_of}
 use Rattle.lois_meaning.specs.Expressions.{Makes, HasTruth}
-use Rattle.lois_script.specs.View.{tree, cond_tree, binding_tree, exprs_of, exprs_list, conds_of, conds_list}
+use Rattle.lois_script.specs.View.{tree, cond_tree, binding_tree, exprs_of, conds_of}
+use Rattle.lois_script.specs.Lists.{exprs_list, conds_list}
 use Rattle.lois_eval.specs.Evaluated.{AreTermsOf, IsConstraintOf}
 use Rattle.lois_eval.specs.Folded.{IsGatheredInside, IsFoundInside}
 use Rattle.lois_eval.specs.Forms.{each_from, joint}

@@ -6,7 +6,8 @@ use Rattle.lois_base.specs.Tree.{tree as term_tree}
 use Rattle.lois_base.specs.Validity.{AdmitsTerm, AdmitsParts, HasBoundedWidths, PartsHaveBoundedWidths}
 use Rattle.lois_meaning.specs.Faults.{Breaks}
 use Rattle.lois_script.specs.Tree.{tuple, listed, apply}
-use Rattle.lois_script.specs.View.{tree, exprs_of, exprs_list}
+use Rattle.lois_script.specs.View.{tree, exprs_of}
+use Rattle.lois_script.specs.Lists.{exprs_list}
 use Rattle.lois_script.proofs.Views.{tree_Tuple, tree_Listed, tree_Apply}
 use Rattle.lois_context.specs.Choices.{AdmitsContext}
 use Rattle.lois_eval.specs.Evaluated.{AreTermsOf}

@@ -1,7 +1,7 @@
 use Rattle.std.proofs.lemmas.Result.{IfErr-weaker}
 use Rattle.lois_base.specs.Tree.{tree}
 use Rattle.lois_automata.specs.Machines.{IsAutomatonAt}
-use Rattle.lois_automata.specs.Throughout.{IsVerdictOn}
+use Rattle.lois_automata.specs.Verdicts.{IsVerdictOn}
 use Rattle.lois_answers.specs.declared.faults.FaultKind.TheVariants.{NotAutomaton}
 use Rattle.lois_meaning.specs.Faults.{IsNoAutomaton}
 use Rattle.lois_eval.specs.Automata.{IsFailureOfVerdict, IsValueFault}

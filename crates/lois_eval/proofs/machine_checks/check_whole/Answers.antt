@@ -2,8 +2,10 @@ use Rattle.std.proofs.Common.{inl, subst}
 use Rattle.std.proofs.lemmas.Result.{IfErr-weaker}
 use Rattle.lois_base.specs.Tree.{tree}
 use Rattle.lois_deciders.proofs.Oracle.{on_ok}
-use Rattle.lois_automata.specs.Machines.{IsDeterministicAt, IsCompleteAt, IsCompleteDeterministicAt}
-use Rattle.lois_automata.specs.Throughout.{HoldsThroughout, IsVerdictOn}
+use Rattle.lois_automata.specs.Machines.{IsCompleteAt, IsCompleteDeterministicAt}
+use Rattle.lois_automata.specs.Deterministic.{IsDeterministicAt}
+use Rattle.lois_automata.specs.Throughout.{HoldsThroughout}
+use Rattle.lois_automata.specs.Verdicts.{IsVerdictOn}
 use Rattle.lois_answers.specs.declared.faults.FaultKind.TheVariants.{NotDeterministic, NotComplete}
 use Rattle.lois_meaning.specs.Faults.{IsNoAutomaton, IsInvalidOperand}
 use Rattle.lois_script.specs.declared.syntax.Operation.TheVariants.{Minimise}

@@ -6,7 +6,8 @@ use Rattle.lois_base.specs.Tree.{tree as term_tree}
 use Rattle.lois_base.specs.Validity.{AdmitsParts}
 use Rattle.lois_meaning.specs.Faults.{IsInvalidOperand}
 use Rattle.lois_meaning.specs.declared.faults.Fault.{Fault}
-use Rattle.lois_script.specs.View.{tree, exprs_of, exprs_list}
+use Rattle.lois_script.specs.View.{tree, exprs_of}
+use Rattle.lois_script.specs.Lists.{exprs_list}
 use Rattle.lois_script.specs.declared.syntax.Operation.TheVariants.{Product}
 use Rattle.lois_eval.specs.Automata.{IsOperationResult, IsValueFault}
 use Rattle.lois_eval.specs.Operands.{IsUnfitFault}

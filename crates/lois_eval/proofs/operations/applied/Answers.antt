@@ -5,7 +5,8 @@ use Rattle.lois_base.specs.Fits.{PartsFit}
 use Rattle.lois_base.specs.Tree.{tree as term_tree}
 use Rattle.lois_base.specs.Validity.{AdmitsTerm, AdmitsParts, HasBoundedWidths, PartsHaveBoundedWidths}
 use Rattle.lois_meaning.specs.declared.faults.Fault.{Fault}
-use Rattle.lois_script.specs.View.{tree, exprs_of, exprs_list}
+use Rattle.lois_script.specs.View.{tree, exprs_of}
+use Rattle.lois_script.specs.Lists.{exprs_list}
 use Rattle.lois_script.specs.declared.syntax.Operation.TheVariants.{Flatten}
 use Rattle.lois_eval.specs.Automata.{IsOperationResult}
 use Rattle.lois_eval.specs.Checks.{IsSetFault}

@@ -3,7 +3,7 @@ use Rattle.std.proofs.lemmas.Result.{IfOk-weaker}
 use Rattle.lois_base.specs.Fits.{Fits}
 use Rattle.lois_base.specs.Tree.{tree}
 use Rattle.lois_algebra.specs.Sets.{IsUnion, IsIntersection, IsDifference}
-use Rattle.lois_terms.specs.Guarded.{IsColl}
+use Rattle.lois_terms.specs.Collections.{IsColl}
 use Rattle.lois_eval.specs.Operands.{IsAppliedThroughout}
 use Rattle.lois_eval.proofs.Applied.{union_applied, inter_applied, minus_applied}
 use Rattle.lois_eval.proofs.LoopExit.{both_ok}

@@ -3,7 +3,8 @@ use Rattle.lois_base.specs.Data.{terms_of}
 use Rattle.lois_base.specs.Fits.{PartsFit}
 use Rattle.lois_base.specs.Tree.{tree as term_tree}
 use Rattle.lois_base.specs.Validity.{AdmitsParts, PartsHaveBoundedWidths}
-use Rattle.lois_script.specs.View.{tree, exprs_of, exprs_list}
+use Rattle.lois_script.specs.View.{tree, exprs_of}
+use Rattle.lois_script.specs.Lists.{exprs_list}
 use Rattle.lois_eval.specs.Checks.{IsSetFault}
 use Rattle.lois_eval.specs.Operands.{IsAppliedThroughout, IsUnfitFault}
 use Rattle.lois_eval.proofs.LoopExit.{passed_on}

@@ -6,7 +6,8 @@ use Rattle.lois_script.specs.View.{script_tree, stmts_list}
 use Rattle.lois_eval.specs.WellFormed.{IsWellFormedIn}
 use Rattle.lois_eval.specs.Throughout.{IfFault}
 use Rattle.lois_interp.specs.Failed.{FailsBehind}
-use Rattle.lois_interp.specs.Interpreted.{AreResultsOf, IsFailureOf}
+use Rattle.lois_interp.specs.Interpreted.{AreResultsOf}
+use Rattle.lois_interp.specs.Failures.{IsFailureOf}
 use Rattle.lois_interp.specs.Split.{IsSplitFrom}
 use Rattle.lois_interp.specs.WellScoped.{BlockIsWellScoped}
 use Rattle.lois_interp.proofs.Opened.{parameters_distinct, body_placed}

@@ -1,7 +1,7 @@
 use Rattle.std.proofs.Common.{map}
 use Rattle.lois_base.specs.Tree.{tree, comp_of}
 use Rattle.lois_context.specs.Entered.{comps_listed}
-use Rattle.lois_terms.specs.Guarded.{IsColl}
+use Rattle.lois_terms.specs.Collections.{IsColl}
 use Rattle.lois_interp.specs.Members.{AreBehind}
 use Rattle.lois_interp.proofs.joining.with_items.Given as goal
 

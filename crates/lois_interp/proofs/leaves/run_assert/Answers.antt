@@ -1,6 +1,6 @@
 use Rattle.std.proofs.Common.{sym, subst}
 use Rattle.lois_answers.specs.declared.faults.FaultKind.TheVariants.{Assertion}
-use Rattle.lois_deciders.specs.Satisfaction.{IsCounterexample}
+use Rattle.lois_deciders.specs.Satisfiability.{IsCounterexample}
 use Rattle.lois_deciders.proofs.Oracle.{some_is, none_is}
 use Rattle.lois_script.specs.Tree.{assert}
 use Rattle.lois_script.specs.View.{cond_tree}

@@ -5,7 +5,8 @@ use Rattle.lois_deciders.proofs.Oracle.{none_is}
 use Rattle.lois_script.specs.Tree.{assign}
 use Rattle.lois_script.specs.View.{tree}
 use Rattle.lois_meaning.specs.Faults.{Fails}
-use Rattle.lois_context.specs.Slots.{SlotD, comps_in}
+use Rattle.lois_context.specs.Slots.{SlotD}
+use Rattle.lois_context.specs.ItemCounts.{comps_in}
 use Rattle.lois_eval.specs.Throughout.{IsFaultOf}
 use Rattle.lois_eval.proofs.LoopExit.{passed_on}
 use Rattle.lois_eval.proofs.Names.{not_new}

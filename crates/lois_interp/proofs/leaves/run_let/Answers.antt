@@ -4,7 +4,8 @@ use Rattle.lois_base.specs.Tree.{tree as term_tree}
 use Rattle.lois_script.specs.Tree.{«let»}
 use Rattle.lois_script.specs.View.{tree}
 use Rattle.lois_meaning.specs.Faults.{Fails}
-use Rattle.lois_context.specs.Slots.{SlotD, IsNew, comps_in}
+use Rattle.lois_context.specs.Slots.{SlotD, IsNew}
+use Rattle.lois_context.specs.ItemCounts.{comps_in}
 use Rattle.lois_eval.specs.Throughout.{IsFaultOf}
 use Rattle.lois_eval.proofs.LoopExit.{passed_on}
 use Rattle.lois_interp.specs.Failed.{FailsWithin}

@@ -1,6 +1,7 @@
 use Rattle.std.proofs.Common.{◌≡◌, IfOk, IfErr, sym, ap, subst, ◌∙◌}
 use Rattle.lois_script.specs.Tree.{«let», assign, add, assert, print}
-use Rattle.lois_script.specs.View.{stmt_tree, tree, cond_tree}
+use Rattle.lois_script.specs.View.{tree, cond_tree}
+use Rattle.lois_script.specs.Lists.{stmt_tree}
 use Rattle.lois_script.proofs.Views.{stmt_Let, stmt_Assign, stmt_Add, stmt_Assert, stmt_Print}
 use Rattle.lois_eval.specs.WellFormed.{IsWellFormedIn}
 use Rattle.lois_eval.specs.Throughout.{IfFault}

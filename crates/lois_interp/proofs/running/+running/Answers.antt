@@ -9,7 +9,8 @@ use Rattle.std.proofs.lemmas.List.{map-id, nil_from_length}
 use Rattle.lois_base.specs.Tree.{tree as term_tree}
 use Rattle.lois_base.proofs.Viewed.{one_more, all_taken}
 use Rattle.lois_script.specs.Tree.{binding, for, if, while}
-use Rattle.lois_script.specs.View.{binding_tree, cond_tree, stmt_tree, stmts_of, stmts_list, tree}
+use Rattle.lois_script.specs.View.{binding_tree, cond_tree, stmts_of, stmts_list, tree}
+use Rattle.lois_script.specs.Lists.{stmt_tree}
 use Rattle.lois_script.proofs.Views.{binding_is, stmt_For, stmt_If, stmt_While}
 use Rattle.lois_meaning.specs.Faults.{CondFails}
 use Rattle.lois_context.specs.declared.contexts.Context.{Context}

@@ -1,5 +1,6 @@
 use Rattle.std.proofs.Common.{◌+◌, ◌*◌, map, take}
-use Rattle.lois_script.specs.View.{cond_tree, stmt_tree, stmts_of, stmts_list}
+use Rattle.lois_script.specs.View.{cond_tree, stmts_of, stmts_list}
+use Rattle.lois_script.specs.Lists.{stmt_tree}
 use Rattle.lois_interp.specs.Looped.{LoopRuns}
 use Rattle.lois_interp.specs.Reached.{RunsFrom, RunsAs}
 use Rattle.lois_interp.specs.Run.{stmt_run, list_run, turn_run, leave_run}

@@ -2,7 +2,7 @@ use Rattle.std.proofs.Common.{sym, subst}
 use Rattle.std.specs.Prelude.{IfOk}
 use Rattle.lois_base.specs.Tree.{tree}
 use Rattle.lois_automata.specs.Machines.{IsAutomatonAt}
-use Rattle.lois_automata.specs.Throughout.{IsVerdictOn}
+use Rattle.lois_automata.specs.Verdicts.{IsVerdictOn}
 use Rattle.lois_languages.specs.Faults.{DecidesAutomaton}
 use Rattle.lois_languages.proofs.LineFaults.{broken_automaton}
 use Rattle.lois_languages.proofs.faults.is_automaton.Goals as goal

@@ -4,7 +4,7 @@ use Rattle.std.proofs.lemmas.Result.{IfOk-weaker}
 use Rattle.lois_base.specs.Tree.{tree}
 use Rattle.lois_answers.specs.CaseView.{case_of}
 use Rattle.lois_answers.specs.LineView.{line_of}
-use Rattle.lois_equal.specs.Differing.{IsLanguageIncluded, IsShortestDifference}
+use Rattle.lois_equal.specs.Differences.{IsLanguageIncluded, IsShortestDifference}
 use Rattle.lois_equal.proofs.CaseLines.{found_term, found_sound, fit_term}
 use Rattle.lois_languages.specs.Inclusions.{IsExcessWord}
 use Rattle.lois_languages.proofs.LineFaults.{automaton_term}

@@ -2,7 +2,7 @@ use Rattle.std.proofs.Common.{inr, sym, subst}
 use Rattle.lois_base.specs.Tree.{tree}
 use Rattle.lois_answers.specs.CaseView.{case_of}
 use Rattle.lois_answers.specs.LineView.{line_of}
-use Rattle.lois_equal.specs.Comparing.{DecidesDeterminism}
+use Rattle.lois_equal.specs.ComparedCases.{DecidesDeterminism}
 use Rattle.lois_equal.proofs.CaseLines.{found_term, found_line, found_sound}
 use Rattle.lois_languages.specs.Faults.{DecidesAutomaton}
 use Rattle.lois_languages.proofs.inclusions.fault_in.Goals as goal

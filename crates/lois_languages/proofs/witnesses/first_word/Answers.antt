@@ -5,7 +5,7 @@ use Rattle.lois_answers.specs.Sound.{IsSoundCase}
 use Rattle.lois_deciders.proofs.OnlyAsked.{only_asked_then}
 use Rattle.lois_deciders.proofs.Oracle.{some_is}
 use Rattle.lois_printer.proofs.Fitting.{holds_of_each}
-use Rattle.lois_equal.specs.Differing.{AreBounded}
+use Rattle.lois_equal.specs.Differences.{AreBounded}
 use Rattle.lois_equal.proofs.CaseLines.{holds_so_far, holds_of_all, first_here}
 use Rattle.lois_languages.specs.Faults.{HasAutomaton}
 use Rattle.lois_languages.specs.Witnesses.{AcceptsNone, AcceptsShortest}

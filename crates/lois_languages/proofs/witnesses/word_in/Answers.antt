@@ -3,7 +3,7 @@ use Rattle.std.proofs.lemmas.Result.{IfOk-weaker}
 use Rattle.lois_base.specs.Tree.{tree}
 use Rattle.lois_answers.specs.CaseView.{case_of}
 use Rattle.lois_answers.specs.LineView.{line_of}
-use Rattle.lois_shortest_word.specs.Words.{IsShortestWord}
+use Rattle.lois_shortest_word.specs.Shortest.{IsShortestWord}
 use Rattle.lois_equal.specs.SplitWords.{IsSplitOrNone, MaySplit}
 use Rattle.lois_equal.proofs.CaseLines.{found_term, found_sound}
 use Rattle.lois_equal.proofs.SplitLetters.{split_none, split_some}

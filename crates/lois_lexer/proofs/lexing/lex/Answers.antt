@@ -3,8 +3,9 @@ use Rattle.std.specs.Prelude.{IfOk, IfErr, IsErrOf, All}
 use Rattle.lois_lexer.specs.declared.Token.{Token}
 use Rattle.lois_lexer.specs.declared.LexError.{LexError}
 use Rattle.lois_lexer.specs.declared.LexError.TheVariants.{BadByte, LongName, BadNumber, NoMemory}
-use Rattle.lois_lexer.specs.Tokens.{HasTokens, IsTokenOf, AreInOrder}
-use Rattle.lois_lexer.specs.Refusals.{IsLexicalRefusal, IsPlaceInText}
+use Rattle.lois_lexer.specs.Tokens.{HasTokens}
+use Rattle.lois_lexer.specs.InText.{IsTokenOf, AreInOrder, IsPlaceInText}
+use Rattle.lois_lexer.specs.Refusals.{IsLexicalRefusal}
 use Rattle.lois_lexer.proofs.OneReading.{one_list, one_refusal, never_both, tokens_of_cut, cut_in_order, refused_inside}
 use Rattle.lois_lexer.proofs.lexing.lex.Goals as goal
 

@@ -3,7 +3,7 @@ use Rattle.std.specs.List.{list_any}
 use Rattle.lois_base.specs.Atom.{Atom}
 use Rattle.lois_base.specs.Fits.{ConstraintFits}
 use Rattle.lois_base.specs.Truth.{holds, cube_holds}
-use Rattle.lois_base.specs.Validity.{IsOrderFree}
+use Rattle.lois_base.specs.OrderFree.{IsOrderFree}
 use Rattle.lois_base.specs.declared.guards.Lit.{Lit}
 use Rattle.lois_base.proofs.Viewed.{rest_at}
 use Rattle.lois_order.specs.Bounds.{is_met, is_weak_lower}

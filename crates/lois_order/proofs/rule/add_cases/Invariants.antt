@@ -3,7 +3,7 @@ use Rattle.std.specs.List.{list_any}
 use Rattle.lois_base.specs.Atom.{Atom}
 use Rattle.lois_base.specs.Fits.{ConstraintFits}
 use Rattle.lois_base.specs.Truth.{holds}
-use Rattle.lois_base.specs.Validity.{IsOrderFreeCube, IsOrderFree}
+use Rattle.lois_base.specs.OrderFree.{IsOrderFreeCube, IsOrderFree}
 use Rattle.lois_order.specs.Bounds.{is_met}
 use Rattle.lois_order.proofs.rule.add_cases.Given as goal
 

@@ -3,7 +3,7 @@ use Rattle.std.specs.List.{list_all}
 use Rattle.lois_base.specs.Atom.{Atom}
 use Rattle.lois_base.specs.Fits.{CubeFits}
 use Rattle.lois_base.specs.Truth.{cube_holds}
-use Rattle.lois_base.specs.Validity.{IsOrderFreeCube}
+use Rattle.lois_base.specs.OrderFree.{IsOrderFreeCube}
 use Rattle.lois_order.specs.Bounds.{remains}
 use Rattle.lois_order.proofs.rule.resolve_bounds.Given as goal
 

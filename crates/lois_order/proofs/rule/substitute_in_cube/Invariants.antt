@@ -2,7 +2,7 @@ use Rattle.std.proofs.Common.{◌≡◌, ◌&&◌, List, map, drop}
 use Rattle.lois_base.specs.Atom.{Atom}
 use Rattle.lois_base.specs.Fits.{CubeFits}
 use Rattle.lois_base.specs.Truth.{cube_holds}
-use Rattle.lois_base.specs.Validity.{IsOrderFreeCube}
+use Rattle.lois_base.specs.OrderFree.{IsOrderFreeCube}
 use Rattle.lois_order.specs.Equations.{renamed}
 use Rattle.lois_order.proofs.rule.substitute_in_cube.Given as goal
 

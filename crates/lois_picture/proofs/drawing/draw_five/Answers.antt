@@ -2,7 +2,7 @@ use Rattle.std.proofs.Common.{[], inl, subst}
 use Rattle.lois_base.specs.Data.{comps_of}
 use Rattle.lois_base.specs.Tree.{tree}
 use Rattle.lois_automata.specs.Machines.{IsAutomatonAt}
-use Rattle.lois_automata.specs.Throughout.{IsVerdictOn}
+use Rattle.lois_automata.specs.Verdicts.{IsVerdictOn}
 use Rattle.lois_picture.proofs.Drawn.{automaton_graph, moves_join, holds_here}
 use Rattle.lois_picture.proofs.drawing.draw_five.Goals as goal
 

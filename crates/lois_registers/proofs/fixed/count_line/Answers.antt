@@ -1,6 +1,6 @@
 use Rattle.std.proofs.Common.{◌≡◌, ◌++◌, ℕ, zero, suc, List, refl, arith}
 use Rattle.lois_registers.specs.Texts.{text_of_words, count_words}
-use Rattle.lois_registers.specs.Valid.{IsCount}
+use Rattle.lois_registers.specs.ReadParts.{IsCount}
 use Rattle.lois_registers.proofs.fixed.count_line.Goals as goal
 
 four : (text : List ℕ) →

@@ -1,5 +1,6 @@
 use Rattle.std.proofs.Common.{◌≡◌, drop}
-use Rattle.lois_registers.specs.Placed.{placed, joined_literals}
+use Rattle.lois_registers.specs.Placed.{placed}
+use Rattle.lois_registers.specs.MadeSteps.{joined_literals}
 use Rattle.lois_registers.proofs.placements.placed_cube.Given as goal
 
 abbrev pub invariant-loop-lit : goal.invariant-loop-lit

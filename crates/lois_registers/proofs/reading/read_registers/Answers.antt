@@ -1,5 +1,5 @@
 use Rattle.std.proofs.Common.{subst}
-use Rattle.lois_registers.specs.Places.{StopsIn}
+use Rattle.lois_registers.specs.Stops.{StopsIn}
 use Rattle.lois_registers.proofs.Alone.{one_automaton}
 use Rattle.lois_registers.proofs.Unique.{none_left, only_left}
 use Rattle.lois_registers.proofs.reading.read_registers.Goals as goal

@@ -1,7 +1,7 @@
 use Rattle.std.proofs.Common.{◌≡◌, ◌≤◌, [], ◌++◌, sym, ◌∙◌, arith, append-nil}
 use Rattle.std.proofs.lemmas.Grind.{common_steps}
 use Rattle.lois_answers.specs.TermText.{op_text}
-use Rattle.lois_registers.specs.Texts.{operand_text}
+use Rattle.lois_registers.specs.Reading.{operand_text}
 use Rattle.lois_registers.proofs.Literals.{operand_unique, op_unique, literal_is}
 use Rattle.lois_registers.proofs.steps.literal.Goals as goal
 

@@ -1,6 +1,7 @@
 use Rattle.std.proofs.Common.{take, map, [], ◌∷◌, sym, subst, arith}
 use Rattle.lois_base.proofs.Viewed.{one_more}
-use Rattle.lois_registers.specs.Placed.{AddsMade, step_comp}
+use Rattle.lois_registers.specs.Placed.{step_comp}
+use Rattle.lois_registers.specs.MadeSteps.{AddsMade}
 use Rattle.lois_registers.proofs.Made.{adds_more}
 use Rattle.lois_registers.proofs.translating.add_steps.Goals as goal
 

@@ -1,5 +1,6 @@
 use Rattle.std.proofs.Common.{take, map}
-use Rattle.lois_registers.specs.Placed.{AddsMade, step_comp}
+use Rattle.lois_registers.specs.Placed.{step_comp}
+use Rattle.lois_registers.specs.MadeSteps.{AddsMade}
 use Rattle.lois_registers.proofs.translating.add_steps.Given as goal
 
 abbrev pub invariant-loop-place : goal.invariant-loop-place

@@ -1,5 +1,6 @@
 use Rattle.std.proofs.Common.{◌+◌, ◌*◌}
-use Rattle.lois_base.specs.Data.{depth, depth_of_terms}
+use Rattle.lois_base.specs.Data.{depth}
+use Rattle.lois_base.specs.ListDepth.{depth_of_terms}
 use Rattle.lois_base.specs.Tree.{tree}
 use Rattle.lois_relate.proofs.clashes.+clashing.Given as goal
 

@@ -1,5 +1,6 @@
 use Rattle.std.proofs.Common.{◌+◌, ◌*◌, ◌↔◌}
-use Rattle.lois_base.specs.Data.{terms_of, comps_of, depth, depth_of_terms, depth_of_comps}
+use Rattle.lois_base.specs.Data.{terms_of, comps_of, depth}
+use Rattle.lois_base.specs.ListDepth.{depth_of_terms, depth_of_comps}
 use Rattle.lois_base.specs.Tree.{tree}
 use Rattle.lois_relate.specs.Alike.{PartsAlike, ItemsAlike}
 use Rattle.lois_relate.proofs.Parts.{terms_from, comps_from}

@@ -3,7 +3,8 @@ use Rattle.std.proofs.lemmas.List.Elements.{All-nil}
 use Rattle.std.proofs.lemmas.Option.{IfSome_then}
 use Rattle.std.proofs.lemmas.Result.{IfOk-weaker}
 use Rattle.std.specs.Prelude.{IfSome}
-use Rattle.lois_base.specs.Data.{comps_of, depth_of_comps, coll, more, no_comps}
+use Rattle.lois_base.specs.Data.{comps_of, coll, more, no_comps}
+use Rattle.lois_base.specs.ListDepth.{depth_of_comps}
 use Rattle.lois_base.specs.Fits.{Fits, ItemsFit}
 use Rattle.lois_base.specs.FormulaView.{view}
 use Rattle.lois_base.specs.Tree.{tree, comp_of}

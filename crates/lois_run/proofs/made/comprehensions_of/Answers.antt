@@ -5,7 +5,7 @@ use Rattle.lois_base.proofs.Viewed.{item_at}
 use Rattle.lois_answers.specs.CaseView.{case_of}
 use Rattle.lois_answers.specs.LineView.{line_of}
 use Rattle.lois_answers.specs.ResultsData.{CaseD, LineD}
-use Rattle.lois_context.specs.Slots.{comps_in}
+use Rattle.lois_context.specs.ItemCounts.{comps_in}
 use Rattle.lois_context.proofs.Carried.{count_of}
 use Rattle.lois_run.proofs.made.comprehensions_of.Goals as goal
 

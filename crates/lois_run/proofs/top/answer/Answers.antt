@@ -1,7 +1,7 @@
 use Rattle.std.proofs.Common.{true≢false, sym, ap, ◌∙◌}
 use Rattle.std.proofs.lemmas.Result.{IfOk-weaker}
 use Rattle.lois_deciders.proofs.Oracle.{none_is}
-use Rattle.lois_run.specs.Causes.{AnswersText}
+use Rattle.lois_run.specs.TextAnswers.{AnswersText}
 use Rattle.lois_run.specs.Words.{asks_decider}
 use Rattle.lois_run.proofs.top.answer.Goals as goal
 

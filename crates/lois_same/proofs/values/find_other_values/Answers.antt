@@ -1,7 +1,7 @@
 use Rattle.std.proofs.Common.{sym, subst}
 use Rattle.lois_base.specs.FormulaView.{view}
 use Rattle.lois_base.specs.Tree.{tree}
-use Rattle.lois_deciders.specs.Satisfaction.{IsCounterexample}
+use Rattle.lois_deciders.specs.Satisfiability.{IsCounterexample}
 use Rattle.lois_deciders.proofs.Oracle.{some_is}
 use Rattle.lois_same.specs.Members.{AreOtherUnder}
 use Rattle.lois_same.proofs.OtherValues.{other_values}

@@ -2,7 +2,8 @@ use Rattle.std.proofs.Common.{◌≡◌, false, sym, ap, ◌∙◌}
 use Rattle.lois_lexer.specs.declared.TokenKind.TheVariants.{Name, Word, Symbol}
 use Rattle.lois_script.specs.Tree.{not, exists, every, part, each}
 use Rattle.lois_script.specs.Grammar.{is_base}
-use Rattle.lois_script.specs.View.{tree, cond_tree, binding_tree, bindings_list, exprs_of, bindings_of, conds_of}
+use Rattle.lois_script.specs.View.{tree, cond_tree, binding_tree, exprs_of, bindings_of, conds_of}
+use Rattle.lois_script.specs.Lists.{bindings_list}
 use Rattle.lois_script.proofs.Views.{binding_is, tree_Tuple, tree_Listed, tree_Each, tree_Part, tree_Apply, cond_Same, cond_Differ, cond_Below, cond_Member, cond_Included, cond_Empty, cond_Not, cond_Exists, cond_Every}
 use Rattle.lois_script_printer.specs.Printed.{word, followed_by_blank, enclosed, is_truth, written_expr, written_exprs, written_binding, written_bindings, written_cond, written_units, written_conjunctions}
 use Rattle.lois_script_printer.proofs.Appending.{◌then◌, last, on_ok_as, appends_as, start, one_more_expr, one_more_binding, one_more_unit, one_more_conjunction, no_more_exprs, no_more_bindings, no_more_units, no_more_conjunctions, where_is}

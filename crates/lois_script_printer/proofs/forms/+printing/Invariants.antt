@@ -1,5 +1,6 @@
 use Rattle.std.proofs.Common.{map, drop}
-use Rattle.lois_script.specs.View.{tree, cond_tree, binding_tree, exprs_list, bindings_list, conds_list, exprs_of, bindings_of, conds_of}
+use Rattle.lois_script.specs.View.{tree, cond_tree, binding_tree, exprs_of, bindings_of, conds_of}
+use Rattle.lois_script.specs.Lists.{exprs_list, bindings_list, conds_list}
 use Rattle.lois_script_printer.specs.Printed.{written_exprs, written_bindings, written_units, written_conjunctions}
 use Rattle.lois_script_printer.proofs.Appending.{Leaves, exprs_left, bindings_left, units_left, conjunctions_left}
 use Rattle.lois_script_printer.proofs.forms.+printing.Given as goal

@@ -1,6 +1,7 @@
 use Rattle.std.proofs.Common.{◌<◌, length, sym, ap, ◌∙◌, arith}
 use Rattle.lois_lexer.specs.declared.TokenKind.TheVariants.{Name, Word, Symbol}
-use Rattle.lois_script.specs.View.{stmt_tree, stmts_list, stmts_of}
+use Rattle.lois_script.specs.View.{stmts_list, stmts_of}
+use Rattle.lois_script.specs.Lists.{stmt_tree}
 use Rattle.lois_script.proofs.Views.{stmt_Let, stmt_Assign, stmt_Add, stmt_For, stmt_If, stmt_While, stmt_Assert, stmt_Print}
 use Rattle.lois_script_printer.specs.Printed.{followed_by_blank, written_stmt, written_stmts}
 use Rattle.lois_script_printer.proofs.Appending.{◌then◌, last, on_ok_as, appends_as, start, one_more_stmt, no_more_stmts, else_is}

@@ -1,5 +1,6 @@
 use Rattle.std.proofs.Common.{map, drop}
-use Rattle.lois_script.specs.View.{stmt_tree, stmts_list, stmts_of}
+use Rattle.lois_script.specs.View.{stmts_list, stmts_of}
+use Rattle.lois_script.specs.Lists.{stmt_tree}
 use Rattle.lois_script_printer.specs.Printed.{written_stmts}
 use Rattle.lois_script_printer.proofs.Appending.{Leaves}
 use Rattle.lois_script_printer.proofs.statements.+printing_statements.Given as goal

@@ -6,7 +6,7 @@ use Rattle.lois_base.specs.Tree.{tree, comp_of}
 use Rattle.lois_terms.specs.Shapes.{item_shape}
 use Rattle.lois_simplify.specs.Candidates.{AddsCandidates}
 use Rattle.lois_simplify.specs.Covered.{IsCovered}
-use Rattle.lois_simplify.specs.Irredundant.{HasOwn}
+use Rattle.lois_simplify.specs.Lean.{HasOwn}
 use Rattle.lois_simplify.proofs.Candidates.{candidates_only, candidates_all, candidates_fit, candidates_admit, covered_by_all, own_beside_all}
 use Rattle.lois_simplify.proofs.covering.is_covered.Goals as goal
 

@@ -8,7 +8,7 @@ use Rattle.lois_base.specs.Tree.{tree}
 use Rattle.lois_base.specs.Truth.{sampled}
 use Rattle.lois_base.specs.Validity.{AdmitsItems}
 use Rattle.lois_base.proofs.Validity.{fits_longer}
-use Rattle.lois_deciders.specs.Satisfaction.{IsCounterexample}
+use Rattle.lois_deciders.specs.Satisfiability.{IsCounterexample}
 use Rattle.lois_relate.specs.Relations.{HoldsWhereItemIn}
 use Rattle.lois_simplify.proofs.Asked.{none_there, some_there}
 use Rattle.lois_simplify.proofs.Beside.{is_asked, asked_covered, asked_own, failing_own, alone_has_own}

@@ -9,7 +9,7 @@ use Rattle.lois_base.specs.Tree.{comp_of}
 use Rattle.lois_base.specs.Validity.{AdmitsItems}
 use Rattle.lois_terms.specs.Shapes.{item_shape}
 use Rattle.lois_simplify.specs.Covered.{IsCovered}
-use Rattle.lois_simplify.specs.Irredundant.{IsIrredundantComp, HasOwn}
+use Rattle.lois_simplify.specs.Lean.{IsIrredundantComp, HasOwn}
 use Rattle.lois_simplify.specs.Simplification.{IsSimplification, set_of}
 use Rattle.lois_simplify.proofs.Members.{items_fit_each, items_admit_each}
 use Rattle.lois_simplify.proofs.Pass.{UncoveredSoFar, uncovered_begin, next_moved, next_is_there, kept_fit, coming_fit, kept_admit, coming_admit, next_dropped, next_kept, next_shapes, to_the_end}

@@ -11,8 +11,7 @@ use Rattle.lois_base.specs.declared.values.Comp.{Comp}
 use Rattle.lois_deciders.proofs.Oracle.{some_is}
 use Rattle.lois_relate.proofs.Parts.{is_part_of}
 use Rattle.lois_simplify.specs.Simplification.{IsSimplification, set_of}
-use Rattle.lois_simplify.specs.Irredundant.{IsIrredundantComp}
-use Rattle.lois_simplify.specs.Plain.{IsLeanComp}
+use Rattle.lois_simplify.specs.Lean.{IsIrredundantComp, IsLeanComp}
 use Rattle.lois_simplify.specs.Rounds.{only, listed_comp, IsRoundOf, IsOpeningOf, IsClosingOf}
 use Rattle.lois_simplify.proofs.Asked.{ok_both}
 use Rattle.lois_simplify.proofs.Kept.{kept_refl, kept_trans}

@@ -4,7 +4,8 @@ use Rattle.lois_base.specs.Data.{depth}
 use Rattle.lois_base.specs.Fits.{Fits}
 use Rattle.lois_base.specs.Tree.{tree}
 use Rattle.lois_base.specs.Validity.{AdmitsTerm, HasBoundedWidths}
-use Rattle.lois_terms.specs.Guarded.{IsColl, KeepsWhere, IsEmptyElsewhere}
+use Rattle.lois_terms.specs.Guarded.{KeepsWhere, IsEmptyElsewhere}
+use Rattle.lois_terms.specs.Collections.{IsColl}
 use Rattle.lois_terms.proofs.UnderGuard.{keeps_where, is_empty_elsewhere, is_set_guarded, fits_guarded, admits_guarded, widths_guarded, depth_guarded}
 use Rattle.lois_terms.proofs.guarding.with_guard.Goals as goal
 

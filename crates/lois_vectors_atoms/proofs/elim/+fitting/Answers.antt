@@ -1,6 +1,6 @@
 use Rattle.std.proofs.Common.{◌<◌, length, sym, subst, arith}
 use Rattle.lois_base.specs.FormulaData.{FormulasFit}
-use Rattle.lois_base.specs.Validity.{AdmitsFormulas}
+use Rattle.lois_base.specs.FormulaOperators.{AdmitsFormulas}
 use Rattle.lois_base.proofs.FormulaViews.{formula_within}
 use Rattle.lois_elim.proofs.Steps.{parts_are}
 use Rattle.lois_vectors_atoms.proofs.elim.+fitting.Goals as goal

@@ -1,7 +1,7 @@
 use Rattle.std.proofs.Common.{◌+◌, ◌*◌}
 use Rattle.lois_base.specs.FormulaData.{FormulasFit, formulas_of, depth_of_formula, depth_of_formulas}
 use Rattle.lois_base.specs.FormulaView.{view, views}
-use Rattle.lois_base.specs.Validity.{AdmitsFormulas}
+use Rattle.lois_base.specs.FormulaOperators.{AdmitsFormulas}
 use Rattle.lois_elim.proofs.Steps.{parts_from}
 use Rattle.lois_vectors_atoms.proofs.elim.+fitting.Given as goal
 

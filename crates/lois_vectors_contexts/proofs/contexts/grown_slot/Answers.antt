@@ -6,7 +6,8 @@ use Rattle.lois_base.specs.Tree.{tree, comp_of}
 use Rattle.lois_context.specs.Entered.{items_listed}
 use Rattle.lois_context.specs.Joined.{IsGoneOn, IsEndSlot}
 use Rattle.lois_context.specs.Kept.{IsSlot}
-use Rattle.lois_context.specs.Slots.{SlotD, comps_in}
+use Rattle.lois_context.specs.Slots.{SlotD}
+use Rattle.lois_context.specs.ItemCounts.{comps_in}
 use Rattle.lois_context.specs.SlotView.{slot_of}
 use Rattle.lois_context.proofs.Carried.{count_of}
 use Rattle.lois_context.proofs.Entered.{listed_coll}

@@ -2,7 +2,8 @@ use Rattle.std.proofs.Common.{◌++◌, ◌∷◌, [], map, take, sym, ap, subst
 use Rattle.std.proofs.lemmas.Option.{IfSome_then}
 use Rattle.lois_base.proofs.Viewed.{one_more}
 use Rattle.lois_eval.specs.WellFormed.{AreWellFormed, CondsAreWellFormed}
-use Rattle.lois_script.specs.View.{tree, cond_tree, binding_tree, exprs_of, exprs_list, conds_of}
+use Rattle.lois_script.specs.View.{tree, cond_tree, binding_tree, exprs_of, conds_of}
+use Rattle.lois_script.specs.Lists.{exprs_list}
 use Rattle.lois_script.proofs.Views.{tree_Tuple, tree_Apply, binding_is}
 use Rattle.lois_eval.proofs.Parts.{count_of-more}
 use Rattle.lois_vectors_expressions.proofs.Placed.{LeadTo, all_one_more, conds_one_more, leads_further}

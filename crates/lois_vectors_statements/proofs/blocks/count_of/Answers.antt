@@ -1,6 +1,6 @@
 use Rattle.std.proofs.Common.{sym, ap, ◌∙◌}
 use Rattle.lois_base.specs.Tree.{tree}
-use Rattle.lois_context.specs.Slots.{comps_in}
+use Rattle.lois_context.specs.ItemCounts.{comps_in}
 use Rattle.lois_context.proofs.Carried.{count_of}
 use Rattle.lois_vectors_statements.proofs.blocks.count_of.Goals as goal
 

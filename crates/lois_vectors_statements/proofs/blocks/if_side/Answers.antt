@@ -1,5 +1,6 @@
 use Rattle.std.proofs.Common.{ap, ◌∙◌}
-use Rattle.lois_script.specs.View.{cond_tree, stmt_tree, stmts_of, stmts_list}
+use Rattle.lois_script.specs.View.{cond_tree, stmts_of, stmts_list}
+use Rattle.lois_script.specs.Lists.{stmt_tree}
 use Rattle.lois_script.proofs.Views.{stmt_If}
 use Rattle.lois_vectors_statements.proofs.blocks.if_side.Goals as goal
 

@@ -1,5 +1,6 @@
 use Rattle.std.proofs.Common.{ap, ◌∙◌}
-use Rattle.lois_script.specs.View.{tree, stmt_tree}
+use Rattle.lois_script.specs.View.{tree}
+use Rattle.lois_script.specs.Lists.{stmt_tree}
 use Rattle.lois_script.proofs.Views.{stmt_Let}
 use Rattle.lois_vectors_statements.proofs.blocks.let_name.Goals as goal
 

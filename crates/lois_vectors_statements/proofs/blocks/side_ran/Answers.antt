@@ -3,7 +3,8 @@ use Rattle.std.proofs.lemmas.List.{nil_from_length}
 use Rattle.lois_base.specs.Tree.{tree}
 use Rattle.lois_script.specs.Limits.{Spells}
 use Rattle.lois_script.specs.Scope.{IsWellScoped}
-use Rattle.lois_script.specs.View.{params_list, script_tree, stmt_tree, stmts_of, stmts_list}
+use Rattle.lois_script.specs.View.{params_list, script_tree, stmts_of, stmts_list}
+use Rattle.lois_script.specs.Lists.{stmt_tree}
 use Rattle.lois_vectors_statements.proofs.Sides.{body_is, side_placed}
 use Rattle.lois_vectors_statements.proofs.blocks.side_ran.Goals as goal
 

@@ -1,7 +1,7 @@
 use Rattle.std.proofs.Common.{◌≡◌, ◌++◌, ◌-◌, map, drop, length, sym, ap, subst, ◌∙◌, arith}
 use Rattle.std.proofs.lemmas.List.{length-map, drop-map}
 use Rattle.lois_base.specs.Tree.{tree, comp_of}
-use Rattle.lois_terms.specs.Guarded.{IsColl}
+use Rattle.lois_terms.specs.Collections.{IsColl}
 use Rattle.lois_context.specs.Entered.{comps_listed}
 use Rattle.lois_context.proofs.Contents.{with_listed, with_set, dropped_parts}
 use Rattle.lois_context.proofs.content.Content.behind.Goals as goal

@@ -1,9 +1,9 @@
 use Rattle.std.proofs.Common.{length, sym, ap, subst, arith}
 use Rattle.std.proofs.lemmas.List.{length-map}
 use Rattle.lois_base.specs.Tree.{tree, comp_of}
-use Rattle.lois_terms.specs.Guarded.{IsColl}
+use Rattle.lois_terms.specs.Collections.{IsColl}
 use Rattle.lois_context.specs.Entered.{comps_listed}
-use Rattle.lois_context.specs.Slots.{comps_in}
+use Rattle.lois_context.specs.ItemCounts.{comps_in}
 use Rattle.lois_context.proofs.Contents.{own_counted, with_count, with_set}
 use Rattle.lois_context.proofs.content.Content.count.Goals as goal
 

@@ -1,7 +1,7 @@
 use Rattle.std.proofs.Common.{sym, ap, subst, ◌∙◌}
 use Rattle.std.specs.List.{Contains}
 use Rattle.lois_base.specs.Tree.{tree, comp_of}
-use Rattle.lois_terms.specs.Guarded.{IsColl}
+use Rattle.lois_terms.specs.Collections.{IsColl}
 use Rattle.lois_context.specs.Entered.{comps_listed}
 use Rattle.lois_context.proofs.Contents.{with_set, among_first, among_second}
 use Rattle.lois_context.proofs.content.Content.has.Goals as goal

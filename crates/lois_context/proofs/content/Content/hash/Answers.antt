@@ -1,6 +1,6 @@
 use Rattle.std.proofs.Common.{sym, ap, subst, ◌∙◌}
 use Rattle.lois_base.specs.Tree.{tree}
-use Rattle.lois_terms.specs.Guarded.{IsColl}
+use Rattle.lois_terms.specs.Collections.{IsColl}
 use Rattle.lois_context.specs.Entered.{comps_listed}
 use Rattle.lois_context.specs.Hash.{comps_hash, content_hash}
 use Rattle.lois_context.proofs.Contents.{with_hash, with_set}

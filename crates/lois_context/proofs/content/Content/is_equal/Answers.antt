@@ -1,6 +1,6 @@
 use Rattle.std.proofs.Common.{◌≡◌, ◌++◌, map, sym, ap, subst, ◌∙◌}
 use Rattle.lois_base.specs.Tree.{tree, comp_of}
-use Rattle.lois_terms.specs.Guarded.{IsColl}
+use Rattle.lois_terms.specs.Collections.{IsColl}
 use Rattle.lois_context.specs.Entered.{comps_listed}
 use Rattle.lois_context.proofs.Contents.{with_set, same_listed}
 use Rattle.lois_context.proofs.content.Content.is_equal.Goals as goal

@@ -1,7 +1,7 @@
 use Rattle.std.proofs.Common.{◌↔◌, subst}
 use Rattle.std.specs.Bool.{IsTrue}
 use Rattle.lois_base.specs.Tree.{tree}
-use Rattle.lois_terms.specs.Guarded.{IsColl}
+use Rattle.lois_terms.specs.Collections.{IsColl}
 use Rattle.lois_context.proofs.Contents.{with_set}
 use Rattle.lois_context.proofs.content.Content.is_set.Goals as goal
 

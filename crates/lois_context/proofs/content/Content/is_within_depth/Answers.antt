@@ -1,5 +1,6 @@
 use Rattle.std.proofs.Common.{◌≤◌, ◌<◌, subst, ◌∙◌}
-use Rattle.lois_base.specs.Data.{depth, depth_of_comps}
+use Rattle.lois_base.specs.Data.{depth}
+use Rattle.lois_base.specs.ListDepth.{depth_of_comps}
 use Rattle.lois_base.specs.Tree.{tree}
 use Rattle.lois_terms.proofs.Heights.{not_deeper}
 use Rattle.lois_context.proofs.Contents.{with_depth}

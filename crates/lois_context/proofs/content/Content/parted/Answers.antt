@@ -2,7 +2,7 @@ use Rattle.std.proofs.Common.{◌≡◌, ◌-◌, ◌≤◌, length, take, drop,
 use Rattle.std.specs.Prelude.{IfOk}
 use Rattle.std.proofs.lemmas.List.{length-map}
 use Rattle.lois_base.specs.Tree.{tree, comp_of}
-use Rattle.lois_terms.specs.Guarded.{IsColl}
+use Rattle.lois_terms.specs.Collections.{IsColl}
 use Rattle.lois_context.specs.Content.{with_comps}
 use Rattle.lois_context.specs.Entered.{comps_listed}
 use Rattle.lois_context.proofs.Contents.{one_term, with_set, first_of_both, rest_of_both}

@@ -1,5 +1,6 @@
 use Rattle.std.proofs.Common.{◌≤◌, length}
-use Rattle.lois_script.specs.View.{bindings_list, binding_tree}
+use Rattle.lois_script.specs.View.{binding_tree}
+use Rattle.lois_script.specs.Lists.{bindings_list}
 use Rattle.lois_parser.specs.Ahead.{ahead}
 use Rattle.lois_descent.specs.Descent.{begins, next, listed, inner_expr, binding}
 use Rattle.lois_descent.specs.declared.lexemes.Terminal.TheVariants as terminals

@@ -1,5 +1,6 @@
 use Rattle.std.proofs.Common.{◌≤◌, length}
-use Rattle.lois_script.specs.View.{conds_list, cond_tree}
+use Rattle.lois_script.specs.View.{cond_tree}
+use Rattle.lois_script.specs.Lists.{conds_list}
 use Rattle.lois_parser.specs.Ahead.{ahead}
 use Rattle.lois_descent.specs.Descent.{begins_or, next, more_conjunctions, conjunction_here}
 use Rattle.lois_parser.proofs.Gathering.{Gathers}

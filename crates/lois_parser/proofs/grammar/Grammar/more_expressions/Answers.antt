@@ -1,6 +1,7 @@
 use Rattle.std.proofs.Common.{sym, ap, ◌∙◌, subst, arith}
 use Rattle.std.proofs.lemmas.Result.{err_from_is_err_and}
-use Rattle.lois_script.specs.View.{exprs_list, tree}
+use Rattle.lois_script.specs.View.{tree}
+use Rattle.lois_script.specs.Lists.{exprs_list}
 use Rattle.lois_parser.specs.Ahead.{ahead}
 use Rattle.lois_descent.specs.Descent.{begins, next, listed, inner_expr}
 use Rattle.lois_descent.specs.declared.lexemes.Terminal.TheVariants as terminals

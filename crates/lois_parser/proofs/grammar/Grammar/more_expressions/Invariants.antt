@@ -1,5 +1,6 @@
 use Rattle.std.proofs.Common.{◌≤◌, length}
-use Rattle.lois_script.specs.View.{exprs_list, tree}
+use Rattle.lois_script.specs.View.{tree}
+use Rattle.lois_script.specs.Lists.{exprs_list}
 use Rattle.lois_parser.specs.Ahead.{ahead}
 use Rattle.lois_descent.specs.Descent.{begins, next, listed, inner_expr}
 use Rattle.lois_descent.specs.declared.lexemes.Terminal.TheVariants as terminals

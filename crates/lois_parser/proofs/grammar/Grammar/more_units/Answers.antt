@@ -1,6 +1,7 @@
 use Rattle.std.proofs.Common.{sym, ap, ◌∙◌, subst, arith}
 use Rattle.std.proofs.lemmas.Result.{err_from_is_err_and}
-use Rattle.lois_script.specs.View.{conds_list, cond_tree}
+use Rattle.lois_script.specs.View.{cond_tree}
+use Rattle.lois_script.specs.Lists.{conds_list}
 use Rattle.lois_parser.specs.Ahead.{ahead}
 use Rattle.lois_descent.specs.Descent.{begins_and, next, more_units, unit_here}
 use Rattle.lois_descent.specs.Reading.{ErrorIs}

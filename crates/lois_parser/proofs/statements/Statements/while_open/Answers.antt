@@ -1,6 +1,7 @@
 use Rattle.std.proofs.Common.{length, suc, not, sym, ap, ◌∙◌, arith}
 use Rattle.std.proofs.lemmas.Result.{err_from_is_err_and}
-use Rattle.lois_script.specs.View.{stmts_list, stmt_tree}
+use Rattle.lois_script.specs.View.{stmts_list}
+use Rattle.lois_script.specs.Lists.{stmt_tree}
 use Rattle.lois_parser.specs.Ahead.{ahead}
 use Rattle.lois_descent.specs.Descent.{many, goes_on, statement, inner_block}
 use Rattle.lois_parser.proofs.Gathering.{statements_start, many_next, many_last, many_halts}

@@ -1,7 +1,8 @@
 use Rattle.std.proofs.Common.{◌≡◌, ◌⊎◌, inl, inr, refl, ap, subst, ◌∙◌, ℕ, List, take}
 use Rattle.lois_script.specs.Scope.{DeclarationBreaks, ExprBreaks, BindingBreaks, CondBreaks}
 use Rattle.lois_script.specs.Tree.{ExprD, BindingD, CondD, exists, every}
-use Rattle.lois_script.specs.View.{tree, binding_tree, bindings_of, bindings_list, cond_tree}
+use Rattle.lois_script.specs.View.{tree, binding_tree, bindings_of, cond_tree}
+use Rattle.lois_script.specs.Lists.{bindings_list}
 use Rattle.lois_script.specs.declared.syntax.Binding.{Binding}
 use Rattle.lois_script.specs.declared.syntax.Cond.{Cond}
 use Rattle.lois_script.specs.declared.syntax.Expr.{Expr}

@@ -1,7 +1,8 @@
 use Rattle.std.proofs.Common.{◌⊎◌, ℕ, List, map, take, refl, ap, subst, ◌∙◌}
 use Rattle.lois_script.specs.Scope.{AssignBreaks, AddBreaks, UseBreaks, ExprBreaks, CondBreaks, StmtBreaks, StmtsBreak}
 use Rattle.lois_script.specs.Tree.{StmtD, for}
-use Rattle.lois_script.specs.View.{tree, binding_tree, cond_tree, stmt_tree, stmts_of, stmts_list}
+use Rattle.lois_script.specs.View.{tree, binding_tree, cond_tree, stmts_of, stmts_list}
+use Rattle.lois_script.specs.Lists.{stmt_tree}
 use Rattle.lois_script.proofs.Views.{stmt_Let, stmt_Assign, stmt_Add, stmt_For, stmt_If, stmt_While, stmt_Assert, stmt_Print}
 use Rattle.lois_scope.specs.Breaks.{kept_of}
 use Rattle.lois_scope.specs.InScope.{made_of}

@@ -1,4 +1,4 @@
-use Rattle.lois_script.specs.View.{stmt_tree}
+use Rattle.lois_script.specs.Lists.{stmt_tree}
 use Rattle.lois_scope.specs.Walks.{seen, state_of, IsWithin}
 use Rattle.lois_scope.proofs.Walked.{LeadsOn}
 use Rattle.lois_scope.proofs.Lists.{statements_break, behind_all}
