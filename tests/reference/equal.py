@@ -5,7 +5,7 @@ from functools import partial
 
 from . import automata
 from .answers import read_answer, read_term
-from .choices import levels_of, longer, meets, scaled, value_at
+from .choices import levels_of, longer, meets, ranks, scaled, value_at
 from .judge import Wrong, demand, expect
 from .lexer import Refused, refusal_text
 from .values import contains
@@ -72,8 +72,10 @@ def judge_equal(first, second, source, output, status):
 
 def told_word(results, case, numbers, letters):
     """The choice, the word and whether each further number is for a level of a letter, of an answer that gives these
-    numbers and lines of letters for a case that has to admit the choice."""
-    sample, count = scaled(map(int, numbers.split())), len(results.parameters)
+    numbers, which have to be ranks, and lines of letters for a case that has to admit the choice."""
+    numbers = [int(number) for number in numbers.split()]
+    demand(numbers == ranks(numbers, results.order), "the numbers are no ranks")
+    sample, count = scaled(numbers), len(results.parameters)
     demand(len(sample) >= count and meets(case.when, sample[:count]), "the case doesn't admit the choice")
     try:
         terms = [read_term(line[7:], results.order, results.parameters, len(sample)) for line in letters.splitlines()]

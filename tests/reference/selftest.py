@@ -90,7 +90,8 @@ PLANTED = [
         ("a longer word", "letter $1", "letter $1\nletter $1"), ("a word that tells nothing", "letter $1\n", ""),
         ("the wrong side", "by a", "by b"), ("no difference", "", "equal\n", 0),
         ("a letter that is none", "$0\n", "'p\n"),
-        ("a number for nothing", "choice 0 1", "choice 0 1 2"), ("another case", "case 1", "case 2")]),
+        ("a number for nothing", "choice 0 1", "choice 0 1 2"), ("another case", "case 1", "case 2"),
+        ("a gap in the numbers", "choice 0 1", "choice 0 2")]),
     (("equal", "a", "a"), EQUAL, "equal\n", 0, [("a difference", "equal\n",
                                                  "differ in case 1\nchoice\naccepted by a\n", 10)]),
     (("equal", "a", "c"), EQUAL, "refused: no line c in case 1\n", 5, [("another reason", "no line c", "no line a")]),
@@ -100,6 +101,7 @@ PLANTED = [
     (("word", "b"), LATE, "accepted in case 1\nchoice 0\nletter $0\n", 0, [
         ("a longer word", "letter $0", "letter $0\nletter $0"), ("a word that isn't accepted", "letter $0\n", ""),
         ("no word", "", "none\n", 10), ("a number for nothing", "choice 0", "choice 0 1"),
+        ("a gap in the numbers", "choice 0", "choice 1"),
         ("a letter that is none", "$0\n", "'p\n"), ("another case", "case 1", "case 2")]),
     (("word", "d"), LATE, "none\n", 10, [("a word", "none\n", "accepted in case 1\nchoice\n", 0)]),
     (("word", "s"), LATE, "refused: s in case 1 is no automaton\n", 5,

@@ -32,16 +32,16 @@ module _ (ordered : Bool) (ps : List Twins) (pattern : IsPattern ordered ps) whe
       holds_carried (n + m) (c ++ e) (d ++ f) (carried_longer ps n m c d e f h k) g fits admits
 
 -- the member of a set at another choice, with more pairs
-record Partner (ordered : Bool) (ps : List Twins) (w : TermD) (y : List Atom) (ss : CompsD) (d : List Atom) : Type 0 where
-  pairs : List Twins
-  pattern : IsPattern ordered pairs
-  within : Within ps pairs
-  size : ℕ
-  image : List Atom
-  member : MemberAt w image ss d
-  carried : IsCarried pairs size y image
-  fits : Fits size w
-  admits : AdmitsTerm ordered w
+pub record Partner (ordered : Bool) (ps : List Twins) (w : TermD) (y : List Atom) (ss : CompsD) (d : List Atom) : Type 0 where
+  pub pairs : List Twins
+  pub pattern : IsPattern ordered pairs
+  pub within : Within ps pairs
+  pub size : ℕ
+  pub image : List Atom
+  pub member : MemberAt w image ss d
+  pub carried : IsCarried pairs size y image
+  pub fits : Fits size w
+  pub admits : AdmitsTerm ordered w
 
 partner_first : (ordered : Bool) (ps : List Twins) (w : TermD) (y : List Atom) (m : ℕ) (g : List (List Lit)) (t : TermD) (ss : CompsD) (n : ℕ) (d d' e : List Atom) → IsPattern ordered ps → IsCarried ps n d d' → CompFits n (comp m g t) → AdmitsComp ordered (comp m g t) → IsExtension d m g e → w ≡ t → y ≡ d ++ e → Partner ordered ps w y (more (comp m g t) ss) d'
 partner_first ordered ps w y m g t ss n d d' e pattern h p a x is_t is_y =
@@ -61,7 +61,7 @@ partner_first ordered ps w y m g t ss n d d' e pattern h p a x is_t is_y =
       admits = subst (λ z. AdmitsTerm ordered z) (sym is_t) a.1;
     }
 
-partner : (ss : CompsD) (ordered : Bool) (ps : List Twins) → IsPattern ordered ps → (n : ℕ) (d d' : List Atom) → IsCarried ps n d d' → ItemsFit n ss → AdmitsItems ordered ss → (w : TermD) (y : List Atom) → MemberAt w y ss d → Partner ordered ps w y ss d'
+pub partner : (ss : CompsD) (ordered : Bool) (ps : List Twins) → IsPattern ordered ps → (n : ℕ) (d d' : List Atom) → IsCarried ps n d d' → ItemsFit n ss → AdmitsItems ordered ss → (w : TermD) (y : List Atom) → MemberAt w y ss d → Partner ordered ps w y ss d'
 partner no_comps ordered ps pattern n d d' h p a w y m = absurd m
 partner (more (comp b g t) ss) ordered ps pattern n d d' h p a w y (inl m) =
     partner_first ordered ps w y b g t ss n d d' m.0 pattern h p.0 a.0 m.1 m.2 m.3

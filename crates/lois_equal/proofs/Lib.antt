@@ -6,4 +6,5 @@ pub mod Sinks
 pub mod Differences
 pub mod Shorter
 pub mod SplitLetters
+pub mod SettledWords
 pub mod CaseLines

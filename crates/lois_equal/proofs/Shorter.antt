@@ -1,8 +1,7 @@
 -- The shorter one of two words, each of which one automaton alone accepts.
-use Rattle.std.proofs.Common.{◌≡◌, ℕ, suc, ◌≤◌, Bool, true, false, ◌⊎◌, inl, inr, ◌↔◌, List, length, take, Option, Some, None, refl, sym, subst, ◌∙◌, arith, true≢false}
-use Rattle.std.proofs.lemmas.List.{length-map, length-take}
+use Rattle.std.proofs.Common.{ℕ, suc, ◌≤◌, Bool, true, false, ◌⊎◌, inl, inr, ◌↔◌, List, length, Option, Some, None, refl, sym, subst, arith, true≢false}
 use Rattle.std.specs.Prelude.{IfSome, IsNone}
-use Rattle.lois_base.specs.Atom.{Atom, whole}
+use Rattle.lois_base.specs.Atom.{Atom}
 use Rattle.lois_base.specs.Data.{TermD}
 use Rattle.lois_base.specs.Truth.{sampled}
 use Rattle.lois_base.specs.Values.{PointValue}
@@ -11,6 +10,7 @@ use Rattle.lois_automata.specs.Throughout.{HoldsThroughout}
 use Rattle.lois_shortest_word.specs.Common.{AcceptBothAt, AcceptNoneInCommon, IsShortestCommonWord}
 use Rattle.lois_shortest_word.specs.Words.{first_sampled, values_at}
 use Rattle.lois_shortest_word.specs.declared.words.Word.{Word}
+use Rattle.lois_shortest_word.proofs.Choices.{first_count}
 use Rattle.lois_equal.specs.declared.differing.Difference.{Difference}
 use Rattle.lois_equal.specs.declared.differing.Equality.{Equality}
 use Rattle.lois_equal.specs.declared.differing.Equality.TheVariants.{Differs}
@@ -18,9 +18,6 @@ use Rattle.lois_equal.specs.Differing.{HaveSameLanguage, IsAcceptedByOne, IsDist
 use Rattle.lois_equal.specs.Differences.{IsSameAnswer, IfDiffers, IsLanguageIncluded, IsShortestDifference, IsShorterOf}
 use Rattle.lois_equal.specs.Distinguishing.{AcceptsOnlyFirst, TellsApart, HasLetterAt}
 use Rattle.lois_equal.proofs.Differences.{all_letters}
-
-first_length : (n : ℕ) (s : List ℕ) → n ≤ length s → length (first_sampled n s) ≡ n
-first_length n s h = length-map (take n s) whole ∙ (length-take n s ∙ omega arith)
 
 -- ---- of an automaton r that accepts, among the words of t, those that s doesn't accept
 module _ (n : ℕ) (u : List (List Lit)) (t s r : TermD) (words : HoldsThroughout n u (λ c. (word : List PointValue) → AcceptBothAt t r c word ↔ AcceptsOnlyFirst t s c word)) where
@@ -38,7 +35,7 @@ module _ (n : ℕ) (u : List (List Lit)) (t s r : TermD) (words : HoldsThroughou
     count = is.count;
     admitted = is.admitted;
     levels = is.levels;
-    accepted = (words (first_sampled n w.sample) (first_length n w.sample is.count) is.admitted (values_at (sampled w.sample) w.letters)).0 is.accepted;
+    accepted = (words (first_sampled n w.sample) (first_count n w.sample is.count) is.admitted (values_at (sampled w.sample) w.letters)).0 is.accepted;
     shortest = λ c l h word alone. is.shortest c l h word ((words c l h word).1 alone);
     used = is.used;
   }
@@ -86,7 +83,7 @@ module _ (n : ℕ) (u : List (List Lit)) (t s : TermD) where
 
   differs_found : (d : Difference) → IsDistinguishingWord n u t s d → IsFound (Differs d)
   differs_found d is = (
-    (λ h. absurd h, λ never. never (first_sampled n d.sample) (first_length n d.sample is.count) is.admitted (values_at (sampled d.sample) d.word) (told_of d.left (first_sampled n d.sample) (values_at (sampled d.sample) d.word) is.apart)),
+    (λ h. absurd h, λ never. never (first_sampled n d.sample) (first_count n d.sample is.count) is.admitted (values_at (sampled d.sample) d.word) (told_of d.left (first_sampled n d.sample) (values_at (sampled d.sample) d.word) is.apart)),
     is,
   )
 
@@ -111,14 +108,18 @@ module _ (n : ℕ) (u : List (List Lit)) (t s : TermD) where
     | inr h ↦ subst (λ z. IsFound z) (sym h.1) (differs_found (record { sample = w.sample; word = w.letters; left = false }) (right_difference w some' (longer_bound t s v (suc (length w.letters)) (omega (arith, h.0)) some)))
   ]
 
--- what holds of the letters of both words holds of those of the shorter one
-pub shorter_has : (P Q R : List TermD → Type 0) (first second : Option Word) (r : Equality) → IfSome first (λ w. P w.letters) → IfSome second (λ w. Q w.letters) → ((ts : List TermD) → P ts → R ts) → ((ts : List TermD) → Q ts → R ts) → IsShorterOf first second r → IfDiffers (λ d. R d.word) r
-shorter_has P Q R None None r p q one other is = subst (λ z. IfDiffers (λ d. R d.word) z) (sym is) tt
-shorter_has P Q R (Some w) None r p q one other is = subst (λ z. IfDiffers (λ d. R d.word) z) (sym is) (one w.letters p)
-shorter_has P Q R None (Some w) r p q one other is = subst (λ z. IfDiffers (λ d. R d.word) z) (sym is) (other w.letters q)
+-- the word of a difference
+abbrev pub word_of : Difference → Word
+word_of d = record { sample = d.sample; letters = d.word }
+
+-- what holds of both words holds of the shorter one
+pub shorter_has : (P Q R : Word → Type 0) (first second : Option Word) (r : Equality) → IfSome first P → IfSome second Q → ((w : Word) → P w → R w) → ((w : Word) → Q w → R w) → IsShorterOf first second r → IfDiffers (λ d. R (word_of d)) r
+shorter_has P Q R None None r p q one other is = subst (λ z. IfDiffers (λ d. R (word_of d)) z) (sym is) tt
+shorter_has P Q R (Some w) None r p q one other is = subst (λ z. IfDiffers (λ d. R (word_of d)) z) (sym is) (one w p)
+shorter_has P Q R None (Some w) r p q one other is = subst (λ z. IfDiffers (λ d. R (word_of d)) z) (sym is) (other w q)
 shorter_has P Q R (Some v) (Some w) r p q one other is = elim is [
-  | inl h ↦ subst (λ z. IfDiffers (λ d. R d.word) z) (sym h.1) (one v.letters p)
-  | inr h ↦ subst (λ z. IfDiffers (λ d. R d.word) z) (sym h.1) (other w.letters q)
+  | inl h ↦ subst (λ z. IfDiffers (λ d. R (word_of d)) z) (sym h.1) (one v p)
+  | inr h ↦ subst (λ z. IfDiffers (λ d. R (word_of d)) z) (sym h.1) (other w q)
 ]
 
 -- what holds of a word's letters, where it says more

@@ -11,7 +11,6 @@ use Rattle.lois_base.specs.Fits.{Fits}
 use Rattle.lois_base.specs.Tree.{tree}
 use Rattle.lois_base.specs.Truth.{holds, sampled}
 use Rattle.lois_base.specs.Validity.{AdmitsTerm, HasBoundedWidths, IsStrictTerm}
-use Rattle.lois_base.specs.Values.{PointValue}
 use Rattle.lois_base.specs.declared.guards.Lit.{Lit}
 use Rattle.lois_base.specs.declared.values.Term.{Term}
 use Rattle.lois_base.proofs.Lists.{zip_push}
@@ -22,7 +21,6 @@ use Rattle.lois_shortest_word.specs.Words.{AcceptsAt, values_at, first_sampled, 
 use Rattle.lois_shortest_word.specs.declared.words.Word.{Word}
 use Rattle.lois_shortest_word.proofs.Readings.{accepts_alike}
 use Rattle.lois_equal.specs.Differences.{IsShortestDifference}
-use Rattle.lois_equal.specs.Distinguishing.{AcceptsOnlyFirst}
 use Rattle.lois_equal.specs.SplitWords.{IsSplitWord, IsSplitOrNone, MaySplit, IsSplitLetter}
 
 -- ---- letters
@@ -123,9 +121,3 @@ split_some n P Q each None None is h = tt
 split_some n P Q each None (Some r) is h = absurd is
 split_some n P Q each (Some w) None is h = absurd is
 split_some n P Q each (Some w) (Some r) is h = each w r h is
-
-pub split_strict : (n : ℕ) (found o : Option Word) → IsSplitOrNone n found o → IfSome o (λ w. All IsStrictTerm w.letters)
-split_strict n None None is = tt
-split_strict n None (Some r) is = absurd is
-split_strict n (Some w) None is = absurd is
-split_strict n (Some w) (Some r) is = is.strict

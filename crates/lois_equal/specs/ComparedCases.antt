@@ -6,18 +6,12 @@ use Rattle.lois_base.specs.declared.guards.Lit.{Lit}
 use Rattle.lois_answers.specs.ResultsData.{CaseD}
 use Rattle.lois_automata.specs.Deterministic.{IsDeterministicAt}
 use Rattle.lois_automata.specs.Throughout.{HoldsThroughout}
-use Rattle.lois_equal.specs.declared.differing.Difference.{Difference}
 use Rattle.lois_equal.specs.declared.differing.Equality.{Equality}
 use Rattle.lois_equal.specs.declared.differing.Equality.TheVariants.{Same, Differs}
 use Rattle.lois_equal.specs.declared.comparing.Comparison.{Comparison}
 use Rattle.lois_equal.specs.declared.comparing.Comparison.TheVariants.{Alike, Differ, Refused}
 use Rattle.lois_equal.specs.declared.comparing.ComparisonFault.{ComparisonFault}
 use Rattle.lois_equal.specs.Comparing.{IsSomewhereNotDeterministic, AreComparable, LinesHaveSameLanguage, side_name, LinesDiffer, IsReason, number_of, IsFirst}
-
-abbrev pub IfDiffer : (Difference → Type 0) → Comparison → Type 0
-IfDiffer P Alike = Unit {0}
-IfDiffer P (Differ k d name) = P d
-IfDiffer P (Refused r) = Unit {0}
 
 -- the answer says whether the value is a deterministic automaton at each choice that u admits
 abbrev pub DecidesDeterminism : ℕ → List (List Lit) → TermD → Bool → Type 0

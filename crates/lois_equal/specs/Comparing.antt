@@ -83,3 +83,9 @@ abbrev pub IsComparison : ℕ → List ℕ → List ℕ → List CaseD → Compa
 IsComparison n a b cases Alike = All (AreComparable n a b) cases × All (LinesHaveSameLanguage n a b) cases
 IsComparison n a b cases (Differ k d name) = All (AreComparable n a b) cases × IsFirst (LinesHaveSameLanguage n a b) (LinesDiffer n a b d name) k cases
 IsComparison n a b cases (Refused r) = IsFirst (AreComparable n a b) (IsReason n a b r) (number_of r) cases
+
+-- of what is found, if it is a difference
+abbrev pub IfDiffer : (Difference → Type 0) → Comparison → Type 0
+IfDiffer P Alike = Unit {0}
+IfDiffer P (Differ k d name) = P d
+IfDiffer P (Refused r) = Unit {0}

@@ -8,8 +8,9 @@ ghost use Rattle.lois_base.specs.Validity.{AdmitsConstraint, AdmitsTerm};
 ghost use Rattle.lois_answers.specs.CaseView.{case_of};
 ghost use Rattle.lois_answers.specs.Sound.{IsSound, IsSoundCase};
 ghost use Rattle.lois_deciders.specs.OnlyAsked.{HasOnlyAsked};
-ghost use Rattle.lois_equal.specs.Comparing.{AreComparable, IsComparison, side_name};
-ghost use Rattle.lois_equal.specs.ComparedCases.{IsReasonOrNone, HasFaultNumber, IsFirstReason, IsFirstDifference, DecidesDeterminism, LinesAgreeOrDiffer, IfDiffer};
+ghost use Rattle.lois_ranks.specs.Ranks.{AreRanks};
+ghost use Rattle.lois_equal.specs.Comparing.{AreComparable, IsComparison, side_name, IfDiffer};
+ghost use Rattle.lois_equal.specs.ComparedCases.{IsReasonOrNone, HasFaultNumber, IsFirstReason, IsFirstDifference, DecidesDeterminism, LinesAgreeOrDiffer};
 ghost use Rattle.lois_equal.specs.Differences.{IfDiffers, AreBounded};
 
 use crate::differing::{Difference, Equality, equal};
@@ -51,6 +52,7 @@ pub fn compare<T: Structure>(
     requires atoms { T.ordered ≡ results.now.order }
     ensures comparison { IfOk result (IsComparison (length results.now.parameters) first.now second.now results.now.cases) }
     ensures usual { IfOk result (IfDiffer (λ d. AreBounded T.ordered d.word)) }
+    ensures ranked { IfOk result (IfDiffer (λ d. AreRanks T.ordered d.sample)) }
 
     // whatever is answered
     ensures only_asked { HasOnlyAsked (λ b. (⟦<dyn Decider as Decider>⟧ b.vtable).kind_of b.value) (λ b. (⟦<dyn Decider as Decider>⟧ b.vtable).questions b.value) chosen.old chosen.new }
@@ -157,6 +159,7 @@ fn first_difference<T: Structure>(
     requires fit { All (AreComparable size first.now second.now) cases.now }
     ensures first { IfOk result (IsFirstDifference size first.now second.now cases.now) }
     ensures usual { IfOk result (IfDiffer (λ d. AreBounded T.ordered d.word)) }
+    ensures ranked { IfOk result (IfDiffer (λ d. AreRanks T.ordered d.sample)) }
     ensures only_asked { HasOnlyAsked (λ b. (⟦<dyn Decider as Decider>⟧ b.vtable).kind_of b.value) (λ b. (⟦<dyn Decider as Decider>⟧ b.vtable).questions b.value) chosen.old chosen.new }
 {
     for (index, case) in cases.as_slice().iter().enumerate() {
@@ -181,6 +184,7 @@ fn compare_lines<T: Structure>(
     requires fit { AreComparable size first.now second.now (case_of case.now) }
     ensures equality { IfOk result (LinesAgreeOrDiffer size first.now second.now (case_of case.now)) }
     ensures usual { IfOk result (IfDiffers (λ d. AreBounded T.ordered d.word)) }
+    ensures ranked { IfOk result (IfDiffers (λ d. AreRanks T.ordered d.sample)) }
     ensures only_asked { HasOnlyAsked (λ b. (⟦<dyn Decider as Decider>⟧ b.vtable).kind_of b.value) (λ b. (⟦<dyn Decider as Decider>⟧ b.vtable).questions b.value) chosen.old chosen.new }
 {
     let Some(one) = case.lines.last_named(first) else {

@@ -8,6 +8,7 @@ ghost use Rattle.lois_base.specs.Validity.{AdmitsConstraint, AdmitsTerm, HasBoun
 ghost use Rattle.lois_deciders.specs.OnlyAsked.{HasOnlyAsked};
 ghost use Rattle.lois_automata.specs.Deterministic.{IsDeterministicAt};
 ghost use Rattle.lois_automata.specs.Throughout.{HoldsThroughout};
+ghost use Rattle.lois_ranks.specs.Ranks.{AreRanks};
 ghost use Rattle.lois_equal.specs.Differing.{HaveSameLanguage, IsDistinguishingWord};
 ghost use Rattle.lois_equal.specs.Differences.{IsSameAnswer, IfDiffers, IsShorterOf, sided};
 
@@ -35,7 +36,8 @@ pub enum Equality {
 
 /// Whether the deterministic automata `a` and `b` accept the same words at each choice of atoms that `under` admits, or a word
 /// that exactly one of them accepts at some such choice; no shorter word tells them apart, at any such choice. `b` alone accepts
-/// it only where no word as short is accepted by `a` alone. They need not be complete, and their letters may differ. Errors: `NoMemory`, also where a level would pass the greatest usize.
+/// it only where no word as short is accepted by `a` alone. The word's numbers are ranks. The automata need not be complete, and their
+/// letters may differ. Errors: `NoMemory`, also where a level would pass the greatest usize.
 pub fn equal<T: Structure>(
     alloc: Global,
     a: &Term,
@@ -57,6 +59,7 @@ pub fn equal<T: Structure>(
     ensures operators { IfOk result (IfDiffers (λ d. (o : Bool) → AdmitsTerm o (tree a.now) → AdmitsTerm o (tree b.now) → All (AdmitsTerm o) d.word)) }
     ensures widths { IfOk result (IfDiffers (λ d. HasBoundedWidths (tree a.now) → HasBoundedWidths (tree b.now) → All HasBoundedWidths d.word)) }
     ensures strict { IfOk result (IfDiffers (λ d. All IsStrictTerm d.word)) }
+    ensures ranked { IfOk result (IfDiffers (λ d. AreRanks T.ordered d.sample)) }
 
     // whatever is answered
     ensures only_asked { HasOnlyAsked (λ b. (⟦<dyn Decider as Decider>⟧ b.vtable).kind_of b.value) (λ b. (⟦<dyn Decider as Decider>⟧ b.vtable).questions b.value) chosen.old chosen.new }

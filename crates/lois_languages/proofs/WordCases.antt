@@ -1,7 +1,6 @@
 -- Cases that are asked for a word, one after the other.
-use Rattle.std.proofs.Common.{◌≡◌, ℕ, Bool, List, Option, Some, None, sym, subst}
+use Rattle.std.proofs.Common.{◌≡◌, ℕ, Bool, List, Option, Some, sym, subst}
 use Rattle.std.specs.Bool.{IsTrue}
-use Rattle.std.specs.Prelude.{IfSome}
 use Rattle.std.specs.List.{All}
 use Rattle.lois_base.specs.Atom.{Atom}
 use Rattle.lois_base.specs.Data.{TermD}
@@ -16,7 +15,7 @@ use Rattle.lois_shortest_word.specs.Shortest.{AreAsLong, IsShortestWord}
 use Rattle.lois_shortest_word.specs.declared.words.Word.{Word}
 use Rattle.lois_shortest_word.proofs.Readings.{accepted_letters}
 use Rattle.lois_equal.specs.Differences.{AreBounded}
-use Rattle.lois_equal.specs.SplitWords.{IsSplitWord, IsSplitOrNone}
+use Rattle.lois_equal.specs.SplitWords.{IsSplitWord}
 use Rattle.lois_equal.proofs.SplitLetters.{accepted_split, as_many}
 use Rattle.lois_languages.specs.Faults.{HasAutomaton}
 use Rattle.lois_languages.specs.Witnesses.{IsFirstWordReason, IsFirstWord, IsWitness}
@@ -40,11 +39,9 @@ shortest_split n u t w r is split =
       used = split.used;
     }
 
-pub bounded_word : (o : Bool) (n : ℕ) (t : TermD) (found r : Option Word) → IsSoundTerm o n t → IsSplitOrNone n found r → IfSome found (λ w. (p : Bool) → AdmitsTerm p t → All (AdmitsTerm p) w.letters) → IfSome found (λ w. HasBoundedWidths t → All HasBoundedWidths w.letters) → IfSome r (λ w. AreBounded o w.letters)
-bounded_word o n t None None sound is operators widths = tt
-bounded_word o n t None (Some r) sound is operators widths = absurd is
-bounded_word o n t (Some w) None sound is operators widths = absurd is
-bounded_word o n t (Some w) (Some r) sound is operators widths = record { operators = is.short.operators o (operators o sound.operators); strict = is.strict; widths = is.short.widths (widths sound.widths) }
+pub bounded_letters : (o : Bool) (n : ℕ) (t : TermD) (w r : Word) → IsSoundTerm o n t → IsSplitWord n w r → ((p : Bool) → AdmitsTerm p t → All (AdmitsTerm p) w.letters) → (HasBoundedWidths t → All HasBoundedWidths w.letters) → AreBounded o r.letters
+bounded_letters o n t w r sound is operators widths =
+    record { operators = is.short.operators o (operators o sound.operators); strict = is.strict; widths = is.short.widths (widths sound.widths) }
 
 -- ---- all cases
 pub witness_of : (n : ℕ) (a : List ℕ) (cs : List CaseD) → All (HasAutomaton n a) cs → (r : Witness) → IsFirstWord n a cs r → IsWitness n a cs r

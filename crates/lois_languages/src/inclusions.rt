@@ -5,6 +5,7 @@ ghost use Rattle.std.specs.List.{All};
 ghost use Rattle.lois_answers.specs.CaseView.{case_of};
 ghost use Rattle.lois_answers.specs.Sound.{IsSound, IsSoundCase};
 ghost use Rattle.lois_deciders.specs.OnlyAsked.{HasOnlyAsked};
+ghost use Rattle.lois_ranks.specs.Ranks.{AreRanks};
 ghost use Rattle.lois_equal.specs.Differences.{AreBounded};
 ghost use Rattle.lois_languages.specs.Faults.{HasFaultNumber};
 ghost use Rattle.lois_languages.specs.Inclusions.{AreSuited, IsWithin, IsExcessWord, IsWithinReasonOrNone, IsFirstWithinReason, IsFirstBeyond, IsInclusion, IfBeyond, excess_of};
@@ -28,9 +29,9 @@ pub enum Inclusion {
 }
 
 /// Whether the second name's line accepts each word that the first's accepts, in each case, at each choice that the case admits;
-/// otherwise a shortest word that the first's accepts and the second's doesn't, in the first case that has one. All cases are
-/// looked at before any is compared. Where a case has several lines of a name, the last one counts. Errors: `NoMemory`, also
-/// where a level would pass the greatest usize.
+/// otherwise a shortest word that the first's accepts and the second's doesn't, in the first case that has one. The word's numbers
+/// are ranks. All cases are looked at before any is compared. Where a case has several lines of a name, the last one counts.
+/// Errors: `NoMemory`, also where a level would pass the greatest usize.
 pub fn inclusion_of<T: Structure>(
     alloc: Global,
     results: &Results,
@@ -42,6 +43,7 @@ pub fn inclusion_of<T: Structure>(
     requires atoms { T.ordered ≡ results.now.order }
     ensures inclusion { IfOk result (IsInclusion (length results.now.parameters) first.now second.now results.now.cases) }
     ensures usual { IfOk result (IfBeyond (λ d. AreBounded T.ordered d.word)) }
+    ensures ranked { IfOk result (IfBeyond (λ d. AreRanks T.ordered d.sample)) }
 
     // whatever is answered
     ensures only_asked { HasOnlyAsked (λ b. (⟦<dyn Decider as Decider>⟧ b.vtable).kind_of b.value) (λ b. (⟦<dyn Decider as Decider>⟧ b.vtable).questions b.value) chosen.old chosen.new }
@@ -123,6 +125,7 @@ fn first_excess<T: Structure>(
     requires suited { All (AreSuited size first.now second.now) cases.now }
     ensures first { IfOk result (IsFirstBeyond size first.now second.now cases.now) }
     ensures usual { IfOk result (IfBeyond (λ d. AreBounded T.ordered d.word)) }
+    ensures ranked { IfOk result (IfBeyond (λ d. AreRanks T.ordered d.sample)) }
     ensures only_asked { HasOnlyAsked (λ b. (⟦<dyn Decider as Decider>⟧ b.vtable).kind_of b.value) (λ b. (⟦<dyn Decider as Decider>⟧ b.vtable).questions b.value) chosen.old chosen.new }
 {
     for (index, case) in cases.as_slice().iter().enumerate() {
@@ -148,6 +151,7 @@ fn excess_in<T: Structure>(
     ensures none { IfOk result (λ o. IsNone o → IsWithin size first.now second.now (case_of case.now)) }
     ensures found { IfOk result (λ o. IfSome o (λ w. IsExcessWord size first.now second.now w (case_of case.now))) }
     ensures usual { IfOk result (λ o. IfSome o (λ w. AreBounded T.ordered w.letters)) }
+    ensures ranked { IfOk result (λ o. IfSome o (λ w. AreRanks T.ordered w.sample)) }
     ensures only_asked { HasOnlyAsked (λ b. (⟦<dyn Decider as Decider>⟧ b.vtable).kind_of b.value) (λ b. (⟦<dyn Decider as Decider>⟧ b.vtable).questions b.value) chosen.old chosen.new }
 {
     let Some(one) = case.lines.last_named(first) else {

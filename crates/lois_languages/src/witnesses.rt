@@ -5,6 +5,7 @@ ghost use Rattle.std.specs.List.{All};
 ghost use Rattle.lois_answers.specs.CaseView.{case_of};
 ghost use Rattle.lois_answers.specs.Sound.{IsSound, IsSoundCase};
 ghost use Rattle.lois_deciders.specs.OnlyAsked.{HasOnlyAsked};
+ghost use Rattle.lois_ranks.specs.Ranks.{AreRanks};
 ghost use Rattle.lois_equal.specs.Differences.{AreBounded};
 ghost use Rattle.lois_languages.specs.Faults.{HasAutomaton, HasFaultNumber};
 ghost use Rattle.lois_languages.specs.Witnesses.{AcceptsNone, AcceptsShortest, IsWordReasonOrNone, IsFirstWordReason, IsFirstWord, IsWitness, IfFound};
@@ -14,7 +15,7 @@ use lois_answers::{Case, Cases, Results};
 use lois_base::{Decider, Name, NoMemory, Structure};
 use lois_deciders::Chosen;
 use lois_equal::split_found;
-use lois_shortest_word::{Word, shortest_word};
+use lois_shortest_word::{Word, rank_found, shortest_word};
 use std::alloc::Global;
 
 /// What is found where the lines of a name are asked for a word.
@@ -28,8 +29,8 @@ pub enum Witness {
 }
 
 /// A shortest word that the line of the name accepts, at any choice that its case admits, in the first case in which it accepts
-/// one. All cases are looked at before any is asked. Where a case has several lines of the name, the last one counts. Errors:
-/// `NoMemory`, also where a level would pass the greatest usize.
+/// one. Its numbers are ranks. All cases are looked at before any is asked. Where a case has several lines of the name, the last
+/// one counts. Errors: `NoMemory`, also where a level would pass the greatest usize.
 pub fn word_of<T: Structure>(
     alloc: Global,
     results: &Results,
@@ -40,6 +41,7 @@ pub fn word_of<T: Structure>(
     requires atoms { T.ordered ≡ results.now.order }
     ensures witness { IfOk result (IsWitness (length results.now.parameters) name.now results.now.cases) }
     ensures usual { IfOk result (IfFound (λ w. AreBounded T.ordered w.letters)) }
+    ensures ranked { IfOk result (IfFound (λ w. AreRanks T.ordered w.sample)) }
 
     // whatever is answered
     ensures only_asked { HasOnlyAsked (λ b. (⟦<dyn Decider as Decider>⟧ b.vtable).kind_of b.value) (λ b. (⟦<dyn Decider as Decider>⟧ b.vtable).questions b.value) chosen.old chosen.new }
@@ -110,6 +112,7 @@ fn first_word<T: Structure>(
     requires automata { All (HasAutomaton size name.now) cases.now }
     ensures first { IfOk result (IsFirstWord size name.now cases.now) }
     ensures usual { IfOk result (IfFound (λ w. AreBounded T.ordered w.letters)) }
+    ensures ranked { IfOk result (IfFound (λ w. AreRanks T.ordered w.sample)) }
     ensures only_asked { HasOnlyAsked (λ b. (⟦<dyn Decider as Decider>⟧ b.vtable).kind_of b.value) (λ b. (⟦<dyn Decider as Decider>⟧ b.vtable).questions b.value) chosen.old chosen.new }
 {
     for (index, case) in cases.as_slice().iter().enumerate() {
@@ -134,11 +137,13 @@ fn word_in<T: Structure>(
     ensures none { IfOk result (λ o. IsNone o → AcceptsNone size name.now (case_of case.now)) }
     ensures found { IfOk result (λ o. IfSome o (λ w. AcceptsShortest size name.now w (case_of case.now))) }
     ensures usual { IfOk result (λ o. IfSome o (λ w. AreBounded T.ordered w.letters)) }
+    ensures ranked { IfOk result (λ o. IfSome o (λ w. AreRanks T.ordered w.sample)) }
     ensures only_asked { HasOnlyAsked (λ b. (⟦<dyn Decider as Decider>⟧ b.vtable).kind_of b.value) (λ b. (⟦<dyn Decider as Decider>⟧ b.vtable).questions b.value) chosen.old chosen.new }
 {
     let Some(line) = case.lines.last_named(name) else {
         unreachable!()
     };
     let found = shortest_word::<T>(alloc, &line.term, &case.when, size, chosen)?;
-    split_found(alloc, found, size)
+    let split = split_found(alloc, found, size)?;
+    rank_found::<T>(alloc, split)
 }

@@ -16,7 +16,7 @@ set_at _ c _ d h k = absurd (assumption (h, k))
 pub is_set_same : (v w : PointValue) → IsSame v w → IsSet v → IsSet w
 is_set_same v w s k = set_at v.term_of v.choice w.term_of w.choice s k
 
-set_term : (t : TermD) → IsSetTerm t → (ks : CompsD) × (t ≡ coll ks)
+pub set_term : (t : TermD) → IsSetTerm t → (ks : CompsD) × (t ≡ coll ks)
 set_term (coll ks) h = (ks, refl)
 set_term _ h = absurd h
 

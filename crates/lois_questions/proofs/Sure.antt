@@ -39,7 +39,7 @@ use Rattle.lois_same.specs.Likenesses.{IsLikeness, IsFlaw, IsPartition}
 use Rattle.lois_same.specs.TwoTexts.{first_text, second_text}
 use Rattle.lois_same.specs.declared.comparing.Likeness.{Likeness}
 use Rattle.lois_same.specs.declared.comparing.Likeness.TheVariants as compared
-use Rattle.lois_questions.specs.Answers.{Answers, Tells, TellsBoth, word_outcome, within_outcome, picture_outcome, picture_refusal, IsFlawRefusal, IsSameOutcome}
+use Rattle.lois_questions.specs.Answers.{Answers, IsWordIn, IsInclusionIn, Tells, TellsBoth, word_outcome, within_outcome, picture_outcome, picture_refusal, IsFlawRefusal, IsSameOutcome}
 use Rattle.lois_questions.specs.Causes.{HasCause, IsOfText, IsReadable, first_asked}
 use Rattle.lois_questions.specs.Laws.{IsRefusedSo, RefusalsAreSure}
 use Rattle.lois_questions.specs.declared.command_line.Question.{Question}
@@ -268,11 +268,11 @@ module _ (text : List ℕ) where
 
   answered_once : (q : Question) (u : Refusal) (o : Outcome) → Answers q text (Refused u) → Answers q text o → IsRefusedSo u o
   answered_once (questions.Word a) u o h g =
-      told_once (λ r w. IsWitness (length r.parameters) a r.cases w) word_outcome
-      (λ r x y u h g is. so u (word_outcome r.parameters y) (witnessed_once (length r.parameters) a r.cases r.parameters x y u h g is ∙ sym is)) u o h g
+      told_once (IsWordIn a) word_outcome
+      (λ r x y u h g is. so u (word_outcome r.parameters y) (witnessed_once (length r.parameters) a r.cases r.parameters x y u h.0 g.0 is ∙ sym is)) u o h g
   answered_once (questions.Within a b) u o h g =
-      told_once (λ r i. IsInclusion (length r.parameters) a b r.cases i) within_outcome
-      (λ r x y u h g is. so u (within_outcome r.parameters y) (included_once (length r.parameters) a b r.cases r.parameters x y u h g is ∙ sym is)) u o h g
+      told_once (IsInclusionIn a b) within_outcome
+      (λ r x y u h g is. so u (within_outcome r.parameters y) (included_once (length r.parameters) a b r.cases r.parameters x y u h.0 g.0 is ∙ sym is)) u o h g
   answered_once questions.Same u o h g = both_once u o h g
   answered_once (questions.Picture a) u o h g =
       told_once (λ r p. IsPicture r.order r a p) (λ ps p. picture_outcome p) (λ r x y u h g is. drawn_once r.order r a x y u h g is) u o h g

@@ -3,8 +3,9 @@ use Rattle.std.specs.Prelude.{◌≡◌, ℕ, List, [], length}
 use Rattle.lois_answers.specs.declared.results.Results.{Results}
 use Rattle.lois_cases.specs.declared.partitions.Partition.{Partition}
 use Rattle.lois_cases.specs.declared.partitions.Partition.TheVariants as partitions
-use Rattle.lois_languages.specs.Inclusions.{IsInclusion}
-use Rattle.lois_languages.specs.Witnesses.{IsWitness}
+use Rattle.lois_ranks.specs.Ranks.{AreRanks}
+use Rattle.lois_languages.specs.Inclusions.{IsInclusion, IfBeyond}
+use Rattle.lois_languages.specs.Witnesses.{IsWitness, IfFound}
 use Rattle.lois_languages.specs.declared.faults.LineFault.{LineFault}
 use Rattle.lois_languages.specs.declared.faults.LineFault.TheVariants as fault
 use Rattle.lois_languages.specs.declared.inclusions.Inclusion.{Inclusion}
@@ -91,10 +92,19 @@ pub record TellsBoth (text : List ℕ) (o : Outcome) : Type 0 where
   pub found : IsLikeness first second answer
   pub told : IsSameOutcome first.parameters answer o
 
+-- what is found where a word is looked for that the lines of a name accept; its numbers are ranks
+abbrev pub IsWordIn : List ℕ → Results → Witness → Type 0
+IsWordIn name r w = IsWitness (length r.parameters) name r.cases w × IfFound (λ v. AreRanks r.order v.sample) w
+
+-- so where a word is looked for that one name's lines accept and another's don't
+abbrev pub IsInclusionIn : List ℕ → List ℕ → Results → Inclusion → Type 0
+IsInclusionIn first second r i =
+    IsInclusion (length r.parameters) first second r.cases i × IfBeyond (λ d. AreRanks r.order d.sample) i
+
 -- the outcome answers the question about the results of the text
 abbrev pub Answers : Question → List ℕ → Outcome → Type 0
-Answers (questions.Word name) text o = Tells (λ r w. IsWitness (length r.parameters) name r.cases w) word_outcome text o
-Answers (questions.Within first second) text o = Tells (λ r i. IsInclusion (length r.parameters) first second r.cases i) within_outcome text o
+Answers (questions.Word name) text o = Tells (IsWordIn name) word_outcome text o
+Answers (questions.Within first second) text o = Tells (IsInclusionIn first second) within_outcome text o
 Answers questions.Same text o = TellsBoth text o
 Answers (questions.Picture name) text o = Tells (λ r p. IsPicture r.order r name p) (λ parameters p. picture_outcome p) text o
 

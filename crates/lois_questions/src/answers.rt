@@ -3,6 +3,7 @@
 ghost use Rattle.std.specs.Prelude.{◌≡◌, length, IfOk};
 ghost use Rattle.lois_answers.specs.Sound.{IsSound};
 ghost use Rattle.lois_equal.specs.Differences.{AreBounded};
+ghost use Rattle.lois_ranks.specs.Ranks.{AreRanks};
 ghost use Rattle.lois_languages.specs.Inclusions.{IsInclusion, IfBeyond};
 ghost use Rattle.lois_languages.specs.Witnesses.{IsWitness, IfFound};
 ghost use Rattle.lois_picture.specs.Pictures.{IsPicture, HasPictureText};
@@ -65,6 +66,7 @@ fn witness_in(
     requires sound { IsSound results.now }
     ensures witness { IfOk result (IsWitness (length results.now.parameters) name.now results.now.cases) }
     ensures usual { IfOk result (IfFound (λ w. AreBounded results.now.order w.letters)) }
+    ensures ranked { IfOk result (IfFound (λ w. AreRanks results.now.order w.sample)) }
 {
     if results.order {
         word_of::<OrderAtoms>(alloc, results, name, chosen)
@@ -113,6 +115,7 @@ fn inclusion_in(
     requires sound { IsSound results.now }
     ensures inclusion { IfOk result (IsInclusion (length results.now.parameters) first.now second.now results.now.cases) }
     ensures usual { IfOk result (IfBeyond (λ d. AreBounded results.now.order d.word)) }
+    ensures ranked { IfOk result (IfBeyond (λ d. AreRanks results.now.order d.sample)) }
 {
     if results.order {
         inclusion_of::<OrderAtoms>(alloc, results, first, second, chosen)

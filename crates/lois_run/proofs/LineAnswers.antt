@@ -17,8 +17,7 @@ use Rattle.lois_census.specs.Refusals.{IsCensusAnswer as IsCounted}
 use Rattle.lois_census.specs.declared.counting.Answer.{Answer}
 use Rattle.lois_census.specs.declared.counting.Answer.TheVariants.{Listed, Refused as Uncounted}
 use Rattle.lois_census.specs.declared.counting.Refusal.TheVariants as uncounted
-use Rattle.lois_equal.specs.Comparing.{IsComparison}
-use Rattle.lois_equal.specs.ComparedCases.{IfDiffer}
+use Rattle.lois_equal.specs.Comparing.{IsComparison, IfDiffer}
 use Rattle.lois_equal.specs.Differences.{AreBounded}
 use Rattle.lois_equal.specs.declared.comparing.Comparison.{Comparison}
 use Rattle.lois_equal.specs.declared.comparing.Comparison.TheVariants.{Alike, Differ as Unlike, Refused as Unfit}

@@ -4,7 +4,8 @@ use Rattle.lois_base.specs.Data.{TermD}
 use Rattle.lois_answers.specs.declared.results.Results.{Results}
 use Rattle.lois_answers.specs.Sound.{IsSound}
 use Rattle.lois_reader.specs.Refusal.{IsResultsOf}
-use Rattle.lois_equal.specs.Comparing.{IsComparison}
+use Rattle.lois_ranks.specs.Ranks.{AreRanks}
+use Rattle.lois_equal.specs.Comparing.{IsComparison, IfDiffer}
 use Rattle.lois_equal.specs.declared.comparing.Comparison.{Comparison}
 use Rattle.lois_equal.specs.declared.comparing.Comparison.TheVariants as compared
 use Rattle.lois_equal.specs.declared.comparing.ComparisonFault.TheVariants as unfit
@@ -27,12 +28,13 @@ compared_outcome parameters (compared.Differ k d name) = Differ k d name paramet
 compared_outcome parameters (compared.Refused (unfit.NoLine name k)) = Refused (NoLine name k)
 compared_outcome parameters (compared.Refused (unfit.NotDeterministic name k)) = Refused (NotDeterministic name k)
 
--- the outcome is what is found where the lines of two names are compared, in the results of the text
+-- the outcome is what is found where the lines of two names are compared, in the results of the text; a word's numbers are ranks
 pub record Compares (first second : List ℕ) (text : List ℕ) (o : Outcome) : Type 0 where
   pub results : Results
   pub read : IsResultsOf text results
   pub comparison : Comparison
   pub found : IsComparison (length results.parameters) first second results.cases comparison
+  pub ranked : IfDiffer (λ d. AreRanks results.order d.sample) comparison
   pub told : o ≡ compared_outcome results.parameters comparison
 
 -- what is found where the orbits of a name's sets are looked for, as an outcome

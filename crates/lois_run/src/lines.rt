@@ -3,9 +3,9 @@
 ghost use Rattle.std.specs.Prelude.{◌≡◌, length, IfOk};
 ghost use Rattle.lois_answers.specs.Sound.{IsSound};
 ghost use Rattle.lois_census.specs.Refusals.{IsCensusAnswer};
-ghost use Rattle.lois_equal.specs.Comparing.{IsComparison};
-ghost use Rattle.lois_equal.specs.ComparedCases.{IfDiffer};
+ghost use Rattle.lois_equal.specs.Comparing.{IsComparison, IfDiffer};
 ghost use Rattle.lois_equal.specs.Differences.{AreBounded};
+ghost use Rattle.lois_ranks.specs.Ranks.{AreRanks};
 ghost use Rattle.lois_run.specs.TextAnswers.{AnswersText};
 ghost use Rattle.lois_run.specs.Outcomes.{HasText};
 ghost use Rattle.lois_run.specs.Lines.{compared_outcome, listed_outcome};
@@ -53,6 +53,7 @@ fn compared(
     requires sound { IsSound results.now }
     ensures comparison { IfOk result (IsComparison (length results.now.parameters) first.now second.now results.now.cases) }
     ensures usual { IfOk result (IfDiffer (λ d. AreBounded results.now.order d.word)) }
+    ensures ranked { IfOk result (IfDiffer (λ d. AreRanks results.now.order d.sample)) }
 {
     if results.order {
         compare::<OrderAtoms>(alloc, results, first, second, chosen)

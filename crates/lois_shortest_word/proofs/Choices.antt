@@ -14,10 +14,14 @@ length_front e k n l le = length-take-le k e (omega arith)
 pub length_back : (e : List Atom) (k n : ℕ) → length e ≡ n → length (drop k e) ≡ n - k
 length_back e k n l = length-drop k e ∙ ap (λ z. z - k) l
 
+-- the first n numbers of a sample
+pub first_count : (n : ℕ) (s : List ℕ) → n ≤ length s → length (sampled (take n s)) ≡ n
+first_count n s le = length-map (take n s) whole ∙ length-take-le n s le
+
 -- the numbers of a sample of n numbers and k more
 module _ (n k : ℕ) (s : List ℕ) (is : length s ≡ n + k) where
   pub first_length : length (sampled (take n s)) ≡ n
-  first_length = length-map (take n s) whole ∙ length-take-le n s (omega arith)
+  first_length = first_count n s (omega arith)
 
   pub other_length : length (sampled (drop n s)) ≡ k
   other_length = length-map (drop n s) whole ∙ (length-drop n s ∙ omega arith)

@@ -1,9 +1,8 @@
 -- The end of the way: a word that is accepted, and none is shorter.
-use Rattle.std.proofs.Common.{◌≡◌, ℕ, ◌+◌, ◌≤◌, List, [], ◌∷◌, ◌++◌, length, take, drop, append-nil, sym, ap, ◌∙◌, subst, arith}
-use Rattle.std.proofs.lemmas.List.{length-map, length-take-le}
+use Rattle.std.proofs.Common.{◌≡◌, ℕ, ◌+◌, List, [], ◌∷◌, ◌++◌, length, take, drop, append-nil, sym, ap, ◌∙◌, subst, arith}
 use Rattle.std.specs.Bool.{IsTrue}
 use Rattle.std.specs.List.{All}
-use Rattle.lois_base.specs.Atom.{Atom, whole}
+use Rattle.lois_base.specs.Atom.{Atom}
 use Rattle.lois_base.specs.Data.{TermD, CompsD}
 use Rattle.lois_base.specs.Fits.{Fits}
 use Rattle.lois_base.specs.Tree.{tree}
@@ -21,7 +20,7 @@ use Rattle.lois_shortest_word.specs.Words.{AcceptsAt, values_at, first_sampled, 
 use Rattle.lois_shortest_word.specs.Shortest.{IsShortestWord}
 use Rattle.lois_shortest_word.specs.declared.symbolic_states.SymbolicState.{SymbolicState}
 use Rattle.lois_shortest_word.specs.declared.words.Word.{Word}
-use Rattle.lois_shortest_word.proofs.Choices.{first_length, other_length, whole_sample}
+use Rattle.lois_shortest_word.proofs.Choices.{first_count, first_length, other_length, whole_sample}
 use Rattle.lois_shortest_word.proofs.Readings.{accepted_letters}
 
 module _ (n : ℕ) (u : List (List Lit)) (m : List Atom → Automaton) (stage : SymbolicState) (w : Word) (way : IsWay n u m 0 w.letters stage) (sample : w.sample ≡ stage.sample) where
@@ -75,7 +74,7 @@ module _ (a : TermD) (s l t i f : CompsD) (is : a ≡ five_of s l t i f) (n : �
   pub word_is : (w : Word) → IsWordOf n u (automaton_at s l t i f) w → AreUsedBetween n (length w.sample) w.letters → IsShortestWord n u a w
   word_is w h used =
       let c = first_sampled n w.sample in
-      let k : length c ≡ n = first_count h.count in
+      let k : length c ≡ n = first_count n w.sample h.count in
       let own = machine_is c k h.admitted in
       let word = values_at (sampled w.sample) w.letters in
       record {
@@ -87,6 +86,3 @@ module _ (a : TermD) (s l t i f : CompsD) (is : a ≡ five_of s l t i f) (n : �
         shortest = λ d j x v acc. h.shortest d j x v (accepts_here d v acc);
         used = used;
       }
-    where
-      first_count : n ≤ length w.sample → length (first_sampled n w.sample) ≡ n
-      first_count le = length-map (take n w.sample) whole ∙ length-take-le n w.sample le

@@ -16,3 +16,5 @@ pub mod CommonPairs
 pub mod NextRound
 pub mod Meetings
 pub mod CommonWords
+pub mod AlikeWords
+pub mod RankedWords

@@ -5,6 +5,7 @@ pub mod SymbolicStates
 pub mod Steps
 pub mod Walks
 pub mod Shortened
+pub mod Ranked
 pub mod Pairs
 pub mod Rounds
 pub mod Common

@@ -7,6 +7,7 @@ mod layers;
 mod lowering;
 mod meeting;
 mod narrowing;
+mod ranking;
 mod rounds;
 mod shortening;
 mod shortest;
@@ -16,6 +17,7 @@ mod walking;
 mod words;
 
 pub use common::shortest_common_word;
+pub use ranking::rank_found;
 pub use shortening::drop_unused_numbers;
 pub use shortest::shortest_word;
 pub use words::Word;

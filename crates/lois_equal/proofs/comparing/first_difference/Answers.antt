@@ -4,9 +4,10 @@ use Rattle.lois_answers.specs.CaseView.{case_of}
 use Rattle.lois_answers.specs.Sound.{IsSoundCase}
 use Rattle.lois_deciders.proofs.OnlyAsked.{only_asked_then}
 use Rattle.lois_printer.proofs.Fitting.{holds_of_each}
-use Rattle.lois_equal.specs.Comparing.{AreComparable, LinesHaveSameLanguage, LinesDiffer, side_name}
-use Rattle.lois_equal.specs.ComparedCases.{IsFirstDifference, IfDiffer}
-use Rattle.lois_equal.specs.Differences.{AreBounded}
+use Rattle.lois_equal.specs.Comparing.{AreComparable, LinesHaveSameLanguage, LinesDiffer, side_name, IfDiffer}
+use Rattle.lois_equal.specs.ComparedCases.{IsFirstDifference}
+use Rattle.lois_ranks.specs.Ranks.{AreRanks}
+use Rattle.lois_equal.specs.Differences.{AreBounded, IfDiffers}
 use Rattle.lois_equal.specs.declared.comparing.Comparison.TheVariants.{Differ}
 use Rattle.lois_equal.proofs.CaseLines.{holds_so_far, holds_of_all, first_here, alike_at, apart_at, usual_at}
 use Rattle.lois_equal.proofs.comparing.first_difference.Goals as goal
@@ -56,3 +57,11 @@ returns-in-Differs-clause-usual g c =
     let name = side_name d.left c.args.first.now c.args.second.now in
     IfOk-weaker c.differs.result (λ r. r ≡ Differ (c.loop-index.index + 1) d name) _ (λ r e.
     subst (IfDiffer (λ z. AreBounded g.T.Structure.ordered z.word)) (sym e) (usual_at g.T.Structure.ordered c.in_ok-found.found d c.in-Differs.is c.in_ok-found.ensures.usual)) c.differs.ensures
+
+pub returns-in-Differs-clause-ranked : goal.returns-in-Differs-clause-ranked
+returns-in-Differs-clause-ranked g c =
+    let o = g.T.Structure.ordered in
+    let d = c.in-Differs.difference in
+    let name = side_name d.left c.args.first.now c.args.second.now in
+    IfOk-weaker c.differs.result (λ r. r ≡ Differ (c.loop-index.index + 1) d name) _ (λ r e.
+    subst (IfDiffer (λ z. AreRanks o z.sample)) (sym e) (subst (IfDiffers (λ z. AreRanks o z.sample)) c.in-Differs.is c.in_ok-found.ensures.ranked)) c.differs.ensures

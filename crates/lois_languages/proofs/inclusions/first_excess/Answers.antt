@@ -6,6 +6,7 @@ use Rattle.lois_answers.specs.Sound.{IsSoundCase}
 use Rattle.lois_deciders.proofs.OnlyAsked.{only_asked_then}
 use Rattle.lois_deciders.proofs.Oracle.{some_is}
 use Rattle.lois_printer.proofs.Fitting.{holds_of_each}
+use Rattle.lois_ranks.specs.Ranks.{AreRanks}
 use Rattle.lois_equal.specs.Differences.{AreBounded}
 use Rattle.lois_equal.proofs.CaseLines.{holds_so_far, holds_of_all, first_here}
 use Rattle.lois_languages.specs.Inclusions.{AreSuited, IsWithin, IsBeyond, IsExcessWord, IsFirstBeyond, IfBeyond, excess_of}
@@ -56,3 +57,9 @@ returns-in-Some-clause-usual g c =
     let w = c.in-Some.word in
     IfOk-weaker c.beyond.result (λ r. r ≡ Beyond (c.loop-index.index + 1) (excess_of w) c.args.first.now) _ (λ r e.
     subst (IfBeyond (λ d. AreBounded g.T.Structure.ordered d.word)) (sym e) (some_is (λ v. AreBounded g.T.Structure.ordered v.letters) c.in_ok-found.found w c.in-Some.is c.in_ok-found.ensures.usual)) c.beyond.ensures
+
+pub returns-in-Some-clause-ranked : goal.returns-in-Some-clause-ranked
+returns-in-Some-clause-ranked g c =
+    let w = c.in-Some.word in
+    IfOk-weaker c.beyond.result (λ r. r ≡ Beyond (c.loop-index.index + 1) (excess_of w) c.args.first.now) _ (λ r e.
+    subst (IfBeyond (λ d. AreRanks g.T.Structure.ordered d.sample)) (sym e) (some_is (λ v. AreRanks g.T.Structure.ordered v.sample) c.in_ok-found.found w c.in-Some.is c.in_ok-found.ensures.ranked)) c.beyond.ensures

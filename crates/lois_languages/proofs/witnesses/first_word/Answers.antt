@@ -5,6 +5,7 @@ use Rattle.lois_answers.specs.Sound.{IsSoundCase}
 use Rattle.lois_deciders.proofs.OnlyAsked.{only_asked_then}
 use Rattle.lois_deciders.proofs.Oracle.{some_is}
 use Rattle.lois_printer.proofs.Fitting.{holds_of_each}
+use Rattle.lois_ranks.specs.Ranks.{AreRanks}
 use Rattle.lois_equal.specs.Differences.{AreBounded}
 use Rattle.lois_equal.proofs.CaseLines.{holds_so_far, holds_of_all, first_here}
 use Rattle.lois_languages.specs.Faults.{HasAutomaton}
@@ -48,3 +49,7 @@ returns-clause-first g c =
 pub returns-in-Some-clause-usual : goal.returns-in-Some-clause-usual
 returns-in-Some-clause-usual g c =
     some_is (λ v. AreBounded g.T.Structure.ordered v.letters) c.in_ok-found.found c.in-Some.word c.in-Some.is c.in_ok-found.ensures.usual
+
+pub returns-in-Some-clause-ranked : goal.returns-in-Some-clause-ranked
+returns-in-Some-clause-ranked g c =
+    some_is (λ v. AreRanks g.T.Structure.ordered v.sample) c.in_ok-found.found c.in-Some.word c.in-Some.is c.in_ok-found.ensures.ranked
