@@ -1,4 +1,5 @@
 mod Joined
 mod Parted
 mod Readable
+mod Strengthened
 mod Tuples

@@ -7,6 +7,7 @@ mod losing;
 mod ordering;
 mod reading;
 mod splitting;
+mod strengthening;
 mod surroundings;
 mod weights;
 

@@ -14,6 +14,7 @@ ghost use Rattle.lois_simplify.specs.Simplification.{IsSameWhere, IsSimplificati
 
 use crate::joining::join;
 use crate::splitting::split;
+use crate::strengthening::strengthen;
 use crate::weights::weight;
 use lois_base::{Constraint, Decider, NoMemory, Structure, Term};
 use lois_deciders::Chosen;
@@ -96,7 +97,8 @@ fn read_joined<T: Structure>(
     if joined.is_equal(&term) {
         return Ok(term);
     }
-    let shorter = simplified::<T>(alloc, &joined, under, size, chosen)?;
+    let strong = strengthen(alloc, &joined, under, size)?;
+    let shorter = simplified::<T>(alloc, &strong, under, size, chosen)?;
     let most = weight(&term);
     if weight(&shorter) > most {
         return Ok(term);

@@ -2,7 +2,8 @@
 
 use lois_base::{Comp, Comps, Constraint, Term, Terms};
 
-fn guard_weight(guard: &Constraint) -> usize {
+/// How many literals the guard has.
+pub(crate) fn guard_weight(guard: &Constraint) -> usize {
     let mut weight = 0_usize;
     for cube in guard.as_slice() {
         weight = weight.saturating_add(cube.len());

@@ -1,6 +1,5 @@
 use Rattle.lois_base.specs.Tree.{tree}
-use Rattle.lois_simplify.specs.Simplification.{IsSimplification}
-use Rattle.lois_simplify.proofs.Kept.{kept_refl}
+use Rattle.lois_simplify.proofs.Kept.{kept_refl, kept_trans}
 use Rattle.lois_readable.proofs.Joined.{kept_where}
 use Rattle.lois_readable.proofs.Readable.{readable_from}
 use Rattle.lois_readable.proofs.reading.read_joined.Goals as goal
@@ -13,15 +12,20 @@ pub returns-then-weight-most-clause-readable : goal.returns-then-weight-most-cla
 returns-then-weight-most-clause-readable g c =
     record { kept = kept_refl c.args.under.now c.args.size (tree c.args.term); normal = c.requires.normal; guards = c.requires.guards; plain = c.requires.plain }
 
+pub strengthen-requires : goal.strengthen-requires
+strengthen-requires g c =
+    let joined = kept_where c.args.under.now c.args.size (tree c.args.term) (tree c.in_ok-joined.joined) c.in_ok-joined.ensures in
+    record { levels = joined.levels c.requires.levels; under_levels = c.requires.under_levels }
+
 pub simplified-requires : goal.simplified-requires
 simplified-requires g c =
-    let u = c.args.under.now in
-    let n = c.args.size in
-    let joined : IsSimplification u n (tree c.args.term) (tree c.in_ok-joined.joined) = kept_where u n (tree c.args.term) (tree c.in_ok-joined.joined) c.in_ok-joined.ensures in
+    let o = g.T.Structure.ordered in
+    let joined = kept_where c.args.under.now c.args.size (tree c.args.term) (tree c.in_ok-joined.joined) c.in_ok-joined.ensures in
+    let strong = c.in_ok-strong.ensures in
     record {
-      levels = joined.levels c.requires.levels;
+      levels = strong.levels (joined.levels c.requires.levels);
       under_levels = c.requires.under_levels;
-      operators = joined.operators g.T.Structure.ordered c.requires.operators;
+      operators = strong.operators o (joined.operators o c.requires.operators);
       under_operators = c.requires.under_operators;
     }
 
@@ -30,5 +34,6 @@ returns-clause-readable g c =
     let u = c.args.under.now in
     let n = c.args.size in
     let t = tree c.args.term in
-    let s = tree c.in_ok-joined.joined in
-    readable_from u n t s (tree c.in_ok-shorter.shorter) (kept_where u n t s c.in_ok-joined.ensures) c.in_ok-shorter.ensures.readable
+    let j = tree c.in_ok-joined.joined in
+    let s = tree c.in_ok-strong.strong in
+    readable_from u n t s (tree c.in_ok-shorter.shorter) (kept_trans u n t j s (kept_where u n t j c.in_ok-joined.ensures) c.in_ok-strong.ensures) c.in_ok-shorter.ensures.readable
