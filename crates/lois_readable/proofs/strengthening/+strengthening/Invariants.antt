@@ -1,5 +1,6 @@
 use Rattle.std.proofs.Common.{◌+◌, ◌*◌, take, map}
-use Rattle.lois_base.specs.Data.{depth, depth_of_terms, depth_of_comps}
+use Rattle.lois_base.specs.Data.{depth}
+use Rattle.lois_base.specs.ListDepth.{depth_of_terms, depth_of_comps}
 use Rattle.lois_base.specs.Tree.{tree, comp_of}
 use Rattle.lois_simplify.specs.Simplification.{IsSimplification, set_of}
 use Rattle.lois_readable.proofs.Tuples.{ArePartsKept}
