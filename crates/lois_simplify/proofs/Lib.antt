@@ -6,6 +6,7 @@ pub mod Kept
 pub mod IrredundantComps
 pub mod Members
 pub mod OneRound
+pub mod Parted
 pub mod Pass
 pub mod Plain
 pub mod Said

@@ -7,12 +7,15 @@ mod fixing;
 mod guards;
 mod moving;
 mod oracle;
+mod orders;
+mod parting;
 mod refuting;
 mod rewording;
 mod rounds;
 mod sampling;
 mod shortening;
 mod simplifying;
+mod wide_cubes;
 mod witness;
 
 pub use shortening::shortest;

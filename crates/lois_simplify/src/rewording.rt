@@ -1,7 +1,9 @@
 //! Other words for a guard without `<=`, found by widening its cubes under what surrounds it. Nothing rests on how they are found:
 //! whoever takes them asks first whether they say the same.
 
+use crate::orders::OrderTable;
 use crate::shortening::{constraint_of, follows, joined_literals};
+use crate::wide_cubes::wide_cubes;
 use crate::witness::{TwoChoices, choices_at, is_seen_outside};
 use lois_base::{Constraint, Cube, Lit, NoMemory, Op};
 use lois_constraint::{covers_cube, implies, meet, prune, singleton};
@@ -28,11 +30,7 @@ pub(crate) fn is_worth_rewording(
     if whole.len() < 2 || under.len() > MOST_SURROUNDING {
         return false;
     }
-    if guard.len() < 2 && reading_length(under) < 2 {
-        return false;
-    }
-    let compared = guard.len().saturating_add(under.len());
-    whole.len().saturating_mul(compared) <= MOST_COMPARED
+    guard.len() >= 2 || reading_length(under) >= 2
 }
 
 /// How long the constraint is to read: its literals and its cubes.
@@ -352,18 +350,54 @@ fn longest_cube(constraint: &Constraint) -> usize {
     longest
 }
 
-/// The guard with its cubes as wide as `under` allows, without those that the others cover there, of which the longest go first.
-/// `whole` is the guard without `<=`.
-pub(crate) fn reworded(
+// Whether cubes are soon compared one by one.
+fn are_soon_compared(guard: &Constraint, whole: &Constraint, under: &Constraint) -> bool {
+    let compared = guard.len().saturating_add(under.len());
+    whole.len().saturating_mul(compared) <= MOST_COMPARED
+}
+
+/// The orders of the levels of the guard and `under`, where cubes aren't soon compared one by one and the levels are few.
+pub(crate) fn orders_for(
+    alloc: Global,
+    guard: &Constraint,
+    whole: &Constraint,
+    under: &Constraint,
+) -> Result<Option<OrderTable>, NoMemory> {
+    if are_soon_compared(guard, whole, under) {
+        return Ok(None);
+    }
+    OrderTable::of(alloc, guard, under)
+}
+
+// The cubes are compared one by one, where that is soon done.
+fn widely_worded(
     alloc: Global,
     guard: &Constraint,
     whole: &Constraint,
     under: &Constraint,
 ) -> Result<Constraint, NoMemory> {
+    if !are_soon_compared(guard, whole, under) {
+        return whole.copy(alloc);
+    }
     let pruned = prune(alloc, whole)?;
     let closed = closed_cubes(alloc, &pruned)?;
     let wide = all_widened(alloc, &closed, guard, under)?;
     without_longest(alloc, wide, under)
+}
+
+/// The guard with its cubes as wide as `under` allows, without those that the others cover there, of which the longest go first.
+/// `whole` is the guard without `<=`. The orders are looked up where there are some.
+pub(crate) fn reworded(
+    alloc: Global,
+    orders: &Option<OrderTable>,
+    guard: &Constraint,
+    whole: &Constraint,
+    under: &Constraint,
+) -> Result<Constraint, NoMemory> {
+    match orders {
+        Some(orders) => wide_cubes(alloc, orders, whole, under),
+        None => widely_worded(alloc, guard, whole, under),
+    }
 }
 
 fn without_longest(

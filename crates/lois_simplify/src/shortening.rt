@@ -12,8 +12,10 @@ ghost use Rattle.lois_constraint.specs.Normalised.{IsNormalised};
 ghost use Rattle.lois_simplify.specs.Plain.{IsPlain};
 ghost use Rattle.lois_simplify.specs.Shortened.{IsWeakenedCube, IsShortened, SpeaksOfBoth, SpeaksOfAll};
 
+use crate::orders::OrderTable;
+use crate::parting::is_seen_inside;
 use crate::refuting::is_refuted;
-use crate::rewording::{is_worth_rewording, reading_length, reworded};
+use crate::rewording::{is_worth_rewording, orders_for, reading_length, reworded};
 use lois_base::{Constraint, Cube, Lit, NoMemory, Op};
 use lois_constraint::{alternatives, and_not, covers_cube, meet, normalise, prune, singleton};
 use lois_strict::split_constraint;
@@ -48,8 +50,8 @@ pub(crate) fn joined_literals(
     Ok(joined)
 }
 
-// A cube that is longer by the literal.
-fn longer_cube(alloc: Global, cube: &Cube, lit: Lit) -> Result<Cube, NoMemory>
+/// A cube that is longer by the literal.
+pub(crate) fn longer_cube(alloc: Global, cube: &Cube, lit: Lit) -> Result<Cube, NoMemory>
     ensures { IfOk result (λ r. r ≡ cube.now ++ lit ∷ []) }
 {
     let mut longer = cube.copy(alloc)?;
@@ -222,9 +224,25 @@ fn has_no_more_order(constraint: &Constraint, guard: &Constraint) -> bool
     !is_order_free(guard)
 }
 
+// Whether the outer constraint is seen to hold wherever the inner one does.
+fn holds_inside(
+    alloc: Global,
+    table: &Option<OrderTable>,
+    inner: &Constraint,
+    outer: &Constraint,
+) -> Result<bool, NoMemory>
+    ensures { IfOk result (λ b. IsTrue b → (e : List Atom) → IsTrue (holds e inner.now) → IsTrue (holds e outer.now)) }
+{
+    match table {
+        Some(table) => is_seen_inside(alloc, table, inner, outer),
+        None => follows(alloc, outer, inner),
+    }
+}
+
 // Whether the other constraint stands for the guard wherever `under` holds, and has no level or operator that the guard hasn't.
 fn says_the_same(
     alloc: Global,
+    table: &Option<OrderTable>,
     other: &Constraint,
     guard: &Constraint,
     under: &Constraint,
@@ -238,11 +256,11 @@ fn says_the_same(
         return Ok(false);
     }
     let at_guard = meet(alloc, under, guard)?;
-    if !follows(alloc, other, &at_guard)? {
+    if !holds_inside(alloc, table, &at_guard, other)? {
         return Ok(false);
     }
     let at_other = meet(alloc, under, other)?;
-    follows(alloc, guard, &at_other)
+    holds_inside(alloc, table, &at_other, guard)
 }
 
 // Of the two the one that is shorter to read, if the other stands for the guard wherever `under` holds.
@@ -256,9 +274,10 @@ fn shorter(
     requires { IsShortened under.now guard.now short }
     ensures { IfOk result (IsShortened under.now guard.now) }
 {
-    let other = reworded(alloc, guard, whole, under)?;
+    let table = orders_for(alloc, guard, whole, under)?;
+    let other = reworded(alloc, &table, guard, whole, under)?;
     if reading_length(&other) < reading_length(&short)
-        && says_the_same(alloc, &other, guard, under)?
+        && says_the_same(alloc, &table, &other, guard, under)?
     {
         return Ok(other);
     }
