@@ -43,6 +43,7 @@ GROUPS = {
     "each part of a term is asked the same": "lois_answers/src/sound lois_terms/src/reading",
     "a fault of depth, asked of an oracle and of a decider": "lois_eval/src/checks lois_interp/src/checks",
     "two facts of one tree": "lois_interp/specs/WithinLimits lois_script/specs/Limits",
+    "terms are made anew for a reader, guard by guard": "lois_readable/src/splitting lois_readable/src/strengthening",
     "two facts of a term's guards": "lois_base/specs/Validity lois_simplify/specs/Irredundant",
     "tests make the same small values": """lois_vectors/src/tests lois_vectors_rows/src/calling lois_vectors_rows/src/spelling
         lois_vectors_contexts/src/making lois_vectors_expressions/src/making lois_vectors_sets/src/making lois_vectors_statements/src/making
@@ -50,7 +51,8 @@ GROUPS = {
 }
 # Two forms of one kind mirror one another in these files: a tuple and a set, intersection and difference, input and output.
 MIRRORS = """lois_algebra/src/depth lois_eval/src/evaluating lois_eval/src/machines lois_eval/src/relations lois_outside/src/standard
-    lois_parser/src/conditions lois_printer/src/terms lois_reader/src/terms lois_relate/src/building lois_relate/src/relating""".split()
+    lois_parser/src/conditions lois_printer/src/terms lois_readable/src/strengthening lois_reader/src/terms lois_relate/src/building
+    lois_relate/src/relating""".split()
 
 
 def has_reason(one, other):

@@ -20,14 +20,6 @@ pub ordered_admits_all : (o : Bool) → IsTrue o → (u : List (List Lit)) → A
 ordered_admits_all o is u = subst (λ b. AdmitsConstraint b u) (sym is) (constraint_admitted u)
 
 module _ (u : List (List Lit)) (m : ℕ) (g : List (List Lit)) (t : TermD) where
-  pub own_guard : IsGuardFor u g (comp m g t) g
-  own_guard = record {
-    there = λ e a b. b;
-    back = λ e a b. b;
-    levels = λ n a b. b;
-    operators = λ o a. a.0;
-  }
-
   -- a shorter form of what holds where the guard and u do
   pub guard_shortened : (s h : List (List Lit)) → ((e : List Atom) → holds e s ≡ (holds e u && holds e g)) → ((n : ℕ) → ConstraintFits n u → ConstraintFits n g → ConstraintFits n s) → ((o : Bool) → AdmitsConstraint o u → AdmitsConstraint o g → AdmitsConstraint o s) → ((o : Bool) → AdmitsComp o (comp m g t) → IsTrue o) → IsShortened u s h → IsGuardFor u g (comp m g t) h
   guard_shortened s h truth fits admits order short = record {
