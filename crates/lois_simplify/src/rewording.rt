@@ -34,12 +34,35 @@ pub(crate) fn is_worth_rewording(
 }
 
 /// How long the constraint is to read: its literals and its cubes.
-pub(crate) fn reading_length(constraint: &Constraint) -> usize {
+fn reading_length(constraint: &Constraint) -> usize {
     let mut length = 0_usize;
     for cube in constraint.as_slice() {
         length = length.saturating_add(cube.len()).saturating_add(1);
     }
     length
+}
+
+// The sum of the levels in the constraint: low levels are those of parameters and of outer binders, whose names are shorter.
+fn sum_of_levels(constraint: &Constraint) -> usize {
+    let mut sum = 0_usize;
+    for cube in constraint.as_slice() {
+        sum = sum.saturating_add(sum_of_cube_levels(cube));
+    }
+    sum
+}
+
+fn sum_of_cube_levels(cube: &Cube) -> usize {
+    let mut sum = 0_usize;
+    for lit in cube.as_slice() {
+        sum = sum.saturating_add(lit.left).saturating_add(lit.right);
+    }
+    sum
+}
+
+/// Whether the one constraint is shorter to read than the other, or as long and of lower levels.
+pub(crate) fn reads_shorter(one: &Constraint, other: &Constraint) -> bool {
+    let lengths = (reading_length(one), reading_length(other));
+    lengths.0 < lengths.1 || lengths.0 == lengths.1 && sum_of_levels(one) < sum_of_levels(other)
 }
 
 fn put_level(levels: &mut Vec<usize>, level: usize) -> Result<(), NoMemory> {

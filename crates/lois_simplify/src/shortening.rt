@@ -15,7 +15,7 @@ ghost use Rattle.lois_simplify.specs.Shortened.{IsWeakenedCube, IsShortened, Spe
 use crate::orders::OrderTable;
 use crate::parting::is_seen_inside;
 use crate::refuting::is_refuted;
-use crate::rewording::{is_worth_rewording, orders_for, reading_length, reworded};
+use crate::rewording::{is_worth_rewording, orders_for, reads_shorter, reworded};
 use lois_base::{Constraint, Cube, Lit, NoMemory, Op};
 use lois_constraint::{alternatives, and_not, covers_cube, meet, normalise, prune, singleton};
 use lois_strict::split_constraint;
@@ -276,9 +276,7 @@ fn shorter(
 {
     let table = orders_for(alloc, guard, whole, under)?;
     let other = reworded(alloc, &table, guard, whole, under)?;
-    if reading_length(&other) < reading_length(&short)
-        && says_the_same(alloc, &table, &other, guard, under)?
-    {
+    if reads_shorter(&other, &short) && says_the_same(alloc, &table, &other, guard, under)? {
         return Ok(other);
     }
     Ok(short)
