@@ -1,5 +1,5 @@
 -- Cubes without the literals that follow.
-use Rattle.std.proofs.Common.{◌≡◌, ℕ, ◌+◌, ◌<◌, Bool, true, false, not, ◌&&◌, ◌||◌, ◌↔◌, List, [], ◌∷◌, ◌++◌, length, get_or, take, refl, sym, ap, ◌∙◌}
+use Rattle.std.proofs.Common.{◌≡◌, ℕ, ◌+◌, ◌<◌, Bool, true, false, not, ◌&&◌, ◌||◌, ◌↔◌, List, [], ◌∷◌, ◌++◌, length, get_or, take, refl, sym, ap, ◌∙◌, arith}
 use Rattle.std.specs.Bool.{IsTrue}
 use Rattle.std.specs.Option.{IfSome, is_some}
 use Rattle.std.specs.declared.option.Option.{Option}
@@ -166,3 +166,13 @@ pub some_met : (k : List Lit) (o : Option (List Lit)) (b : Bool) → ((c : List 
 some_met k None true truth met is e = absurd (cc)
 some_met k None false truth met is e = absurd (cc)
 some_met k (Some x) b truth met is e = (met.0, sym (truth met.0) ∙ met.1)
+
+-- a constraint of one cube alone
+pub alone_holds : (c : List Atom) (g : List (List Lit)) (x : List Lit) → length g ≡ 1 → x ≡ get_or g 0 x → cube_holds c x ≡ holds c g
+alone_holds c [] x l e = absurd (omega arith)
+alone_holds c (k ∷ []) x l e = ap (cube_holds c) e ∙ or_none (cube_holds c k)
+  where
+    or_none : (b : Bool) → b ≡ (b || false)
+    or_none true = refl
+    or_none false = refl
+alone_holds c (k ∷ (q ∷ g)) x l e = absurd (omega arith)

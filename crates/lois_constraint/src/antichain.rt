@@ -133,7 +133,7 @@ fn with_met(
 {
     let mut met = antichain;
     for cube in cubes {
-        met = met.put_with_each(alloc, cube.closed(), c)?;
+        met = met.put_with_all(alloc, cube.into_closed(), c)?;
     }
     Ok(met)
 }
@@ -225,6 +225,31 @@ impl Antichain {
         Ok(antichain)
     }
 
+    // The cube with the other one.
+    fn put_both(self, alloc: Global, closed: ClosedCube, other: &Cube) -> Result<Self, NoMemory>
+        ensures truth { IfOk result (λ r. (c : List Atom) → holds c r ≡ (holds c self || (cube_holds c closed && cube_holds c other.now))) }
+        ensures rules { IfOk result (λ r. (rule : Rule) → ConstraintObeys rule self → CubeObeys rule closed → CubeObeys rule other.now → ConstraintObeys rule r) }
+    {
+        let both = closed.and_literals(alloc, other.as_slice())?;
+        self.put_some(alloc, both)
+    }
+
+    // The cube with each of the others. Mostly there is one other alone, and then the cube isn't copied.
+    fn put_with_all(
+        self,
+        alloc: Global,
+        closed: ClosedCube,
+        others: &Constraint,
+    ) -> Result<Self, NoMemory>
+        ensures truth { IfOk result (λ r. (c : List Atom) → holds c r ≡ (holds c self || (cube_holds c closed && holds c others.now))) }
+        ensures rules { IfOk result (λ r. (rule : Rule) → ConstraintObeys rule self → CubeObeys rule closed → ConstraintObeys rule others.now → ConstraintObeys rule r) }
+    {
+        match others.as_slice() {
+            [other] => self.put_both(alloc, closed, other),
+            _ => self.put_with_each(alloc, &closed, others),
+        }
+    }
+
     // One more cube where the constraint holds too: as it is where it entails one of the constraint's cubes, and else with each.
     fn put_met(self, alloc: Global, closed: ClosedCube, c: &Constraint) -> Result<Self, NoMemory>
         ensures truth { IfOk result (λ r. (e : List Atom) → holds e r ≡ (holds e self || (cube_holds e closed && holds e c.now))) }
@@ -233,7 +258,7 @@ impl Antichain {
         if entails_one(&closed, c) {
             return self.put(alloc, closed);
         }
-        self.put_with_each(alloc, &closed, c)
+        self.put_with_all(alloc, closed, c)
     }
 
     // One more cube where the constraint holds too, if there is one.

@@ -6,6 +6,7 @@ ghost use Rattle.lois_constraint.specs.Alternatives.{denial};
 use lois_base::{Lit, Op};
 
 /// The literal that holds exactly where the given one doesn't. `<` and `<=` come from one another alone.
+#[inline(always)]
 pub(crate) fn denial(lit: Lit) -> Lit
     ensures { result ≡ denial lit }
 {

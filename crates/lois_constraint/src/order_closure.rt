@@ -49,7 +49,7 @@ impl Row {
         }
     }
 
-    #[inline]
+    #[inline(always)]
     #[tactic(auto, using(crate::proofs::Words::first_read))]
     fn reaches(&self, level: usize) -> bool
         ensures { result ≡ reaches self.now level }
@@ -104,7 +104,7 @@ impl Row {
     }
 
     // The levels of another row too.
-    #[inline]
+    #[inline(always)]
     #[tactic(auto, using(crate::proofs::Words::rows_joined, crate::proofs::Words::first_joined))]
     fn join(&mut self, other: &Row) -> Result<(), NoMemory>
         ensures { OnOk result ((b : ℕ) → reaches self.new b ≡ (reaches self.old b || reaches other.now b)) }
@@ -127,7 +127,7 @@ impl Row {
     }
 
     /// An equal row.
-    #[inline]
+    #[inline(always)]
     fn copy(&self, alloc: Global) -> Result<Row, NoMemory>
         ensures { IfOk result (λ r. r ≡ self.now) }
     {
@@ -217,7 +217,7 @@ pub(crate) fn copy_rows(alloc: Global, rows: &[Row]) -> Result<Vec<Row>, NoMemor
     Ok(copy)
 }
 
-#[inline]
+#[inline(always)]
 #[tactic(auto, using(crate::proofs::Words::reaches_nothing))]
 fn are_at_most(rows: &[Row], low: usize, high: usize) -> bool
     ensures { result ≡ are_at_most rows.now low high }
@@ -229,7 +229,7 @@ fn are_at_most(rows: &[Row], low: usize, high: usize) -> bool
 }
 
 /// Whether one level is at most another.
-#[inline]
+#[inline(always)]
 pub(crate) fn at_most(rows: &[Row], low: usize, high: usize) -> bool
     ensures { result ≡ at_most rows.now low high }
 {
@@ -249,7 +249,7 @@ pub(crate) fn low_order(rows: &[Row]) -> u64
 }
 
 /// Whether each of two levels is at most the other.
-#[inline]
+#[inline(always)]
 pub(crate) fn are_tied(rows: &[Row], a: usize, b: usize) -> bool
     ensures { result ≡ is_tied (at_most rows.now) a b }
 {
@@ -281,7 +281,7 @@ fn joins(rows: &[Row], lit: Lit, a: usize, b: usize) -> bool
 }
 
 // Whether one of the two levels is at most the third.
-#[inline]
+#[inline(always)]
 fn is_above_one(rows: &[Row], level: usize, a: usize, b: usize) -> bool
     ensures { result ≡ (at_most rows.now a level || at_most rows.now b level) }
 {
@@ -327,6 +327,7 @@ pub(crate) fn may_be_implied(rows: &[Row], lit: Lit) -> bool
 
 /// Whether the literal follows from the cube, whose rows these are.
 // The rows are read first, since the literals are walked.
+#[inline(always)]
 pub(crate) fn is_implied(rows: &[Row], cube: &Cube, lit: Lit) -> bool
     ensures { result ≡ is_implied (at_most rows.now) cube.now lit.op lit.left lit.right }
 {
@@ -341,6 +342,7 @@ pub(crate) fn is_implied(rows: &[Row], cube: &Cube, lit: Lit) -> bool
 }
 
 /// Whether the literal contradicts the cube, whose rows these are.
+#[inline(always)]
 pub(crate) fn is_refuted(rows: &[Row], cube: &Cube, lit: Lit) -> bool
     ensures { result ≡ is_refuted (at_most rows.now) cube.now lit.op lit.left lit.right }
 {
@@ -377,14 +379,15 @@ fn raise(rows: &mut [Row], level: usize, more: &Row) -> Result<(), NoMemory>
     Ok(())
 }
 
-// As many empty rows as are missing below the level.
+// As many empty rows as are missing below the level, and room for one more. The first get room for the low levels at once.
 #[tactic(auto, using(crate::proofs::Raising::no_row_more))]
 fn put_rows_below(alloc: Global, rows: &mut Vec<Row>, level: usize) -> Result<(), NoMemory>
     ensures same { OnOk result ((a b : ℕ) → are_at_most rows.new.items a b ≡ are_at_most rows.old.items a b) }
     ensures there { OnOk result (length rows.new.items ≡ max (length rows.old.items) level) }
 {
     let missing = level.saturating_sub(rows.len());
-    rows.reserve(missing)?;
+    let more = if rows.is_empty() { LOW_LEVELS } else { 1 };
+    rows.reserve(missing.saturating_add(more))?;
     for _ in 0..missing {
         rows.push(Row::empty(alloc))?;
     }

@@ -4,8 +4,8 @@ use Rattle.std.proofs.lemmas.Bool.{cases_eq, eqb-true}
 use Rattle.std.proofs.lemmas.Grind.{same_number_lists}
 use Rattle.std.proofs.lemmas.List.{get_or-map, length-map, length-set, get_or-set_same, get_or-set_other, get_or_default}
 use Rattle.std.proofs.lemmas.List.Elements.{All-nil, All-append, All-weaker, Contains-append_left, Contains-append_right}
-use Rattle.std.specs.Global.{Vec}
 use Rattle.std.specs.List.{All, Contains}
+use Rattle.smallvec.specs.SmallVec.{SmallVec}
 use Rattle.lois_constraint.specs.Substitution.{put_level}
 use Rattle.lois_deciders.specs.Labels.{AreClasses}
 
@@ -19,7 +19,7 @@ put_not x y i ne = go (nat_eq i x) (eqb-true i x)
     go true f = absurd (ne (f refl))
     go false f = refl
 
-pub own_are_classes : (n : ℕ) (labels : List ℕ) (classes : List (Vec ℕ)) → length labels ≡ n → ((i : ℕ) → i < n → get_or labels i 0 ≡ i) → length classes ≡ n → ((i : ℕ) (d : Vec ℕ) → i < n → (get_or classes i d).items ≡ i ∷ []) → AreClasses labels classes
+pub own_are_classes : (n : ℕ) (labels : List ℕ) (classes : List (SmallVec ℕ)) → length labels ≡ n → ((i : ℕ) → i < n → get_or labels i 0 ≡ i) → length classes ≡ n → ((i : ℕ) (d : SmallVec ℕ) → i < n → (get_or classes i d).items ≡ i ∷ []) → AreClasses labels classes
 own_are_classes n labels classes count own many alone = record {
   count = many ∙ sym count;
   small = λ i l. omega (arith, l, own i (omega (arith, l, count)));
@@ -58,7 +58,7 @@ one_moved labels levels new i next l h = record {
         subst (λ j. get_or (set next (get_or levels i 0) new) j 0 ≡ new) (sym e) (get_or-set_same next (get_or levels i 0) new 0 l)
     at k m (inr ne) = get_or-set_other next (get_or levels i 0) (get_or levels k 0) new 0 ne ∙ h.read k (earlier k m ne (cases_eq k i))
 
-module _ (labels : List ℕ) (classes : List (Vec ℕ)) (h : AreClasses labels classes) (old new : ℕ) (d : Vec ℕ) (old_small : old < length labels) (new_small : new < length labels) (apart : old ≡ new → ⊥) where
+module _ (labels : List ℕ) (classes : List (SmallVec ℕ)) (h : AreClasses labels classes) (old new : ℕ) (d : SmallVec ℕ) (old_small : old < length labels) (new_small : new < length labels) (apart : old ≡ new → ⊥) where
   abbrev levels : List ℕ
   levels = (get_or classes old d).items
 
@@ -77,7 +77,7 @@ module _ (labels : List ℕ) (classes : List (Vec ℕ)) (h : AreClasses labels c
       at j k (inr ne) = m.others j (λ c q e. let s : c < length levels = omega (arith, q, l) in ne (subst (λ x. get_or labels x 0 ≡ old) e (h.sound old d old_small c 0 s).1)) ∙ sym (put j k ∙ put_not old new (get_or labels j 0) ne)
 
   -- the class of the old label is empty then, and its levels have come to the other one
-  module _ (after : List (Vec ℕ)) (many : length after ≡ length classes) (here : (e : Vec ℕ) → (get_or after new e).items ≡ (get_or classes new d).items ++ levels) (gone : (e : Vec ℕ) → (get_or after old e).items ≡ []) (same : (x : ℕ) (e : Vec ℕ) → (x ≡ old → ⊥) → (x ≡ new → ⊥) → get_or after x e ≡ get_or classes x e) where
+  module _ (after : List (SmallVec ℕ)) (many : length after ≡ length classes) (here : (e : SmallVec ℕ) → (get_or after new e).items ≡ (get_or classes new d).items ++ levels) (gone : (e : SmallVec ℕ) → (get_or after old e).items ≡ []) (same : (x : ℕ) (e : SmallVec ℕ) → (x ≡ old → ⊥) → (x ≡ new → ⊥) → get_or after x e ≡ get_or classes x e) where
     abbrev next : List ℕ
     next = map (put_level old new) labels
 
@@ -102,15 +102,15 @@ module _ (labels : List ℕ) (classes : List (Vec ℕ)) (h : AreClasses labels c
     comes : (i : ℕ) → (i < length labels) × (get_or labels i 0 ≡ old) → IsOf new i
     comes i (l, e) = (longer i l, next_at i l ∙ (ap (put_level old new) e ∙ put_is old new))
 
-    sound_now : (x : ℕ) (e : Vec ℕ) → x < length labels → (x ≡ old) ⊎ (x ≡ old → ⊥) → (x ≡ new) ⊎ (x ≡ new → ⊥) → All (IsOf x) (get_or after x e).items
+    sound_now : (x : ℕ) (e : SmallVec ℕ) → x < length labels → (x ≡ old) ⊎ (x ≡ old → ⊥) → (x ≡ new) ⊎ (x ≡ new → ⊥) → All (IsOf x) (get_or after x e).items
     sound_now x e l (inl o) q =
         subst (λ j. All (IsOf x) (get_or after j e).items) (sym o) (subst (All (IsOf x)) (sym (gone e)) (All-nil (IsOf x)))
     sound_now x e l (inr ne) (inl o) =
         subst (λ j. All (IsOf j) (get_or after j e).items) (sym o) (subst (All (IsOf new)) (sym (here e)) (All-append (IsOf new) (get_or classes new d).items levels (All-weaker (λ i. (i < length labels) × (get_or labels i 0 ≡ new)) (IsOf new) (stays new (λ f. apart (sym f))) (get_or classes new d).items (h.sound new d new_small)) (All-weaker (λ i. (i < length labels) × (get_or labels i 0 ≡ old)) (IsOf new) comes levels (h.sound old d old_small))))
     sound_now x e l (inr ne) (inr nn) =
-        subst (λ (c : Vec ℕ). All (IsOf x) c.items) (sym (same x e ne nn)) (All-weaker (λ i. (i < length labels) × (get_or labels i 0 ≡ x)) (IsOf x) (stays x ne) (get_or classes x e).items (h.sound x e l))
+        subst (λ (c : SmallVec ℕ). All (IsOf x) c.items) (sym (same x e ne nn)) (All-weaker (λ i. (i < length labels) × (get_or labels i 0 ≡ x)) (IsOf x) (stays x ne) (get_or classes x e).items (h.sound x e l))
 
-    complete_now : (i : ℕ) (e : Vec ℕ) → i < length labels → (get_or labels i 0 ≡ old) ⊎ (get_or labels i 0 ≡ old → ⊥) → (get_or labels i 0 ≡ new) ⊎ (get_or labels i 0 ≡ new → ⊥) → Contains (get_or after (put_level old new (get_or labels i 0)) e).items i
+    complete_now : (i : ℕ) (e : SmallVec ℕ) → i < length labels → (get_or labels i 0 ≡ old) ⊎ (get_or labels i 0 ≡ old → ⊥) → (get_or labels i 0 ≡ new) ⊎ (get_or labels i 0 ≡ new → ⊥) → Contains (get_or after (put_level old new (get_or labels i 0)) e).items i
     complete_now i e l (inl o) q =
         let c : Contains levels i = subst (λ x. Contains (get_or classes x d).items i) o (h.complete i d l) in
         subst (λ j. Contains (get_or after j e).items i) (sym (ap (put_level old new) o ∙ put_is old new)) (subst (λ (xs : List ℕ). Contains xs i) (sym (here e)) (Contains-append_right (get_or classes new d).items levels i c))
@@ -118,7 +118,7 @@ module _ (labels : List ℕ) (classes : List (Vec ℕ)) (h : AreClasses labels c
         let c : Contains (get_or classes new d).items i = subst (λ x. Contains (get_or classes x d).items i) o (h.complete i d l) in
         subst (λ j. Contains (get_or after j e).items i) (sym (ap (put_level old new) o ∙ put_same)) (subst (λ (xs : List ℕ). Contains xs i) (sym (here e)) (Contains-append_left (get_or classes new d).items levels i c))
     complete_now i e l (inr ne) (inr nn) =
-        subst (λ j. Contains (get_or after j e).items i) (sym (put_not old new (get_or labels i 0) ne)) (subst (λ (c : Vec ℕ). Contains c.items i) (sym (same (get_or labels i 0) e ne nn)) (h.complete i e l))
+        subst (λ j. Contains (get_or after j e).items i) (sym (put_not old new (get_or labels i 0) ne)) (subst (λ (c : SmallVec ℕ). Contains c.items i) (sym (same (get_or labels i 0) e ne nn)) (h.complete i e l))
 
     small_now : (i : ℕ) → i < length labels → (get_or labels i 0 ≡ old) ⊎ (get_or labels i 0 ≡ old → ⊥) → put_level old new (get_or labels i 0) < length labels
     small_now i l (inl o) = subst (λ x. x < length labels) (sym (ap (put_level old new) o ∙ put_is old new)) new_small
@@ -133,11 +133,11 @@ module _ (labels : List ℕ) (classes : List (Vec ℕ)) (h : AreClasses labels c
     }
 
   -- as the two classes are written
-  pub moved_in_place : (emptied grown kept : Vec ℕ) → emptied.items ≡ [] → kept ≡ get_or (set classes old emptied) new kept → grown.items ≡ kept.items ++ levels → AreClasses (map (put_level old new) labels) (set (set classes old emptied) new grown)
+  pub moved_in_place : (emptied grown kept : SmallVec ℕ) → emptied.items ≡ [] → kept ≡ get_or (set classes old emptied) new kept → grown.items ≡ kept.items ++ levels → AreClasses (map (put_level old new) labels) (set (set classes old emptied) new grown)
   moved_in_place emptied grown kept empty was made =
       moved_classes (set (set classes old emptied) new grown) (length-set (set classes old emptied) new grown ∙ length-set classes old emptied)
-      (λ e. ap (λ (c : Vec ℕ). c.items) (get_or-set_same (set classes old emptied) new grown e new_in) ∙ (made ∙ ap (λ (c : Vec ℕ). c.items ++ levels) was_there))
-      (λ e. ap (λ (c : Vec ℕ). c.items) (get_or-set_other (set classes old emptied) new old grown e apart ∙ get_or-set_same classes old emptied e old_in) ∙ empty)
+      (λ e. ap (λ (c : SmallVec ℕ). c.items) (get_or-set_same (set classes old emptied) new grown e new_in) ∙ (made ∙ ap (λ (c : SmallVec ℕ). c.items ++ levels) was_there))
+      (λ e. ap (λ (c : SmallVec ℕ). c.items) (get_or-set_other (set classes old emptied) new old grown e apart ∙ get_or-set_same classes old emptied e old_in) ∙ empty)
       (λ x e no nn. get_or-set_other (set classes old emptied) new x grown e nn ∙ get_or-set_other classes old x emptied e no)
     where
       old_in : old < length classes

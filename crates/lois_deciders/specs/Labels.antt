@@ -1,7 +1,7 @@
 -- Levels that a cube identifies.
 use Rattle.std.specs.Prelude.{◌≡◌, ℕ, ◌<◌, ◌⊎◌, List, length, get_or, map, IsTrue, Contains}
-use Rattle.std.specs.Global.{Vec}
 use Rattle.std.specs.List.{All}
+use Rattle.smallvec.specs.SmallVec.{SmallVec}
 use Rattle.lois_base.specs.Atom.{Atom}
 use Rattle.lois_base.specs.Theory.{IsSatisfiable}
 use Rattle.lois_base.specs.Truth.{atom_at, op_holds, cube_holds}
@@ -35,11 +35,11 @@ pub record IsLabelling (n : ℕ) (cube : List Lit) (first : ℕ) (labels : List 
   pub joined : (k : ℕ) (d : Lit) → k < first → IsJoined labels (get_or cube k d)
 
 -- each label is a level, and its class has the levels that have it, and no others
-pub record AreClasses (labels : List ℕ) (classes : List (Vec ℕ)) : Type 0 where
+pub record AreClasses (labels : List ℕ) (classes : List (SmallVec ℕ)) : Type 0 where
   pub count : length classes ≡ length labels
   pub small : (i : ℕ) → i < length labels → get_or labels i 0 < length labels
-  pub sound : (x : ℕ) (d : Vec ℕ) → x < length labels → All (λ i. (i < length labels) × (get_or labels i 0 ≡ x)) (get_or classes x d).items
-  pub complete : (i : ℕ) (d : Vec ℕ) → i < length labels → Contains (get_or classes (get_or labels i 0) d).items i
+  pub sound : (x : ℕ) (d : SmallVec ℕ) → x < length labels → All (λ i. (i < length labels) × (get_or labels i 0 ≡ x)) (get_or classes x d).items
+  pub complete : (i : ℕ) (d : SmallVec ℕ) → i < length labels → Contains (get_or classes (get_or labels i 0) d).items i
 
 -- the label of one of the two levels is put for that of the other
 abbrev pub Joins : ℕ → ℕ → List ℕ → List ℕ → Type 0

@@ -1,7 +1,7 @@
 -- Numbers for the labels of levels.
 use Rattle.std.specs.Prelude.{◌≡◌, ℕ, ◌<◌, ◌⊎◌, Bool, true, false, ◌&&◌, ◌==◌, List, length, get_or, map, Contains}
-use Rattle.std.specs.Global.{Vec}
 use Rattle.std.specs.List.{All, AllPairs, count_by, filter}
+use Rattle.smallvec.specs.SmallVec.{SmallVec}
 use Rattle.lois_base.specs.declared.guards.Lit.{Lit}
 use Rattle.lois_base.specs.declared.guards.Op.{Op}
 use Rattle.lois_base.specs.declared.guards.Op.TheVariants.{Eq, Ne, Lt, AtMost}
@@ -20,9 +20,9 @@ abbrev pub is_step_from : List ℕ → ℕ → Lit → Bool
 is_step_from labels x l = is_less l.op && get_or labels l.left 0 == x
 
 -- for each label the upper labels of the `<` that begin there
-pub record AreAbove (labels : List ℕ) (cube : List Lit) (above : List (Vec ℕ)) : Type 0 where
+pub record AreAbove (labels : List ℕ) (cube : List Lit) (above : List (SmallVec ℕ)) : Type 0 where
   pub count : length above ≡ length labels
-  pub uppers : (x : ℕ) (d : Vec ℕ) → x < length labels → (get_or above x d).items ≡ map (λ l. get_or labels l.right 0) (filter (is_step_from labels x) cube)
+  pub uppers : (x : ℕ) (d : SmallVec ℕ) → x < length labels → (get_or above x d).items ≡ map (λ l. get_or labels l.right 0) (filter (is_step_from labels x) cube)
 
 abbrev pub occurrences : ℕ → List ℕ → ℕ
 occurrences y = count_by (λ x. x == y)

@@ -46,9 +46,9 @@ fn ranked_sample(alloc: Global, cube: &Cube, size: usize) -> Result<Option<Vec<u
     let Some(ranks) = rank_labels(alloc, cube, &labels)? else {
         return Ok(None);
     };
-    let mut sample = Vec::with_capacity(alloc, size)?;
+    let mut sample = Vec::with_capacity(alloc, labels.len())?;
     for label in &labels {
-        sample.push(ranks[*label])?;
+        sample.push_reserved(ranks[*label]);
     }
     Ok(Some(sample))
 }

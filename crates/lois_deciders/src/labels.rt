@@ -1,16 +1,20 @@
 //! Levels that a cube's equations identify.
 
 ghost use Rattle.std.specs.Prelude.{◌≡◌, ℕ, ◌<◌, [], ◌∷◌, map, length, get_or, IfOk, OnOk, IsTrue, IsFalse, slice_index};
-ghost use Rattle.std.specs.Global.{Vec};
 ghost use Rattle.std.specs.List.{All};
+ghost use Rattle.smallvec.specs.SmallVec.{SmallVec as Items};
 ghost use Rattle.lois_base.specs.Fits.{CubeFits};
 ghost use Rattle.lois_base.specs.declared.guards.Op.TheVariants.{Ne};
 ghost use Rattle.lois_constraint.specs.Substitution.{put_level};
 ghost use Rattle.lois_deciders.specs.Labels.{IsLabelling, IsUnmet, IsKeptApart, AreClasses, Joins};
 
 use lois_base::{Cube, NoMemory, Op};
+use smallvec::SmallVec;
 use std::alloc::Global;
 use std::mem;
+
+// The levels with one label. Most are one or two, which need no allocation.
+type Class = SmallVec<usize, 2>;
 
 fn own_labels(alloc: Global, size: usize) -> Result<Vec<usize>, NoMemory>
     ensures count { IfOk result (λ r. length r.items ≡ size) }
@@ -18,20 +22,21 @@ fn own_labels(alloc: Global, size: usize) -> Result<Vec<usize>, NoMemory>
 {
     let mut labels = Vec::with_capacity(alloc, size)?;
     for level in 0..size {
-        labels.push(level)?;
+        labels.push_reserved(level);
     }
     Ok(labels)
 }
 
 // Each level in a class of its own.
-fn own_classes(alloc: Global, size: usize) -> Result<Vec<Vec<usize>>, NoMemory>
+fn own_classes(alloc: Global, size: usize) -> Result<Vec<Class>, NoMemory>
     ensures count { IfOk result (λ r. length r.items ≡ size) }
-    ensures own { IfOk result (λ r. (i : ℕ) (d : Vec ℕ) → i < size → (get_or r.items i d).items ≡ i ∷ []) }
+    ensures own { IfOk result (λ r. (i : ℕ) (d : Items ℕ) → i < size → (get_or r.items i d).items ≡ i ∷ []) }
 {
     let mut classes = Vec::with_capacity(alloc, size)?;
     for level in 0..size {
-        let class = vec![in alloc; level]?;
-        classes.push(class)?;
+        let mut class = SmallVec::new(alloc);
+        class.push(level)?;
+        classes.push_reserved(class);
     }
     Ok(classes)
 }
@@ -40,7 +45,7 @@ fn own_classes(alloc: Global, size: usize) -> Result<Vec<Vec<usize>>, NoMemory>
 fn move_class(
     alloc: Global,
     labels: &mut Vec<usize>,
-    classes: &mut Vec<Vec<usize>>,
+    classes: &mut Vec<Class>,
     old: usize,
     new: usize,
 ) -> Result<(), NoMemory>
@@ -51,11 +56,11 @@ fn move_class(
     ensures labels { OnOk result (labels.new.items ≡ map (put_level old new) labels.old.items) }
     ensures classes { OnOk result (AreClasses labels.new.items classes.new.items) }
 {
-    let levels = mem::replace(&mut classes[old], Vec::new(alloc));
-    for level in &levels {
+    let levels = mem::replace(&mut classes[old], SmallVec::new(alloc));
+    for level in levels.as_slice() {
         labels[*level] = new;
     }
-    classes[new].extend_from_slice(&levels)?;
+    classes[new].extend_from_slice(levels.as_slice())?;
     Ok(())
 }
 
@@ -63,7 +68,7 @@ fn move_class(
 fn join(
     alloc: Global,
     labels: &mut Vec<usize>,
-    classes: &mut Vec<Vec<usize>>,
+    classes: &mut Vec<Class>,
     left: usize,
     right: usize,
 ) -> Result<(), NoMemory>

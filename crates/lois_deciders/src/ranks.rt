@@ -7,17 +7,21 @@ ghost use Rattle.lois_deciders.specs.Labels.{IsLabelling, IsUnmet};
 ghost use Rattle.lois_deciders.specs.Ranks.{AreAbove, is_step_to, occurrences, IsReleased, AreUnheld, IsFullRanking};
 
 use lois_base::{Cube, NoMemory, Op};
+use smallvec::SmallVec;
 use std::alloc::Global;
 
+// Most labels have few others above them, which need no allocation.
+type Above = SmallVec<usize, 2>;
+
 // For each label the labels that a `<` sets above it.
-fn labels_above(alloc: Global, cube: &Cube, labels: &[usize]) -> Result<Vec<Vec<usize>>, NoMemory>
+fn labels_above(alloc: Global, cube: &Cube, labels: &[usize]) -> Result<Vec<Above>, NoMemory>
     requires levels { CubeFits (length labels.now) cube.now }
     requires labelling { IsLabelling (length labels.now) cube.now (length cube.now) labels.now }
     ensures { IfOk result (λ r. AreAbove labels.now cube.now r.items) }
 {
     let mut above = Vec::with_capacity(alloc, labels.len())?;
     for _level in labels {
-        above.push(Vec::new(alloc))?;
+        above.push_reserved(SmallVec::new(alloc));
     }
     'literals: for lit in cube.as_slice() {
         if lit.op == Op::Lt {

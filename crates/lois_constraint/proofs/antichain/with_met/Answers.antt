@@ -14,8 +14,8 @@ loop-cube-preserved c =
     let x : List Lit = c.in-Some.cube in
     let xs : List (List Lit) = c.loop-cube.yielded in
     record {
-      truth = λ e. c.in_ok-met.ensures.truth e ∙ (ap (λ (k : List Lit). holds e c.loop-cube.met || (cube_holds e k && holds e c.args.c.now)) c.closed.ensures ∙ met_grows e (holds e c.args.antichain) c.loop-cube.met xs c.args.c.now x (c.loop-cube.invariant.truth e));
-      rules = λ rule p h o. c.in_ok-met.ensures.rules rule (c.loop-cube.invariant.rules rule p (all_before (CubeObeys rule) xs x h) o) (subst (CubeObeys rule) (sym c.closed.ensures) (all_last (CubeObeys rule) xs x h)) o;
+      truth = λ e. c.in_ok-met.ensures.truth e ∙ (ap (λ (k : List Lit). holds e c.loop-cube.met || (cube_holds e k && holds e c.args.c.now)) c.into_closed.ensures ∙ met_grows e (holds e c.args.antichain) c.loop-cube.met xs c.args.c.now x (c.loop-cube.invariant.truth e));
+      rules = λ rule p h o. c.in_ok-met.ensures.rules rule (c.loop-cube.invariant.rules rule p (all_before (CubeObeys rule) xs x h) o) (subst (CubeObeys rule) (sym c.into_closed.ensures) (all_last (CubeObeys rule) xs x h)) o;
     }
 
 pub returns-clause-truth : goal.returns-clause-truth

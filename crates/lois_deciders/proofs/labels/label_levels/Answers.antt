@@ -1,5 +1,5 @@
 use Rattle.std.proofs.Common.{rules, List, ℕ, ◌+◌, sym, ap, subst}
-use Rattle.std.specs.Global.{Vec}
+use Rattle.smallvec.specs.SmallVec.{SmallVec}
 use Rattle.lois_base.specs.declared.guards.Lit.{Lit}
 use Rattle.lois_base.specs.declared.guards.Op.TheVariants.{Eq}
 use Rattle.lois_deciders.specs.Labels.{IsLabelling, AreClasses}
@@ -25,10 +25,10 @@ loop-lit-preserved c =
     elim c.if-eq.branch [
       | then-eq+in_ok-join w ↦ record {
         labelling = subst kept (ap (λ v. v.items) (sym w.labels-is)) (labelling_joined c.args.size xs c.args.cube.now k labels w.join.new.labels.items d c.as_slice-lit-items.ensures c.loop-lit-test.true (search rules) w.in_ok-join.ensures.joined c.requires h.labelling);
-        classes = subst (λ (ls : List ℕ). AreClasses ls c.if-eq.classes.items) (ap (λ v. v.items) (sym w.labels-is)) (subst (λ (cs : List (Vec ℕ)). AreClasses w.join.new.labels.items cs) (ap (λ v. v.items) (sym w.classes-is)) w.in_ok-join.ensures.classes);
+        classes = subst (λ (ls : List ℕ). AreClasses ls c.if-eq.classes.items) (ap (λ v. v.items) (sym w.labels-is)) (subst (λ (cs : List (SmallVec ℕ)). AreClasses w.join.new.labels.items cs) (ap (λ v. v.items) (sym w.classes-is)) w.in_ok-join.ensures.classes);
       }
       | else-eq w ↦ record {
         labelling = subst kept (ap (λ v. v.items) (sym w.labels-is)) (labelling_same c.args.size xs c.args.cube.now k labels d c.as_slice-lit-items.ensures c.loop-lit-test.true (search rules) h.labelling);
-        classes = subst (λ (ls : List ℕ). AreClasses ls c.if-eq.classes.items) (ap (λ v. v.items) (sym w.labels-is)) (subst (λ (cs : List (Vec ℕ)). AreClasses labels cs) (ap (λ v. v.items) (sym w.classes-is)) h.classes);
+        classes = subst (λ (ls : List ℕ). AreClasses ls c.if-eq.classes.items) (ap (λ v. v.items) (sym w.labels-is)) (subst (λ (cs : List (SmallVec ℕ)). AreClasses labels cs) (ap (λ v. v.items) (sym w.classes-is)) h.classes);
       }
     ]

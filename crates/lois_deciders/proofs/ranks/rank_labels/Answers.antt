@@ -39,7 +39,7 @@ release-requires c =
     let x : ℕ = c.in-Some.label in
     let among : Contains c.loop-rank.unheld.items x = subst (λ (u : List ℕ). Contains u x) (sym c.in-Some.ensures.items) (Contains-push c.pop.new.self.items x) in
     let l : x < length c.args.labels.now = ready_level c.args.cube.now c.args.labels.now c.loop-rank.steps.items c.loop-rank.unheld.items c.loop-rank.ranks.items c.loop-rank.rank c.loop-rank.invariant.0 x q among in
-    let above : c.deref-in-loop-rank.result.now ≡ map (λ l. get_or c.args.labels.now l.right 0) (filter (is_step_from c.args.labels.now x) c.args.cube.now) = c.deref-in-loop-rank.ensures.value ∙ (ap (λ v. v.items) c.index.ensures ∙ c.in_ok-above.ensures.uppers x c.index.result.now l) in
+    let above : c.deref-in-loop-rank.result.now ≡ map (λ l. get_or c.args.labels.now l.right 0) (filter (is_step_from c.args.labels.now x) c.args.cube.now) = c.deref-in-loop-rank.ensures ∙ (ap (λ v. v.items) c.index.ensures ∙ c.in_ok-above.ensures.uppers x c.index.result.now l) in
     let enough = enough_steps c.args.cube.now c.args.labels.now c.loop-rank.steps.items c.loop-rank.unheld.items c.loop-rank.ranks.items c.loop-rank.rank c.loop-rank.invariant.0 x q among in
     λ y. subst (λ (a : List ℕ). occurrences y a ≤ get_or c.loop-rank.steps.items y 0) (sym above) (enough y)
 
@@ -50,7 +50,7 @@ loop-rank-preserved c =
     let r = c.in_ok-release.ensures in
     let among : Contains c.loop-rank.unheld.items x = subst (λ (u : List ℕ). Contains u x) (sym c.in-Some.ensures.items) (Contains-push c.pop.new.self.items x) in
     let l : x < length c.args.labels.now = ready_level c.args.cube.now c.args.labels.now c.loop-rank.steps.items c.loop-rank.unheld.items c.loop-rank.ranks.items c.loop-rank.rank c.loop-rank.invariant.0 x q among in
-    let above : c.deref-in-loop-rank.result.now ≡ map (λ l. get_or c.args.labels.now l.right 0) (filter (is_step_from c.args.labels.now x) c.args.cube.now) = c.deref-in-loop-rank.ensures.value ∙ (ap (λ v. v.items) c.index.ensures ∙ c.in_ok-above.ensures.uppers x c.index.result.now l) in
+    let above : c.deref-in-loop-rank.result.now ≡ map (λ l. get_or c.args.labels.now l.right 0) (filter (is_step_from c.args.labels.now x) c.args.cube.now) = c.deref-in-loop-rank.ensures ∙ (ap (λ v. v.items) c.index.ensures ∙ c.in_ok-above.ensures.uppers x c.index.result.now l) in
     let popped = subst (λ (u : List ℕ). IsQueue c.args.cube.now c.args.labels.now c.loop-rank.steps.items u c.loop-rank.ranks.items c.loop-rank.rank c.loop-rank.invariant.0) c.in-Some.ensures.items q in
     let dropped = λ (y : ℕ). subst (λ (a : List ℕ). get_or c.release.new.steps.items y 0 + occurrences y a ≡ get_or c.loop-rank.steps.items y 0) above (r.steps y) in
     (set c.loop-rank.invariant.0 x false, next_queue c.args.cube.now c.args.labels.now c.loop-rank.steps.items c.loop-rank.ranks.items c.loop-rank.rank c.loop-rank.invariant.0 c.requires.levels c.requires.labelling c.pop.new.self.items x popped c.release.new.steps.items c.release.new.unheld.items dropped r.unheld)
