@@ -9,6 +9,7 @@ mod closed_cube;
 mod conflicts;
 mod covering;
 mod denying;
+mod level_order;
 mod levels;
 mod negation;
 mod normal;
