@@ -5,13 +5,11 @@ use Rattle.std.proofs.Math.ListN.{get_or-eq_default}
 use Rattle.std.proofs.lemmas.Bool.{cases_order, lt-ltb, le-ltb}
 use Rattle.std.proofs.lemmas.Bool.Decides.{eqb_tells}
 use Rattle.std.proofs.lemmas.Nat.{mod_below, div-add-mod'}
-use Rattle.std.proofs.lemmas.Nat.Bits.{bit_at_or, bit_at-lt, bit_at_ones, bit_at_above, bit_at_cat_high}
+use Rattle.std.proofs.lemmas.Nat.Bits.{bit_at_or, bit_at-lt, bit_at_above, bit_at_cat_high}
 use Rattle.std.specs.Prelude.{bit_and, bit_or}
 use Rattle.std.specs.Int.{bit_at}
-use Rattle.lois_constraint.specs.Order.{Row, reaches, at_most, linked, is_tied, is_apart, sets_apart}
+use Rattle.lois_constraint.specs.Order.{Row, reaches, at_most, linked}
 use Rattle.lois_constraint.specs.LevelOrders.{has_bit, low_at_most}
-use Rattle.lois_base.specs.declared.guards.Lit.{Lit}
-use Rattle.lois_constraint.proofs.Linked.{clash}
 use Rattle.lois_constraint.proofs.Lows.{diagonal, low_bound, low_bit, put_here, put_else}
 use Rattle.lois_constraint.proofs.Words.{one_or, or_nothing, no_word, reaches_nothing, first_bit}
 
@@ -73,11 +71,6 @@ full word a b l m =
     let either : has_bit (bit_or word 0x8040201008040201) a b ≡ (has_bit word a b || (a == b)) = ap (λ k. eqb k 1) (bit_at_or word 0x8040201008040201 i) ∙ (one_or (bit_at word i) (bit_at 0x8040201008040201 i) (bit_at-lt word i) (bit_at-lt 0x8040201008040201 i) ∙ ap (λ p. has_bit word a b || p) (diagonal a b l m)) in
     rw (lt-ltb a 8 l, lt-ltb b 8 m) (either ∙ or_comm (has_bit word a b) (a == b))
 
--- the levels that one of two rows has
-pub either_above : (word a b x p q : ℕ) → a < 8 → b < 8 → x < 8 → (bit_at p x == 1) ≡ has_bit (bit_or word 0x8040201008040201) a x → (bit_at q x == 1) ≡ has_bit (bit_or word 0x8040201008040201) b x → (bit_at (bit_or p q) x == 1) ≡ (low_at_most word a x || low_at_most word b x)
-either_above word a b x p q al bl xl first second =
-    ap (λ k. eqb k 1) (bit_at_or p q x) ∙ (one_or (bit_at p x) (bit_at q x) (bit_at-lt p x) (bit_at-lt q x) ∙ (ap (λ r. r || (bit_at q x == 1)) (first ∙ full word a x al xl) ∙ ap (λ r. low_at_most word a x || r) (second ∙ full word b x bl xl)))
-
 absorbed : (p q r : Bool) → (p || ((p || q) || r)) ≡ ((p || q) || r)
 absorbed true q r = refl
 absorbed false q r = refl
@@ -86,32 +79,17 @@ and_nothing : (p : Bool) → (p && false) ≡ false
 and_nothing true = refl
 and_nothing false = refl
 
-pub all_bits : {P : Type 0} (x : ℕ) → x < 8 → (bit_at 18446744073709551615 x == 1) ≡ false → P
-all_bits x l h =
-    clash (bit_at 18446744073709551615 x == 1) (ap (λ k. eqb k 1) (bit_at_ones 64 x (omega arith))) h
-
-neither : (p q : Bool) → (p || q) ≡ false → (p ≡ false) × (q ≡ false)
-neither true q h = absurd (cc)
-neither false q h = (refl, h)
-
--- a literal of which one level is above neither
-module _ (le : ℕ → ℕ → Bool) (a b : ℕ) (l : Lit) where
-  pub left_aside : (le a l.left || le b l.left) ≡ false → false ≡ sets_apart le a b l
-  left_aside h =
-      let both = neither (le a l.left) (le b l.left) h in
-      rw (both.0, both.1, and_nothing (le l.left a), and_nothing (le l.left b), and_nothing (is_apart l.op)) refl
-
-  pub right_aside : (le a l.right || le b l.right) ≡ false → false ≡ sets_apart le a b l
-  right_aside h =
-      let both = neither (le a l.right) (le b l.right) h in
-      rw (both.0, both.1, and_nothing (le l.right a), and_nothing (le l.right b), and_nothing (le a l.left && le l.left b), and_nothing (le b l.left && le l.left a), and_nothing (is_tied le l.left a), and_nothing (is_tied le l.left b), and_nothing (is_apart l.op)) refl
-
 not_same : (a b : ℕ) → (a ≡ b → ⊥) → eqb a b ≡ false
 not_same a b other = go (eqb_tells a b)
   where
     go : ((eqb a b ≡ true) × (a ≡ b)) ⊎ ((eqb a b ≡ false) × (a ≡ b → ⊥)) → eqb a b ≡ false
     go (inl t) = absurd (other t.1)
     go (inr t) = t.0
+
+-- no low level is at most a high one
+pub none_beyond : (word a b x : ℕ) → a < 8 → b < 8 → 8 ≤ x → false ≡ (low_at_most word a x || low_at_most word b x)
+none_beyond word a b x al bl far =
+    rw (not_same a x (λ e. omega (arith, e)), not_same b x (λ e. omega (arith, e)), le-ltb x 8 far, and_nothing (nat_lt a 8), and_nothing (nat_lt b 8)) refl
 
 pub word_linked : (word r x y : ℕ) → x < 8 → y < 8 → ((a b : ℕ) → a < 8 → b < 8 → has_bit r a b ≡ linked x y (has_bit (bit_or word 0x8040201008040201)) a b) → (a b : ℕ) → low_at_most r a b ≡ linked x y (low_at_most word) a b
 word_linked word r x y xl yl is a b = go (cases_order a 8) (cases_order b 8)

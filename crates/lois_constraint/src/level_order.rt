@@ -1,19 +1,17 @@
 //! The order that a cube puts its levels in: one word where all are low, and else rows.
 
-ghost use Rattle.std.specs.Prelude.{◌≡◌, ℕ, ◌+◌, ◌*◌, ◌/◌, ◌^◌, Bool, List, bit_and, ◌<◌, ◌||◌, ◌&&◌, ◌==◌, false, IsFalse, IfOk};
+ghost use Rattle.std.specs.Prelude.{◌≡◌, ℕ, ◌+◌, ◌*◌, Bool, List, ◌<◌, ◌||◌, ◌&&◌, ◌==◌, false, IsFalse, IfOk};
 ghost use Rattle.std.specs.Int.{bit_at};
 ghost use Rattle.lois_constraint.specs.Order.{at_most, is_tied, is_apart, lies_between, joins, sets_apart, are_apart, is_implied, is_refuted, linked, extended};
-ghost use Rattle.lois_constraint.specs.LevelOrders.{has_bit, low_at_most, is_at_most};
+ghost use Rattle.lois_constraint.specs.LevelOrders.{is_at_most};
 
 use crate::denying::denial;
+use crate::low_levels::{are_low_apart, is_apart, link_low, low_at_most, low_rows};
 use crate::order_closure::{
     EACH_ITSELF, LOW_LEVELS, Row, are_at_most, copy_rows, link_rows, low_order,
 };
 use lois_base::{Cube, Lit, NoMemory, Op};
 use std::alloc::Global;
-
-// The levels of one row of the word.
-const ALL_LOW: u64 = 0xFF;
 
 /// Which levels are at most which.
 // Most cubes speak of low levels alone. Their order takes no allocation: bit 8 * a + b says that level a is at most b.
@@ -21,28 +19,6 @@ const ALL_LOW: u64 = 0xFF;
 pub(crate) enum LevelOrder {
     Low(u64),
     Far(Vec<Row>),
-}
-
-// Whether the word says that the one low level is at most the other.
-#[inline(always)]
-fn has_bit(word: u64, low: usize, high: usize) -> bool
-    requires low { low < 8 }
-    requires high { high < 8 }
-    ensures { result ≡ has_bit word low high }
-{
-    (word >> (LOW_LEVELS * low + high)) & 1 == 1
-}
-
-// Whether one level is at most another, by the word of the low ones.
-#[inline(always)]
-fn low_at_most(word: u64, low: usize, high: usize) -> bool
-    ensures { result ≡ low_at_most word low high }
-{
-    if low < LOW_LEVELS && high < LOW_LEVELS {
-        has_bit(word | EACH_ITSELF, low, high)
-    } else {
-        low == high
-    }
 }
 
 // Whether one level is at most another, by rows.
@@ -63,45 +39,6 @@ pub(crate) fn at_most(order: &LevelOrder, low: usize, high: usize) -> bool
         LevelOrder::Low(word) => low_at_most(*word, low, high),
         LevelOrder::Far(rows) => far_at_most(rows, low, high),
     }
-}
-
-// The low levels that one of them is at most.
-#[inline(always)]
-#[tactic(auto, using(crate::proofs::LowOrders::row_bit, crate::proofs::Lows::low_bound))]
-fn low_row(word: u64, level: usize) -> u64
-    requires { level < 8 }
-    ensures levels { (b : ℕ) → b < 8 → (bit_at result b == 1) ≡ has_bit word level b }
-    ensures low { result < 2 ^ 8 }
-    ensures same { result ≡ bit_and (word / 2 ^ (8 * level)) 255 }
-{
-    (word >> (LOW_LEVELS * level)) & ALL_LOW
-}
-
-// The word with one low level at most another one: those at most the one are at most those that the other is at most.
-fn link_low(order: u64, low: usize, high: usize) -> u64
-    requires low { low < 8 }
-    requires high { high < 8 }
-    ensures { (a b : ℕ) → a < 8 → b < 8 → has_bit result a b ≡ linked low high (has_bit order) a b }
-{
-    let above = low_row(order, high);
-    let mut linked = order;
-    for level in 0..LOW_LEVELS {
-        if has_bit(order, level, low) {
-            linked |= above << (LOW_LEVELS * level);
-        }
-    }
-    linked
-}
-
-// The rows of the low levels.
-fn low_rows(alloc: Global, word: u64) -> Result<Vec<Row>, NoMemory>
-    ensures { IfOk result (λ r. (a b : ℕ) → at_most r.items a b ≡ low_at_most word a b) }
-{
-    let mut rows = Vec::with_capacity(alloc, LOW_LEVELS)?;
-    for level in 0..LOW_LEVELS {
-        rows.push_reserved(Row::of_word(alloc, low_row(word, level)));
-    }
-    Ok(rows)
 }
 
 impl LevelOrder {
@@ -129,19 +66,6 @@ impl LevelOrder {
         match self {
             LevelOrder::Low(word) => *word | EACH_ITSELF,
             LevelOrder::Far(rows) => low_order(rows),
-        }
-    }
-
-    // The low levels that one of the two is at most, or a word that has them all.
-    fn above_either(&self, a: usize, b: usize) -> u64
-        ensures { (x : ℕ) → x < 8 → (bit_at result x == 1) ≡ false → (is_at_most self.now a x || is_at_most self.now b x) ≡ false }
-    {
-        match self {
-            LevelOrder::Low(word) if a < LOW_LEVELS && b < LOW_LEVELS => {
-                let order = *word | EACH_ITSELF;
-                low_row(order, a) | low_row(order, b)
-            }
-            _ => u64::MAX,
         }
     }
 
@@ -192,15 +116,6 @@ pub(crate) fn are_tied(order: &LevelOrder, a: usize, b: usize) -> bool
     at_most(order, a, b) && at_most(order, b, a)
 }
 
-fn is_apart(op: Op) -> bool
-    ensures { result ≡ is_apart op }
-{
-    match op {
-        Op::Ne | Op::Lt => true,
-        Op::Eq | Op::AtMost => false,
-    }
-}
-
 // Whether both levels of the literal lie from the one level on up to the other.
 fn lies_between(order: &LevelOrder, lit: Lit, low: usize, high: usize) -> bool
     ensures { result ≡ lies_between (is_at_most order.now) low high lit }
@@ -241,40 +156,19 @@ fn sets_apart(order: &LevelOrder, lit: Lit, a: usize, b: usize) -> bool
         || (joins(order, lit, a, b) || joins(order, lit, b, a))
 }
 
-// Whether the word has the bit of the level, if it is low.
-#[inline(always)]
-fn may_have(levels: u64, level: usize) -> bool
-    ensures { IsFalse result → (level < 8) × ((bit_at levels level == 1) ≡ false) }
-{
-    level >= LOW_LEVELS || (levels >> level) & 1 == 1
-}
-
-// Whether the literal sets the levels apart. The word, which has the low levels above one of the two, mostly says no by itself.
-#[inline(always)]
-fn sets_apart_above(order: &LevelOrder, above: u64, lit: Lit, a: usize, b: usize) -> bool
-    requires { (x : ℕ) → x < 8 → (bit_at above x == 1) ≡ false → (is_at_most order.now a x || is_at_most order.now b x) ≡ false }
-    ensures { result ≡ sets_apart (is_at_most order.now) a b lit }
-{
-    if !may_have(above, lit.left) {
-        return false;
-    }
-    if !may_have(above, lit.right) {
-        return false;
-    }
-    sets_apart(order, lit, a, b)
-}
-
 // Whether some literal sets the levels apart.
 fn are_apart(order: &LevelOrder, cube: &Cube, a: usize, b: usize) -> bool
     ensures { result ≡ are_apart (is_at_most order.now) cube.now a b }
 {
-    let above = order.above_either(a, b);
-    for lit in cube.as_slice() {
-        if sets_apart_above(order, above, *lit, a, b) {
-            return true;
+    match order {
+        LevelOrder::Low(word) if a < LOW_LEVELS && b < LOW_LEVELS => {
+            are_low_apart(*word, cube, a, b)
         }
+        _ => cube
+            .as_slice()
+            .iter()
+            .any(|lit| sets_apart(order, *lit, a, b)),
     }
-    false
 }
 
 /// Whether the levels stand so in the order that the literal may follow: what takes no walk over literals.

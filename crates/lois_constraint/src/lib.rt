@@ -11,6 +11,7 @@ mod covering;
 mod denying;
 mod level_order;
 mod levels;
+mod low_levels;
 mod negation;
 mod normal;
 mod order_closure;

@@ -1,7 +1,7 @@
 use Rattle.std.proofs.Common.{◌≡◌, ℕ, ◌<◌, ◌≤◌}
 use Rattle.lois_constraint.specs.Order.{linked}
 use Rattle.lois_constraint.specs.LevelOrders.{has_bit}
-use Rattle.lois_constraint.proofs.level_order.link_low.Given as goal
+use Rattle.lois_constraint.proofs.low_levels.link_low.Given as goal
 
 abbrev pub invariant-loop-level : goal.invariant-loop-level
 invariant-loop-level l = record {

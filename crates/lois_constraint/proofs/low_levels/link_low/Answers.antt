@@ -2,8 +2,8 @@ use Rattle.std.proofs.Common.{◌≡◌, ℕ, ◌<◌, true, false, sym, ◌∙�
 use Rattle.std.proofs.lemmas.Grind.{common_steps}
 use Rattle.lois_constraint.specs.LevelOrders.{has_bit}
 use Rattle.lois_constraint.proofs.LowOrders.{row_linked, rows_after, row_kept}
-use Rattle.lois_constraint.proofs.level_order.link_low.Goals as goal
-use Rattle.lois_constraint.proofs.level_order.link_low.Goals.{then-has_bit, else-has_bit}
+use Rattle.lois_constraint.proofs.low_levels.link_low.Goals as goal
+use Rattle.lois_constraint.proofs.low_levels.link_low.Goals.{then-has_bit, else-has_bit}
 
 pub loop-level-preserved : goal.loop-level-preserved
 loop-level-preserved c =

@@ -1,10 +1,10 @@
 use Rattle.std.proofs.Common.{◌≡◌, false, take}
 use Rattle.std.specs.List.{list_any}
 use Rattle.lois_constraint.specs.Order.{sets_apart}
-use Rattle.lois_constraint.specs.LevelOrders.{is_at_most}
-use Rattle.lois_constraint.proofs.level_order.are_apart.Given as goal
+use Rattle.lois_constraint.specs.LevelOrders.{low_at_most}
+use Rattle.lois_constraint.proofs.low_levels.are_low_apart.Given as goal
 
 abbrev pub invariant-loop-lit : goal.invariant-loop-lit
 invariant-loop-lit l = record {
-  none : list_any (sets_apart (is_at_most l.order) l.a l.b) (take l.lit-index l.cube) ≡ false;
+  none : list_any (sets_apart (low_at_most l.word) l.a l.b) (take l.lit-index l.cube) ≡ false;
 }

@@ -2,7 +2,7 @@ use Rattle.std.proofs.Common.{◌≡◌, List, length, arith}
 use Rattle.std.proofs.lemmas.Grind.{common_steps}
 use Rattle.lois_constraint.specs.Order.{Row}
 use Rattle.lois_constraint.proofs.LowOrders.{rows_of_word}
-use Rattle.lois_constraint.proofs.level_order.low_rows.Goals as goal
+use Rattle.lois_constraint.proofs.low_levels.low_rows.Goals as goal
 
 pub returns : goal.returns
 returns c =

@@ -1,5 +1,5 @@
 use Rattle.std.proofs.Common.{◌≡◌, ℕ, ◌*◌, ◌/◌, ◌^◌, ◌<◌, ◌≤◌, [], ◌∷◌, length, get_or, bit_and, vec_capacity}
-use Rattle.lois_constraint.proofs.level_order.low_rows.Given as goal
+use Rattle.lois_constraint.proofs.low_levels.low_rows.Given as goal
 
 abbrev pub invariant-loop-level : goal.invariant-loop-level
 invariant-loop-level l = record {
