@@ -10,8 +10,7 @@ use Rattle.lois_base.specs.Truth.{atom_at, lit_holds, cube_holds}
 use Rattle.lois_base.specs.declared.guards.Lit.{Lit}
 use Rattle.lois_base.specs.declared.guards.Op.{Op}
 use Rattle.lois_base.specs.declared.guards.Op.TheVariants.{Eq, Ne, Lt, AtMost}
-use Rattle.lois_constraint.specs.Order.{at_most, linked, is_tied, is_apart, lies_between, joins, sets_apart, are_apart, HoldsInOrder, IsOrderClosure}
-use Rattle.lois_constraint.proofs.Words.{reaches_nothing}
+use Rattle.lois_constraint.specs.Order.{linked, is_tied, is_apart, lies_between, joins, sets_apart, are_apart, HoldsInOrder, IsOrderClosure}
 
 abbrev pub lit_of : Op → ℕ → ℕ → Lit
 lit_of o x y = record { op = o; left = x; right = y }
@@ -34,24 +33,18 @@ first_holds c k l h =
     let parts = and_parts (cube_holds c k) (lit_holds c l && true) whole in
     (parts.0, (and_parts (lit_holds c l) true parts.1).0)
 
--- ---- a table without rows
-alone : (a b : ℕ) → at_most [] a b ≡ eqb a b
-alone a b = rw (reaches_nothing b) (go (eqb a b))
-  where
-    go : (p : Bool) → (p || false) ≡ p
-    go true = refl
-    go false = refl
+-- ---- an order in which each level is at most itself alone
+module _ (le : ℕ → ℕ → Bool) (alone : (a b : ℕ) → le a b ≡ eqb a b) where
+  same : (a b : ℕ) → le a b ≡ true → a ≡ b
+  same a b h = eqb-true a b (sym (alone a b) ∙ h)
 
-same : (a b : ℕ) → at_most [] a b ≡ true → a ≡ b
-same a b h = eqb-true a b (sym (alone a b) ∙ h)
-
-pub no_order : IsOrderClosure (at_most []) []
-no_order = record {
-  itself = λ a. alone a a ∙ eq-eqb a a refl;
-  trans = λ a b c p q. alone a c ∙ eq-eqb a c (same a b p ∙ same b c q);
-  stands = All-nil (λ l. HoldsInOrder (at_most []) l.op l.left l.right);
-  at_most = λ c h a b m. subst (λ (z : ℕ). below (atom_at c z) (atom_at c a) ≡ false) (same a b m) (below_irrefl (atom_at c a));
-}
+  pub no_order : IsOrderClosure le []
+  no_order = record {
+    itself = λ a. alone a a ∙ eq-eqb a a refl;
+    trans = λ a b c p q. alone a c ∙ eq-eqb a c (same a b p ∙ same b c q);
+    stands = All-nil (λ l. HoldsInOrder le l.op l.left l.right);
+    at_most = λ c h a b m. subst (λ (z : ℕ). below (atom_at c z) (atom_at c a) ≡ false) (same a b m) (below_irrefl (atom_at c a));
+  }
 
 -- ---- one level at most another one
 module _ (le : ℕ → ℕ → Bool) (x y : ℕ) where

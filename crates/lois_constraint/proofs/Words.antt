@@ -24,7 +24,7 @@ word_is : (r : Row) (b w : ℕ) → get_or r (b / 64) 0 ≡ w → reaches r b �
 unfolding reaches
 word_is r b w e = ap (λ x. bit_at x (b % 64) == 1) e
 
-no_word : (r : Row) (b : ℕ) → get_or r (b / 64) 0 ≡ 0 → reaches r b ≡ false
+pub no_word : (r : Row) (b : ℕ) → get_or r (b / 64) 0 ≡ 0 → reaches r b ≡ false
 no_word r b e = word_is r b 0 e ∙ ap (λ n. eqb n 1) (bit_at-zero (b % 64))
 
 same_word : (r s : Row) (b : ℕ) → get_or r (b / 64) 0 ≡ get_or s (b / 64) 0 → reaches r b ≡ reaches s b

@@ -7,4 +7,5 @@ pub mod Rules
 pub mod Tight
 pub mod Normalised
 pub mod Order
+pub mod LevelOrders
 pub mod Signature

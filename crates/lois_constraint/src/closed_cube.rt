@@ -9,9 +9,7 @@ ghost use Rattle.lois_constraint.specs.Signature.{EntailsLit, RecordsLit};
 ghost use Rattle.lois_constraint.specs.Rules.{Rule, Obeys, CubeObeys};
 ghost use Rattle.lois_constraint.specs.Tight.{some_holds, SomeObeys};
 
-use crate::order_closure::{
-    Row, copy_rows, extend, is_implied, is_refuted, low_order, may_be_implied,
-};
+use crate::level_order::{LevelOrder, is_implied, is_refuted, may_be_implied};
 use lois_base::{Cube, Lit, NoMemory};
 use std::alloc::Global;
 use std::marker::Model;
@@ -20,19 +18,20 @@ use std::marker::Model;
 #[derive(Drop)]
 pub(crate) struct ClosedCube {
     cube: Cube,
-    rows: Vec<Row>,
+    order: LevelOrder,
 }
 
 impl Model for ClosedCube {
     ghost use Rattle.std.specs.Prelude.{List};
     ghost use Rattle.lois_base.specs.declared.guards.Lit.{Lit};
-    ghost use Rattle.lois_constraint.specs.Order.{at_most, IsOrderClosure};
+    ghost use Rattle.lois_constraint.specs.LevelOrders.{is_at_most};
+    ghost use Rattle.lois_constraint.specs.Order.{IsOrderClosure};
 
     ghost Value = { List Lit };
 
     ghost view = { λ k. k.cube };
 
-    ghost invariant = { λ k. IsOrderClosure (at_most k.rows.items) k.cube };
+    ghost invariant = { λ k. IsOrderClosure (is_at_most k.order) k.cube };
 }
 
 impl ClosedCube {
@@ -43,7 +42,7 @@ impl ClosedCube {
     {
         ClosedCube {
             cube: Cube::new(alloc),
-            rows: Vec::new(alloc),
+            order: LevelOrder::new(),
         }
     }
 
@@ -70,7 +69,7 @@ impl ClosedCube {
     {
         Ok(ClosedCube {
             cube: self.cube.copy(alloc)?,
-            rows: copy_rows(alloc, &self.rows)?,
+            order: self.order.copy(alloc)?,
         })
     }
 
@@ -78,28 +77,28 @@ impl ClosedCube {
     pub(crate) fn implies(&self, lit: Lit) -> bool
         ensures { IsTrue result ↔ ((c : List Atom) → IsTrue (cube_holds c self.now) → IsTrue (lit_holds c lit)) }
     {
-        is_implied(&self.rows, &self.cube, lit)
+        is_implied(&self.order, &self.cube, lit)
     }
 
     // Where this says no, which takes no walk over literals, the literal doesn't hold wherever the cube does.
     fn may_imply(&self, lit: Lit) -> bool
         ensures { IsFalse result → ((c : List Atom) → IsTrue (cube_holds c self.now) → IsTrue (lit_holds c lit)) → ⊥ }
     {
-        may_be_implied(&self.rows, lit)
+        may_be_implied(&self.order, lit)
     }
 
     // Whether the literal holds nowhere where the cube does.
     fn refutes(&self, lit: Lit) -> bool
         ensures { IsTrue result → (c : List Atom) → IsTrue (cube_holds c self.now) → IsFalse (lit_holds c lit) }
     {
-        is_refuted(&self.rows, &self.cube, lit)
+        is_refuted(&self.order, &self.cube, lit)
     }
 
     /// How the cube orders the levels below eight, a bit for each two of them.
     pub(crate) fn order(&self) -> u64
         ensures { (l : Lit) → EntailsLit self.now l → RecordsLit result l }
     {
-        low_order(&self.rows)
+        self.order.low_levels()
     }
 
     /// Whether the other cube holds wherever this one does.
@@ -141,18 +140,21 @@ impl ClosedCube {
         ensures truth { IfOk result (λ o. (c : List Atom) → some_holds c o ≡ (cube_holds c self && cube_holds c literals.now)) }
         ensures rules { IfOk result (λ o. (rule : Rule) → CubeObeys rule self → CubeObeys rule literals.now → SomeObeys rule o) }
     {
-        let ClosedCube { mut cube, mut rows } = self;
+        let ClosedCube {
+            mut cube,
+            mut order,
+        } = self;
         for lit in literals {
-            if is_implied(&rows, &cube, *lit) {
+            if is_implied(&order, &cube, *lit) {
                 continue;
             }
-            if is_refuted(&rows, &cube, *lit) {
+            if is_refuted(&order, &cube, *lit) {
                 return Ok(None);
             }
-            rows = extend(alloc, rows, *lit)?;
+            order = order.extend(alloc, *lit)?;
             cube.push(*lit)?;
         }
-        Ok(Some(ClosedCube { cube, rows }))
+        Ok(Some(ClosedCube { cube, order }))
     }
 
     // Whether one of the literals holds nowhere where the cube does.

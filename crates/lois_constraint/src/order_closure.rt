@@ -1,22 +1,21 @@
 //! The levels that a cube puts at most as high as others, in a table that levels index.
 
-ghost use Rattle.std.specs.Prelude.{◌≡◌, ◌≢◌, ℕ, ◌+◌, ◌*◌, ◌^◌, Bool, List, length, max, vec_len, ◌<◌, ◌≤◌, get_or, bit_or, ◌||◌, ◌&&◌, ◌==◌, false, IsFalse, IfOk, OnOk};
+ghost use Rattle.std.specs.Prelude.{◌≡◌, ◌≢◌, ℕ, ◌+◌, ◌*◌, ◌^◌, Bool, List, [], ◌∷◌, length, max, vec_len, ◌<◌, ◌≤◌, get_or, bit_or, ◌||◌, ◌&&◌, ◌==◌, false, IsFalse, IfOk, OnOk};
 ghost use Rattle.std.specs.Int.{bit_at};
 ghost use Rattle.lois_constraint.specs.Order.{reaches, at_most, are_at_most, is_tied, is_apart, lies_between, joins, sets_apart, are_apart, is_implied, is_refuted, linked, extended};
 
-use crate::denying::denial;
-use lois_base::{Cube, Lit, NoMemory, Op};
+use lois_base::NoMemory;
 use std::alloc::Global;
 use std::marker::Model;
 
 // As many levels as a word has bits.
 const WORD_LEVELS: usize = 64;
 
-// How many levels are low, so that one word has their order.
-const LOW_LEVELS: usize = 8;
+/// How many levels are low, so that one word has their order.
+pub(crate) const LOW_LEVELS: usize = 8;
 
-// Each low level is at most itself.
-const EACH_ITSELF: u64 = 0x8040_2010_0804_0201;
+/// Each low level is at most itself: bit 8 * a + b of a word says that level a is at most b.
+pub(crate) const EACH_ITSELF: u64 = 0x8040_2010_0804_0201;
 
 /// Which levels are at least as high as one level: a bit for each, in words. Those beyond the end aren't.
 // Most cubes speak of levels below 64 alone. Their rows take no allocation, and what is cold here is only for the words beyond the first.
@@ -86,6 +85,16 @@ impl Row {
     {
         Row {
             first: 0,
+            more: Vec::new(alloc),
+        }
+    }
+
+    /// The row of the levels of one word.
+    pub(crate) fn of_word(alloc: Global, word: u64) -> Row
+        ensures { result ≡ word ∷ [] }
+    {
+        Row {
+            first: word,
             more: Vec::new(alloc),
         }
     }
@@ -217,9 +226,10 @@ pub(crate) fn copy_rows(alloc: Global, rows: &[Row]) -> Result<Vec<Row>, NoMemor
     Ok(copy)
 }
 
+/// Whether the row of one level has another one.
 #[inline(always)]
 #[tactic(auto, using(crate::proofs::Words::reaches_nothing))]
-fn are_at_most(rows: &[Row], low: usize, high: usize) -> bool
+pub(crate) fn are_at_most(rows: &[Row], low: usize, high: usize) -> bool
     ensures { result ≡ are_at_most rows.now low high }
 {
     match rows.get(low) {
@@ -228,9 +238,8 @@ fn are_at_most(rows: &[Row], low: usize, high: usize) -> bool
     }
 }
 
-/// Whether one level is at most another.
-#[inline(always)]
-pub(crate) fn at_most(rows: &[Row], low: usize, high: usize) -> bool
+// Whether one level is at most another.
+fn at_most(rows: &[Row], low: usize, high: usize) -> bool
     ensures { result ≡ at_most rows.now low high }
 {
     low == high || are_at_most(rows, low, high)
@@ -246,107 +255,6 @@ pub(crate) fn low_order(rows: &[Row]) -> u64
         order |= rows[level].low_levels() << (8 * level);
     }
     order
-}
-
-/// Whether each of two levels is at most the other.
-#[inline(always)]
-pub(crate) fn are_tied(rows: &[Row], a: usize, b: usize) -> bool
-    ensures { result ≡ is_tied (at_most rows.now) a b }
-{
-    at_most(rows, a, b) && at_most(rows, b, a)
-}
-
-fn is_apart(op: Op) -> bool
-    ensures { result ≡ is_apart op }
-{
-    match op {
-        Op::Ne | Op::Lt => true,
-        Op::Eq | Op::AtMost => false,
-    }
-}
-
-// Whether both levels of the literal lie from the one level on up to the other.
-fn lies_between(rows: &[Row], lit: Lit, low: usize, high: usize) -> bool
-    ensures { result ≡ lies_between (at_most rows.now) low high lit }
-{
-    (at_most(rows, low, lit.left) && at_most(rows, lit.left, high))
-        && (at_most(rows, low, lit.right) && at_most(rows, lit.right, high))
-}
-
-// Whether the levels of the literal are tied to the two levels.
-fn joins(rows: &[Row], lit: Lit, a: usize, b: usize) -> bool
-    ensures { result ≡ joins (at_most rows.now) a b lit }
-{
-    are_tied(rows, lit.left, a) && are_tied(rows, lit.right, b)
-}
-
-// Whether one of the two levels is at most the third.
-#[inline(always)]
-fn is_above_one(rows: &[Row], level: usize, a: usize, b: usize) -> bool
-    ensures { result ≡ (at_most rows.now a level || at_most rows.now b level) }
-{
-    at_most(rows, a, level) || at_most(rows, b, level)
-}
-
-// Mostly a level of the literal lies above neither, which takes two looks.
-fn sets_apart(rows: &[Row], lit: Lit, a: usize, b: usize) -> bool
-    ensures { result ≡ sets_apart (at_most rows.now) a b lit }
-{
-    if !is_apart(lit.op) {
-        return false;
-    }
-    if !is_above_one(rows, lit.left, a, b) {
-        return false;
-    }
-    if !is_above_one(rows, lit.right, a, b) {
-        return false;
-    }
-    (lies_between(rows, lit, a, b) || lies_between(rows, lit, b, a))
-        || (joins(rows, lit, a, b) || joins(rows, lit, b, a))
-}
-
-// Whether some literal sets the levels apart.
-fn are_apart(rows: &[Row], cube: &Cube, a: usize, b: usize) -> bool
-    ensures { result ≡ are_apart (at_most rows.now) cube.now a b }
-{
-    cube.as_slice()
-        .iter()
-        .any(|lit| sets_apart(rows, *lit, a, b))
-}
-
-/// Whether the levels stand so in the rows that the literal may follow: what takes no walk over literals.
-pub(crate) fn may_be_implied(rows: &[Row], lit: Lit) -> bool
-    ensures { IsFalse result → (k : List Lit) → is_implied (at_most rows.now) k lit.op lit.left lit.right ≡ false }
-{
-    match lit.op {
-        Op::Eq => are_tied(rows, lit.left, lit.right),
-        Op::Ne => true,
-        Op::Lt | Op::AtMost => at_most(rows, lit.left, lit.right),
-    }
-}
-
-/// Whether the literal follows from the cube, whose rows these are.
-// The rows are read first, since the literals are walked.
-#[inline(always)]
-pub(crate) fn is_implied(rows: &[Row], cube: &Cube, lit: Lit) -> bool
-    ensures { result ≡ is_implied (at_most rows.now) cube.now lit.op lit.left lit.right }
-{
-    match lit.op {
-        Op::Eq => are_tied(rows, lit.left, lit.right),
-        Op::Ne => are_apart(rows, cube, lit.left, lit.right),
-        Op::Lt => {
-            at_most(rows, lit.left, lit.right) && are_apart(rows, cube, lit.left, lit.right)
-        }
-        Op::AtMost => at_most(rows, lit.left, lit.right),
-    }
-}
-
-/// Whether the literal contradicts the cube, whose rows these are.
-#[inline(always)]
-pub(crate) fn is_refuted(rows: &[Row], cube: &Cube, lit: Lit) -> bool
-    ensures { result ≡ is_refuted (at_most rows.now) cube.now lit.op lit.left lit.right }
-{
-    is_implied(rows, cube, denial(lit))
 }
 
 // The level, and those that are at least as high.
@@ -407,28 +315,18 @@ fn put_above(alloc: Global, rows: &mut Vec<Row>, level: usize, more: Row) -> Res
     Ok(())
 }
 
-// `low` is at most `high`.
-fn link(alloc: Global, rows: &mut Vec<Row>, low: usize, high: usize) -> Result<(), NoMemory>
-    ensures { OnOk result ((a b : ℕ) → at_most rows.new.items a b ≡ linked low high (at_most rows.old.items) a b) }
+/// The rows where `low` is at most `high`.
+pub(crate) fn link_rows(
+    alloc: Global,
+    rows: Vec<Row>,
+    low: usize,
+    high: usize,
+) -> Result<Vec<Row>, NoMemory>
+    ensures { IfOk result (λ r. (a b : ℕ) → at_most r.items a b ≡ linked low high (at_most rows.items) a b) }
 {
-    let above = from_on(alloc, rows, high)?;
-    raise(rows, low, &above)?;
-    put_above(alloc, rows, low, above)
-}
-
-/// The rows of a cube with one literal more.
-pub(crate) fn extend(alloc: Global, rows: Vec<Row>, lit: Lit) -> Result<Vec<Row>, NoMemory>
-    ensures { IfOk result (λ r. (a b : ℕ) → at_most r.items a b ≡ extended lit.op lit.left lit.right (at_most rows.items) a b) }
-{
-    let Lit { op, left, right } = lit;
-    let mut changed = rows;
-    match op {
-        Op::Eq => {
-            link(alloc, &mut changed, left, right)?;
-            link(alloc, &mut changed, right, left)?;
-        }
-        Op::Ne => {}
-        Op::Lt | Op::AtMost => link(alloc, &mut changed, left, right)?,
-    }
-    Ok(changed)
+    let mut linked = rows;
+    let above = from_on(alloc, &linked, high)?;
+    raise(&mut linked, low, &above)?;
+    put_above(alloc, &mut linked, low, above)?;
+    Ok(linked)
 }
