@@ -1,20 +1,22 @@
 -- Literals with `<=` in their two parts, and cubes with the others.
 use Rattle.std.proofs.Common.{◌≡◌, ◌⊎◌, inl, inr, ℕ, Bool, true, false, not, ◌&&◌, ◌||◌, cond, List, [], ◌∷◌, ◌++◌, ◌+◌, ◌<◌, length, get_or, take, filter, refl, sym, ◌∙◌, ap, subst}
 use Rattle.std.proofs.lemmas.Bool.{false≢true}
-use Rattle.std.proofs.lemmas.List.Elements.{All-nil, All-push, All-filter, filter_passes}
+use Rattle.std.proofs.lemmas.List.Elements.{All-nil, All-push, All-filter, All-contains, filter_passes}
 use Rattle.std.proofs.lemmas.List.Folds.{list_all_more}
-use Rattle.std.specs.List.{All}
+use Rattle.std.proofs.lemmas.List.Sums.{AllPass-from_list_all}
+use Rattle.std.specs.List.{All, Contains}
 use Rattle.lois_base.specs.Atom.{Atom}
-use Rattle.lois_base.specs.Truth.{lit_holds, cube_holds, holds}
+use Rattle.lois_base.specs.Truth.{atom_at, lit_holds, cube_holds, holds}
 use Rattle.lois_base.specs.Validity.{is_strict}
 use Rattle.lois_base.specs.declared.guards.Lit.{Lit}
 use Rattle.lois_base.specs.declared.guards.Op.{Op}
 use Rattle.lois_base.specs.declared.guards.Op.TheVariants.{Eq, Ne, Lt, AtMost}
-use Rattle.lois_base.proofs.Booleans.{or_false}
+use Rattle.lois_base.proofs.Booleans.{or_false, and_true, and_first, and_second, never_both}
+use Rattle.lois_base.proofs.Order.{equal_sym}
 use Rattle.lois_base.proofs.Both.{cubes_append, holds_append}
 use Rattle.lois_constraint.specs.Rules.{Rule, uses, fits, admits, strict, Obeys, CubeObeys, ConstraintObeys}
 use Rattle.lois_constraint.proofs.WeakLiterals.{less, same, at_most, less_holds, same_holds, one_holds}
-use Rattle.lois_strict.specs.Literals.{with_less, with_equal, a_part_holds}
+use Rattle.lois_strict.specs.Literals.{with_less, with_equal, difference, a_part_holds}
 
 -- ---- a literal with `<=` holds where one of its parts does, and they obey what it obeys
 module _ (e : List Atom) where
@@ -33,6 +35,35 @@ module _ (e : List Atom) where
 
   pub a_part_holds_is : (l : Lit) → not (is_strict l.op) ≡ true → a_part_holds e l ≡ lit_holds e l
   a_part_holds_is l w = weak_parts l.op l.left l.right w
+
+-- where the levels of a literal with `<=` differ, `<` is all that is left of it
+module _ (e : List Atom) where
+  weak_op : (o : Op) (x y : ℕ) → not (is_strict o) ≡ true → lit_holds e (record { op = o; left = x; right = y }) ≡ lit_holds e (at_most x y)
+  weak_op Eq x y v = absurd (false≢true v)
+  weak_op Ne x y v = absurd (false≢true v)
+  weak_op Lt x y v = absurd (false≢true v)
+  weak_op AtMost x y v = refl
+
+  differ : (k : List Lit) (x y : ℕ) → cube_holds e k ≡ true → Contains k (difference x y) ⊎ Contains k (difference y x) → lit_holds e (same x y) ≡ true → ⊥
+  differ k x y holds has equal =
+      elim has [
+        | inl h ↦ never_both (lit_holds e (same x y)) (found (difference x y) h) equal
+        | inr h ↦ never_both (lit_holds e (same y x)) (found (difference y x) h) (equal_sym (atom_at e x) (atom_at e y) equal)
+      ]
+    where
+      found : (l : Lit) → Contains k l → lit_holds e l ≡ true
+      found l h = All-contains (λ (q : Lit). lit_holds e q ≡ true) k l (AllPass-from_list_all (lit_holds e) k holds) h
+
+  pub less_hold : (k : List Lit) (l : Lit) → not (is_strict l.op) ≡ true → Contains k (difference l.left l.right) ⊎ Contains k (difference l.right l.left) → cube_holds e k ≡ true → lit_holds e l ≡ true → lit_holds e (with_less l) ≡ true
+  less_hold k l w has holds h =
+      elim (one_holds e l.left l.right (sym (weak_op l.op l.left l.right w) ∙ h)) [
+        | inl less ↦ less
+        | inr equal ↦ absurd (differ k l.left l.right holds has equal)
+      ]
+
+  pub less_back : (p : Bool) (l : Lit) → not (is_strict l.op) ≡ true → (p && lit_holds e (with_less l)) ≡ true → (p && lit_holds e l) ≡ true
+  less_back p l w h =
+      and_true p (lit_holds e l) (and_first p (lit_holds e (with_less l)) h) (weak_op l.op l.left l.right w ∙ less_holds e l.left l.right (and_second p (lit_holds e (with_less l)) h))
 
 parts_obey : (rule : Rule) (o : Op) (x y : ℕ) → not (is_strict o) ≡ true → Obeys rule (record { op = o; left = x; right = y }) → Obeys rule (less x y) × Obeys rule (same x y)
 parts_obey (uses g) o x y w h = (h, h)
@@ -113,14 +144,25 @@ abbrev pub weak_literals : List Lit → List Lit
 weak_literals k = filter (λ l. not (is_strict l.op)) k
 
 module _ (k xs : List Lit) (g r : List (List Lit)) (i : ℕ) (d : Lit) (is : xs ≡ weak_literals k) (b : i < length xs) where
-  read_weak : not (is_strict (get_or xs i d).op) ≡ true
+  pub read_weak : not (is_strict (get_or xs i d).op) ≡ true
   read_weak = subst (All (λ (l : Lit). not (is_strict l.op) ≡ true)) (sym is) (filter_passes (λ (l : Lit). not (is_strict l.op)) k) i d b
 
-  pub split_read : (e : List Atom) (s : Bool) → holds e g ≡ (s && cube_holds e (take i xs)) → holds e r ≡ (holds e g && a_part_holds e (get_or xs i d)) → holds e r ≡ (s && cube_holds e (take (i + 1) xs))
-  split_read e s before now =
-      now ∙ (ap (λ p. p && a_part_holds e (get_or xs i d)) before ∙ (ap (λ p. (s && cube_holds e (take i xs)) && p) (a_part_holds_is e (get_or xs i d) read_weak) ∙ (grouped s (cube_holds e (take i xs)) (lit_holds e (get_or xs i d)) ∙ ap (λ p. s && p) (sym (list_all_more (lit_holds e) xs i d b)))))
+  -- what has been split, and the literal, hold at once
+  pub back_read : (e : List Atom) (s : Bool) → (holds e g ≡ true → (s && cube_holds e (take i xs)) ≡ true) → (holds e g && lit_holds e (get_or xs i d)) ≡ true → (s && cube_holds e (take (i + 1) xs)) ≡ true
+  back_read e s before now =
+      ap (λ p. s && p) (list_all_more (lit_holds e) xs i d b) ∙ (sym (grouped s (cube_holds e (take i xs)) (lit_holds e (get_or xs i d))) ∙ and_true (s && cube_holds e (take i xs)) (lit_holds e (get_or xs i d)) (before (and_first (holds e g) (lit_holds e (get_or xs i d)) now)) (and_second (holds e g) (lit_holds e (get_or xs i d)) now))
+
+  pub weak_holds : (e : List Atom) → cube_holds e k ≡ true → lit_holds e (get_or xs i d) ≡ true
+  weak_holds e h =
+      AllPass-from_list_all (lit_holds e) xs (ap (cube_holds e) is ∙ and_second (cube_holds e (filter (λ l. is_strict l.op) k)) (cube_holds e (weak_literals k)) (apart_hold e (λ l. is_strict l.op) k ∙ h)) i d b
 
   pub split_obeys : (rule : Rule) → CubeObeys rule k → ConstraintObeys rule g → (ConstraintObeys rule g → Obeys rule (with_less (get_or xs i d)) → Obeys rule (with_equal (get_or xs i d)) → ConstraintObeys rule r) → ConstraintObeys rule r
   split_obeys rule h before then =
       let obeys = weak_parts_obey rule (get_or xs i d) read_weak (subst (CubeObeys rule) (sym is) (All-filter (λ (l : Lit). not (is_strict l.op)) (Obeys rule) k h) i d b) in
       then before obeys.0 obeys.1
+
+-- two tests that follow from one another
+pub as_true : (p q : Bool) → (q ≡ true → p ≡ true) → (p ≡ true → q ≡ true) → p ≡ q
+as_true true q there back = sym (back refl)
+as_true false true there back = there refl
+as_true false false there back = refl

@@ -1,13 +1,13 @@
 //! Constraints without `<=`.
 
-ghost use Rattle.std.specs.Prelude.{◌≡◌, ℕ, Bool, List, not, ◌&&◌, ◌||◌, filter, IfOk, OnOk};
+ghost use Rattle.std.specs.Prelude.{◌≡◌, ℕ, Bool, List, not, ◌&&◌, ◌||◌, filter, IfOk, OnOk, IsTrue, Contains, ◌⊎◌};
 ghost use Rattle.lois_base.specs.Atom.{Atom};
 ghost use Rattle.lois_base.specs.Fits.{ConstraintFits};
 ghost use Rattle.lois_base.specs.Truth.{lit_holds, cube_holds, holds};
 ghost use Rattle.lois_base.specs.Validity.{is_strict, AdmitsConstraint, IsStrictConstraint};
 ghost use Rattle.lois_base.specs.UsedLevels.{UsesOnly};
 ghost use Rattle.lois_constraint.specs.Rules.{Rule, Obeys, CubeObeys, ConstraintObeys};
-ghost use Rattle.lois_strict.specs.Literals.{with_less, with_equal, a_part_holds};
+ghost use Rattle.lois_strict.specs.Literals.{with_less, with_equal, difference, a_part_holds};
 
 use lois_base::{Constraint, Cube, Lit, NoMemory, Op};
 use lois_constraint::conflict;
@@ -73,6 +73,58 @@ fn split_parts(alloc: Global, parts: &Constraint, lit: Lit) -> Result<Constraint
     Ok(split)
 }
 
+// Each part with `<` between the levels of the literal.
+fn less_parts(alloc: Global, parts: &Constraint, lit: Lit) -> Result<Constraint, NoMemory>
+    ensures truth { IfOk result (λ r. (e : List Atom) → holds e r ≡ (holds e parts.now && lit_holds e (with_less lit))) }
+    ensures rules { IfOk result (λ r. (rule : Rule) → ConstraintObeys rule parts.now → Obeys rule (with_less lit) → ConstraintObeys rule r) }
+{
+    let less = Lit {
+        op: Op::Lt,
+        left: lit.left,
+        right: lit.right,
+    };
+    let mut apart = Constraint::new(alloc);
+    for part in parts.as_slice() {
+        push_part(alloc, &mut apart, part, less)?;
+    }
+    Ok(apart)
+}
+
+// Whether the cube says that the levels of the literal differ. Then `<` is all that is left of a `<=`.
+fn tells_apart(cube: &Cube, lit: Lit) -> bool
+    ensures { IsTrue result → Contains cube.now (difference lit.left lit.right) ⊎ Contains cube.now (difference lit.right lit.left) }
+{
+    let apart = Lit {
+        op: Op::Ne,
+        left: lit.left,
+        right: lit.right,
+    };
+    let turned = Lit {
+        op: Op::Ne,
+        left: lit.right,
+        right: lit.left,
+    };
+    cube.as_slice().contains(&apart) || cube.as_slice().contains(&turned)
+}
+
+// The parts behind a literal with `<=` of the cube.
+fn next_parts(
+    alloc: Global,
+    cube: &Cube,
+    parts: &Constraint,
+    lit: Lit,
+) -> Result<Constraint, NoMemory>
+    requires weak { IsTrue (not (is_strict lit.op)) }
+    ensures there { IfOk result (λ r. (e : List Atom) → IsTrue (cube_holds e cube.now) → IsTrue (lit_holds e lit) → IsTrue (holds e parts.now) → IsTrue (holds e r)) }
+    ensures back { IfOk result (λ r. (e : List Atom) → IsTrue (holds e r) → IsTrue (holds e parts.now && lit_holds e lit)) }
+    ensures rules { IfOk result (λ r. (rule : Rule) → ConstraintObeys rule parts.now → Obeys rule (with_less lit) → Obeys rule (with_equal lit) → ConstraintObeys rule r) }
+{
+    if tells_apart(cube, lit) {
+        return less_parts(alloc, parts, lit);
+    }
+    split_parts(alloc, parts, lit)
+}
+
 // The parts of a cube. A cube without `<=` is its one part, and others begin with the literals that aren't split, so that parts
 // that can't be met go early.
 fn split_cube(alloc: Global, cube: &Cube) -> Result<Constraint, NoMemory>
@@ -84,7 +136,7 @@ fn split_cube(alloc: Global, cube: &Cube) -> Result<Constraint, NoMemory>
     let mut parts = Constraint::new(alloc);
     parts.push(strict)?;
     for lit in weak.as_slice() {
-        parts = split_parts(alloc, &parts, *lit)?;
+        parts = next_parts(alloc, cube, &parts, *lit)?;
     }
     Ok(parts)
 }
