@@ -35,7 +35,18 @@ fn literals_of(alloc: Global, cube: &Cube) -> Result<Literals, NoMemory>
     Ok(Literals { strict, weak })
 }
 
-// One more part, the cube with the literal, unless it can't be met.
+// One more part, the cube with the literal.
+fn push_longer(alloc: Global, parts: &mut Constraint, cube: &Cube, lit: Lit) -> Result<(), NoMemory>
+    ensures truth { OnOk result ((e : List Atom) → holds e parts.new ≡ (holds e parts.old || (cube_holds e cube.now && lit_holds e lit))) }
+    ensures rules { OnOk result ((rule : Rule) → ConstraintObeys rule parts.old → CubeObeys rule cube.now → Obeys rule lit → ConstraintObeys rule parts.new) }
+{
+    let mut part = cube.copy(alloc)?;
+    part.push(lit)?;
+    parts.push(part)?;
+    Ok(())
+}
+
+// The same, unless the part can't be met.
 fn push_part(alloc: Global, parts: &mut Constraint, cube: &Cube, lit: Lit) -> Result<(), NoMemory>
     ensures truth { OnOk result ((e : List Atom) → holds e parts.new ≡ (holds e parts.old || (cube_holds e cube.now && lit_holds e lit))) }
     ensures rules { OnOk result ((rule : Rule) → ConstraintObeys rule parts.old → CubeObeys rule cube.now → Obeys rule lit → ConstraintObeys rule parts.new) }
@@ -73,7 +84,7 @@ fn split_parts(alloc: Global, parts: &Constraint, lit: Lit) -> Result<Constraint
     Ok(split)
 }
 
-// Each part with `<` between the levels of the literal.
+// Each part with `<` between the levels of the literal. Nothing is asked about a part, since there are no more of them.
 fn less_parts(alloc: Global, parts: &Constraint, lit: Lit) -> Result<Constraint, NoMemory>
     ensures truth { IfOk result (λ r. (e : List Atom) → holds e r ≡ (holds e parts.now && lit_holds e (with_less lit))) }
     ensures rules { IfOk result (λ r. (rule : Rule) → ConstraintObeys rule parts.now → Obeys rule (with_less lit) → ConstraintObeys rule r) }
@@ -85,7 +96,7 @@ fn less_parts(alloc: Global, parts: &Constraint, lit: Lit) -> Result<Constraint,
     };
     let mut apart = Constraint::new(alloc);
     for part in parts.as_slice() {
-        push_part(alloc, &mut apart, part, less)?;
+        push_longer(alloc, &mut apart, part, less)?;
     }
     Ok(apart)
 }
