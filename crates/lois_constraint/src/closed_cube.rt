@@ -151,7 +151,7 @@ impl ClosedCube {
             if is_refuted(&order, &cube, *lit) {
                 return Ok(None);
             }
-            order = order.extend(alloc, *lit)?;
+            order.extend(alloc, *lit)?;
             cube.push(*lit)?;
         }
         Ok(Some(ClosedCube { cube, order }))
