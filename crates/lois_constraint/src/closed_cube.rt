@@ -120,7 +120,8 @@ impl ClosedCube {
         true
     }
 
-    fn implies_all(&self, other: &Cube) -> bool
+    /// The same, for a cube of which signatures have told that it may hold so.
+    pub(crate) fn implies_all(&self, other: &Cube) -> bool
         ensures { IsTrue result ↔ Entails self.now other.now }
     {
         for lit in other.as_slice() {
