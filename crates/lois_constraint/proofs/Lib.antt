@@ -2,6 +2,7 @@ pub mod Raising
 pub mod Words
 pub mod Lows
 pub mod LowOrders
+pub mod Spread
 pub mod Implied
 pub mod Ranked
 pub mod Joined

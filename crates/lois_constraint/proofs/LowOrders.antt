@@ -14,7 +14,7 @@ use Rattle.lois_constraint.proofs.Lows.{diagonal, low_bound, low_bit, put_here, 
 use Rattle.lois_constraint.proofs.Words.{one_or, or_nothing, no_word, reaches_nothing, first_bit}
 
 -- ---- the rows of a word
-moved_down : (n k i : ℕ) → bit_at (n / 2 ^ k) i ≡ bit_at n (k + i)
+pub moved_down : (n k i : ℕ) → bit_at (n / 2 ^ k) i ≡ bit_at n (k + i)
 moved_down n k i =
     let parts : n / 2 ^ k * 2 ^ k + n % 2 ^ k ≡ n = div-add-mod' n (2 ^ k) in
     let at : k + i - k ≡ i = omega arith in

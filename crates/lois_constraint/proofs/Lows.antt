@@ -10,11 +10,11 @@ use Rattle.lois_constraint.specs.Order.{Row, reaches, at_most}
 use Rattle.lois_constraint.proofs.Words.{one_or, or_nothing, reaches_nothing, first_bit}
 
 -- ---- a test of each number below a bound, by computing
-abbrev holds_below : (ℕ → Bool) → ℕ → Bool
+abbrev pub holds_below : (ℕ → Bool) → ℕ → Bool
 holds_below p zero = true
 holds_below p (suc n) = p n && holds_below p n
 
-each_below : (p : ℕ → Bool) (n k : ℕ) → holds_below p n ≡ true → k < n → p k ≡ true
+pub each_below : (p : ℕ → Bool) (n k : ℕ) → holds_below p n ≡ true → k < n → p k ≡ true
 each_below p zero k h l = absurd (omega arith)
 each_below p (suc n) k h l = go (cases_order k n) (λ less. each_below p n k (and_parts (p n) (holds_below p n) h).1 less)
   where

@@ -120,7 +120,8 @@ impl ClosedCube {
         true
     }
 
-    fn implies_all(&self, other: &Cube) -> bool
+    /// The same, for a cube of which signatures have told that it may hold so.
+    pub(crate) fn implies_all(&self, other: &Cube) -> bool
         ensures { IsTrue result ↔ Entails self.now other.now }
     {
         for lit in other.as_slice() {
@@ -151,7 +152,7 @@ impl ClosedCube {
             if is_refuted(&order, &cube, *lit) {
                 return Ok(None);
             }
-            order = order.extend(alloc, *lit)?;
+            order.extend(alloc, *lit)?;
             cube.push(*lit)?;
         }
         Ok(Some(ClosedCube { cube, order }))

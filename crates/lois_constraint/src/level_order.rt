@@ -1,17 +1,20 @@
 //! The order that a cube puts its levels in: one word where all are low, and else rows.
 
-ghost use Rattle.std.specs.Prelude.{◌≡◌, ℕ, ◌+◌, ◌*◌, Bool, List, ◌<◌, ◌||◌, ◌&&◌, ◌==◌, false, IsFalse, IfOk};
+ghost use Rattle.std.specs.Prelude.{◌≡◌, ℕ, ◌+◌, ◌*◌, Bool, List, ◌<◌, ◌||◌, ◌&&◌, ◌==◌, false, IsFalse, IfOk, OnOk};
 ghost use Rattle.std.specs.Int.{bit_at};
 ghost use Rattle.lois_constraint.specs.Order.{at_most, is_tied, is_apart, lies_between, joins, sets_apart, are_apart, is_implied, is_refuted, linked, extended};
 ghost use Rattle.lois_constraint.specs.LevelOrders.{is_at_most};
 
 use crate::denying::denial;
-use crate::low_levels::{are_low_apart, is_apart, link_low, low_at_most, low_rows};
+use crate::low_levels::{
+    is_apart, is_low_implied, link_low, low_at_most, low_rows, may_be_low_implied,
+};
 use crate::order_closure::{
     EACH_ITSELF, LOW_LEVELS, Row, are_at_most, copy_rows, link_rows, low_order,
 };
 use lois_base::{Cube, Lit, NoMemory, Op};
 use std::alloc::Global;
+use std::mem;
 
 /// Which levels are at most which.
 // Most cubes speak of low levels alone. Their order takes no allocation: bit 8 * a + b says that level a is at most b.
@@ -70,39 +73,44 @@ impl LevelOrder {
     }
 
     // `low` is at most `high`, in rows.
-    fn link_far(self, alloc: Global, low: usize, high: usize) -> Result<Self, NoMemory>
-        ensures { IfOk result (λ r. (a b : ℕ) → is_at_most r a b ≡ linked low high (is_at_most self) a b) }
+    #[cold]
+    #[inline(never)]
+    fn link_far(&mut self, alloc: Global, low: usize, high: usize) -> Result<(), NoMemory>
+        ensures { OnOk result ((a b : ℕ) → is_at_most self.new a b ≡ linked low high (is_at_most self.old) a b) }
     {
-        let rows = match self {
+        let rows = match mem::replace(self, LevelOrder::new()) {
             LevelOrder::Low(word) => low_rows(alloc, word)?,
             LevelOrder::Far(rows) => rows,
         };
-        Ok(LevelOrder::Far(link_rows(alloc, rows, low, high)?))
+        *self = LevelOrder::Far(link_rows(alloc, rows, low, high)?);
+        Ok(())
     }
 
     // `low` is at most `high`.
-    fn link(self, alloc: Global, low: usize, high: usize) -> Result<Self, NoMemory>
-        ensures { IfOk result (λ r. (a b : ℕ) → is_at_most r a b ≡ linked low high (is_at_most self) a b) }
+    #[inline(always)]
+    fn link(&mut self, alloc: Global, low: usize, high: usize) -> Result<(), NoMemory>
+        ensures { OnOk result ((a b : ℕ) → is_at_most self.new a b ≡ linked low high (is_at_most self.old) a b) }
     {
-        match self {
-            LevelOrder::Low(word) if low < LOW_LEVELS && high < LOW_LEVELS => {
-                Ok(LevelOrder::Low(link_low(word | EACH_ITSELF, low, high)))
+        if let LevelOrder::Low(word) = self {
+            if low < LOW_LEVELS && high < LOW_LEVELS {
+                *word = link_low(*word | EACH_ITSELF, low, high);
+                return Ok(());
             }
-            order => order.link_far(alloc, low, high),
         }
+        self.link_far(alloc, low, high)
     }
 
-    /// The order of a cube with one literal more.
-    pub(crate) fn extend(self, alloc: Global, lit: Lit) -> Result<Self, NoMemory>
-        ensures { IfOk result (λ r. (a b : ℕ) → is_at_most r a b ≡ extended lit.op lit.left lit.right (is_at_most self) a b) }
+    /// One literal more of the cube.
+    pub(crate) fn extend(&mut self, alloc: Global, lit: Lit) -> Result<(), NoMemory>
+        ensures { OnOk result ((a b : ℕ) → is_at_most self.new a b ≡ extended lit.op lit.left lit.right (is_at_most self.old) a b) }
     {
         let Lit { op, left, right } = lit;
         match op {
             Op::Eq => {
-                let up = self.link(alloc, left, right)?;
-                up.link(alloc, right, left)
+                self.link(alloc, left, right)?;
+                self.link(alloc, right, left)
             }
-            Op::Ne => Ok(self),
+            Op::Ne => Ok(()),
             Op::Lt | Op::AtMost => self.link(alloc, left, right),
         }
     }
@@ -160,19 +168,15 @@ fn sets_apart(order: &LevelOrder, lit: Lit, a: usize, b: usize) -> bool
 fn are_apart(order: &LevelOrder, cube: &Cube, a: usize, b: usize) -> bool
     ensures { result ≡ are_apart (is_at_most order.now) cube.now a b }
 {
-    match order {
-        LevelOrder::Low(word) if a < LOW_LEVELS && b < LOW_LEVELS => {
-            are_low_apart(*word, cube, a, b)
-        }
-        _ => cube
-            .as_slice()
-            .iter()
-            .any(|lit| sets_apart(order, *lit, a, b)),
-    }
+    cube.as_slice()
+        .iter()
+        .any(|lit| sets_apart(order, *lit, a, b))
 }
 
-/// Whether the levels stand so in the order that the literal may follow: what takes no walk over literals.
-pub(crate) fn may_be_implied(order: &LevelOrder, lit: Lit) -> bool
+// Whether the levels stand so that the literal may follow, whatever levels they are.
+#[cold]
+#[inline(never)]
+fn may_be_far_implied(order: &LevelOrder, lit: Lit) -> bool
     ensures { IsFalse result → (k : List Lit) → is_implied (is_at_most order.now) k lit.op lit.left lit.right ≡ false }
 {
     match lit.op {
@@ -182,10 +186,23 @@ pub(crate) fn may_be_implied(order: &LevelOrder, lit: Lit) -> bool
     }
 }
 
-/// Whether the literal follows from the cube, whose order this is.
-// The order is read first, since the literals are walked.
+/// Whether the levels stand so in the order that the literal may follow: what takes no walk over literals.
 #[inline(always)]
-pub(crate) fn is_implied(order: &LevelOrder, cube: &Cube, lit: Lit) -> bool
+pub(crate) fn may_be_implied(order: &LevelOrder, lit: Lit) -> bool
+    ensures { IsFalse result → (k : List Lit) → is_implied (is_at_most order.now) k lit.op lit.left lit.right ≡ false }
+{
+    match order {
+        LevelOrder::Low(word) if lit.left < LOW_LEVELS && lit.right < LOW_LEVELS => {
+            may_be_low_implied(*word, lit)
+        }
+        _ => may_be_far_implied(order, lit),
+    }
+}
+
+// Whether the literal follows, whatever levels it has. The order is read first, since the literals are walked.
+#[cold]
+#[inline(never)]
+fn is_far_implied(order: &LevelOrder, cube: &Cube, lit: Lit) -> bool
     ensures { result ≡ is_implied (is_at_most order.now) cube.now lit.op lit.left lit.right }
 {
     match lit.op {
@@ -195,6 +212,19 @@ pub(crate) fn is_implied(order: &LevelOrder, cube: &Cube, lit: Lit) -> bool
             at_most(order, lit.left, lit.right) && are_apart(order, cube, lit.left, lit.right)
         }
         Op::AtMost => at_most(order, lit.left, lit.right),
+    }
+}
+
+/// Whether the literal follows from the cube, whose order this is.
+#[inline(always)]
+pub(crate) fn is_implied(order: &LevelOrder, cube: &Cube, lit: Lit) -> bool
+    ensures { result ≡ is_implied (is_at_most order.now) cube.now lit.op lit.left lit.right }
+{
+    match order {
+        LevelOrder::Low(word) if lit.left < LOW_LEVELS && lit.right < LOW_LEVELS => {
+            is_low_implied(*word, cube, lit)
+        }
+        _ => is_far_implied(order, cube, lit),
     }
 }
 

@@ -1,13 +1,16 @@
 //! The order of the levels below eight, in one word: bit 8 * a + b says that level a is at most b.
 
-ghost use Rattle.std.specs.Prelude.{◌≡◌, ℕ, ◌+◌, ◌*◌, ◌/◌, ◌^◌, Bool, List, bit_and, ◌<◌, ◌||◌, ◌&&◌, ◌==◌, false, IsTrue, IfOk};
+ghost use Rattle.std.specs.Prelude.{◌≡◌, ℕ, ◌+◌, ◌*◌, ◌/◌, ◌^◌, Bool, List, bit_and, ◌<◌, ◌||◌, ◌&&◌, ◌==◌, false, IsTrue, IsFalse, IfOk};
 ghost use Rattle.std.specs.Int.{bit_at};
-ghost use Rattle.lois_constraint.specs.Order.{at_most, is_tied, is_apart, lies_between, joins, sets_apart, are_apart, linked};
+ghost use Rattle.lois_constraint.specs.Order.{at_most, is_tied, is_apart, lies_between, joins, sets_apart, are_apart, is_implied, linked};
 ghost use Rattle.lois_constraint.specs.LevelOrders.{has_bit, low_at_most};
 
 use crate::order_closure::{EACH_ITSELF, LOW_LEVELS, Row};
 use lois_base::{Cube, Lit, NoMemory, Op};
 use std::alloc::Global;
+
+// The first bit of each row of the word.
+const FIRST_BITS: u64 = 0x0101_0101_0101_0101;
 
 // The levels of one row of the word.
 const ALL_LOW: u64 = 0xFF;
@@ -57,19 +60,14 @@ fn low_row(word: u64, level: usize) -> u64
 }
 
 /// The word with one low level at most another one: those at most the one are at most those that the other is at most.
+// A word with one bit a row, times a row, has the row wherever the bit is.
 pub(crate) fn link_low(order: u64, low: usize, high: usize) -> u64
     requires low { low < 8 }
     requires high { high < 8 }
     ensures { (a b : ℕ) → a < 8 → b < 8 → has_bit result a b ≡ linked low high (has_bit order) a b }
 {
-    let above = low_row(order, high);
-    let mut linked = order;
-    for level in 0..LOW_LEVELS {
-        if has_bit(order, level, low) {
-            linked |= above << (LOW_LEVELS * level);
-        }
-    }
-    linked
+    let having_low = (order >> low) & FIRST_BITS;
+    order | having_low * low_row(order, high)
 }
 
 /// The rows of the low levels.
@@ -159,8 +157,8 @@ fn sets_apart(word: u64, lit: Lit, a: usize, b: usize) -> bool
         || (joins(word, lit, a, b) || joins(word, lit, b, a))
 }
 
-/// Whether some literal sets the levels apart.
-pub(crate) fn are_low_apart(word: u64, cube: &Cube, a: usize, b: usize) -> bool
+// Whether some literal sets the levels apart.
+fn are_low_apart(word: u64, cube: &Cube, a: usize, b: usize) -> bool
     requires a { a < 8 }
     requires b { b < 8 }
     ensures { result ≡ are_apart (low_at_most word) cube.now a b }
@@ -171,4 +169,35 @@ pub(crate) fn are_low_apart(word: u64, cube: &Cube, a: usize, b: usize) -> bool
         }
     }
     false
+}
+
+/// Whether the levels of the literal stand so that it may follow.
+#[inline(always)]
+pub(crate) fn may_be_low_implied(word: u64, lit: Lit) -> bool
+    requires left { lit.left < 8 }
+    requires right { lit.right < 8 }
+    ensures { IsFalse result → (k : List Lit) → is_implied (low_at_most word) k lit.op lit.left lit.right ≡ false }
+{
+    match lit.op {
+        Op::Eq => are_tied(word, lit.left, lit.right),
+        Op::Ne => true,
+        Op::Lt | Op::AtMost => stands_below(word, lit.left, lit.right),
+    }
+}
+
+/// Whether the literal follows from the cube, whose order the word has.
+pub(crate) fn is_low_implied(word: u64, cube: &Cube, lit: Lit) -> bool
+    requires left { lit.left < 8 }
+    requires right { lit.right < 8 }
+    ensures { result ≡ is_implied (low_at_most word) cube.now lit.op lit.left lit.right }
+{
+    match lit.op {
+        Op::Eq => are_tied(word, lit.left, lit.right),
+        Op::Ne => are_low_apart(word, cube, lit.left, lit.right),
+        Op::Lt => {
+            stands_below(word, lit.left, lit.right)
+                && are_low_apart(word, cube, lit.left, lit.right)
+        }
+        Op::AtMost => stands_below(word, lit.left, lit.right),
+    }
 }

@@ -1,17 +1,36 @@
-use Rattle.std.proofs.Common.{◌++◌}
+use Rattle.std.proofs.Common.{ℕ, Bool, List, ◌++◌}
+use Rattle.std.proofs.lemmas.Result.{IfOk-weaker}
 use Rattle.lois_base.proofs.Validity.{uses_only-refl, uses_only-append_left, uses_only-append_right}
-use Rattle.lois_constraint.specs.Rules.{uses, fits, admits}
-use Rattle.lois_constraint.proofs.Uses.{same_answer}
+use Rattle.lois_base.specs.Fits.{ConstraintFits}
+use Rattle.lois_base.specs.UsedLevels.{UsesOnly}
+use Rattle.lois_base.specs.Validity.{AdmitsConstraint}
+use Rattle.lois_base.specs.declared.guards.Lit.{Lit}
+use Rattle.lois_constraint.specs.Rules.{Rule, uses, fits, admits, ConstraintObeys}
 use Rattle.lois_constraint.proofs.pruning.meet.Goals as goal
+
+-- a: one constraint; b: the other one
+module _ (a b : List (List Lit)) where
+  abbrev Obeyed : List (List Lit) → Type 0
+  Obeyed r = (rule : Rule) → ConstraintObeys rule a → ConstraintObeys rule b → ConstraintObeys rule r
 
 pub returns-clause-levels : goal.returns-clause-levels
 returns-clause-levels c =
-    same_answer c.into_constraint.result c.in_ok-of_both.field-0 _ c.into_constraint.ensures.same (c.in_ok-of_both.ensures.rules (uses (c.args.a.now ++ c.args.b.now)) (uses_only-append_left c.args.a.now c.args.b.now c.args.a.now (uses_only-refl c.args.a.now)) (uses_only-append_right c.args.a.now c.args.b.now c.args.b.now (uses_only-refl c.args.b.now)))
+    let a : List (List Lit) = c.args.a.now in
+    let b : List (List Lit) = c.args.b.now in
+    IfOk-weaker c.meet_pruned.result (Obeyed a b) (UsesOnly (a ++ b)) (λ r h. h (uses (a ++ b)) (uses_only-append_left a b a (uses_only-refl a)) (uses_only-append_right a b b (uses_only-refl b))) c.meet_pruned.ensures.rules
 
 pub returns-clause-fits : goal.returns-clause-fits
 returns-clause-fits c =
-    same_answer c.into_constraint.result c.in_ok-of_both.field-0 _ c.into_constraint.ensures.same (λ n. c.in_ok-of_both.ensures.rules (fits n))
+    let a : List (List Lit) = c.args.a.now in
+    let b : List (List Lit) = c.args.b.now in
+    IfOk-weaker c.meet_pruned.result (Obeyed a b)
+    (λ (r : List (List Lit)). (n : ℕ) → ConstraintFits n a → ConstraintFits n b → ConstraintFits n r)
+    (λ r h n. h (fits n)) c.meet_pruned.ensures.rules
 
 pub returns-clause-operators : goal.returns-clause-operators
 returns-clause-operators c =
-    same_answer c.into_constraint.result c.in_ok-of_both.field-0 _ c.into_constraint.ensures.same (λ o. c.in_ok-of_both.ensures.rules (admits o))
+    let a : List (List Lit) = c.args.a.now in
+    let b : List (List Lit) = c.args.b.now in
+    IfOk-weaker c.meet_pruned.result (Obeyed a b)
+    (λ (r : List (List Lit)). (o : Bool) → AdmitsConstraint o a → AdmitsConstraint o b → AdmitsConstraint o r)
+    (λ r h o. h (admits o)) c.meet_pruned.ensures.rules

@@ -42,7 +42,7 @@ loop-lit-preserved c =
     let grown = c.in_ok-push.ensures.ok in
     let order : IsOrderClosure (extended lit.op lit.left lit.right le) (cube ++ lit ∷ []) = order_extended le cube before.order lit.op lit.left lit.right (sym told ∙ c.if-is_refuted.false) in
     record {
-      order = subst (IsOrderClosure (is_at_most c.in_ok-order.order)) (sym grown) (subst (λ (o : ℕ → ℕ → Bool). IsOrderClosure o (cube ++ lit ∷ [])) (sym (fun_ext (λ a. fun_ext (λ b. c.in_ok-order.ensures a b)))) order);
+      order = subst (IsOrderClosure (is_at_most c.extend.new.self)) (sym grown) (subst (λ (o : ℕ → ℕ → Bool). IsOrderClosure o (cube ++ lit ∷ [])) (sym (fun_ext (λ a. fun_ext (λ b. c.in_ok-extend.ensures a b)))) order);
       truth = λ e. both_grow e (cube_holds e c.args.self) cube c.args.literals.now c.loop-lit.lit-index _ (omega arith) (before.truth e) c.push.new.self grown;
       rules = λ rule h k. subst (CubeObeys rule) (sym grown) (All-push (Obeys rule) cube lit (before.rules rule h k) (k c.loop-lit.lit-index _ (omega arith)));
     }
