@@ -1,5 +1,5 @@
 -- The contexts in which a script ends, whatever lines their values are told by and whichever of them are put together.
-use Rattle.std.proofs.Common.{◌≡◌, ℕ, ◌+◌, ◌&&◌, nat_eq, Bool, cond, List, [], ◌∷◌, ◌++◌, length, IsTrue, refl, sym, ap, ◌∙◌, subst, arith}
+use Rattle.std.proofs.Common.{◌≡◌, ℕ, ◌+◌, ◌&&◌, nat_eq, List, [], ◌∷◌, ◌++◌, length, IsTrue, refl, sym, ap, ◌∙◌, subst, arith}
 use Rattle.std.specs.List.{All, AllZip, Contains}
 use Rattle.std.proofs.lemmas.List.Elements.{All-contains}
 use Rattle.lois_base.specs.Atom.{Atom}
@@ -16,7 +16,7 @@ use Rattle.lois_meaning.specs.Runs.{ListEnds}
 use Rattle.lois_meaning.specs.Store.{AreSameNamed}
 use Rattle.lois_meaning.proofs.Stores.{named_refl, named_trans}
 use Rattle.lois_context.specs.Choices.{IsAdmitted, AdmitsContext, ContextHasBoundedWidths}
-use Rattle.lois_context.specs.Counted.{admits, times, AdmitAlike}
+use Rattle.lois_context.specs.Counted.{admits, AdmitAlike}
 use Rattle.lois_context.specs.Merged.{AreDisjoint, HasSameContentsAsOne, AreMerged}
 use Rattle.lois_context.specs.Slots.{SlotD}
 use Rattle.lois_context.specs.LineValues.{line_values}

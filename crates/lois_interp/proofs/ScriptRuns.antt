@@ -50,7 +50,6 @@ use Rattle.lois_interp.proofs.OneCase.{zip_from, times_alike, one_admits, Picked
 use Rattle.lois_interp.proofs.FreeNames.{AreFree, script_free, are_parameters}
 use Rattle.lois_eval.proofs.FaultsAt.{own_sample}
 use Rattle.lois_base.proofs.Validity.{all_that_are}
-use Rattle.lois_base.proofs.Lists.{all_one}
 use Rattle.lois_interp.proofs.ScriptEnds.{AreEndsOf, prints_retold}
 use Rattle.lois_interp.proofs.Opened.{opens_at, opening_admits, opening_widths, body_placed}
 use Rattle.lois_interp.proofs.SplitElements.{split_all, split_strict, split_named}

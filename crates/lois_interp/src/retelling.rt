@@ -1,8 +1,8 @@
 //! Contexts in which other ones' lines can be told.
 
-ghost use Rattle.std.specs.Prelude.{◌≡◌, ◌∷◌, ◌++◌, [], IfOk, IfSome, IsTrue};
+ghost use Rattle.std.specs.Prelude.{◌≡◌, ◌∷◌, ◌++◌, [], IfOk, IsTrue};
 ghost use Rattle.std.specs.List.{All, AllZip};
-ghost use Rattle.lois_base.specs.Fits.{ConstraintFits, Fits};
+ghost use Rattle.lois_base.specs.Fits.{Fits};
 ghost use Rattle.lois_base.specs.Tree.{tree};
 ghost use Rattle.lois_base.specs.Validity.{AdmitsConstraint, AdmitsTerm};
 ghost use Rattle.lois_answers.specs.LineView.{line_of};
@@ -10,10 +10,9 @@ ghost use Rattle.lois_context.specs.Choices.{AdmitsContext};
 ghost use Rattle.lois_context.specs.Kept.{LinesFit};
 ghost use Rattle.lois_deciders.specs.OnlyAsked.{HasOnlyAsked};
 ghost use Rattle.lois_interp.specs.Retold.{IsRetoldLine, AreRetoldLines, IsToldBy, AreRetold, HasConditionLike};
-ghost use Rattle.lois_simplify.specs.Simplification.{IsSameWhere};
 
 use lois_answers::{Line, Lines};
-use lois_base::{Constraint, Decider, NoMemory, Structure, Term};
+use lois_base::{Constraint, Decider, NoMemory, Structure};
 use lois_context::{Context, Shared, Store};
 use lois_deciders::Chosen;
 use lois_elim::quantifier_free;
