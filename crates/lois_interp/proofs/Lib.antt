@@ -31,6 +31,8 @@ pub mod Opened
 pub mod FreeNames
 pub mod OneCase
 pub mod CaseCount
+pub mod Retold
+pub mod ScriptEnds
 pub mod SplitElements
 pub mod ScriptRuns
 pub mod Nowhere

@@ -11,10 +11,10 @@ use Rattle.lois_context.specs.Counted.{admits, times}
 use Rattle.lois_context.specs.Merged.{contents_of, HaveDistinctContents}
 use Rattle.lois_context.specs.Slots.{SlotD}
 use Rattle.lois_context.specs.declared.contexts.Context.{Context}
-use Rattle.lois_context.proofs.Counts.{admits_yes, admits_is, admits_like, times_cons}
+use Rattle.lois_context.proofs.Counts.{admits_yes, admits_is, times_cons}
 use Rattle.lois_context.proofs.Later.{first_or_later}
 use Rattle.lois_interp.specs.Interpreted.{HoldsAt, lines_of}
-use Rattle.lois_interp.specs.Printed.{IsPrinted, IsCaseOf}
+use Rattle.lois_interp.specs.Printed.{IsCaseOf}
 use Rattle.lois_simplify.proofs.Members.{contains_none}
 
 -- ---- lists that stand side by side
@@ -35,12 +35,12 @@ zip_from R (x ∷ xs) (z ∷ ys) h y there = elim (first_or_later z ys y there) 
 ]
 
 -- ---- how many contexts admit a choice
-pub times_printed : (c : List Atom) (ks ds : List Context) → AllZip IsPrinted ks ds → times c ds ≡ times c ks
-times_printed c [] [] h = refl
-times_printed c [] (d ∷ ds) h = absurd h
-times_printed c (k ∷ ks) [] h = absurd h
-times_printed c (k ∷ ks) (d ∷ ds) h =
-    times_cons c d ds ∙ (ap (λ b. cond b 1 0 + times c ds) (admits_like c k d h.0.size h.0.«when») ∙ (ap (λ n. cond (admits c k) 1 0 + n) (times_printed c ks ds h.1) ∙ sym (times_cons c k ks)))
+pub times_alike : (R : Context → Context → Type 0) → ((c : List Atom) (k d : Context) → R k d → admits c d ≡ admits c k) → (c : List Atom) (ks ds : List Context) → AllZip R ks ds → times c ds ≡ times c ks
+times_alike R like c [] [] h = refl
+times_alike R like c [] (d ∷ ds) h = absurd h
+times_alike R like c (k ∷ ks) [] h = absurd h
+times_alike R like c (k ∷ ks) (d ∷ ds) h =
+    times_cons c d ds ∙ (ap (λ b. cond b 1 0 + times c ds) (like c k d h.0) ∙ (ap (λ n. cond (admits c k) 1 0 + n) (times_alike R like c ks ds h.1) ∙ sym (times_cons c k ks)))
 
 pub one_admits : (c : List Atom) (k : Context) → IsAdmitted c k → times c (k ∷ []) ≡ 1
 one_admits c k adm = times_cons c k [] ∙ ap (λ b. cond b 1 0 + 0) (admits_yes c k adm)

@@ -41,18 +41,16 @@ use Rattle.lois_interp.specs.Interpreted.{parameter_name, lines_of, IsChoiceOf, 
 use Rattle.lois_interp.specs.Failures.{IsFailureOf}
 use Rattle.lois_interp.specs.Opened.{IsOpening}
 use Rattle.lois_interp.specs.Printed.{IsPrintedLine, IsPrinted, IsCaseOf}
-use Rattle.lois_interp.specs.Reached.{IsReachedAt, RunsAs}
-use Rattle.lois_interp.specs.Run.{block_run}
+use Rattle.lois_interp.specs.Retold.{IsRetoldLine}
 use Rattle.lois_interp.specs.Split.{IsSplitFault}
 use Rattle.lois_interp.specs.WellScoped.{BlockIsWellScoped}
 use Rattle.lois_interp.proofs.Compose.{one_apart}
-use Rattle.lois_interp.proofs.OneCase.{zip_from, times_printed, one_admits, Picked, pick, same_held, cases_apart}
+use Rattle.lois_context.proofs.Counts.{admits_like}
+use Rattle.lois_interp.proofs.OneCase.{zip_from, times_alike, one_admits, Picked, pick, same_held, cases_apart}
 use Rattle.lois_interp.proofs.FreeNames.{AreFree, script_free, are_parameters}
 use Rattle.lois_eval.proofs.FaultsAt.{own_sample}
-use Rattle.lois_interp.proofs.Kept.{as_reached}
 use Rattle.lois_base.proofs.Validity.{all_that_are}
-use Rattle.lois_base.proofs.Lists.{all_one}
-use Rattle.lois_interp.proofs.Lists.{only_one}
+use Rattle.lois_interp.proofs.ScriptEnds.{AreEndsOf, prints_retold}
 use Rattle.lois_interp.proofs.Opened.{opens_at, opening_admits, opening_widths, body_placed}
 use Rattle.lois_interp.proofs.SplitElements.{split_all, split_strict, split_named}
 use Rattle.lois_interp.proofs.Sequence.{fails_snoc}
@@ -66,11 +64,11 @@ printed_fit n u [] (m ∷ ms) h = absurd h
 printed_fit n u (l ∷ ls) [] h = absurd h
 printed_fit n u (l ∷ ls) (m ∷ ms) h = All-cons (λ l. Fits n l.term) m ms h.0.levels (printed_fit n u ls ms h.1)
 
-lines_same : (n : ℕ) (u : List (List Lit)) (c : List Atom) → length c ≡ n → IsTrue (holds c u) → (ls ms : List LineD) → AllZip (IsPrintedLine n u) ls ms → AreSameNamed (line_values c ms) (line_values c ls)
-lines_same n u c count met [] [] h = tt
-lines_same n u c count met [] (m ∷ ms) h = absurd h
-lines_same n u c count met (l ∷ ls) [] h = absurd h
-lines_same n u c count met (l ∷ ls) (m ∷ ms) h = (h.0.name, same_sym (point l.term c) (point m.term c) (h.0.value c count met), lines_same n u c count met ls ms h.1)
+printed_retold : (n : ℕ) (u : List (List Lit)) (ls ms : List LineD) → AllZip (IsPrintedLine n u) ls ms → AllZip (IsRetoldLine n u) ls ms
+printed_retold n u [] [] h = tt
+printed_retold n u [] (m ∷ ms) h = absurd h
+printed_retold n u (l ∷ ls) [] h = absurd h
+printed_retold n u (l ∷ ls) (m ∷ ms) h = (record { name = h.0.name; value = h.0.value }, printed_retold n u ls ms h.1)
 
 lines_shallow : (c : List Atom) (ls : List LineD) (printed : NamedValues) → AreSameNamed (line_values c ls) printed → AreShallow printed → All (λ l. IsShallow (point l.term c)) ls
 lines_shallow c [] printed same h = All-nil (λ l. IsShallow (point l.term c))
@@ -98,15 +96,7 @@ module _ (text : List ℕ) (s : ScriptD) (spelled : Spells text s) (scoped : IsW
   abbrev n : ℕ
   n = length s.parameters
 
-  module _ (ends : List Context) (runs : RunsAs (block_run s.body) o ends) where
-    end_size : (e : Context) → Contains ends e → e.size ≡ n
-    end_size e there = (as_reached (block_run s.body) o ends runs e there).size ∙ opened.size
-
-    end_at : (e : Context) → Contains ends e → (c : List Atom) → IsAdmitted c e → IsReachedAt (block_run s.body) o e c
-    end_at e there c adm =
-        let from = runs.reached e there c adm in
-        subst (λ k. IsReachedAt (block_run s.body) k e c) (sym (only_one o from.0 from.1)) from.2
-
+  module _ (ends : List Context) (are : AreEndsOf s o ends) where
     -- the lines of an end, as they are printed
     module _ (e d : Context) (there : Contains ends e) (p : IsPrinted e d) where
       pub same_admitted : (c : List Atom) → IsAdmitted c d → IsAdmitted c e
@@ -115,14 +105,7 @@ module _ (text : List ℕ) (s : ScriptD) (spelled : Spells text s) (scoped : IsW
       pub prints_there : (c : List Atom) → IsAdmitted c d → PrintsAt s c d.lines
       prints_there c adm =
           let own = same_admitted c adm in
-          let at = (end_at e there c own).ends_there in
-          let block = at.run in
-          let lines : line_values c e.lines ≡ at.printed = at.lines ∙ ap (λ ls. line_values c ls ++ at.printed) opened.lines in
-          record {
-            printed = at.printed;
-            ends = (block.0, subst (λ st. ListEnds s.body st block.0 at.printed) (opens_at s.parameters o opened c) block.1);
-            values = subst (AreSameNamed (line_values c d.lines)) lines (lines_same e.size e.«when» c own.0 own.1 e.lines d.lines p.lines);
-          }
+          prints_retold s e.size e.«when» c own.0 own.1 e.lines d.lines (printed_retold e.size e.«when» e.lines d.lines p.lines) (are.prints e there c own)
 
       shallow_there : (c : List Atom) → IsAdmitted c d → All (λ l. IsShallow (point l.term c)) d.lines
       shallow_there c adm =
@@ -161,7 +144,7 @@ module _ (text : List ℕ) (s : ScriptD) (spelled : Spells text s) (scoped : IsW
             record {
               name = All-contains (λ l. IsFreeName l.name) d.lines l free_there inside;
               term = record {
-                levels = subst (λ k. Fits k l.term) (end_size e there) from.2.levels;
+                levels = subst (λ k. Fits k l.term) (are.sizes e there) from.2.levels;
                 tags = from.2.tags;
                 widths = from.2.widths (All-contains (λ l. HasBoundedWidths l.term) e.lines from.0 wide.lines from.1);
                 operators = from.2.operators s.ordered (All-contains (λ l. AdmitsTerm s.ordered l.term) e.lines from.0 admits.lines from.1);
@@ -193,7 +176,7 @@ module _ (text : List ℕ) (s : ScriptD) (spelled : Spells text s) (scoped : IsW
       merged_size m there =
           let d = home m there in
           let e = printed_from d.0 d.1 in
-          ap (λ (z : ℕ × List SlotD × List LineD). z.0) d.3 ∙ (e.2.size ∙ end_size e.0 e.1)
+          ap (λ (z : ℕ × List SlotD × List LineD). z.0) d.3 ∙ (e.2.size ∙ are.sizes e.0 e.1)
 
       merged_store : (m : Context) → Contains merged m → m.store ≡ []
       merged_store m there =
@@ -210,37 +193,34 @@ module _ (text : List ℕ) (s : ScriptD) (spelled : Spells text s) (scoped : IsW
           let e = printed_from d.0 d.1 in
           subst (PrintsAt s c) (sym (like_lines d.0 m d.3)) (prints_there e.0 d.0 e.1 e.2 c d.2)
 
+      printed_alike : (c : List Atom) → times c printed ≡ times c ends
+      printed_alike c = times_alike IsPrinted (λ c k d is. admits_like c k d is.size is.«when») c ends printed prints
+
       once : (c : List Atom) → IsChoiceOf s c → times c merged ≡ 1
       once c count =
-          let ended : times c ends ≡ 1 = runs.choices c ∙ one_admits c o (opening_admits s.parameters o opened c count) in
-          merges.choices apart c ∙ (times_printed c ends printed prints ∙ ended)
+          let ended : times c ends ≡ 1 = are.choices c ∙ one_admits c o (opening_admits s.parameters o opened c count) in
+          merges.choices apart c ∙ (printed_alike c ∙ ended)
         where
           apart : AreDisjoint printed
           apart b =
-              let all : times b printed ≡ times b (o ∷ []) = times_printed b ends printed prints ∙ runs.choices b in
+              let all : times b printed ≡ times b (o ∷ []) = printed_alike b ∙ are.choices b in
               omega (arith, all, one_apart o b)
-
-      ends_admit : All (AdmitsContext s.ordered) ends
-      ends_admit = runs.operators s.ordered (all_one (IsWellFormedIn (BlockIsWellScoped s.body) s.ordered) o (body_placed s text o spelled scoped opened s.ordered refl))
-
-      ends_wide : All ContextHasBoundedWidths ends
-      ends_wide = runs.widths (all_one ContextHasBoundedWidths o (opening_widths s.parameters o opened))
 
       sound_printed : (d : Context) → Contains printed d → (l : LineD) → Contains d.lines l → IsSoundLine s.ordered n l
       sound_printed d there =
           let e = printed_from d there in
-          line_sound e.0 d e.1 e.2 (All-contains (AdmitsContext s.ordered) ends e.0 ends_admit e.1) (All-contains ContextHasBoundedWidths ends e.0 ends_wide e.1)
+          line_sound e.0 d e.1 e.2 (All-contains (AdmitsContext s.ordered) ends e.0 are.operators e.1) (All-contains ContextHasBoundedWidths ends e.0 are.widths e.1)
 
       all_printed_admit : All (AdmitsContext s.ordered) printed
       all_printed_admit = all_that_are (AdmitsContext s.ordered) printed (λ d there.
           let e = printed_from d there in
-          printed_admits e.0 d e.1 e.2 (All-contains (AdmitsContext s.ordered) ends e.0 ends_admit e.1) (All-contains ContextHasBoundedWidths ends e.0 ends_wide e.1))
+          printed_admits e.0 d e.1 e.2 (All-contains (AdmitsContext s.ordered) ends e.0 are.operators e.1) (All-contains ContextHasBoundedWidths ends e.0 are.widths e.1))
 
       -- where a printed context admits a choice, the merged one that holds the same does too
       weaker_merged : (d m : Context) → Contains printed d → Contains merged m → HasSameContents d m → (u : List (List Lit)) → ConstraintFits n u → ((c : List Atom) → holds c u ≡ holds c m.«when») → IsWeaker n d.«when» u
       weaker_merged d m there among like u fits truth =
           let e = printed_from d there in
-          let size : d.size ≡ n = e.2.size ∙ end_size e.0 e.1 in
+          let size : d.size ≡ n = e.2.size ∙ are.sizes e.0 e.1 in
           record {
             fits = subst (λ k. ConstraintFits k d.«when») size d.levels;
             weaker_fits = fits;
@@ -300,7 +280,7 @@ module _ (text : List ℕ) (s : ScriptD) (spelled : Spells text s) (scoped : IsW
             let weaker : IsWeaker n d.0.«when» c.«when» = weaker_merged d.0 m.0 d.1 m.1 d.3 c.«when» (case_fits c m.0 m.1 m.2) m.2.truth in
             let each : All (IsNormalLine n c.«when») d.0.lines = all_that_are (IsNormalLine n c.«when») d.0.lines (λ l inside. (
               normal_weaker l.term d.0.«when» c.«when» n weaker (sound_printed d.0 d.1 l inside).term.levels
-                  (subst (λ k. IsNormal l.term d.0.«when» k) (e.2.size ∙ end_size e.0 e.1) (normal_there e.0 d.0 e.1 e.2 l inside)),
+                  (subst (λ k. IsNormal l.term d.0.«when» k) (e.2.size ∙ are.sizes e.0 e.1) (normal_there e.0 d.0 e.1 e.2 l inside)),
               guards_there e.0 d.0 e.1 e.2 l inside,
             )) in
             (m.2.normalised, subst (All (IsNormalLine n c.«when»)) (sym (m.2.lines ∙ like_lines d.0 m.0 d.3)) each)
@@ -313,7 +293,7 @@ module _ (text : List ℕ) (s : ScriptD) (spelled : Spells text s) (scoped : IsW
             let weaker : IsWeaker n d.0.«when» c.«when» = weaker_merged d.0 m.0 d.1 m.1 d.3 c.«when» (case_fits c m.0 m.1 m.2) m.2.truth in
             let Each : LineD → Type 0 = λ l. HasPlainGuards l.term c.«when» n in
             let each : All Each d.0.lines = all_that_are Each d.0.lines (λ l inside. plain_weaker l.term d.0.«when» c.«when» n weaker (sound_printed d.0 d.1 l inside).term.levels
-            (subst (HasPlainGuards l.term d.0.«when») (e.2.size ∙ end_size e.0 e.1) (plain_there e.0 d.0 e.1 e.2 l inside))) in
+            (subst (HasPlainGuards l.term d.0.«when») (e.2.size ∙ are.sizes e.0 e.1) (plain_there e.0 d.0 e.1 e.2 l inside))) in
             (subst (IsPlain c.«when» ([] ∷ [])) (merged_size m.0 m.1) m.2.plain, subst (All Each) (sym (m.2.lines ∙ like_lines d.0 m.0 d.3)) each)
 
         pub interpreted : (r : Results) → r.order ≡ s.ordered → r.parameters ≡ map parameter_name s.parameters → r.cases ≡ cases → AreResultsOf s r

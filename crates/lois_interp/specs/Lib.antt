@@ -20,3 +20,4 @@ pub mod Interpreted
 pub mod Failures
 pub mod Opened
 pub mod Printed
+pub mod Retold

@@ -12,6 +12,7 @@ ghost use Rattle.lois_interp.specs.Interpreted.{AreResultsOf, parameter_name};
 ghost use Rattle.lois_interp.specs.Failures.{ScriptFailsNowhere, IsFailureOf};
 ghost use Rattle.lois_interp.specs.Opened.{IsOpening, opening_slots};
 ghost use Rattle.lois_interp.specs.Reached.{RunsAs};
+ghost use Rattle.lois_interp.specs.Retold.{AreJoined};
 ghost use Rattle.lois_interp.specs.Run.{block_run};
 ghost use Rattle.lois_interp.specs.Split.{IsSplitFrom};
 ghost use Rattle.lois_interp.specs.WellScoped.{BlockIsWellScoped};
@@ -19,6 +20,7 @@ ghost use Rattle.lois_interp.specs.WellScoped.{BlockIsWellScoped};
 use crate::cases::results;
 use crate::failures::split_stop;
 use crate::printing::all_printed;
+use crate::retelling::{retold, with_short_conditions};
 use crate::running::run_block;
 use lois_answers::{Lines, Results};
 use lois_base::{Constraint, Decider, NoMemory, Numbers, Structure, Term};
@@ -51,9 +53,24 @@ pub fn interpret<T: Structure>(
     let script = script.script();
     let opening = opening(alloc, &script.parameters)?;
     let ends = run_body::<T>(alloc, &script.body, opening, chosen)?;
-    let printed = all_printed::<T>(alloc, ends, chosen)?;
+    let told = retold::<T>(alloc, ends, chosen)?;
+    let joined = joined(alloc, told)?;
+    let printed = all_printed::<T>(alloc, joined, chosen)?;
     let merged = merge_equal(alloc, printed)?;
     Ok(results(alloc, script, merged)?)
+}
+
+// Contexts that hold the same are merged. Where there are fewer then, their conditions are made short, since lines are simplified
+// under them.
+fn joined(alloc: Global, contexts: Vec<Context>) -> Result<Vec<Context>, NoMemory>
+    ensures { IfOk result (λ r. AreJoined contexts.items r.items) }
+{
+    let count = contexts.len();
+    let merged = merge_equal(alloc, contexts)?;
+    if merged.len() == count {
+        return Ok(merged);
+    }
+    with_short_conditions(alloc, merged)
 }
 
 // The contexts in which the body ends. The elements of a fault are split.

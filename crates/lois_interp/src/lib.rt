@@ -12,6 +12,7 @@ mod leaves;
 mod members;
 mod oracle;
 mod printing;
+mod retelling;
 mod running;
 mod sides;
 mod turns;

@@ -12,6 +12,8 @@ use Rattle.lois_interp.specs.Split.{IsSplitFrom}
 use Rattle.lois_interp.specs.WellScoped.{BlockIsWellScoped}
 use Rattle.lois_interp.proofs.Opened.{parameters_distinct, body_placed}
 use Rattle.lois_interp.proofs.Nowhere.{script_fails_nowhere}
+use Rattle.lois_interp.proofs.Retold.{joined_admit}
+use Rattle.lois_interp.proofs.ScriptEnds.{run_ends, retold_ends, joined_ends}
 use Rattle.lois_interp.proofs.ScriptRuns.{interpreted, failure_of}
 use Rattle.lois_eval.proofs.LoopExit.{passed_on}
 use Rattle.lois_interp.proofs.interpreting.interpret.Goals as goal
@@ -44,8 +46,8 @@ returns-in_err-ends-clause-fault g c =
     subst (λ x. IfErr r (λ z. IfFault z (IsFailureOf (script_tree x)))) same
     (passed_on r c.in_err-ends.field-0.0 (IsSplitFrom (FailsBehind body o)) (IsFailureOf s) c.from_residual-in_err-ends.ensures.1 (λ g h. failure_of text s spelled scoped o c.in_ok-opening.ensures body refl h.0 g h.2 h.1) c.in_err-ends.ensures.fault)
 
-pub all_printed-requires : goal.all_printed-requires
-all_printed-requires g c =
+pub retold-requires : goal.retold-requires
+retold-requires g c =
     let same = sym c.script-script.ensures.same in
     let s = script_tree c.script-script.result.now in
     let o = c.in_ok-opening.opening in
@@ -53,6 +55,17 @@ all_printed-requires g c =
     let order = g.T.Structure.ordered in
     c.in_ok-ends.ensures.runs.operators order
     (all_one (IsWellFormedIn (BlockIsWellScoped s.body) order) o (body_placed s text o (subst (λ x. Spells text (script_tree x)) same c.requires.spelled.1) (subst (λ x. IsWellScoped (script_tree x)) same c.script-script.ensures.scoped) c.in_ok-opening.ensures order (subst (λ x. (script_tree x).ordered ≡ order) same c.requires.structure)))
+
+pub all_printed-requires : goal.all_printed-requires
+all_printed-requires g c =
+    let same = sym c.script-script.ensures.same in
+    let s = script_tree c.script-script.result.now in
+    let o = c.in_ok-opening.opening in
+    let text = c.requires.spelled.0 in
+    let order = g.T.Structure.ordered in
+    let ended = c.in_ok-ends.ensures.runs.operators order
+    (all_one (IsWellFormedIn (BlockIsWellScoped s.body) order) o (body_placed s text o (subst (λ x. Spells text (script_tree x)) same c.requires.spelled.1) (subst (λ x. IsWellScoped (script_tree x)) same c.script-script.ensures.scoped) c.in_ok-opening.ensures order (subst (λ x. (script_tree x).ordered ≡ order) same c.requires.structure))) in
+    joined_admit c.in_ok-told.told.items c.in_ok-joined.joined.items c.in_ok-joined.ensures order (c.in_ok-told.ensures.told.operators order ended)
 
 pub returns-clause-results : goal.returns-clause-results
 returns-clause-results g c =
@@ -64,8 +77,16 @@ returns-clause-results g c =
     let scoped = subst (λ x. IsWellScoped (script_tree x)) (sym same) c.script-script.ensures.scoped in
     let made = c.in_ok-results.field-0 in
     let made_of = c.in_ok-results.ensures in
+    let o = c.in_ok-opening.opening in
+    let opened = c.in_ok-opening.ensures in
+    let ends = c.in_ok-ends.ends.items in
+    let told = c.in_ok-told.told.items in
+    let joined = c.in_ok-joined.joined.items in
+    let are_ends = run_ends text s spelled scoped o opened ends c.in_ok-ends.ensures.runs in
+    let are_told = retold_ends s o ends are_ends told c.in_ok-told.ensures.told in
+    let are_joined = joined_ends s o told joined are_told c.in_ok-joined.ensures in
     subst (λ x. AreResultsOf (script_tree x) made) same
-    (interpreted text s spelled scoped o c.in_ok-opening.ensures c.in_ok-ends.ends.items c.in_ok-ends.ensures.runs c.in_ok-printed.printed.items c.in_ok-merged.merged.items c.in_ok-printed.ensures.printed c.in_ok-merged.ensures made.cases made_of.cases made made_of.order made_of.parameters refl)
+    (interpreted text s spelled scoped o opened joined are_joined c.in_ok-printed.printed.items c.in_ok-merged.merged.items c.in_ok-printed.ensures.printed c.in_ok-merged.ensures made.cases made_of.cases made made_of.order made_of.parameters refl)
 
 pub returns-clause-nowhere : goal.returns-clause-nowhere
 returns-clause-nowhere g c = script_fails_nowhere _ _ (returns-clause-results g c)
