@@ -8,7 +8,8 @@ use Rattle.std.proofs.lemmas.Nat.{mod_below, div-add-mod'}
 use Rattle.std.proofs.lemmas.Nat.Bits.{bit_at_or, bit_at-lt, bit_at_above, bit_at_cat_high}
 use Rattle.std.specs.Prelude.{bit_and, bit_or}
 use Rattle.std.specs.Int.{bit_at}
-use Rattle.lois_constraint.specs.Order.{Row, reaches, at_most, linked}
+use Rattle.lois_base.specs.declared.guards.Lit.{Lit}
+use Rattle.lois_constraint.specs.Order.{Row, reaches, at_most, linked, is_tied, is_apart, sets_apart}
 use Rattle.lois_constraint.specs.LevelOrders.{has_bit, low_at_most}
 use Rattle.lois_constraint.proofs.Lows.{diagonal, low_bound, low_bit, put_here, put_else}
 use Rattle.lois_constraint.proofs.Words.{one_or, or_nothing, no_word, reaches_nothing, first_bit}
@@ -86,10 +87,15 @@ not_same a b other = go (eqb_tells a b)
     go (inl t) = absurd (other t.1)
     go (inr t) = t.0
 
--- no low level is at most a high one
-pub none_beyond : (word a b x : ℕ) → a < 8 → b < 8 → 8 ≤ x → false ≡ (low_at_most word a x || low_at_most word b x)
-none_beyond word a b x al bl far =
-    rw (not_same a x (λ e. omega (arith, e)), not_same b x (λ e. omega (arith, e)), le-ltb x 8 far, and_nothing (nat_lt a 8), and_nothing (nat_lt b 8)) refl
+neither : (p q : Bool) → (p || q) ≡ false → (p ≡ false) × (q ≡ false)
+neither true q h = absurd (cc)
+neither false q h = (refl, h)
+
+-- a literal whose right level is above neither
+pub right_aside : (le : ℕ → ℕ → Bool) (a b : ℕ) (l : Lit) → (le a l.right || le b l.right) ≡ false → false ≡ sets_apart le a b l
+right_aside le a b l h =
+    let both = neither (le a l.right) (le b l.right) h in
+    rw (both.0, both.1, and_nothing (le l.right a), and_nothing (le l.right b), and_nothing (le a l.left && le l.left b), and_nothing (le b l.left && le l.left a), and_nothing (is_tied le l.left a), and_nothing (is_tied le l.left b), and_nothing (is_apart l.op)) refl
 
 pub word_linked : (word r x y : ℕ) → x < 8 → y < 8 → ((a b : ℕ) → a < 8 → b < 8 → has_bit r a b ≡ linked x y (has_bit (bit_or word 0x8040201008040201)) a b) → (a b : ℕ) → low_at_most r a b ≡ linked x y (low_at_most word) a b
 word_linked word r x y xl yl is a b = go (cases_order a 8) (cases_order b 8)

@@ -120,8 +120,7 @@ impl ClosedCube {
         true
     }
 
-    /// The same, for a cube of which signatures have told that it may hold so.
-    pub(crate) fn implies_all(&self, other: &Cube) -> bool
+    fn implies_all(&self, other: &Cube) -> bool
         ensures { IsTrue result ↔ Entails self.now other.now }
     {
         for lit in other.as_slice() {

@@ -5,7 +5,7 @@ ghost use Rattle.std.specs.Int.{bit_at};
 ghost use Rattle.lois_constraint.specs.Order.{at_most, is_tied, is_apart, lies_between, joins, sets_apart, are_apart, is_implied, linked};
 ghost use Rattle.lois_constraint.specs.LevelOrders.{has_bit, low_at_most};
 
-use crate::order_closure::{EACH_ITSELF, LOW_LEVELS, Row};
+use crate::order_closure::{EACH_ITSELF, LOW_LEVELS, Row, is_apart};
 use lois_base::{Cube, Lit, NoMemory, Op};
 use std::alloc::Global;
 
@@ -35,9 +35,9 @@ fn stands_below(word: u64, low: usize, high: usize) -> bool
     has_bit(word | EACH_ITSELF, low, high)
 }
 
-/// Whether one level is at most another, by the word of the low ones.
+// Whether one level is at most another.
 #[inline(always)]
-pub(crate) fn low_at_most(word: u64, low: usize, high: usize) -> bool
+fn low_at_most(word: u64, low: usize, high: usize) -> bool
     ensures { result ≡ low_at_most word low high }
 {
     if low < LOW_LEVELS && high < LOW_LEVELS {
@@ -81,46 +81,26 @@ pub(crate) fn low_rows(alloc: Global, word: u64) -> Result<Vec<Row>, NoMemory>
     Ok(rows)
 }
 
-/// Whether the operator says that its levels differ.
-pub(crate) fn is_apart(op: Op) -> bool
-    ensures { result ≡ is_apart op }
-{
-    match op {
-        Op::Ne | Op::Lt => true,
-        Op::Eq | Op::AtMost => false,
-    }
-}
-
 // Whether both levels of the literal lie from the one level on up to the other.
 #[inline(always)]
 fn lies_between(word: u64, lit: Lit, low: usize, high: usize) -> bool
-    requires left { lit.left < 8 }
-    requires right { lit.right < 8 }
-    requires low { low < 8 }
-    requires high { high < 8 }
     ensures { result ≡ lies_between (low_at_most word) low high lit }
 {
-    (stands_below(word, low, lit.left) && stands_below(word, lit.left, high))
-        && (stands_below(word, low, lit.right) && stands_below(word, lit.right, high))
+    (low_at_most(word, low, lit.left) && low_at_most(word, lit.left, high))
+        && (low_at_most(word, low, lit.right) && low_at_most(word, lit.right, high))
 }
 
-// Whether each of two low levels is at most the other.
+// Whether each of two levels is at most the other.
 #[inline(always)]
 fn are_tied(word: u64, a: usize, b: usize) -> bool
-    requires a { a < 8 }
-    requires b { b < 8 }
     ensures { result ≡ is_tied (low_at_most word) a b }
 {
-    stands_below(word, a, b) && stands_below(word, b, a)
+    low_at_most(word, a, b) && low_at_most(word, b, a)
 }
 
 // Whether the levels of the literal are tied to the two levels.
 #[inline(always)]
 fn joins(word: u64, lit: Lit, a: usize, b: usize) -> bool
-    requires left { lit.left < 8 }
-    requires right { lit.right < 8 }
-    requires a { a < 8 }
-    requires b { b < 8 }
     ensures { result ≡ joins (low_at_most word) a b lit }
 {
     are_tied(word, lit.left, a) && are_tied(word, lit.right, b)
@@ -129,19 +109,14 @@ fn joins(word: u64, lit: Lit, a: usize, b: usize) -> bool
 // Whether one of the two levels is at most the third.
 #[inline(always)]
 fn is_above_one(word: u64, level: usize, a: usize, b: usize) -> bool
-    requires a { a < 8 }
-    requires b { b < 8 }
-    ensures above { result ≡ (low_at_most word a level || low_at_most word b level) }
-    ensures low { IsTrue result → level < 8 }
+    ensures { result ≡ (low_at_most word a level || low_at_most word b level) }
 {
-    level < LOW_LEVELS && (stands_below(word, a, level) || stands_below(word, b, level))
+    low_at_most(word, a, level) || low_at_most(word, b, level)
 }
 
 // Mostly a level of the literal lies above neither, which takes two looks.
 #[inline(always)]
 fn sets_apart(word: u64, lit: Lit, a: usize, b: usize) -> bool
-    requires a { a < 8 }
-    requires b { b < 8 }
     ensures { result ≡ sets_apart (low_at_most word) a b lit }
 {
     if !is_apart(lit.op) {
@@ -158,9 +133,7 @@ fn sets_apart(word: u64, lit: Lit, a: usize, b: usize) -> bool
 }
 
 // Whether some literal sets the levels apart.
-fn are_low_apart(word: u64, cube: &Cube, a: usize, b: usize) -> bool
-    requires a { a < 8 }
-    requires b { b < 8 }
+fn are_apart(word: u64, cube: &Cube, a: usize, b: usize) -> bool
     ensures { result ≡ are_apart (low_at_most word) cube.now a b }
 {
     for lit in cube.as_slice() {
@@ -174,30 +147,25 @@ fn are_low_apart(word: u64, cube: &Cube, a: usize, b: usize) -> bool
 /// Whether the levels of the literal stand so that it may follow.
 #[inline(always)]
 pub(crate) fn may_be_low_implied(word: u64, lit: Lit) -> bool
-    requires left { lit.left < 8 }
-    requires right { lit.right < 8 }
     ensures { IsFalse result → (k : List Lit) → is_implied (low_at_most word) k lit.op lit.left lit.right ≡ false }
 {
     match lit.op {
         Op::Eq => are_tied(word, lit.left, lit.right),
         Op::Ne => true,
-        Op::Lt | Op::AtMost => stands_below(word, lit.left, lit.right),
+        Op::Lt | Op::AtMost => low_at_most(word, lit.left, lit.right),
     }
 }
 
 /// Whether the literal follows from the cube, whose order the word has.
 pub(crate) fn is_low_implied(word: u64, cube: &Cube, lit: Lit) -> bool
-    requires left { lit.left < 8 }
-    requires right { lit.right < 8 }
     ensures { result ≡ is_implied (low_at_most word) cube.now lit.op lit.left lit.right }
 {
     match lit.op {
         Op::Eq => are_tied(word, lit.left, lit.right),
-        Op::Ne => are_low_apart(word, cube, lit.left, lit.right),
+        Op::Ne => are_apart(word, cube, lit.left, lit.right),
         Op::Lt => {
-            stands_below(word, lit.left, lit.right)
-                && are_low_apart(word, cube, lit.left, lit.right)
+            low_at_most(word, lit.left, lit.right) && are_apart(word, cube, lit.left, lit.right)
         }
-        Op::AtMost => stands_below(word, lit.left, lit.right),
+        Op::AtMost => low_at_most(word, lit.left, lit.right),
     }
 }

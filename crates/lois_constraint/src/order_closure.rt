@@ -4,7 +4,7 @@ ghost use Rattle.std.specs.Prelude.{◌≡◌, ◌≢◌, ℕ, ◌+◌, ◌*◌,
 ghost use Rattle.std.specs.Int.{bit_at};
 ghost use Rattle.lois_constraint.specs.Order.{reaches, at_most, are_at_most, is_tied, is_apart, lies_between, joins, sets_apart, are_apart, is_implied, is_refuted, linked, extended};
 
-use lois_base::NoMemory;
+use lois_base::{Cube, Lit, NoMemory, Op};
 use std::alloc::Global;
 use std::marker::Model;
 
@@ -226,10 +226,10 @@ pub(crate) fn copy_rows(alloc: Global, rows: &[Row]) -> Result<Vec<Row>, NoMemor
     Ok(copy)
 }
 
-/// Whether the row of one level has another one.
+// Whether the row of one level has another one.
 #[inline(always)]
 #[tactic(auto, using(crate::proofs::Words::reaches_nothing))]
-pub(crate) fn are_at_most(rows: &[Row], low: usize, high: usize) -> bool
+fn are_at_most(rows: &[Row], low: usize, high: usize) -> bool
     ensures { result ≡ are_at_most rows.now low high }
 {
     match rows.get(low) {
@@ -255,6 +255,100 @@ pub(crate) fn low_order(rows: &[Row]) -> u64
         order |= rows[level].low_levels() << (8 * level);
     }
     order
+}
+
+/// Whether the operator says that its levels differ.
+pub(crate) fn is_apart(op: Op) -> bool
+    ensures { result ≡ is_apart op }
+{
+    match op {
+        Op::Ne | Op::Lt => true,
+        Op::Eq | Op::AtMost => false,
+    }
+}
+
+// Whether each of two levels is at most the other.
+#[inline(always)]
+fn are_tied(rows: &[Row], a: usize, b: usize) -> bool
+    ensures { result ≡ is_tied (at_most rows.now) a b }
+{
+    at_most(rows, a, b) && at_most(rows, b, a)
+}
+
+// Whether both levels of the literal lie from the one level on up to the other.
+fn lies_between(rows: &[Row], lit: Lit, low: usize, high: usize) -> bool
+    ensures { result ≡ lies_between (at_most rows.now) low high lit }
+{
+    (at_most(rows, low, lit.left) && at_most(rows, lit.left, high))
+        && (at_most(rows, low, lit.right) && at_most(rows, lit.right, high))
+}
+
+// Whether the levels of the literal are tied to the two levels.
+fn joins(rows: &[Row], lit: Lit, a: usize, b: usize) -> bool
+    ensures { result ≡ joins (at_most rows.now) a b lit }
+{
+    are_tied(rows, lit.left, a) && are_tied(rows, lit.right, b)
+}
+
+// Whether one of the two levels is at most the third.
+#[inline(always)]
+fn is_above_one(rows: &[Row], level: usize, a: usize, b: usize) -> bool
+    ensures { result ≡ (at_most rows.now a level || at_most rows.now b level) }
+{
+    at_most(rows, a, level) || at_most(rows, b, level)
+}
+
+// Mostly a level of the literal lies above neither, which takes two looks.
+fn sets_apart(rows: &[Row], lit: Lit, a: usize, b: usize) -> bool
+    ensures { result ≡ sets_apart (at_most rows.now) a b lit }
+{
+    if !is_apart(lit.op) {
+        return false;
+    }
+    if !is_above_one(rows, lit.left, a, b) {
+        return false;
+    }
+    if !is_above_one(rows, lit.right, a, b) {
+        return false;
+    }
+    (lies_between(rows, lit, a, b) || lies_between(rows, lit, b, a))
+        || (joins(rows, lit, a, b) || joins(rows, lit, b, a))
+}
+
+// Whether some literal sets the levels apart.
+fn are_apart(rows: &[Row], cube: &Cube, a: usize, b: usize) -> bool
+    ensures { result ≡ are_apart (at_most rows.now) cube.now a b }
+{
+    cube.as_slice()
+        .iter()
+        .any(|lit| sets_apart(rows, *lit, a, b))
+}
+
+/// Whether the levels stand so in the rows that the literal may follow: what takes no walk over literals.
+pub(crate) fn may_be_implied(rows: &[Row], lit: Lit) -> bool
+    ensures { IsFalse result → (k : List Lit) → is_implied (at_most rows.now) k lit.op lit.left lit.right ≡ false }
+{
+    match lit.op {
+        Op::Eq => are_tied(rows, lit.left, lit.right),
+        Op::Ne => true,
+        Op::Lt | Op::AtMost => at_most(rows, lit.left, lit.right),
+    }
+}
+
+/// Whether the literal follows from the cube, whose rows these are.
+// The rows are read first, since the literals are walked.
+#[inline(always)]
+pub(crate) fn is_implied(rows: &[Row], cube: &Cube, lit: Lit) -> bool
+    ensures { result ≡ is_implied (at_most rows.now) cube.now lit.op lit.left lit.right }
+{
+    match lit.op {
+        Op::Eq => are_tied(rows, lit.left, lit.right),
+        Op::Ne => are_apart(rows, cube, lit.left, lit.right),
+        Op::Lt => {
+            at_most(rows, lit.left, lit.right) && are_apart(rows, cube, lit.left, lit.right)
+        }
+        Op::AtMost => at_most(rows, lit.left, lit.right),
+    }
 }
 
 // The level, and those that are at least as high.

@@ -146,6 +146,6 @@ impl IndexedCube {
     pub(crate) fn entails_cube(&self, other: &IndexedCube) -> bool
         ensures { IsTrue result ↔ Entails self.now other.now }
     {
-        other.demands.are_met(self.order) && self.closed.implies_all(other.closed.cube())
+        other.demands.are_met(self.order) && self.closed.entails_cube(other.closed.cube())
     }
 }
