@@ -12,16 +12,20 @@ ghost use Rattle.lois_deciders.specs.OnlyAsked.{HasOnlyAsked};
 ghost use Rattle.lois_interp.specs.Retold.{IsRetoldLine, AreRetoldLines, IsToldBy, AreRetold, HasConditionLike};
 
 use lois_answers::{Line, Lines};
-use lois_base::{Constraint, Decider, NoMemory, Structure};
+use lois_base::{Constraint, Decider, NoMemory, Structure, Term};
 use lois_context::{Context, Shared, Store};
 use lois_deciders::Chosen;
 use lois_elim::quantifier_free;
 use lois_relate::equal_formula;
 use lois_simplify::shortest;
+use lois_terms::binds_nothing;
 use std::alloc::Global;
 
 // Each context but the first costs a formula, and of many cases few tell each other's values.
 const MOST_CONTEXTS: usize = 6;
+
+// The cubes of a guard are taken off those of others.
+const MOST_CUBES: usize = 32;
 
 /// The contexts, without their stores where there are several. Where the lines of the one before have, wherever a context holds,
 /// the values of its own, it is given those: a turn more of a loop often adds what is there already.
@@ -130,6 +134,15 @@ fn tells<T: Structure>(
     Ok(true)
 }
 
+// Whether sets have no members in which further ones are bound: an equality of such sets would have quantifiers inside of others.
+fn is_soon_compared(term: &Term) -> bool {
+    match term {
+        Term::Coll(comps) => comps.as_slice().iter().all(|comp| comp.guard.len() <= MOST_CUBES
+            && binds_nothing(&comp.item)),
+        other => binds_nothing(other),
+    }
+}
+
 fn tells_line<T: Structure>(
     alloc: Global,
     other: &Line,
@@ -150,6 +163,9 @@ fn tells_line<T: Structure>(
     }
     if other.term.is_equal(&line.term) {
         return Ok(true);
+    }
+    if !is_soon_compared(&line.term) || !is_soon_compared(&other.term) {
+        return Ok(false);
     }
     let formula = equal_formula(alloc, &line.term, &other.term, own.size)?;
     let same = quantifier_free::<T>(alloc, &formula, own.size)?;
