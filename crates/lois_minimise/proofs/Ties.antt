@@ -309,14 +309,24 @@ module _ (n m : ℕ) (item : TermD) (A : Bool → Type 0) where
       back c d cn em (inl h) = inl (subst IsTrue (sym (either (c ++ d))) ((either_true (holds (c ++ d) found) (holds (c ++ d) one)).1 (inl h)))
       back c d cn em (inr h) = split c d cn em (subst (λ z. SomeIsAt z c item (c ++ d)) e h)
 
-  pub found_all : (ks : List CompD) (places : List ℕ) (rest : CompsD) (found r : List (List Lit)) → AreCandidates ks item places → rest ≡ no_comps → ((x : List Atom) → holds x r ≡ holds x found) → FoundSoFar n m item A rest (comps_at ks places) found → HoldsWhereMember n m item (coll (comps_of ks)) r
-  found_all ks places rest found r all e same so_far c d cn em =
+  pub found_all : (ks : List CompD) (places : List ℕ) (rest : CompsD) (found : List (List Lit)) → AreCandidates ks item places → rest ≡ no_comps → FoundSoFar n m item A rest (comps_at ks places) found → HoldsWhereMember n m item (coll (comps_of ks)) found
+  found_all ks places rest found all e so_far c d cn em =
       let here = so_far.truth c d cn em in
       let whole = candidates_suffice ks item places all c (c ++ d) in
       let member = some_is_member item (c ++ d) (comps_of ks) c in (
-        λ h. member.0 (whole.0 (here.0 (inl (subst IsTrue (same (c ++ d)) h)))),
+        λ h. member.0 (whole.0 (here.0 (inl h))),
         λ h. elim (here.1 (whole.1 (member.1 h))) [
-          | inl p ↦ subst IsTrue (sym (same (c ++ d))) p
+          | inl p ↦ p
           | inr p ↦ absurd (subst (λ z. SomeIsAt z c item (c ++ d)) e p)
         ],
+      )
+
+  -- where one of them is everywhere, the others aren't asked
+  pub found_everywhere : (ks : List CompD) (places : List ℕ) (k : CompD) (rest rest' : CompsD) (found one : List (List Lit)) → AreCandidates ks item places → rest ≡ more k rest' → HoldsWhereOne n m item k one → ((x : List Atom) → IsTrue (holds x one)) → FoundSoFar n m item A rest (comps_at ks places) found → HoldsWhereMember n m item (coll (comps_of ks)) one
+  found_everywhere ks places k rest rest' found one all e is everywhere so_far c d cn em =
+      let here = so_far.truth c d cn em in
+      let whole = candidates_suffice ks item places all c (c ++ d) in
+      let member = some_is_member item (c ++ d) (comps_of ks) c in (
+        λ h. member.0 (whole.0 (here.0 (inr (subst (λ z. SomeIsAt z c item (c ++ d)) (sym e) (inl ((is c d cn em).0 h)))))),
+        λ h. everywhere (c ++ d),
       )

@@ -1,6 +1,6 @@
 //! Sets that are asked often, by the shapes of their items.
 
-ghost use Rattle.std.specs.Prelude.{◌≡◌, ◌+◌, ◌<◌, ◌^◌, Bool, map, IfOk};
+ghost use Rattle.std.specs.Prelude.{◌≡◌, ◌+◌, ◌<◌, ◌^◌, Bool, IsTrue, ◌↔◌, [], ◌∷◌, map, IfOk};
 ghost use Rattle.lois_base.specs.Data.{coll, comps_of};
 ghost use Rattle.lois_base.specs.Fits.{ConstraintFits, Fits, ItemsFit};
 ghost use Rattle.lois_base.specs.Tree.{tree};
@@ -39,9 +39,25 @@ pub fn indexed_membership<T: Structure>(
     let mut found = Constraint::new(alloc);
     for place in index.positions(shape(item)) {
         let one = comp_membership::<T>(alloc, item, &comps[*place], size, by)?;
+        if is_always(&one) {
+            return Ok(one);
+        }
         found = or(alloc, &found, &one)?;
     }
+    if found.len() < 2 {
+        return Ok(found);
+    }
     prune(alloc, &found)
+}
+
+// Whether it is the constraint with one empty cube, which holds everywhere.
+fn is_always(constraint: &Constraint) -> bool
+    ensures { IsTrue result ↔ (constraint.now ≡ [] ∷ []) }
+{
+    match constraint.as_slice() {
+        [cube] => cube.len() == 0,
+        _ => false,
+    }
 }
 
 /// What pairs lead to from members of a set: the second parts of those whose first part is in the set `held`. Members of `moves`
