@@ -1,3 +1,4 @@
+pub mod Ties
 pub mod Compared
 pub mod Ordered
 pub mod Moves

@@ -1,2 +1,3 @@
 pub mod Minimal
 pub mod Classes
+pub mod Ties

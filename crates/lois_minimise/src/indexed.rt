@@ -1,6 +1,6 @@
 //! Sets that are asked often, by the shapes of their items.
 
-ghost use Rattle.std.specs.Prelude.{◌≡◌, ◌+◌, ◌<◌, ◌^◌, Bool, map, IfOk};
+ghost use Rattle.std.specs.Prelude.{◌≡◌, ◌+◌, ◌<◌, ◌^◌, Bool, IsTrue, ◌↔◌, [], ◌∷◌, map, IfOk};
 ghost use Rattle.lois_base.specs.Data.{coll, comps_of};
 ghost use Rattle.lois_base.specs.Fits.{ConstraintFits, Fits, ItemsFit};
 ghost use Rattle.lois_base.specs.Tree.{tree};
@@ -8,11 +8,11 @@ ghost use Rattle.lois_base.specs.Validity.{AdmitsConstraint, AdmitsTerm, AdmitsI
 ghost use Rattle.lois_terms.specs.Shapes.{item_shape};
 ghost use Rattle.lois_automata.specs.Built.{HoldsWhereMember, AreTargets};
 
+use crate::members::comp_membership;
 use lois_automata::targets_from;
 use lois_base::{Comps, Constraint, NoMemory, Structure, Term};
-use lois_elim::quantifier_free;
-use lois_relate::item_formula_indexed;
-use lois_terms::Index;
+use lois_constraint::{or, prune};
+use lois_terms::{Index, shape};
 use std::alloc::Global;
 
 /// A constraint over `size + by` levels that holds exactly where the item is in the set of the comprehensions, whose levels
@@ -35,8 +35,29 @@ pub fn indexed_membership<T: Structure>(
     ensures fits { IfOk result (ConstraintFits (size + by)) }
     ensures operators { IfOk result (λ r. (o : Bool) → AdmitsTerm o (tree item.now) → AdmitsItems o (comps_of set.now) → AdmitsConstraint o r) }
 {
-    let formula = item_formula_indexed(alloc, item, set.as_slice(), index, size, by)?;
-    quantifier_free::<T>(alloc, &formula, size + by)
+    let comps = set.as_slice();
+    let mut found = Constraint::new(alloc);
+    for place in index.positions(shape(item)) {
+        let one = comp_membership::<T>(alloc, item, &comps[*place], size, by)?;
+        if is_always(&one) {
+            return Ok(one);
+        }
+        found = or(alloc, &found, &one)?;
+    }
+    if found.len() < 2 {
+        return Ok(found);
+    }
+    prune(alloc, &found)
+}
+
+// Whether it is the constraint with one empty cube, which holds everywhere.
+fn is_always(constraint: &Constraint) -> bool
+    ensures { IsTrue result ↔ (constraint.now ≡ [] ∷ []) }
+{
+    match constraint.as_slice() {
+        [cube] => cube.len() == 0,
+        _ => false,
+    }
 }
 
 /// What pairs lead to from members of a set: the second parts of those whose first part is in the set `held`. Members of `moves`

@@ -3,13 +3,16 @@
 
 mod classing;
 mod indexed;
+mod members;
 mod minimising;
 mod moving;
+mod naming;
 mod ordering;
 mod pairs;
 mod partitioning;
 mod refining;
 mod telling;
 mod transitions;
+mod tying;
 
 pub use minimising::minimise;

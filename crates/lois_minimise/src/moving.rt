@@ -1,19 +1,20 @@
 //! Moves from the targets of steps back to their sources.
 
-ghost use Rattle.std.specs.Prelude.{◌≡◌, Bool, List, length, IsTrue, IfOk, OnOk};
+ghost use Rattle.std.specs.Prelude.{◌≡◌, Bool, List, length, IsTrue, IfOk, IfSome, IfNone, OnOk};
 ghost use Rattle.lois_base.specs.Atom.{Atom};
-ghost use Rattle.lois_base.specs.Data.{coll, comps_of};
+ghost use Rattle.lois_base.specs.Data.{TermD, coll, comps_of};
 ghost use Rattle.lois_base.specs.Fits.{CompFits, ItemsFit};
 ghost use Rattle.lois_base.specs.Tree.{tree, comp_of};
 ghost use Rattle.lois_base.specs.Validity.{AdmitsComp, AdmitsItems};
 ghost use Rattle.lois_base.specs.Values.{PointValue, point};
 ghost use Rattle.lois_algebra.specs.Gathered.{IsCompMember};
 ghost use Rattle.lois_automata.specs.Adding.{AddsOfTwo, AddsWithEach, IsMadeOfTwo};
+ghost use Rattle.lois_automata.specs.Projections.{triple_of};
 ghost use Rattle.lois_minimise.specs.Classes.{AreBackward, IsMoveBack, IsOrderedTerm};
 
 use crate::pairs::pair_of_terms;
 use lois_algebra::push_comp;
-use lois_automata::{pair, pair_comps, step_parts};
+use lois_automata::{pair_comps, step_parts};
 use lois_base::{Comp, Comps, NoMemory, Structure, Term};
 use lois_constraint::meet;
 use lois_elim::quantifier_free;
@@ -73,20 +74,20 @@ fn add_move_back<T: Structure>(
         return Ok(());
     }
     let both = pair_comps(alloc, first, second, size)?;
-    let Some(one) = step_parts(&both.first) else {
+    let Some(one) = into_step(both.first) else {
         return Ok(());
     };
-    let Some(other) = step_parts(&both.second) else {
+    let Some(other) = into_step(both.second) else {
         return Ok(());
     };
-    if shape(one.source) > shape(other.source) {
+    if shape(&one.source) > shape(&other.source) {
         return Ok(());
     }
     let inner = size + both.binders;
-    let same = equal_formula(alloc, one.letter, other.letter, inner)?;
+    let same = equal_formula(alloc, &one.letter, &other.letter, inner)?;
     let found = quantifier_free::<T>(alloc, &same, inner)?;
     let guard = meet(alloc, &both.guard, &found)?;
-    let source = pair(alloc, one.source, other.source)?;
+    let source = pair_of_terms(alloc, one.source, other.source)?;
     let target = ordered_pair(alloc, one.target, other.target)?;
     let item = pair_of_terms(alloc, target, source)?;
     push_comp(
@@ -115,12 +116,41 @@ fn has_no_move(first: &Comp, second: &Comp) -> bool
     clash(one.letter, other.letter)
 }
 
-// The two in a pair, in order.
-fn ordered_pair(alloc: Global, one: &Term, other: &Term) -> Result<Term, NoMemory>
-    ensures { IfOk result (λ r. IsOrderedTerm (tree one.now) (tree other.now) (tree r)) }
+// The three parts of a step, which is taken apart.
+#[derive(Drop)]
+struct StepTerms {
+    source: Term,
+    letter: Term,
+    target: Term,
+}
+
+fn into_step(t: Term) -> Option<StepTerms>
+    ensures some { IfSome result (λ s. tree t ≡ triple_of (tree s.source) (tree s.letter) (tree s.target)) }
+    ensures none { IfNone result ((p l q : TermD) → tree t ≡ triple_of p l q → ⊥) }
 {
-    if shape(one) <= shape(other) {
-        return pair(alloc, one, other);
+    let Term::Tup(terms) = t else {
+        return None;
+    };
+    let mut parts = terms.into_vec();
+    if parts.len() != 3 {
+        return None;
     }
-    pair(alloc, other, one)
+    let target = parts.pop()?;
+    let letter = parts.pop()?;
+    let source = parts.pop()?;
+    Some(StepTerms {
+        source,
+        letter,
+        target,
+    })
+}
+
+// The two in a pair, in order.
+fn ordered_pair(alloc: Global, one: Term, other: Term) -> Result<Term, NoMemory>
+    ensures { IfOk result (λ r. IsOrderedTerm (tree one) (tree other) (tree r)) }
+{
+    if shape(&one) <= shape(&other) {
+        return pair_of_terms(alloc, one, other);
+    }
+    pair_of_terms(alloc, other, one)
 }

@@ -1,11 +1,12 @@
 //! A set partitioned into those of its members that are in another set, and those that are not.
 
-ghost use Rattle.std.specs.Prelude.{◌≡◌, Bool, List, length, map, IfOk, OnOk};
+ghost use Rattle.std.specs.Prelude.{◌≡◌, ℕ, Bool, not, ◌&&◌, List, length, map, IfOk, OnOk};
 ghost use Rattle.lois_base.specs.Atom.{Atom};
 ghost use Rattle.lois_base.specs.Data.{coll, comp, comps_of};
-ghost use Rattle.lois_base.specs.Fits.{CompFits, ItemsFit};
+ghost use Rattle.lois_base.specs.Fits.{ConstraintFits, CompFits, ItemsFit};
 ghost use Rattle.lois_base.specs.Tree.{tree, comp_of};
-ghost use Rattle.lois_base.specs.Validity.{AdmitsComp, AdmitsItems, ItemsHaveBoundedWidths};
+ghost use Rattle.lois_base.specs.Validity.{AdmitsConstraint, AdmitsComp, AdmitsItems, ItemsHaveBoundedWidths};
+ghost use Rattle.lois_base.specs.Truth.{holds};
 ghost use Rattle.lois_base.specs.Values.{point};
 ghost use Rattle.lois_terms.specs.Shapes.{item_shape};
 ghost use Rattle.lois_algebra.specs.Gathered.{IsPut};
@@ -67,16 +68,43 @@ fn partition_comp<T: Structure>(
     ensures { OnOk result (AddsPartition size (comp_of one.now) (coll (comps_of set.now)) (comps_of inside.old) (comps_of inside.new) (comps_of outside.old) (comps_of outside.new)) }
 {
     let found = indexed_membership::<T>(alloc, &one.item, set, index, size, one.binders)?;
-    let here = meet(alloc, &one.guard, &found)?;
-    let there = and_not(alloc, &one.guard, &found)?;
+    let here = within(alloc, &one.guard, &found)?;
+    let there = beyond(alloc, &one.guard, &found)?;
     put_under(alloc, inside, one, here)?;
     put_under(alloc, outside, one, there)
+}
+
+// Where the guard holds and the other constraint does. Most often that holds nowhere.
+fn within(alloc: Global, guard: &Constraint, found: &Constraint) -> Result<Constraint, NoMemory>
+    ensures truth { IfOk result (λ r. (e : List Atom) → holds e r ≡ (holds e guard.now && holds e found.now)) }
+    ensures fits { IfOk result (λ r. (n : ℕ) → ConstraintFits n guard.now → ConstraintFits n found.now → ConstraintFits n r) }
+    ensures operators { IfOk result (λ r. (o : Bool) → AdmitsConstraint o guard.now → AdmitsConstraint o found.now → AdmitsConstraint o r) }
+{
+    if found.len() == 0 {
+        return Ok(Constraint::new(alloc));
+    }
+    meet(alloc, guard, found)
+}
+
+// Where the guard holds and the other constraint doesn't.
+fn beyond(alloc: Global, guard: &Constraint, found: &Constraint) -> Result<Constraint, NoMemory>
+    ensures truth { IfOk result (λ r. (e : List Atom) → holds e r ≡ (holds e guard.now && not (holds e found.now))) }
+    ensures fits { IfOk result (λ r. (n : ℕ) → ConstraintFits n guard.now → ConstraintFits n found.now → ConstraintFits n r) }
+    ensures operators { IfOk result (λ r. (o : Bool) → AdmitsConstraint o guard.now → AdmitsConstraint o found.now → AdmitsConstraint o r) }
+{
+    if found.len() == 0 {
+        return guard.copy(alloc);
+    }
+    and_not(alloc, guard, found)
 }
 
 // A comprehension under another guard.
 fn put_under(alloc: Global, made: &mut Comps, one: &Comp, guard: Constraint) -> Result<(), NoMemory>
     ensures { OnOk result (IsPut (comp one.now.binders guard (tree one.now.item)) (comps_of made.old) (comps_of made.new)) }
 {
+    if guard.len() == 0 {
+        return Ok(());
+    }
     let item = one.item.copy(alloc)?;
     push_comp(
         made,
