@@ -11,7 +11,7 @@ use Rattle.std.specs.Int.{bit_at}
 use Rattle.lois_base.specs.declared.guards.Lit.{Lit}
 use Rattle.lois_constraint.specs.Order.{Row, reaches, at_most, linked, is_tied, is_apart, sets_apart}
 use Rattle.lois_constraint.specs.LevelOrders.{has_bit, low_at_most}
-use Rattle.lois_constraint.proofs.Lows.{diagonal, low_bound, low_bit, put_here, put_else}
+use Rattle.lois_constraint.proofs.Lows.{diagonal, low_bound, low_bit}
 use Rattle.lois_constraint.proofs.Words.{one_or, or_nothing, no_word, reaches_nothing, first_bit}
 
 -- ---- the rows of a word
@@ -27,43 +27,6 @@ row_of word a = bit_and (word / 2 ^ (8 * a)) 255
 pub row_bit : (word a b : ℕ) → b < 8 → (bit_at (row_of word a) b == 1) ≡ has_bit word a b
 row_bit word a b l =
     low_bit (word / 2 ^ (8 * a)) [] b l ∙ (sym (first_bit (word / 2 ^ (8 * a)) [] b (omega arith)) ∙ ap (λ n. eqb n 1) (moved_down word (8 * a) b))
-
--- ---- one level at most another one
--- order: a word; word: with the rows below n linked
-module _ (order x y word n : ℕ) where
-  abbrev Below : ℕ → ℕ → Type 0
-  Below w m = (a b : ℕ) → a < m → b < 8 → has_bit w a b ≡ linked x y (has_bit order) a b
-
-  abbrev Above : ℕ → ℕ → Type 0
-  Above w m = (a b : ℕ) → m ≤ a → a < 8 → b < 8 → has_bit w a b ≡ has_bit order a b
-
-  -- row: the levels that y is at most
-  pub row_linked : (row : ℕ) → row < 2 ^ 8 → ((b : ℕ) → b < 8 → (bit_at row b == 1) ≡ has_bit order y b) → n < 8 → has_bit order n x ≡ true → Below word n → Above word n → Below (bit_or word (row * 2 ^ (8 * n) % 2 ^ 64)) (n + 1)
-  row_linked row small is inside on below above a b l m = go (cases_order a n)
-    where
-      joined : ℕ
-      joined = bit_or word (row * 2 ^ (8 * n) % 2 ^ 64)
-
-      go : (a ≡ n) ⊎ ((a < n) ⊎ (n < a)) → has_bit joined a b ≡ linked x y (has_bit order) a b
-      go (inl at) =
-          let here : has_bit joined n b ≡ linked x y (has_bit order) n b = put_here row n small inside word b m ∙ (ap (λ p. p || (bit_at row b == 1)) (above n b (omega arith) inside m) ∙ (ap (λ p. has_bit order n b || p) (is b m) ∙ ap (λ p. has_bit order n b || (p && has_bit order y b)) (sym on))) in
-          rw at here
-      go (inr (inl less)) = put_else row n small inside word a b (λ e. omega (arith, e)) m ∙ below a b less m
-      go (inr (inr more)) = absurd (omega arith)
-
-  pub rows_after : (row : ℕ) → row < 2 ^ 8 → n < 8 → Above word n → Above (bit_or word (row * 2 ^ (8 * n) % 2 ^ 64)) (n + 1)
-  rows_after row small inside above a b l k m =
-      put_else row n small inside word a b (λ e. omega (arith, e)) m ∙ above a b (omega arith) k m
-
-  pub row_kept : has_bit order n x ≡ false → n < 8 → Below word n → Above word n → Below word (n + 1)
-  row_kept off inside below above a b l m = go (cases_order a n)
-    where
-      go : (a ≡ n) ⊎ ((a < n) ⊎ (n < a)) → has_bit word a b ≡ linked x y (has_bit order) a b
-      go (inl at) =
-          let here : has_bit word n b ≡ linked x y (has_bit order) n b = above n b (omega arith) inside m ∙ (or_nothing (has_bit order n b) ∙ ap (λ p. has_bit order n b || (p && has_bit order y b)) (sym off)) in
-          rw at here
-      go (inr (inl less)) = below a b less m
-      go (inr (inr more)) = absurd (omega arith)
 
 -- ---- a word with each level at most itself
 pub full : (word a b : ℕ) → a < 8 → b < 8 → has_bit (bit_or word 0x8040201008040201) a b ≡ low_at_most word a b

@@ -94,10 +94,10 @@ module _ (low n : ℕ) (small : low < 2 ^ 8) (inside : n < 8) where
     has i =
         ap (λ k. eqb k 1) (bit_at_or order moved i) ∙ one_or (bit_at order i) (bit_at moved i) (bit_at-lt order i) (bit_at-lt moved i)
 
-    pub put_here : (b : ℕ) → b < 8 → (bit_at (bit_or order (low * 2 ^ (8 * n) % 2 ^ 64)) (8 * n + b) == 1) ≡ ((bit_at order (8 * n + b) == 1) || (bit_at low b == 1))
+    put_here : (b : ℕ) → b < 8 → (bit_at (bit_or order (low * 2 ^ (8 * n) % 2 ^ 64)) (8 * n + b) == 1) ≡ ((bit_at order (8 * n + b) == 1) || (bit_at low b == 1))
     put_here b m = has (8 * n + b) ∙ ap (λ k. (bit_at order (8 * n + b) == 1) || eqb k 1) (moved_here b m)
 
-    pub put_else : (a b : ℕ) → a ≢ n → b < 8 → (bit_at (bit_or order (low * 2 ^ (8 * n) % 2 ^ 64)) (8 * a + b) == 1) ≡ (bit_at order (8 * a + b) == 1)
+    put_else : (a b : ℕ) → a ≢ n → b < 8 → (bit_at (bit_or order (low * 2 ^ (8 * n) % 2 ^ 64)) (8 * a + b) == 1) ≡ (bit_at order (8 * a + b) == 1)
     put_else a b other m =
         has (8 * a + b) ∙ (ap (λ k. (bit_at order (8 * a + b) == 1) || eqb k 1) (moved_else a b other m) ∙ sym (or_nothing (bit_at order (8 * a + b) == 1)))
 

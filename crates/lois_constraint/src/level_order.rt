@@ -1,8 +1,8 @@
 //! The order that a cube puts its levels in: one word where all are low, and else rows.
 
-ghost use Rattle.std.specs.Prelude.{◌≡◌, ℕ, ◌+◌, ◌*◌, Bool, List, ◌<◌, ◌||◌, ◌&&◌, ◌==◌, false, IsFalse, IfOk, OnOk};
+ghost use Rattle.std.specs.Prelude.{◌≡◌, ℕ, ◌+◌, ◌*◌, List, ◌<◌, ◌==◌, false, IsFalse, IfOk, OnOk};
 ghost use Rattle.std.specs.Int.{bit_at};
-ghost use Rattle.lois_constraint.specs.Order.{at_most, is_tied, is_apart, lies_between, joins, sets_apart, are_apart, is_implied, is_refuted, linked, extended};
+ghost use Rattle.lois_constraint.specs.Order.{is_implied, is_refuted, linked, extended};
 ghost use Rattle.lois_constraint.specs.LevelOrders.{is_at_most};
 
 use crate::denying::denial;

@@ -1,6 +1,6 @@
 //! The order of the levels below eight, in one word: bit 8 * a + b says that level a is at most b.
 
-ghost use Rattle.std.specs.Prelude.{◌≡◌, ℕ, ◌+◌, ◌*◌, ◌/◌, ◌^◌, Bool, List, bit_and, ◌<◌, ◌||◌, ◌&&◌, ◌==◌, false, IsTrue, IsFalse, IfOk};
+ghost use Rattle.std.specs.Prelude.{◌≡◌, ℕ, ◌+◌, ◌*◌, ◌/◌, ◌^◌, List, bit_and, ◌<◌, ◌||◌, ◌&&◌, ◌==◌, false, IsFalse, IfOk};
 ghost use Rattle.std.specs.Int.{bit_at};
 ghost use Rattle.lois_constraint.specs.Order.{at_most, is_tied, is_apart, lies_between, joins, sets_apart, are_apart, is_implied, linked};
 ghost use Rattle.lois_constraint.specs.LevelOrders.{has_bit, low_at_most};
