@@ -66,7 +66,7 @@ PLANTED = [
          ("a wrong line", "3:2", "2:2"), ("a wrong column", "3:2", "3:9"),
          ("a wrong cause", "assertion failed", "turn limit", 3),
          ("a wrong choice", "choice 1 0 2", "choice 0 1 2"), ("a wrong element", "x = a", "x = b"),
-         ("a number too many", "choice 1 0 2", "choice 1 0 2 3"),
+         ("a number too many", "choice 1 0 2", "choice 1 0 2 3"), ("a gap in the numbers", "1 0 2", "1 0 3"),
          ("an element that isn't in the set", "x = a", "x = $2"),
          ("an element that the condition keeps away", "y = $2", "y = b"),
          ("an element missing", "for y = $2\n", ""),

@@ -1,14 +1,17 @@
 -- What makes five sets an automaton, and an automaton deterministic and complete, said by sets that are made of its steps.
-use Rattle.std.proofs.Common.{◌≡◌, ℕ, ◌&&◌, ◌⊎◌, inl, inr, ◌↔◌, List, [], length, refl, sym, subst, ◌∙◌}
+use Rattle.std.proofs.Common.{◌≡◌, ℕ, ◌&&◌, ◌⊎◌, inl, inr, ◌↔◌, true, List, [], length, refl, sym, subst, ◌∙◌}
 use Rattle.std.proofs.lemmas.Bool.{false≢true}
 use Rattle.std.proofs.lemmas.List.{length-map}
 use Rattle.std.specs.Bool.{IsTrue}
 use Rattle.lois_base.specs.Atom.{Atom, whole}
 use Rattle.lois_base.specs.Data.{TermD, var, tag, tup, coll, no_terms, term, CompsD, no_comps}
+use Rattle.lois_base.specs.Fits.{ConstraintFits}
+use Rattle.lois_base.specs.Patterns.{AreAlike}
 use Rattle.lois_base.specs.Truth.{holds, sampled}
 use Rattle.lois_base.specs.Values.{PointValue, point, IsSame, IsIn, IsIncluded}
 use Rattle.lois_base.specs.declared.guards.Lit.{Lit}
 use Rattle.lois_base.proofs.Members.{same_refl, same_sym, same_trans, in_same, in_included, member_in}
+use Rattle.lois_base.proofs.Truths.{holds_ordered}
 use Rattle.lois_deciders.specs.Satisfiability.{IsCounterexample}
 use Rattle.lois_meaning.specs.Automata.{IsPair, IsTriple, HasStep, IsDeterministic, IsComplete}
 use Rattle.lois_meaning.proofs.Operations.{pair_exists, pair_both, triple_both, step_move}
@@ -33,6 +36,9 @@ verdict_as n u P Q (Fails s) same h = record {
   count = h.count;
   admitted = h.admitted;
   broken = λ q. h.broken ((same (sampled s.items) (length-map s.items whole ∙ h.count) h.admitted).1 q);
+  alike = λ c a.
+      let there = h.alike c a in
+      (there.0, λ q. there.1 ((same c (sym a.count ∙ (length-map s.items whole ∙ h.count)) there.0).1 q));
 }
 
 -- ---- steps that join states
@@ -226,12 +232,16 @@ joined_where n s l t triples from to by ends parts r h from_is to_is by_is met1 
     let met = both_where n (λ d. AreTriples (point (coll t) d)) (λ d. (ArePartsIn Source (point (coll t) d) (point (coll s) d) × ArePartsIn Target (point (coll t) d) (point (coll s) d)) × ArePartsIn Label (point (coll t) d) (point (coll l) d)) triples parts r h all met3 c len in
     (λ x. one.0 (met.0 x), λ x. met.1 (one.1 x))
 
-pub parted_breaks : (n : ℕ) (u w : List (List Lit)) (s : List ℕ) → IsCounterexample n u w s → IsBreak n u (λ c. IsTrue (holds c w)) s
-parted_breaks n u w s (small, met, unmet) = record {
+pub parted_breaks : (n : ℕ) (u w : List (List Lit)) (s : List ℕ) → ConstraintFits n u → ConstraintFits n w → IsCounterexample n u w s → IsBreak n u (λ c. IsTrue (holds c w)) s
+parted_breaks n u w s under wanted (small, met, unmet) = record {
   count = small.count;
   admitted = met;
   broken = λ h. false≢true (sym unmet ∙ h);
+  alike = λ c a. (sym (same u under c a) ∙ met, λ h. false≢true (sym unmet ∙ (same w wanted c a ∙ h)));
 }
+  where
+    same : (g : List (List Lit)) → ConstraintFits n g → (c : List Atom) → AreAlike true (sampled s) c → holds (sampled s) g ≡ holds c g
+    same g fits c a = holds_ordered (sampled s) c a g (subst (λ z. ConstraintFits z g) (sym (length-map s whole ∙ small.count)) fits)
 
 -- nothing is admitted where a term that is an automaton at no choice is one throughout
 pub never_automaton : (n : ℕ) (u : List (List Lit)) (a : TermD) (r : List (List Lit)) (v : Verdict) → r ≡ [] → ((c : List Atom) → IsAutomatonAt a c → ⊥) → IsVerdictOn n u (λ c. IsTrue (holds c r)) v → IsVerdictOn n u (IsAutomatonAt a) v

@@ -1,9 +1,10 @@
 -- Values that are automata, or unfit for an operation on automata, throughout a context.
-use Rattle.std.proofs.Common.{◌≡◌, ℕ, ◌⊎◌, inl, inr, List, [], ◌∷◌, refl, sym, subst, ◌∙◌}
+use Rattle.std.proofs.Common.{◌≡◌, ℕ, ◌⊎◌, inl, inr, true, List, [], ◌∷◌, length, refl, sym, ap, subst, ◌∙◌}
 use Rattle.std.proofs.lemmas.List.{length-map}
 use Rattle.std.specs.Prelude.{Result, OnOk}
 use Rattle.lois_base.specs.Atom.{Atom, whole}
 use Rattle.lois_base.specs.Data.{TermD, terms_of}
+use Rattle.lois_base.specs.Patterns.{AreAlike}
 use Rattle.lois_base.specs.Truth.{sampled}
 use Rattle.lois_base.specs.Values.{PointValue, point}
 use Rattle.lois_base.specs.declared.guards.Lit.{Lit}
@@ -72,7 +73,9 @@ module _ (k : Context) (t : TermD) where
       let a : IsAdmitted (sampled s.items) k = (length-map s.items whole ∙ verdict.count, verdict.admitted) in
       record {
         fault = fault_at k at kind s.items a f h;
-        unfit = subst (λ z. row (point t (sampled z)) f.kind) (sym h.sample) (subst (row (point t (sampled s.items))) (sym h.kind) (to (sampled s.items) a verdict.broken));
+        unfit = λ c stand.
+            let there = verdict.alike c (subst (λ z. AreAlike true (sampled z) c) h.sample stand) in
+            subst (row (point t c)) (sym h.kind) (to c (sym stand.count ∙ (ap (λ z. length (sampled z)) h.sample ∙ a.0), there.0) there.1);
       }
 
   pub no_automaton : (at : Pos) (v : Verdict) → IsVerdictOn k.size k.«when» (IsAutomatonAt t) v → (f : Fault) → IsFailureOfVerdict v at NotAutomaton f → IsValueFault k IsNoAutomaton t at.offset f
@@ -89,7 +92,7 @@ module _ (k : Context) (t : TermD) where
       inr (inr (refl, m, is, one, λ all. none (m, is, all))))
 
   pub value_fault_weaker : (P Q : PointValue → FaultKind → Type 0) (at : ℕ) (f : Fault) → ((v : PointValue) (kind : FaultKind) → P v kind → Q v kind) → IsValueFault k P t at f → IsValueFault k Q t at f
-  value_fault_weaker P Q at f to h = record { fault = h.fault; unfit = to (point t (sampled f.sample.items)) f.kind h.unfit }
+  value_fault_weaker P Q at f to h = record { fault = h.fault; unfit = λ c stand. to (point t c) f.kind (h.unfit c stand) }
 
   -- ---- what the operations make
 
@@ -128,7 +131,7 @@ module _ (k : Context) (op : Operation) (es : List ExprD) (ts : List TermD) (x :
   pub one_unfit : (e : ExprD) (t : TermD) (at : ℕ) → es ≡ e ∷ [] → ts ≡ t ∷ [] → at ≡ pos e → IsValueFault k (IsInvalidOperand op) t at x → IsUnfitFault k op (exprs_of es) (terms_of ts) x
   one_unfit e t at operands values place h = subst (λ z. IsUnfitFault k op (exprs_of es) (terms_of z) x) (sym values) (subst (λ z. IsUnfitFault k op (exprs_of z) (terms_of (t ∷ [])) x) (sym operands) (record {
     admitted = h.fault.admitted;
-    unfit = inl (h.fault.place ∙ place, h.unfit);
+    unfit = λ c stand. inl (h.fault.place ∙ place, h.unfit c stand);
     elements = h.fault.elements;
   }))
 
@@ -138,11 +141,11 @@ module _ (k : Context) (op : Operation) (es : List ExprD) (ts : List TermD) (x :
       of : IsValueFault k (IsInvalidOperand op) s at x ⊎ IsValueFault k (IsInvalidOperand op) t other x → IsUnfitFault k op (exprs_of (e ∷ f ∷ [])) (terms_of (s ∷ t ∷ [])) x
       of (inl h) = record {
         admitted = h.fault.admitted;
-        unfit = inl (h.fault.place ∙ place, h.unfit);
+        unfit = λ c stand. inl (h.fault.place ∙ place, h.unfit c stand);
         elements = h.fault.elements;
       }
       of (inr h) = record {
         admitted = h.fault.admitted;
-        unfit = inr (inl (h.fault.place ∙ second, h.unfit));
+        unfit = λ c stand. inr (inl (h.fault.place ∙ second, h.unfit c stand));
         elements = h.fault.elements;
       }

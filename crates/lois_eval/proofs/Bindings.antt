@@ -34,7 +34,7 @@ use Rattle.lois_eval.specs.WellFormed.{IsWellFormedIn, IsUnnamed, IsWellFormed, 
 use Rattle.lois_eval.specs.Throughout.{IsFaultOf}
 use Rattle.lois_eval.proofs.Conditions.{no_set_fails}
 use Rattle.lois_eval.proofs.Innermost.{here_none, here_one, here_within}
-use Rattle.lois_eval.proofs.FaultsAt.{fault_weaker}
+use Rattle.lois_eval.proofs.FaultsAt.{admitted_alike, fault_weaker}
 use Rattle.lois_eval.proofs.Weights.{weight, weight_of_bindings, weight_of_cond, weight_from}
 use Rattle.lois_eval.proofs.Wholes.{unnamed_new, placed_inside, each_loop, each_loop_within, each_loop_fails, quantifier_loop, quantifier_loop_fails}
 
@@ -64,6 +64,11 @@ module _ (k : Context) (item : Expr) (bs : List Binding) (i : ℕ) (b : Binding)
 
   pub first_new : (o : Bool) → IsWellFormedIn (IsWellFormed (each_from item bs i c)) o k → IsNew b.name k.store
   first_new o h = unnamed_new b.name k.store (unfolded o h).names.0.1
+
+  pub first_set_fails : (f : Fault) → IsFaultOf k (Fails (tree b.from)) f → IsFaultOf k (Breaks (each_from item bs i c)) f
+  first_set_fails f h =
+      subst (λ z. IsFaultOf k (Breaks z) f) (sym first_is)
+      (fault_weaker k (Fails (tree b.from)) (Breaks (each 0 (tree item) (bind (binding b.pos.offset b.name (tree b.from)) rest) (cond_tree c))) f (λ s at kind bad. inl (inl bad)) h)
 
   module _ (t : TermD) (elements : IsTermOf k (Gives (tree b.from)) (IsWellFormed (tree b.from)) t) where
     pub first_no_set : (f : Fault) → IsSetFault k t (pos (tree b.from)) f → IsFaultOf k (Breaks (each_from item bs i c)) f
@@ -122,11 +127,11 @@ module _ (k : Context) (item : Expr) (bs : List Binding) (c : Cond) where
 
       pub last_item_fails : (f : Fault) → IsFaultOf d (Fails (tree item)) f → IsFaultOf k (Breaks (each_from item bs (length bs) c)) f
       last_item_fails f h =
-          let s = sampled f.sample.items in
-          let both = admits s h.admitted in
           subst (λ z. IsFaultOf k (Breaks z) f) (sym last_is) (record {
-            admitted = both.0;
-            failure = inr (inr (store_at s k.store, refl, subst (HasTruth (cond_tree c) (store_at s k.store)) both.1 (held.truth s both.0), subst (λ z. Fails (tree item) (store_at s z) f.pos.offset f.kind) side.store h.failure));
+            admitted = (admits (sampled f.sample.items) h.admitted).0;
+            failure = λ s stand.
+                let both = admits s (admitted_alike d f.sample.items s stand h.admitted) in
+                inr (inr (store_at s k.store, refl, subst (HasTruth (cond_tree c) (store_at s k.store)) both.1 (held.truth s both.0), subst (λ z. Fails (tree item) (store_at s z) f.pos.offset f.kind) side.store (h.failure s stand)));
             elements = h.elements;
           })
         where

@@ -1,11 +1,12 @@
 -- Comparisons of two expressions: the values of their sides, and how they fail.
-use Rattle.std.proofs.Common.{◌≡◌, ℕ, Bool, inl, inr, List, [], ◌∷◌, sym, subst}
+use Rattle.std.proofs.Common.{◌≡◌, ℕ, ◌⊎◌, Bool, inl, inr, List, [], ◌∷◌, sym, subst}
 use Rattle.lois_base.specs.Atom.{Atom}
 use Rattle.lois_base.specs.Data.{TermD}
-use Rattle.lois_base.specs.Truth.{sampled}
 use Rattle.lois_base.specs.Values.{point}
 use Rattle.lois_meaning.specs.Expressions.{Gives}
-use Rattle.lois_meaning.specs.Faults.{IsNoAtom, IsNoSet, OperandFails, CondFails}
+use Rattle.lois_meaning.specs.Faults.{IsNoAtom, IsNoSet, OperandFails, Fails, SomeFails, CondFails}
+use Rattle.lois_meaning.specs.Store.{NamedValues}
+use Rattle.lois_answers.specs.declared.faults.FaultKind.{FaultKind}
 use Rattle.lois_meaning.specs.declared.faults.Fault.{Fault}
 use Rattle.lois_script.specs.Tree.{ExprD, CondD, below, member, included, pos}
 use Rattle.lois_context.specs.Choices.{IsAdmitted}
@@ -18,7 +19,7 @@ use Rattle.lois_eval.specs.Forms.{two, sides_of}
 use Rattle.lois_eval.specs.WellFormed.{IsWellFormed, AreWellFormed, CondIsWellFormed, names_of}
 use Rattle.lois_eval.specs.Throughout.{IsFaultOf}
 use Rattle.lois_eval.proofs.Conditions.{sides, no_set_fails}
-use Rattle.lois_eval.proofs.FaultsAt.{fault_weaker}
+use Rattle.lois_eval.proofs.FaultsAt.{admitted_alike, fault_weaker}
 use Rattle.lois_eval.proofs.TermKinds.{atom_term}
 
 -- the values of the sides of a condition that is this one
@@ -29,7 +30,7 @@ sides_as k c d ts is h = subst (λ z. AreTermsOf k (sides_of z) (CondIsWellForme
 no_atom_fails : (k : Context) (e : ExprD) (t : TermD) (f : Fault) → ((c : List Atom) → IsAdmitted c k → Gives e (store_at c k.store) (point t c)) → IsAtomFault k t (pos e) f → IsFaultOf k (OperandFails IsNoAtom e) f
 no_atom_fails k e t f given h = record {
   admitted = h.fault.admitted;
-  failure = (h.fault.place, point t (sampled f.sample.items), given (sampled f.sample.items) h.fault.admitted, (h.kind, λ a is. let (i, e) = atom_term t (sampled f.sample.items) a is in h.no_atom i e));
+  failure = λ c stand. (h.fault.place, point t c, given c (admitted_alike k f.sample.items c stand h.fault.admitted), (h.kind, λ a is. let (i, e) = atom_term t c a is in h.no_atom i e));
   elements = h.fault.elements;
 }
 
@@ -51,6 +52,12 @@ module _ (k : Context) (e f : ExprD) (s t : TermD) (stands : Bool → List (List
   pub included_fails_right : IsSetFault k t (pos f) x → IsFaultOf k (CondFails (included e f)) x
   included_fails_right h =
       fault_weaker k (OperandFails IsNoSet f) (CondFails (included e f)) x (λ s at kind h. inr (inr (inr h))) (no_set_fails k f t x (λ c a. (sides k e f s t stands both c a).1) h)
+
+-- a condition fails where one of its sides does
+pub sides_fail : (k : Context) (c d : CondD) (e f : ExprD) (x : Fault) → c ≡ d → ((s : NamedValues) (at : ℕ) (kind : FaultKind) → Fails e s at kind ⊎ Fails f s at kind → CondFails d s at kind) → IsFaultOf k (SomeFails (two e f)) x → IsFaultOf k (CondFails c) x
+sides_fail k c d e f x is to h =
+    subst (λ z. IsFaultOf k (CondFails z) x) (sym is)
+    (fault_weaker k (SomeFails (two e f)) (CondFails d) x (λ s at kind bad. to s at kind (elim bad [ inl a ↦ inl a | inr b ↦ inr (elim b [ inl q ↦ q | inr none ↦ absurd none ]) ])) h)
 
 -- the values of two expressions that are the sides of a condition
 pub sides_from : (k : Context) (c d : CondD) (e f : ExprD) (ts : List TermD) → c ≡ d → sides_of d ≡ two e f → ((o : Bool) (xs : List (List ℕ)) → CondIsWellFormed d o xs → IsWellFormed e o xs × IsWellFormed f o xs) → AreTermsOf k (two e f) (AreWellFormed (two e f)) ts → AreTermsOf k (sides_of c) (CondIsWellFormed c) ts

@@ -5,7 +5,7 @@ use Rattle.std.specs.Bool.{IsTrue, IsFalse}
 use Rattle.lois_base.specs.Atom.{Atom}
 use Rattle.lois_base.specs.Data.{TermD}
 use Rattle.lois_base.specs.Fits.{ConstraintFits}
-use Rattle.lois_base.specs.Truth.{atom_at, holds, sampled}
+use Rattle.lois_base.specs.Truth.{atom_at, holds}
 use Rattle.lois_base.specs.Validity.{AdmitsConstraint, AdmitsTerm}
 use Rattle.lois_base.specs.Values.{PointValue, point, IsSame, IsIn, IsIncluded}
 use Rattle.lois_base.specs.declared.guards.Lit.{Lit}
@@ -27,6 +27,7 @@ use Rattle.lois_eval.specs.Evaluated.{AreTermsOf, IsConstraintOf}
 use Rattle.lois_eval.specs.Forms.{joint, two}
 use Rattle.lois_eval.specs.WellFormed.{IsWellFormedIn, CondIsWellFormed}
 use Rattle.lois_eval.specs.Throughout.{IsFaultOf}
+use Rattle.lois_eval.proofs.FaultsAt.{admitted_alike}
 use Rattle.lois_eval.proofs.TermKinds.{set_at, no_set_at}
 use Rattle.lois_eval.proofs.Parts.{have_truths_more, list_all-more, list_any-more}
 
@@ -104,7 +105,7 @@ module _ (k : Context) (e f : ExprD) (s t : TermD) where
 pub no_set_fails : (k : Context) (e : ExprD) (t : TermD) (f : Fault) → ((c : List Atom) → IsAdmitted c k → Gives e (store_at c k.store) (point t c)) → IsSetFault k t (pos e) f → IsFaultOf k (OperandFails IsNoSet e) f
 no_set_fails k e t f given h = record {
   admitted = h.fault.admitted;
-  failure = (h.fault.place, point t (sampled f.sample.items), given (sampled f.sample.items) h.fault.admitted, (h.kind, no_set_at t (sampled f.sample.items) h.no_set));
+  failure = λ c stand. (h.fault.place, point t c, given c (admitted_alike k f.sample.items c stand h.fault.admitted), (h.kind, no_set_at t c h.no_set));
   elements = h.fault.elements;
 }
 

@@ -3,7 +3,7 @@ use Rattle.std.proofs.Common.{◌↔◌, inr, Bool, true, false, not, List, refl
 use Rattle.std.specs.Bool.{IsTrue, IsFalse}
 use Rattle.lois_base.specs.Atom.{Atom}
 use Rattle.lois_base.specs.Data.{TermD}
-use Rattle.lois_base.specs.Truth.{holds, sampled}
+use Rattle.lois_base.specs.Truth.{holds}
 use Rattle.lois_base.specs.Values.{PointValue, point}
 use Rattle.lois_base.specs.declared.guards.Lit.{Lit}
 use Rattle.lois_automata.specs.Machines.{IsEmptyAt, AcceptsSomeAt}
@@ -19,6 +19,7 @@ use Rattle.lois_eval.specs.Automata.{IsEmptiness, IsValueFault}
 use Rattle.lois_eval.specs.Evaluated.{IsTermOf, IsConstraintOf}
 use Rattle.lois_eval.specs.WellFormed.{IsWellFormed, CondIsWellFormed}
 use Rattle.lois_eval.specs.Throughout.{IsFaultOf}
+use Rattle.lois_eval.proofs.FaultsAt.{admitted_alike}
 
 tells : (t : TermD) (c : List Atom) (b : Bool) → (IsTrue b → IsEmptyAt t c) → (IsFalse b → AcceptsSomeAt t c) → (a : Automaton) × IsAutomatonOf (point t c) a × IsTruthOf (not b) ((word : List PointValue) × Accepts a word)
 tells t c true none some = let (a, is, never) = none refl in (a, is, λ h. never h.0 h.1)
@@ -39,6 +40,6 @@ module _ (k : Context) (t : TermD) where
     pub empty_fails : (f : Fault) → IsValueFault k IsNoAutomaton t (pos e) f → IsFaultOf k (CondFails (empty e)) f
     empty_fails f h = record {
       admitted = h.fault.admitted;
-      failure = inr (h.fault.place, point t (sampled f.sample.items), own.value (sampled f.sample.items) h.fault.admitted, h.unfit);
+      failure = λ c stand. inr (h.fault.place, point t c, own.value c (admitted_alike k f.sample.items c stand h.fault.admitted), h.unfit c stand);
       elements = h.fault.elements;
     }

@@ -1,19 +1,20 @@
 -- The comprehensions of a set whose items are sets, one after another; and a member that is no set.
-use Rattle.std.proofs.Common.{◌≡◌, ℕ, zero, suc, ◌+◌, ◌<◌, Bool, inl, inr, List, [], ◌∷◌, ◌++◌, length, get_or, take, drop, map, refl, sym, ap, subst, ◌∙◌, arith}
+use Rattle.std.proofs.Common.{◌≡◌, ℕ, zero, suc, ◌+◌, ◌<◌, Bool, true, inl, inr, List, [], ◌∷◌, ◌++◌, length, get_or, take, drop, map, refl, sym, ap, subst, ◌∙◌, arith}
 use Rattle.std.proofs.lemmas.List.{length-map}
 use Rattle.std.specs.Bool.{IsTrue}
 use Rattle.lois_base.specs.Atom.{Atom, whole}
-use Rattle.std.proofs.Common.{length-append, length-drop}
-use Rattle.lois_meaning.specs.Kinds.{IsSet}
+use Rattle.std.proofs.Common.{length-append}
 use Rattle.lois_base.specs.Data.{TermD, coll, CompD, comp, no_comps, comps_of}
-use Rattle.lois_base.specs.Fits.{CompFits}
+use Rattle.lois_base.specs.Fits.{CompFits, ConstraintFits}
+use Rattle.lois_base.specs.Patterns.{AreAlike}
 use Rattle.lois_base.specs.Tree.{comp_of}
 use Rattle.lois_base.specs.Truth.{holds, sampled}
 use Rattle.lois_base.specs.declared.values.Comp.{Comp}
 use Rattle.lois_base.proofs.Viewed.{item_at}
 use Rattle.lois_base.specs.Validity.{AdmitsComp, AdmitsItems, CompHasBoundedWidths, ItemsHaveBoundedWidths}
-use Rattle.lois_base.specs.Values.{PointValue, point, MemberAt, IsMember}
+use Rattle.lois_base.specs.Values.{PointValue, point, MemberAt}
 use Rattle.lois_base.proofs.Lists.{items_fit_append}
+use Rattle.lois_base.proofs.Truths.{holds_ordered}
 use Rattle.lois_algebra.specs.Sets.{ItemsAreSets}
 use Rattle.lois_algebra.proofs.GatheredMembers.{set_items}
 use Rattle.lois_algebra.proofs.Among.{admits_items-append, widths-append}
@@ -28,7 +29,7 @@ use Rattle.lois_script.specs.declared.syntax.Pos.{Pos}
 use Rattle.lois_eval.specs.Checks.{IsFaultWith, MeetsBoth}
 use Rattle.lois_eval.specs.Operands.{HasSetsOf, IsKeptIfSet, IsMemberFault}
 use Rattle.lois_eval.proofs.TermKinds.{no_set_at}
-use Rattle.lois_eval.proofs.FaultsAt.{fault_at, sampled_parts, sampled_start}
+use Rattle.lois_eval.proofs.FaultsAt.{fault_at, sampled_parts, sampled_start, alike_longer}
 use Rattle.lois_eval.proofs.Outward.{member_append}
 
 abbrev set_of : List CompD → TermD
@@ -92,12 +93,15 @@ module _ (k : Context) where
   sets_more ks so_far after l h fits (inr (none, is)) = subst (λ z. HasSetsOf k (set_of (ks ++ l ∷ [])) (set_of z)) (sym is) (sets_dropped ks so_far l h none)
 
   -- a member at the first numbers of a sample of the comprehension's guard
-  pub member_fault : (l : CompD) (pos : Pos) (s : List ℕ) (f : Fault) → (IsSetTerm (item_of l) → ⊥) → MeetsBoth (k.size + binders_of l) k.«when» (guard_of l) s → IsFaultWith pos NotASet (take k.size s) f → IsMemberFault k (set_of (l ∷ [])) pos.offset f
-  member_fault (comp b g t) pos s f none m h = record {
+  pub member_fault : (l : CompD) (pos : Pos) (s : List ℕ) (f : Fault) → (IsSetTerm (item_of l) → ⊥) → CompFits k.size l → MeetsBoth (k.size + binders_of l) k.«when» (guard_of l) s → IsFaultWith pos NotASet (take k.size s) f → IsMemberFault k (set_of (l ∷ [])) pos.offset f
+  member_fault (comp b g t) pos s f none fits m h = record {
     fault = fault_at k pos NotASet (take k.size s) (start, short) f h;
     kind = h.kind;
-    no_set = subst (λ z. (u : PointValue) × IsMember u (point (set_of (comp b g t ∷ [])) (sampled z)) × (IsSet u → ⊥)) (sym h.sample)
-        (point t (sampled s), inl (sampled (drop k.size s), record { count = count; guard = subst (λ z. IsTrue (holds z g)) (sym far) m.2 }, refl, sym far), no_set_at t (sampled s) none);
+    no_set = λ c stand.
+        let (e, alike) = alike_longer k.size s c (subst (λ z. AreAlike true (sampled z) c) h.sample stand) in
+        let guard : IsTrue (holds (c ++ e) g) = sym (holds_ordered (sampled s) (c ++ e) alike g (subst (λ n. ConstraintFits n g) (sym (length-map s whole ∙ m.0.count)) fits.1)) ∙ m.2 in
+        let count : length e ≡ b = omega (arith, length-append c e, alike.count, stand.count, ap (λ z. length (sampled z)) h.sample, start, length-map s whole, m.0.count) in
+        (point t (c ++ e), inl (e, record { count = count; guard = guard }, refl, refl), no_set_at t (c ++ e) none);
   }
     where
       far : sampled (take k.size s) ++ sampled (drop k.size s) ≡ sampled s
@@ -105,9 +109,6 @@ module _ (k : Context) where
 
       start : length (sampled (take k.size s)) ≡ k.size
       start = sampled_start k.size s (omega (arith, m.0.count))
-
-      count : length (sampled (drop k.size s)) ≡ b
-      count = length-map (drop k.size s) whole ∙ omega (arith, length-drop k.size s, m.0.count)
 
       short : IsTrue (holds (sampled (take k.size s)) k.«when»)
       short = sym (holds_at_start k.size (sampled (take k.size s)) (sampled (drop k.size s)) k.«when» k.levels start) ∙ (ap (λ z. holds z k.«when») far ∙ m.1)
@@ -123,7 +124,7 @@ fault_of_one : (k : Context) (ks : List CompD) (i : ℕ) (l : CompD) (at : ℕ) 
 fault_of_one k ks i l at f inside is h = record {
   fault = h.fault;
   kind = h.kind;
-  no_set = let (u, m, none) = h.no_set in (u, member_of_one u.term_of u.choice (sampled f.sample.items) ks i l inside (subst (λ z. MemberAt u.term_of u.choice (comps_of (z ∷ [])) (sampled f.sample.items)) is m), none);
+  no_set = λ c stand. let (u, m, none) = h.no_set c stand in (u, member_of_one u.term_of u.choice c ks i l inside (subst (λ z. MemberAt u.term_of u.choice (comps_of (z ∷ [])) c) is m), none);
 }
 
 pub fault_of_comp : (k : Context) (items : List Comp) (ks : List CompD) (i : ℕ) (l : Comp) (at : ℕ) (f : Fault) → map comp_of items ≡ ks → i < length items → l ≡ get_or items i l → IsMemberFault k (set_of (comp_of l ∷ [])) at f → IsMemberFault k (set_of ks) at f

@@ -1,9 +1,10 @@
 -- From the contexts inside of a loop to the store outside with a member under the loop's name, and back.
-use Rattle.std.proofs.Common.{◌≡◌, ℕ, ◌≤◌, List, ◌++◌, length, take, drop, sym, subst, arith}
+use Rattle.std.proofs.Common.{◌≡◌, ℕ, ◌≤◌, true, List, ◌++◌, length, take, sym, ◌∙◌, arith}
 use Rattle.std.proofs.lemmas.List.{length-map}
 use Rattle.std.proofs.lemmas.List.Elements.{All-contains}
 use Rattle.lois_base.specs.Atom.{Atom, whole}
 use Rattle.lois_base.specs.Data.{TermD}
+use Rattle.lois_base.specs.Patterns.{AreAlike}
 use Rattle.lois_base.specs.Truth.{sampled}
 use Rattle.lois_base.specs.Values.{PointValue, point, IsMember}
 use Rattle.lois_meaning.specs.Store.{NamedValues, stored, AreSameNamed}
@@ -13,7 +14,7 @@ use Rattle.lois_context.specs.Slots.{store_at}
 use Rattle.lois_context.specs.declared.contexts.Context.{Context}
 use Rattle.lois_eval.specs.Folded.{IsSomewhereInside, IsFaultInside}
 use Rattle.lois_eval.specs.Throughout.{Failure}
-use Rattle.lois_eval.proofs.FaultsAt.{sampled_parts, sampled_start}
+use Rattle.lois_eval.proofs.FaultsAt.{sampled_start, admitted_alike, alike_longer}
 
 module _ (before : Context) (x : List ℕ) (t : TermD) (ds : List Context) (entered : AreEntered before x t ds) where
   -- each member is the one of some context inside
@@ -35,17 +36,15 @@ module _ (before : Context) (x : List ℕ) (t : TermD) (ds : List Context) (ente
       let on : ExtendsContext before x d = All-contains (ExtendsContext before x) ds d entered.outside there in
       on.outside c e l adm
 
-  -- a failure inside, under the first numbers of its sample
+  -- a failure inside, at atoms that stand as the first numbers of its sample do
   pub fails_outside : (fails : Failure) → ((s t : NamedValues) (at : ℕ) (k : _) → AreSameNamed s t → fails s at k → fails t at k) →
-      (f : _) → IsFaultInside ds fails f → let c = sampled (take before.size f.sample.items) in
+      (f : _) → IsFaultInside ds fails f → (c : List Atom) → AreAlike true (sampled (take before.size f.sample.items)) c →
       IsAdmitted c before × ((m : PointValue) × IsMember m (point t c) × fails (stored x m (store_at c before.store)) f.pos.offset f.kind)
-  fails_outside fails move f (d, there, fault) =
-      let c = sampled (take before.size f.sample.items) in
-      let e = sampled (drop before.size f.sample.items) in
+  fails_outside fails move f (d, there, fault) c alike =
+      let (e, stand) = alike_longer before.size f.sample.items c alike in
       let longer : before.size ≤ d.size = (All-contains (IsLoopContext before x) ds d entered.inside there).longer in
-      let whole_is : c ++ e ≡ sampled f.sample.items = sampled_parts before.size f.sample.items in
-      let adm : IsAdmitted (c ++ e) d = subst (λ z. IsAdmitted z d) (sym whole_is) fault.admitted in
-      let l : length c ≡ before.size = sampled_start before.size f.sample.items (omega (arith, longer, fault.admitted.0, length-map f.sample.items whole)) in
-      let there_fails : IsSomewhereInside ds c (λ s. fails s f.pos.offset f.kind) = (d, there, e, adm, subst (λ z. fails (store_at z d.store) f.pos.offset f.kind) (sym whole_is) fault.failure) in
+      let adm : IsAdmitted (c ++ e) d = admitted_alike d f.sample.items (c ++ e) stand fault.admitted in
+      let l : length c ≡ before.size = sym alike.count ∙ sampled_start before.size f.sample.items (omega (arith, longer, fault.admitted.0, length-map f.sample.items whole)) in
+      let there_fails : IsSomewhereInside ds c (λ s. fails s f.pos.offset f.kind) = (d, there, e, adm, fault.failure (c ++ e) stand) in
       let a = admitted_outside c l (λ s. fails s f.pos.offset f.kind) there_fails in
       (a, from_inside (λ s. fails s f.pos.offset f.kind) (λ s t h r. move s t f.pos.offset f.kind h r) c a there_fails)

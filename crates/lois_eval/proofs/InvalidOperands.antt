@@ -1,7 +1,7 @@
 -- Operands that are unfit for an operation.
 use Rattle.std.proofs.Common.{◌≡◌, ℕ, ◌⊎◌, inl, inr, List, [], ◌∷◌, sym, subst, ◌∙◌}
+use Rattle.lois_base.specs.Atom.{Atom}
 use Rattle.lois_base.specs.Data.{TermD, terms_of}
-use Rattle.lois_base.specs.Truth.{sampled}
 use Rattle.lois_base.specs.Values.{point}
 use Rattle.lois_meaning.specs.Faults.{IsNoSet, IsInvalidOperand}
 use Rattle.lois_meaning.specs.declared.faults.Fault.{Fault}
@@ -26,20 +26,20 @@ unfit_set Complement o v kind h = absurd o
 unfit_set Minimise o v kind h = absurd o
 
 module _ (k : Context) (x : Fault) where
-  no_set : (t : TermD) (at : ℕ) → IsSetFault k t at x → IsNoSet (point t (sampled x.sample.items)) x.kind
-  no_set t at h = (h.kind, no_set_at t (sampled x.sample.items) h.no_set)
+  no_set : (t : TermD) (at : ℕ) → IsSetFault k t at x → (c : List Atom) → IsNoSet (point t c) x.kind
+  no_set t at h c = (h.kind, no_set_at t c h.no_set)
 
   pub left_unfit : (op : Operation) → IsOfTwoSets op → (e f : ExprD) (s t : TermD) (es : List ExprD) (ts : List TermD) (at : ℕ) → es ≡ e ∷ f ∷ [] → ts ≡ s ∷ t ∷ [] → at ≡ pos e → IsSetFault k s at x → IsUnfitFault k op (exprs_of es) (terms_of ts) x
   left_unfit op o e f s t es ts at operands values place h = subst (λ z. IsUnfitFault k op (exprs_of es) (terms_of z) x) (sym values) (subst (λ z. IsUnfitFault k op (exprs_of z) (terms_of (s ∷ t ∷ [])) x) (sym operands) (record {
     admitted = h.fault.admitted;
-    unfit = inl (h.fault.place ∙ place, unfit_set op o (point s (sampled x.sample.items)) x.kind (no_set s at h));
+    unfit = λ c stand. inl (h.fault.place ∙ place, unfit_set op o (point s c) x.kind (no_set s at h c));
     elements = h.fault.elements;
   }))
 
   pub right_unfit : (op : Operation) → IsOfTwoSets op → (e f : ExprD) (s t : TermD) (es : List ExprD) (ts : List TermD) (at : ℕ) → es ≡ e ∷ f ∷ [] → ts ≡ s ∷ t ∷ [] → at ≡ pos f → IsSetFault k t at x → IsUnfitFault k op (exprs_of es) (terms_of ts) x
   right_unfit op o e f s t es ts at operands values place h = subst (λ z. IsUnfitFault k op (exprs_of es) (terms_of z) x) (sym values) (subst (λ z. IsUnfitFault k op (exprs_of z) (terms_of (s ∷ t ∷ [])) x) (sym operands) (record {
     admitted = h.fault.admitted;
-    unfit = inr (inl (h.fault.place ∙ place, unfit_set op o (point t (sampled x.sample.items)) x.kind (no_set t at h)));
+    unfit = λ c stand. inr (inl (h.fault.place ∙ place, unfit_set op o (point t c) x.kind (no_set t at h c)));
     elements = h.fault.elements;
   }))
 
@@ -49,11 +49,11 @@ module _ (k : Context) (x : Fault) where
       of : IsSetFault k s at x ⊎ IsMemberFault k s at x → IsUnfitFault k Flatten (exprs_of (e ∷ [])) (terms_of (s ∷ [])) x
       of (inl h) = record {
         admitted = h.fault.admitted;
-        unfit = inl (h.fault.place ∙ place, inl (no_set s at h));
+        unfit = λ c stand. inl (h.fault.place ∙ place, inl (no_set s at h c));
         elements = h.fault.elements;
       }
       of (inr h) = record {
         admitted = h.fault.admitted;
-        unfit = let (u, m, none) = h.no_set in inl (h.fault.place ∙ place, inr (h.kind, u, m, none));
+        unfit = λ c stand. let (u, m, none) = h.no_set c stand in inl (h.fault.place ∙ place, inr (h.kind, u, m, none));
         elements = h.fault.elements;
       }

@@ -4,7 +4,7 @@ use Rattle.std.proofs.lemmas.List.{append-nil}
 use Rattle.lois_base.specs.Atom.{Atom}
 use Rattle.lois_base.specs.Data.{TermD, var as t_var, tag as t_tag, tup, coll, TermsD, no_terms, term, terms_of, comps_of}
 use Rattle.lois_base.specs.Fits.{LitFits, CubeFits, Fits, PartsFit, ItemsFit}
-use Rattle.lois_base.specs.Truth.{atom_at, sampled}
+use Rattle.lois_base.specs.Truth.{atom_at}
 use Rattle.lois_base.specs.Validity.{AdmitsLit, AdmitsCube, AdmitsTerm, AdmitsParts, AdmitsItems, PartsHaveBoundedWidths, HasBoundedWidths, ItemsHaveBoundedWidths, count_of_parts}
 use Rattle.lois_base.specs.Values.{PointValue, point, IsIn, IsSame, MemberAt}
 use Rattle.lois_base.proofs.Members.{same_refl}
@@ -31,6 +31,7 @@ use Rattle.lois_eval.specs.Operands.{IsAppliedThroughout, IsUnfitAmong, IsUnfitF
 use Rattle.lois_eval.specs.Throughout.{IsFaultOf}
 use Rattle.lois_eval.specs.Made.{bare, IsHeldBy, missing_part, IsPartFault}
 use Rattle.lois_eval.specs.WellFormed.{IsWellFormedIn, IsWellFormed}
+use Rattle.lois_eval.proofs.FaultsAt.{admitted_alike}
 use Rattle.lois_eval.proofs.Names.{held_value, held_has}
 use Rattle.lois_eval.proofs.TermKinds.{set_at, atom_term}
 use Rattle.std.proofs.lemmas.List.Elements.{All-nil, All-cons, All-weaker}
@@ -136,7 +137,7 @@ module _ (k : Context) where
   pub too_deep_fails : (e : ExprD) (t : TermD) (f : Fault) → IsTermOf k (Makes e) (IsWellFormed e) t → IsDepthFault k t (pos e) f → IsFaultOf k (Fails e) f
   too_deep_fails e t f made h = record {
     admitted = h.fault.admitted;
-    failure = inr (h.fault.place, h.kind, point t (sampled f.sample.items), made.value (sampled f.sample.items) h.fault.admitted, h.deep);
+    failure = λ c stand. inr (h.fault.place, h.kind, point t c, made.value c (admitted_alike k f.sample.items c stand h.fault.admitted), h.deep c stand);
     elements = h.fault.elements;
   }
 
@@ -164,7 +165,7 @@ module _ (k : Context) where
   pub apply_fails : (p : ℕ) (op : Operation) (es : ExprsD) (ts : List TermD) (f : Fault) → AreTermsOf k es (IsWellFormed (apply p op es)) ts → IsUnfitFault k op es (terms_of ts) f → IsFaultOf k (Breaks (apply p op es)) f
   apply_fails p op es ts f all h = record {
     admitted = h.admitted;
-    failure = inr (unfit_fails op es (terms_of ts) (store_at (sampled f.sample.items) k.store) (sampled f.sample.items) f.pos.offset f.kind (all.values (sampled f.sample.items) h.admitted) h.unfit);
+    failure = λ c stand. inr (unfit_fails op es (terms_of ts) (store_at c k.store) c f.pos.offset f.kind (all.values c (admitted_alike k f.sample.items c stand h.admitted)) (h.unfit c stand));
     elements = h.elements;
   }
 
@@ -191,6 +192,6 @@ no_part_at (tup ts) (suc i) c kind e h = inr (e, part_values ts c, refl, inr (be
 pub part_fails : (k : Context) (p : ℕ) (e : ExprD) (n : ℕ) (u : TermD) (f : Fault) → IsTermOf k (Gives e) (IsWellFormed e) u → IsPartFault k u n (pos e) f → IsFaultOf k (Breaks (part p e n)) f
 part_fails k p e n u f whole h = record {
   admitted = h.fault.admitted;
-  failure = inr (h.fault.place, point u (sampled f.sample.items), whole.value (sampled f.sample.items) h.fault.admitted, no_part_at u n (sampled f.sample.items) f.kind h.kind h.no_part);
+  failure = λ c stand. inr (h.fault.place, point u c, whole.value c (admitted_alike k f.sample.items c stand h.fault.admitted), no_part_at u n c f.kind h.kind h.no_part);
   elements = h.fault.elements;
 }

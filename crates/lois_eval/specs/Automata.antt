@@ -3,7 +3,7 @@ use Rattle.std.specs.Prelude.{◌≡◌, ℕ, Bool, not, List, length}
 use Rattle.lois_base.specs.Atom.{Atom}
 use Rattle.lois_base.specs.Data.{TermD, terms_of}
 use Rattle.lois_base.specs.Fits.{Fits, PartsFit, ConstraintFits}
-use Rattle.lois_base.specs.Truth.{holds, sampled}
+use Rattle.lois_base.specs.Truth.{holds}
 use Rattle.lois_base.specs.Validity.{AdmitsConstraint, AdmitsTerm, AdmitsParts, HasBoundedWidths, PartsHaveBoundedWidths}
 use Rattle.lois_base.specs.Values.{PointValue, point}
 use Rattle.lois_base.specs.declared.guards.Lit.{Lit}
@@ -19,6 +19,7 @@ use Rattle.lois_context.specs.declared.contexts.Context.{Context}
 use Rattle.lois_automata.specs.declared.verdicts.Verdict.{Verdict}
 use Rattle.lois_automata.specs.declared.verdicts.Verdict.TheVariants.{Holds, Fails}
 use Rattle.lois_script.specs.declared.syntax.Pos.{Pos}
+use Rattle.lois_eval.specs.Throughout.{StandFor}
 use Rattle.lois_eval.specs.Checks.{IsFaultAt, IsFaultWith}
 use Rattle.lois_eval.specs.Operands.{IsAppliedThroughout}
 use Rattle.lois_eval.specs.WellFormed.{arity}
@@ -57,10 +58,10 @@ pub record IsEmptiness (k : Context) (t : TermD) (g : List (List Lit)) : Type 0 
   pub levels : ConstraintFits k.size g
   pub operators : (o : Bool) → AdmitsContext o k → AdmitsTerm o t → AdmitsConstraint o g
 
--- the value of t fails in this way at the fault's sample
+-- the value of t fails in this way at the fault's sample, and at all atoms that stand as its numbers do
 pub record IsValueFault (k : Context) (row : PointValue → FaultKind → Type 0) (t : TermD) (at : ℕ) (f : Fault) : Type 0 where
   pub fault : IsFaultAt k at f
-  pub unfit : row (point t (sampled f.sample.items)) f.kind
+  pub unfit : (c : List Atom) → StandFor c f → row (point t c) f.kind
 
 -- the fault of a verdict that something fails, with its sample
 abbrev pub IsFailureOfVerdict : Verdict → Pos → FaultKind → Fault → Type 0

@@ -1,5 +1,6 @@
 -- The faults of values that are no sets, no atoms, or too deep.
 use Rattle.std.specs.Prelude.{◌≡◌, ℕ, List, [], take, IsTrue}
+use Rattle.lois_base.specs.Atom.{Atom}
 use Rattle.lois_base.specs.Data.{TermD, var}
 use Rattle.lois_base.specs.Truth.{holds, sampled}
 use Rattle.lois_base.specs.declared.guards.Lit.{Lit}
@@ -15,6 +16,7 @@ use Rattle.lois_meaning.specs.declared.faults.Stop.TheVariants as Stops
 use Rattle.lois_script.specs.declared.syntax.Pos.{Pos}
 use Rattle.lois_context.specs.Choices.{IsAdmitted}
 use Rattle.lois_context.specs.declared.contexts.Context.{Context}
+use Rattle.lois_eval.specs.Throughout.{StandFor}
 
 -- a fault with this place, kind and sample, and without elements
 pub record IsFaultWith (at : Pos) (of_kind : FaultKind) (under : List ℕ) (f : Fault) : Type 0 where
@@ -53,7 +55,7 @@ pub record IsAtomFault (k : Context) (t : TermD) (at : ℕ) (f : Fault) : Type 0
 pub record IsDepthFault (k : Context) (t : TermD) (at : ℕ) (f : Fault) : Type 0 where
   pub fault : IsFaultAt k at f
   pub kind : f.kind ≡ DepthLimit
-  pub deep : IsDeeper (point t (sampled f.sample.items)) depth_limit
+  pub deep : (c : List Atom) → StandFor c f → IsDeeper (point t c) depth_limit
 
 -- n numbers below n at which both constraints hold
 abbrev pub MeetsBoth : ℕ → List (List Lit) → List (List Lit) → List ℕ → Type 0

@@ -20,6 +20,7 @@ use Rattle.lois_context.specs.Choices.{IsAdmitted}
 use Rattle.lois_context.specs.Entered.{HasNoMembers, item_of}
 use Rattle.lois_terms.specs.Collections.{IsColl as IsSetTerm}
 use Rattle.lois_context.specs.declared.contexts.Context.{Context}
+use Rattle.lois_eval.specs.Throughout.{StandFor}
 use Rattle.lois_eval.specs.Checks.{IsFaultAt}
 
 -- the operations on two sets
@@ -40,10 +41,10 @@ IsUnfitAmong op (expr e es) (term t ts) c at kind =
     ((at ≡ pos e) × IsInvalidOperand op (point t c) kind) ⊎ IsUnfitAmong op es ts c at kind
 IsUnfitAmong op _ _ c at kind = ⊥
 
--- the fault of an operand at some choice that the context admits
+-- the fault of an operand at a sample that the context admits, and at all atoms that stand as its numbers do
 pub record IsUnfitFault (k : Context) (op : Operation) (es : ExprsD) (ts : TermsD) (f : Fault) : Type 0 where
   pub admitted : IsAdmitted (sampled f.sample.items) k
-  pub unfit : IsUnfitAmong op es ts (sampled f.sample.items) f.pos.offset f.kind
+  pub unfit : (c : List Atom) → StandFor c f → IsUnfitAmong op es ts c f.pos.offset f.kind
   pub elements : f.elements ≡ []
 
 -- The sets among the members of t at each choice that the context admits are all of them, and r has these.
@@ -58,8 +59,8 @@ pub record HasSetsOf (k : Context) (t r : TermD) : Type 0 where
 abbrev pub IsKeptIfSet : Context → CompD → List CompD → List CompD → Type 0
 IsKeptIfSet k l before after = (IsSetTerm (item_of l) × (after ≡ before ++ l ∷ [])) ⊎ (HasNoMembers k l × (after ≡ before))
 
--- some member of t is no set at the fault's sample, which the context admits
+-- some member of t is no set at the fault's sample, which the context admits, nor at atoms that stand as its numbers do
 pub record IsMemberFault (k : Context) (t : TermD) (at : ℕ) (f : Fault) : Type 0 where
   pub fault : IsFaultAt k at f
   pub kind : f.kind ≡ NotASet
-  pub no_set : (u : PointValue) × IsMember u (point t (sampled f.sample.items)) × (IsSet u → ⊥)
+  pub no_set : (c : List Atom) → StandFor c f → (u : PointValue) × IsMember u (point t c) × (IsSet u → ⊥)

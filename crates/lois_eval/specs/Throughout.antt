@@ -1,7 +1,8 @@
 -- What holds at each choice of atoms that a context admits, and what fails at some.
-use Rattle.std.specs.Prelude.{◌≡◌, ℕ, List, []}
+use Rattle.std.specs.Prelude.{◌≡◌, ℕ, true, List, []}
 use Rattle.lois_base.specs.Atom.{Atom}
 use Rattle.lois_base.specs.Data.{TermD}
+use Rattle.lois_base.specs.Patterns.{AreAlike}
 use Rattle.lois_base.specs.Truth.{holds, sampled}
 use Rattle.lois_base.specs.Values.{point}
 use Rattle.lois_base.specs.declared.guards.Lit.{Lit}
@@ -32,10 +33,15 @@ Failure = NamedValues → ℕ → FaultKind → Type 0
 abbrev pub FailsNowhere : Context → Failure → Type 0
 FailsNowhere k fails = (c : List Atom) → IsAdmitted c k → (at : ℕ) (kind : FaultKind) → fails (store_at c k.store) at kind → ⊥
 
--- the context admits the fault's sample, and the failure has its place and kind there; it names no elements
+-- atoms that stand to one another as the numbers of the fault's sample do
+abbrev pub StandFor : List Atom → Fault → Type 0
+StandFor c f = AreAlike true (sampled f.sample.items) c
+
+-- The context admits the fault's sample. There, and at all atoms that stand as its numbers do, the failure has its place and
+-- kind; it names no elements.
 pub record IsFaultOf (k : Context) (fails : Failure) (f : Fault) : Type 0 where
   pub admitted : IsAdmitted (sampled f.sample.items) k
-  pub failure : fails (store_at (sampled f.sample.items) k.store) f.pos.offset f.kind
+  pub failure : (c : List Atom) → StandFor c f → fails (store_at c k.store) f.pos.offset f.kind
   pub elements : f.elements ≡ []
 
 -- if it is a fault and not want of memory

@@ -184,18 +184,19 @@ module _ (one two both : Run) (k d : Context) (f : Fault)
     (leads : (s t l : NamedValues) (at : ℕ) (kind : FaultKind) (path : NamedValues) → one.ends s t l → two.fails t at kind path → both.fails s at kind path)
     (placed : (o : Bool) → IsWellFormedIn both.stands o k → IsWellFormedIn two.stands o d) (widths : ContextHasBoundedWidths k → ContextHasBoundedWidths d) where
   pub fails_later : ComesFrom one (k ∷ []) d → FailsWithin two d f → FailsWithin both k f
-  fails_later from bad =
-      let a = sampled (take d.size f.sample.items) in
-      let r = from a bad.admitted in
-      let at : IsReachedAt one k d a = subst (λ z. IsReachedAt one z d a) (sym (only_one k r.0 r.1)) r.2 in
-      moved d.size at.size at.admitted
-      (leads (store_at a k.store) (store_at a d.store) at.ends_there.printed f.pos.offset f.kind bad.path at.ends_there.run bad.failed)
-    where
-      moved : (n : ℕ) → n ≡ k.size → IsAdmitted (sampled (take n f.sample.items)) k → both.fails (store_at (sampled (take n f.sample.items)) k.store) f.pos.offset f.kind bad.path → FailsWithin both k f
-      moved n e adm failed = record {
-        admitted = subst (λ z. IsAdmitted (sampled (take z f.sample.items)) k) e adm;
-        path = bad.path;
-        failed = subst (λ z. both.fails (store_at (sampled (take z f.sample.items)) k.store) f.pos.offset f.kind bad.path) e failed;
-        named = bad.named;
-        elements = elements_from two.stands both.stands k d (length f.sample.items) f.elements placed widths bad.elements;
-      }
+  fails_later from bad = record {
+    fails_at = λ s stand.
+        let there = bad.fails_at s stand in
+        let a = take d.size s in
+        let r = from a there.admitted in
+        let at : IsReachedAt one k d a = subst (λ z. IsReachedAt one z d a) (sym (only_one k r.0 r.1)) r.2 in
+        let first : a ≡ take k.size s = ap (λ n. take n s) at.size in
+        record {
+          admitted = subst (λ z. IsAdmitted z k) first at.admitted;
+          path = there.path;
+          failed = subst (λ z. both.fails (store_at z k.store) f.pos.offset f.kind there.path) first
+              (leads (store_at a k.store) (store_at a d.store) at.ends_there.printed f.pos.offset f.kind there.path at.ends_there.run there.failed);
+          named = there.named;
+        };
+    elements = elements_from two.stands both.stands k d (length f.sample.items) f.elements placed widths bad.elements;
+  }

@@ -29,7 +29,7 @@ use Rattle.lois_simplify.proofs.Members.{contains_none}
 use Rattle.lois_eval.specs.WellFormed.{IsWellFormedIn, IsWellFormed}
 use Rattle.lois_eval.specs.Throughout.{IsValueThroughout, IsFaultOf}
 use Rattle.lois_eval.specs.Checks.{IsFaultWith}
-use Rattle.lois_eval.proofs.FaultsAt.{own_sample}
+use Rattle.lois_eval.proofs.FaultsAt.{own_sample, admitted_alike}
 use Rattle.lois_interp.specs.Elements.{SetFails}
 use Rattle.lois_interp.specs.Entered.{StandsInside, IsEntered}
 use Rattle.lois_base.specs.Tree.{tree}
@@ -89,7 +89,7 @@ no_set_fails e k at t f gives none place h =
     let adm : IsAdmitted (sampled f.sample.items) k = subst (λ z. IsAdmitted (sampled z) k) (sym h.sample) (own_sample k) in
     record {
       admitted = adm;
-      failure = inr (ap (λ z. z.offset) h.place ∙ place, point t (sampled f.sample.items), gives (sampled f.sample.items) adm, (h.kind, none));
+      failure = λ a stand. inr (ap (λ z. z.offset) h.place ∙ place, point t a, gives a (admitted_alike k f.sample.items a stand adm), (h.kind, none));
       elements = h.elements;
     }
 

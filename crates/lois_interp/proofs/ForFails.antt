@@ -1,14 +1,13 @@
 -- A loop fails as the fault says that comes from inside of it.
 use Rattle.std.proofs.Common.{◌≡◌, ℕ, zero, suc, ◌≤◌, inl, inr, ◌↔◌, Bool, true, List, [], ◌∷◌, ◌++◌, length, take, drop, Some, refl, sym, ap, ◌∙◌, subst, arith}
 use Rattle.std.specs.List.{All, Contains}
-use Rattle.std.proofs.lemmas.List.{length-map, map-append, take-append-drop, length-take}
+use Rattle.std.proofs.lemmas.List.{take-append-drop, length-take}
 use Rattle.std.proofs.Math.Seq.{take-length}
 use Rattle.std.proofs.lemmas.List.Elements.{All-contains, All-nil}
-use Rattle.lois_base.specs.Atom.{Atom, whole}
+use Rattle.lois_base.specs.Atom.{Atom}
 use Rattle.lois_base.specs.Data.{TermD, depth}
 use Rattle.lois_base.specs.Fits.{Fits}
 use Rattle.lois_base.specs.Validity.{AdmitsTerm, HasBoundedWidths}
-use Rattle.lois_base.specs.Truth.{sampled}
 use Rattle.lois_base.specs.Values.{PointValue, point, IsMember}
 use Rattle.lois_context.specs.Choices.{IsAdmitted, ContextHasBoundedWidths}
 use Rattle.lois_context.specs.Entered.{IsHeldInside, ExtendsContext}
@@ -17,12 +16,13 @@ use Rattle.lois_context.specs.LineValues.{line_values}
 use Rattle.lois_context.specs.declared.contexts.Context.{Context}
 use Rattle.lois_eval.specs.WellFormed.{IsWellFormedIn}
 use Rattle.lois_eval.specs.Throughout.{Failure, IsFaultOf}
+use Rattle.lois_eval.proofs.FaultsAt.{admitted_alike}
 use Rattle.lois_answers.specs.ResultsData.{LineD}
-use Rattle.lois_interp.specs.Failed.{AreElements, FailsWithin}
+use Rattle.lois_interp.specs.Failed.{AreElements, FailsAt, FailsWithin}
 use Rattle.lois_interp.specs.WellScoped.{StmtIsWellScoped, TurnIsWellScoped}
 use Rattle.lois_interp.proofs.Compose.{elements_from}
 use Rattle.lois_interp.specs.Run.{Run, stmt_run}
-use Rattle.lois_interp.specs.Looped.{FailsInside}
+use Rattle.lois_interp.specs.Looped.{FailsInsideAt, FailsInside}
 use Rattle.lois_meaning.specs.Expressions.{Gives, HasTruth}
 use Rattle.lois_meaning.specs.Faults.{CondFails}
 use Rattle.lois_meaning.specs.Runs.{ListFails}
@@ -40,19 +40,12 @@ take_in (suc n) zero s le = absurd (omega arith)
 take_in (suc n) (suc m) [] le = refl
 take_in (suc n) (suc m) (x ∷ s) le = ap (λ z. x ∷ z) (take_in n m s (omega arith))
 
--- the first n numbers of a sample, and those behind them up to the m-th
-pub sample_parts : (n m : ℕ) (s : List ℕ) → n ≤ m → sampled (take m s) ≡ sampled (take n s) ++ sampled (drop n (take m s))
-sample_parts n m s le =
-    ap sampled (sym (take-append-drop n (take m s)) ∙ ap (λ z. z ++ drop n (take m s)) (take_in n m s le)) ∙ map-append whole (take n s) (drop n (take m s))
+-- the first n atoms, and those behind them up to the m-th
+first_parts : (n m : ℕ) (c : List Atom) → n ≤ m → take m c ≡ take n c ++ drop n (take m c)
+first_parts n m c le = sym (take-append-drop n (take m c)) ∙ ap (λ z. z ++ drop n (take m c)) (take_in n m c le)
 
-pub length_first : (n m : ℕ) (s : List ℕ) → n ≤ m → length (sampled (take m s)) ≡ m → length (sampled (take n s)) ≡ n
-length_first n m s le e =
-    omega (arith, length-map (take m s) whole, length-map (take n s) whole, length-take m s, length-take n s)
-
-pub whole_sample : (n : ℕ) (s : List ℕ) → length (sampled s) ≡ n → take n s ≡ s
-whole_sample n s e =
-    let count : n ≡ length s = omega (arith, length-map s whole) in
-    subst (λ k. take k s ≡ s) (sym count) (take-length s)
+length_first : (n m : ℕ) (c : List Atom) → n ≤ m → length (take m c) ≡ m → length (take n c) ≡ n
+length_first n m c le e = omega (arith, length-take m c, length-take n c)
 
 -- no elements
 pub no_elements : (stands : Bool → List (List ℕ) → Type 0) (k : Context) (n : ℕ) → AreElements stands k n []
@@ -65,28 +58,29 @@ no_elements stands k n = record {
 
 -- a failure outside of every loop
 pub bare_within : (fails : Failure) (more : Run) (k : Context) (f : Fault) → ((s : NamedValues) (at : ℕ) (kind : FaultKind) → fails s at kind → more.fails s at kind []) → IsFaultOf k fails f → FailsWithin more k f
-bare_within fails more k f to h =
-    let all : take k.size f.sample.items ≡ f.sample.items = whole_sample k.size f.sample.items h.admitted.0 in
-    record {
-      admitted = subst (λ z. IsAdmitted (sampled z) k) (sym all) h.admitted;
-      path = [];
-      failed = subst (λ z. more.fails (store_at (sampled z) k.store) f.pos.offset f.kind []) (sym all) (to (store_at (sampled f.sample.items) k.store) f.pos.offset f.kind h.failure);
-      named = subst (λ z. AreSameNamed [] (line_values (sampled f.sample.items) z)) (sym h.elements) tt;
-      elements = subst (AreElements more.stands k (length f.sample.items)) (sym h.elements) (no_elements more.stands k (length f.sample.items));
-    }
+bare_within fails more k f to h = record {
+  fails_at = λ c stand.
+      let adm = admitted_alike k f.sample.items c stand h.admitted in
+      let all : take k.size c ≡ c = subst (λ n. take n c ≡ c) adm.0 (take-length c) in
+      record {
+        admitted = subst (λ z. IsAdmitted z k) (sym all) adm;
+        path = [];
+        failed = subst (λ z. more.fails (store_at z k.store) f.pos.offset f.kind []) (sym all) (to (store_at c k.store) f.pos.offset f.kind (h.failure c stand));
+        named = subst (λ z. AreSameNamed [] (line_values c z)) (sym h.elements) tt;
+      };
+  elements = subst (AreElements more.stands k (length f.sample.items)) (sym h.elements) (no_elements more.stands k (length f.sample.items));
+}
 
 module _ (e : ExprD) (x : List ℕ) (c : CondD) (body : StmtsD) (p : ℕ) (before : Context) (t : TermD) (inside : List Context)
     (gives : (a : List Atom) → IsAdmitted a before → Gives e (store_at a before.store) (point t a))
     (members : (a : List Atom) → IsAdmitted a before → (u : PointValue) → IsMember u (point t a) ↔ IsHeldInside inside x a u)
     (goes_on : All (ExtendsContext before x) inside) where
-  pub loop_fails : (d : Context) (f : Fault) → Contains inside d → before.size ≤ d.size →
-      ((o : Bool) → IsWellFormedIn (StmtIsWellScoped (for (binding p x e) c body)) o before → IsWellFormedIn (TurnIsWellScoped c body) o d) → (ContextHasBoundedWidths before → ContextHasBoundedWidths d) →
-      FailsInside x c body d f → FailsWithin (stmt_run (for (binding p x e) c body)) before f
-  loop_fails d f there le placed widths h =
-      let a = sampled (take before.size f.sample.items) in
-      let further = sampled (drop before.size (take d.size f.sample.items)) in
-      let parts : sampled (take d.size f.sample.items) ≡ a ++ further = sample_parts before.size d.size f.sample.items le in
-      let count : length a ≡ before.size = length_first before.size d.size f.sample.items le h.admitted.0 in
+  loop_fails_at : (d : Context) (f : Fault) → Contains inside d → before.size ≤ d.size → (s : List Atom) → FailsInsideAt x c body d f s → FailsAt (stmt_run (for (binding p x e) c body)) before f s
+  loop_fails_at d f there le s h =
+      let a = take before.size s in
+      let further = drop before.size (take d.size s) in
+      let parts : take d.size s ≡ a ++ further = first_parts before.size d.size s le in
+      let count : length a ≡ before.size = length_first before.size d.size s le h.admitted.0 in
       let adm_d : IsAdmitted (a ++ further) d = subst (λ z. IsAdmitted z d) parts h.admitted in
       let goes : ExtendsContext before x d = All-contains (ExtendsContext before x) inside d goes_on there in
       let adm : IsAdmitted a before = goes.outside a further count adm_d in
@@ -117,5 +111,12 @@ module _ (e : ExprD) (x : List ℕ) (c : CondD) (body : StmtsD) (p : ℕ) (befor
           )))
         ];
         named = h.path;
-        elements = elements_from (TurnIsWellScoped c body) (StmtIsWellScoped (for (binding p x e) c body)) before d (length f.sample.items) f.elements placed widths h.elements;
       }
+
+  pub loop_fails : (d : Context) (f : Fault) → Contains inside d → before.size ≤ d.size →
+      ((o : Bool) → IsWellFormedIn (StmtIsWellScoped (for (binding p x e) c body)) o before → IsWellFormedIn (TurnIsWellScoped c body) o d) → (ContextHasBoundedWidths before → ContextHasBoundedWidths d) →
+      FailsInside x c body d f → FailsWithin (stmt_run (for (binding p x e) c body)) before f
+  loop_fails d f there le placed widths inside_fails = record {
+    fails_at = λ s stand. loop_fails_at d f there le s (inside_fails.fails_at s stand);
+    elements = elements_from (TurnIsWellScoped c body) (StmtIsWellScoped (for (binding p x e) c body)) before d (length f.sample.items) f.elements placed widths inside_fails.elements;
+  }

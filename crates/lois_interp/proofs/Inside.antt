@@ -1,11 +1,12 @@
 -- The contexts inside of a loop, one after another, and what a fault names there.
 use Rattle.std.proofs.Common.{◌≡◌, ℕ, ◌-◌, ◌≤◌, inl, inr, Bool, true, false, List, [], ◌∷◌, ◌++◌, length, take, drop, Option, Some, None, IfSome, refl, sym, ap, ◌∙◌, subst, arith}
 use Rattle.std.specs.List.{All, Contains}
-use Rattle.std.proofs.lemmas.List.{map-append, length-map, length-drop, take-append-drop, length-take}
+use Rattle.std.proofs.lemmas.List.{length-map, length-drop, take-append-drop, length-take}
 use Rattle.std.proofs.lemmas.List.Elements.{Contains-append_left, Contains-append_right, Contains-append_cases, Contains-push, All-contains, All-cons, All-append, All-nil}
 use Rattle.lois_base.specs.Atom.{Atom, whole}
 use Rattle.lois_base.specs.Data.{TermD, depth}
 use Rattle.lois_base.specs.Fits.{Fits}
+use Rattle.lois_base.specs.Patterns.{AreAlike}
 use Rattle.lois_base.specs.Shift.{shift, shift_level}
 use Rattle.lois_base.specs.Truth.{sampled}
 use Rattle.lois_base.specs.Validity.{AdmitsTerm, HasBoundedWidths}
@@ -19,7 +20,7 @@ use Rattle.lois_script.specs.declared.syntax.Pos.{Pos}
 use Rattle.lois_meaning.specs.Expressions.{HasTruth}
 use Rattle.lois_meaning.specs.Faults.{CondFails}
 use Rattle.lois_meaning.specs.Runs.{BlockEnds, ListEnds}
-use Rattle.lois_meaning.specs.Store.{NamedValues, named, looked_up, AreSameNamed}
+use Rattle.lois_meaning.specs.Store.{NamedValues, named, AreSameNamed}
 use Rattle.lois_meaning.specs.declared.faults.Fault.{Fault}
 use Rattle.lois_meaning.proofs.Determined.{truth_same}
 use Rattle.lois_context.specs.Choices.{IsAdmitted, AdmitsContext, ContextHasBoundedWidths}
@@ -32,6 +33,7 @@ use Rattle.lois_context.proofs.Counts.{times_of, times_some}
 use Rattle.lois_simplify.proofs.Members.{contains_none}
 use Rattle.lois_eval.specs.WellFormed.{IsWellFormedIn}
 use Rattle.lois_eval.specs.Throughout.{IsFaultOf, IfFault}
+use Rattle.lois_eval.proofs.FaultsAt.{alike_itself}
 use Rattle.lois_interp.specs.Assigned.{ListAssigns}
 use Rattle.lois_interp.specs.Decided.{listed_context, IsTrueSide, IsDecided}
 use Rattle.lois_interp.specs.Elements.{NamesElement, StopNamesElement}
@@ -168,14 +170,8 @@ module _ (c : CondD) (body : StmtsD) where
   member_named x item d f g held brackets h so =
       let s = f.sample.items in
       let n = d.size in
-      let a = sampled (take n s) in
-      let further = sampled (drop n s) in
-      let parts : sampled s ≡ a ++ further = ap sampled (sym (take-append-drop n s)) ∙ map-append whole (take n s) (drop n s) in
-      let count : length further ≡ length s - n = length-map (drop n s) whole ∙ length-drop n s in
       let item_now = shift n (length s - n) item in
       let line : LineD = record { name = x; term = item_now } in
-      let same : IsSame (point item a) (point item_now (sampled s)) =
-      same_sym (point item_now (sampled s)) (point item a) (subst (λ z. IsSame (point item_now z) (point item a)) (sym parts) (raised_same n (length s - n) item a further h.admitted.0 count)) in
       let elements : AreElements (TurnIsWellScoped c body) d (length s) (line ∷ f.elements) = record {
         levels = All-cons (λ (l : LineD). Fits (length s) l.term) line f.elements so.levels h.elements.levels;
         brackets = All-cons (λ (l : LineD). depth l.term ≤ 64) line f.elements (subst (λ z. z ≤ 64) (sym (depth_renamed (shift_level n (length s - n)) item)) brackets) h.elements.brackets;
@@ -185,15 +181,23 @@ module _ (c : CondD) (body : StmtsD) where
             (widths_renamed (shift_level n (length s - n)) item (held_has HasBoundedWidths w.store)) (h.elements.widths w);
       } in
       record {
-        admitted = subst (λ z. IsAdmitted (sampled (take n z)) d) (sym so.sample) h.admitted;
-        member = point item a;
-        rest = h.path;
-        held = subst (λ z. looked_up x (store_at (sampled (take n z)) d.store) ≡ Some (point item a)) (sym so.sample) (held.value a);
-        failed = subst (λ z. (turn_run c body).fails (store_at (sampled (take n z)) d.store) g.pos.offset g.kind h.path) (sym so.sample)
-            (subst (λ (z : Pos). (turn_run c body).fails (store_at a d.store) z.offset g.kind h.path) (sym so.pos)
-            (subst (λ z. (turn_run c body).fails (store_at a d.store) f.pos.offset z h.path) (sym so.kind) h.failed));
-        path = subst (λ z. AreSameNamed (named x (point item a) ∷ h.path) (line_values (sampled z) g.elements)) (sym so.sample)
-            (subst (λ z. AreSameNamed (named x (point item a) ∷ h.path) (line_values (sampled s) z)) (sym so.elements) (refl, same, h.named));
+        fails_at = λ z stand.
+            let alike : AreAlike true (sampled s) z = subst (λ y. AreAlike true (sampled y) z) so.sample stand in
+            let there = h.fails_at z alike in
+            let a = take n z in
+            let further = drop n z in
+            let count : length further ≡ length s - n = length-drop n z ∙ ap (λ m. m - n) (sym alike.count ∙ length-map s whole) in
+            let same : IsSame (point item a) (point item_now z) =
+            same_sym (point item_now z) (point item a) (subst (λ y. IsSame (point item_now y) (point item a)) (take-append-drop n z) (raised_same n (length s - n) item a further there.admitted.0 count)) in
+            record {
+              admitted = there.admitted;
+              member = point item a;
+              rest = there.path;
+              held = held.value a;
+              failed = subst (λ (y : Pos). (turn_run c body).fails (store_at a d.store) y.offset g.kind there.path) (sym so.pos)
+                  (subst (λ y. (turn_run c body).fails (store_at a d.store) f.pos.offset y there.path) (sym so.kind) there.failed);
+              path = subst (λ y. AreSameNamed (named x (point item a) ∷ there.path) (line_values z y)) (sym so.elements) (refl, same, there.named);
+            };
         elements = subst (λ z. AreElements (TurnIsWellScoped c body) d (length z) g.elements) (sym so.sample)
             (subst (AreElements (TurnIsWellScoped c body) d (length s)) (sym so.elements) elements);
       }
@@ -214,8 +218,9 @@ named_stop x item c body k NoMemory NoMemory element held h so = tt
 
 pub long_enough : (run : Run) (k : Context) (f : Fault) → FailsWithin run k f → k.size ≤ length f.sample.items
 long_enough run k f h =
-    let e = h.admitted.0 in
-    omega (arith, length-map (take k.size f.sample.items) whole, length-take k.size f.sample.items)
+    let numbers = sampled f.sample.items in
+    let e : length (take k.size numbers) ≡ k.size = (h.fails_at numbers (alike_itself f.sample.items)).admitted.0 in
+    omega (arith, length-map f.sample.items whole, length-take k.size numbers)
 
 pub held_fits : (x : List ℕ) (k : Context) (t : TermD) → Holds x k.store t → Fits k.size t
 held_fits x k t h = subst (λ z. Fits k.size z) h.slot.2 (All-contains (IsSlot k.size) k.store h.slot.0 k.slots h.slot.1).0

@@ -4,15 +4,18 @@ use Rattle.std.proofs.lemmas.List.{length-map}
 use Rattle.std.proofs.lemmas.List.Elements.{Contains-append_left, Contains-append_right, Contains-push}
 use Rattle.lois_base.specs.Atom.{Atom, whole}
 use Rattle.lois_base.specs.Data.{TermD, var, tag, tup, coll}
+use Rattle.lois_base.specs.Fits.{ConstraintFits}
+use Rattle.lois_base.specs.Patterns.{AreAlike}
 use Rattle.lois_base.specs.Truth.{holds, sampled}
 use Rattle.lois_base.specs.Values.{PointValue, point, IsDeeper}
 use Rattle.lois_base.specs.declared.guards.Lit.{Lit}
+use Rattle.lois_base.proofs.Truths.{holds_ordered}
 use Rattle.lois_deciders.specs.Satisfiability.{IsCounterexample}
 use Rattle.lois_answers.specs.declared.faults.FaultKind.TheVariants.{NotASet, Assertion, DepthLimit}
 use Rattle.lois_script.specs.Scope.{unknown, again}
 use Rattle.lois_script.specs.Tree.{ExprD, CondD, «let», assign, add, assert, print}
 use Rattle.lois_script.specs.declared.syntax.Pos.{Pos}
-use Rattle.lois_eval.proofs.FaultsAt.{own_sample}
+use Rattle.lois_eval.proofs.FaultsAt.{own_sample, admitted_alike}
 use Rattle.lois_meaning.specs.Expressions.{Gives, HasTruth}
 use Rattle.lois_meaning.specs.Faults.{IsNoSet, Fails, CondFails}
 use Rattle.lois_meaning.specs.Kinds.{IsSetTerm}
@@ -105,16 +108,15 @@ module _ (at : Pos) (x : List ℕ) (e : ExprD) (k : Context) (t : TermD) (held :
   add_no_set none h =
       bare_within (λ s place kind. (place ≡ at.offset) × (old : PointValue) × (looked_up x s ≡ Some old) × IsNoSet old kind) (stmt_run (add e at.offset x)) k f (λ s place kind bad. (refl, inr (inl bad))) (record {
         admitted = subst (λ z. IsAdmitted (sampled z) k) (sym h.sample) (own_sample k);
-        failure = (ap (λ z. z.offset) h.place, point t (sampled f.sample.items), held (sampled f.sample.items), (h.kind, λ set. none (set_term t set)));
+        failure = λ a stand. (ap (λ z. z.offset) h.place, point t a, held a, (h.kind, λ set. none (set_term t set)));
         elements = h.elements;
       })
 
   pub add_too_deep : (v new : TermD) → ((a : List Atom) → IsAdmitted a k → Gives e (store_at a k.store) (point v a)) → ((a : List Atom) → IsSetWith (point new a) (point t a) (point v a)) → IsDepthFault k new at.offset f → FailsWithin (stmt_run (add e at.offset x)) k f
   add_too_deep v new gives joined h =
-      let a = sampled f.sample.items in
       bare_within (λ s place kind. (place ≡ at.offset) × (kind ≡ DepthLimit) × (old w more : PointValue) × (looked_up x s ≡ Some old) × Gives e s w × IsSetWith more old w × IsDeeper more depth_limit) (stmt_run (add e at.offset x)) k f (λ s place kind bad. (refl, inr (inr bad))) (record {
         admitted = h.fault.admitted;
-        failure = (h.fault.place, h.kind, point t a, point v a, point new a, held a, gives a h.fault.admitted, joined a, h.deep);
+        failure = λ a stand. (h.fault.place, h.kind, point t a, point v a, point new a, held a, gives a (admitted_alike k f.sample.items a stand h.fault.admitted), joined a, h.deep a stand);
         elements = h.fault.elements;
       })
 
@@ -122,12 +124,14 @@ pub assert_fails : (p : ℕ) (c : CondD) (k : Context) (f : Fault) → IsFaultOf
 assert_fails p c k f h = bare_within (CondFails c) (stmt_run (assert p c)) k f (λ s at kind bad. inl (bad, refl)) h
 
 -- the sample is a choice at which the condition is false
-pub assertion_fails : (at : Pos) (c : CondD) (k : Context) (g : List (List Lit)) (sample : List ℕ) (f : Fault) → ((a : List Atom) → IsAdmitted a k → HasTruth c (store_at a k.store) (holds a g)) → IsCounterexample k.size k.«when» g sample → IsFaultWith at Assertion sample f → FailsWithin (stmt_run (assert at.offset c)) k f
-assertion_fails at c k g sample f truth parts h =
+pub assertion_fails : (at : Pos) (c : CondD) (k : Context) (g : List (List Lit)) (sample : List ℕ) (f : Fault) → ((a : List Atom) → IsAdmitted a k → HasTruth c (store_at a k.store) (holds a g)) → ConstraintFits k.size g → IsCounterexample k.size k.«when» g sample → IsFaultWith at Assertion sample f → FailsWithin (stmt_run (assert at.offset c)) k f
+assertion_fails at c k g sample f truth fits parts h =
     let adm : IsAdmitted (sampled sample) k = (length-map sample whole ∙ parts.0.count, parts.1) in
-    let own = truth (sampled sample) adm in
     bare_within (λ s place kind. HasTruth c s false × (place ≡ at.offset) × (kind ≡ Assertion)) (stmt_run (assert at.offset c)) k f (λ s place kind bad. inr (bad.0, bad.1, bad.2, refl)) (record {
       admitted = subst (λ z. IsAdmitted (sampled z) k) (sym h.sample) adm;
-      failure = (subst (λ z. HasTruth c (store_at (sampled z) k.store) false) (sym h.sample) (subst (HasTruth c (store_at (sampled sample) k.store)) parts.2 own), ap (λ z. z.offset) h.place, h.kind);
+      failure = λ a stand.
+          let alike : AreAlike true (sampled sample) a = subst (λ z. AreAlike true (sampled z) a) h.sample stand in
+          let unmet : holds a g ≡ false = sym (holds_ordered (sampled sample) a alike g (subst (λ n. ConstraintFits n g) (sym adm.0) fits)) ∙ parts.2 in
+          (subst (HasTruth c (store_at a k.store)) unmet (truth a (admitted_alike k sample a alike adm)), ap (λ z. z.offset) h.place, h.kind);
       elements = h.elements;
     })

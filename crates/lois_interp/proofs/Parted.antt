@@ -2,7 +2,6 @@
 use Rattle.std.proofs.Common.{◌≡◌, ℕ, inl, inr, Bool, List, ◌++◌, length, take, map, Option, Some, None, IfSome, sym, ap, ◌∙◌, subst}
 use Rattle.std.specs.List.{Contains}
 use Rattle.lois_base.specs.Atom.{Atom}
-use Rattle.lois_base.specs.Truth.{sampled}
 use Rattle.lois_answers.specs.declared.faults.FaultKind.{FaultKind}
 use Rattle.lois_script.specs.Tree.{CondD, StmtsD}
 use Rattle.lois_meaning.specs.Expressions.{HasTruth}
@@ -71,16 +70,17 @@ module _ (c : CondD) (b : Bool) (k : Context) where
   pub side_fails : (one both : Run) (y : Context) (f : Fault) → IsTrueSide c b k y →
       ((s : NamedValues) (at : ℕ) (kind : FaultKind) (path : NamedValues) → HasTruth c s b → one.fails s at kind path → both.fails s at kind path) →
       ((o : Bool) → IsWellFormedIn both.stands o k → IsWellFormedIn one.stands o y) → FailsWithin one y f → FailsWithin both k f
-  side_fails one both y f side leads placed h =
-      let a = sampled (take y.size f.sample.items) in
-      let e : y.size ≡ k.size = side.like.size in
-      subst (λ n. (IsAdmitted (sampled (take n f.sample.items)) k → both.fails (store_at (sampled (take n f.sample.items)) k.store) f.pos.offset f.kind h.path → FailsWithin both k f)) (sym e)
-      (λ adm bad. record {
-        admitted = adm;
-        path = h.path;
-        failed = bad;
-        named = h.named;
-        elements = elements_from one.stands both.stands k y (length f.sample.items) f.elements placed side.widths h.elements;
-      })
-      (side.within a h.admitted)
-      (leads (store_at a k.store) f.pos.offset f.kind h.path (side.truth a h.admitted) (subst (λ z. one.fails (store_at a z) f.pos.offset f.kind h.path) side.like.store h.failed))
+  side_fails one both y f side leads placed h = record {
+    fails_at = λ s stand.
+        let there = h.fails_at s stand in
+        let a = take y.size s in
+        let first : a ≡ take k.size s = ap (λ n. take n s) side.like.size in
+        let own : one.fails (store_at a k.store) f.pos.offset f.kind there.path = subst (λ z. one.fails (store_at a z) f.pos.offset f.kind there.path) side.like.store there.failed in
+        record {
+          admitted = subst (λ z. IsAdmitted z k) first (side.within a there.admitted);
+          path = there.path;
+          failed = subst (λ z. both.fails (store_at z k.store) f.pos.offset f.kind there.path) first (leads (store_at a k.store) f.pos.offset f.kind there.path (side.truth a there.admitted) own);
+          named = there.named;
+        };
+    elements = elements_from one.stands both.stands k y (length f.sample.items) f.elements placed side.widths h.elements;
+  }

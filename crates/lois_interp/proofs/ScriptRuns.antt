@@ -1,5 +1,5 @@
 -- From the contexts in which a script ends to its results, and from a fault to its failure.
-use Rattle.std.proofs.Common.{◌≡◌, ℕ, ◌+◌, ◌≤◌, List, [], ◌∷◌, ◌++◌, length, take, map, IsTrue, refl, sym, ap, ◌∙◌, subst, arith}
+use Rattle.std.proofs.Common.{◌≡◌, ℕ, ◌+◌, ◌≤◌, true, List, [], ◌∷◌, ◌++◌, length, take, map, IsTrue, refl, sym, ap, ◌∙◌, subst, arith}
 use Rattle.std.specs.List.{All, AllPairs, AllZip, Contains}
 use Rattle.std.proofs.lemmas.List.{length-map, length-take}
 use Rattle.std.proofs.lemmas.List.Elements.{All-nil, All-cons, All-contains}
@@ -7,6 +7,7 @@ use Rattle.lois_base.specs.Atom.{Atom, whole}
 use Rattle.lois_base.specs.Data.{depth}
 use Rattle.lois_base.specs.Fits.{Fits, ConstraintFits}
 use Rattle.lois_base.specs.Normal.{IsNormal}
+use Rattle.lois_base.specs.Patterns.{AreAlike}
 use Rattle.lois_base.specs.Truth.{holds, sampled}
 use Rattle.lois_base.specs.Validity.{AdmitsConstraint, AdmitsTerm, HasBoundedWidths}
 use Rattle.lois_base.specs.Values.{point}
@@ -48,7 +49,7 @@ use Rattle.lois_interp.proofs.Compose.{one_apart}
 use Rattle.lois_context.proofs.Counts.{admits_like}
 use Rattle.lois_interp.proofs.OneCase.{zip_from, times_alike, one_admits, Picked, pick, same_held, cases_apart}
 use Rattle.lois_interp.proofs.FreeNames.{AreFree, script_free, are_parameters}
-use Rattle.lois_eval.proofs.FaultsAt.{own_sample}
+use Rattle.lois_eval.proofs.FaultsAt.{own_sample, alike_itself}
 use Rattle.lois_base.proofs.Validity.{all_that_are}
 use Rattle.lois_interp.proofs.ScriptEnds.{AreEndsOf, prints_retold}
 use Rattle.lois_interp.proofs.Opened.{opens_at, opening_admits, opening_widths, body_placed}
@@ -325,28 +326,31 @@ module _ (text : List ℕ) (s : ScriptD) (spelled : Spells text s) (scoped : IsW
   pub failure_of : (l : List StmtD) → s.body ≡ stmts_of l → (f g : Fault) → IsSplitFault f g → FailsBehind l o f → IsFailureOf s g
   failure_of l is f g split h =
       let bad = h.within in
-      let count : length (take o.size f.sample.items) ≡ o.size = sym (length-map (take o.size f.sample.items) whole) ∙ bad.admitted.0 in
-      let numbers : take o.size f.sample.items ≡ take n g.sample.items = ap (λ k. take k f.sample.items) opened.size ∙ ap (take n) (sym split.sample) in
+      let count : length (take o.size (sampled f.sample.items)) ≡ o.size = (bad.fails_at (sampled f.sample.items) (alike_itself f.sample.items)).admitted.0 in
       let levels : LinesFit (length f.sample.items) g.elements = split_all (λ l. Fits (length f.sample.items) l.term) (λ l. Fits (length f.sample.items) l.term) (λ l r is. is.levels (length f.sample.items)) f.elements g.elements split.elements bad.elements.levels in
       let body : s.body ≡ stmts_of (h.before ++ h.one ∷ h.behind) = is ∙ ap stmts_of h.whole in
-      let FailsAt : NamedValues → Type 0 = λ st. (t lines : NamedValues) × ListEnds (stmts_of h.before) st t lines × StmtFails h.one t f.pos.offset f.kind bad.path in
-      let here : FailsBehindEnds s (sampled (take n g.sample.items)) f.pos.offset f.kind bad.path = record {
-        before = h.before;
-        one = h.one;
-        behind = h.behind;
-        body = body;
-        end_always = λ c size. let e = h.end_always c (opening_admits s.parameters o opened c size) in (e.0, e.1, subst (λ st. ListEnds (stmts_of h.before) st e.0 e.1) (opens_at s.parameters o opened c) e.2);
-        fails = subst (λ k. FailsAt (opening s.parameters (sampled k))) numbers (subst FailsAt (opens_at s.parameters o opened (sampled (take o.size f.sample.items))) bad.failed);
-      } in
-      let first : FailsBehindEnds s (sampled (take n g.sample.items)) g.pos.offset g.kind bad.path =
-      subst (λ z. FailsBehindEnds s (sampled (take n g.sample.items)) z.offset g.kind bad.path) (sym split.pos)
-      (subst (λ z. FailsBehindEnds s (sampled (take n g.sample.items)) f.pos.offset z bad.path) (sym split.kind) here) in
       record {
-        enough = omega (arith, count, opened.size, length-take o.size f.sample.items, ap length split.sample);
-        path = bad.path;
-        failed = script_fails s (sampled (take n g.sample.items)) g.pos.offset g.kind bad.path first;
-        first = first;
-        named = subst (λ k. AreSameNamed bad.path (line_values (sampled k) g.elements)) (sym split.sample) (split_named (sampled f.sample.items) bad.path f.elements g.elements split.elements bad.named);
+        enough = omega (arith, count, opened.size, length-take o.size (sampled f.sample.items), length-map f.sample.items whole, ap length split.sample);
+        fails_at = λ c stand.
+            let there = bad.fails_at c (subst (λ k. AreAlike true (sampled k) c) split.sample stand) in
+            let FailsBehindThem : NamedValues → Type 0 = λ st. (t lines : NamedValues) × ListEnds (stmts_of h.before) st t lines × StmtFails h.one t f.pos.offset f.kind there.path in
+            let here : FailsBehindEnds s (take n c) f.pos.offset f.kind there.path = record {
+              before = h.before;
+              one = h.one;
+              behind = h.behind;
+              body = body;
+              end_always = λ c size. let e = h.end_always c (opening_admits s.parameters o opened c size) in (e.0, e.1, subst (λ st. ListEnds (stmts_of h.before) st e.0 e.1) (opens_at s.parameters o opened c) e.2);
+              fails = subst (λ k. FailsBehindThem (opening s.parameters (take k c))) opened.size (subst FailsBehindThem (opens_at s.parameters o opened (take o.size c)) there.failed);
+            } in
+            let first : FailsBehindEnds s (take n c) g.pos.offset g.kind there.path =
+            subst (λ z. FailsBehindEnds s (take n c) z.offset g.kind there.path) (sym split.pos)
+            (subst (λ z. FailsBehindEnds s (take n c) f.pos.offset z there.path) (sym split.kind) here) in
+            record {
+              path = there.path;
+              failed = script_fails s (take n c) g.pos.offset g.kind there.path first;
+              first = first;
+              named = split_named c there.path f.elements g.elements split.elements there.named;
+            };
         levels = subst (λ k. LinesFit (length k) g.elements) (sym split.sample) levels;
         brackets = split_all (λ l. depth l.term ≤ 64) (λ l. depth l.term ≤ 64) (λ l r is most. subst (λ k. k ≤ 64) (sym is.depth) most) f.elements g.elements split.elements bad.elements.brackets;
         operators = split_all (λ l. AdmitsTerm s.ordered l.term) (λ l. AdmitsTerm s.ordered l.term) (λ l r is. is.operators s.ordered) f.elements g.elements split.elements

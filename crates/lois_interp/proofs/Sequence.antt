@@ -5,7 +5,7 @@ use Rattle.std.proofs.lemmas.List.{append_assoc, take-map, length-map, map-appen
 use Rattle.std.proofs.lemmas.List.Elements.{Contains-append_left, Contains-append_right, Contains-push, All-contains, All-head, All-tail, All-cons, All-nil}
 use Rattle.lois_base.specs.Atom.{Atom}
 use Rattle.lois_base.specs.Data.{TermD, var, tag, tup, coll}
-use Rattle.lois_base.specs.Truth.{holds, sampled}
+use Rattle.lois_base.specs.Truth.{holds}
 use Rattle.lois_base.specs.Validity.{AdmitsConstraint, AdmitsTerm, HasBoundedWidths}
 use Rattle.lois_base.specs.Values.{point}
 use Rattle.lois_base.proofs.Members.{included_refl}
@@ -169,13 +169,17 @@ module _ (done : List StmtD) (a : StmtD) (rest : List StmtD) (k : Context) (ds :
 pub fails_whole : (block : List StmtD) (k : Context) (f : Fault) → FailsBehind block k f → FailsWithin (block_run (stmts_of block)) k f
 fails_whole block k f h =
     let bad = h.within in
-    let store = store_at (sampled (take k.size f.sample.items)) k.store in
     subst (λ z. FailsWithin (block_run (stmts_of z)) k f) (sym h.whole)
     (record {
-      admitted = bad.admitted;
-      path = bad.path;
-      failed = fails_snoc h.before h.one h.behind store bad.failed.0 bad.failed.1 f.pos.offset f.kind bad.path bad.failed.2 bad.failed.3;
-      named = bad.named;
+      fails_at = λ c stand.
+          let there = bad.fails_at c stand in
+          let store = store_at (take k.size c) k.store in
+          record {
+            admitted = there.admitted;
+            path = there.path;
+            failed = fails_snoc h.before h.one h.behind store there.failed.0 there.failed.1 f.pos.offset f.kind there.path there.failed.2 there.failed.3;
+            named = there.named;
+          };
       elements = record { levels = bad.elements.levels; brackets = bad.elements.brackets; operators = bad.elements.operators; widths = bad.elements.widths };
     })
 

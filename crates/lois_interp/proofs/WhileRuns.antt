@@ -28,7 +28,7 @@ use Rattle.lois_simplify.proofs.Members.{contains_none}
 use Rattle.lois_eval.specs.WellFormed.{names_of, IsWellFormedIn, CondIsWellFormed}
 use Rattle.lois_eval.specs.Throughout.{IsFaultOf}
 use Rattle.lois_eval.specs.Checks.{IsFaultWith}
-use Rattle.lois_eval.proofs.FaultsAt.{own_sample}
+use Rattle.lois_eval.proofs.FaultsAt.{own_sample, admitted_alike}
 use Rattle.lois_eval.specs.Checks.{IsFaultWith}
 use Rattle.lois_interp.specs.Decided.{listed_context, IsTrueSide, IsDecided}
 use Rattle.lois_interp.specs.Failed.{FailsWithin, FailsFrom}
@@ -147,10 +147,9 @@ module _ (c : CondD) (body : StmtsD) where
     pub limit_fails : (at : Pos) (y : Context) (f : Fault) → IsTrueSide c true k y → IsFaultWith at TurnLimit y.sample f → FailsWithin (leave_run at.offset c) k f
     limit_fails at y f side h =
         let adm_y : IsAdmitted (sampled f.sample.items) y = subst (λ z. IsAdmitted (sampled z) y) (sym h.sample) (own_sample y) in
-        let adm = side.within (sampled f.sample.items) adm_y in
         bare_within (λ s place kind. HasTruth c s true × (place ≡ at.offset) × (kind ≡ TurnLimit)) (leave_run at.offset c) k f (λ s place kind bad. inr (bad.0, bad.1, bad.2, refl)) (record {
-          admitted = adm;
-          failure = (side.truth (sampled f.sample.items) adm_y, ap (λ z. z.offset) h.place, h.kind);
+          admitted = side.within (sampled f.sample.items) adm_y;
+          failure = λ a stand. (side.truth a (admitted_alike y f.sample.items a stand adm_y), ap (λ z. z.offset) h.place, h.kind);
           elements = h.elements;
         })
 

@@ -3,7 +3,6 @@ use Rattle.std.specs.Prelude.{◌≡◌, ℕ, ◌≤◌, Bool, List, ◌∷◌, 
 use Rattle.std.specs.List.{All, Contains}
 use Rattle.lois_base.specs.Atom.{Atom}
 use Rattle.lois_base.specs.Data.{depth}
-use Rattle.lois_base.specs.Truth.{sampled}
 use Rattle.lois_base.specs.Validity.{AdmitsTerm, HasBoundedWidths}
 use Rattle.lois_answers.specs.ResultsData.{LineD}
 use Rattle.lois_script.specs.Tree.{StmtD}
@@ -16,7 +15,7 @@ use Rattle.lois_context.specs.Kept.{LinesFit}
 use Rattle.lois_context.specs.Slots.{store_at}
 use Rattle.lois_context.specs.LineValues.{line_values}
 use Rattle.lois_context.specs.declared.contexts.Context.{Context}
-use Rattle.lois_eval.specs.Throughout.{Failure}
+use Rattle.lois_eval.specs.Throughout.{Failure, StandFor}
 use Rattle.lois_eval.specs.WellFormed.{IsWellFormedIn}
 use Rattle.lois_interp.specs.Run.{Run, block_run_at}
 
@@ -28,13 +27,17 @@ pub record AreElements (stands : Bool → List (List ℕ) → Type 0) (k : Conte
   pub operators : (ordered : Bool) → IsWellFormedIn stands ordered k → All (λ l. AdmitsTerm ordered l.term) elements
   pub widths : ContextHasBoundedWidths k → All (λ l. HasBoundedWidths l.term) elements
 
--- The sample begins with a choice that the context admits. Under it the run fails at this place and in this way, along a path
--- that the elements name at the whole sample.
-pub record FailsWithin (run : Run) (k : Context) (f : Fault) : Type 0 where
-  pub admitted : IsAdmitted (sampled (take k.size f.sample.items)) k
+-- The atoms begin with a choice that the context admits. Under it the run fails at the fault's place and in its way, along a
+-- path that its elements name at all the atoms.
+pub record FailsAt (run : Run) (k : Context) (f : Fault) (c : List Atom) : Type 0 where
+  pub admitted : IsAdmitted (take k.size c) k
   pub path : NamedValues
-  pub failed : run.fails (store_at (sampled (take k.size f.sample.items)) k.store) f.pos.offset f.kind path
-  pub named : AreSameNamed path (line_values (sampled f.sample.items) f.elements)
+  pub failed : run.fails (store_at (take k.size c) k.store) f.pos.offset f.kind path
+  pub named : AreSameNamed path (line_values c f.elements)
+
+-- The run fails at the fault's sample, and at all atoms that stand as its numbers do.
+pub record FailsWithin (run : Run) (k : Context) (f : Fault) : Type 0 where
+  pub fails_at : (c : List Atom) → StandFor c f → FailsAt run k f c
   pub elements : AreElements run.stands k (length f.sample.items) f.elements
 
 -- The fault is of one of a block's statements, and those before it end at each choice that the context admits.

@@ -3,7 +3,6 @@ use Rattle.std.specs.Prelude.{◌≡◌, ℕ, ◌≤◌, Bool, true, List, ◌�
 use Rattle.std.specs.List.{All, Contains}
 use Rattle.lois_base.specs.Atom.{Atom}
 use Rattle.lois_base.specs.Data.{TermD, depth}
-use Rattle.lois_base.specs.Truth.{sampled}
 use Rattle.lois_base.specs.Values.{PointValue, point}
 use Rattle.lois_script.specs.Tree.{CondD, StmtsD}
 use Rattle.lois_meaning.specs.Expressions.{HasTruth}
@@ -14,6 +13,7 @@ use Rattle.lois_context.specs.Choices.{IsAdmitted, AdmitsContext, ContextHasBoun
 use Rattle.lois_context.specs.Slots.{SlotD, store_at}
 use Rattle.lois_context.specs.LineValues.{line_values}
 use Rattle.lois_context.specs.declared.contexts.Context.{Context}
+use Rattle.lois_eval.specs.Throughout.{StandFor}
 use Rattle.lois_eval.specs.WellFormed.{IsWellFormedIn}
 use Rattle.lois_interp.specs.Assigned.{ListAssigns}
 use Rattle.lois_interp.specs.Failed.{AreElements}
@@ -38,15 +38,19 @@ pub record LoopRuns (c : CondD) (body : StmtsD) (inside ends : List Context) : T
   pub operators : (ordered : Bool) → All (IsWellFormedIn (TurnIsWellScoped c body) ordered) inside → All (AdmitsContext ordered) ends
   pub widths : All ContextHasBoundedWidths inside → All ContextHasBoundedWidths ends
 
--- The fault of the condition or of the body, from the context d that stands for members which x names: the sample begins with
+-- The fault of the condition or of the body, from the context d that stands for members which x names: the atoms begin with
 -- a choice that d admits, and the elements name the member there and then the path of the body's failure.
-pub record FailsInside (x : List ℕ) (c : CondD) (body : StmtsD) (d : Context) (f : Fault) : Type 0 where
-  pub admitted : IsAdmitted (sampled (take d.size f.sample.items)) d
+pub record FailsInsideAt (x : List ℕ) (c : CondD) (body : StmtsD) (d : Context) (f : Fault) (a : List Atom) : Type 0 where
+  pub admitted : IsAdmitted (take d.size a) d
   pub member : PointValue
   pub rest : NamedValues
-  pub held : looked_up x (store_at (sampled (take d.size f.sample.items)) d.store) ≡ Some member
-  pub failed : (turn_run c body).fails (store_at (sampled (take d.size f.sample.items)) d.store) f.pos.offset f.kind rest
-  pub path : AreSameNamed (named x member ∷ rest) (line_values (sampled f.sample.items) f.elements)
+  pub held : looked_up x (store_at (take d.size a) d.store) ≡ Some member
+  pub failed : (turn_run c body).fails (store_at (take d.size a) d.store) f.pos.offset f.kind rest
+  pub path : AreSameNamed (named x member ∷ rest) (line_values a f.elements)
+
+-- So it is at the fault's sample, and at all atoms that stand as its numbers do.
+pub record FailsInside (x : List ℕ) (c : CondD) (body : StmtsD) (d : Context) (f : Fault) : Type 0 where
+  pub fails_at : (a : List Atom) → StandFor a f → FailsInsideAt x c body d f a
   pub elements : AreElements (TurnIsWellScoped c body) d (length f.sample.items) f.elements
 
 -- at each choice the name holds the term

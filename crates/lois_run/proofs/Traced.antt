@@ -1,12 +1,13 @@
 -- From a fault of a script to its trace.
-use Rattle.std.proofs.Common.{◌≡◌, ℕ, ◌^◌, ◌<◌, ◌≤◌, ◌==◌, not, List, [], ◌∷◌, length, map, take, sym, ap, ◌∙◌, subst, arith}
+use Rattle.std.proofs.Common.{◌≡◌, ℕ, ◌^◌, ◌<◌, ◌≤◌, ◌==◌, not, true, List, [], ◌∷◌, length, map, take, sym, ap, ◌∙◌, subst, arith}
 use Rattle.std.specs.List.{All, Contains}
-use Rattle.std.proofs.lemmas.List.{length-map, length-take}
+use Rattle.std.proofs.lemmas.List.{length-map, length-take, take-map}
 use Rattle.std.proofs.lemmas.List.Elements.{All-contains, All-map}
 use Rattle.std.proofs.lemmas.List.Sums.{count_by-le-length, suffix_len-le-length}
-use Rattle.lois_base.specs.Atom.{Atom}
+use Rattle.lois_base.specs.Atom.{Atom, whole}
 use Rattle.lois_base.specs.Data.{TermD, depth}
 use Rattle.lois_base.specs.Fits.{Fits}
+use Rattle.lois_base.specs.Patterns.{AreAlike}
 use Rattle.lois_base.specs.Truth.{sampled}
 use Rattle.lois_base.specs.Validity.{AdmitsTerm, HasBoundedWidths, IsStrictTerm}
 use Rattle.lois_base.specs.Values.{point}
@@ -27,11 +28,13 @@ use Rattle.lois_meaning.specs.Store.{NamedValues, AreSameNamed}
 use Rattle.lois_meaning.specs.declared.faults.Fault.{Fault}
 use Rattle.lois_context.specs.LineValues.{line_values}
 use Rattle.lois_interp.specs.Interpreted.{parameter_name, FailsBehindEnds}
-use Rattle.lois_interp.specs.Failures.{IsFailureOf}
+use Rattle.lois_eval.proofs.FaultsAt.{alike_itself}
+use Rattle.lois_interp.specs.Failures.{IsFailureAt, IsFailureOf}
 use Rattle.lois_interp.proofs.FreeNames.{are_parameters}
-use Rattle.lois_shortest_word.specs.Shortened.{IsShortenedWord}
+use Rattle.lois_shortest_word.specs.Shortened.{IsShortenedWord, IsShortenedEverywhere}
 use Rattle.lois_shortest_word.specs.Words.{values_at, AreUsedBetween}
 use Rattle.lois_shortest_word.specs.declared.words.Word.{Word}
+use Rattle.lois_ranks.specs.Ranks.{HaveNoGaps}
 use Rattle.lois_run.specs.Headline.{NamesFailure}
 use Rattle.lois_command.specs.Places.{IsPlaceOf}
 use Rattle.lois_run.proofs.PathNames.{path_free, named_free}
@@ -61,11 +64,21 @@ module _ (text : List ℕ) (s : ScriptD) (spelled : Spells text s) (scoped : IsW
   abbrev n : ℕ
   n = length s.parameters
 
-  free : All (λ l. IsFreeName l.name) f.elements
-  free = named_free (sampled f.sample.items) h.path f.elements h.named (path_free text s spelled (sampled (take n f.sample.items)) f.pos.offset f.kind h.path h.failed)
+  abbrev numbers : List Atom
+  numbers = sampled f.sample.items
 
-  -- ---- the elements with other terms, which have the same values at the numbers of the trace
-  module _ (w r : Word) (sample : w.sample ≡ f.sample.items) (letters : w.letters ≡ map (λ l. l.term) f.elements) (short : IsShortenedWord n w r) (ms : List LineD) (names : map (λ l. l.name) ms ≡ map (λ l. l.name) f.elements) (terms : map (λ l. l.term) ms ≡ r.letters) where
+  here : IsFailureAt s f numbers
+  here = h.fails_at numbers (alike_itself f.sample.items)
+
+  free : All (λ l. IsFreeName l.name) f.elements
+  free = named_free numbers here.path f.elements here.named (path_free text s spelled (take n numbers) f.pos.offset f.kind here.path here.failed)
+
+  -- ---- the elements with other terms, which have the same values at the ranks
+  module _ (w r : Word) (sample : w.sample ≡ f.sample.items) (letters : w.letters ≡ map (λ l. l.term) f.elements) (short : IsShortenedWord n w r) (everywhere : IsShortenedEverywhere n w r) (ranks : List ℕ) (alike : AreAlike true (sampled r.sample) (sampled ranks)) (no_gaps : HaveNoGaps ranks)
+      (ms : List LineD) (names : map (λ l. l.name) ms ≡ map (λ l. l.name) f.elements) (terms : map (λ l. l.term) ms ≡ r.letters) where
+    as_many : length ranks ≡ length r.sample
+    as_many = omega (arith, alike.count, length-map ranks whole, length-map r.sample whole)
+
     free_names : All (λ l. IsFreeName l.name) ms
     free_names = All-of_map IsFreeName (λ l. l.name) ms (subst (All IsFreeName) (sym names) (All-map IsFreeName (λ l. l.name) f.elements free))
 
@@ -80,11 +93,11 @@ module _ (text : List ℕ) (s : ScriptD) (spelled : Spells text s) (scoped : IsW
         All-of_map (λ k. k ≤ 64) depth r.letters
         (subst (All (λ k. k ≤ 64)) (sym short.depths) (All-map (λ k. k ≤ 64) depth w.letters (all_letters (λ t. depth t ≤ 64) h.brackets)))
 
-    element_sound : All (λ l. HasTags l.term) ms → (l : LineD) → Contains ms l → IsSoundLine s.ordered (length r.sample) l
+    element_sound : All (λ l. HasTags l.term) ms → (l : LineD) → Contains ms l → IsSoundLine s.ordered (length ranks) l
     element_sound tags l there = record {
       name = All-contains (λ l. IsFreeName l.name) ms l free_names there;
       term = record {
-        levels = All-contains (λ l. Fits (length r.sample) l.term) ms l (all_terms (Fits (length r.sample)) short.levels) there;
+        levels = subst (λ k. Fits k l.term) (sym as_many) (All-contains (λ l. Fits (length r.sample) l.term) ms l (all_terms (Fits (length r.sample)) short.levels) there);
         tags = All-contains (λ l. HasTags l.term) ms l tags there;
         widths = All-contains (λ l. HasBoundedWidths l.term) ms l (all_terms HasBoundedWidths (short.widths (all_letters HasBoundedWidths h.widths))) there;
         operators = All-contains (λ l. AdmitsTerm s.ordered l.term) ms l (all_terms (AdmitsTerm s.ordered) (short.operators s.ordered (all_letters (AdmitsTerm s.ordered) h.operators))) there;
@@ -93,18 +106,24 @@ module _ (text : List ℕ) (s : ScriptD) (spelled : Spells text s) (scoped : IsW
       };
     }
 
-    named_again : AreSameNamed h.path (line_values (sampled r.sample) ms)
+    -- atoms at which the fault is one, and the letters have the values that they have at the ranks
+    before : (c : List Atom) × AreAlike true (sampled w.sample) c × (take n c ≡ take n (sampled ranks)) × AreSame (values_at c w.letters) (values_at (sampled ranks) r.letters)
+    before = everywhere true (sampled ranks) alike
+
+    there : IsFailureAt s f before.0
+    there = h.fails_at before.0 (subst (λ k. AreAlike true (sampled k) before.0) sample before.1)
+
+    named_again : AreSameNamed there.path (line_values (sampled ranks) ms)
     named_again =
-        renamed h.path f.elements ms (sampled f.sample.items) (sampled r.sample) h.named names
-        (subst (λ ts. AreSame (values_at (sampled f.sample.items) (map (λ l. l.term) f.elements)) (values_at (sampled r.sample) ts)) (sym terms)
-        (subst (λ ts. AreSame (values_at (sampled f.sample.items) ts) (values_at (sampled r.sample) r.letters)) letters
-        (subst (λ k. AreSame (values_at (sampled k) w.letters) (values_at (sampled r.sample) r.letters)) sample short.values)))
+        renamed there.path f.elements ms before.0 (sampled ranks) there.named names
+        (subst (λ ts. AreSame (values_at before.0 (map (λ l. l.term) f.elements)) (values_at (sampled ranks) ts)) (sym terms)
+        (subst (λ ts. AreSame (values_at before.0 ts) (values_at (sampled ranks) r.letters)) letters before.3))
 
-    first_numbers : sampled (take n r.sample) ≡ sampled (take n f.sample.items)
-    first_numbers = short.first ∙ ap (λ k. sampled (take n k)) sample
+    first_numbers : sampled (take n ranks) ≡ take n before.0
+    first_numbers = sym (before.2 ∙ take-map whole n ranks)
 
-    pub traced : (place : Place) (t : Trace) → IsPlaceOf text f.pos.offset place → t.order ≡ s.ordered → t.parameters ≡ map parameter_name s.parameters → t.line ≡ place.line → t.column ≡ place.column → t.kind ≡ f.kind → t.sample ≡ r.sample → t.elements ≡ ms → All (λ l. HasTags l.term) ms → All (λ a. a < 2 ^ 64) t.sample → AreUsedBetween n (length r.sample) r.letters → NamesFailure text s t
-    traced place t at order parameters line column kind numbers elements tags small used =
+    pub traced : (place : Place) (t : Trace) → IsPlaceOf text f.pos.offset place → t.order ≡ s.ordered → t.parameters ≡ map parameter_name s.parameters → t.line ≡ place.line → t.column ≡ place.column → t.kind ≡ f.kind → t.sample ≡ ranks → t.elements ≡ ms → All (λ l. HasTags l.term) ms → All (λ a. a < 2 ^ 64) t.sample → AreUsedBetween n (length r.sample) r.letters → NamesFailure text s t
+    traced place t at order parameters line column kind sample_is elements tags small used =
         let places = place_numbers text f.pos.offset place fits at in
         record {
           sound = record {
@@ -112,26 +131,27 @@ module _ (text : List ℕ) (s : ScriptD) (spelled : Spells text s) (scoped : IsW
             line = subst IsPlaceNumber (sym line) places.0;
             column = subst IsPlaceNumber (sym column) places.1;
             numbers = small;
-            enough = omega (arith, ap length parameters, length-map s.parameters parameter_name, ap length numbers, short.count);
+            enough = omega (arith, ap length parameters, length-map s.parameters parameter_name, ap length sample_is, short.count, as_many);
             elements = subst (λ o. All (IsSoundLine o (length t.sample)) t.elements) (sym order)
-                (subst (λ k. All (IsSoundLine s.ordered (length k)) t.elements) (sym numbers)
-                (subst (All (IsSoundLine s.ordered (length r.sample))) (sym elements)
-                (all_that_are (IsSoundLine s.ordered (length r.sample)) ms (element_sound tags))));
+                (subst (λ k. All (IsSoundLine s.ordered (length k)) t.elements) (sym sample_is)
+                (subst (All (IsSoundLine s.ordered (length ranks))) (sym elements)
+                (all_that_are (IsSoundLine s.ordered (length ranks)) ms (element_sound tags))));
           };
           structure = order;
           parameters = parameters;
           at = f.pos.offset;
           place = record { line = line ∙ at.line; column = column ∙ at.column };
-          path = h.path;
-          failed = subst (λ k. ScriptFails s (sampled (take n k)) f.pos.offset t.kind h.path) (sym numbers)
-              (subst (λ c. ScriptFails s c f.pos.offset t.kind h.path) (sym first_numbers)
-              (subst (λ k. ScriptFails s (sampled (take n f.sample.items)) f.pos.offset k h.path) (sym kind) h.failed));
-          first = subst (λ k. FailsBehindEnds s (sampled (take n k)) f.pos.offset t.kind h.path) (sym numbers)
-              (subst (λ c. FailsBehindEnds s c f.pos.offset t.kind h.path) (sym first_numbers)
-              (subst (λ k. FailsBehindEnds s (sampled (take n f.sample.items)) f.pos.offset k h.path) (sym kind) h.first));
-          named = subst (λ k. AreSameNamed h.path (line_values (sampled k) t.elements)) (sym numbers)
-              (subst (λ ls. AreSameNamed h.path (line_values (sampled r.sample) ls)) (sym elements) named_again);
-          used = subst (λ k. AreUsedBetween n (length k) (map (λ l. l.term) t.elements)) (sym numbers)
-              (subst (λ ls. AreUsedBetween n (length r.sample) (map (λ l. l.term) ls)) (sym elements)
-              (subst (AreUsedBetween n (length r.sample)) (sym terms) used));
+          path = there.path;
+          failed = subst (λ k. ScriptFails s (sampled (take n k)) f.pos.offset t.kind there.path) (sym sample_is)
+              (subst (λ c. ScriptFails s c f.pos.offset t.kind there.path) (sym first_numbers)
+              (subst (λ k. ScriptFails s (take n before.0) f.pos.offset k there.path) (sym kind) there.failed));
+          first = subst (λ k. FailsBehindEnds s (sampled (take n k)) f.pos.offset t.kind there.path) (sym sample_is)
+              (subst (λ c. FailsBehindEnds s c f.pos.offset t.kind there.path) (sym first_numbers)
+              (subst (λ k. FailsBehindEnds s (take n before.0) f.pos.offset k there.path) (sym kind) there.first));
+          named = subst (λ k. AreSameNamed there.path (line_values (sampled k) t.elements)) (sym sample_is)
+              (subst (λ ls. AreSameNamed there.path (line_values (sampled ranks) ls)) (sym elements) named_again);
+          used = subst (λ k. AreUsedBetween n (length k) (map (λ l. l.term) t.elements)) (sym sample_is)
+              (subst (λ ls. AreUsedBetween n (length ranks) (map (λ l. l.term) ls)) (sym elements)
+              (subst (AreUsedBetween n (length ranks)) (sym terms) (subst (λ k. AreUsedBetween n k r.letters) (sym as_many) used)));
+          ranked = subst HaveNoGaps (sym sample_is) no_gaps;
         }

@@ -22,6 +22,7 @@ use lois_equality::EqualityAtoms;
 use lois_interp::{interpret, parameter_names};
 use lois_meaning::{Fault, Stop};
 use lois_order::OrderAtoms;
+use lois_ranks::rank_sample;
 use lois_scope::Scoped;
 use lois_shortest_word::{Word, drop_unused_numbers};
 use std::alloc::Global;
@@ -57,7 +58,7 @@ fn interpreted(alloc: Global, script: &Scoped, chosen: &mut Chosen) -> Result<Re
     }
 }
 
-// Where a fault is in the text, and the rest of it, without numbers that no element uses.
+// Where a fault is in the text, and the rest of it, with ranks for its numbers and without those that no element uses.
 fn trace(alloc: Global, text: &[u8], script: &Scoped, fault: Fault) -> Result<Trace, NoMemory>
     requires fits { length text.now ≤ LONGEST_TEXT }
     requires spelled { Spells text.now (script_tree script.now) }
@@ -72,6 +73,8 @@ fn trace(alloc: Global, text: &[u8], script: &Scoped, fault: Fault) -> Result<Tr
     };
     let short = drop_unused_numbers(alloc, word, script.parameters.len())?;
     let Word { sample, letters } = short;
+    // by order without an order of atoms too: a fault is one at all atoms that stand in the same order
+    let sample = rank_sample::<OrderAtoms>(alloc, sample.as_slice())?;
     let elements = with_terms(alloc, &fault.elements, &letters)?;
     let numbers = sample.as_slice();
     numbers_are_small(numbers);

@@ -7,6 +7,7 @@ pub mod Advances
 pub mod Ways
 pub mod Ends
 pub mod Lowered
+pub mod PutBack
 pub mod RenamedStrict
 pub mod Shorter
 pub mod Each

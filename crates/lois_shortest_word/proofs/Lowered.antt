@@ -5,12 +5,12 @@ use Rattle.std.proofs.lemmas.Bool.Decides.{nat_tests}
 use Rattle.std.proofs.lemmas.List.{get_or-map, length-map}
 use Rattle.std.specs.Bool.{IsTrue}
 use Rattle.std.specs.List.{Any, remove}
-use Rattle.lois_base.specs.Atom.{equal, whole}
+use Rattle.lois_base.specs.Atom.{Atom, equal}
 use Rattle.lois_base.specs.Data.{TermD, var, tag, tup, coll, TermsD, no_terms, term, CompD, comp, CompsD, no_comps, more}
 use Rattle.lois_base.specs.Fits.{Fits}
 use Rattle.lois_base.specs.Normal.{LitUses, GuardUses, Occurs, OccursInPart, OccursInComp, OccursInItem}
 use Rattle.lois_base.specs.Rename.{rename, rename_parts, rename_comp, rename_items, rename_lit, rename_cube, rename_constraint}
-use Rattle.lois_base.specs.Truth.{atom_at, sampled}
+use Rattle.lois_base.specs.Truth.{atom_at}
 use Rattle.lois_base.specs.Values.{point, IsSame}
 use Rattle.lois_base.specs.declared.guards.Lit.{Lit}
 use Rattle.lois_base.proofs.Order.{equal_refl}
@@ -34,26 +34,26 @@ lowered_suc gone i = go (cases_order i gone)
         let e : suc i - 1 ≡ suc (i - 1) = omega arith in
         lowered_above (suc gone) (suc i) (omega arith) ∙ (e ∙ ap suc (sym (lowered_above gone i l)))
 
--- ---- the numbers that are left
-pub length_removed : (s : List ℕ) (gone : ℕ) → gone < length s → suc (length (remove s gone)) ≡ length s
+-- ---- what is left
+pub length_removed : {X : Type 0} (s : List X) (gone : ℕ) → gone < length s → suc (length (remove s gone)) ≡ length s
 length_removed [] gone l = absurd (omega arith)
 length_removed (x ∷ s) zero l = refl
 length_removed (x ∷ s) (suc gone) l = ap suc (length_removed s gone (omega arith))
 
-atom_left : (s : List ℕ) (gone i : ℕ) → (i ≡ gone → ⊥) → i < length s → atom_at (sampled s) i ≡ atom_at (sampled (remove s gone)) (lowered gone i)
+atom_left : (s : List Atom) (gone i : ℕ) → (i ≡ gone → ⊥) → i < length s → atom_at s i ≡ atom_at (remove s gone) (lowered gone i)
 atom_left [] gone i other l = absurd (omega arith)
 atom_left (x ∷ s) zero zero other l = absurd (other refl)
 atom_left (x ∷ s) zero (suc i) other l =
     let e : lowered 0 (suc i) ≡ i = lowered_above 0 (suc i) (omega arith) ∙ omega arith in
-    ap (λ z. atom_at (sampled s) z) (sym e)
+    ap (λ z. atom_at s z) (sym e)
 atom_left (x ∷ s) (suc gone) zero other l =
-    ap (λ z. atom_at (sampled (x ∷ remove s gone)) z) (sym (lowered_below (suc gone) 0 (omega arith)))
+    ap (λ z. atom_at (x ∷ remove s gone) z) (sym (lowered_below (suc gone) 0 (omega arith)))
 atom_left (x ∷ s) (suc gone) (suc i) other l =
     atom_left s gone i (λ e. other (ap suc e)) (omega arith) ∙
-    ap (λ z. atom_at (sampled (x ∷ remove s gone)) z) (sym (lowered_suc gone i))
+    ap (λ z. atom_at (x ∷ remove s gone) z) (sym (lowered_suc gone i))
 
 -- ---- a term in which the level doesn't stand
-module _ (s : List ℕ) (gone : ℕ) (below : gone < length s) (t : TermD) (unused : Occurs gone t → ⊥) where
+module _ (gone : ℕ) (t : TermD) (unused : Occurs gone t → ⊥) where
   lowered_within : (n i : ℕ) → gone < n → Occurs i t → i < n → suc (lowered gone i) ≤ n - 1
   lowered_within n i l o b = go (cases_order i gone)
     where
@@ -62,25 +62,20 @@ module _ (s : List ℕ) (gone : ℕ) (below : gone < length s) (t : TermD) (unus
       go (inr (inl k)) = omega (arith, lowered_below gone i (omega arith))
       go (inr (inr k)) = omega (arith, lowered_above gone i k)
 
-  renames : Renames (lowered gone) (λ i. Occurs i t) (sampled s) (sampled (remove s gone))
-  renames =
-      let before = length_map_whole s in
-      let after = length_map_whole (remove s gone) in
+  renames : (s : List Atom) → gone < length s → Renames (lowered gone) (λ i. Occurs i t) s (remove s gone)
+  renames s below =
       let one = length_removed s gone below in
       record {
-        within = λ i o l. omega (arith, lowered_within (length s) i below o (omega (arith, before)), before, after, one);
-        atoms = λ i o l. subst (λ z. IsTrue (equal (atom_at (sampled s) i) z)) (atom_left s gone i (λ e. unused (subst (λ z. Occurs z t) e o)) (omega (arith, before))) (equal_refl (atom_at (sampled s) i));
-        after = λ j. lowered_above gone (length (sampled s) + j) (omega (arith, before)) ∙ omega (arith, before, after, one);
+        within = λ i o l. omega (arith, lowered_within (length s) i below o l, one);
+        atoms = λ i o l. subst (λ z. IsTrue (equal (atom_at s i) z)) (atom_left s gone i (λ e. unused (subst (λ z. Occurs z t) e o)) l) (equal_refl (atom_at s i));
+        after = λ j. lowered_above gone (length s + j) (omega arith) ∙ omega (arith, one);
       }
-    where
-      length_map_whole : (xs : List ℕ) → length (sampled xs) ≡ length xs
-      length_map_whole xs = length-map xs whole
 
-  pub same_lowered : IsSame (point t (sampled s)) (point (rename (lowered gone) t) (sampled (remove s gone)))
-  same_lowered = same_renamed (lowered gone) t (sampled s) (sampled (remove s gone)) renames
+  pub same_lowered : (s : List Atom) → gone < length s → IsSame (point t s) (point (rename (lowered gone) t) (remove s gone))
+  same_lowered s below = same_renamed (lowered gone) t s (remove s gone) (renames s below)
 
-  pub fits_lowered : Fits (length s) t → Fits (length (remove s gone)) (rename (lowered gone) t)
-  fits_lowered h =
+  pub fits_lowered : (s : List ℕ) → gone < length s → Fits (length s) t → Fits (length (remove s gone)) (rename (lowered gone) t)
+  fits_lowered s below h =
       let one = length_removed s gone below in
       fits_renamed (lowered gone) t (length s) (length (remove s gone)) (omega (arith, one))
       (record {

@@ -1,8 +1,10 @@
 -- Words whose numbers are those of the levels that letters use.
-use Rattle.std.specs.Prelude.{◌≡◌, ℕ, ◌-◌, ◌≤◌, Bool, length, map, nat_lt, if◌then◌else◌}
+use Rattle.std.specs.Prelude.{◌≡◌, ℕ, ◌-◌, ◌≤◌, Bool, List, length, map, take, nat_lt, if◌then◌else◌}
 use Rattle.std.specs.List.{All, remove}
+use Rattle.lois_base.specs.Atom.{Atom}
 use Rattle.lois_base.specs.Data.{depth}
 use Rattle.lois_base.specs.Fits.{Fits}
+use Rattle.lois_base.specs.Patterns.{AreAlike}
 use Rattle.lois_base.specs.Rename.{rename}
 use Rattle.lois_base.specs.Truth.{sampled}
 use Rattle.lois_base.specs.Validity.{AdmitsTerm, HasBoundedWidths, IsStrictTerm}
@@ -29,3 +31,9 @@ pub record IsShortenedWord (n : ℕ) (w r : Word) : Type 0 where
   pub operators : (o : Bool) → All (AdmitsTerm o) w.letters → All (AdmitsTerm o) r.letters
   pub widths : All HasBoundedWidths w.letters → All HasBoundedWidths r.letters
   pub strict : All IsStrictTerm w.letters → All IsStrictTerm r.letters
+
+-- At all atoms that stand as the numbers of r do its letters are the same values as those of w at some that stand as the numbers
+-- of w do, and the first n atoms are the same.
+abbrev pub IsShortenedEverywhere : ℕ → Word → Word → Type 0
+IsShortenedEverywhere n w r = (o : Bool) (d : List Atom) → AreAlike o (sampled r.sample) d →
+    (c : List Atom) × AreAlike o (sampled w.sample) c × (take n c ≡ take n d) × AreSame (values_at c w.letters) (values_at d r.letters)

@@ -5,7 +5,7 @@ ghost use Rattle.std.specs.List.{All};
 ghost use Rattle.lois_base.specs.Data.{terms_of};
 ghost use Rattle.lois_base.specs.Fits.{Fits};
 ghost use Rattle.lois_base.specs.Normal.{OccursInPart};
-ghost use Rattle.lois_shortest_word.specs.Shortened.{IsWithoutLevel, IsShortenedWord};
+ghost use Rattle.lois_shortest_word.specs.Shortened.{IsWithoutLevel, IsShortenedWord, IsShortenedEverywhere};
 ghost use Rattle.lois_shortest_word.specs.Words.{AreUsedBetween};
 
 use crate::lowering::lowered_terms;
@@ -20,6 +20,7 @@ pub fn drop_unused_numbers(alloc: Global, word: Word, size: usize) -> Result<Wor
     requires count { size ≤ length word.sample }
     requires levels { All (Fits (length word.sample)) word.letters }
     ensures shortened { IfOk result (IsShortenedWord size word) }
+    ensures everywhere { IfOk result (IsShortenedEverywhere size word) }
     ensures used { IfOk result (λ r. AreUsedBetween size (length r.sample) r.letters) }
 {
     let mut left = word.sample.len();

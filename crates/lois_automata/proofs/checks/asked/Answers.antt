@@ -9,7 +9,7 @@ returns-in-Some-clause-verdict g c =
     let u = c.args.under.now in
     let w = c.args.wanted.now in
     let s = c.in-Some.sample in
-    parted_breaks n u w s.items (some_is (λ x. IsCounterexample n u w x.items) c.in_ok-sample.field-0 s c.in-Some.is c.in_ok-sample.ensures.sample)
+    parted_breaks n u w s.items c.requires.under c.requires.wanted (some_is (λ x. IsCounterexample n u w x.items) c.in_ok-sample.field-0 s c.in-Some.is c.in_ok-sample.ensures.sample)
 
 pub returns-in-None-clause-verdict : goal.returns-in-None-clause-verdict
 returns-in-None-clause-verdict g c = c.in_ok-sample.ensures.none.0 (none_is c.in_ok-sample.field-0 c.in-None.is)

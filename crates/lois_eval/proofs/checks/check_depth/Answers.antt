@@ -1,12 +1,11 @@
-use Rattle.std.proofs.Common.{sym, ap, subst}
+use Rattle.std.proofs.Common.{true, sym, ap, subst, ◌∙◌}
 use Rattle.std.specs.Prelude.{IfSome, is_some}
+use Rattle.lois_base.specs.Patterns.{AreAlike}
 use Rattle.lois_base.specs.Tree.{tree}
 use Rattle.lois_base.specs.Truth.{sampled}
-use Rattle.lois_base.specs.Values.{point, IsDeeper}
-use Rattle.lois_meaning.specs.Store.{depth_limit}
 use Rattle.lois_answers.specs.declared.faults.FaultKind.TheVariants.{DepthLimit}
 use Rattle.lois_eval.specs.Checks.{IsFaultWith, IsDepthFault, MeetsBoth}
-use Rattle.lois_eval.proofs.FaultsAt.{if_fault, fault_at, met_admitted}
+use Rattle.lois_eval.proofs.FaultsAt.{if_fault, fault_at, met_admitted, met_alike}
 use Rattle.lois_eval.proofs.checks.check_depth.Goals as goal
 
 pub returns-in-Some-clause-fault : goal.returns-in-Some-clause-fault
@@ -18,7 +17,9 @@ returns-in-Some-clause-fault g c =
     if_fault c.fault.result (IsFaultWith c.args.pos DepthLimit s) (IsDepthFault k (tree c.args.term.now) c.args.pos.offset) (λ f h. record {
       fault = fault_at k c.args.pos DepthLimit s both.0 f h;
       kind = h.kind;
-      deep = subst (λ z. IsDeeper (point (tree c.args.term.now) (sampled z)) depth_limit) (sym h.sample) ((c.in_ok-deep.ensures.truth (sampled s) both.0.0).0 both.1);
+      deep = λ d stand.
+          let alike = subst (λ z. AreAlike true (sampled z) d) h.sample stand in
+          (c.in_ok-deep.ensures.truth d (sym alike.count ∙ both.0.0)).0 (met_alike k c.in_ok-deep.deep s d c.in_ok-deep.ensures.levels meets alike);
     }) c.fault.ensures
 
 pub returns-clause-shallow : goal.returns-clause-shallow

@@ -1,4 +1,4 @@
-use Rattle.std.proofs.Common.{◌≡◌, ◌+◌, ◌<◌, ◌≤◌, ◌^◌, ◌∷◌, ◌++◌, [], Bool, List, length, take, map, not as opposite, if◌then◌else◌, Some, refl, sym, ap, subst, ◌∙◌, arith}
+use Rattle.std.proofs.Common.{◌≡◌, ◌+◌, ◌<◌, ◌≤◌, ◌^◌, ◌∷◌, ◌++◌, [], inl, inr, Bool, List, length, take, map, not as opposite, if◌then◌else◌, Some, refl, sym, ap, subst, ◌∙◌, arith}
 use Rattle.std.proofs.lemmas.List.{take_more}
 use Rattle.std.proofs.lemmas.Result.{IfOk-weaker, IfErr-weaker}
 use Rattle.std.specs.Prelude.{IfSome}
@@ -11,6 +11,7 @@ use Rattle.lois_base.specs.Validity.{AdmitsConstraint}
 use Rattle.lois_algebra.specs.Parts.{part_of}
 use Rattle.lois_meaning.specs.Expressions.{Makes, Gives, HasTruth}
 use Rattle.lois_meaning.specs.Faults.{Fails, Breaks, SomeFails, CondFails, IsNoAutomaton}
+use Rattle.lois_meaning.specs.declared.faults.Fault.{Fault}
 use Rattle.lois_meaning.proofs.Determined.{makes_same, truth_same}
 use Rattle.lois_context.specs.Choices.{IsAdmittedBy, AdmitsContext}
 use Rattle.lois_context.specs.Entered.{AreEntered}
@@ -31,12 +32,12 @@ use Rattle.lois_eval.specs.Made.{IsPartFault}
 use Rattle.lois_eval.specs.Sides.{sides_listed}
 use Rattle.lois_eval.specs.WellFormed.{IsWellFormedIn, IsWellFormed, AreWellFormed, CondIsWellFormed}
 use Rattle.lois_eval.specs.Throughout.{IfFault, IsFaultOf}
-use Rattle.lois_eval.proofs.Bindings.{first_weight, first_new, first_no_set, first_inside, first_loop, first_within, first_fails, last_none, last_item_placed, last_one, last_within, last_item_fails, bound_new, bound_no_set, bound_inside, bound_loop, bound_fails}
-use Rattle.lois_eval.proofs.Comparing.{sides_from}
+use Rattle.lois_eval.proofs.Bindings.{first_weight, first_new, first_no_set, first_set_fails, first_inside, first_loop, first_within, first_fails, last_none, last_item_placed, last_one, last_within, last_item_fails, bound_new, bound_no_set, bound_inside, bound_loop, bound_fails}
+use Rattle.lois_eval.proofs.Comparing.{sides_from, sides_fail}
 use Rattle.lois_eval.proofs.Conditions.{joint_none, joint_more, not_decided}
 use Rattle.lois_eval.proofs.Emptiness.{empty_decided, empty_fails}
 use Rattle.lois_eval.proofs.Evaluations.{placed_as, terms_none, terms_more, some_fails, joint_fails, joint_placed}
-use Rattle.lois_eval.proofs.FaultsAt.{if_fault}
+use Rattle.lois_eval.proofs.FaultsAt.{if_fault, fault_weaker}
 use Rattle.lois_eval.proofs.Gathering.{gathered_more, found_more}
 use Rattle.lois_eval.proofs.LoopExit.{handed_fault, handed_same, handed_ok, item_there, passed_on}
 use Rattle.lois_eval.proofs.Nodes.{part_made, part_fails, made_as, breaks_as, too_deep_fails}
@@ -526,3 +527,87 @@ quantified-returns-clause-fault g t c =
     let entered = subst (AreEntered k b.name t) (sym c.deref.ensures.value) c.in_ok-inner.ensures.entered in
     let own = c.in_ok-elements.ensures.term in
     handed_fault c.leave_loop_with_constraint.result c.found_inside.result k.size (IsFaultInside ds (CondFails (cond_tree body))) (IsFaultOf k (CondFails (quantifier some (binding_tree b) (cond_tree body)))) c.leave_loop_with_constraint.ensures.fault c.found_inside.ensures.fault (λ f h there cut. bound_fails k some b body t own ds set entered f h there cut)
+
+pub both_evaluated-returns-in_err-right-clause-fault :
+    goal.both_evaluated-returns-in_err-right-clause-fault
+both_evaluated-returns-in_err-right-clause-fault g t c =
+    let k = c.args.context.now in
+    let e = tree c.args.e.now in
+    let f = tree c.args.f.now in
+    passed_on c.from_residual-in_err-right.result c.in_err-right.field-0.0 (IsFaultOf k (Fails f)) (IsFaultOf k (SomeFails (two e f))) c.from_residual-in_err-right.ensures.1
+    (λ x h. fault_weaker k (Fails f) (SomeFails (two e f)) x (λ s at kind bad. inr (inl bad)) h) c.in_err-right.ensures.fault
+
+pub decided-returns-in_err-values-in-Same-clause-fault :
+    goal.decided-returns-in_err-values-in-Same-clause-fault
+decided-returns-in_err-values-in-Same-clause-fault g t c =
+    let k = c.args.context.now in
+    let e = c.in-Same.e in
+    let f = c.in-Same.f in
+    passed_on c.from_residual-in_err-values-in-Same.result c.in_err-values-in-Same.field-0.0 (IsFaultOf k (SomeFails (two (tree e) (tree f)))) (IsFaultOf k (CondFails (cond_tree c.args.c.now))) c.from_residual-in_err-values-in-Same.ensures.1
+    (λ x h. sides_fail k (cond_tree c.args.c.now) (same (tree e) (tree f)) (tree e) (tree f) x (ap cond_tree c.in-Same.is ∙ cond_Same e f) (λ s at kind bad. bad) h) c.in_err-values-in-Same.ensures.fault
+
+pub decided-returns-in_err-values-in-Differ-clause-fault :
+    goal.decided-returns-in_err-values-in-Differ-clause-fault
+decided-returns-in_err-values-in-Differ-clause-fault g t c =
+    let k = c.args.context.now in
+    let e = c.in-Differ.e in
+    let f = c.in-Differ.f in
+    passed_on c.from_residual-in_err-values-in-Differ.result c.in_err-values-in-Differ.field-0.0 (IsFaultOf k (SomeFails (two (tree e) (tree f)))) (IsFaultOf k (CondFails (cond_tree c.args.c.now))) c.from_residual-in_err-values-in-Differ.ensures.1
+    (λ x h. sides_fail k (cond_tree c.args.c.now) (differ (tree e) (tree f)) (tree e) (tree f) x (ap cond_tree c.in-Differ.is ∙ cond_Differ e f) (λ s at kind bad. bad) h) c.in_err-values-in-Differ.ensures.fault
+
+pub decided-returns-in_err-values-in-Below-clause-fault :
+    goal.decided-returns-in_err-values-in-Below-clause-fault
+decided-returns-in_err-values-in-Below-clause-fault g t c =
+    let k = c.args.context.now in
+    let e = c.in-Below.e in
+    let f = c.in-Below.f in
+    passed_on c.from_residual-in_err-values-in-Below.result c.in_err-values-in-Below.field-0.0 (IsFaultOf k (SomeFails (two (tree e) (tree f)))) (IsFaultOf k (CondFails (cond_tree c.args.c.now))) c.from_residual-in_err-values-in-Below.ensures.1
+    (λ x h. sides_fail k (cond_tree c.args.c.now) (below c.in-Below.field-0.offset (tree e) (tree f)) (tree e) (tree f) x (ap cond_tree c.in-Below.is ∙ cond_Below c.in-Below.field-0 e f) (λ s at kind bad. elim bad [ inl a ↦ inl a | inr b ↦ inr (inl b) ]) h) c.in_err-values-in-Below.ensures.fault
+
+pub decided-returns-in_err-values-in-Member-clause-fault :
+    goal.decided-returns-in_err-values-in-Member-clause-fault
+decided-returns-in_err-values-in-Member-clause-fault g t c =
+    let k = c.args.context.now in
+    let e = c.in-Member.e in
+    let f = c.in-Member.f in
+    passed_on c.from_residual-in_err-values-in-Member.result c.in_err-values-in-Member.field-0.0 (IsFaultOf k (SomeFails (two (tree e) (tree f)))) (IsFaultOf k (CondFails (cond_tree c.args.c.now))) c.from_residual-in_err-values-in-Member.ensures.1
+    (λ x h. sides_fail k (cond_tree c.args.c.now) (member (tree e) (tree f)) (tree e) (tree f) x (ap cond_tree c.in-Member.is ∙ cond_Member e f) (λ s at kind bad. elim bad [ inl a ↦ inl a | inr b ↦ inr (inl b) ]) h) c.in_err-values-in-Member.ensures.fault
+
+pub decided-returns-in_err-values-in-Included-clause-fault :
+    goal.decided-returns-in_err-values-in-Included-clause-fault
+decided-returns-in_err-values-in-Included-clause-fault g t c =
+    let k = c.args.context.now in
+    let e = c.in-Included.e in
+    let f = c.in-Included.f in
+    passed_on c.from_residual-in_err-values-in-Included.result c.in_err-values-in-Included.field-0.0 (IsFaultOf k (SomeFails (two (tree e) (tree f)))) (IsFaultOf k (CondFails (cond_tree c.args.c.now))) c.from_residual-in_err-values-in-Included.ensures.1
+    (λ x h. sides_fail k (cond_tree c.args.c.now) (included (tree e) (tree f)) (tree e) (tree f) x (ap cond_tree c.in-Included.is ∙ cond_Included e f) (λ s at kind bad. elim bad [ inl a ↦ inl a | inr b ↦ inr (inl b) ]) h) c.in_err-values-in-Included.ensures.fault
+
+pub gathered-returns-in_err-elements-clause-fault :
+    goal.gathered-returns-in_err-elements-clause-fault
+gathered-returns-in_err-elements-clause-fault g t c =
+    let k = c.args.context.now in
+    let item = c.args.item.now in
+    let bs = c.args.bindings.now in
+    let i = c.args.from in
+    let cond = c.args.condition.now in
+    let b = c.index-bindings-from.result in
+    let l : i < length bs = omega arith in
+    let is = c.index-bindings-from.is in
+    passed_on c.from_residual.result c.in_err-elements.field-0.0 (IsFaultOf k (Fails (tree b.from))) (IsFaultOf k (Breaks (each_from item bs i cond))) c.from_residual.ensures.1 (λ f h. first_set_fails k item bs i b cond l is f h) c.in_err-elements.ensures.fault
+
+pub made-returns-in_err-gathered-in-Each-clause-fault :
+    goal.made-returns-in_err-gathered-in-Each-clause-fault
+made-returns-in_err-gathered-in-Each-clause-fault g t c =
+    let k = c.args.context.now in
+    let p = c.in-Each.field-0 in
+    let item = c.in-Each.item in
+    let bindings = c.in-Each.bindings in
+    let cond = c.in-Each.condition in
+    let is = ap tree c.in-Each.is ∙ tree_Each p item bindings cond in
+    let bs = c.as_slice.result.now in
+    let Bad : Expr → Cond → Fault → Type 0 = λ e d. IsFaultOf k (Breaks (each_from e bs 0 d)) in
+    passed_on c.from_residual-in_err-gathered-in-Each.result c.in_err-gathered-in-Each.field-0.0 (Bad c.deref.result.now c.deref-in-Each.result.now) (IsFaultOf k (Breaks (tree c.args.e.now))) c.from_residual-in_err-gathered-in-Each.ensures.1 (λ f h.
+    let here = subst (λ e. Bad e cond.value f) c.deref.ensures (subst (λ d. Bad c.deref.result.now d f) c.deref-in-Each.ensures h) in
+    let own = fault_weaker k (Breaks (each_from item.value bs 0 cond.value)) (Breaks (each p.offset (tree item.value) (bindings_of (map binding_tree bs)) (cond_tree cond.value))) f (λ s at kind bad. bad) here in
+    breaks_as k (tree c.args.e.now) (each p.offset (tree item.value) (bindings_of (bindings_list bindings)) (cond_tree cond.value)) f is
+    (subst (λ z. IsFaultOf k (Breaks (each p.offset (tree item.value) (bindings_of z) (cond_tree cond.value))) f) c.as_slice.ensures.items own)) c.in_err-gathered-in-Each.ensures.fault

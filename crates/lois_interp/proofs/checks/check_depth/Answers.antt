@@ -1,6 +1,7 @@
-use Rattle.std.proofs.Common.{◌∙◌, sym, ap, subst}
+use Rattle.std.proofs.Common.{◌∙◌, true, sym, ap, subst}
 use Rattle.std.specs.Prelude.{IfSome, is_some}
 use Rattle.lois_base.specs.Fits.{Fits}
+use Rattle.lois_base.specs.Patterns.{AreAlike}
 use Rattle.lois_base.specs.Tree.{tree}
 use Rattle.lois_base.specs.Validity.{AdmitsTerm}
 use Rattle.lois_base.specs.Truth.{sampled}
@@ -10,7 +11,7 @@ use Rattle.lois_deciders.specs.Conjunction.{IsSampledConjunction}
 use Rattle.lois_meaning.specs.Store.{depth_limit}
 use Rattle.lois_context.specs.Choices.{IsAdmitted}
 use Rattle.lois_eval.specs.Checks.{IsFaultWith, IsDepthFault}
-use Rattle.lois_eval.proofs.FaultsAt.{if_fault, fault_at, met_admitted, meets_both}
+use Rattle.lois_eval.proofs.FaultsAt.{if_fault, fault_at, met_admitted, meets_both, met_alike}
 use Rattle.lois_interp.proofs.checks.check_depth.Goals as goal
 
 pub too_deep-requires-clause-levels : goal.too_deep-requires-clause-levels
@@ -27,12 +28,16 @@ returns-in-Some-clause-fault g c =
     let met = c.in-Some.met in
     let deep = c.in_ok-deep.deep in
     let own = subst (λ o. IfSome o (λ m. IsSampledConjunction k.size k.«when» deep m.constraint m.sample)) c.in-Some.is c.in_ok-met.ensures.met in
-    let both = met_admitted k deep met.sample (meets_both k.size k.«when» deep met.constraint met.sample own) in
+    let meets = meets_both k.size k.«when» deep met.constraint met.sample own in
+    let both = met_admitted k deep met.sample meets in
     let same = c.into_vec.ensures in
     if_fault c.fault.result (IsFaultWith c.args.pos DepthLimit c.into_vec.result.items) (IsDepthFault k (tree c.args.term.now) c.args.pos.offset) (λ f h. record {
       fault = fault_at k c.args.pos DepthLimit c.into_vec.result.items (subst (λ z. IsAdmitted (sampled z) k) (sym same) both.0) f h;
       kind = h.kind;
-      deep = subst (λ z. IsDeeper (point (tree c.args.term.now) (sampled z)) depth_limit) (sym (h.sample ∙ same)) (subst (λ t. IsDeeper (point (tree t) (sampled met.sample)) depth_limit) (c.get.ensures.same ∙ c.in_ok-whole.ensures.same) ((c.in_ok-deep.ensures.truth (sampled met.sample) both.0.0).0 both.1));
+      deep = λ d stand.
+          let alike : AreAlike true (sampled met.sample) d = subst (λ z. AreAlike true (sampled z) d) (h.sample ∙ same) stand in
+          let there = (c.in_ok-deep.ensures.truth d (sym alike.count ∙ both.0.0)).0 (met_alike k deep met.sample d c.in_ok-deep.ensures.levels meets alike) in
+          subst (λ t. IsDeeper (point (tree t) d) depth_limit) (c.get.ensures.same ∙ c.in_ok-whole.ensures.same) there;
     }) c.fault.ensures
 
 pub returns-clause-shallow : goal.returns-clause-shallow

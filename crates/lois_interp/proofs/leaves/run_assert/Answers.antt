@@ -32,7 +32,7 @@ returns-in-Some-clause-fault g c =
     let decided = c.in_ok-decided.decided in
     let sample = c.in-Some.sample.items in
     let parts = some_is (λ s. IsCounterexample k.size k.«when» decided s.items) c.in_ok-sample.field-0 c.in-Some.sample c.in-Some.is c.in_ok-sample.ensures.sample in
-    if_fault c.fault.result (IsFaultWith c.args.pos Assertion sample) (FailsWithin (stmt_run (assert c.args.pos.offset q)) k) (λ f h. assertion_fails c.args.pos q k decided sample f c.in_ok-decided.ensures.truth parts h) c.fault.ensures
+    if_fault c.fault.result (IsFaultWith c.args.pos Assertion sample) (FailsWithin (stmt_run (assert c.args.pos.offset q)) k) (λ f h. assertion_fails c.args.pos q k decided sample f c.in_ok-decided.ensures.truth c.in_ok-decided.ensures.levels parts h) c.fault.ensures
 
 pub returns-in_ok-one-in-None-clause-runs : goal.returns-in_ok-one-in-None-clause-runs
 returns-in_ok-one-in-None-clause-runs g c =

@@ -1,11 +1,13 @@
-use Rattle.std.proofs.Common.{◌≡◌, ◌<◌, ◌^◌, length, map, refl, sym, ap, subst, ◌∙◌}
+use Rattle.std.proofs.Common.{◌≡◌, ◌<◌, ◌^◌, true, length, map, refl, sym, ap, subst, ◌∙◌}
 use Rattle.std.proofs.lemmas.List.Elements.{All-map}
 use Rattle.std.specs.List.{All}
 use Rattle.lois_base.specs.Fits.{Fits}
+use Rattle.lois_base.specs.Patterns.{AreAlike}
+use Rattle.lois_base.specs.Truth.{sampled}
 use Rattle.lois_script.specs.View.{script_tree}
 use Rattle.lois_script.specs.declared.script.Script.{Script}
 use Rattle.lois_interp.specs.Interpreted.{parameter_name}
-use Rattle.lois_shortest_word.specs.Shortened.{IsShortenedWord}
+use Rattle.lois_shortest_word.specs.Shortened.{IsShortenedWord, IsShortenedEverywhere}
 use Rattle.lois_shortest_word.specs.Words.{AreUsedBetween}
 use Rattle.lois_shortest_word.specs.declared.words.Word.{Word}
 use Rattle.lois_run.proofs.Traced.{traced}
@@ -25,6 +27,8 @@ returns c =
     let r = c.in_ok-short.short in
     traced c.args.text.now (script_tree c.args.script.now) c.requires.spelled c.script-script.ensures.scoped c.requires.fits c.args.fault c.requires.fault w r c.from_vec.ensures c.in_ok-terms_of.ensures.terms
     (subst (λ k. IsShortenedWord k w r) count c.in_ok-short.ensures.shortened)
+    (subst (λ k. IsShortenedEverywhere k w r) count c.in_ok-short.ensures.everywhere)
+    c.in_ok-sample.sample (subst (λ k. AreAlike true (sampled k) (sampled c.in_ok-sample.sample)) c.as_slice.ensures c.in_ok-sample.ensures.alike) c.in_ok-sample.ensures.ranked
     c.in_ok-elements.elements c.in_ok-elements.ensures.names c.in_ok-elements.ensures.terms c.place_at-place.result _ c.place_at-place.ensures
     (ap (λ (x : Script). (script_tree x).ordered) same)
     (c.in_ok-parameter_names.ensures.names ∙ ap (λ (x : Script). map parameter_name (script_tree x).parameters) same)
