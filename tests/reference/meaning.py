@@ -5,7 +5,8 @@ all names that it mentions. Whatever else it meets is the image of one of these 
 form of the language tells a run from its image; so truths are the same there, and values are the images, which
 `closure` adds.
 
-Failures are triples of a place, a cause and the path of the loops' elements, the outermost first.
+Failures are triples of a place, a cause and the path of the loops' elements, the outermost first. Operands come from
+left to right: one fails where those to its left have values, and is of the wrong kind where those to its left aren't.
 """
 from . import automata
 from .parser import names_in
@@ -39,17 +40,26 @@ def need(ok, e, cause, faults):
     return ok
 
 
+def in_turn(found):
+    """The values that come one after another, from left to right; None where one is None, and then no later ones come."""
+    values = []
+    for value in found:
+        if value is None:
+            return None
+        values.append(value)
+    return values
+
+
 def set_of(e, store, faults):
     """The value of an expression that has to be a set."""
     value = evaluate(e, store, faults)
     return value if value is not None and need(value.kind == "set", e, "not a set", faults) else None
 
 
-def machine(e, store, faults, complete=False):
-    """The automaton of an operand; where this is asked for, a deterministic and complete one."""
-    value = evaluate(e, store, faults)
-    m = value and automata.automaton_of(value)
-    if value is None or not need(m, e, "not an automaton", faults):
+def machine(e, value, faults, complete=False):
+    """The automaton that an operand's value is; where this is asked for, a deterministic and complete one."""
+    m = automata.automaton_of(value)
+    if not need(m, e, "not an automaton", faults):
         return None
     if complete and not (need(automata.is_deterministic(m), e, "not deterministic", faults)
                          and need(automata.is_complete(m), e, "not complete", faults)):
@@ -91,21 +101,25 @@ def worth(e, store, faults):
     if e.kind == "each":
         return comprehension(e, store, faults)
     if e.kind in ("tuple", "listed"):
-        parts = [evaluate(p, store, faults) for p in e.parts]
-        return None if None in parts else pack(*parts) if e.kind == "tuple" else listed(parts)
+        parts = in_turn(evaluate(p, store, faults) for p in e.parts)
+        return None if parts is None else pack(*parts) if e.kind == "tuple" else listed(parts)
     if e.kind == "part":
         whole = evaluate(e.parts[0], store, faults)
         if whole is None or not need(whole.kind == "tuple", e.parts[0], "not a tuple", faults):
             return None
         parts = unpack(whole)
         return parts[e.number - 1] if need(1 <= e.number <= len(parts), e.parts[0], "no such part", faults) else None
-    if e.kind in SETS:
-        first, second = [set_of(p, store, faults) for p in e.parts]
-        return None if first is None or second is None else combined(first, second, SETS[e.kind])
     if e.kind == "flatten":
         return flattened(e.parts[0], store, faults)
-    machines = [machine(p, store, faults, e.kind in ("complement", "minimise")) for p in e.parts]
-    if None in machines:
+    values = in_turn(evaluate(p, store, faults) for p in e.parts)
+    if values is None:
+        return None
+    if e.kind in SETS:
+        fit = all(need(v.kind == "set", p, "not a set", faults) for p, v in zip(e.parts, values))
+        return combined(*values, SETS[e.kind]) if fit else None
+    complete = e.kind in ("complement", "minimise")
+    machines = in_turn(machine(p, v, faults, complete) for p, v in zip(e.parts, values))
+    if machines is None:
         return None
     return {"reach": automata.reachable, "product": automata.product, "complement": automata.complement,
             "minimise": automata.minimal}[e.kind](*machines)
@@ -132,7 +146,7 @@ def flattened(e, store, faults):
 
 
 def holds(c, store, faults):
-    """The truth of a condition; None where some part fails. All parts are looked at."""
+    """The truth of a condition; None where some part fails. Parts are looked at up to the first that fails."""
     Budget.check()
     own = set()
     truth = truth_of(c, store, own)
@@ -145,22 +159,20 @@ def truth_of(c, store, faults):
     if c.kind in ("true", "false"):
         return c.kind == "true"
     if c.kind in ("not", "all", "any"):
-        truths = [holds(p, store, faults) for p in c.parts]
-        return {"not": not truths[0], "all": all(truths), "any": any(truths)}[c.kind]
+        truths = in_turn(holds(p, store, faults) for p in c.parts)
+        return truths is not None and {"not": not truths[0], "all": all(truths), "any": any(truths)}[c.kind]
     if c.kind in ("exists", "forall"):
         truths = [holds(c.parts[0], inner, faults) for inner in runs(c.binders, store, points_of(c, store), faults)]
         return any(truths) if c.kind == "exists" else all(truths)
     if c.kind == "empty":
-        m = machine(c.parts[0], store, faults)
+        value = evaluate(c.parts[0], store, faults)
+        m = value and machine(c.parts[0], value, faults)
         return m and automata.is_empty(m)
     wanted = {"<": ("atom", "atom"), "in": (None, "set"), "subset": ("set", "set")}.get(c.kind, (None, None))
-    values = []
-    for e, kind in zip(c.parts, wanted):
-        value = evaluate(e, store, faults)
-        if value is not None and kind:
-            need(value.kind == kind, e, "not atoms" if kind == "atom" else "not a set", faults)
-        values.append(value)
-    if faults:
+    values = in_turn(evaluate(e, store, faults) for e in c.parts)
+    if values is None or not all(
+            kind in (None, value.kind) or need(False, e, "not atoms" if kind == "atom" else "not a set", faults)
+            for e, value, kind in zip(c.parts, values, wanted)):
         return None
     left, right = values
     return {"=": lambda: left == right, "!=": lambda: left != right, "<": lambda: left.atoms < right.atoms,

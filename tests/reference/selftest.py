@@ -77,6 +77,12 @@ PLANTED = [
     (("run",), b"atoms equality;\nparameter a, b;\nassert a = b;\nassert a != b;",
      "lois results 2\natoms equality\nparameters a b\nfailed at 3:1: assertion failed\nchoice 0 1\nend\n", 1,
      [("a statement before fails elsewhere", "3:1: assertion failed\nchoice 0 1", "4:1: assertion failed\nchoice 0 0")]),
+    (("run",), b"atoms equality;\nparameter a;\nlet s = (flatten({a}),\n flatten({'b}));",
+     "lois results 2\natoms equality\nparameters a\nfailed at 3:18: not a set\nchoice 0\nend\n", 2,
+     [("an operand behind one that fails", "3:18", "4:10")]),
+    (("run",), b"atoms equality;\nparameter a;\nassert a = {a} and union(a,\n 'b) = {};",
+     "lois results 2\natoms equality\nparameters a\nfailed at 3:26: not a set\nchoice 0\nend\n", 2,
+     [("an operand of the wrong kind behind another", "3:26", "4:2")]),
     (("run",), b"atoms order; let s = {}; print x;", "refused at 1:32: unknown name\n", 5, [
         ("another place of a refusal", "1:32", "1:26"), ("another refusal", "unknown name", "not a script"),
         ("a status", "", "", 0)]),
