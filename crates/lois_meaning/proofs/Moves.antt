@@ -41,7 +41,7 @@ mutual
   makes_from (part p e n) s t v h (u, us, g, parts, at) = (u, us, (makes_from e s t u h g.0, g.1), parts, at)
   makes_from (apply p op es) s t v h (us, g, fit, made) = (us, give_all_from es s t us h g, fit, made)
 
-  give_all_from : (es : ExprsD) (s t : NamedValues) (us : List PointValue) → AreSameNamed s t → GiveAll es s us → GiveAll es t us
+  pub give_all_from : (es : ExprsD) (s t : NamedValues) (us : List PointValue) → AreSameNamed s t → GiveAll es s us → GiveAll es t us
   give_all_from no_exprs s t us h g = g
   give_all_from (expr e rest) s t us h (v, more, q, g, gs) = (v, more, q, (makes_from e s t v h g.0, g.1), give_all_from rest s t more h gs)
 

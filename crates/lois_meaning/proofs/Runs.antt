@@ -110,7 +110,7 @@ mutual
   stmt_fails («let» p x e) s t l at k path (v, g, h, n) bad = gives_fails e s v at k g bad.0
   stmt_fails (assign p x e) s t l at k path (v, g, h, n) bad = gives_fails e s v at k g bad.0
   stmt_fails (add e p x) s t l at k path (old, v, new, here, g, added, fine, h, n) (z, inl bad) = gives_fails e s v at k g bad
-  stmt_fails (add e p x) s t l at k path (old, v, new, here, g, added, fine, h, n) (z, inr (inl (q, old', here', bad))) =
+  stmt_fails (add e p x) s t l at k path (old, v, new, here, g, added, fine, h, n) (z, inr (inl (q, old', v', here', g', bad))) =
       bad.1 (subst IsSet (some_same old old' (sym here ∙ here')) added.0)
   stmt_fails (add e p x) s t l at k path (old, v, new, here, g, added, fine, h, n) (z, inr (inr (q, y, old', v', new', here', g', added', deep))) =
       let one : old ≡ old' = some_same old old' (sym here ∙ here') in
@@ -165,9 +165,9 @@ mutual
   stmt_fails_move («let» p x e) s r at k path h b = (fails_move e s r at k h b.0, b.1)
   stmt_fails_move (assign p x e) s r at k path h b = (fails_move e s r at k h b.0, b.1)
   stmt_fails_move (add e p x) s r at k path h (z, inl b) = (z, inl (fails_move e s r at k h b))
-  stmt_fails_move (add e p x) s r at k path h (z, inr (inl (q, old, here, (y, never)))) =
+  stmt_fails_move (add e p x) s r at k path h (z, inr (inl (q, old, v, here, g, (y, never)))) =
       let found : (w : PointValue) × (looked_up x r ≡ Some w) × IsSame old w = looked_up_same x s r old h here in
-      (z, inr (inl (q, found.0, found.1, (y, λ set. never (is_set_same found.0 old (same_sym old found.0 found.2) set)))))
+      (z, inr (inl (q, found.0, v, found.1, gives_from e s r v h g, (y, λ set. never (is_set_same found.0 old (same_sym old found.0 found.2) set)))))
   stmt_fails_move (add e p x) s r at k path h (z, inr (inr (q, y, old, v, new, here, g, added, deep))) =
       let found : (w : PointValue) × (looked_up x r ≡ Some w) × IsSame old w = looked_up_same x s r old h here in
       (z, inr (inr (q, y, found.0, v, new, found.1, gives_from e s r v h g, set_with_move new old v found.0 v found.2 (same_refl v) added, deep)))

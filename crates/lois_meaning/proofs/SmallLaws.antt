@@ -14,7 +14,7 @@ use Rattle.lois_meaning.specs.Automata.{IsTriple, JoinsStates, HasStep, Accepts}
 use Rattle.lois_meaning.specs.Examples.{nested, nested_term, DepthIsExact, OpensStores, parameter_name, assert_alike, name_a, name_b, name_p, name_q, name_s, name_x, name_y, the, only_item, empty_set, all_atoms, atom_value, tag_value, AtomsAreAll, EachAtomIsAll, ParametersAreAtoms, add_alone, add_each_alone, CopiesArePrivate, IdleLoopsEnd, MakesTurns, TurnsAreExact, two_prints, PrintsTwoLines, AddsToSetsAlone, PathsNameElements, one_atom_machine, AcceptsOneAtom}
 use Rattle.lois_meaning.specs.Expressions.{Given, Makes, Reaches, Gives, HasTruth, IsTruthOf}
 use Rattle.lois_meaning.specs.Faults.{Fails}
-use Rattle.lois_meaning.specs.Kinds.{IsAtomAt, IsTagTerm, IsSetTerm, IsAtomValue, IsTagValue, HasParts, IsSet, IsSetOf, AreSame}
+use Rattle.lois_meaning.specs.Kinds.{IsAtomAt, IsSetTerm, IsAtomValue, IsTagValue, HasParts, IsSet, IsSetOf, AreSame}
 use Rattle.lois_meaning.specs.Runs.{Ending, BlockEnds, TurnsEnd, IsGathered, AreGathered, StmtEnds, ListEnds, StmtFails, ScriptEnds}
 use Rattle.lois_meaning.specs.Store.{named, NamedValues, looked_up, stored, AreSameNamed, IsShallow, depth_limit, opening_from}
 use Rattle.lois_meaning.specs.ProperStores.{name_of}
@@ -385,7 +385,7 @@ prints_two_lines = record {
 
 pub adds_to_sets_alone : AddsToSetsAlone
 adds_to_sets_alone e p x s path at old here never (z, inl bad) = bad
-adds_to_sets_alone e p x s path at old here never (z, inr (inl (q, other, found, bad))) = absurd (cc (bad.0))
+adds_to_sets_alone e p x s path at old here never (z, inr (inl (q, other, v, found, g, bad))) = absurd (cc (bad.0))
 adds_to_sets_alone e p x s path at old here never (z, inr (inr (q, y, other, v, new, found, g, added, deep))) =
     absurd (never (subst IsSet (some_same other old (sym found ∙ here)) added.0))
 
@@ -466,7 +466,7 @@ path_alone p at k path (inr (inr (inr (v, m, inner, g, is, y, inl bad, e)))) = o
         last : StmtFails (assert p (same (the name_x) (the name_y))) (named name_x m ∷ named name_y n ∷ []) at k none →
             (at ≡ p) × (k ≡ Assertion) × (v w : PointValue) × (c d : Atom) × (path ≡ named name_x v ∷ named name_y w ∷ []) × IsAtomValue v c × IsAtomValue w d × IsFalse (equal c d)
         last (inl (inl bad, i)) = absurd (gives_fails (the name_x) (named name_x m ∷ named name_y n ∷ []) m at k gives_m bad)
-        last (inl (inr bad, i)) = absurd (gives_fails (the name_y) (named name_x m ∷ named name_y n ∷ []) n at k gives_n bad)
+        last (inl (inr (v, g, bad), i)) = absurd (gives_fails (the name_y) (named name_x m ∷ named name_y n ∷ []) n at k gives_n bad)
         last (inr ((a, b, ga, gb, never), i, j, l)) = (
           i,
           j,

@@ -88,7 +88,7 @@ abbrev mutual
   StmtFails (add e p x) s at k path =
       (path ≡ []) ×
       (Fails e s at k ⊎
-      ((at ≡ p) × (old : PointValue) × (looked_up x s ≡ Some old) × IsNoSet old k) ⊎
+      ((at ≡ p) × (old v : PointValue) × (looked_up x s ≡ Some old) × Gives e s v × IsNoSet old k) ⊎
       ((at ≡ p) × (k ≡ DepthLimit) × (old v new : PointValue) × (looked_up x s ≡ Some old) × Gives e s v ×
       IsSetWith new old v × IsDeeper new depth_limit))
   StmtFails (for (binding p x e) c body) s at k path =
