@@ -235,7 +235,7 @@ def grown(s, store, faults):
     """The set of an `add` with its new member."""
     value = evaluate(s.value, store, faults)
     old = store[s.name]
-    if not need(old.kind == "set", s, "not a set", faults) or value is None:
+    if value is None or not need(old.kind == "set", s, "not a set", faults):
         return None
     new = combined(old, listed([value]), frozenset.union)
     return new if need(new.shape.depth <= DEEPEST, s, "depth limit", faults) else None
