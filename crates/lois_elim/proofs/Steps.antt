@@ -178,6 +178,12 @@ module _ (n free : ℕ) (bound : List ℕ) (whole : FormulasD) (items : List For
   any_go_on part r so_far =
       any_one_more n free bound whole (parts_from items (i + 1)) (view f) before part r (subst (λ rest. AnySoFar n free bound whole rest before) (parts_are items i f l is) so_far)
 
+  -- a part that holds everywhere is the whole
+  pub any_everywhere : (part : List (List Lit)) → AnySoFar n free bound whole (parts_from items i) before → AgreesUnder n free bound (view f) part → part ≡ [] ∷ [] → AgreesUnder n free bound (any whole) part
+  any_everywhere part so_far agrees always c k =
+      let here : AnySoFar n free bound whole (formula (view f) (parts_from items (i + 1))) before = subst (λ rest. AnySoFar n free bound whole rest before) (parts_are items i f l is) so_far in
+      (λ p. (here c k).0 (inr (inl ((agrees c k).0 p))), λ h. ap (holds c) always)
+
 -- what both obey, the one with the other behind it obeys
 pub appended_obeys : (P : List Lit → Type 0) (before part r : List (List Lit)) → r ≡ before ++ part → All P before → All P part → All P r
 appended_obeys P before part r e h k = subst (All P) (sym e) (All-append P before part h k)

@@ -1,6 +1,6 @@
 //! Elimination of the quantifiers of a formula, from the inside out.
 
-ghost use Rattle.std.specs.Prelude.{◌≡◌, ℕ, ◌+◌, Bool, List, [], ◌∷◌, length, IfOk, suc};
+ghost use Rattle.std.specs.Prelude.{◌≡◌, ℕ, ◌+◌, Bool, List, [], ◌∷◌, length, IfOk, IsTrue, suc};
 ghost use Rattle.lois_base.specs.Atom.{Atom};
 ghost use Rattle.lois_base.specs.Fits.{LitFits, CubeFits, ConstraintFits};
 ghost use Rattle.lois_base.specs.FormulaData.{FormulaFits, FormulasFit, all, any, exists, forall, formulas_of};
@@ -237,7 +237,18 @@ fn all_of<T: Structure>(
     meet_parts::<T>(alloc, met, parts, true, free, bound, size)
 }
 
-// Each part's cubes are pruned already, so that those of one part alone are left as they are.
+// Whether the constraint is written as `true`: one cube without literals.
+fn is_everywhere(c: &Constraint) -> bool
+    ensures { IsTrue result → c.now ≡ [] ∷ [] }
+{
+    match c.as_slice() {
+        [cube] => cube.len() == 0,
+        _ => false,
+    }
+}
+
+// Each part's cubes are pruned already, so that those of one part alone are left as they are. Where a part always holds, no other one
+// is eliminated.
 #[cycle(elimination)]
 fn any_of<T: Structure>(
     alloc: Global,
@@ -257,6 +268,9 @@ fn any_of<T: Structure>(
     let mut filled: usize = 0;
     for part in parts.as_slice() {
         let cubes = under_names::<T>(alloc, part, free, bound, size)?;
+        if is_everywhere(&cubes) {
+            return Ok(cubes);
+        }
         filled = filled.saturating_add(cubes.len().min(1));
         append(&mut found, cubes)?;
     }

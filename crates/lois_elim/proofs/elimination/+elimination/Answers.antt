@@ -14,7 +14,7 @@ use Rattle.lois_elim.specs.Bound.{HoldsForSome, HoldsForEach}
 use Rattle.lois_elim.specs.Names.{AgreesUnder, AgreesUnderWithBoth}
 use Rattle.lois_elim.proofs.Naming.{more_names}
 use Rattle.lois_elim.proofs.OnePoint.{point_agrees}
-use Rattle.lois_elim.proofs.Steps.{AnySoFar, parts_from, no_parts, part_fits, part_admitted, parts_go_on, any_go_on, any_end, appended_obeys}
+use Rattle.lois_elim.proofs.Steps.{AnySoFar, parts_from, no_parts, part_fits, part_admitted, parts_go_on, any_go_on, any_everywhere, any_end, appended_obeys}
 use Rattle.lois_elim.specs.Turns.{in_turn, AgreesInTurn}
 use Rattle.lois_elim.proofs.Turning.{MetSoFar, met_begin, met_end, met_nowhere, turn_fits, turn_admitted, turn_goes_on, turn_skips, turns_agree}
 use Rattle.lois_elim.proofs.Truth.{neg_agrees, exists_agrees, forall_agrees, met_formula, met_negation}
@@ -171,6 +171,18 @@ any_of-loop-part-preserved g t c =
     record {
       truth = any_go_on c.args.size c.args.free c.args.bound.now whole items c.loop-part.part-index c.part-item.result below c.part-item.is c.loop-part.found part.cubes found c.loop-part.invariant.truth part.ensures.truth e;
       parts = parts_go_on c.args.size c.args.free c.args.bound.now whole items c.loop-part.part-index c.part-item.result below c.part-item.is c.loop-part.found found c.loop-part.invariant.parts (appended_obeys (CubeFits c.args.size) c.loop-part.found part.cubes found e c.loop-part.invariant.parts.levels part.ensures.levels) (λ o before admitted. appended_obeys (AdmitsCube o) c.loop-part.found part.cubes found e before (part.ensures.operators o admitted));
+    }
+
+pub any_of-returns-then-is_everywhere : goal.any_of-returns-then-is_everywhere
+any_of-returns-then-is_everywhere g t c =
+    let whole = formulas_of (views c.args.parts.now) in
+    let items = c.as_slice-part-items.result.now in
+    let part = c.in_ok-cubes in
+    let below : c.loop-part.part-index < length items = omega arith in
+    record {
+      truth = any_everywhere c.args.size c.args.free c.args.bound.now whole items c.loop-part.part-index c.part-item.result below c.part-item.is c.loop-part.found part.cubes c.loop-part.invariant.truth part.ensures.truth (c.is_everywhere.ensures c.if-is_everywhere.true);
+      levels = part.ensures.levels;
+      operators = λ o h. part.ensures.operators o (part_admitted c.args.size c.args.free c.args.bound.now whole items c.loop-part.part-index c.part-item.result below c.part-item.is c.loop-part.found c.loop-part.invariant.parts o h);
     }
 
 pub any_of-returns-clause-truth : goal.any_of-returns-clause-truth
