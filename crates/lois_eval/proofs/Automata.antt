@@ -1,5 +1,5 @@
 -- Values that are automata, or unfit for an operation on automata, throughout a context.
-use Rattle.std.proofs.Common.{◌≡◌, ℕ, ◌⊎◌, inl, inr, true, List, [], ◌∷◌, length, refl, sym, ap, subst, ◌∙◌}
+use Rattle.std.proofs.Common.{◌≡◌, ℕ, inl, inr, true, List, [], ◌∷◌, length, refl, sym, ap, subst, ◌∙◌}
 use Rattle.std.proofs.lemmas.List.{length-map}
 use Rattle.std.specs.Prelude.{Result, OnOk}
 use Rattle.lois_base.specs.Atom.{Atom, whole}
@@ -29,10 +29,10 @@ use Rattle.lois_script.specs.declared.syntax.Pos.{Pos}
 use Rattle.lois_meaning.proofs.Alike.{parts_one}
 use Rattle.lois_context.specs.Choices.{IsAdmitted}
 use Rattle.lois_context.specs.declared.contexts.Context.{Context}
-use Rattle.lois_eval.specs.Automata.{IsOfOneAutomaton, IsOfAutomata, IsOperationResult, IsValueFault, IsFailureOfVerdict}
+use Rattle.lois_eval.specs.Automata.{IsOfOneAutomaton, IsOfAutomata, IsOperationResult, IsValueFault, IsProductFault, IsFailureOfVerdict}
 use Rattle.lois_eval.specs.Operands.{IsAppliedThroughout, IsUnfitFault}
 use Rattle.lois_eval.specs.WellFormed.{arity}
-use Rattle.lois_eval.proofs.FaultsAt.{fault_at}
+use Rattle.lois_eval.proofs.FaultsAt.{fault_at, admitted_alike}
 
 -- an automaton has one list of five sets
 pub one_machine : (v : PointValue) (a b : Automaton) → IsAutomatonOf v a → IsAutomatonOf v b → a ≡ b
@@ -135,17 +135,17 @@ module _ (k : Context) (op : Operation) (es : List ExprD) (ts : List TermD) (x :
     elements = h.fault.elements;
   }))
 
-  pub two_unfit : (e f : ExprD) (s t : TermD) (at other : ℕ) → es ≡ e ∷ f ∷ [] → ts ≡ s ∷ t ∷ [] → at ≡ pos e → other ≡ pos f → IsValueFault k (IsInvalidOperand op) s at x ⊎ IsValueFault k (IsInvalidOperand op) t other x → IsUnfitFault k op (exprs_of es) (terms_of ts) x
-  two_unfit e f s t at other operands values place second h = subst (λ z. IsUnfitFault k op (exprs_of es) (terms_of z) x) (sym values) (subst (λ z. IsUnfitFault k op (exprs_of z) (terms_of (s ∷ t ∷ [])) x) (sym operands) (of h))
-    where
-      of : IsValueFault k (IsInvalidOperand op) s at x ⊎ IsValueFault k (IsInvalidOperand op) t other x → IsUnfitFault k op (exprs_of (e ∷ f ∷ [])) (terms_of (s ∷ t ∷ [])) x
-      of (inl h) = record {
-        admitted = h.fault.admitted;
-        unfit = λ c stand. inl (h.fault.place ∙ place, h.unfit c stand);
-        elements = h.fault.elements;
-      }
-      of (inr h) = record {
-        admitted = h.fault.admitted;
-        unfit = λ c stand. inr (inl (h.fault.place ∙ second, h.unfit c stand));
-        elements = h.fault.elements;
-      }
+pub product_unfit : (k : Context) (es : List ExprD) (ts : List TermD) (x : Fault) (e f : ExprD) (s t : TermD) (at other : ℕ) → es ≡ e ∷ f ∷ [] → ts ≡ s ∷ t ∷ [] → at ≡ pos e → other ≡ pos f → IsProductFault k s at t other x → IsUnfitFault k Product (exprs_of es) (terms_of ts) x
+product_unfit k es ts x e f s t at other operands values place second h = subst (λ z. IsUnfitFault k Product (exprs_of es) (terms_of z) x) (sym values) (subst (λ z. IsUnfitFault k Product (exprs_of z) (terms_of (s ∷ t ∷ [])) x) (sym operands) (of h))
+  where
+    of : IsProductFault k s at t other x → IsUnfitFault k Product (exprs_of (e ∷ f ∷ [])) (terms_of (s ∷ t ∷ [])) x
+    of (inl h) = record {
+      admitted = h.fault.admitted;
+      unfit = λ c stand. inl (h.fault.place ∙ place, h.unfit c stand);
+      elements = h.fault.elements;
+    }
+    of (inr (left, h)) = record {
+      admitted = h.fault.admitted;
+      unfit = λ c stand. inr (left c (admitted_alike k x.sample.items c stand h.fault.admitted), inl (h.fault.place ∙ second, h.unfit c stand));
+      elements = h.fault.elements;
+    }

@@ -1,63 +1,87 @@
 -- Comparisons of two expressions: the values of their sides, and how they fail.
 use Rattle.std.proofs.Common.{◌≡◌, ℕ, ◌⊎◌, Bool, inl, inr, List, [], ◌∷◌, sym, subst}
 use Rattle.lois_base.specs.Atom.{Atom}
-use Rattle.lois_base.specs.Data.{TermD}
-use Rattle.lois_base.specs.Values.{point}
-use Rattle.lois_meaning.specs.Expressions.{Gives}
-use Rattle.lois_meaning.specs.Faults.{IsNoAtom, IsNoSet, OperandFails, Fails, SomeFails, CondFails}
+use Rattle.lois_base.specs.Data.{TermD, var}
+use Rattle.lois_base.specs.Truth.{atom_at}
+use Rattle.lois_base.specs.Values.{PointValue, point}
+use Rattle.lois_base.proofs.Order.{equal_refl}
+use Rattle.lois_meaning.specs.Faults.{IsNoAtom, IsNoSet, OperandFails, SomeOperandFails, FailsBehind, Fails, SomeFails, CondFails}
+use Rattle.lois_meaning.specs.Kinds.{IsAtomAt, IsAtomValue, IsSet}
 use Rattle.lois_meaning.specs.Store.{NamedValues}
 use Rattle.lois_answers.specs.declared.faults.FaultKind.{FaultKind}
 use Rattle.lois_meaning.specs.declared.faults.Fault.{Fault}
 use Rattle.lois_script.specs.Tree.{ExprD, CondD, below, member, included, pos}
-use Rattle.lois_context.specs.Choices.{IsAdmitted}
-use Rattle.lois_context.specs.Slots.{store_at}
 use Rattle.lois_context.specs.declared.contexts.Context.{Context}
-use Rattle.lois_eval.specs.Checks.{IsSetFault, IsAtomFault}
+use Rattle.lois_terms.specs.Collections.{IsColl}
+use Rattle.lois_eval.specs.Checks.{IsFaultAt, IsSetFault, IsAtomFault}
 use Rattle.lois_eval.specs.Compared.{IsBelowFault}
 use Rattle.lois_eval.specs.Evaluated.{AreTermsOf}
 use Rattle.lois_eval.specs.Forms.{two, sides_of}
 use Rattle.lois_eval.specs.WellFormed.{IsWellFormed, AreWellFormed, CondIsWellFormed, names_of}
 use Rattle.lois_eval.specs.Throughout.{IsFaultOf}
 use Rattle.lois_eval.proofs.Conditions.{sides, no_set_fails}
-use Rattle.lois_eval.proofs.FaultsAt.{admitted_alike, fault_weaker}
-use Rattle.lois_eval.proofs.TermKinds.{atom_term}
+use Rattle.lois_eval.proofs.FaultsAt.{admitted_alike, fault_weaker, fault_within}
+use Rattle.lois_eval.proofs.TermKinds.{set_at, no_set_at, atom_term}
 
 -- the values of the sides of a condition that is this one
 pub sides_as : (k : Context) (c d : CondD) (ts : List TermD) → c ≡ d → AreTermsOf k (sides_of c) (CondIsWellFormed c) ts → AreTermsOf k (sides_of d) (CondIsWellFormed d) ts
 sides_as k c d ts is h = subst (λ z. AreTermsOf k (sides_of z) (CondIsWellFormed z) ts) is h
 
--- an operand that is no atom
-no_atom_fails : (k : Context) (e : ExprD) (t : TermD) (f : Fault) → ((c : List Atom) → IsAdmitted c k → Gives e (store_at c k.store) (point t c)) → IsAtomFault k t (pos e) f → IsFaultOf k (OperandFails IsNoAtom e) f
-no_atom_fails k e t f given h = record {
-  admitted = h.fault.admitted;
-  failure = λ c stand. (h.fault.place, point t c, given c (admitted_alike k f.sample.items c stand h.fault.admitted), (h.kind, λ a is. let (i, e) = atom_term t c a is in h.no_atom i e));
-  elements = h.fault.elements;
-}
+-- an atom is one at each choice
+is_atom : (t : TermD) (c : List Atom) → (i : ℕ) × (t ≡ var i) → (a : Atom) × IsAtomValue (point t c) a
+is_atom t c (i, e) = (atom_at c i, subst (λ z. IsAtomAt z c (atom_at c i)) (sym e) (equal_refl (atom_at c i)))
+
+no_atom : (t : TermD) (at : ℕ) (k : Context) (f : Fault) → IsAtomFault k t at f → (c : List Atom) → IsNoAtom (point t c) f.kind
+no_atom t at k f h c = (h.kind, λ a is. let (i, e) = atom_term t c a is in h.no_atom i e)
 
 module _ (k : Context) (e f : ExprD) (s t : TermD) (stands : Bool → List (List ℕ) → Type 0) (both : AreTermsOf k (two e f) stands (s ∷ t ∷ [])) (x : Fault) where
+  -- the left side is unfit, or it is fit and the right one isn't
+  module _ (fit : PointValue → Type 0) (row : PointValue → FaultKind → Type 0) where
+    left_fails : IsFaultAt k (pos e) x → ((c : List Atom) → row (point s c) x.kind) → IsFaultOf k (SomeOperandFails fit row (two e f)) x
+    left_fails h bad = record {
+      admitted = h.admitted;
+      failure = λ c stand. (point s c ∷ point t c ∷ [], both.values c (admitted_alike k x.sample.items c stand h.admitted), inl (h.place, bad c));
+      elements = h.elements;
+    }
+
+    right_fails : IsFaultAt k (pos f) x → ((c : List Atom) → fit (point s c)) → ((c : List Atom) → row (point t c) x.kind) → IsFaultOf k (SomeOperandFails fit row (two e f)) x
+    right_fails h left bad = record {
+      admitted = h.admitted;
+      failure = λ c stand. (point s c ∷ point t c ∷ [], both.values c (admitted_alike k x.sample.items c stand h.admitted), inr (left c, inl (h.place, bad c)));
+      elements = h.elements;
+    }
+
   pub below_fails : (p : ℕ) → IsBelowFault k s (pos e) t (pos f) x → IsFaultOf k (CondFails (below p e f)) x
-  below_fails p (inl h) =
-      fault_weaker k (OperandFails IsNoAtom e) (CondFails (below p e f)) x (λ s at kind h. inr (inr (inl h))) (no_atom_fails k e s x (λ c a. (sides k e f s t stands both c a).0) h)
-  below_fails p (inr h) =
-      fault_weaker k (OperandFails IsNoAtom f) (CondFails (below p e f)) x (λ s at kind h. inr (inr (inr h))) (no_atom_fails k f t x (λ c a. (sides k e f s t stands both c a).1) h)
+  below_fails p h = fault_weaker k (SomeOperandFails (λ v. (a : Atom) × IsAtomValue v a) IsNoAtom (two e f)) (CondFails (below p e f)) x (λ s at kind bad. inr (inr bad)) (of h)
+    where
+      of : IsBelowFault k s (pos e) t (pos f) x → IsFaultOf k (SomeOperandFails (λ v. (a : Atom) × IsAtomValue v a) IsNoAtom (two e f)) x
+      of (inl h) = left_fails (λ v. (a : Atom) × IsAtomValue v a) IsNoAtom h.fault (no_atom s (pos e) k x h)
+      of (inr (one, h)) = right_fails (λ v. (a : Atom) × IsAtomValue v a) IsNoAtom h.fault (λ c. is_atom s c one) (no_atom t (pos f) k x h)
 
   pub member_fails : IsSetFault k t (pos f) x → IsFaultOf k (CondFails (member e f)) x
   member_fails h =
-      fault_weaker k (OperandFails IsNoSet f) (CondFails (member e f)) x (λ s at kind h. inr (inr h)) (no_set_fails k f t x (λ c a. (sides k e f s t stands both c a).1) h)
+      fault_within k (OperandFails IsNoSet f) (CondFails (member e f)) x (λ c a at kind bad. inr (inr (point s c, (sides k e f s t stands both c a).0, bad)))
+      (no_set_fails k f t x (λ c a. (sides k e f s t stands both c a).1) h)
 
   pub included_fails_left : IsSetFault k s (pos e) x → IsFaultOf k (CondFails (included e f)) x
   included_fails_left h =
-      fault_weaker k (OperandFails IsNoSet e) (CondFails (included e f)) x (λ s at kind h. inr (inr (inl h))) (no_set_fails k e s x (λ c a. (sides k e f s t stands both c a).0) h)
+      fault_weaker k (SomeOperandFails IsSet IsNoSet (two e f)) (CondFails (included e f)) x (λ s at kind bad. inr (inr bad))
+      (left_fails IsSet IsNoSet h.fault (λ c. (h.kind, no_set_at s c h.no_set)))
 
-  pub included_fails_right : IsSetFault k t (pos f) x → IsFaultOf k (CondFails (included e f)) x
-  included_fails_right h =
-      fault_weaker k (OperandFails IsNoSet f) (CondFails (included e f)) x (λ s at kind h. inr (inr (inr h))) (no_set_fails k f t x (λ c a. (sides k e f s t stands both c a).1) h)
+  pub included_fails_right : IsColl s → IsSetFault k t (pos f) x → IsFaultOf k (CondFails (included e f)) x
+  included_fails_right left h =
+      fault_weaker k (SomeOperandFails IsSet IsNoSet (two e f)) (CondFails (included e f)) x (λ s at kind bad. inr (inr bad))
+      (right_fails IsSet IsNoSet h.fault (λ c. set_at s c left) (λ c. (h.kind, no_set_at t c h.no_set)))
 
--- a condition fails where one of its sides does
-pub sides_fail : (k : Context) (c d : CondD) (e f : ExprD) (x : Fault) → c ≡ d → ((s : NamedValues) (at : ℕ) (kind : FaultKind) → Fails e s at kind ⊎ Fails f s at kind → CondFails d s at kind) → IsFaultOf k (SomeFails (two e f)) x → IsFaultOf k (CondFails c) x
+-- a condition fails where its left side does, and where its right one does behind a value of the left one
+pub sides_fail : (k : Context) (c d : CondD) (e f : ExprD) (x : Fault) → c ≡ d → ((s : NamedValues) (at : ℕ) (kind : FaultKind) → Fails e s at kind ⊎ FailsBehind e (Fails f) s at kind → CondFails d s at kind) → IsFaultOf k (SomeFails (two e f)) x → IsFaultOf k (CondFails c) x
 sides_fail k c d e f x is to h =
-    subst (λ z. IsFaultOf k (CondFails z) x) (sym is)
-    (fault_weaker k (SomeFails (two e f)) (CondFails d) x (λ s at kind bad. to s at kind (elim bad [ inl a ↦ inl a | inr b ↦ inr (elim b [ inl q ↦ q | inr none ↦ absurd none ]) ])) h)
+    subst (λ z. IsFaultOf k (CondFails z) x) (sym is) (fault_weaker k (SomeFails (two e f)) (CondFails d) x (λ s at kind bad. to s at kind (of s at kind bad)) h)
+  where
+    of : (s : NamedValues) (at : ℕ) (kind : FaultKind) → SomeFails (two e f) s at kind → Fails e s at kind ⊎ FailsBehind e (Fails f) s at kind
+    of s at kind (inl a) = inl a
+    of s at kind (inr (v, g, inl b)) = inr (v, g, b)
+    of s at kind (inr (v, g, inr (w, h, none))) = absurd none
 
 -- the values of two expressions that are the sides of a condition
 pub sides_from : (k : Context) (c d : CondD) (e f : ExprD) (ts : List TermD) → c ≡ d → sides_of d ≡ two e f → ((o : Bool) (xs : List (List ℕ)) → CondIsWellFormed d o xs → IsWellFormed e o xs × IsWellFormed f o xs) → AreTermsOf k (two e f) (AreWellFormed (two e f)) ts → AreTermsOf k (sides_of c) (CondIsWellFormed c) ts

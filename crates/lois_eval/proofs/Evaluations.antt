@@ -3,7 +3,7 @@ use Rattle.std.proofs.Common.{◌≡◌, ℕ, Bool, true, false, List, [], ◌�
 use Rattle.lois_base.specs.Data.{TermD, terms_of}
 use Rattle.lois_base.specs.Truth.{holds}
 use Rattle.lois_base.specs.Values.{point}
-use Rattle.lois_meaning.specs.Expressions.{Gives, GiveAll}
+use Rattle.lois_meaning.specs.Expressions.{Gives, GiveAll, HasTruth}
 use Rattle.lois_meaning.specs.Faults.{Fails, SomeFails, CondFails}
 use Rattle.lois_meaning.specs.Kinds.{part_values}
 use Rattle.lois_script.specs.Tree.{ExprD, ExprsD, CondD, CondsD}
@@ -13,13 +13,13 @@ use Rattle.lois_meaning.proofs.NotBoth.{gives_fails, truth_fails}
 use Rattle.lois_context.specs.Slots.{store_at}
 use Rattle.lois_context.specs.declared.contexts.Context.{Context}
 use Rattle.lois_base.specs.declared.guards.Lit.{Lit}
-use Rattle.lois_eval.specs.Evaluated.{IsTermOf, AreTermsOf}
+use Rattle.lois_eval.specs.Evaluated.{IsTermOf, AreTermsOf, IsConstraintOf}
 use Rattle.lois_eval.specs.Forms.{joint}
 use Rattle.lois_eval.specs.WellFormed.{IsWellFormedIn, IsWellFormed, CondIsWellFormed, names_of}
 use Rattle.lois_eval.specs.Throughout.{IsValueThroughout, IsTruthThroughout, FailsNowhere, IsFaultOf}
 use Rattle.lois_meaning.specs.Store.{NamedValues}
 use Rattle.lois_answers.specs.declared.faults.FaultKind.{FaultKind}
-use Rattle.lois_eval.proofs.FaultsAt.{fault_weaker}
+use Rattle.lois_eval.proofs.FaultsAt.{fault_within}
 use Rattle.lois_eval.proofs.Parts.{IsExprOf, IsCondOf, give_all_more, parts_at-append, parts_fit-more, parts_admit-more, parts_widths-more, count_of-more}
 
 pub placed_as : (k : Context) (o : Bool) (S R : Bool → List (List ℕ) → Type 0) → ((o : Bool) (xs : List (List ℕ)) → S o xs → R o xs) → IsWellFormedIn S o k → IsWellFormedIn R o k
@@ -44,15 +44,17 @@ module _ (k : Context) (S : Bool → List (List ℕ) → Type 0) where
     widths = λ h. parts_widths-more ts t (so_far.widths h) (own.widths h);
   })
 
-pub some_fails : (k : Context) (es : ExprsD) (e : ExprD) (f : Fault) → IsExprOf es e → IsFaultOf k (Fails e) f → IsFaultOf k (SomeFails es) f
-some_fails k es e f is h = fault_weaker k (Fails e) (SomeFails es) f is.fails h
+  pub some_fails : (es before : ExprsD) (ts : List TermD) (e : ExprD) (f : Fault) → IsExprOf es before e → AreTermsOf k before S ts → IsFaultOf k (Fails e) f → IsFaultOf k (SomeFails es) f
+  some_fails es before ts e f is so_far h =
+      fault_within k (Fails e) (SomeFails es) f (λ c a at kind bad. is.fails (store_at c k.store) (part_values (terms_of ts) c) at kind (so_far.values c a) bad) h
 
-pub joint_fails : (k : Context) (every : Bool) (cs : CondsD) (c : CondD) (f : Fault) → IsCondOf cs c → IsFaultOf k (CondFails c) f → IsFaultOf k (CondFails (joint every cs)) f
-joint_fails k every cs c f is h = fault_weaker k (CondFails c) (CondFails (joint every cs)) f (of every) h
-  where
-    of : (every : Bool) (s : NamedValues) (at : ℕ) (kind : FaultKind) → CondFails c s at kind → CondFails (joint every cs) s at kind
-    of true = is.fails
-    of false = is.fails
+  pub joint_fails : (every : Bool) (cs before : CondsD) (g : List (List Lit)) (c : CondD) (f : Fault) → IsCondOf cs before c → IsConstraintOf k (HasTruth (joint every before)) S g → IsFaultOf k (CondFails c) f → IsFaultOf k (CondFails (joint every cs)) f
+  joint_fails every cs before g c f is so_far h =
+      fault_within k (CondFails c) (CondFails (joint every cs)) f (λ d a at kind bad. of every (store_at d k.store) (holds d g) at kind (so_far.truth d a) bad) h
+    where
+      of : (every : Bool) (s : NamedValues) (b : Bool) (at : ℕ) (kind : FaultKind) → HasTruth (joint every before) s b → CondFails c s at kind → CondFails (joint every cs) s at kind
+      of true s b at kind (bs, held, e) bad = is.fails s bs at kind held bad
+      of false s b at kind (bs, held, e) bad = is.fails s bs at kind held bad
 
 -- what is promised outside: no admitted choice fails
 pub fails_nowhere : (k : Context) (e : ExprD) (t : TermD) → IsValueThroughout k e t → FailsNowhere k (Fails e)
@@ -61,6 +63,6 @@ fails_nowhere k e t h = λ c a at kind bad. gives_fails e (store_at c k.store) (
 pub cond_fails_nowhere : (k : Context) (c : CondD) (g : List (List Lit)) → IsTruthThroughout k c g → FailsNowhere k (CondFails c)
 cond_fails_nowhere k c g h = λ d a at kind bad. truth_fails c (store_at d k.store) (holds d g) at kind (h d a) bad
 
-pub joint_placed : (k : Context) (every : Bool) (cs : CondsD) (c : CondD) (o : Bool) → IsCondOf cs c → IsWellFormedIn (CondIsWellFormed (joint every cs)) o k → IsWellFormedIn (CondIsWellFormed c) o k
-joint_placed k true cs c o is h = record { names = is.stands o (names_of k.store) h.names; operators = h.operators }
-joint_placed k false cs c o is h = record { names = is.stands o (names_of k.store) h.names; operators = h.operators }
+pub joint_placed : (k : Context) (every : Bool) (cs before : CondsD) (c : CondD) (o : Bool) → IsCondOf cs before c → IsWellFormedIn (CondIsWellFormed (joint every cs)) o k → IsWellFormedIn (CondIsWellFormed c) o k
+joint_placed k true cs before c o is h = record { names = is.stands o (names_of k.store) h.names; operators = h.operators }
+joint_placed k false cs before c o is h = record { names = is.stands o (names_of k.store) h.names; operators = h.operators }

@@ -17,6 +17,7 @@ use Rattle.lois_meaning.specs.declared.faults.Stop.{Stop}
 use Rattle.lois_meaning.specs.declared.faults.Stop.TheVariants as Stops
 use Rattle.lois_script.specs.declared.syntax.Pos.{Pos}
 use Rattle.lois_context.specs.Choices.{IsAdmitted}
+use Rattle.lois_context.specs.Slots.{store_at}
 use Rattle.lois_context.specs.declared.contexts.Context.{Context}
 use Rattle.lois_eval.specs.Checks.{IsFaultWith, IsFaultAt, MeetsBoth}
 use Rattle.lois_eval.specs.Throughout.{IfFault, Failure, IsFaultOf}
@@ -60,6 +61,14 @@ sampled_start n s l = length-map (take n s) whole ∙ length-take-le n s l
 pub admitted_alike : (k : Context) (s : List ℕ) (c : List Atom) → AreAlike true (sampled s) c → IsAdmitted (sampled s) k → IsAdmitted c k
 admitted_alike k s c alike a =
     (sym alike.count ∙ a.0, sym (holds_ordered (sampled s) c alike k.«when» (subst (λ n. ConstraintFits n k.«when») (sym a.0) k.levels)) ∙ a.1)
+
+-- another failure at the same place, since it is one at each choice that the context admits
+pub fault_within : (k : Context) (P Q : Failure) (f : Fault) → ((c : List Atom) → IsAdmitted c k → (at : ℕ) (kind : FaultKind) → P (store_at c k.store) at kind → Q (store_at c k.store) at kind) → IsFaultOf k P f → IsFaultOf k Q f
+fault_within k P Q f to h = record {
+  admitted = h.admitted;
+  failure = λ c alike. to c (admitted_alike k f.sample.items c alike h.admitted) f.pos.offset f.kind (h.failure c alike);
+  elements = h.elements;
+}
 
 -- numbers with the constraint of a context and another one: both hold at them too
 pub met_alike : (k : Context) (g : List (List Lit)) (s : List ℕ) (c : List Atom) → ConstraintFits k.size g → MeetsBoth k.size k.«when» g s → AreAlike true (sampled s) c → IsTrue (holds c g)

@@ -10,24 +10,22 @@ use Rattle.lois_base.specs.Values.{PointValue, point, IsIn, IsSame, MemberAt}
 use Rattle.lois_base.proofs.Members.{same_refl}
 use Rattle.lois_base.proofs.Order.{equal_refl}
 use Rattle.lois_algebra.specs.Sets.{HasAllAtoms, IsAtom}
-use Rattle.lois_meaning.specs.Expressions.{Makes, Gives, GiveAll, IsPartOf}
-use Rattle.lois_meaning.specs.Faults.{Breaks, Fails, IsInvalidOperand, SomeOperandFails, HasNoPart}
+use Rattle.lois_meaning.specs.Expressions.{Makes, Gives, IsPartOf}
+use Rattle.lois_meaning.specs.Faults.{Breaks, Fails, HasNoPart}
 use Rattle.lois_meaning.specs.declared.faults.Fault.{Fault}
 use Rattle.lois_answers.specs.declared.faults.FaultKind.{FaultKind}
 use Rattle.lois_script.specs.declared.syntax.Operation.{Operation}
 use Rattle.lois_algebra.specs.Parts.{part_at, part_of}
 use Rattle.lois_meaning.specs.Kinds.{IsAtomAt, IsAtomValue, IsOneOf, part_values}
-use Rattle.lois_meaning.specs.Store.{NamedValues}
-use Rattle.lois_script.specs.Tree.{ExprD, atoms, var, tuple, listed, part, apply, ExprsD, no_exprs, expr, pos}
+use Rattle.lois_script.specs.Tree.{ExprD, atoms, var, tuple, listed, part, apply, ExprsD, pos}
 use Rattle.lois_meaning.proofs.Alike.{are_same_refl}
-use Rattle.lois_context.specs.Slots.{store_at}
 use Rattle.lois_context.specs.ItemCounts.{comps_in}
 use Rattle.lois_context.specs.Choices.{AdmitsContext}
 use Rattle.lois_context.specs.declared.contexts.Context.{Context}
 use Rattle.lois_terms.specs.Collections.{IsColl as IsSetTerm}
 use Rattle.lois_eval.specs.Evaluated.{IsTermOf, AreTermsOf}
 use Rattle.lois_eval.specs.Checks.{IsDepthFault}
-use Rattle.lois_eval.specs.Operands.{IsAppliedThroughout, IsUnfitAmong, IsUnfitFault}
+use Rattle.lois_eval.specs.Operands.{IsAppliedThroughout, IsUnfitFault}
 use Rattle.lois_eval.specs.Throughout.{IsFaultOf}
 use Rattle.lois_eval.specs.Made.{bare, IsHeldBy, missing_part, IsPartFault}
 use Rattle.lois_eval.specs.WellFormed.{IsWellFormedIn, IsWellFormed}
@@ -151,21 +149,10 @@ module _ (k : Context) where
     widths = λ h. widths (all.widths h);
   }
 
-  unfit_fails : (op : Operation) (es : ExprsD) (ts : TermsD) (s : NamedValues) (c : List Atom) (at : ℕ) (kind : FaultKind) → GiveAll es s (part_values ts c) → IsUnfitAmong op es ts c at kind → SomeOperandFails (IsInvalidOperand op) es s at kind
-  unfit_fails op no_exprs ts s c at kind g h = h
-  unfit_fails op (expr e es) no_terms s c at kind g h = absurd h
-  unfit_fails op (expr e es) (term t ts) s c at kind (v, more, is, own, rest) h =
-      let first : point t c ≡ v = cc in
-      let others : part_values ts c ≡ more = cc in
-      elim h [
-        | inl u ↦ inl (u.0, point t c, subst (Gives e s) (sym first) own, u.1)
-        | inr u ↦ inr (unfit_fails op es ts s c at kind (subst (GiveAll es s) (sym others) rest) u)
-      ]
-
   pub apply_fails : (p : ℕ) (op : Operation) (es : ExprsD) (ts : List TermD) (f : Fault) → AreTermsOf k es (IsWellFormed (apply p op es)) ts → IsUnfitFault k op es (terms_of ts) f → IsFaultOf k (Breaks (apply p op es)) f
   apply_fails p op es ts f all h = record {
     admitted = h.admitted;
-    failure = λ c stand. inr (unfit_fails op es (terms_of ts) (store_at c k.store) c f.pos.offset f.kind (all.values c (admitted_alike k f.sample.items c stand h.admitted)) (h.unfit c stand));
+    failure = λ c stand. inr (part_values (terms_of ts) c, all.values c (admitted_alike k f.sample.items c stand h.admitted), h.unfit c stand);
     elements = h.elements;
   }
 

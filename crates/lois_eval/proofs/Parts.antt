@@ -1,5 +1,5 @@
 -- Lists of expressions and of conditions, item by item.
-use Rattle.std.proofs.Common.{◌≡◌, ℕ, zero, suc, ◌<◌, ◌≤◌, Bool, true, false, ◌&&◌, ◌||◌, inl, inr, List, [], ◌∷◌, ◌++◌, length, get_or, map, refl, sym, ap, subst, arith}
+use Rattle.std.proofs.Common.{◌≡◌, ℕ, zero, suc, ◌<◌, ◌≤◌, Bool, true, false, ◌&&◌, ◌||◌, inl, inr, List, [], ◌∷◌, ◌++◌, length, get_or, take, map, refl, sym, ap, subst, arith}
 use Rattle.std.proofs.lemmas.List.Folds.{list_all-append, list_any-append}
 use Rattle.std.specs.List.{list_all, list_any}
 use Rattle.lois_base.specs.Atom.{Atom}
@@ -21,30 +21,31 @@ use Rattle.lois_eval.proofs.Weights.{weight, weight_of_exprs, weight_of_cond, we
 
 -- ---- expressions
 
--- an item of a list of expressions
-pub record IsExprOf (es : ExprsD) (e : ExprD) : Type 0 where
+-- an item of a list of expressions, with those before it
+pub record IsExprOf (es before : ExprsD) (e : ExprD) : Type 0 where
   pub weight : weight e ≤ weight_of_exprs es
   pub stands : (o : Bool) (xs : List (List ℕ)) → AreWellFormed es o xs → IsWellFormed e o xs
-  pub fails : (s : NamedValues) (at : ℕ) (k : FaultKind) → Fails e s at k → SomeFails es s at k
+  pub fails : (s : NamedValues) (vs : List PointValue) (at : ℕ) (k : FaultKind) → GiveAll before s vs → Fails e s at k → SomeFails es s at k
 
-expr_at : (es : List Expr) (i : ℕ) (d : Expr) → i < length es → IsExprOf (exprs_of (map tree es)) (tree (get_or es i d))
+expr_at : (es : List Expr) (i : ℕ) (d : Expr) → i < length es → IsExprOf (exprs_of (map tree es)) (exprs_of (map tree (take i es))) (tree (get_or es i d))
 expr_at [] i d l = absurd (omega arith)
 expr_at (e ∷ es) zero d l = record {
   weight = omega arith;
   stands = λ o xs h. h.0;
-  fails = λ s at k h. inl h;
+  fails = λ s vs at k given h. inl h;
 }
 expr_at (e ∷ es) (suc i) d l =
     let rest = expr_at es i d (omega arith) in
     record {
       weight = omega (arith, rest.weight);
       stands = λ o xs h. rest.stands o xs h.1;
-      fails = λ s at k h. inr (rest.fails s at k h);
+      fails = λ s vs at k (v, more, is, own, given) h. inr (v, own, rest.fails s more at k given h);
     }
 
-pub is_expr_of : (es : List Expr) (vs : List ExprD) (i : ℕ) (e : Expr) → map tree es ≡ vs → i < length es → e ≡ get_or es i e → IsExprOf (exprs_of vs) (tree e)
+pub is_expr_of : (es : List Expr) (vs : List ExprD) (i : ℕ) (e : Expr) → map tree es ≡ vs → i < length es → e ≡ get_or es i e → IsExprOf (exprs_of vs) (exprs_of (map tree (take i es))) (tree e)
 is_expr_of es vs i e m l is =
-    subst (λ z. IsExprOf (exprs_of z) (tree e)) m (subst (λ z. IsExprOf (exprs_of (map tree es)) (tree z)) (sym is) (expr_at es i e l))
+    let before = exprs_of (map tree (take i es)) in
+    subst (λ z. IsExprOf (exprs_of z) before (tree e)) m (subst (λ z. IsExprOf (exprs_of (map tree es)) before (tree z)) (sym is) (expr_at es i e l))
 
 pub give_all_more : (es : List ExprD) (e : ExprD) (s : NamedValues) (vs : List PointValue) (v : PointValue) → GiveAll (exprs_of es) s vs → Gives e s v → GiveAll (exprs_of (es ++ e ∷ [])) s (vs ++ v ∷ [])
 give_all_more [] e s vs v h g = (v, [], ap (λ z. z ++ v ∷ []) h, g, refl)
@@ -73,29 +74,31 @@ count_of-more (e ∷ es) = ap suc (count_of-more es)
 
 -- ---- conditions
 
-pub record IsCondOf (cs : CondsD) (c : CondD) : Type 0 where
+-- a condition of a list, with those before it
+pub record IsCondOf (cs before : CondsD) (c : CondD) : Type 0 where
   pub weight : weight_of_cond c ≤ weight_of_conds cs
   pub stands : (o : Bool) (xs : List (List ℕ)) → CondsAreWellFormed cs o xs → CondIsWellFormed c o xs
-  pub fails : (s : NamedValues) (at : ℕ) (k : FaultKind) → CondFails c s at k → SomeCondFails cs s at k
+  pub fails : (s : NamedValues) (bs : List Bool) (at : ℕ) (k : FaultKind) → HaveTruths before s bs → CondFails c s at k → SomeCondFails cs s at k
 
-cond_at : (cs : List Cond) (i : ℕ) (d : Cond) → i < length cs → IsCondOf (conds_of (map cond_tree cs)) (cond_tree (get_or cs i d))
+cond_at : (cs : List Cond) (i : ℕ) (d : Cond) → i < length cs → IsCondOf (conds_of (map cond_tree cs)) (conds_of (map cond_tree (take i cs))) (cond_tree (get_or cs i d))
 cond_at [] i d l = absurd (omega arith)
 cond_at (c ∷ cs) zero d l = record {
   weight = omega arith;
   stands = λ o xs h. h.0;
-  fails = λ s at k h. inl h;
+  fails = λ s bs at k held h. inl h;
 }
 cond_at (c ∷ cs) (suc i) d l =
     let rest = cond_at cs i d (omega arith) in
     record {
       weight = omega (arith, rest.weight);
       stands = λ o xs h. rest.stands o xs h.1;
-      fails = λ s at k h. inr (rest.fails s at k h);
+      fails = λ s bs at k (b, more, is, own, held) h. inr (b, own, rest.fails s more at k held h);
     }
 
-pub is_cond_of : (cs : List Cond) (vs : List CondD) (i : ℕ) (c : Cond) → map cond_tree cs ≡ vs → i < length cs → c ≡ get_or cs i c → IsCondOf (conds_of vs) (cond_tree c)
+pub is_cond_of : (cs : List Cond) (vs : List CondD) (i : ℕ) (c : Cond) → map cond_tree cs ≡ vs → i < length cs → c ≡ get_or cs i c → IsCondOf (conds_of vs) (conds_of (map cond_tree (take i cs))) (cond_tree c)
 is_cond_of cs vs i c m l is =
-    subst (λ z. IsCondOf (conds_of z) (cond_tree c)) m (subst (λ z. IsCondOf (conds_of (map cond_tree cs)) (cond_tree z)) (sym is) (cond_at cs i c l))
+    let before = conds_of (map cond_tree (take i cs)) in
+    subst (λ z. IsCondOf (conds_of z) before (cond_tree c)) m (subst (λ z. IsCondOf (conds_of (map cond_tree cs)) before (cond_tree z)) (sym is) (cond_at cs i c l))
 
 pub have_truths_more : (cs : List CondD) (c : CondD) (s : NamedValues) (bs : List Bool) (b : Bool) → HaveTruths (conds_of cs) s bs → HasTruth c s b → HaveTruths (conds_of (cs ++ c ∷ [])) s (bs ++ b ∷ [])
 have_truths_more [] c s bs b h g = (b, [], ap (λ z. z ++ b ∷ []) h, g, refl)

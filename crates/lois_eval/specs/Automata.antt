@@ -1,5 +1,5 @@
 -- Operations on automata and where an automaton accepts no word, throughout a context, with the faults of values that are unfit.
-use Rattle.std.specs.Prelude.{◌≡◌, ℕ, Bool, not, List, length}
+use Rattle.std.specs.Prelude.{◌≡◌, ℕ, ◌⊎◌, Bool, not, List, length}
 use Rattle.lois_base.specs.Atom.{Atom}
 use Rattle.lois_base.specs.Data.{TermD, terms_of}
 use Rattle.lois_base.specs.Fits.{Fits, PartsFit, ConstraintFits}
@@ -7,8 +7,9 @@ use Rattle.lois_base.specs.Truth.{holds}
 use Rattle.lois_base.specs.Validity.{AdmitsConstraint, AdmitsTerm, AdmitsParts, HasBoundedWidths, PartsHaveBoundedWidths}
 use Rattle.lois_base.specs.Values.{PointValue, point}
 use Rattle.lois_base.specs.declared.guards.Lit.{Lit}
-use Rattle.lois_meaning.specs.Automata.{Automaton, IsAutomatonOf, Accepts}
+use Rattle.lois_meaning.specs.Automata.{Automaton, IsAutomatonOf, IsAutomaton, Accepts}
 use Rattle.lois_meaning.specs.Expressions.{IsTruthOf}
+use Rattle.lois_meaning.specs.Faults.{IsNoAutomaton}
 use Rattle.lois_script.specs.Tree.{ExprD}
 use Rattle.lois_script.specs.declared.syntax.Operation.{Operation}
 use Rattle.lois_script.specs.declared.syntax.Operation.TheVariants.{Reach, Product, Complement, Minimise}
@@ -62,6 +63,11 @@ pub record IsEmptiness (k : Context) (t : TermD) (g : List (List Lit)) : Type 0 
 pub record IsValueFault (k : Context) (row : PointValue → FaultKind → Type 0) (t : TermD) (at : ℕ) (f : Fault) : Type 0 where
   pub fault : IsFaultAt k at f
   pub unfit : (c : List Atom) → StandFor c f → row (point t c) f.kind
+
+-- one of two values is no automaton, and the place is its place: the second only where the first is one throughout
+abbrev pub IsProductFault : Context → TermD → ℕ → TermD → ℕ → Fault → Type 0
+IsProductFault k s at t there f =
+    IsValueFault k IsNoAutomaton s at f ⊎ (((c : List Atom) → IsAdmitted c k → IsAutomaton (point s c)) × IsValueFault k IsNoAutomaton t there f)
 
 -- the fault of a verdict that something fails, with its sample
 abbrev pub IsFailureOfVerdict : Verdict → Pos → FaultKind → Fault → Type 0

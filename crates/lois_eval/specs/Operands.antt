@@ -1,16 +1,15 @@
 -- Operations on operands that have values: which fit, what comes of them, and which operand fails.
 use Rattle.std.specs.Prelude.{◌≡◌, ℕ, ◌⊎◌, ◌↔◌, Bool, List, [], ◌∷◌, ◌++◌}
 use Rattle.lois_base.specs.Atom.{Atom}
-use Rattle.lois_base.specs.Data.{TermD, TermsD, term, terms_of, CompD}
+use Rattle.lois_base.specs.Data.{TermD, TermsD, terms_of, CompD}
 use Rattle.lois_base.specs.Fits.{Fits}
 use Rattle.lois_base.specs.Validity.{AdmitsTerm, HasBoundedWidths}
 use Rattle.lois_base.specs.Values.{PointValue, point, IsMember}
-use Rattle.lois_meaning.specs.Expressions.{AreValidOperands, IsResultOf}
-use Rattle.lois_meaning.specs.Faults.{IsInvalidOperand}
+use Rattle.lois_meaning.specs.Expressions.{IsValidOperand, AreValidOperands, IsResultOf}
+use Rattle.lois_meaning.specs.Faults.{IsInvalidOperand, IsUnfitAmong}
 use Rattle.lois_meaning.specs.Kinds.{part_values, IsSet}
-use Rattle.lois_script.specs.Tree.{ExprsD, expr, pos}
+use Rattle.lois_script.specs.Tree.{ExprsD}
 use Rattle.lois_algebra.specs.Sets.{IsSetOfSets}
-use Rattle.lois_answers.specs.declared.faults.FaultKind.{FaultKind}
 use Rattle.lois_answers.specs.declared.faults.FaultKind.TheVariants.{NotASet}
 use Rattle.lois_meaning.specs.declared.faults.Fault.{Fault}
 use Rattle.lois_script.specs.declared.syntax.Operation.{Operation}
@@ -35,16 +34,10 @@ abbrev pub IsAppliedThroughout : Context → Operation → List TermD → TermD 
 IsAppliedThroughout k op ts t =
     (c : List Atom) → IsAdmitted c k → AreValidOperands (part_values (terms_of ts) c) op × IsResultOf (point t c) op (part_values (terms_of ts) c)
 
--- one of the terms has a value that is unfit for the operation, and the place of its expression is this one
-abbrev pub IsUnfitAmong : Operation → ExprsD → TermsD → List Atom → ℕ → FaultKind → Type 0
-IsUnfitAmong op (expr e es) (term t ts) c at kind =
-    ((at ≡ pos e) × IsInvalidOperand op (point t c) kind) ⊎ IsUnfitAmong op es ts c at kind
-IsUnfitAmong op _ _ c at kind = ⊥
-
--- the fault of an operand at a sample that the context admits, and at all atoms that stand as its numbers do
+-- the fault of an operand behind valid ones, at a sample that the context admits, and at all atoms that stand as its numbers do
 pub record IsUnfitFault (k : Context) (op : Operation) (es : ExprsD) (ts : TermsD) (f : Fault) : Type 0 where
   pub admitted : IsAdmitted (sampled f.sample.items) k
-  pub unfit : (c : List Atom) → StandFor c f → IsUnfitAmong op es ts c f.pos.offset f.kind
+  pub unfit : (c : List Atom) → StandFor c f → IsUnfitAmong (λ v. IsValidOperand v op) (IsInvalidOperand op) es (part_values ts c) f.pos.offset f.kind
   pub elements : f.elements ≡ []
 
 -- The sets among the members of t at each choice that the context admits are all of them, and r has these.

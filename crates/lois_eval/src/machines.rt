@@ -1,6 +1,6 @@
 //! Operations on automata, and where an automaton accepts no word.
 
-ghost use Rattle.std.specs.Prelude.{◌⊎◌, [], ◌∷◌, IfOk, IfErr};
+ghost use Rattle.std.specs.Prelude.{[], ◌∷◌, IfOk, IfErr};
 ghost use Rattle.lois_base.specs.Data.{terms_of};
 ghost use Rattle.lois_base.specs.Fits.{Fits};
 ghost use Rattle.lois_base.specs.Tree.{tree};
@@ -11,7 +11,7 @@ ghost use Rattle.lois_script.specs.View.{exprs_of};
 ghost use Rattle.lois_script.specs.Lists.{exprs_list};
 ghost use Rattle.lois_script.specs.declared.syntax.Operation.TheVariants.{Reach, Product, Complement, Minimise};
 ghost use Rattle.lois_context.specs.Choices.{AdmitsContext};
-ghost use Rattle.lois_eval.specs.Automata.{AreOperands, IsEmptiness, IsOperationResult, IsOfOneAutomaton, IsValueFault};
+ghost use Rattle.lois_eval.specs.Automata.{AreOperands, IsEmptiness, IsOperationResult, IsOfOneAutomaton, IsValueFault, IsProductFault};
 ghost use Rattle.lois_eval.specs.Operands.{IsUnfitFault};
 ghost use Rattle.lois_eval.specs.Throughout.{IfFault};
 
@@ -108,7 +108,7 @@ fn product_of<T: Structure>(
     requires other_levels { Fits context.now.size (tree b.now) }
     requires other_operators { AdmitsTerm T.ordered (tree b.now) }
     ensures made { IfOk result (λ r. IsOperationResult context.now Product (tree a.now ∷ tree b.now ∷ []) (tree r)) }
-    ensures fault { IfErr result (λ s. IfFault s (λ f. IsValueFault context.now (IsInvalidOperand Product) (tree a.now) a_pos.offset f ⊎ IsValueFault context.now (IsInvalidOperand Product) (tree b.now) b_pos.offset f)) }
+    ensures fault { IfErr result (λ s. IfFault s (IsProductFault context.now (tree a.now) a_pos.offset (tree b.now) b_pos.offset)) }
     ensures only_asked { HasOnlyAsked (λ b. (⟦<dyn Decider as Decider>⟧ b.vtable).kind_of b.value) (λ b. (⟦<dyn Decider as Decider>⟧ b.vtable).questions b.value) chosen.old chosen.new }
 {
     check_machine::<T>(alloc, a_pos, a, context, chosen)?;

@@ -104,11 +104,12 @@ set_term (tup ts) h = absurd h
 set_term (coll ks) h = (ks, refl)
 
 module _ (at : Pos) (x : List ℕ) (e : ExprD) (k : Context) (t : TermD) (held : (a : List Atom) → looked_up x (store_at a k.store) ≡ Some (point t a)) (f : Fault) where
-  pub add_no_set : (IsColl t → ⊥) → IsFaultWith at NotASet k.sample f → FailsWithin (stmt_run (add e at.offset x)) k f
-  add_no_set none h =
-      bare_within (λ s place kind. (place ≡ at.offset) × (old : PointValue) × (looked_up x s ≡ Some old) × IsNoSet old kind) (stmt_run (add e at.offset x)) k f (λ s place kind bad. (refl, inr (inl bad))) (record {
-        admitted = subst (λ z. IsAdmitted (sampled z) k) (sym h.sample) (own_sample k);
-        failure = λ a stand. (ap (λ z. z.offset) h.place, point t a, held a, (h.kind, λ set. none (set_term t set)));
+  pub add_no_set : (v : TermD) → ((a : List Atom) → IsAdmitted a k → Gives e (store_at a k.store) (point v a)) → (IsColl t → ⊥) → IsFaultWith at NotASet k.sample f → FailsWithin (stmt_run (add e at.offset x)) k f
+  add_no_set v gives none h =
+      let adm : IsAdmitted (sampled f.sample.items) k = subst (λ z. IsAdmitted (sampled z) k) (sym h.sample) (own_sample k) in
+      bare_within (λ s place kind. (place ≡ at.offset) × (old w : PointValue) × (looked_up x s ≡ Some old) × Gives e s w × IsNoSet old kind) (stmt_run (add e at.offset x)) k f (λ s place kind bad. (refl, inr (inl bad))) (record {
+        admitted = adm;
+        failure = λ a stand. (ap (λ z. z.offset) h.place, point t a, point v a, held a, gives a (admitted_alike k f.sample.items a stand adm), (h.kind, λ set. none (set_term t set)));
         elements = h.elements;
       })
 

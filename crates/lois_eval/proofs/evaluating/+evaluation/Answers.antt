@@ -8,6 +8,7 @@ use Rattle.lois_base.specs.Fits.{ConstraintFits}
 use Rattle.lois_base.specs.Tree.{tree as term_tree}
 use Rattle.lois_base.specs.Truth.{holds}
 use Rattle.lois_base.specs.Validity.{AdmitsConstraint}
+use Rattle.lois_base.specs.Values.{point}
 use Rattle.lois_algebra.specs.Parts.{part_of}
 use Rattle.lois_meaning.specs.Expressions.{Makes, Gives, HasTruth}
 use Rattle.lois_meaning.specs.Faults.{Fails, Breaks, SomeFails, CondFails, IsNoAutomaton}
@@ -37,7 +38,7 @@ use Rattle.lois_eval.proofs.Comparing.{sides_from, sides_fail}
 use Rattle.lois_eval.proofs.Conditions.{joint_none, joint_more, not_decided}
 use Rattle.lois_eval.proofs.Emptiness.{empty_decided, empty_fails}
 use Rattle.lois_eval.proofs.Evaluations.{placed_as, terms_none, terms_more, some_fails, joint_fails, joint_placed}
-use Rattle.lois_eval.proofs.FaultsAt.{if_fault, fault_weaker}
+use Rattle.lois_eval.proofs.FaultsAt.{if_fault, fault_weaker, fault_within}
 use Rattle.lois_eval.proofs.Gathering.{gathered_more, found_more}
 use Rattle.lois_eval.proofs.LoopExit.{handed_fault, handed_same, handed_ok, item_there, passed_on}
 use Rattle.lois_eval.proofs.Nodes.{part_made, part_fails, made_as, breaks_as, too_deep_fails}
@@ -60,7 +61,8 @@ all_decided-decided-requires g t c κs within =
     let cs = conds_of (conds_list c.args.parts.now) in
     let one = c.part-item.result in
     let p = is_cond_of c.as_slice-part-items.result.now (conds_list c.args.parts.now) c.loop-part.part-index one c.as_slice-part-items.ensures.items c.loop-part-test.true c.part-item.is in
-    (omega (arith, p.weight), (within.0, (within.1, (c.requires.sound, joint_placed k c.args.every cs (cond_tree one) g.T.Structure.ordered p c.requires.placed))))
+    let before = conds_of (map cond_tree (take c.loop-part.part-index c.as_slice-part-items.result.now)) in
+    (omega (arith, p.weight), (within.0, (within.1, (c.requires.sound, joint_placed k c.args.every cs before (cond_tree one) g.T.Structure.ordered p c.requires.placed))))
 
 pub all_decided-returns-in_err-one-clause-fault : goal.all_decided-returns-in_err-one-clause-fault
 all_decided-returns-in_err-one-clause-fault g t c =
@@ -68,7 +70,10 @@ all_decided-returns-in_err-one-clause-fault g t c =
     let cs = conds_of (conds_list c.args.parts.now) in
     let one = c.part-item.result in
     let p = is_cond_of c.as_slice-part-items.result.now (conds_list c.args.parts.now) c.loop-part.part-index one c.as_slice-part-items.ensures.items c.loop-part-test.true c.part-item.is in
-    passed_on c.from_residual-in_err-one.result c.in_err-one.field-0.0 (IsFaultOf k (CondFails (cond_tree one))) (IsFaultOf k (CondFails (joint c.args.every cs))) c.from_residual-in_err-one.ensures.1 (λ f h. joint_fails k c.args.every cs (cond_tree one) f p h) c.in_err-one.ensures.fault
+    let before = conds_of (map cond_tree (take c.loop-part.part-index c.as_slice-part-items.result.now)) in
+    let S = CondIsWellFormed (joint c.args.every cs) in
+    passed_on c.from_residual-in_err-one.result c.in_err-one.field-0.0 (IsFaultOf k (CondFails (cond_tree one))) (IsFaultOf k (CondFails (joint c.args.every cs))) c.from_residual-in_err-one.ensures.1
+    (λ f h. joint_fails k S c.args.every cs before c.loop-part.found (cond_tree one) f p c.loop-part.invariant.constraint h) c.in_err-one.ensures.fault
 
 pub all_decided-loop-part-preserved : goal.all_decided-loop-part-preserved
 all_decided-loop-part-preserved g t c =
@@ -84,7 +89,7 @@ all_decided-loop-part-preserved g t c =
     record {
       constraint =
           subst (λ z. IsConstraintOf k (HasTruth (joint c.args.every (conds_of z))) S after) (sym (one_more cond_tree items i one c.loop-part-test.true c.part-item.is))
-          (joint_more k S c.args.every (map cond_tree (take i items)) (cond_tree one) c.loop-part.found c.in_ok-one.one after c.loop-part.invariant.constraint c.in_ok-one.ensures.constraint done.truth done.levels done.operators (λ o h. joint_placed k c.args.every cs (cond_tree one) o p h));
+          (joint_more k S c.args.every (map cond_tree (take i items)) (cond_tree one) c.loop-part.found c.in_ok-one.one after c.loop-part.invariant.constraint c.in_ok-one.ensures.constraint done.truth done.levels done.operators (λ o h. joint_placed k c.args.every cs (conds_of (map cond_tree (take i items))) (cond_tree one) o p h));
       asked = g.met.D.Oracle.reaches_then c.args.decider.now c.loop-part.decider c.decided.new.decider c.loop-part.invariant.asked c.decided.ensures.asked;
     }
 
@@ -103,7 +108,9 @@ all_evaluated-returns-in_err-evaluated-clause-fault g t c =
     let es = exprs_of (exprs_list c.args.es.now) in
     let e = c.e-item.result in
     let p = is_expr_of c.as_slice-e-items.result.now (exprs_list c.args.es.now) c.loop-e.e-index e c.as_slice-e-items.ensures.items c.loop-e-test.true c.e-item.is in
-    passed_on c.from_residual.result c.in_err-evaluated.field-0.0 (IsFaultOf k (Fails (tree e))) (IsFaultOf k (SomeFails es)) c.from_residual.ensures.1 (λ f h. some_fails k es (tree e) f p h) c.in_err-evaluated.ensures.fault
+    let before = exprs_of (map tree (take c.loop-e.e-index c.as_slice-e-items.result.now)) in
+    passed_on c.from_residual.result c.in_err-evaluated.field-0.0 (IsFaultOf k (Fails (tree e))) (IsFaultOf k (SomeFails es)) c.from_residual.ensures.1
+    (λ f h. some_fails k (AreWellFormed es) es before c.loop-e.values (tree e) f p c.loop-e.invariant.terms h) c.in_err-evaluated.ensures.fault
 
 pub all_evaluated-loop-e-preserved : goal.all_evaluated-loop-e-preserved
 all_evaluated-loop-e-preserved g t c =
@@ -534,8 +541,9 @@ both_evaluated-returns-in_err-right-clause-fault g t c =
     let k = c.args.context.now in
     let e = tree c.args.e.now in
     let f = tree c.args.f.now in
+    let s = term_tree c.in_ok-left.left in
     passed_on c.from_residual-in_err-right.result c.in_err-right.field-0.0 (IsFaultOf k (Fails f)) (IsFaultOf k (SomeFails (two e f))) c.from_residual-in_err-right.ensures.1
-    (λ x h. fault_weaker k (Fails f) (SomeFails (two e f)) x (λ s at kind bad. inr (inl bad)) h) c.in_err-right.ensures.fault
+    (λ x h. fault_within k (Fails f) (SomeFails (two e f)) x (λ d a at kind bad. inr (point s d, c.in_ok-left.ensures.term.value d a, inl bad)) h) c.in_err-right.ensures.fault
 
 pub decided-returns-in_err-values-in-Same-clause-fault :
     goal.decided-returns-in_err-values-in-Same-clause-fault

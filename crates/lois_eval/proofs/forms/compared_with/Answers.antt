@@ -131,4 +131,4 @@ returns-in_err-check_set-in-Included-2-clause-fault g c =
     let is = ap cond_tree c.in-Included.is ∙ cond_Included c.in-Included.e c.in-Included.f in
     let both = sides_as k (cond_tree c.args.c.now) (included e f) (s ∷ t ∷ []) is c.requires.values in
     passed_on c.from_residual-in_err-check_set-in-Included-2.result c.in_err-check_set-in-Included-2.field-0.0 (IsSetFault k t c.pos-in-Included-2.result.offset) (IsFaultOf k (CondFails (cond_tree c.args.c.now))) c.from_residual-in_err-check_set-in-Included-2.ensures.1
-    (λ x bad. cond_fails_as k (cond_tree c.args.c.now) (included e f) x is (included_fails_right k e f s t (CondIsWellFormed (included e f)) both x (subst (λ at. IsSetFault k t at x) c.pos-in-Included-2.ensures.first_token bad))) c.in_err-check_set-in-Included-2.ensures.fault
+    (λ x bad. cond_fails_as k (cond_tree c.args.c.now) (included e f) x is (included_fails_right k e f s t (CondIsWellFormed (included e f)) both x c.in_ok-check_set-in-Included.ensures.set (subst (λ at. IsSetFault k t at x) c.pos-in-Included-2.ensures.first_token bad))) c.in_err-check_set-in-Included-2.ensures.fault

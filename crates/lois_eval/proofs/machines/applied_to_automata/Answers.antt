@@ -1,19 +1,18 @@
-use Rattle.std.proofs.Common.{◌⊎◌, [], ◌∷◌, sym, ap, subst, ◌∙◌}
+use Rattle.std.proofs.Common.{[], ◌∷◌, sym, ap, subst, ◌∙◌}
 use Rattle.std.proofs.lemmas.Result.{IfOk-weaker, IfErr-weaker}
 use Rattle.lois_base.specs.Data.{terms_of}
 use Rattle.lois_base.specs.Fits.{PartsFit}
 use Rattle.lois_base.specs.Tree.{tree as term_tree}
 use Rattle.lois_base.specs.Validity.{AdmitsParts}
 use Rattle.lois_meaning.specs.Faults.{IsInvalidOperand}
-use Rattle.lois_meaning.specs.declared.faults.Fault.{Fault}
 use Rattle.lois_script.specs.View.{tree, exprs_of}
 use Rattle.lois_script.specs.Lists.{exprs_list}
 use Rattle.lois_script.specs.declared.syntax.Operation.TheVariants.{Product}
-use Rattle.lois_eval.specs.Automata.{IsOperationResult, IsValueFault}
+use Rattle.lois_eval.specs.Automata.{IsOperationResult, IsValueFault, IsProductFault}
 use Rattle.lois_eval.specs.Operands.{IsUnfitFault}
 use Rattle.lois_eval.specs.WellFormed.{arity}
 use Rattle.lois_eval.specs.Throughout.{IfFault}
-use Rattle.lois_eval.proofs.Automata.{made_of, of_one_automaton, one_unfit, two_unfit}
+use Rattle.lois_eval.proofs.Automata.{made_of, of_one_automaton, one_unfit, product_unfit}
 use Rattle.lois_eval.proofs.FaultsAt.{if_fault}
 use Rattle.lois_eval.proofs.machines.applied_to_automata.Goals as goal
 
@@ -48,11 +47,11 @@ returns-in-Product-clause-fault g c =
     let f = c.two_exprs.result.1.now in
     let s = term_tree c.two_terms.result.0.now in
     let t = term_tree c.two_terms.result.1.now in
-    let P = λ (x : Fault). IsValueFault k (IsInvalidOperand Product) s c.pos.result.offset x ⊎ IsValueFault k (IsInvalidOperand Product) t c.pos-in-Product.result.offset x in
+    let P = IsProductFault k s c.pos.result.offset t c.pos-in-Product.result.offset in
     let Q = IsUnfitFault k c.args.operation (exprs_of (exprs_list c.args.operands.now)) (terms_of c.args.values.now) in
     IfErr-weaker c.product_of.result (λ z. IfFault z P) _
     (λ z h. if_fault z P Q (λ x unfit. subst (λ op. IsUnfitFault k op (exprs_of (exprs_list c.args.operands.now)) (terms_of c.args.values.now) x) (sym c.in-Product.is)
-    (two_unfit k Product (exprs_list c.args.operands.now) c.args.values.now x (tree e) (tree f) s t c.pos.result.offset c.pos-in-Product.result.offset c.two_exprs.ensures c.two_terms.ensures c.pos.ensures.first_token c.pos-in-Product.ensures.first_token unfit)) h) c.product_of.ensures.fault
+    (product_unfit k (exprs_list c.args.operands.now) c.args.values.now x (tree e) (tree f) s t c.pos.result.offset c.pos-in-Product.result.offset c.two_exprs.ensures c.two_terms.ensures c.pos.ensures.first_token c.pos-in-Product.ensures.first_token unfit)) h) c.product_of.ensures.fault
 
 pub one_expr-requires : goal.one_expr-requires
 one_expr-requires g c =

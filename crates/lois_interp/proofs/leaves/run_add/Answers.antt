@@ -49,7 +49,7 @@ returns-in_default-extended-clause-fault g c =
     let held = slot_held k x i (held_of taken) c.in-Some.ensures.found c.in_ok-out.ensures.slot in
     let none = subst (IsExtended t (term_tree c.in_ok-item.item)) (c.in_default-extended.is) c.in_ok-extended.ensures in
     if_fault c.fault_under.result (IsFaultWith c.args.pos NotASet taken.rest.sample) (FailsWithin (stmt_run (add e c.args.pos.offset x)) k)
-    (λ f h. add_no_set c.args.pos x e k t (λ a. held_value x k.store t a held) f none (subst (λ z. IsFaultWith c.args.pos NotASet z f) c.in_ok-out.ensures.sample h)) c.fault_under.ensures
+    (λ f h. add_no_set c.args.pos x e k t (λ a. held_value x k.store t a held) f (term_tree c.in_ok-item.item) c.in_ok-item.ensures.value none (subst (λ z. IsFaultWith c.args.pos NotASet z f) c.in_ok-out.ensures.sample h)) c.fault_under.ensures
 
 pub check_depth-requires-clause-levels : goal.check_depth-requires-clause-levels
 check_depth-requires-clause-levels g c =
