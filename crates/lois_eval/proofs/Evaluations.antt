@@ -44,11 +44,11 @@ module _ (k : Context) (S : Bool → List (List ℕ) → Type 0) where
     widths = λ h. parts_widths-more ts t (so_far.widths h) (own.widths h);
   })
 
-pub some_fails : (k : Context) (es : ExprsD) (e : ExprD) (f : Fault) → IsExprOf es e → IsFaultOf k (Fails e) f → IsFaultOf k (SomeFails es) f
-some_fails k es e f is h = fault_weaker k (Fails e) (SomeFails es) f is.fails h
+pub some_fails : (o : Bool) (k : Context) (es : ExprsD) (e : ExprD) (f : Fault) → IsExprOf es e → IsFaultOf o k (Fails e) f → IsFaultOf o k (SomeFails es) f
+some_fails o k es e f is h = fault_weaker o k (Fails e) (SomeFails es) f is.fails h
 
-pub joint_fails : (k : Context) (every : Bool) (cs : CondsD) (c : CondD) (f : Fault) → IsCondOf cs c → IsFaultOf k (CondFails c) f → IsFaultOf k (CondFails (joint every cs)) f
-joint_fails k every cs c f is h = fault_weaker k (CondFails c) (CondFails (joint every cs)) f (of every) h
+pub joint_fails : (o : Bool) (k : Context) (every : Bool) (cs : CondsD) (c : CondD) (f : Fault) → IsCondOf cs c → IsFaultOf o k (CondFails c) f → IsFaultOf o k (CondFails (joint every cs)) f
+joint_fails o k every cs c f is h = fault_weaker o k (CondFails c) (CondFails (joint every cs)) f (of every) h
   where
     of : (every : Bool) (s : NamedValues) (at : ℕ) (kind : FaultKind) → CondFails c s at kind → CondFails (joint every cs) s at kind
     of true = is.fails

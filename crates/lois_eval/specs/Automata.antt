@@ -59,9 +59,9 @@ pub record IsEmptiness (k : Context) (t : TermD) (g : List (List Lit)) : Type 0 
   pub operators : (o : Bool) → AdmitsContext o k → AdmitsTerm o t → AdmitsConstraint o g
 
 -- the value of t fails in this way at the fault's sample, and at all atoms that stand as its numbers do
-pub record IsValueFault (k : Context) (row : PointValue → FaultKind → Type 0) (t : TermD) (at : ℕ) (f : Fault) : Type 0 where
+pub record IsValueFault (ordered : Bool) (k : Context) (row : PointValue → FaultKind → Type 0) (t : TermD) (at : ℕ) (f : Fault) : Type 0 where
   pub fault : IsFaultAt k at f
-  pub unfit : (c : List Atom) → StandFor c f → row (point t c) f.kind
+  pub unfit : (c : List Atom) → StandFor ordered c f → row (point t c) f.kind
 
 -- the fault of a verdict that something fails, with its sample
 abbrev pub IsFailureOfVerdict : Verdict → Pos → FaultKind → Fault → Type 0

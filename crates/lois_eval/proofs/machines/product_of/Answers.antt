@@ -9,14 +9,14 @@ use Rattle.lois_eval.proofs.machines.product_of.Goals as goal
 
 pub returns-in_err-check_machine-clause-fault : goal.returns-in_err-check_machine-clause-fault
 returns-in_err-check_machine-clause-fault g c =
-    let P = IsValueFault c.args.context.now (IsInvalidOperand Product) (tree c.args.a.now) c.args.a_pos.offset in
-    let Q = IsValueFault c.args.context.now (IsInvalidOperand Product) (tree c.args.b.now) c.args.b_pos.offset in
+    let P = IsValueFault g.T.Structure.ordered c.args.context.now (IsInvalidOperand Product) (tree c.args.a.now) c.args.a_pos.offset in
+    let Q = IsValueFault g.T.Structure.ordered c.args.context.now (IsInvalidOperand Product) (tree c.args.b.now) c.args.b_pos.offset in
     passed_on c.from_residual.result c.in_err-check_machine.field-0.0 P (λ f. P f ⊎ Q f) c.from_residual.ensures.1 (λ f h. inl h) c.in_err-check_machine.ensures.fault
 
 pub returns-in_err-check_machine-2-clause-fault : goal.returns-in_err-check_machine-2-clause-fault
 returns-in_err-check_machine-2-clause-fault g c =
-    let P = IsValueFault c.args.context.now (IsInvalidOperand Product) (tree c.args.a.now) c.args.a_pos.offset in
-    let Q = IsValueFault c.args.context.now (IsInvalidOperand Product) (tree c.args.b.now) c.args.b_pos.offset in
+    let P = IsValueFault g.T.Structure.ordered c.args.context.now (IsInvalidOperand Product) (tree c.args.a.now) c.args.a_pos.offset in
+    let Q = IsValueFault g.T.Structure.ordered c.args.context.now (IsInvalidOperand Product) (tree c.args.b.now) c.args.b_pos.offset in
     passed_on c.from_residual-in_err-check_machine-2.result c.in_err-check_machine-2.field-0.0 Q (λ f. P f ⊎ Q f) c.from_residual-in_err-check_machine-2.ensures.1 (λ f h. inr h) c.in_err-check_machine-2.ensures.fault
 
 pub returns-clause-made : goal.returns-clause-made
