@@ -77,6 +77,9 @@ PLANTED = [
     (("run",), b"atoms equality;\nparameter a, b;\nassert a = b;\nassert a != b;",
      "lois results 2\natoms equality\nparameters a b\nfailed at 3:1: assertion failed\nchoice 0 1\nend\n", 1,
      [("a statement before fails elsewhere", "3:1: assertion failed\nchoice 0 1", "4:1: assertion failed\nchoice 0 0")]),
+    (("run",), b"atoms equality;\nparameter a, b, c;\nassert a = b or a = c or b = c;",
+     "lois results 2\natoms equality\nparameters a b c\nfailed at 3:1: assertion failed\nchoice 0 1 2\nend\n", 1,
+     [("numbers by an order that the atoms lack", "choice 0 1 2", "choice 2 1 0")]),
     (("run",), b"atoms order; let s = {}; print x;", "refused at 1:32: unknown name\n", 5, [
         ("another place of a refusal", "1:32", "1:26"), ("another refusal", "unknown name", "not a script"),
         ("a status", "", "", 0)]),
