@@ -112,7 +112,7 @@ def judge_choice(script, source, answer, choice):
 
 def judge_trace(script, source, answer, status):
     """The script fails at the trace's place, for its cause, at the choice of its first numbers, with its elements, in
-    which the levels of the other numbers stand. The numbers are from 0 on, without gaps."""
+    which the levels of the other numbers stand. The numbers are ranks."""
     demand(status == STATUS[answer.cause], f"the status of '{answer.cause}' is {STATUS[answer.cause]}")
     line, column = answer.place
     rows = source.split(b"\n")
@@ -122,7 +122,7 @@ def judge_trace(script, source, answer, status):
     choice = sample[:len(answer.parameters)]
     levels = set().union(*(levels_of(term) for _, term in answer.elements))
     demand(set(range(len(choice), len(sample))) <= levels, "a number is for no level of an element")
-    demand(list(answer.choice) == ranks(answer.choice, True), "the numbers have gaps")
+    demand(list(answer.choice) == ranks(answer.choice, script.order), "the numbers are no ranks")
     path = tuple((name, value_at(term, sample)) for name, term in answer.elements)
     if not script_fails(script, choice, (pos, answer.cause, path)):
         raise Wrong("it doesn't fail so; " + some_failure(script, source, answer, choice))

@@ -83,6 +83,9 @@ PLANTED = [
     (("run",), b"atoms equality;\nparameter a;\nassert a = {a} and union(a,\n 'b) = {};",
      "lois results 2\natoms equality\nparameters a\nfailed at 3:26: not a set\nchoice 0\nend\n", 2,
      [("an operand of the wrong kind behind another", "3:26", "4:2")]),
+    (("run",), b"atoms equality;\nparameter a, b, c;\nassert a = b or a = c or b = c;",
+     "lois results 2\natoms equality\nparameters a b c\nfailed at 3:1: assertion failed\nchoice 0 1 2\nend\n", 1,
+     [("numbers by an order that the atoms lack", "choice 0 1 2", "choice 2 1 0")]),
     (("run",), b"atoms order; let s = {}; print x;", "refused at 1:32: unknown name\n", 5, [
         ("another place of a refusal", "1:32", "1:26"), ("another refusal", "unknown name", "not a script"),
         ("a status", "", "", 0)]),

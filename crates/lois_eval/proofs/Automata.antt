@@ -1,5 +1,5 @@
 -- Values that are automata, or unfit for an operation on automata, throughout a context.
-use Rattle.std.proofs.Common.{◌≡◌, ℕ, inl, inr, true, List, [], ◌∷◌, length, refl, sym, ap, subst, ◌∙◌}
+use Rattle.std.proofs.Common.{◌≡◌, ℕ, inl, inr, Bool, List, [], ◌∷◌, length, refl, sym, ap, subst, ◌∙◌}
 use Rattle.std.proofs.lemmas.List.{length-map}
 use Rattle.std.specs.Prelude.{Result, OnOk}
 use Rattle.lois_base.specs.Atom.{Atom, whole}
@@ -27,12 +27,16 @@ use Rattle.lois_script.specs.declared.syntax.Operation.{Operation}
 use Rattle.lois_script.specs.declared.syntax.Operation.TheVariants.{Union, Inter, Minus, Flatten, Reach, Product, Complement, Minimise}
 use Rattle.lois_script.specs.declared.syntax.Pos.{Pos}
 use Rattle.lois_meaning.proofs.Alike.{parts_one}
-use Rattle.lois_context.specs.Choices.{IsAdmitted}
+use Rattle.lois_base.specs.Fits.{Fits}
+use Rattle.lois_base.specs.Validity.{AdmitsTerm}
+use Rattle.lois_context.specs.Choices.{IsAdmitted, AdmitsContext}
 use Rattle.lois_context.specs.declared.contexts.Context.{Context}
 use Rattle.lois_eval.specs.Automata.{IsOfOneAutomaton, IsOfAutomata, IsOperationResult, IsValueFault, IsProductFault, IsFailureOfVerdict}
 use Rattle.lois_eval.specs.Operands.{IsAppliedThroughout, IsUnfitFault}
 use Rattle.lois_eval.specs.WellFormed.{arity}
-use Rattle.lois_eval.proofs.FaultsAt.{fault_at, admitted_alike}
+use Rattle.lois_base.proofs.Moves.{alike_sym}
+use Rattle.lois_eval.proofs.AlikeMachines.{automaton_alike, deterministic_alike, complete_alike}
+use Rattle.lois_eval.proofs.FaultsAt.{admitted_alike, fault_at}
 
 -- an automaton has one list of five sets
 pub one_machine : (v : PointValue) (a b : Automaton) → IsAutomatonOf v a → IsAutomatonOf v b → a ≡ b
@@ -65,34 +69,40 @@ module _ (n : ℕ) (u : List (List Lit)) (t : TermD) where
   pub whole_automaton : HoldsThroughout n u (IsCompleteDeterministicAt t) → HoldsThroughout n u (IsAutomatonAt t)
   whole_automaton is c k h = let w = is c k h in (w.0, w.1)
 
-module _ (k : Context) (t : TermD) where
+-- what isn't so at numbers isn't so at atoms that stand as they do
+abbrev Stays : Bool → ℕ → (List Atom → Type 0) → Type 0
+Stays o n P = (c d : List Atom) → length c ≡ n → AreAlike o c d → P c → P d
+
+module _ (o : Bool) (k : Context) (t : TermD) (fits : Fits k.size t) (admits : AdmitsTerm o t) (context : AdmitsContext o k) where
   -- the fault at a sample at which a property fails
-  pub failed_value : (P : List Atom → Type 0) (row : PointValue → FaultKind → Type 0) (at : Pos) (kind : FaultKind) → ((c : List Atom) → IsAdmitted c k → (P c → ⊥) → row (point t c) kind) → (v : Verdict) → IsVerdictOn k.size k.«when» P v → (f : Fault) → IsFailureOfVerdict v at kind f → IsValueFault k row t at.offset f
-  failed_value P row at kind to Holds verdict f h = absurd h
-  failed_value P row at kind to (Fails s) verdict f h =
+  failed_value : (P : List Atom → Type 0) → Stays o k.size P → (row : PointValue → FaultKind → Type 0) (at : Pos) (kind : FaultKind) → ((c : List Atom) → IsAdmitted c k → (P c → ⊥) → row (point t c) kind) → (v : Verdict) → IsVerdictOn k.size k.«when» P v → (f : Fault) → IsFailureOfVerdict v at kind f → IsValueFault o k row t at.offset f
+  failed_value P stays row at kind to Holds verdict f h = absurd h
+  failed_value P stays row at kind to (Fails s) verdict f h =
       let a : IsAdmitted (sampled s.items) k = (length-map s.items whole ∙ verdict.count, verdict.admitted) in
       record {
         fault = fault_at k at kind s.items a f h;
         unfit = λ c stand.
-            let there = verdict.alike c (subst (λ z. AreAlike true (sampled z) c) h.sample stand) in
-            subst (row (point t c)) (sym h.kind) (to c (sym stand.count ∙ (ap (λ z. length (sampled z)) h.sample ∙ a.0), there.0) there.1);
+            let alike : AreAlike o (sampled s.items) c = subst (λ z. AreAlike o (sampled z) c) h.sample stand in
+            let there : IsAdmitted c k = admitted_alike o k s.items c context alike a in
+            subst (row (point t c)) (sym h.kind) (to c there (λ p. verdict.broken (stays c (sampled s.items) there.0 (alike_sym o (sampled s.items) c alike) p)));
       }
 
-  pub no_automaton : (at : Pos) (v : Verdict) → IsVerdictOn k.size k.«when» (IsAutomatonAt t) v → (f : Fault) → IsFailureOfVerdict v at NotAutomaton f → IsValueFault k IsNoAutomaton t at.offset f
-  no_automaton at = failed_value (IsAutomatonAt t) IsNoAutomaton at NotAutomaton (λ c a none. (refl, none))
+  pub no_automaton : (at : Pos) (v : Verdict) → IsVerdictOn k.size k.«when» (IsAutomatonAt t) v → (f : Fault) → IsFailureOfVerdict v at NotAutomaton f → IsValueFault o k IsNoAutomaton t at.offset f
+  no_automaton at = failed_value (IsAutomatonAt t) (λ c d n. automaton_alike o k.size c d n t fits admits) IsNoAutomaton at NotAutomaton (λ c a none. (refl, none))
 
-  pub not_deterministic : HoldsThroughout k.size k.«when» (IsAutomatonAt t) → (at : Pos) (v : Verdict) → IsVerdictOn k.size k.«when» (IsDeterministicAt t) v → (f : Fault) → IsFailureOfVerdict v at NotDeterministic f → IsValueFault k (IsInvalidOperand Minimise) t at.offset f
-  not_deterministic automaton at = failed_value (IsDeterministicAt t) (IsInvalidOperand Minimise) at NotDeterministic (λ c a none.
+  pub not_deterministic : HoldsThroughout k.size k.«when» (IsAutomatonAt t) → (at : Pos) (v : Verdict) → IsVerdictOn k.size k.«when» (IsDeterministicAt t) v → (f : Fault) → IsFailureOfVerdict v at NotDeterministic f → IsValueFault o k (IsInvalidOperand Minimise) t at.offset f
+  not_deterministic automaton at = failed_value (IsDeterministicAt t) (λ c d n. deterministic_alike o k.size c d n t fits admits) (IsInvalidOperand Minimise) at NotDeterministic (λ c a none.
       let (m, is) = automaton c a.0 a.1 in
       inr (inl (refl, m, is, λ one. none (m, is, one))))
 
-  pub not_complete : HoldsThroughout k.size k.«when» (IsDeterministicAt t) → (at : Pos) (v : Verdict) → IsVerdictOn k.size k.«when» (IsCompleteAt t) v → (f : Fault) → IsFailureOfVerdict v at NotComplete f → IsValueFault k (IsInvalidOperand Minimise) t at.offset f
-  not_complete single at = failed_value (IsCompleteAt t) (IsInvalidOperand Minimise) at NotComplete (λ c a none.
+  pub not_complete : HoldsThroughout k.size k.«when» (IsDeterministicAt t) → (at : Pos) (v : Verdict) → IsVerdictOn k.size k.«when» (IsCompleteAt t) v → (f : Fault) → IsFailureOfVerdict v at NotComplete f → IsValueFault o k (IsInvalidOperand Minimise) t at.offset f
+  not_complete single at = failed_value (IsCompleteAt t) (λ c d n. complete_alike o k.size c d n t fits admits) (IsInvalidOperand Minimise) at NotComplete (λ c a none.
       let (m, is, one) = single c a.0 a.1 in
       inr (inr (refl, m, is, one, λ all. none (m, is, all))))
 
-  pub value_fault_weaker : (P Q : PointValue → FaultKind → Type 0) (at : ℕ) (f : Fault) → ((v : PointValue) (kind : FaultKind) → P v kind → Q v kind) → IsValueFault k P t at f → IsValueFault k Q t at f
-  value_fault_weaker P Q at f to h = record { fault = h.fault; unfit = λ c stand. to (point t c) f.kind (h.unfit c stand) }
+module _ (k : Context) (t : TermD) where
+  pub value_fault_weaker : (o : Bool) (P Q : PointValue → FaultKind → Type 0) (at : ℕ) (f : Fault) → ((v : PointValue) (kind : FaultKind) → P v kind → Q v kind) → IsValueFault o k P t at f → IsValueFault o k Q t at f
+  value_fault_weaker o P Q at f to h = record { fault = h.fault; unfit = λ c stand. to (point t c) f.kind (h.unfit c stand) }
 
   -- ---- what the operations make
 
@@ -127,18 +137,18 @@ of_one_automaton Inter h other = absurd h
 of_one_automaton Minus h other = absurd h
 of_one_automaton Flatten h other = absurd h
 
-module _ (k : Context) (op : Operation) (es : List ExprD) (ts : List TermD) (x : Fault) where
-  pub one_unfit : (e : ExprD) (t : TermD) (at : ℕ) → es ≡ e ∷ [] → ts ≡ t ∷ [] → at ≡ pos e → IsValueFault k (IsInvalidOperand op) t at x → IsUnfitFault k op (exprs_of es) (terms_of ts) x
-  one_unfit e t at operands values place h = subst (λ z. IsUnfitFault k op (exprs_of es) (terms_of z) x) (sym values) (subst (λ z. IsUnfitFault k op (exprs_of z) (terms_of (t ∷ [])) x) (sym operands) (record {
+module _ (o : Bool) (k : Context) (op : Operation) (es : List ExprD) (ts : List TermD) (x : Fault) where
+  pub one_unfit : (e : ExprD) (t : TermD) (at : ℕ) → es ≡ e ∷ [] → ts ≡ t ∷ [] → at ≡ pos e → IsValueFault o k (IsInvalidOperand op) t at x → IsUnfitFault o k op (exprs_of es) (terms_of ts) x
+  one_unfit e t at operands values place h = subst (λ z. IsUnfitFault o k op (exprs_of es) (terms_of z) x) (sym values) (subst (λ z. IsUnfitFault o k op (exprs_of z) (terms_of (t ∷ [])) x) (sym operands) (record {
     admitted = h.fault.admitted;
     unfit = λ c stand. inl (h.fault.place ∙ place, h.unfit c stand);
     elements = h.fault.elements;
   }))
 
-pub product_unfit : (k : Context) (es : List ExprD) (ts : List TermD) (x : Fault) (e f : ExprD) (s t : TermD) (at other : ℕ) → es ≡ e ∷ f ∷ [] → ts ≡ s ∷ t ∷ [] → at ≡ pos e → other ≡ pos f → IsProductFault k s at t other x → IsUnfitFault k Product (exprs_of es) (terms_of ts) x
-product_unfit k es ts x e f s t at other operands values place second h = subst (λ z. IsUnfitFault k Product (exprs_of es) (terms_of z) x) (sym values) (subst (λ z. IsUnfitFault k Product (exprs_of z) (terms_of (s ∷ t ∷ [])) x) (sym operands) (of h))
+pub product_unfit : (o : Bool) (k : Context) (es : List ExprD) (ts : List TermD) (x : Fault) (e f : ExprD) (s t : TermD) (at other : ℕ) → es ≡ e ∷ f ∷ [] → ts ≡ s ∷ t ∷ [] → at ≡ pos e → other ≡ pos f → AdmitsContext o k → IsProductFault o k s at t other x → IsUnfitFault o k Product (exprs_of es) (terms_of ts) x
+product_unfit o k es ts x e f s t at other operands values place second admits h = subst (λ z. IsUnfitFault o k Product (exprs_of es) (terms_of z) x) (sym values) (subst (λ z. IsUnfitFault o k Product (exprs_of z) (terms_of (s ∷ t ∷ [])) x) (sym operands) (of h))
   where
-    of : IsProductFault k s at t other x → IsUnfitFault k Product (exprs_of (e ∷ f ∷ [])) (terms_of (s ∷ t ∷ [])) x
+    of : IsProductFault o k s at t other x → IsUnfitFault o k Product (exprs_of (e ∷ f ∷ [])) (terms_of (s ∷ t ∷ [])) x
     of (inl h) = record {
       admitted = h.fault.admitted;
       unfit = λ c stand. inl (h.fault.place ∙ place, h.unfit c stand);
@@ -146,6 +156,6 @@ product_unfit k es ts x e f s t at other operands values place second h = subst 
     }
     of (inr (left, h)) = record {
       admitted = h.fault.admitted;
-      unfit = λ c stand. inr (left c (admitted_alike k x.sample.items c stand h.fault.admitted), inl (h.fault.place ∙ second, h.unfit c stand));
+      unfit = λ c stand. inr (left c (admitted_alike o k x.sample.items c admits stand h.fault.admitted), inl (h.fault.place ∙ second, h.unfit c stand));
       elements = h.fault.elements;
     }

@@ -7,7 +7,7 @@ use Rattle.std.proofs.lemmas.List.{drop_all}
 use Rattle.lois_base.specs.Atom.{Atom}
 use Rattle.lois_base.specs.Data.{TermD, coll, comp, CompsD, no_comps, comps_of}
 use Rattle.lois_base.specs.Fits.{ConstraintFits}
-use Rattle.lois_base.specs.Truth.{holds, sampled}
+use Rattle.lois_base.specs.Truth.{holds}
 use Rattle.lois_base.specs.Validity.{AdmitsConstraint}
 use Rattle.lois_base.specs.declared.guards.Lit.{Lit}
 use Rattle.lois_terms.specs.Collections.{IsColl as IsSetTerm}
@@ -34,7 +34,7 @@ use Rattle.lois_eval.specs.WellFormed.{IsWellFormedIn, IsUnnamed, IsWellFormed, 
 use Rattle.lois_eval.specs.Throughout.{IsFaultOf}
 use Rattle.lois_eval.proofs.Conditions.{no_set_fails}
 use Rattle.lois_eval.proofs.Innermost.{here_none, here_one, here_within}
-use Rattle.lois_eval.proofs.FaultsAt.{admitted_alike, fault_weaker}
+use Rattle.lois_eval.proofs.FaultsAt.{fault_weaker}
 use Rattle.lois_eval.proofs.Weights.{weight, weight_of_bindings, weight_of_cond, weight_from}
 use Rattle.lois_eval.proofs.Wholes.{unnamed_new, placed_inside, each_loop, each_loop_within, each_loop_fails, quantifier_loop, quantifier_loop_fails}
 
@@ -65,17 +65,17 @@ module _ (k : Context) (item : Expr) (bs : List Binding) (i : ℕ) (b : Binding)
   pub first_new : (o : Bool) → IsWellFormedIn (IsWellFormed (each_from item bs i c)) o k → IsNew b.name k.store
   first_new o h = unnamed_new b.name k.store (unfolded o h).names.0.1
 
-  pub first_set_fails : (f : Fault) → IsFaultOf k (Fails (tree b.from)) f → IsFaultOf k (Breaks (each_from item bs i c)) f
-  first_set_fails f h =
-      subst (λ z. IsFaultOf k (Breaks z) f) (sym first_is)
-      (fault_weaker k (Fails (tree b.from)) (Breaks (each 0 (tree item) (bind (binding b.pos.offset b.name (tree b.from)) rest) (cond_tree c))) f (λ s at kind bad. inl (inl bad)) h)
+  pub first_set_fails : (o : Bool) (f : Fault) → IsFaultOf o k (Fails (tree b.from)) f → IsFaultOf o k (Breaks (each_from item bs i c)) f
+  first_set_fails o f h =
+      subst (λ z. IsFaultOf o k (Breaks z) f) (sym first_is)
+      (fault_weaker o k (Fails (tree b.from)) (Breaks (each 0 (tree item) (bind (binding b.pos.offset b.name (tree b.from)) rest) (cond_tree c))) f (λ s at kind bad. inl (inl bad)) h)
 
   module _ (t : TermD) (elements : IsTermOf k (Gives (tree b.from)) (IsWellFormed (tree b.from)) t) where
-    pub first_no_set : (f : Fault) → IsSetFault k t (pos (tree b.from)) f → IsFaultOf k (Breaks (each_from item bs i c)) f
-    first_no_set f h =
-        subst (λ z. IsFaultOf k (Breaks z) f) (sym first_is)
-        (fault_weaker k (OperandFails IsNoSet (tree b.from)) (Breaks (each 0 (tree item) (bind (binding b.pos.offset b.name (tree b.from)) rest) (cond_tree c))) f (λ s at kind h. inl (inr (inl h)))
-        (no_set_fails k (tree b.from) t f elements.value h))
+    pub first_no_set : (o : Bool) (f : Fault) → AdmitsContext o k → IsSetFault k t (pos (tree b.from)) f → IsFaultOf o k (Breaks (each_from item bs i c)) f
+    first_no_set o f admits h =
+        subst (λ z. IsFaultOf o k (Breaks z) f) (sym first_is)
+        (fault_weaker o k (OperandFails IsNoSet (tree b.from)) (Breaks (each 0 (tree item) (bind (binding b.pos.offset b.name (tree b.from)) rest) (cond_tree c))) f (λ s at kind h. inl (inr (inl h)))
+        (no_set_fails o k (tree b.from) t f admits elements.value h))
 
     module _ (ds : List Context) (set : IsSetTerm t) (entered : AreEntered k b.name t ds) where
       pub first_inside : (o : Bool) → IsWellFormedIn (IsWellFormed (each_from item bs i c)) o k → All (IsWellFormedIn (IsWellFormed (each_from item bs (i + 1) c)) o) ds
@@ -90,9 +90,9 @@ module _ (k : Context) (item : Expr) (bs : List Binding) (i : ℕ) (b : Binding)
       pub first_within : (ks : CompsD) → IsGatheredInside k.size (Makes (each_from item bs (i + 1) c)) (IsWellFormed (each_from item bs (i + 1) c)) ds ks → HasMembersOnlyWhereAdmitted k (coll ks)
       first_within ks gathered = each_loop_within k b.name t ds set entered b.pos.offset (tree b.from) elements (tree item) (bindings_of (map binding_tree (drop (i + 1) bs))) (cond_tree c) ks gathered
 
-      pub first_fails : (f g : Fault) → IsFaultInside ds (Breaks (each_from item bs (i + 1) c)) g → IsTruncatedFrom k.size f g → IsFaultOf k (Breaks (each_from item bs i c)) f
-      first_fails f g inside cut =
-          subst (λ z. IsFaultOf k (Breaks z) f) (sym first_is) (each_loop_fails k b.name t ds set entered b.pos.offset (tree b.from) elements 0 (tree item) (bindings_of (map binding_tree (drop (i + 1) bs))) (cond_tree c) f g inside cut)
+      pub first_fails : (o : Bool) (f g : Fault) → IsFaultInside o ds (Breaks (each_from item bs (i + 1) c)) g → IsTruncatedFrom k.size f g → IsFaultOf o k (Breaks (each_from item bs i c)) f
+      first_fails o f g inside cut =
+          subst (λ z. IsFaultOf o k (Breaks z) f) (sym first_is) (each_loop_fails k b.name t ds set entered b.pos.offset (tree b.from) elements o 0 (tree item) (bindings_of (map binding_tree (drop (i + 1) bs))) (cond_tree c) f g inside cut)
 
 -- ---- no binding is left
 
@@ -125,12 +125,12 @@ module _ (k : Context) (item : Expr) (bs : List Binding) (c : Cond) where
       pub last_within : (t : TermD) (ks : CompsD) → IsTermOf d (Gives (tree item)) (IsWellFormed (tree item)) t → ks ≡ comps_of (comp 0 d.«when» t ∷ []) → HasMembersOnlyWhereAdmitted k (coll ks)
       last_within t ks value is = subst (λ z. HasMembersOnlyWhereAdmitted k (coll z)) (sym is) (here_within k (tree item) (cond_tree c) g held d t side value)
 
-      pub last_item_fails : (f : Fault) → IsFaultOf d (Fails (tree item)) f → IsFaultOf k (Breaks (each_from item bs (length bs) c)) f
-      last_item_fails f h =
-          subst (λ z. IsFaultOf k (Breaks z) f) (sym last_is) (record {
-            admitted = (admits (sampled f.sample.items) h.admitted).0;
+      pub last_item_fails : (o : Bool) (f : Fault) → IsFaultOf o d (Fails (tree item)) f → IsFaultOf o k (Breaks (each_from item bs (length bs) c)) f
+      last_item_fails o f h =
+          subst (λ z. IsFaultOf o k (Breaks z) f) (sym last_is) (record {
+            admitted = λ s stand. (admits s (h.admitted s stand)).0;
             failure = λ s stand.
-                let both = admits s (admitted_alike d f.sample.items s stand h.admitted) in
+                let both = admits s (h.admitted s stand) in
                 inr (inr (store_at s k.store, refl, subst (HasTruth (cond_tree c) (store_at s k.store)) both.1 (held.truth s both.0), subst (λ z. Fails (tree item) (store_at s z) f.pos.offset f.kind) side.store (h.failure s stand)));
             elements = h.elements;
           })
@@ -160,12 +160,12 @@ module _ (k : Context) (some : Bool) (b : Binding) (c : Cond) where
   pub bound_new : (o : Bool) → IsWellFormedIn (CondIsWellFormed (quantifier some (binding_tree b) (cond_tree c))) o k → IsNew b.name k.store
   bound_new o h = unnamed_new b.name k.store (at_parts o h).1
 
-  of_binding : (f : Fault) → IsFaultOf k (CondFails (quantifier some (binding b.pos.offset b.name (tree b.from)) (cond_tree c))) f → IsFaultOf k (CondFails (quantifier some (binding_tree b) (cond_tree c))) f
-  of_binding f h = subst (λ z. IsFaultOf k (CondFails z) f) (sym quantifier_is) h
+  of_binding : (o : Bool) (f : Fault) → IsFaultOf o k (CondFails (quantifier some (binding b.pos.offset b.name (tree b.from)) (cond_tree c))) f → IsFaultOf o k (CondFails (quantifier some (binding_tree b) (cond_tree c))) f
+  of_binding o f h = subst (λ z. IsFaultOf o k (CondFails z) f) (sym quantifier_is) h
 
   module _ (t : TermD) (elements : IsTermOf k (Gives (tree b.from)) (IsWellFormed (tree b.from)) t) where
-    pub bound_no_set : (f : Fault) → IsSetFault k t (pos (tree b.from)) f → IsFaultOf k (CondFails (quantifier some (binding_tree b) (cond_tree c))) f
-    bound_no_set f h = of_binding f (fault_weaker k (OperandFails IsNoSet (tree b.from)) (CondFails (quantifier some (binding b.pos.offset b.name (tree b.from)) (cond_tree c))) f (λ s at kind x. of some s at kind x) (no_set_fails k (tree b.from) t f elements.value h))
+    pub bound_no_set : (o : Bool) (f : Fault) → AdmitsContext o k → IsSetFault k t (pos (tree b.from)) f → IsFaultOf o k (CondFails (quantifier some (binding_tree b) (cond_tree c))) f
+    bound_no_set o f admits h = of_binding o f (fault_weaker o k (OperandFails IsNoSet (tree b.from)) (CondFails (quantifier some (binding b.pos.offset b.name (tree b.from)) (cond_tree c))) f (λ s at kind x. of some s at kind x) (no_set_fails o k (tree b.from) t f admits elements.value h))
       where
         of : (some : Bool) (s : _) (at : ℕ) (kind : _) → OperandFails IsNoSet (tree b.from) s at kind → CondFails (quantifier some (binding b.pos.offset b.name (tree b.from)) (cond_tree c)) s at kind
         of true s at kind x = inr (inl x)
@@ -181,5 +181,5 @@ module _ (k : Context) (some : Bool) (b : Binding) (c : Cond) where
       bound_loop g r found is fits admits =
           subst (λ z. IsConstraintOf k (HasTruth z) (CondIsWellFormed z) r) (sym quantifier_is) (quantifier_loop k b.name t ds set entered b.pos.offset (tree b.from) elements some (cond_tree c) g r found is fits admits)
 
-      pub bound_fails : (f g : Fault) → IsFaultInside ds (CondFails (cond_tree c)) g → IsTruncatedFrom k.size f g → IsFaultOf k (CondFails (quantifier some (binding_tree b) (cond_tree c))) f
-      bound_fails f g inside cut = of_binding f (quantifier_loop_fails k b.name t ds set entered b.pos.offset (tree b.from) elements some (cond_tree c) f g inside cut)
+      pub bound_fails : (o : Bool) (f g : Fault) → IsFaultInside o ds (CondFails (cond_tree c)) g → IsTruncatedFrom k.size f g → IsFaultOf o k (CondFails (quantifier some (binding_tree b) (cond_tree c))) f
+      bound_fails o f g inside cut = of_binding o f (quantifier_loop_fails k b.name t ds set entered b.pos.offset (tree b.from) elements o some (cond_tree c) f g inside cut)

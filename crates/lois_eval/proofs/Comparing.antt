@@ -11,6 +11,7 @@ use Rattle.lois_meaning.specs.Store.{NamedValues}
 use Rattle.lois_answers.specs.declared.faults.FaultKind.{FaultKind}
 use Rattle.lois_meaning.specs.declared.faults.Fault.{Fault}
 use Rattle.lois_script.specs.Tree.{ExprD, CondD, below, member, included, pos}
+use Rattle.lois_context.specs.Choices.{AdmitsContext}
 use Rattle.lois_context.specs.declared.contexts.Context.{Context}
 use Rattle.lois_terms.specs.Collections.{IsColl}
 use Rattle.lois_eval.specs.Checks.{IsFaultAt, IsSetFault, IsAtomFault}
@@ -34,49 +35,49 @@ is_atom t c (i, e) = (atom_at c i, subst (λ z. IsAtomAt z c (atom_at c i)) (sym
 no_atom : (t : TermD) (at : ℕ) (k : Context) (f : Fault) → IsAtomFault k t at f → (c : List Atom) → IsNoAtom (point t c) f.kind
 no_atom t at k f h c = (h.kind, λ a is. let (i, e) = atom_term t c a is in h.no_atom i e)
 
-module _ (k : Context) (e f : ExprD) (s t : TermD) (stands : Bool → List (List ℕ) → Type 0) (both : AreTermsOf k (two e f) stands (s ∷ t ∷ [])) (x : Fault) where
+module _ (k : Context) (e f : ExprD) (s t : TermD) (stands : Bool → List (List ℕ) → Type 0) (both : AreTermsOf k (two e f) stands (s ∷ t ∷ [])) (x : Fault) (o : Bool) (admits : AdmitsContext o k) where
   -- the left side is unfit, or it is fit and the right one isn't
   module _ (fit : PointValue → Type 0) (row : PointValue → FaultKind → Type 0) where
-    left_fails : IsFaultAt k (pos e) x → ((c : List Atom) → row (point s c) x.kind) → IsFaultOf k (SomeOperandFails fit row (two e f)) x
+    left_fails : IsFaultAt k (pos e) x → ((c : List Atom) → row (point s c) x.kind) → IsFaultOf o k (SomeOperandFails fit row (two e f)) x
     left_fails h bad = record {
-      admitted = h.admitted;
-      failure = λ c stand. (point s c ∷ point t c ∷ [], both.values c (admitted_alike k x.sample.items c stand h.admitted), inl (h.place, bad c));
+      admitted = λ c stand. admitted_alike o k x.sample.items c admits stand h.admitted;
+      failure = λ c stand. (point s c ∷ point t c ∷ [], both.values c (admitted_alike o k x.sample.items c admits stand h.admitted), inl (h.place, bad c));
       elements = h.elements;
     }
 
-    right_fails : IsFaultAt k (pos f) x → ((c : List Atom) → fit (point s c)) → ((c : List Atom) → row (point t c) x.kind) → IsFaultOf k (SomeOperandFails fit row (two e f)) x
+    right_fails : IsFaultAt k (pos f) x → ((c : List Atom) → fit (point s c)) → ((c : List Atom) → row (point t c) x.kind) → IsFaultOf o k (SomeOperandFails fit row (two e f)) x
     right_fails h left bad = record {
-      admitted = h.admitted;
-      failure = λ c stand. (point s c ∷ point t c ∷ [], both.values c (admitted_alike k x.sample.items c stand h.admitted), inr (left c, inl (h.place, bad c)));
+      admitted = λ c stand. admitted_alike o k x.sample.items c admits stand h.admitted;
+      failure = λ c stand. (point s c ∷ point t c ∷ [], both.values c (admitted_alike o k x.sample.items c admits stand h.admitted), inr (left c, inl (h.place, bad c)));
       elements = h.elements;
     }
 
-  pub below_fails : (p : ℕ) → IsBelowFault k s (pos e) t (pos f) x → IsFaultOf k (CondFails (below p e f)) x
-  below_fails p h = fault_weaker k (SomeOperandFails (λ v. (a : Atom) × IsAtomValue v a) IsNoAtom (two e f)) (CondFails (below p e f)) x (λ s at kind bad. inr (inr bad)) (of h)
+  pub below_fails : (p : ℕ) → IsBelowFault k s (pos e) t (pos f) x → IsFaultOf o k (CondFails (below p e f)) x
+  below_fails p h = fault_weaker o k (SomeOperandFails (λ v. (a : Atom) × IsAtomValue v a) IsNoAtom (two e f)) (CondFails (below p e f)) x (λ s at kind bad. inr (inr bad)) (of h)
     where
-      of : IsBelowFault k s (pos e) t (pos f) x → IsFaultOf k (SomeOperandFails (λ v. (a : Atom) × IsAtomValue v a) IsNoAtom (two e f)) x
+      of : IsBelowFault k s (pos e) t (pos f) x → IsFaultOf o k (SomeOperandFails (λ v. (a : Atom) × IsAtomValue v a) IsNoAtom (two e f)) x
       of (inl h) = left_fails (λ v. (a : Atom) × IsAtomValue v a) IsNoAtom h.fault (no_atom s (pos e) k x h)
       of (inr (one, h)) = right_fails (λ v. (a : Atom) × IsAtomValue v a) IsNoAtom h.fault (λ c. is_atom s c one) (no_atom t (pos f) k x h)
 
-  pub member_fails : IsSetFault k t (pos f) x → IsFaultOf k (CondFails (member e f)) x
+  pub member_fails : IsSetFault k t (pos f) x → IsFaultOf o k (CondFails (member e f)) x
   member_fails h =
-      fault_within k (OperandFails IsNoSet f) (CondFails (member e f)) x (λ c a at kind bad. inr (inr (point s c, (sides k e f s t stands both c a).0, bad)))
-      (no_set_fails k f t x (λ c a. (sides k e f s t stands both c a).1) h)
+      fault_within o k (OperandFails IsNoSet f) (CondFails (member e f)) x (λ c a at kind bad. inr (inr (point s c, (sides k e f s t stands both c a).0, bad)))
+      (no_set_fails o k f t x admits (λ c a. (sides k e f s t stands both c a).1) h)
 
-  pub included_fails_left : IsSetFault k s (pos e) x → IsFaultOf k (CondFails (included e f)) x
+  pub included_fails_left : IsSetFault k s (pos e) x → IsFaultOf o k (CondFails (included e f)) x
   included_fails_left h =
-      fault_weaker k (SomeOperandFails IsSet IsNoSet (two e f)) (CondFails (included e f)) x (λ s at kind bad. inr (inr bad))
+      fault_weaker o k (SomeOperandFails IsSet IsNoSet (two e f)) (CondFails (included e f)) x (λ s at kind bad. inr (inr bad))
       (left_fails IsSet IsNoSet h.fault (λ c. (h.kind, no_set_at s c h.no_set)))
 
-  pub included_fails_right : IsColl s → IsSetFault k t (pos f) x → IsFaultOf k (CondFails (included e f)) x
+  pub included_fails_right : IsColl s → IsSetFault k t (pos f) x → IsFaultOf o k (CondFails (included e f)) x
   included_fails_right left h =
-      fault_weaker k (SomeOperandFails IsSet IsNoSet (two e f)) (CondFails (included e f)) x (λ s at kind bad. inr (inr bad))
+      fault_weaker o k (SomeOperandFails IsSet IsNoSet (two e f)) (CondFails (included e f)) x (λ s at kind bad. inr (inr bad))
       (right_fails IsSet IsNoSet h.fault (λ c. set_at s c left) (λ c. (h.kind, no_set_at t c h.no_set)))
 
 -- a condition fails where its left side does, and where its right one does behind a value of the left one
-pub sides_fail : (k : Context) (c d : CondD) (e f : ExprD) (x : Fault) → c ≡ d → ((s : NamedValues) (at : ℕ) (kind : FaultKind) → Fails e s at kind ⊎ FailsBehind e (Fails f) s at kind → CondFails d s at kind) → IsFaultOf k (SomeFails (two e f)) x → IsFaultOf k (CondFails c) x
-sides_fail k c d e f x is to h =
-    subst (λ z. IsFaultOf k (CondFails z) x) (sym is) (fault_weaker k (SomeFails (two e f)) (CondFails d) x (λ s at kind bad. to s at kind (of s at kind bad)) h)
+pub sides_fail : (o : Bool) (k : Context) (c d : CondD) (e f : ExprD) (x : Fault) → c ≡ d → ((s : NamedValues) (at : ℕ) (kind : FaultKind) → Fails e s at kind ⊎ FailsBehind e (Fails f) s at kind → CondFails d s at kind) → IsFaultOf o k (SomeFails (two e f)) x → IsFaultOf o k (CondFails c) x
+sides_fail o k c d e f x is to h =
+    subst (λ z. IsFaultOf o k (CondFails z) x) (sym is) (fault_weaker o k (SomeFails (two e f)) (CondFails d) x (λ s at kind bad. to s at kind (of s at kind bad)) h)
   where
     of : (s : NamedValues) (at : ℕ) (kind : FaultKind) → SomeFails (two e f) s at kind → Fails e s at kind ⊎ FailsBehind e (Fails f) s at kind
     of s at kind (inl a) = inl a

@@ -17,7 +17,7 @@ use Rattle.lois_meaning.specs.Store.{NamedValues}
 use Rattle.lois_script.specs.Tree.{ExprD, CondD, same, differ, below, member, included, not, no_conds, pos}
 use Rattle.lois_script.specs.View.{conds_of}
 use Rattle.lois_meaning.specs.declared.faults.Fault.{Fault}
-use Rattle.lois_context.specs.Choices.{IsAdmitted}
+use Rattle.lois_context.specs.Choices.{IsAdmitted, AdmitsContext}
 use Rattle.lois_context.specs.Slots.{store_at}
 use Rattle.lois_context.specs.declared.contexts.Context.{Context}
 use Rattle.lois_terms.specs.Collections.{IsColl as IsSetTerm}
@@ -102,10 +102,10 @@ module _ (k : Context) (e f : ExprD) (s t : TermD) where
   }
 
 -- an operand that is no set
-pub no_set_fails : (k : Context) (e : ExprD) (t : TermD) (f : Fault) → ((c : List Atom) → IsAdmitted c k → Gives e (store_at c k.store) (point t c)) → IsSetFault k t (pos e) f → IsFaultOf k (OperandFails IsNoSet e) f
-no_set_fails k e t f given h = record {
-  admitted = h.fault.admitted;
-  failure = λ c stand. (h.fault.place, point t c, given c (admitted_alike k f.sample.items c stand h.fault.admitted), (h.kind, no_set_at t c h.no_set));
+pub no_set_fails : (o : Bool) (k : Context) (e : ExprD) (t : TermD) (f : Fault) → AdmitsContext o k → ((c : List Atom) → IsAdmitted c k → Gives e (store_at c k.store) (point t c)) → IsSetFault k t (pos e) f → IsFaultOf o k (OperandFails IsNoSet e) f
+no_set_fails o k e t f admits given h = record {
+  admitted = λ c stand. admitted_alike o k f.sample.items c admits stand h.fault.admitted;
+  failure = λ c stand. (h.fault.place, point t c, given c (admitted_alike o k f.sample.items c admits stand h.fault.admitted), (h.kind, no_set_at t c h.no_set));
   elements = h.fault.elements;
 }
 

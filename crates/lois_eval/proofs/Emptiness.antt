@@ -13,7 +13,7 @@ use Rattle.lois_meaning.specs.Expressions.{Gives, HasTruth, IsTruthOf}
 use Rattle.lois_meaning.specs.Faults.{IsNoAutomaton, CondFails}
 use Rattle.lois_meaning.specs.declared.faults.Fault.{Fault}
 use Rattle.lois_script.specs.Tree.{ExprD, empty, pos}
-use Rattle.lois_context.specs.Choices.{IsAdmitted}
+use Rattle.lois_context.specs.Choices.{IsAdmitted, AdmitsContext}
 use Rattle.lois_context.specs.declared.contexts.Context.{Context}
 use Rattle.lois_eval.specs.Automata.{IsEmptiness, IsValueFault}
 use Rattle.lois_eval.specs.Evaluated.{IsTermOf, IsConstraintOf}
@@ -37,9 +37,9 @@ module _ (k : Context) (t : TermD) where
       operators = λ o placed. h.operators o placed.operators (own.operators o (record { names = placed.names; operators = placed.operators }));
     }
 
-    pub empty_fails : (f : Fault) → IsValueFault k IsNoAutomaton t (pos e) f → IsFaultOf k (CondFails (empty e)) f
-    empty_fails f h = record {
-      admitted = h.fault.admitted;
-      failure = λ c stand. inr (h.fault.place, point t c, own.value c (admitted_alike k f.sample.items c stand h.fault.admitted), h.unfit c stand);
+    pub empty_fails : (o : Bool) (f : Fault) → AdmitsContext o k → IsValueFault o k IsNoAutomaton t (pos e) f → IsFaultOf o k (CondFails (empty e)) f
+    empty_fails o f admits h = record {
+      admitted = λ c stand. admitted_alike o k f.sample.items c admits stand h.fault.admitted;
+      failure = λ c stand. inr (h.fault.place, point t c, own.value c (admitted_alike o k f.sample.items c admits stand h.fault.admitted), h.unfit c stand);
       elements = h.fault.elements;
     }

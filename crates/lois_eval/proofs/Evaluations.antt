@@ -44,13 +44,13 @@ module _ (k : Context) (S : Bool → List (List ℕ) → Type 0) where
     widths = λ h. parts_widths-more ts t (so_far.widths h) (own.widths h);
   })
 
-  pub some_fails : (es before : ExprsD) (ts : List TermD) (e : ExprD) (f : Fault) → IsExprOf es before e → AreTermsOf k before S ts → IsFaultOf k (Fails e) f → IsFaultOf k (SomeFails es) f
-  some_fails es before ts e f is so_far h =
-      fault_within k (Fails e) (SomeFails es) f (λ c a at kind bad. is.fails (store_at c k.store) (part_values (terms_of ts) c) at kind (so_far.values c a) bad) h
+  pub some_fails : (o : Bool) (es before : ExprsD) (ts : List TermD) (e : ExprD) (f : Fault) → IsExprOf es before e → AreTermsOf k before S ts → IsFaultOf o k (Fails e) f → IsFaultOf o k (SomeFails es) f
+  some_fails o es before ts e f is so_far h =
+      fault_within o k (Fails e) (SomeFails es) f (λ c a at kind bad. is.fails (store_at c k.store) (part_values (terms_of ts) c) at kind (so_far.values c a) bad) h
 
-  pub joint_fails : (every : Bool) (cs before : CondsD) (g : List (List Lit)) (c : CondD) (f : Fault) → IsCondOf cs before c → IsConstraintOf k (HasTruth (joint every before)) S g → IsFaultOf k (CondFails c) f → IsFaultOf k (CondFails (joint every cs)) f
-  joint_fails every cs before g c f is so_far h =
-      fault_within k (CondFails c) (CondFails (joint every cs)) f (λ d a at kind bad. of every (store_at d k.store) (holds d g) at kind (so_far.truth d a) bad) h
+  pub joint_fails : (o every : Bool) (cs before : CondsD) (g : List (List Lit)) (c : CondD) (f : Fault) → IsCondOf cs before c → IsConstraintOf k (HasTruth (joint every before)) S g → IsFaultOf o k (CondFails c) f → IsFaultOf o k (CondFails (joint every cs)) f
+  joint_fails o every cs before g c f is so_far h =
+      fault_within o k (CondFails c) (CondFails (joint every cs)) f (λ d a at kind bad. of every (store_at d k.store) (holds d g) at kind (so_far.truth d a) bad) h
     where
       of : (every : Bool) (s : NamedValues) (b : Bool) (at : ℕ) (kind : FaultKind) → HasTruth (joint every before) s b → CondFails c s at kind → CondFails (joint every cs) s at kind
       of true s b at kind (bs, held, e) bad = is.fails s bs at kind held bad

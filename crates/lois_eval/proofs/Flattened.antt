@@ -1,5 +1,5 @@
 -- The comprehensions of a set whose items are sets, one after another; and a member that is no set.
-use Rattle.std.proofs.Common.{◌≡◌, ℕ, zero, suc, ◌+◌, ◌<◌, Bool, true, inl, inr, List, [], ◌∷◌, ◌++◌, length, get_or, take, drop, map, refl, sym, ap, subst, ◌∙◌, arith}
+use Rattle.std.proofs.Common.{◌≡◌, ℕ, zero, suc, ◌+◌, ◌<◌, Bool, inl, inr, List, [], ◌∷◌, ◌++◌, length, get_or, take, drop, map, refl, sym, ap, subst, ◌∙◌, arith}
 use Rattle.std.proofs.lemmas.List.{length-map}
 use Rattle.std.specs.Bool.{IsTrue}
 use Rattle.lois_base.specs.Atom.{Atom, whole}
@@ -14,7 +14,7 @@ use Rattle.lois_base.proofs.Viewed.{item_at}
 use Rattle.lois_base.specs.Validity.{AdmitsComp, AdmitsItems, CompHasBoundedWidths, ItemsHaveBoundedWidths}
 use Rattle.lois_base.specs.Values.{PointValue, point, MemberAt}
 use Rattle.lois_base.proofs.Lists.{items_fit_append}
-use Rattle.lois_base.proofs.Truths.{holds_ordered}
+use Rattle.lois_base.proofs.Truths.{holds_alike}
 use Rattle.lois_algebra.specs.Sets.{ItemsAreSets}
 use Rattle.lois_algebra.proofs.GatheredMembers.{set_items}
 use Rattle.lois_algebra.proofs.Among.{admits_items-append, widths-append}
@@ -93,13 +93,13 @@ module _ (k : Context) where
   sets_more ks so_far after l h fits (inr (none, is)) = subst (λ z. HasSetsOf k (set_of (ks ++ l ∷ [])) (set_of z)) (sym is) (sets_dropped ks so_far l h none)
 
   -- a member at the first numbers of a sample of the comprehension's guard
-  pub member_fault : (l : CompD) (pos : Pos) (s : List ℕ) (f : Fault) → (IsSetTerm (item_of l) → ⊥) → CompFits k.size l → MeetsBoth (k.size + binders_of l) k.«when» (guard_of l) s → IsFaultWith pos NotASet (take k.size s) f → IsMemberFault k (set_of (l ∷ [])) pos.offset f
-  member_fault (comp b g t) pos s f none fits m h = record {
+  pub member_fault : (o : Bool) (l : CompD) (pos : Pos) (s : List ℕ) (f : Fault) → (IsSetTerm (item_of l) → ⊥) → CompFits k.size l → AdmitsComp o l → MeetsBoth (k.size + binders_of l) k.«when» (guard_of l) s → IsFaultWith pos NotASet (take k.size s) f → IsMemberFault o k (set_of (l ∷ [])) pos.offset f
+  member_fault o (comp b g t) pos s f none fits admits m h = record {
     fault = fault_at k pos NotASet (take k.size s) (start, short) f h;
     kind = h.kind;
     no_set = λ c stand.
-        let (e, alike) = alike_longer k.size s c (subst (λ z. AreAlike true (sampled z) c) h.sample stand) in
-        let guard : IsTrue (holds (c ++ e) g) = sym (holds_ordered (sampled s) (c ++ e) alike g (subst (λ n. ConstraintFits n g) (sym (length-map s whole ∙ m.0.count)) fits.1)) ∙ m.2 in
+        let (e, alike) = alike_longer o k.size s c (subst (λ z. AreAlike o (sampled z) c) h.sample stand) in
+        let guard : IsTrue (holds (c ++ e) g) = sym (holds_alike o (sampled s) (c ++ e) alike g (subst (λ n. ConstraintFits n g) (sym (length-map s whole ∙ m.0.count)) fits.1) admits.0) ∙ m.2 in
         let count : length e ≡ b = omega (arith, length-append c e, alike.count, stand.count, ap (λ z. length (sampled z)) h.sample, start, length-map s whole, m.0.count) in
         (point t (c ++ e), inl (e, record { count = count; guard = guard }, refl, refl), no_set_at t (c ++ e) none);
   }
@@ -120,13 +120,13 @@ member_of_one w x c (k ∷ ks) zero d l (inl m) = inl m
 member_of_one w x c (k ∷ ks) zero d l (inr m) = absurd m
 member_of_one w x c (k ∷ ks) (suc i) d l m = inr (member_of_one w x c ks i d (omega (arith, l)) m)
 
-fault_of_one : (k : Context) (ks : List CompD) (i : ℕ) (l : CompD) (at : ℕ) (f : Fault) → i < length ks → l ≡ get_or ks i l → IsMemberFault k (set_of (l ∷ [])) at f → IsMemberFault k (set_of ks) at f
-fault_of_one k ks i l at f inside is h = record {
+fault_of_one : (o : Bool) (k : Context) (ks : List CompD) (i : ℕ) (l : CompD) (at : ℕ) (f : Fault) → i < length ks → l ≡ get_or ks i l → IsMemberFault o k (set_of (l ∷ [])) at f → IsMemberFault o k (set_of ks) at f
+fault_of_one o k ks i l at f inside is h = record {
   fault = h.fault;
   kind = h.kind;
   no_set = λ c stand. let (u, m, none) = h.no_set c stand in (u, member_of_one u.term_of u.choice c ks i l inside (subst (λ z. MemberAt u.term_of u.choice (comps_of (z ∷ [])) c) is m), none);
 }
 
-pub fault_of_comp : (k : Context) (items : List Comp) (ks : List CompD) (i : ℕ) (l : Comp) (at : ℕ) (f : Fault) → map comp_of items ≡ ks → i < length items → l ≡ get_or items i l → IsMemberFault k (set_of (comp_of l ∷ [])) at f → IsMemberFault k (set_of ks) at f
-fault_of_comp k items ks i l at f m inside is h =
-    fault_of_one k ks i (comp_of l) at f (omega (arith, inside, length-map items comp_of, ap length m)) (item_at comp_of items ks i l m inside is) h
+pub fault_of_comp : (o : Bool) (k : Context) (items : List Comp) (ks : List CompD) (i : ℕ) (l : Comp) (at : ℕ) (f : Fault) → map comp_of items ≡ ks → i < length items → l ≡ get_or items i l → IsMemberFault o k (set_of (comp_of l ∷ [])) at f → IsMemberFault o k (set_of ks) at f
+fault_of_comp o k items ks i l at f m inside is h =
+    fault_of_one o k ks i (comp_of l) at f (omega (arith, inside, length-map items comp_of, ap length m)) (item_at comp_of items ks i l m inside is) h

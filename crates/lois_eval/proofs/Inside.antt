@@ -1,5 +1,5 @@
 -- From the contexts inside of a loop to the store outside with a member under the loop's name, and back.
-use Rattle.std.proofs.Common.{◌≡◌, ℕ, ◌≤◌, true, List, ◌++◌, length, take, sym, ◌∙◌, arith}
+use Rattle.std.proofs.Common.{◌≡◌, ℕ, ◌≤◌, Bool, List, ◌++◌, length, take, sym, ◌∙◌, arith}
 use Rattle.std.proofs.lemmas.List.{length-map}
 use Rattle.std.proofs.lemmas.List.Elements.{All-contains}
 use Rattle.lois_base.specs.Atom.{Atom, whole}
@@ -14,7 +14,7 @@ use Rattle.lois_context.specs.Slots.{store_at}
 use Rattle.lois_context.specs.declared.contexts.Context.{Context}
 use Rattle.lois_eval.specs.Folded.{IsSomewhereInside, IsFaultInside}
 use Rattle.lois_eval.specs.Throughout.{Failure}
-use Rattle.lois_eval.proofs.FaultsAt.{sampled_start, admitted_alike, alike_longer}
+use Rattle.lois_eval.proofs.FaultsAt.{sampled_start, alike_longer}
 
 module _ (before : Context) (x : List ℕ) (t : TermD) (ds : List Context) (entered : AreEntered before x t ds) where
   -- each member is the one of some context inside
@@ -37,14 +37,14 @@ module _ (before : Context) (x : List ℕ) (t : TermD) (ds : List Context) (ente
       on.outside c e l adm
 
   -- a failure inside, at atoms that stand as the first numbers of its sample do
-  pub fails_outside : (fails : Failure) → ((s t : NamedValues) (at : ℕ) (k : _) → AreSameNamed s t → fails s at k → fails t at k) →
-      (f : _) → IsFaultInside ds fails f → (c : List Atom) → AreAlike true (sampled (take before.size f.sample.items)) c →
+  pub fails_outside : (o : Bool) (fails : Failure) → ((s t : NamedValues) (at : ℕ) (k : _) → AreSameNamed s t → fails s at k → fails t at k) →
+      (f : _) → IsFaultInside o ds fails f → (c : List Atom) → AreAlike o (sampled (take before.size f.sample.items)) c →
       IsAdmitted c before × ((m : PointValue) × IsMember m (point t c) × fails (stored x m (store_at c before.store)) f.pos.offset f.kind)
-  fails_outside fails move f (d, there, fault) c alike =
-      let (e, stand) = alike_longer before.size f.sample.items c alike in
+  fails_outside o fails move f (d, there, fault) c alike =
+      let (e, stand) = alike_longer o before.size f.sample.items c alike in
       let longer : before.size ≤ d.size = (All-contains (IsLoopContext before x) ds d entered.inside there).longer in
-      let adm : IsAdmitted (c ++ e) d = admitted_alike d f.sample.items (c ++ e) stand fault.admitted in
-      let l : length c ≡ before.size = sym alike.count ∙ sampled_start before.size f.sample.items (omega (arith, longer, fault.admitted.0, length-map f.sample.items whole)) in
+      let adm : IsAdmitted (c ++ e) d = fault.admitted (c ++ e) stand in
+      let l : length c ≡ before.size = sym alike.count ∙ sampled_start before.size f.sample.items (omega (arith, longer, adm.0, stand.count, length-map f.sample.items whole)) in
       let there_fails : IsSomewhereInside ds c (λ s. fails s f.pos.offset f.kind) = (d, there, e, adm, fault.failure (c ++ e) stand) in
       let a = admitted_outside c l (λ s. fails s f.pos.offset f.kind) there_fails in
       (a, from_inside (λ s. fails s f.pos.offset f.kind) (λ s t h r. move s t f.pos.offset f.kind h r) c a there_fails)

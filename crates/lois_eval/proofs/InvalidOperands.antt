@@ -1,5 +1,5 @@
 -- Operands that are unfit for an operation.
-use Rattle.std.proofs.Common.{◌≡◌, ℕ, ◌⊎◌, inl, inr, List, [], ◌∷◌, sym, subst, ◌∙◌}
+use Rattle.std.proofs.Common.{◌≡◌, ℕ, ◌⊎◌, Bool, inl, inr, List, [], ◌∷◌, sym, subst, ◌∙◌}
 use Rattle.lois_base.specs.Atom.{Atom}
 use Rattle.lois_base.specs.Data.{TermD, terms_of}
 use Rattle.lois_base.specs.Values.{point}
@@ -38,28 +38,28 @@ valid_set Product o v h = absurd o
 valid_set Complement o v h = absurd o
 valid_set Minimise o v h = absurd o
 
-module _ (k : Context) (x : Fault) where
+module _ (ordered : Bool) (k : Context) (x : Fault) where
   no_set : (t : TermD) (at : ℕ) → IsSetFault k t at x → (c : List Atom) → IsNoSet (point t c) x.kind
   no_set t at h c = (h.kind, no_set_at t c h.no_set)
 
-  pub left_unfit : (op : Operation) → IsOfTwoSets op → (e f : ExprD) (s t : TermD) (es : List ExprD) (ts : List TermD) (at : ℕ) → es ≡ e ∷ f ∷ [] → ts ≡ s ∷ t ∷ [] → at ≡ pos e → IsSetFault k s at x → IsUnfitFault k op (exprs_of es) (terms_of ts) x
-  left_unfit op o e f s t es ts at operands values place h = subst (λ z. IsUnfitFault k op (exprs_of es) (terms_of z) x) (sym values) (subst (λ z. IsUnfitFault k op (exprs_of z) (terms_of (s ∷ t ∷ [])) x) (sym operands) (record {
+  pub left_unfit : (op : Operation) → IsOfTwoSets op → (e f : ExprD) (s t : TermD) (es : List ExprD) (ts : List TermD) (at : ℕ) → es ≡ e ∷ f ∷ [] → ts ≡ s ∷ t ∷ [] → at ≡ pos e → IsSetFault k s at x → IsUnfitFault ordered k op (exprs_of es) (terms_of ts) x
+  left_unfit op o e f s t es ts at operands values place h = subst (λ z. IsUnfitFault ordered k op (exprs_of es) (terms_of z) x) (sym values) (subst (λ z. IsUnfitFault ordered k op (exprs_of z) (terms_of (s ∷ t ∷ [])) x) (sym operands) (record {
     admitted = h.fault.admitted;
     unfit = λ c stand. inl (h.fault.place ∙ place, unfit_set op o (point s c) x.kind (no_set s at h c));
     elements = h.fault.elements;
   }))
 
-  pub right_unfit : (op : Operation) → IsOfTwoSets op → (e f : ExprD) (s t : TermD) (es : List ExprD) (ts : List TermD) (at : ℕ) → es ≡ e ∷ f ∷ [] → ts ≡ s ∷ t ∷ [] → at ≡ pos f → IsColl s → IsSetFault k t at x → IsUnfitFault k op (exprs_of es) (terms_of ts) x
-  right_unfit op o e f s t es ts at operands values place left h = subst (λ z. IsUnfitFault k op (exprs_of es) (terms_of z) x) (sym values) (subst (λ z. IsUnfitFault k op (exprs_of z) (terms_of (s ∷ t ∷ [])) x) (sym operands) (record {
+  pub right_unfit : (op : Operation) → IsOfTwoSets op → (e f : ExprD) (s t : TermD) (es : List ExprD) (ts : List TermD) (at : ℕ) → es ≡ e ∷ f ∷ [] → ts ≡ s ∷ t ∷ [] → at ≡ pos f → IsColl s → IsSetFault k t at x → IsUnfitFault ordered k op (exprs_of es) (terms_of ts) x
+  right_unfit op o e f s t es ts at operands values place left h = subst (λ z. IsUnfitFault ordered k op (exprs_of es) (terms_of z) x) (sym values) (subst (λ z. IsUnfitFault ordered k op (exprs_of z) (terms_of (s ∷ t ∷ [])) x) (sym operands) (record {
     admitted = h.fault.admitted;
     unfit = λ c stand. inr (valid_set op o (point s c) (set_at s c left), inl (h.fault.place ∙ place, unfit_set op o (point t c) x.kind (no_set t at h c)));
     elements = h.fault.elements;
   }))
 
-  pub flatten_unfit : (e : ExprD) (s : TermD) (op : Operation) (es : List ExprD) (ts : List TermD) (at : ℕ) → op ≡ Flatten → es ≡ e ∷ [] → ts ≡ s ∷ [] → at ≡ pos e → IsSetFault k s at x ⊎ IsMemberFault k s at x → IsUnfitFault k op (exprs_of es) (terms_of ts) x
-  flatten_unfit e s op es ts at is operands values place h = subst (λ z. IsUnfitFault k z (exprs_of es) (terms_of ts) x) (sym is) (subst (λ z. IsUnfitFault k Flatten (exprs_of es) (terms_of z) x) (sym values) (subst (λ z. IsUnfitFault k Flatten (exprs_of z) (terms_of (s ∷ [])) x) (sym operands) (of h)))
+  pub flatten_unfit : (e : ExprD) (s : TermD) (op : Operation) (es : List ExprD) (ts : List TermD) (at : ℕ) → op ≡ Flatten → es ≡ e ∷ [] → ts ≡ s ∷ [] → at ≡ pos e → IsSetFault k s at x ⊎ IsMemberFault ordered k s at x → IsUnfitFault ordered k op (exprs_of es) (terms_of ts) x
+  flatten_unfit e s op es ts at is operands values place h = subst (λ z. IsUnfitFault ordered k z (exprs_of es) (terms_of ts) x) (sym is) (subst (λ z. IsUnfitFault ordered k Flatten (exprs_of es) (terms_of z) x) (sym values) (subst (λ z. IsUnfitFault ordered k Flatten (exprs_of z) (terms_of (s ∷ [])) x) (sym operands) (of h)))
     where
-      of : IsSetFault k s at x ⊎ IsMemberFault k s at x → IsUnfitFault k Flatten (exprs_of (e ∷ [])) (terms_of (s ∷ [])) x
+      of : IsSetFault k s at x ⊎ IsMemberFault ordered k s at x → IsUnfitFault ordered k Flatten (exprs_of (e ∷ [])) (terms_of (s ∷ [])) x
       of (inl h) = record {
         admitted = h.fault.admitted;
         unfit = λ c stand. inl (h.fault.place ∙ place, inl (no_set s at h c));

@@ -21,6 +21,7 @@ pub mod Comparing
 pub mod InvalidOperands
 pub mod Bindings
 pub mod LoopExit
+pub mod AlikeMachines
 pub mod Automata
 pub mod Emptiness
 pub mod Candidates

@@ -2,12 +2,24 @@
 use Rattle.std.proofs.Common.{◌≡◌, ℕ, ◌<◌, List, length, get_or, Ok, Err, sym, subst}
 use Rattle.std.proofs.lemmas.List.Elements.{Contains-get_or}
 use Rattle.std.specs.List.{Contains}
-use Rattle.std.specs.Prelude.{Result, IfOk, IfErr, IsOkAnd, IsErrAnd}
+use Rattle.std.specs.Prelude.{Result, IfOk, IfErr, OnOk, IsOkAnd, IsErrAnd}
+use Rattle.lois_base.specs.Atom.{Atom}
+use Rattle.lois_base.specs.Data.{TermD}
+use Rattle.lois_base.specs.Tree.{tree}
+use Rattle.lois_base.specs.Values.{point}
+use Rattle.lois_base.specs.declared.values.Term.{Term}
+use Rattle.lois_meaning.specs.Expressions.{Makes, Gives}
+use Rattle.lois_meaning.specs.Store.{IsShallow}
 use Rattle.lois_meaning.specs.declared.faults.Fault.{Fault}
 use Rattle.lois_meaning.specs.declared.faults.Stop.{Stop}
 use Rattle.lois_meaning.specs.declared.faults.Stop.TheVariants as Stops
 use Rattle.lois_eval.specs.Checks.{IsTruncated, IsTruncatedFrom}
+use Rattle.lois_script.specs.Tree.{ExprD}
+use Rattle.lois_context.specs.Choices.{IsAdmitted}
+use Rattle.lois_context.specs.declared.contexts.Context.{Context}
+use Rattle.lois_eval.specs.Evaluated.{IsTermOf}
 use Rattle.lois_eval.specs.Throughout.{IfFault}
+use Rattle.lois_eval.specs.WellFormed.{IsWellFormed}
 use Rattle.lois_eval.proofs.FaultsAt.{if_fault}
 
 pub handed_fault : {A B : Type 0} (r : Result A Stop) (given : Result B Stop) (n : ℕ) (P Q : Fault → Type 0) → IfErr r (λ s. IfFault s (λ f. IsErrAnd given (λ t. IsTruncated n f t))) → IfErr given (λ t. IfFault t P) → ((f g : Fault) → P g → IsTruncatedFrom n f g → Q f) → IfErr r (λ s. IfFault s Q)
@@ -27,6 +39,16 @@ pub handed_ok : {A B : Type 0} (r : Result A Stop) (given : Result B Stop) (One 
 handed_ok (Ok x) (Ok y) One Two Three P Q a b c i to = to x y a b c i
 handed_ok (Ok x) (Err t) One Two Three P Q a b c i to = absurd a
 handed_ok (Err s) given One Two Three P Q a b c i to = tt
+
+-- what is made and isn't too deep is given
+pub term_given : (k : Context) (e : ExprD) (m : TermD) (r : Result Term Stop) → IsTermOf k (Makes e) (IsWellFormed e) m → IfOk r (λ t. tree t ≡ m) → OnOk r ((c : List Atom) → IsAdmitted c k → IsShallow (point m c)) → IfOk r (λ t. IsTermOf k (Gives e) (IsWellFormed e) (tree t))
+term_given k e m (Ok t) made same shallow = subst (IsTermOf k (Gives e) (IsWellFormed e)) (sym same) (record {
+  value = λ c a. (made.value c a, shallow c a);
+  levels = made.levels;
+  operators = made.operators;
+  widths = made.widths;
+})
+term_given k e m (Err s) made same shallow = tt
 
 -- what is handed on as it is
 pub err_weaker : {A : Type 0} (r : Result A Stop) (P Q : Fault → Type 0) → ((f : Fault) → P f → Q f) → IfErr r (λ t. IfFault t P) → IfErr r (λ t. IfFault t Q)

@@ -132,10 +132,10 @@ module _ (k : Context) where
   part_made p e n (coll ks) t whole is = absurd (cc)
 
   -- ---- the depth
-  pub too_deep_fails : (e : ExprD) (t : TermD) (f : Fault) → IsTermOf k (Makes e) (IsWellFormed e) t → IsDepthFault k t (pos e) f → IsFaultOf k (Fails e) f
-  too_deep_fails e t f made h = record {
-    admitted = h.fault.admitted;
-    failure = λ c stand. inr (h.fault.place, h.kind, point t c, made.value c (admitted_alike k f.sample.items c stand h.fault.admitted), h.deep c stand);
+  pub too_deep_fails : (o : Bool) (e : ExprD) (t : TermD) (f : Fault) → AdmitsContext o k → IsTermOf k (Makes e) (IsWellFormed e) t → IsDepthFault o k t (pos e) f → IsFaultOf o k (Fails e) f
+  too_deep_fails o e t f admits made h = record {
+    admitted = λ c stand. admitted_alike o k f.sample.items c admits stand h.fault.admitted;
+    failure = λ c stand. inr (h.fault.place, h.kind, point t c, made.value c (admitted_alike o k f.sample.items c admits stand h.fault.admitted), h.deep c stand);
     elements = h.fault.elements;
   }
 
@@ -149,10 +149,10 @@ module _ (k : Context) where
     widths = λ h. widths (all.widths h);
   }
 
-  pub apply_fails : (p : ℕ) (op : Operation) (es : ExprsD) (ts : List TermD) (f : Fault) → AreTermsOf k es (IsWellFormed (apply p op es)) ts → IsUnfitFault k op es (terms_of ts) f → IsFaultOf k (Breaks (apply p op es)) f
-  apply_fails p op es ts f all h = record {
-    admitted = h.admitted;
-    failure = λ c stand. inr (part_values (terms_of ts) c, all.values c (admitted_alike k f.sample.items c stand h.admitted), h.unfit c stand);
+  pub apply_fails : (o : Bool) (p : ℕ) (op : Operation) (es : ExprsD) (ts : List TermD) (f : Fault) → AdmitsContext o k → AreTermsOf k es (IsWellFormed (apply p op es)) ts → IsUnfitFault o k op es (terms_of ts) f → IsFaultOf o k (Breaks (apply p op es)) f
+  apply_fails o p op es ts f admits all h = record {
+    admitted = λ c stand. admitted_alike o k f.sample.items c admits stand h.admitted;
+    failure = λ c stand. inr (part_values (terms_of ts) c, all.values c (admitted_alike o k f.sample.items c admits stand h.admitted), h.unfit c stand);
     elements = h.elements;
   }
 
@@ -160,8 +160,8 @@ module _ (k : Context) where
 pub made_as : (k : Context) (e f : ExprD) (t : TermD) → e ≡ f → IsTermOf k (Makes f) (IsWellFormed f) t → IsTermOf k (Makes e) (IsWellFormed e) t
 made_as k e f t is h = subst (λ z. IsTermOf k (Makes z) (IsWellFormed z) t) (sym is) h
 
-pub breaks_as : (k : Context) (e f : ExprD) (x : Fault) → e ≡ f → IsFaultOf k (Breaks f) x → IsFaultOf k (Breaks e) x
-breaks_as k e f x is h = subst (λ z. IsFaultOf k (Breaks z) x) (sym is) h
+pub breaks_as : (o : Bool) (k : Context) (e f : ExprD) (x : Fault) → e ≡ f → IsFaultOf o k (Breaks f) x → IsFaultOf o k (Breaks e) x
+breaks_as o k e f x is h = subst (λ z. IsFaultOf o k (Breaks z) x) (sym is) h
 
 -- a term that hasn't got a part
 no_part_at : (t : TermD) (n : ℕ) (c : List Atom) (kind : FaultKind) → kind ≡ missing_part t → part_of t n ≡ None → HasNoPart n (point t c) kind
@@ -176,9 +176,9 @@ no_part_at (tup ts) (suc i) c kind e h = inr (e, part_values ts c, refl, inr (be
     beyond (term t ts) zero h = absurd (cc)
     beyond (term t ts) (suc i) h = omega (arith, beyond ts i h)
 
-pub part_fails : (k : Context) (p : ℕ) (e : ExprD) (n : ℕ) (u : TermD) (f : Fault) → IsTermOf k (Gives e) (IsWellFormed e) u → IsPartFault k u n (pos e) f → IsFaultOf k (Breaks (part p e n)) f
-part_fails k p e n u f whole h = record {
-  admitted = h.fault.admitted;
-  failure = λ c stand. inr (h.fault.place, point u c, whole.value c (admitted_alike k f.sample.items c stand h.fault.admitted), no_part_at u n c f.kind h.kind h.no_part);
+pub part_fails : (o : Bool) (k : Context) (p : ℕ) (e : ExprD) (n : ℕ) (u : TermD) (f : Fault) → AdmitsContext o k → IsTermOf k (Gives e) (IsWellFormed e) u → IsPartFault k u n (pos e) f → IsFaultOf o k (Breaks (part p e n)) f
+part_fails o k p e n u f admits whole h = record {
+  admitted = λ c stand. admitted_alike o k f.sample.items c admits stand h.fault.admitted;
+  failure = λ c stand. inr (h.fault.place, point u c, whole.value c (admitted_alike o k f.sample.items c admits stand h.fault.admitted), no_part_at u n c f.kind h.kind h.no_part);
   elements = h.fault.elements;
 }

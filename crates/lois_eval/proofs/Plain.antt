@@ -24,5 +24,5 @@ falsity_decided k g is fits admits = record { truth = λ c a. is c; levels = fit
 pub decided_as : (k : Context) (c d : CondD) (g : List (List Lit)) → c ≡ d → IsConstraintOf k (HasTruth d) (CondIsWellFormed d) g → IsConstraintOf k (HasTruth c) (CondIsWellFormed c) g
 decided_as k c d g is h = subst (λ z. IsConstraintOf k (HasTruth z) (CondIsWellFormed z) g) (sym is) h
 
-pub cond_fails_as : (k : Context) (c d : CondD) (f : Fault) → c ≡ d → IsFaultOf k (CondFails d) f → IsFaultOf k (CondFails c) f
-cond_fails_as k c d f is h = subst (λ z. IsFaultOf k (CondFails z) f) (sym is) h
+pub cond_fails_as : (o : Bool) (k : Context) (c d : CondD) (f : Fault) → c ≡ d → IsFaultOf o k (CondFails d) f → IsFaultOf o k (CondFails c) f
+cond_fails_as o k c d f is h = subst (λ z. IsFaultOf o k (CondFails z) f) (sym is) h

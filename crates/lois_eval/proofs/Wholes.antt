@@ -31,7 +31,6 @@ use Rattle.lois_eval.specs.Forms.{quantifier}
 use Rattle.lois_eval.specs.WellFormed.{IsWellFormedIn, IsUnnamed, IsWellFormed, CondIsWellFormed, names_of}
 use Rattle.lois_eval.specs.Throughout.{Failure, StandFor, IsFaultOf}
 use Rattle.lois_eval.proofs.Binders.{each_binder_breaks, exists_binder_fails, every_binder_fails}
-use Rattle.lois_eval.proofs.FaultsAt.{alike_itself}
 use Rattle.lois_eval.proofs.Inside.{fails_outside}
 use Rattle.lois_eval.proofs.TermKinds.{set_at}
 use Rattle.lois_eval.proofs.Loops.{loop_makes, loop_exists, loop_every, loop_within}
@@ -45,9 +44,9 @@ unnamed_new x (s ∷ ss) h =
     (unnamed_new x ss (All-tail (λ y. IsFalse (bytes_eq y x)) s.name (names_of ss) h))
 
 -- the fault outside
-pub of_cut : (k : Context) (fails : Failure) (f g : Fault) → IsTruncatedFrom k.size f g → ((c : List Atom) → AreAlike true (sampled (take k.size g.sample.items)) c → IsAdmitted c k × fails (store_at c k.store) g.pos.offset g.kind) → g.elements ≡ [] → IsFaultOf k fails f
-of_cut k fails f g cut at none = record {
-  admitted = (at (sampled f.sample.items) (as_cut (sampled f.sample.items) (alike_itself f.sample.items))).0;
+pub of_cut : (o : Bool) (k : Context) (fails : Failure) (f g : Fault) → IsTruncatedFrom k.size f g → ((c : List Atom) → AreAlike o (sampled (take k.size g.sample.items)) c → IsAdmitted c k × fails (store_at c k.store) g.pos.offset g.kind) → g.elements ≡ [] → IsFaultOf o k fails f
+of_cut o k fails f g cut at none = record {
+  admitted = λ c stand. (at c (as_cut c stand)).0;
   failure = λ c stand.
       let here : fails (store_at c k.store) g.pos.offset g.kind = (at c (as_cut c stand)).1 in
       let there : fails (store_at c k.store) f.pos.offset g.kind = subst (λ p. fails (store_at c k.store) p.offset g.kind) (sym cut.place) here in
@@ -55,8 +54,8 @@ of_cut k fails f g cut at none = record {
   elements = cut.elements ∙ none;
 }
   where
-    as_cut : (c : List Atom) → StandFor c f → AreAlike true (sampled (take k.size g.sample.items)) c
-    as_cut c stand = subst (λ z. AreAlike true (sampled z) c) cut.sample stand
+    as_cut : (c : List Atom) → StandFor o c f → AreAlike o (sampled (take k.size g.sample.items)) c
+    as_cut c stand = subst (λ z. AreAlike o (sampled z) c) cut.sample stand
 
 module _ (k : Context) (x : List ℕ) (t : TermD) (ds : List Context) (is_set : IsSetTerm t) (entered : AreEntered k x t ds) where
   pub all_longer : All (λ d. k.size ≤ d.size) ds
@@ -87,16 +86,16 @@ module _ (k : Context) (x : List ℕ) (t : TermD) (ds : List Context) (is_set : 
     each_loop_within item rest cond ks gathered =
         loop_within k x t ds entered (Makes (each 0 item rest cond)) (IsWellFormed (each 0 item rest cond)) ks gathered
 
-    pub each_loop_fails : (p : ℕ) (item : ExprD) (rest : BindingsD) (cond : CondD) (f g : Fault) → IsFaultInside ds (Breaks (each 0 item rest cond)) g → IsTruncatedFrom k.size f g → IsFaultOf k (Breaks (each p item (bind (binding q x e) rest) cond)) f
-    each_loop_fails p item rest cond f g inside cut =
-        of_cut k (Breaks (each p item (bind (binding q x e) rest) cond)) f g cut (λ c alike.
-        let (a, (m, is, h)) = fails_outside k x t ds entered (Breaks (each 0 item rest cond)) (λ s u at kind same b. breaks_move (each 0 item rest cond) s u at kind same b) g inside c alike in
+    pub each_loop_fails : (o : Bool) (p : ℕ) (item : ExprD) (rest : BindingsD) (cond : CondD) (f g : Fault) → IsFaultInside o ds (Breaks (each 0 item rest cond)) g → IsTruncatedFrom k.size f g → IsFaultOf o k (Breaks (each p item (bind (binding q x e) rest) cond)) f
+    each_loop_fails o p item rest cond f g inside cut =
+        of_cut o k (Breaks (each p item (bind (binding q x e) rest) cond)) f g cut (λ c alike.
+        let (a, (m, is, h)) = fails_outside k x t ds entered o (Breaks (each 0 item rest cond)) (λ s u at kind same b. breaks_move (each 0 item rest cond) s u at kind same b) g inside c alike in
         (a, each_binder_breaks q x e (store_at c k.store) (point t c) (elements.value c a) (set_value c) p item rest cond m is g.pos.offset g.kind h)) inside.2.elements
 
-    pub quantifier_loop_fails : (some : Bool) (cond : CondD) (f g : Fault) → IsFaultInside ds (CondFails cond) g → IsTruncatedFrom k.size f g → IsFaultOf k (CondFails (quantifier some (binding q x e) cond)) f
-    quantifier_loop_fails some cond f g inside cut =
-        of_cut k (CondFails (quantifier some (binding q x e) cond)) f g cut (λ c alike.
-        let (a, (m, is, h)) = fails_outside k x t ds entered (CondFails cond) (λ s u at kind same b. cond_fails_move cond s u at kind same b) g inside c alike in
+    pub quantifier_loop_fails : (o some : Bool) (cond : CondD) (f g : Fault) → IsFaultInside o ds (CondFails cond) g → IsTruncatedFrom k.size f g → IsFaultOf o k (CondFails (quantifier some (binding q x e) cond)) f
+    quantifier_loop_fails o some cond f g inside cut =
+        of_cut o k (CondFails (quantifier some (binding q x e) cond)) f g cut (λ c alike.
+        let (a, (m, is, h)) = fails_outside k x t ds entered o (CondFails cond) (λ s u at kind same b. cond_fails_move cond s u at kind same b) g inside c alike in
         (a, whole some c (elements.value c a) m is h)) inside.2.elements
       where
         whole : (some : Bool) (c : List Atom) → Gives e (store_at c k.store) (point t c) → (m : PointValue) → IsMember m (point t c) → CondFails cond (stored x m (store_at c k.store)) g.pos.offset g.kind → CondFails (quantifier some (binding q x e) cond) (store_at c k.store) g.pos.offset g.kind

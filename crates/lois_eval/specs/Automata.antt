@@ -60,14 +60,14 @@ pub record IsEmptiness (k : Context) (t : TermD) (g : List (List Lit)) : Type 0 
   pub operators : (o : Bool) → AdmitsContext o k → AdmitsTerm o t → AdmitsConstraint o g
 
 -- the value of t fails in this way at the fault's sample, and at all atoms that stand as its numbers do
-pub record IsValueFault (k : Context) (row : PointValue → FaultKind → Type 0) (t : TermD) (at : ℕ) (f : Fault) : Type 0 where
+pub record IsValueFault (ordered : Bool) (k : Context) (row : PointValue → FaultKind → Type 0) (t : TermD) (at : ℕ) (f : Fault) : Type 0 where
   pub fault : IsFaultAt k at f
-  pub unfit : (c : List Atom) → StandFor c f → row (point t c) f.kind
+  pub unfit : (c : List Atom) → StandFor ordered c f → row (point t c) f.kind
 
 -- one of two values is no automaton, and the place is its place: the second only where the first is one throughout
-abbrev pub IsProductFault : Context → TermD → ℕ → TermD → ℕ → Fault → Type 0
-IsProductFault k s at t there f =
-    IsValueFault k IsNoAutomaton s at f ⊎ (((c : List Atom) → IsAdmitted c k → IsAutomaton (point s c)) × IsValueFault k IsNoAutomaton t there f)
+abbrev pub IsProductFault : Bool → Context → TermD → ℕ → TermD → ℕ → Fault → Type 0
+IsProductFault o k s at t there f =
+    IsValueFault o k IsNoAutomaton s at f ⊎ (((c : List Atom) → IsAdmitted c k → IsAutomaton (point s c)) × IsValueFault o k IsNoAutomaton t there f)
 
 -- the fault of a verdict that something fails, with its sample
 abbrev pub IsFailureOfVerdict : Verdict → Pos → FaultKind → Fault → Type 0

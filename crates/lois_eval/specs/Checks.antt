@@ -1,5 +1,5 @@
 -- The faults of values that are no sets, no atoms, or too deep.
-use Rattle.std.specs.Prelude.{◌≡◌, ℕ, List, [], take, IsTrue}
+use Rattle.std.specs.Prelude.{◌≡◌, ℕ, Bool, List, [], take, IsTrue}
 use Rattle.lois_base.specs.Atom.{Atom}
 use Rattle.lois_base.specs.Data.{TermD, var}
 use Rattle.lois_base.specs.Truth.{holds, sampled}
@@ -52,10 +52,10 @@ pub record IsAtomFault (k : Context) (t : TermD) (at : ℕ) (f : Fault) : Type 0
   pub kind : f.kind ≡ NotAtoms
   pub no_atom : (i : ℕ) → t ≡ var i → ⊥
 
-pub record IsDepthFault (k : Context) (t : TermD) (at : ℕ) (f : Fault) : Type 0 where
+pub record IsDepthFault (ordered : Bool) (k : Context) (t : TermD) (at : ℕ) (f : Fault) : Type 0 where
   pub fault : IsFaultAt k at f
   pub kind : f.kind ≡ DepthLimit
-  pub deep : (c : List Atom) → StandFor c f → IsDeeper (point t c) depth_limit
+  pub deep : (c : List Atom) → StandFor ordered c f → IsDeeper (point t c) depth_limit
 
 -- n numbers below n at which both constraints hold
 abbrev pub MeetsBoth : ℕ → List (List Lit) → List (List Lit) → List ℕ → Type 0

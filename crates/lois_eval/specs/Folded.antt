@@ -47,8 +47,8 @@ pub record IsFoundInside (n : ℕ) (P : NamedValues → Bool → Type 0) (wanted
   pub operators : (o : Bool) → All (IsWellFormedIn stands o) ds → AdmitsConstraint o g
 
 -- a fault in one of the contexts inside
-abbrev pub IsFaultInside : List Context → Failure → Fault → Type 0
-IsFaultInside ds fails f = (d : Context) × Contains ds d × IsFaultOf d fails f
+abbrev pub IsFaultInside : Bool → List Context → Failure → Fault → Type 0
+IsFaultInside ordered ds fails f = (d : Context) × Contains ds d × IsFaultOf ordered d fails f
 
 -- after one context more: where g held, and where h has the wanted truth at some longer choice that the context admits
 pub record HasFoundToo (k : Context) (n : ℕ) (wanted : Bool) (g h r : List (List Lit)) : Type 0 where

@@ -35,9 +35,9 @@ IsAppliedThroughout k op ts t =
     (c : List Atom) → IsAdmitted c k → AreValidOperands (part_values (terms_of ts) c) op × IsResultOf (point t c) op (part_values (terms_of ts) c)
 
 -- the fault of an operand behind valid ones, at a sample that the context admits, and at all atoms that stand as its numbers do
-pub record IsUnfitFault (k : Context) (op : Operation) (es : ExprsD) (ts : TermsD) (f : Fault) : Type 0 where
+pub record IsUnfitFault (ordered : Bool) (k : Context) (op : Operation) (es : ExprsD) (ts : TermsD) (f : Fault) : Type 0 where
   pub admitted : IsAdmitted (sampled f.sample.items) k
-  pub unfit : (c : List Atom) → StandFor c f → IsUnfitAmong (λ v. IsValidOperand v op) (IsInvalidOperand op) es (part_values ts c) f.pos.offset f.kind
+  pub unfit : (c : List Atom) → StandFor ordered c f → IsUnfitAmong (λ v. IsValidOperand v op) (IsInvalidOperand op) es (part_values ts c) f.pos.offset f.kind
   pub elements : f.elements ≡ []
 
 -- The sets among the members of t at each choice that the context admits are all of them, and r has these.
@@ -53,7 +53,7 @@ abbrev pub IsKeptIfSet : Context → CompD → List CompD → List CompD → Typ
 IsKeptIfSet k l before after = (IsSetTerm (item_of l) × (after ≡ before ++ l ∷ [])) ⊎ (HasNoMembers k l × (after ≡ before))
 
 -- some member of t is no set at the fault's sample, which the context admits, nor at atoms that stand as its numbers do
-pub record IsMemberFault (k : Context) (t : TermD) (at : ℕ) (f : Fault) : Type 0 where
+pub record IsMemberFault (ordered : Bool) (k : Context) (t : TermD) (at : ℕ) (f : Fault) : Type 0 where
   pub fault : IsFaultAt k at f
   pub kind : f.kind ≡ NotASet
-  pub no_set : (c : List Atom) → StandFor c f → (u : PointValue) × IsMember u (point t c) × (IsSet u → ⊥)
+  pub no_set : (c : List Atom) → StandFor ordered c f → (u : PointValue) × IsMember u (point t c) × (IsSet u → ⊥)

@@ -64,13 +64,13 @@ pub record KeepsSides {F D : Type 0} (pre : F → MutBor D → Global → Bor Co
 pub record AppliesToAutomata {F D : Type 0} (o : Bool) (pre : F → MutBor D → Global → Operation → Bor Exprs → Bor (List TermD) → Bor Context → Type 0) (post : ApplyCalls F D) : Type 0 where
   pub callable : (f : F) (d : MutBor D) (m : Global) (op : Operation) (es : Bor Exprs) (ts : Bor (List TermD)) (k : Bor Context) → AreOperands o k.now op (exprs_list es.now) ts.now → pre f d m op es ts k
   pub made : (f : F) (d e : MutBor D) (m : Global) (op : Operation) (es : Bor Exprs) (ts : Bor (List TermD)) (k : Bor Context) (r : Result Term Stop) → AreOperands o k.now op (exprs_list es.now) ts.now → post f d m op es ts k r e → IfOk r (λ t. IsOperationResult k.now op ts.now (tree t))
-  pub fault : (f : F) (d e : MutBor D) (m : Global) (op : Operation) (es : Bor Exprs) (ts : Bor (List TermD)) (k : Bor Context) (r : Result Term Stop) → AreOperands o k.now op (exprs_list es.now) ts.now → post f d m op es ts k r e → IfErr r (λ s. IfFault s (IsUnfitFault k.now op (exprs_of (exprs_list es.now)) (terms_of ts.now)))
+  pub fault : (f : F) (d e : MutBor D) (m : Global) (op : Operation) (es : Bor Exprs) (ts : Bor (List TermD)) (k : Bor Context) (r : Result Term Stop) → AreOperands o k.now op (exprs_list es.now) ts.now → post f d m op es ts k r e → IfErr r (λ s. IfFault s (IsUnfitFault o k.now op (exprs_of (exprs_list es.now)) (terms_of ts.now)))
 
 -- it may be called for a value of the context's levels, and answers where that accepts no word
 pub record FindsEmptiness {F D : Type 0} (o : Bool) (pre : F → MutBor D → Global → Pos → Bor Term → Bor Context → Type 0) (post : EmptyCalls F D) : Type 0 where
   pub callable : (f : F) (d : MutBor D) (m : Global) (p : Pos) (t : Bor Term) (k : Bor Context) → Fits k.now.size (tree t.now) → AdmitsTerm o (tree t.now) → AdmitsContext o k.now → pre f d m p t k
   pub emptiness : (f : F) (d e : MutBor D) (m : Global) (p : Pos) (t : Bor Term) (k : Bor Context) (r : Result Constraint Stop) → Fits k.now.size (tree t.now) → AdmitsTerm o (tree t.now) → AdmitsContext o k.now → post f d m p t k r e → IfOk r (IsEmptiness k.now (tree t.now))
-  pub fault : (f : F) (d e : MutBor D) (m : Global) (p : Pos) (t : Bor Term) (k : Bor Context) (r : Result Constraint Stop) → Fits k.now.size (tree t.now) → AdmitsTerm o (tree t.now) → AdmitsContext o k.now → post f d m p t k r e → IfErr r (λ s. IfFault s (IsValueFault k.now IsNoAutomaton (tree t.now) p.offset))
+  pub fault : (f : F) (d e : MutBor D) (m : Global) (p : Pos) (t : Bor Term) (k : Bor Context) (r : Result Constraint Stop) → Fits k.now.size (tree t.now) → AdmitsTerm o (tree t.now) → AdmitsContext o k.now → post f d m p t k r e → IfErr r (λ s. IfFault s (IsValueFault o k.now IsNoAutomaton (tree t.now) p.offset))
 
 -- entering a loop may leave q of p
 pub record LeadsByLoop {F D : Type 0} (post : LoopCalls F D) (p q : D) : Type 0 where

@@ -1,5 +1,5 @@
 -- What holds at each choice of atoms that a context admits, and what fails at some.
-use Rattle.std.specs.Prelude.{◌≡◌, ℕ, true, List, []}
+use Rattle.std.specs.Prelude.{◌≡◌, ℕ, Bool, List, []}
 use Rattle.lois_base.specs.Atom.{Atom}
 use Rattle.lois_base.specs.Data.{TermD}
 use Rattle.lois_base.specs.Patterns.{AreAlike}
@@ -33,15 +33,15 @@ Failure = NamedValues → ℕ → FaultKind → Type 0
 abbrev pub FailsNowhere : Context → Failure → Type 0
 FailsNowhere k fails = (c : List Atom) → IsAdmitted c k → (at : ℕ) (kind : FaultKind) → fails (store_at c k.store) at kind → ⊥
 
--- atoms that stand to one another as the numbers of the fault's sample do
-abbrev pub StandFor : List Atom → Fault → Type 0
-StandFor c f = AreAlike true (sampled f.sample.items) c
+-- atoms that are equal where the numbers of the fault's sample are, and where they are ordered in the same order
+abbrev pub StandFor : Bool → List Atom → Fault → Type 0
+StandFor ordered c f = AreAlike ordered (sampled f.sample.items) c
 
--- The context admits the fault's sample. There, and at all atoms that stand as its numbers do, the failure has its place and
--- kind; it names no elements.
-pub record IsFaultOf (k : Context) (fails : Failure) (f : Fault) : Type 0 where
-  pub admitted : IsAdmitted (sampled f.sample.items) k
-  pub failure : (c : List Atom) → StandFor c f → fails (store_at c k.store) f.pos.offset f.kind
+-- At the fault's sample, and at all atoms that stand as its numbers do, the context admits them, and the failure has its place
+-- and kind; it names no elements.
+pub record IsFaultOf (ordered : Bool) (k : Context) (fails : Failure) (f : Fault) : Type 0 where
+  pub admitted : (c : List Atom) → StandFor ordered c f → IsAdmitted c k
+  pub failure : (c : List Atom) → StandFor ordered c f → fails (store_at c k.store) f.pos.offset f.kind
   pub elements : f.elements ≡ []
 
 -- if it is a fault and not want of memory

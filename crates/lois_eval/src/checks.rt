@@ -5,7 +5,7 @@ ghost use Rattle.lois_base.specs.Atom.{Atom};
 ghost use Rattle.lois_base.specs.Fits.{Fits, ConstraintFits};
 ghost use Rattle.lois_base.specs.Tree.{tree};
 ghost use Rattle.lois_base.specs.Truth.{holds};
-ghost use Rattle.lois_base.specs.Validity.{AdmitsTerm};
+ghost use Rattle.lois_base.specs.Validity.{AdmitsConstraint, AdmitsTerm};
 ghost use Rattle.lois_base.specs.Values.{point, IsDeeper};
 ghost use Rattle.lois_meaning.specs.Store.{depth_limit, IsShallow};
 ghost use Rattle.lois_terms.specs.Collections.{IsColl};
@@ -50,7 +50,7 @@ pub(crate) fn shallow<T: Structure, D: Oracle<T>>(
     requires operators { AdmitsTerm T.ordered (tree term) }
     ensures same { IfOk result (λ r. tree r ≡ tree term) }
     ensures shallow { OnOk result ((c : List Atom) → IsAdmitted c context.now → IsShallow (point (tree term) c)) }
-    ensures fault { IfErr result (λ s. IfFault s (IsDepthFault context.now (tree term) pos.offset)) }
+    ensures fault { IfErr result (λ s. IfFault s (IsDepthFault T.ordered context.now (tree term) pos.offset)) }
     ensures asked { D.reaches decider.old decider.new }
 {
     check_depth::<T, D>(alloc, pos, &term, context, decider)?;
@@ -69,7 +69,7 @@ pub(crate) fn check_depth<T: Structure, D: Oracle<T>>(
     requires levels { Fits context.now.size (tree term.now) }
     requires operators { AdmitsTerm T.ordered (tree term.now) }
     ensures shallow { OnOk result ((c : List Atom) → IsAdmitted c context.now → IsShallow (point (tree term.now) c)) }
-    ensures fault { IfErr result (λ s. IfFault s (IsDepthFault context.now (tree term.now) pos.offset)) }
+    ensures fault { IfErr result (λ s. IfFault s (IsDepthFault T.ordered context.now (tree term.now) pos.offset)) }
     ensures asked { D.reaches decider.old decider.new }
 {
     if is_within_depth(term, GREATEST_DEPTH) {
@@ -92,6 +92,7 @@ pub fn too_deep<T: Structure>(
     requires operators { AdmitsTerm T.ordered (tree term.now) }
     ensures truth { IfOk result (λ r. (c : List Atom) → length c ≡ size → IsTrue (holds c r) ↔ IsDeeper (point (tree term.now) c) depth_limit) }
     ensures levels { IfOk result (ConstraintFits size) }
+    ensures operators { IfOk result (AdmitsConstraint T.ordered) }
 {
     let formula = depth_formula(alloc, term, GREATEST_DEPTH, size)?;
     quantifier_free::<T>(alloc, &formula, size)

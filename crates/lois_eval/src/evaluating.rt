@@ -60,7 +60,7 @@ pub fn eval<T: Structure>(
     ensures levels { IfOk result (λ t. Fits context.now.size (term_tree t)) }
     ensures operators { IfOk result (λ t. (ordered : Bool) → IsWellFormedIn (IsWellFormed (tree e.now)) ordered context.now → AdmitsTerm ordered (term_tree t)) }
     ensures widths { IfOk result (λ t. ContextHasBoundedWidths context.now → HasBoundedWidths (term_tree t)) }
-    ensures fault { IfErr result (λ s. IfFault s (IsFaultOf context.now (Fails (tree e.now)))) }
+    ensures fault { IfErr result (λ s. IfFault s (IsFaultOf T.ordered context.now (Fails (tree e.now)))) }
 
     // whatever is answered
     ensures only_asked { HasOnlyAsked (λ b. (⟦<dyn Decider as Decider>⟧ b.vtable).kind_of b.value) (λ b. (⟦<dyn Decider as Decider>⟧ b.vtable).questions b.value) chosen.old chosen.new }
@@ -91,7 +91,7 @@ pub fn eval<T: Structure>(
         apply: |asked: &mut Chosen, alloc: Global, operation: Operation, operands: &Exprs, values: &Terms, context: &Context|
             requires operands { AreOperands T.ordered context.now operation (exprs_list operands.now) values.now }
             ensures made { IfOk result (λ r. IsOperationResult context.now operation values.now (term_tree r)) }
-            ensures fault { IfErr result (λ s. IfFault s (IsUnfitFault context.now operation (exprs_of (exprs_list operands.now)) (terms_of values.now))) }
+            ensures fault { IfErr result (λ s. IfFault s (IsUnfitFault T.ordered context.now operation (exprs_of (exprs_list operands.now)) (terms_of values.now))) }
             ensures only_asked { HasOnlyAsked (λ b. kind_of (b.vtable, b.value)) (λ b. questions (b.vtable, b.value)) asked.old asked.new }
         { applied_to_automata::<T>(alloc, operation, operands, values, context, asked) },
         empty: |asked: &mut Chosen, alloc: Global, pos: Pos, automaton: &Term, context: &Context|
@@ -99,7 +99,7 @@ pub fn eval<T: Structure>(
             requires operators { AdmitsTerm T.ordered (term_tree automaton.now) }
             requires context_operators { AdmitsContext T.ordered context.now }
             ensures emptiness { IfOk result (IsEmptiness context.now (term_tree automaton.now)) }
-            ensures fault { IfErr result (λ s. IfFault s (IsValueFault context.now IsNoAutomaton (term_tree automaton.now) pos.offset)) }
+            ensures fault { IfErr result (λ s. IfFault s (IsValueFault T.ordered context.now IsNoAutomaton (term_tree automaton.now) pos.offset)) }
             ensures only_asked { HasOnlyAsked (λ b. kind_of (b.vtable, b.value)) (λ b. questions (b.vtable, b.value)) asked.old asked.new }
         { where_empty::<T>(alloc, pos, automaton, context, asked) },
     };
@@ -119,7 +119,7 @@ pub fn decide<T: Structure>(
     ensures nowhere { IfOk result (λ r. FailsNowhere context.now (CondFails (cond_tree c.now))) }
     ensures levels { IfOk result (λ r. ConstraintFits context.now.size r) }
     ensures operators { IfOk result (λ r. (ordered : Bool) → IsWellFormedIn (CondIsWellFormed (cond_tree c.now)) ordered context.now → AdmitsConstraint ordered r) }
-    ensures fault { IfErr result (λ s. IfFault s (IsFaultOf context.now (CondFails (cond_tree c.now)))) }
+    ensures fault { IfErr result (λ s. IfFault s (IsFaultOf T.ordered context.now (CondFails (cond_tree c.now)))) }
 
     // whatever is answered
     ensures only_asked { HasOnlyAsked (λ b. (⟦<dyn Decider as Decider>⟧ b.vtable).kind_of b.value) (λ b. (⟦<dyn Decider as Decider>⟧ b.vtable).questions b.value) chosen.old chosen.new }
@@ -150,7 +150,7 @@ pub fn decide<T: Structure>(
         apply: |asked: &mut Chosen, alloc: Global, operation: Operation, operands: &Exprs, values: &Terms, context: &Context|
             requires operands { AreOperands T.ordered context.now operation (exprs_list operands.now) values.now }
             ensures made { IfOk result (λ r. IsOperationResult context.now operation values.now (term_tree r)) }
-            ensures fault { IfErr result (λ s. IfFault s (IsUnfitFault context.now operation (exprs_of (exprs_list operands.now)) (terms_of values.now))) }
+            ensures fault { IfErr result (λ s. IfFault s (IsUnfitFault T.ordered context.now operation (exprs_of (exprs_list operands.now)) (terms_of values.now))) }
             ensures only_asked { HasOnlyAsked (λ b. kind_of (b.vtable, b.value)) (λ b. questions (b.vtable, b.value)) asked.old asked.new }
         { applied_to_automata::<T>(alloc, operation, operands, values, context, asked) },
         empty: |asked: &mut Chosen, alloc: Global, pos: Pos, automaton: &Term, context: &Context|
@@ -158,7 +158,7 @@ pub fn decide<T: Structure>(
             requires operators { AdmitsTerm T.ordered (term_tree automaton.now) }
             requires context_operators { AdmitsContext T.ordered context.now }
             ensures emptiness { IfOk result (IsEmptiness context.now (term_tree automaton.now)) }
-            ensures fault { IfErr result (λ s. IfFault s (IsValueFault context.now IsNoAutomaton (term_tree automaton.now) pos.offset)) }
+            ensures fault { IfErr result (λ s. IfFault s (IsValueFault T.ordered context.now IsNoAutomaton (term_tree automaton.now) pos.offset)) }
             ensures only_asked { HasOnlyAsked (λ b. kind_of (b.vtable, b.value)) (λ b. questions (b.vtable, b.value)) asked.old asked.new }
         { where_empty::<T>(alloc, pos, automaton, context, asked) },
     };
@@ -176,7 +176,7 @@ fn evaluated<T: Structure, D: Oracle<T>>(
     requires sound { D.sound }
     requires placed { IsWellFormedIn (IsWellFormed (tree e.now)) T.ordered context.now }
     ensures term { IfOk result (λ t. IsTermOf context.now (Gives (tree e.now)) (IsWellFormed (tree e.now)) (term_tree t)) }
-    ensures fault { IfErr result (λ s. IfFault s (IsFaultOf context.now (Fails (tree e.now)))) }
+    ensures fault { IfErr result (λ s. IfFault s (IsFaultOf T.ordered context.now (Fails (tree e.now)))) }
     ensures asked { D.reaches decider.old decider.new }
 {
     let pos = e.pos();
@@ -200,7 +200,7 @@ fn made<T: Structure, D: Oracle<T>>(
     requires sound { D.sound }
     requires placed { IsWellFormedIn (IsWellFormed (tree e.now)) T.ordered context.now }
     ensures term { IfOk result (λ t. IsTermOf context.now (Makes (tree e.now)) (IsWellFormed (tree e.now)) (term_tree t)) }
-    ensures fault { IfErr result (λ s. IfFault s (IsFaultOf context.now (Breaks (tree e.now)))) }
+    ensures fault { IfErr result (λ s. IfFault s (IsFaultOf T.ordered context.now (Breaks (tree e.now)))) }
     ensures asked { D.reaches decider.old decider.new }
 {
     match e {
@@ -251,7 +251,7 @@ fn all_evaluated<T: Structure, D: Oracle<T>>(
     requires sound { D.sound }
     requires placed { IsWellFormedIn (AreWellFormed (exprs_of (exprs_list es.now))) T.ordered context.now }
     ensures terms { IfOk result (λ ts. AreTermsOf context.now (exprs_of (exprs_list es.now)) (AreWellFormed (exprs_of (exprs_list es.now))) ts) }
-    ensures fault { IfErr result (λ s. IfFault s (IsFaultOf context.now (SomeFails (exprs_of (exprs_list es.now))))) }
+    ensures fault { IfErr result (λ s. IfFault s (IsFaultOf T.ordered context.now (SomeFails (exprs_of (exprs_list es.now))))) }
     ensures asked { D.reaches decider.old decider.new }
 {
     let mut values = Terms::new(alloc);
@@ -273,7 +273,7 @@ fn both_evaluated<T: Structure, D: Oracle<T>>(
     requires sound { D.sound }
     requires placed { IsWellFormedIn (AreWellFormed (two (tree e.now) (tree f.now))) T.ordered context.now }
     ensures terms { IfOk result (λ r. AreTermsOf context.now (two (tree e.now) (tree f.now)) (AreWellFormed (two (tree e.now) (tree f.now))) (sides_listed r)) }
-    ensures fault { IfErr result (λ s. IfFault s (IsFaultOf context.now (SomeFails (two (tree e.now) (tree f.now))))) }
+    ensures fault { IfErr result (λ s. IfFault s (IsFaultOf T.ordered context.now (SomeFails (two (tree e.now) (tree f.now))))) }
     ensures asked { D.reaches decider.old decider.new }
 {
     let left = side_evaluated::<T, D>(alloc, e, context, decider)?;
@@ -292,7 +292,7 @@ fn side_evaluated<T: Structure, D: Oracle<T>>(
     requires sound { D.sound }
     requires placed { IsWellFormedIn (IsWellFormed (tree e.now)) T.ordered context.now }
     ensures term { IfOk result (λ t. IsTermOf context.now (Gives (tree e.now)) (IsWellFormed (tree e.now)) (term_tree t)) }
-    ensures fault { IfErr result (λ s. IfFault s (IsFaultOf context.now (Fails (tree e.now)))) }
+    ensures fault { IfErr result (λ s. IfFault s (IsFaultOf T.ordered context.now (Fails (tree e.now)))) }
     ensures asked { D.reaches decider.old decider.new }
 {
     match e {
@@ -317,7 +317,7 @@ fn gathered<T: Structure, D: Oracle<T>>(
     requires placed { IsWellFormedIn (IsWellFormed (each_from item.now bindings.now from condition.now)) T.ordered context.now }
     ensures term { IfOk result (λ r. IsTermOf context.now (Makes (each_from item.now bindings.now from condition.now)) (IsWellFormed (each_from item.now bindings.now from condition.now)) (coll (comps_of r))) }
     ensures within { IfOk result (λ r. HasMembersOnlyWhereAdmitted context.now (coll (comps_of r))) }
-    ensures fault { IfErr result (λ s. IfFault s (IsFaultOf context.now (Breaks (each_from item.now bindings.now from condition.now)))) }
+    ensures fault { IfErr result (λ s. IfFault s (IsFaultOf T.ordered context.now (Breaks (each_from item.now bindings.now from condition.now)))) }
     ensures asked { D.reaches decider.old decider.new }
 {
     if from == bindings.len() {
@@ -362,7 +362,7 @@ fn gathered_here<T: Structure, D: Oracle<T>>(
     requires placed { IsWellFormedIn (IsWellFormed (each_from item.now bindings.now (length bindings.now) condition.now)) T.ordered context.now }
     ensures term { IfOk result (λ r. IsTermOf context.now (Makes (each_from item.now bindings.now (length bindings.now) condition.now)) (IsWellFormed (each_from item.now bindings.now (length bindings.now) condition.now)) (coll (comps_of r))) }
     ensures within { IfOk result (λ r. HasMembersOnlyWhereAdmitted context.now (coll (comps_of r))) }
-    ensures fault { IfErr result (λ s. IfFault s (IsFaultOf context.now (Breaks (each_from item.now bindings.now (length bindings.now) condition.now)))) }
+    ensures fault { IfErr result (λ s. IfFault s (IsFaultOf T.ordered context.now (Breaks (each_from item.now bindings.now (length bindings.now) condition.now)))) }
     ensures asked { D.reaches decider.old decider.new }
 {
     let wanted = decided::<T, D>(alloc, condition, context, decider)?;
@@ -396,7 +396,7 @@ fn gathered_inside<T: Structure, D: Oracle<T>>(
     requires sizes { All (λ d. size ≤ d.size) inner.now }
     requires placed { All (IsWellFormedIn (IsWellFormed (each_from item.now bindings.now from condition.now)) T.ordered) inner.now }
     ensures comps { IfOk result (λ r. IsGatheredInside size (Makes (each_from item.now bindings.now from condition.now)) (IsWellFormed (each_from item.now bindings.now from condition.now)) inner.now (comps_of r)) }
-    ensures fault { IfErr result (λ s. IfFault s (IsFaultInside inner.now (Breaks (each_from item.now bindings.now from condition.now)))) }
+    ensures fault { IfErr result (λ s. IfFault s (IsFaultInside T.ordered inner.now (Breaks (each_from item.now bindings.now from condition.now)))) }
     ensures asked { D.reaches decider.old decider.new }
 {
     let mut comps = Comps::new(alloc);
@@ -417,7 +417,7 @@ fn decided<T: Structure, D: Oracle<T>>(
     requires sound { D.sound }
     requires placed { IsWellFormedIn (CondIsWellFormed (cond_tree c.now)) T.ordered context.now }
     ensures constraint { IfOk result (IsConstraintOf context.now (HasTruth (cond_tree c.now)) (CondIsWellFormed (cond_tree c.now))) }
-    ensures fault { IfErr result (λ s. IfFault s (IsFaultOf context.now (CondFails (cond_tree c.now)))) }
+    ensures fault { IfErr result (λ s. IfFault s (IsFaultOf T.ordered context.now (CondFails (cond_tree c.now)))) }
     ensures asked { D.reaches decider.old decider.new }
 {
     match c {
@@ -480,7 +480,7 @@ fn all_decided<T: Structure, D: Oracle<T>>(
     requires sound { D.sound }
     requires placed { IsWellFormedIn (CondIsWellFormed (joint every (conds_of (conds_list parts.now)))) T.ordered context.now }
     ensures constraint { IfOk result (IsConstraintOf context.now (HasTruth (joint every (conds_of (conds_list parts.now)))) (CondIsWellFormed (joint every (conds_of (conds_list parts.now))))) }
-    ensures fault { IfErr result (λ s. IfFault s (IsFaultOf context.now (CondFails (joint every (conds_of (conds_list parts.now)))))) }
+    ensures fault { IfErr result (λ s. IfFault s (IsFaultOf T.ordered context.now (CondFails (joint every (conds_of (conds_list parts.now)))))) }
     ensures asked { D.reaches decider.old decider.new }
 {
     let mut found = unit(alloc, every)?;
@@ -504,7 +504,7 @@ fn quantified<T: Structure, D: Oracle<T>>(
     requires sound { D.sound }
     requires placed { IsWellFormedIn (CondIsWellFormed (quantifier some (binding_tree binding.now) (cond_tree body.now))) T.ordered context.now }
     ensures constraint { IfOk result (IsConstraintOf context.now (HasTruth (quantifier some (binding_tree binding.now) (cond_tree body.now))) (CondIsWellFormed (quantifier some (binding_tree binding.now) (cond_tree body.now)))) }
-    ensures fault { IfErr result (λ s. IfFault s (IsFaultOf context.now (CondFails (quantifier some (binding_tree binding.now) (cond_tree body.now))))) }
+    ensures fault { IfErr result (λ s. IfFault s (IsFaultOf T.ordered context.now (CondFails (quantifier some (binding_tree binding.now) (cond_tree body.now))))) }
     ensures asked { D.reaches decider.old decider.new }
 {
     let elements = evaluated::<T, D>(alloc, &binding.from, context, decider)?;
@@ -538,7 +538,7 @@ fn found_inside<T: Structure, D: Oracle<T>>(
     requires sizes { All (λ d. size ≤ d.size) inner.now }
     requires placed { All (IsWellFormedIn (CondIsWellFormed (cond_tree body.now)) T.ordered) inner.now }
     ensures constraint { IfOk result (IsFoundInside size (HasTruth (cond_tree body.now)) wanted (CondIsWellFormed (cond_tree body.now)) inner.now) }
-    ensures fault { IfErr result (λ s. IfFault s (IsFaultInside inner.now (CondFails (cond_tree body.now)))) }
+    ensures fault { IfErr result (λ s. IfFault s (IsFaultInside T.ordered inner.now (CondFails (cond_tree body.now)))) }
     ensures asked { D.reaches decider.old decider.new }
 {
     let mut found = Constraint::new(alloc);

@@ -4,6 +4,7 @@ ghost use Rattle.std.specs.Prelude.{◌↔◌, [], ◌∷◌, IfOk, IfErr, OnOk,
 ghost use Rattle.lois_base.specs.Data.{comps_of, coll};
 ghost use Rattle.lois_base.specs.Fits.{Fits, CompFits, ItemsFit};
 ghost use Rattle.lois_base.specs.Tree.{tree, comp_of};
+ghost use Rattle.lois_base.specs.Validity.{AdmitsTerm, AdmitsComp, AdmitsItems};
 ghost use Rattle.lois_terms.specs.Collections.{IsColl};
 ghost use Rattle.lois_context.specs.Entered.{HasNoMembers};
 ghost use Rattle.lois_eval.specs.Operands.{HasSetsOf, IsKeptIfSet, IsMemberFault};
@@ -29,9 +30,10 @@ pub(crate) fn sets_in<T: Structure, D: Oracle<T>>(
 ) -> Result<Term, Stop>
     requires sound { D.sound }
     requires levels { Fits context.now.size (tree set.now) }
+    requires operators { AdmitsTerm T.ordered (tree set.now) }
     requires set { IsColl (tree set.now) }
     ensures sets { IfOk result (λ r. HasSetsOf context.now (tree set.now) (tree r)) }
-    ensures fault { IfErr result (λ s. IfFault s (IsMemberFault context.now (tree set.now) pos.offset)) }
+    ensures fault { IfErr result (λ s. IfFault s (IsMemberFault T.ordered context.now (tree set.now) pos.offset)) }
     ensures asked { D.reaches decider.old decider.new }
 {
     match set {
@@ -49,8 +51,9 @@ fn kept<T: Structure, D: Oracle<T>>(
 ) -> Result<Comps, Stop>
     requires sound { D.sound }
     requires levels { ItemsFit context.now.size (comps_of comps.now) }
+    requires operators { AdmitsItems T.ordered (comps_of comps.now) }
     ensures sets { IfOk result (λ r. HasSetsOf context.now (coll (comps_of comps.now)) (coll (comps_of r))) }
-    ensures fault { IfErr result (λ s. IfFault s (IsMemberFault context.now (coll (comps_of comps.now)) pos.offset)) }
+    ensures fault { IfErr result (λ s. IfFault s (IsMemberFault T.ordered context.now (coll (comps_of comps.now)) pos.offset)) }
     ensures asked { D.reaches decider.old decider.new }
 {
     let mut kept = Comps::new(alloc);
@@ -71,8 +74,9 @@ fn put_set<T: Structure, D: Oracle<T>>(
 ) -> Result<(), Stop>
     requires sound { D.sound }
     requires levels { CompFits context.now.size (comp_of comp.now) }
+    requires operators { AdmitsComp T.ordered (comp_of comp.now) }
     ensures kept { OnOk result (IsKeptIfSet context.now (comp_of comp.now) kept.old kept.new) }
-    ensures fault { IfErr result (λ s. IfFault s (IsMemberFault context.now (coll (comps_of (comp_of comp.now ∷ []))) pos.offset)) }
+    ensures fault { IfErr result (λ s. IfFault s (IsMemberFault T.ordered context.now (coll (comps_of (comp_of comp.now ∷ []))) pos.offset)) }
     ensures asked { D.reaches decider.old decider.new }
 {
     if is_set(&comp.item) {
@@ -98,9 +102,10 @@ fn check_empty<T: Structure, D: Oracle<T>>(
 ) -> Result<(), Stop>
     requires sound { D.sound }
     requires levels { CompFits context.now.size (comp_of comp.now) }
+    requires operators { AdmitsComp T.ordered (comp_of comp.now) }
     requires item { IsColl (tree comp.now.item) → ⊥ }
     ensures empty { OnOk result (HasNoMembers context.now (comp_of comp.now)) }
-    ensures fault { IfErr result (λ s. IfFault s (IsMemberFault context.now (coll (comps_of (comp_of comp.now ∷ []))) pos.offset)) }
+    ensures fault { IfErr result (λ s. IfFault s (IsMemberFault T.ordered context.now (coll (comps_of (comp_of comp.now ∷ []))) pos.offset)) }
     ensures asked { D.reaches decider.old decider.new }
 {
     let inner = context.size + comp.binders;

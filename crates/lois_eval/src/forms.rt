@@ -48,7 +48,7 @@ pub(crate) fn simple<T: Structure>(alloc: Global, e: &Expr, context: &Context) -
     requires form { IsSimple (tree e.now) }
     requires placed { IsWellFormedIn (IsWellFormed (tree e.now)) T.ordered context.now }
     ensures term { IfOk result (λ t. IsTermOf context.now (Makes (tree e.now)) (IsWellFormed (tree e.now)) (term_tree t)) }
-    ensures fault { IfErr result (λ s. IfFault s (IsFaultOf context.now (Breaks (tree e.now)))) }
+    ensures fault { IfErr result (λ s. IfFault s (IsFaultOf T.ordered context.now (Breaks (tree e.now)))) }
 {
     match e {
         Expr::Atoms(_) => Ok(atoms(alloc, context.size)?),
@@ -71,7 +71,7 @@ pub(crate) fn composed<T: Structure, D: Oracle<T>>(
     requires placed { IsWellFormedIn (IsWellFormed (tree e.now)) T.ordered context.now }
     requires values { AreTermsOf context.now (parts_of (tree e.now)) (IsWellFormed (tree e.now)) values }
     ensures term { IfOk result (λ t. IsTermOf context.now (Makes (tree e.now)) (IsWellFormed (tree e.now)) (term_tree t)) }
-    ensures fault { IfErr result (λ s. IfFault s (IsFaultOf context.now (Breaks (tree e.now)))) }
+    ensures fault { IfErr result (λ s. IfFault s (IsFaultOf T.ordered context.now (Breaks (tree e.now)))) }
     ensures asked { D.reaches decider.old decider.new }
 {
     match e {
@@ -113,7 +113,7 @@ pub(crate) fn named_value<T: Structure, D: Oracle<T>>(
     requires form { IsName (tree e.now) }
     requires placed { IsWellFormedIn (IsWellFormed (tree e.now)) T.ordered context.now }
     ensures term { IfOk result (λ t. IsTermOf context.now (Gives (tree e.now)) (IsWellFormed (tree e.now)) (term_tree t)) }
-    ensures fault { IfErr result (λ s. IfFault s (IsFaultOf context.now (Fails (tree e.now)))) }
+    ensures fault { IfErr result (λ s. IfFault s (IsFaultOf T.ordered context.now (Fails (tree e.now)))) }
     ensures asked { D.reaches decider.old decider.new }
 {
     let held = held_by::<T>(alloc, e, context)?;
@@ -144,7 +144,7 @@ pub(crate) fn compared<T: Structure>(
     requires placed { IsWellFormedIn (CondIsWellFormed (cond_tree c.now)) T.ordered context.now }
     requires values { AreTermsOf context.now (sides_of (cond_tree c.now)) (CondIsWellFormed (cond_tree c.now)) (sides_listed values.now) }
     ensures constraint { IfOk result (IsConstraintOf context.now (HasTruth (cond_tree c.now)) (CondIsWellFormed (cond_tree c.now))) }
-    ensures fault { IfErr result (λ s. IfFault s (IsFaultOf context.now (CondFails (cond_tree c.now)))) }
+    ensures fault { IfErr result (λ s. IfFault s (IsFaultOf T.ordered context.now (CondFails (cond_tree c.now)))) }
 {
     compared_with::<T>(alloc, c, values.left.get(), values.right.get(), context)
 }
@@ -163,8 +163,9 @@ fn compared_with<T: Structure>(
     requires left_operators { AdmitsTerm T.ordered (term_tree s.now) }
     requires right { Fits context.now.size (term_tree t.now) }
     requires right_operators { AdmitsTerm T.ordered (term_tree t.now) }
+    requires context_operators { AdmitsContext T.ordered context.now }
     ensures constraint { IfOk result (IsConstraintOf context.now (HasTruth (cond_tree c.now)) (CondIsWellFormed (cond_tree c.now))) }
-    ensures fault { IfErr result (λ s. IfFault s (IsFaultOf context.now (CondFails (cond_tree c.now)))) }
+    ensures fault { IfErr result (λ s. IfFault s (IsFaultOf T.ordered context.now (CondFails (cond_tree c.now)))) }
 {
     match c {
         Cond::Same(_, _) => Ok(equal::<T>(alloc, s, t, context.size)?),
@@ -196,7 +197,7 @@ pub(crate) fn wordless<T: Structure, D: Oracle<T>>(
     requires operators { AdmitsTerm T.ordered (term_tree automaton) }
     requires context_operators { AdmitsContext T.ordered context.now }
     ensures emptiness { IfOk result (IsEmptiness context.now (term_tree automaton)) }
-    ensures fault { IfErr result (λ s. IfFault s (IsValueFault context.now IsNoAutomaton (term_tree automaton) pos.offset)) }
+    ensures fault { IfErr result (λ s. IfFault s (IsValueFault T.ordered context.now IsNoAutomaton (term_tree automaton) pos.offset)) }
     ensures asked { D.reaches decider.old decider.new }
 {
     decider.empty(alloc, pos, &automaton, context)

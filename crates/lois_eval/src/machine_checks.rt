@@ -10,6 +10,7 @@ ghost use Rattle.lois_automata.specs.Throughout.{HoldsThroughout};
 ghost use Rattle.lois_automata.specs.declared.verdicts.Verdict.TheVariants.{Holds};
 ghost use Rattle.lois_meaning.specs.Faults.{IsNoAutomaton, IsInvalidOperand};
 ghost use Rattle.lois_script.specs.declared.syntax.Operation.TheVariants.{Minimise};
+ghost use Rattle.lois_context.specs.Choices.{AdmitsContext};
 ghost use Rattle.lois_eval.specs.Automata.{IsFailureOfVerdict, IsValueFault};
 ghost use Rattle.lois_eval.specs.Throughout.{IfFault};
 
@@ -33,8 +34,9 @@ pub(crate) fn check_machine<T: Structure>(
 ) -> Result<(), Stop>
     requires levels { Fits context.now.size (tree value.now) }
     requires operators { AdmitsTerm T.ordered (tree value.now) }
+    requires context_operators { AdmitsContext T.ordered context.now }
     ensures automaton { OnOk result (HoldsThroughout context.now.size context.now.«when» (IsAutomatonAt (tree value.now))) }
-    ensures fault { IfErr result (λ s. IfFault s (IsValueFault context.now IsNoAutomaton (tree value.now) pos.offset)) }
+    ensures fault { IfErr result (λ s. IfFault s (IsValueFault T.ordered context.now IsNoAutomaton (tree value.now) pos.offset)) }
     ensures only_asked { HasOnlyAsked (λ b. (⟦<dyn Decider as Decider>⟧ b.vtable).kind_of b.value) (λ b. (⟦<dyn Decider as Decider>⟧ b.vtable).questions b.value) chosen.old chosen.new }
 {
     let verdict = check_automaton::<T>(alloc, value, &context.when, context.size, chosen)?;
@@ -51,8 +53,9 @@ pub(crate) fn check_whole<T: Structure>(
 ) -> Result<(), Stop>
     requires levels { Fits context.now.size (tree value.now) }
     requires operators { AdmitsTerm T.ordered (tree value.now) }
+    requires context_operators { AdmitsContext T.ordered context.now }
     ensures whole { OnOk result (HoldsThroughout context.now.size context.now.«when» (IsCompleteDeterministicAt (tree value.now))) }
-    ensures fault { IfErr result (λ s. IfFault s (IsValueFault context.now (IsInvalidOperand Minimise) (tree value.now) pos.offset)) }
+    ensures fault { IfErr result (λ s. IfFault s (IsValueFault T.ordered context.now (IsInvalidOperand Minimise) (tree value.now) pos.offset)) }
     ensures only_asked { HasOnlyAsked (λ b. (⟦<dyn Decider as Decider>⟧ b.vtable).kind_of b.value) (λ b. (⟦<dyn Decider as Decider>⟧ b.vtable).questions b.value) chosen.old chosen.new }
 {
     check_machine::<T>(alloc, pos, value, context, chosen)?;

@@ -37,7 +37,7 @@ pub(crate) fn applied_to_automata<T: Structure>(
 ) -> Result<Term, Stop>
     requires operands { AreOperands T.ordered context.now operation (exprs_list operands.now) values.now }
     ensures made { IfOk result (λ r. IsOperationResult context.now operation values.now (tree r)) }
-    ensures fault { IfErr result (λ s. IfFault s (IsUnfitFault context.now operation (exprs_of (exprs_list operands.now)) (terms_of values.now))) }
+    ensures fault { IfErr result (λ s. IfFault s (IsUnfitFault T.ordered context.now operation (exprs_of (exprs_list operands.now)) (terms_of values.now))) }
     ensures only_asked { HasOnlyAsked (λ b. (⟦<dyn Decider as Decider>⟧ b.vtable).kind_of b.value) (λ b. (⟦<dyn Decider as Decider>⟧ b.vtable).questions b.value) chosen.old chosen.new }
 {
     match operation {
@@ -66,7 +66,7 @@ fn of_one<T: Structure>(
     requires operators { AdmitsTerm T.ordered (tree automaton.now) }
     requires context_operators { AdmitsContext T.ordered context.now }
     ensures made { IfOk result (λ r. IsOperationResult context.now operation (tree automaton.now ∷ []) (tree r)) }
-    ensures fault { IfErr result (λ s. IfFault s (IsValueFault context.now (IsInvalidOperand operation) (tree automaton.now) pos.offset)) }
+    ensures fault { IfErr result (λ s. IfFault s (IsValueFault T.ordered context.now (IsInvalidOperand operation) (tree automaton.now) pos.offset)) }
     ensures only_asked { HasOnlyAsked (λ b. (⟦<dyn Decider as Decider>⟧ b.vtable).kind_of b.value) (λ b. (⟦<dyn Decider as Decider>⟧ b.vtable).questions b.value) chosen.old chosen.new }
 {
     match operation {
@@ -86,8 +86,9 @@ fn reach_of<T: Structure>(
 ) -> Result<Term, Stop>
     requires levels { Fits context.now.size (tree automaton.now) }
     requires operators { AdmitsTerm T.ordered (tree automaton.now) }
+    requires context_operators { AdmitsContext T.ordered context.now }
     ensures made { IfOk result (λ r. IsOperationResult context.now Reach (tree automaton.now ∷ []) (tree r)) }
-    ensures fault { IfErr result (λ s. IfFault s (IsValueFault context.now (IsInvalidOperand Reach) (tree automaton.now) pos.offset)) }
+    ensures fault { IfErr result (λ s. IfFault s (IsValueFault T.ordered context.now (IsInvalidOperand Reach) (tree automaton.now) pos.offset)) }
     ensures only_asked { HasOnlyAsked (λ b. (⟦<dyn Decider as Decider>⟧ b.vtable).kind_of b.value) (λ b. (⟦<dyn Decider as Decider>⟧ b.vtable).questions b.value) chosen.old chosen.new }
 {
     check_machine::<T>(alloc, pos, automaton, context, chosen)?;
@@ -107,8 +108,9 @@ fn product_of<T: Structure>(
     requires operators { AdmitsTerm T.ordered (tree a.now) }
     requires other_levels { Fits context.now.size (tree b.now) }
     requires other_operators { AdmitsTerm T.ordered (tree b.now) }
+    requires context_operators { AdmitsContext T.ordered context.now }
     ensures made { IfOk result (λ r. IsOperationResult context.now Product (tree a.now ∷ tree b.now ∷ []) (tree r)) }
-    ensures fault { IfErr result (λ s. IfFault s (IsProductFault context.now (tree a.now) a_pos.offset (tree b.now) b_pos.offset)) }
+    ensures fault { IfErr result (λ s. IfFault s (IsProductFault T.ordered context.now (tree a.now) a_pos.offset (tree b.now) b_pos.offset)) }
     ensures only_asked { HasOnlyAsked (λ b. (⟦<dyn Decider as Decider>⟧ b.vtable).kind_of b.value) (λ b. (⟦<dyn Decider as Decider>⟧ b.vtable).questions b.value) chosen.old chosen.new }
 {
     check_machine::<T>(alloc, a_pos, a, context, chosen)?;
@@ -125,8 +127,9 @@ fn complement_of<T: Structure>(
 ) -> Result<Term, Stop>
     requires levels { Fits context.now.size (tree automaton.now) }
     requires operators { AdmitsTerm T.ordered (tree automaton.now) }
+    requires context_operators { AdmitsContext T.ordered context.now }
     ensures made { IfOk result (λ r. IsOperationResult context.now Complement (tree automaton.now ∷ []) (tree r)) }
-    ensures fault { IfErr result (λ s. IfFault s (IsValueFault context.now (IsInvalidOperand Complement) (tree automaton.now) pos.offset)) }
+    ensures fault { IfErr result (λ s. IfFault s (IsValueFault T.ordered context.now (IsInvalidOperand Complement) (tree automaton.now) pos.offset)) }
     ensures only_asked { HasOnlyAsked (λ b. (⟦<dyn Decider as Decider>⟧ b.vtable).kind_of b.value) (λ b. (⟦<dyn Decider as Decider>⟧ b.vtable).questions b.value) chosen.old chosen.new }
 {
     check_whole::<T>(alloc, pos, automaton, context, chosen)?;
@@ -144,7 +147,7 @@ fn minimal_of<T: Structure>(
     requires operators { AdmitsTerm T.ordered (tree automaton.now) }
     requires context_operators { AdmitsContext T.ordered context.now }
     ensures made { IfOk result (λ r. IsOperationResult context.now Minimise (tree automaton.now ∷ []) (tree r)) }
-    ensures fault { IfErr result (λ s. IfFault s (IsValueFault context.now (IsInvalidOperand Minimise) (tree automaton.now) pos.offset)) }
+    ensures fault { IfErr result (λ s. IfFault s (IsValueFault T.ordered context.now (IsInvalidOperand Minimise) (tree automaton.now) pos.offset)) }
     ensures only_asked { HasOnlyAsked (λ b. (⟦<dyn Decider as Decider>⟧ b.vtable).kind_of b.value) (λ b. (⟦<dyn Decider as Decider>⟧ b.vtable).questions b.value) chosen.old chosen.new }
 {
     check_whole::<T>(alloc, pos, automaton, context, chosen)?;
@@ -171,7 +174,7 @@ pub(crate) fn where_empty<T: Structure>(
     requires operators { AdmitsTerm T.ordered (tree automaton.now) }
     requires context_operators { AdmitsContext T.ordered context.now }
     ensures emptiness { IfOk result (IsEmptiness context.now (tree automaton.now)) }
-    ensures fault { IfErr result (λ s. IfFault s (IsValueFault context.now IsNoAutomaton (tree automaton.now) pos.offset)) }
+    ensures fault { IfErr result (λ s. IfFault s (IsValueFault T.ordered context.now IsNoAutomaton (tree automaton.now) pos.offset)) }
     ensures only_asked { HasOnlyAsked (λ b. (⟦<dyn Decider as Decider>⟧ b.vtable).kind_of b.value) (λ b. (⟦<dyn Decider as Decider>⟧ b.vtable).questions b.value) chosen.old chosen.new }
 {
     check_machine::<T>(alloc, pos, automaton, context, chosen)?;

@@ -45,7 +45,7 @@ pub(crate) fn applied<T: Structure, D: Oracle<T>>(
     ensures levels { IfOk result (λ r. Fits context.now.size (tree r)) }
     ensures operators { IfOk result (λ r. (o : Bool) → AdmitsContext o context.now → AdmitsParts o (terms_of values.now) → AdmitsTerm o (tree r)) }
     ensures widths { IfOk result (λ r. PartsHaveBoundedWidths (terms_of values.now) → HasBoundedWidths (tree r)) }
-    ensures fault { IfErr result (λ s. IfFault s (IsUnfitFault context.now operation (exprs_of (exprs_list operands.now)) (terms_of values.now))) }
+    ensures fault { IfErr result (λ s. IfFault s (IsUnfitFault T.ordered context.now operation (exprs_of (exprs_list operands.now)) (terms_of values.now))) }
     ensures asked { D.reaches decider.old decider.new }
 {
     match operation {
@@ -78,7 +78,7 @@ fn combined<T: Structure>(
     ensures levels { IfOk result (λ r. Fits context.now.size (tree r)) }
     ensures operators { IfOk result (λ r. (o : Bool) → AdmitsParts o (terms_of values.now) → AdmitsTerm o (tree r)) }
     ensures widths { IfOk result (λ r. PartsHaveBoundedWidths (terms_of values.now) → HasBoundedWidths (tree r)) }
-    ensures fault { IfErr result (λ s. IfFault s (IsUnfitFault context.now operation (exprs_of (exprs_list operands.now)) (terms_of values.now))) }
+    ensures fault { IfErr result (λ s. IfFault s (IsUnfitFault T.ordered context.now operation (exprs_of (exprs_list operands.now)) (terms_of values.now))) }
 {
     let (e, f) = two_exprs(operands);
     let (s, t) = two_terms(values);
@@ -125,11 +125,12 @@ fn flattened<T: Structure, D: Oracle<T>>(
 ) -> Result<Term, Stop>
     requires sound { D.sound }
     requires levels { Fits context.now.size (tree set.now) }
+    requires operators { AdmitsTerm T.ordered (tree set.now) }
     ensures applied { IfOk result (λ r. IsAppliedThroughout context.now Flatten (tree set.now ∷ []) (tree r)) }
     ensures levels { IfOk result (λ r. Fits context.now.size (tree r)) }
     ensures operators { IfOk result (λ r. (o : Bool) → AdmitsTerm o (tree set.now) → AdmitsTerm o (tree r)) }
     ensures widths { IfOk result (λ r. HasBoundedWidths (tree set.now) → HasBoundedWidths (tree r)) }
-    ensures fault { IfErr result (λ s. IfFault s (λ f. IsSetFault context.now (tree set.now) pos.offset f ⊎ IsMemberFault context.now (tree set.now) pos.offset f)) }
+    ensures fault { IfErr result (λ s. IfFault s (λ f. IsSetFault context.now (tree set.now) pos.offset f ⊎ IsMemberFault T.ordered context.now (tree set.now) pos.offset f)) }
     ensures asked { D.reaches decider.old decider.new }
 {
     check_set(alloc, pos, set, context)?;

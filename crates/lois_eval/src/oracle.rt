@@ -93,7 +93,7 @@ pub(crate) trait Oracle<T: Structure> {
         requires sound { sound }
         requires operands { AreOperands T.ordered context.now operation (exprs_list operands.now) values.now }
         ensures made { IfOk result (λ r. IsOperationResult context.now operation values.now (tree r)) }
-        ensures fault { IfErr result (λ s. IfFault s (IsUnfitFault context.now operation (exprs_of (exprs_list operands.now)) (terms_of values.now))) }
+        ensures fault { IfErr result (λ s. IfFault s (IsUnfitFault T.ordered context.now operation (exprs_of (exprs_list operands.now)) (terms_of values.now))) }
         ensures asked { reaches self.old self.new };
 
     /// Where an automaton accepts no word.
@@ -109,7 +109,7 @@ pub(crate) trait Oracle<T: Structure> {
         requires operators { AdmitsTerm T.ordered (tree automaton.now) }
         requires context_operators { AdmitsContext T.ordered context.now }
         ensures emptiness { IfOk result (IsEmptiness context.now (tree automaton.now)) }
-        ensures fault { IfErr result (λ s. IfFault s (IsValueFault context.now IsNoAutomaton (tree automaton.now) pos.offset)) }
+        ensures fault { IfErr result (λ s. IfFault s (IsValueFault T.ordered context.now IsNoAutomaton (tree automaton.now) pos.offset)) }
         ensures asked { reaches self.old self.new };
 
     ghost reaches_itself: { (a : Self) → reaches a a };

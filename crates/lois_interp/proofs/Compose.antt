@@ -183,8 +183,8 @@ elements_from one two k d n elements placed widths h = record {
 module _ (one two both : Run) (k d : Context) (f : Fault)
     (leads : (s t l : NamedValues) (at : ℕ) (kind : FaultKind) (path : NamedValues) → one.ends s t l → two.fails t at kind path → both.fails s at kind path)
     (placed : (o : Bool) → IsWellFormedIn both.stands o k → IsWellFormedIn two.stands o d) (widths : ContextHasBoundedWidths k → ContextHasBoundedWidths d) where
-  pub fails_later : ComesFrom one (k ∷ []) d → FailsWithin two d f → FailsWithin both k f
-  fails_later from bad = record {
+  pub fails_later : (ordered : Bool) → ComesFrom one (k ∷ []) d → FailsWithin ordered two d f → FailsWithin ordered both k f
+  fails_later ordered from bad = record {
     fails_at = λ s stand.
         let there = bad.fails_at s stand in
         let a = take d.size s in

@@ -84,12 +84,12 @@ entered_all e x k t inside new gives set brackets operators widths entered = rec
 }
 
 -- what the expression gives is no set
-pub no_set_fails : (e : ExprD) (k : Context) (at : Pos) (t : TermD) (f : Fault) → IsValueThroughout k e t → (IsSetTerm t → ⊥) → at.offset ≡ pos e → IsFaultWith at NotASet k.sample f → IsFaultOf k (SetFails e) f
-no_set_fails e k at t f gives none place h =
+pub no_set_fails : (ordered : Bool) (e : ExprD) (k : Context) (at : Pos) (t : TermD) (f : Fault) → AdmitsContext ordered k → IsValueThroughout k e t → (IsSetTerm t → ⊥) → at.offset ≡ pos e → IsFaultWith at NotASet k.sample f → IsFaultOf ordered k (SetFails e) f
+no_set_fails ordered e k at t f admits gives none place h =
     let adm : IsAdmitted (sampled f.sample.items) k = subst (λ z. IsAdmitted (sampled z) k) (sym h.sample) (own_sample k) in
     record {
-      admitted = adm;
-      failure = λ a stand. inr (ap (λ z. z.offset) h.place ∙ place, point t a, gives a (admitted_alike k f.sample.items a stand adm), (h.kind, none));
+      admitted = λ a stand. admitted_alike ordered k f.sample.items a admits stand adm;
+      failure = λ a stand. inr (ap (λ z. z.offset) h.place ∙ place, point t a, gives a (admitted_alike ordered k f.sample.items a admits stand adm), (h.kind, none));
       elements = h.elements;
     }
 

@@ -57,8 +57,8 @@ module _ (k d : Context) (size : d.size ≡ k.size) (when_is : d.«when» ≡ k.
   pub admitted_there : (a : List Atom) → IsAdmitted a k → IsAdmitted a d
   admitted_there a adm = (adm.0 ∙ sym size, subst (λ g. IsTrue (holds a g)) (sym when_is) adm.1)
 
-  pub depth_fault_there : (t : TermD) (p : ℕ) (f : Fault) → IsDepthFault d t p f → IsDepthFault k t p f
-  depth_fault_there t p f h =
+  pub depth_fault_there : (ordered : Bool) (t : TermD) (p : ℕ) (f : Fault) → IsDepthFault ordered d t p f → IsDepthFault ordered k t p f
+  depth_fault_there ordered t p f h =
       record { fault = record { admitted = (h.fault.admitted.0 ∙ size, subst (λ g. IsTrue (holds (sampled f.sample.items) g)) when_is h.fault.admitted.1); place = h.fault.place; elements = h.fault.elements }; kind = h.kind; deep = h.deep }
 
 pub set_twice : (ss : List SlotD) (i : ℕ) (a b : SlotD) → set (set ss i a) i b ≡ set ss i b

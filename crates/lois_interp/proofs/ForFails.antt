@@ -16,7 +16,6 @@ use Rattle.lois_context.specs.LineValues.{line_values}
 use Rattle.lois_context.specs.declared.contexts.Context.{Context}
 use Rattle.lois_eval.specs.WellFormed.{IsWellFormedIn}
 use Rattle.lois_eval.specs.Throughout.{Failure, IsFaultOf}
-use Rattle.lois_eval.proofs.FaultsAt.{admitted_alike}
 use Rattle.lois_answers.specs.ResultsData.{LineD}
 use Rattle.lois_interp.specs.Failed.{AreElements, FailsAt, FailsWithin}
 use Rattle.lois_interp.specs.WellScoped.{StmtIsWellScoped, TurnIsWellScoped}
@@ -57,10 +56,10 @@ no_elements stands k n = record {
 }
 
 -- a failure outside of every loop
-pub bare_within : (fails : Failure) (more : Run) (k : Context) (f : Fault) → ((s : NamedValues) (at : ℕ) (kind : FaultKind) → fails s at kind → more.fails s at kind []) → IsFaultOf k fails f → FailsWithin more k f
-bare_within fails more k f to h = record {
+pub bare_within : (ordered : Bool) (fails : Failure) (more : Run) (k : Context) (f : Fault) → ((s : NamedValues) (at : ℕ) (kind : FaultKind) → fails s at kind → more.fails s at kind []) → IsFaultOf ordered k fails f → FailsWithin ordered more k f
+bare_within ordered fails more k f to h = record {
   fails_at = λ c stand.
-      let adm = admitted_alike k f.sample.items c stand h.admitted in
+      let adm = h.admitted c stand in
       let all : take k.size c ≡ c = subst (λ n. take n c ≡ c) adm.0 (take-length c) in
       record {
         admitted = subst (λ z. IsAdmitted z k) (sym all) adm;
@@ -113,10 +112,10 @@ module _ (e : ExprD) (x : List ℕ) (c : CondD) (body : StmtsD) (p : ℕ) (befor
         named = h.path;
       }
 
-  pub loop_fails : (d : Context) (f : Fault) → Contains inside d → before.size ≤ d.size →
+  pub loop_fails : (ordered : Bool) (d : Context) (f : Fault) → Contains inside d → before.size ≤ d.size →
       ((o : Bool) → IsWellFormedIn (StmtIsWellScoped (for (binding p x e) c body)) o before → IsWellFormedIn (TurnIsWellScoped c body) o d) → (ContextHasBoundedWidths before → ContextHasBoundedWidths d) →
-      FailsInside x c body d f → FailsWithin (stmt_run (for (binding p x e) c body)) before f
-  loop_fails d f there le placed widths inside_fails = record {
+      FailsInside ordered x c body d f → FailsWithin ordered (stmt_run (for (binding p x e) c body)) before f
+  loop_fails ordered d f there le placed widths inside_fails = record {
     fails_at = λ s stand. loop_fails_at d f there le s (inside_fails.fails_at s stand);
     elements = elements_from (TurnIsWellScoped c body) (StmtIsWellScoped (for (binding p x e) c body)) before d (length f.sample.items) f.elements placed widths inside_fails.elements;
   }

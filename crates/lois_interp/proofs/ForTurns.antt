@@ -65,9 +65,9 @@ module _ (p : ℕ) (x : List ℕ) (e : ExprD) (c : CondD) (body : StmtsD) where
     }
 
     -- the set fails, or is none
-    pub for_fails_set : (f : Fault) → IsFaultOf before (SetFails e) f → FailsWithin (stmt_run (for (binding p x e) c body)) before f
-    for_fails_set f h =
-        bare_within (SetFails e) (stmt_run (for (binding p x e) c body)) before f (λ s at k bad. elim bad [ inl q ↦ inl (q, refl) | inr q ↦ inr (inl (q, refl)) ]) h
+    pub for_fails_set : (ordered : Bool) (f : Fault) → IsFaultOf ordered before (SetFails e) f → FailsWithin ordered (stmt_run (for (binding p x e) c body)) before f
+    for_fails_set ordered f h =
+        bare_within ordered (SetFails e) (stmt_run (for (binding p x e) c body)) before f (λ s at k bad. elim bad [ inl q ↦ inl (q, refl) | inr q ↦ inr (inl (q, refl)) ]) h
 
     module _ (o : Bool) (placed : IsWellFormedIn (StmtIsWellScoped (for (binding p x e) c body)) o before) where
       may : StmtIsWellScoped (for (binding p x e) c body) o (names_of before.store)
@@ -87,11 +87,11 @@ module _ (p : ℕ) (x : List ℕ) (e : ExprD) (c : CondD) (body : StmtsD) where
         pub inside_elements : All (λ d. HoldsElement x d.store) inside
         inside_elements = All-weaker (StandsInside e x before) (λ d. HoldsElement x d.store) (λ d s. s.element) inside entered.stand
 
-        pub for_fails_inside : (f : Fault) → (d : Context) × Contains inside d × FailsInside x c body d f → FailsWithin (stmt_run (for (binding p x e) c body)) before f
+        pub for_fails_inside : (f : Fault) → (d : Context) × Contains inside d × FailsInside o x c body d f → FailsWithin o (stmt_run (for (binding p x e) c body)) before f
         for_fails_inside f (d, there, h) =
             let s = All-contains (StandsInside e x before) inside d entered.stand there in
             loop_fails e x c body p before entered.elements inside entered.gives entered.members
-            (All-weaker (StandsInside e x before) (ExtendsContext before x) (λ q s. s.goes_on) inside entered.stand) d f there
+            (All-weaker (StandsInside e x before) (ExtendsContext before x) (λ q s. s.goes_on) inside entered.stand) o d f there
             s.end.size (λ r q. inside_placed r d q s) s.widths h
 
         module _ (ends : List Context) (runs : LoopRuns c body inside ends) where

@@ -81,15 +81,15 @@ module _ (c : CondD) (first second : StmtsD) where
           (q.widths (all_sides ContextHasBoundedWidths s.no (some_side (IsTrueSide c false k) ContextHasBoundedWidths s.no (λ y side. side.widths own) decided.no)));
     }
 
-    pub if_cond_fails : (f : Fault) → IsFaultOf k (CondFails c) f → FailsWithin (stmt_run ((if) c first second)) k f
-    if_cond_fails f h = bare_within (CondFails c) (stmt_run ((if) c first second)) k f (λ s at kind bad. inl (bad, refl)) h
+    pub if_cond_fails : (ordered : Bool) (f : Fault) → IsFaultOf ordered k (CondFails c) f → FailsWithin ordered (stmt_run ((if) c first second)) k f
+    if_cond_fails ordered f h = bare_within ordered (CondFails c) (stmt_run ((if) c first second)) k f (λ s at kind bad. inl (bad, refl)) h
 
-    pub if_yes_fails : (s : Split) (f : Fault) → IsDecided c k s → FailsFrom (block_run first) (listed_context s.yes) f → FailsWithin (stmt_run ((if) c first second)) k f
-    if_yes_fails s f decided (y, there, h) =
+    pub if_yes_fails : (ordered : Bool) (s : Split) (f : Fault) → IsDecided c k s → FailsFrom ordered (block_run first) (listed_context s.yes) f → FailsWithin ordered (stmt_run ((if) c first second)) k f
+    if_yes_fails ordered s f decided (y, there, h) =
         let side = listed_side c true k s.yes y decided.yes there in
-        side_fails c true k (block_run first) (stmt_run ((if) c first second)) y f side (λ a at kind path truth bad. inr (inl (truth, bad))) (λ o p. yes_placed o y p side) h
+        side_fails c true k ordered (block_run first) (stmt_run ((if) c first second)) y f side (λ a at kind path truth bad. inr (inl (truth, bad))) (λ o p. yes_placed o y p side) h
 
-    pub if_no_fails : (s : Split) (f : Fault) → IsDecided c k s → FailsFrom (block_run second) (listed_context s.no) f → FailsWithin (stmt_run ((if) c first second)) k f
-    if_no_fails s f decided (y, there, h) =
+    pub if_no_fails : (ordered : Bool) (s : Split) (f : Fault) → IsDecided c k s → FailsFrom ordered (block_run second) (listed_context s.no) f → FailsWithin ordered (stmt_run ((if) c first second)) k f
+    if_no_fails ordered s f decided (y, there, h) =
         let side = listed_side c false k s.no y decided.no there in
-        side_fails c false k (block_run second) (stmt_run ((if) c first second)) y f side (λ a at kind path truth bad. inr (inr (truth, bad))) (λ o p. no_placed o y p side) h
+        side_fails c false k ordered (block_run second) (stmt_run ((if) c first second)) y f side (λ a at kind path truth bad. inr (inr (truth, bad))) (λ o p. no_placed o y p side) h

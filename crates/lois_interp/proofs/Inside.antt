@@ -157,17 +157,17 @@ module _ (c : CondD) (body : StmtsD) where
       no_side d (Some k) q x h there adm = h.truth x (subst (λ z. IsAdmitted x z) (sym (only_one k q there)) adm)
 
   -- ---- faults
-  pub cond_within : (d : Context) (f : Fault) → IsFaultOf d (CondFails c) f → FailsWithin (turn_run c body) d f
-  cond_within d f h = bare_within (CondFails c) (turn_run c body) d f (λ s at k bad. inl (bad, refl)) h
+  pub cond_within : (ordered : Bool) (d : Context) (f : Fault) → IsFaultOf ordered d (CondFails c) f → FailsWithin ordered (turn_run c body) d f
+  cond_within ordered d f h = bare_within ordered (CondFails c) (turn_run c body) d f (λ s at k bad. inl (bad, refl)) h
 
-  pub side_within : (d y : Context) (f : Fault) → IsTrueSide c true d y → FailsWithin (block_run body) y f → FailsWithin (turn_run c body) d f
-  side_within d y f side h =
-      side_fails c true d (block_run body) (turn_run c body) y f side (λ s at kind path truth bad. inr (truth, bad))
+  pub side_within : (ordered : Bool) (d y : Context) (f : Fault) → IsTrueSide c true d y → FailsWithin ordered (block_run body) y f → FailsWithin ordered (turn_run c body) d f
+  side_within ordered d y f side h =
+      side_fails c true d ordered (block_run body) (turn_run c body) y f side (λ s at kind path truth bad. inr (truth, bad))
       (λ o p. side_placed c true d (TurnIsWellScoped c body) (BlockIsWellScoped body) o y side (turn_cond c body o) (turn_block c body o) p) h
 
   -- the member is named before the rest of the path
-  pub member_named : (x : List ℕ) (item : TermD) (d : Context) (f g : Fault) → Holds x d.store item → depth item ≤ 64 → FailsWithin (turn_run c body) d f → NamesElement x item d.size f g → FailsInside x c body d g
-  member_named x item d f g held brackets h so =
+  pub member_named : (ordered : Bool) (x : List ℕ) (item : TermD) (d : Context) (f g : Fault) → Holds x d.store item → depth item ≤ 64 → FailsWithin ordered (turn_run c body) d f → NamesElement x item d.size f g → FailsInside ordered x c body d g
+  member_named ordered x item d f g held brackets h so =
       let s = f.sample.items in
       let n = d.size in
       let item_now = shift n (length s - n) item in
@@ -182,7 +182,7 @@ module _ (c : CondD) (body : StmtsD) where
       } in
       record {
         fails_at = λ z stand.
-            let alike : AreAlike true (sampled s) z = subst (λ y. AreAlike true (sampled y) z) so.sample stand in
+            let alike : AreAlike ordered (sampled s) z = subst (λ y. AreAlike ordered (sampled y) z) so.sample stand in
             let there = h.fails_at z alike in
             let a = take n z in
             let further = drop n z in
@@ -209,17 +209,17 @@ module _ (c : CondD) (body : StmtsD) where
 pub holds_one : (x : List ℕ) (ss : List SlotD) (t u : TermD) → Holds x ss t → Holds x ss u → t ≡ u
 holds_one x ss t u h k = ap (λ (v : PointValue). v.term_of) (some_same (point t []) (point u []) (sym (h.value []) ∙ k.value []))
 
-pub named_stop : (x : List ℕ) (item : TermD) (c : CondD) (body : StmtsD) (k : Context) (s r : Stop) → HoldsElement x k.store → Holds x k.store item → IfFault s (FailsWithin (turn_run c body) k) → StopNamesElement x item k.size s r → IfFault r (FailsInside x c body k)
-named_stop x item c body k (Faulted f) (Faulted g) element held h so =
-    member_named c body x item k f g held (subst (λ z. depth z ≤ 64) (holds_one x k.store element.item item element.held held) element.brackets) h so
-named_stop x item c body k (Faulted f) NoMemory element held h so = tt
-named_stop x item c body k NoMemory (Faulted g) element held h so = absurd so
-named_stop x item c body k NoMemory NoMemory element held h so = tt
+pub named_stop : (ordered : Bool) (x : List ℕ) (item : TermD) (c : CondD) (body : StmtsD) (k : Context) (s r : Stop) → HoldsElement x k.store → Holds x k.store item → IfFault s (FailsWithin ordered (turn_run c body) k) → StopNamesElement x item k.size s r → IfFault r (FailsInside ordered x c body k)
+named_stop ordered x item c body k (Faulted f) (Faulted g) element held h so =
+    member_named c body ordered x item k f g held (subst (λ z. depth z ≤ 64) (holds_one x k.store element.item item element.held held) element.brackets) h so
+named_stop ordered x item c body k (Faulted f) NoMemory element held h so = tt
+named_stop ordered x item c body k NoMemory (Faulted g) element held h so = absurd so
+named_stop ordered x item c body k NoMemory NoMemory element held h so = tt
 
-pub long_enough : (run : Run) (k : Context) (f : Fault) → FailsWithin run k f → k.size ≤ length f.sample.items
-long_enough run k f h =
+pub long_enough : (ordered : Bool) (run : Run) (k : Context) (f : Fault) → FailsWithin ordered run k f → k.size ≤ length f.sample.items
+long_enough ordered run k f h =
     let numbers = sampled f.sample.items in
-    let e : length (take k.size numbers) ≡ k.size = (h.fails_at numbers (alike_itself f.sample.items)).admitted.0 in
+    let e : length (take k.size numbers) ≡ k.size = (h.fails_at numbers (alike_itself ordered f.sample.items)).admitted.0 in
     omega (arith, length-map f.sample.items whole, length-take k.size numbers)
 
 pub held_fits : (x : List ℕ) (k : Context) (t : TermD) → Holds x k.store t → Fits k.size t

@@ -9,7 +9,8 @@ use Rattle.lois_base.specs.Patterns.{AreAlike}
 use Rattle.lois_base.specs.Truth.{holds, sampled}
 use Rattle.lois_base.specs.Values.{PointValue, point, IsDeeper}
 use Rattle.lois_base.specs.declared.guards.Lit.{Lit}
-use Rattle.lois_base.proofs.Truths.{holds_ordered}
+use Rattle.lois_base.specs.Validity.{AdmitsConstraint}
+use Rattle.lois_base.proofs.Truths.{holds_alike}
 use Rattle.lois_deciders.specs.Satisfiability.{IsCounterexample}
 use Rattle.lois_answers.specs.declared.faults.FaultKind.TheVariants.{NotASet, Assertion, DepthLimit}
 use Rattle.lois_script.specs.Scope.{unknown, again}
@@ -23,7 +24,7 @@ use Rattle.lois_meaning.specs.Runs.{IsSetWith}
 use Rattle.lois_meaning.specs.Store.{looked_up, depth_limit}
 use Rattle.lois_meaning.specs.declared.faults.Fault.{Fault}
 use Rattle.lois_terms.specs.Collections.{IsColl}
-use Rattle.lois_context.specs.Choices.{IsAdmitted}
+use Rattle.lois_context.specs.Choices.{IsAdmitted, AdmitsContext}
 use Rattle.lois_context.specs.Slots.{SlotD, IsNew, store_at}
 use Rattle.lois_context.specs.declared.contexts.Context.{Context}
 use Rattle.lois_eval.specs.WellFormed.{names_of, IsNamed, IsWellFormedIn, IsWellFormed, CondIsWellFormed}
@@ -88,14 +89,14 @@ pub print_named : (p q : ℕ) (x : List ℕ) (o : Bool) (k : Context) → IsWell
 print_named p q x o k h = let may = h.names in subst (IsNamed x) may.named (named_in x may.scope.names (λ none. may.unbroken unknown q (inr (refl, refl, none))))
 
 -- ---- faults
-pub let_fails : (p : ℕ) (x : List ℕ) (e : ExprD) (k : Context) (f : Fault) → IsFaultOf k (Fails e) f → FailsWithin (stmt_run («let» p x e)) k f
-let_fails p x e k f h = bare_within (Fails e) (stmt_run («let» p x e)) k f (λ s at kind bad. (bad, refl)) h
+pub let_fails : (ordered : Bool) (p : ℕ) (x : List ℕ) (e : ExprD) (k : Context) (f : Fault) → IsFaultOf ordered k (Fails e) f → FailsWithin ordered (stmt_run («let» p x e)) k f
+let_fails ordered p x e k f h = bare_within ordered (Fails e) (stmt_run («let» p x e)) k f (λ s at kind bad. (bad, refl)) h
 
-pub assign_fails : (p : ℕ) (x : List ℕ) (e : ExprD) (k : Context) (f : Fault) → IsFaultOf k (Fails e) f → FailsWithin (stmt_run (assign p x e)) k f
-assign_fails p x e k f h = bare_within (Fails e) (stmt_run (assign p x e)) k f (λ s at kind bad. (bad, refl)) h
+pub assign_fails : (ordered : Bool) (p : ℕ) (x : List ℕ) (e : ExprD) (k : Context) (f : Fault) → IsFaultOf ordered k (Fails e) f → FailsWithin ordered (stmt_run (assign p x e)) k f
+assign_fails ordered p x e k f h = bare_within ordered (Fails e) (stmt_run (assign p x e)) k f (λ s at kind bad. (bad, refl)) h
 
-pub add_fails : (p : ℕ) (x : List ℕ) (e : ExprD) (k : Context) (f : Fault) → IsFaultOf k (Fails e) f → FailsWithin (stmt_run (add e p x)) k f
-add_fails p x e k f h = bare_within (Fails e) (stmt_run (add e p x)) k f (λ s at kind bad. (refl, inl bad)) h
+pub add_fails : (ordered : Bool) (p : ℕ) (x : List ℕ) (e : ExprD) (k : Context) (f : Fault) → IsFaultOf ordered k (Fails e) f → FailsWithin ordered (stmt_run (add e p x)) k f
+add_fails ordered p x e k f h = bare_within ordered (Fails e) (stmt_run (add e p x)) k f (λ s at kind bad. (refl, inl bad)) h
 
 set_term : (t : TermD) → IsSetTerm t → IsColl t
 set_term (var i) h = absurd h
@@ -103,36 +104,36 @@ set_term (tag i) h = absurd h
 set_term (tup ts) h = absurd h
 set_term (coll ks) h = (ks, refl)
 
-module _ (at : Pos) (x : List ℕ) (e : ExprD) (k : Context) (t : TermD) (held : (a : List Atom) → looked_up x (store_at a k.store) ≡ Some (point t a)) (f : Fault) where
-  pub add_no_set : (v : TermD) → ((a : List Atom) → IsAdmitted a k → Gives e (store_at a k.store) (point v a)) → (IsColl t → ⊥) → IsFaultWith at NotASet k.sample f → FailsWithin (stmt_run (add e at.offset x)) k f
+module _ (at : Pos) (x : List ℕ) (e : ExprD) (k : Context) (t : TermD) (held : (a : List Atom) → looked_up x (store_at a k.store) ≡ Some (point t a)) (f : Fault) (ordered : Bool) (admits : AdmitsContext ordered k) where
+  pub add_no_set : (v : TermD) → ((a : List Atom) → IsAdmitted a k → Gives e (store_at a k.store) (point v a)) → (IsColl t → ⊥) → IsFaultWith at NotASet k.sample f → FailsWithin ordered (stmt_run (add e at.offset x)) k f
   add_no_set v gives none h =
       let adm : IsAdmitted (sampled f.sample.items) k = subst (λ z. IsAdmitted (sampled z) k) (sym h.sample) (own_sample k) in
-      bare_within (λ s place kind. (place ≡ at.offset) × (old w : PointValue) × (looked_up x s ≡ Some old) × Gives e s w × IsNoSet old kind) (stmt_run (add e at.offset x)) k f (λ s place kind bad. (refl, inr (inl bad))) (record {
-        admitted = adm;
-        failure = λ a stand. (ap (λ z. z.offset) h.place, point t a, point v a, held a, gives a (admitted_alike k f.sample.items a stand adm), (h.kind, λ set. none (set_term t set)));
+      bare_within ordered (λ s place kind. (place ≡ at.offset) × (old w : PointValue) × (looked_up x s ≡ Some old) × Gives e s w × IsNoSet old kind) (stmt_run (add e at.offset x)) k f (λ s place kind bad. (refl, inr (inl bad))) (record {
+        admitted = λ a stand. admitted_alike ordered k f.sample.items a admits stand adm;
+        failure = λ a stand. (ap (λ z. z.offset) h.place, point t a, point v a, held a, gives a (admitted_alike ordered k f.sample.items a admits stand adm), (h.kind, λ set. none (set_term t set)));
         elements = h.elements;
       })
 
-  pub add_too_deep : (v new : TermD) → ((a : List Atom) → IsAdmitted a k → Gives e (store_at a k.store) (point v a)) → ((a : List Atom) → IsSetWith (point new a) (point t a) (point v a)) → IsDepthFault k new at.offset f → FailsWithin (stmt_run (add e at.offset x)) k f
+  pub add_too_deep : (v new : TermD) → ((a : List Atom) → IsAdmitted a k → Gives e (store_at a k.store) (point v a)) → ((a : List Atom) → IsSetWith (point new a) (point t a) (point v a)) → IsDepthFault ordered k new at.offset f → FailsWithin ordered (stmt_run (add e at.offset x)) k f
   add_too_deep v new gives joined h =
-      bare_within (λ s place kind. (place ≡ at.offset) × (kind ≡ DepthLimit) × (old w more : PointValue) × (looked_up x s ≡ Some old) × Gives e s w × IsSetWith more old w × IsDeeper more depth_limit) (stmt_run (add e at.offset x)) k f (λ s place kind bad. (refl, inr (inr bad))) (record {
-        admitted = h.fault.admitted;
-        failure = λ a stand. (h.fault.place, h.kind, point t a, point v a, point new a, held a, gives a (admitted_alike k f.sample.items a stand h.fault.admitted), joined a, h.deep a stand);
+      bare_within ordered (λ s place kind. (place ≡ at.offset) × (kind ≡ DepthLimit) × (old w more : PointValue) × (looked_up x s ≡ Some old) × Gives e s w × IsSetWith more old w × IsDeeper more depth_limit) (stmt_run (add e at.offset x)) k f (λ s place kind bad. (refl, inr (inr bad))) (record {
+        admitted = λ a stand. admitted_alike ordered k f.sample.items a admits stand h.fault.admitted;
+        failure = λ a stand. (h.fault.place, h.kind, point t a, point v a, point new a, held a, gives a (admitted_alike ordered k f.sample.items a admits stand h.fault.admitted), joined a, h.deep a stand);
         elements = h.fault.elements;
       })
 
-pub assert_fails : (p : ℕ) (c : CondD) (k : Context) (f : Fault) → IsFaultOf k (CondFails c) f → FailsWithin (stmt_run (assert p c)) k f
-assert_fails p c k f h = bare_within (CondFails c) (stmt_run (assert p c)) k f (λ s at kind bad. inl (bad, refl)) h
+pub assert_fails : (ordered : Bool) (p : ℕ) (c : CondD) (k : Context) (f : Fault) → IsFaultOf ordered k (CondFails c) f → FailsWithin ordered (stmt_run (assert p c)) k f
+assert_fails ordered p c k f h = bare_within ordered (CondFails c) (stmt_run (assert p c)) k f (λ s at kind bad. inl (bad, refl)) h
 
 -- the sample is a choice at which the condition is false
-pub assertion_fails : (at : Pos) (c : CondD) (k : Context) (g : List (List Lit)) (sample : List ℕ) (f : Fault) → ((a : List Atom) → IsAdmitted a k → HasTruth c (store_at a k.store) (holds a g)) → ConstraintFits k.size g → IsCounterexample k.size k.«when» g sample → IsFaultWith at Assertion sample f → FailsWithin (stmt_run (assert at.offset c)) k f
-assertion_fails at c k g sample f truth fits parts h =
+pub assertion_fails : (ordered : Bool) (at : Pos) (c : CondD) (k : Context) (g : List (List Lit)) (sample : List ℕ) (f : Fault) → AdmitsContext ordered k → AdmitsConstraint ordered g → ((a : List Atom) → IsAdmitted a k → HasTruth c (store_at a k.store) (holds a g)) → ConstraintFits k.size g → IsCounterexample k.size k.«when» g sample → IsFaultWith at Assertion sample f → FailsWithin ordered (stmt_run (assert at.offset c)) k f
+assertion_fails ordered at c k g sample f context admits truth fits parts h =
     let adm : IsAdmitted (sampled sample) k = (length-map sample whole ∙ parts.0.count, parts.1) in
-    bare_within (λ s place kind. HasTruth c s false × (place ≡ at.offset) × (kind ≡ Assertion)) (stmt_run (assert at.offset c)) k f (λ s place kind bad. inr (bad.0, bad.1, bad.2, refl)) (record {
-      admitted = subst (λ z. IsAdmitted (sampled z) k) (sym h.sample) adm;
+    bare_within ordered (λ s place kind. HasTruth c s false × (place ≡ at.offset) × (kind ≡ Assertion)) (stmt_run (assert at.offset c)) k f (λ s place kind bad. inr (bad.0, bad.1, bad.2, refl)) (record {
+      admitted = λ a stand. admitted_alike ordered k f.sample.items a context stand (subst (λ z. IsAdmitted (sampled z) k) (sym h.sample) adm);
       failure = λ a stand.
-          let alike : AreAlike true (sampled sample) a = subst (λ z. AreAlike true (sampled z) a) h.sample stand in
-          let unmet : holds a g ≡ false = sym (holds_ordered (sampled sample) a alike g (subst (λ n. ConstraintFits n g) (sym adm.0) fits)) ∙ parts.2 in
-          (subst (HasTruth c (store_at a k.store)) unmet (truth a (admitted_alike k sample a alike adm)), ap (λ z. z.offset) h.place, h.kind);
+          let alike : AreAlike ordered (sampled sample) a = subst (λ z. AreAlike ordered (sampled z) a) h.sample stand in
+          let unmet : holds a g ≡ false = sym (holds_alike ordered (sampled sample) a alike g (subst (λ n. ConstraintFits n g) (sym adm.0) fits) admits) ∙ parts.2 in
+          (subst (HasTruth c (store_at a k.store)) unmet (truth a (admitted_alike ordered k sample a context alike adm)), ap (λ z. z.offset) h.place, h.kind);
       elements = h.elements;
     })

@@ -67,10 +67,10 @@ module _ (c : CondD) (b : Bool) (k : Context) where
       }
 
   -- a failure on a side is one from the context
-  pub side_fails : (one both : Run) (y : Context) (f : Fault) → IsTrueSide c b k y →
+  pub side_fails : (ordered : Bool) (one both : Run) (y : Context) (f : Fault) → IsTrueSide c b k y →
       ((s : NamedValues) (at : ℕ) (kind : FaultKind) (path : NamedValues) → HasTruth c s b → one.fails s at kind path → both.fails s at kind path) →
-      ((o : Bool) → IsWellFormedIn both.stands o k → IsWellFormedIn one.stands o y) → FailsWithin one y f → FailsWithin both k f
-  side_fails one both y f side leads placed h = record {
+      ((o : Bool) → IsWellFormedIn both.stands o k → IsWellFormedIn one.stands o y) → FailsWithin ordered one y f → FailsWithin ordered both k f
+  side_fails ordered one both y f side leads placed h = record {
     fails_at = λ s stand.
         let there = h.fails_at s stand in
         let a = take y.size s in

@@ -323,16 +323,16 @@ module _ (text : List ℕ) (s : ScriptD) (spelled : Spells text s) (scoped : IsW
             choices c count = subst (λ k. IsRightAt s k c) (sym is) (right_at c count)
 
   -- ---- a fault, whose elements are split
-  pub failure_of : (l : List StmtD) → s.body ≡ stmts_of l → (f g : Fault) → IsSplitFault f g → FailsBehind l o f → IsFailureOf s g
+  pub failure_of : (l : List StmtD) → s.body ≡ stmts_of l → (f g : Fault) → IsSplitFault f g → FailsBehind s.ordered l o f → IsFailureOf s g
   failure_of l is f g split h =
       let bad = h.within in
-      let count : length (take o.size (sampled f.sample.items)) ≡ o.size = (bad.fails_at (sampled f.sample.items) (alike_itself f.sample.items)).admitted.0 in
+      let count : length (take o.size (sampled f.sample.items)) ≡ o.size = (bad.fails_at (sampled f.sample.items) (alike_itself s.ordered f.sample.items)).admitted.0 in
       let levels : LinesFit (length f.sample.items) g.elements = split_all (λ l. Fits (length f.sample.items) l.term) (λ l. Fits (length f.sample.items) l.term) (λ l r is. is.levels (length f.sample.items)) f.elements g.elements split.elements bad.elements.levels in
       let body : s.body ≡ stmts_of (h.before ++ h.one ∷ h.behind) = is ∙ ap stmts_of h.whole in
       record {
         enough = omega (arith, count, opened.size, length-take o.size (sampled f.sample.items), length-map f.sample.items whole, ap length split.sample);
         fails_at = λ c stand.
-            let there = bad.fails_at c (subst (λ k. AreAlike true (sampled k) c) split.sample stand) in
+            let there = bad.fails_at c (subst (λ k. AreAlike s.ordered (sampled k) c) split.sample stand) in
             let FailsBehindThem : NamedValues → Type 0 = λ st. (t lines : NamedValues) × ListEnds (stmts_of h.before) st t lines × StmtFails h.one t f.pos.offset f.kind there.path in
             let here : FailsBehindEnds s (take n c) f.pos.offset f.kind there.path = record {
               before = h.before;

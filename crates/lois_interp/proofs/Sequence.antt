@@ -149,8 +149,8 @@ module _ (done : List StmtD) (a : StmtD) (rest : List StmtD) (k : Context) (ds :
         operators = All-contains (AdmitsContext o) ds d admit there;
       })
 
-  pub list_fails_at : (f : Fault) → FailsFrom (stmt_run a) ds f → FailsBehind (done ++ a ∷ rest) k f
-  list_fails_at f (d, there, bad) = record {
+  pub list_fails_at : (ordered : Bool) (f : Fault) → FailsFrom ordered (stmt_run a) ds f → FailsBehind ordered (done ++ a ∷ rest) k f
+  list_fails_at ordered f (d, there, bad) = record {
     before = done;
     one = a;
     behind = rest;
@@ -162,14 +162,14 @@ module _ (done : List StmtD) (a : StmtD) (rest : List StmtD) (k : Context) (ds :
     within = fails_later (list_run done) (stmt_run a) (block_run_at done a rest) k d f (λ s t l at kind path ends fails. (t, l, ends, fails))
         (λ o placed. All-contains (IsWellFormedIn (StmtIsWellScoped a) o) ds d (may_at o placed) there)
         (λ w. All-contains ContextHasBoundedWidths ds d (runs.widths (all_one ContextHasBoundedWidths k w)) there)
-        (runs.reached d there) bad;
+        ordered (runs.reached d there) bad;
   }
 
 -- a block fails where one of its statements does
-pub fails_whole : (block : List StmtD) (k : Context) (f : Fault) → FailsBehind block k f → FailsWithin (block_run (stmts_of block)) k f
-fails_whole block k f h =
+pub fails_whole : (ordered : Bool) (block : List StmtD) (k : Context) (f : Fault) → FailsBehind ordered block k f → FailsWithin ordered (block_run (stmts_of block)) k f
+fails_whole ordered block k f h =
     let bad = h.within in
-    subst (λ z. FailsWithin (block_run (stmts_of z)) k f) (sym h.whole)
+    subst (λ z. FailsWithin ordered (block_run (stmts_of z)) k f) (sym h.whole)
     (record {
       fails_at = λ c stand.
           let there = bad.fails_at c stand in

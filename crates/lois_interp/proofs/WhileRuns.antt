@@ -121,13 +121,13 @@ module _ (c : CondD) (body : StmtsD) where
           (h.widths (all_sides ContextHasBoundedWidths s.yes (some_side (IsTrueSide c true k) ContextHasBoundedWidths s.yes (λ y side. side.widths own) decided.yes)));
     }
 
-    pub turn_cond_fails : (f : Fault) → IsFaultOf k (CondFails c) f → FailsWithin (turn_run c body) k f
-    turn_cond_fails f h = bare_within (CondFails c) (turn_run c body) k f (λ s at kind bad. inl (bad, refl)) h
+    pub turn_cond_fails : (ordered : Bool) (f : Fault) → IsFaultOf ordered k (CondFails c) f → FailsWithin ordered (turn_run c body) k f
+    turn_cond_fails ordered f h = bare_within ordered (CondFails c) (turn_run c body) k f (λ s at kind bad. inl (bad, refl)) h
 
-    pub turn_body_fails : (s : Split) (f : Fault) → IsDecided c k s → FailsFrom (block_run body) (listed_context s.yes) f → FailsWithin (turn_run c body) k f
-    turn_body_fails s f decided (y, there, h) =
+    pub turn_body_fails : (ordered : Bool) (s : Split) (f : Fault) → IsDecided c k s → FailsFrom ordered (block_run body) (listed_context s.yes) f → FailsWithin ordered (turn_run c body) k f
+    turn_body_fails ordered s f decided (y, there, h) =
         let side = listed_side c true k s.yes y decided.yes there in
-        side_fails c true k (block_run body) (turn_run c body) y f side (λ a at kind path truth bad. inr (truth, bad)) (λ o p. body_placed o y p side) h
+        side_fails c true k ordered (block_run body) (turn_run c body) y f side (λ a at kind path truth bad. inr (truth, bad)) (λ o p. body_placed o y p side) h
 
     -- ---- the loop is left
     pub leave_placed : (o : Bool) → IsWellFormedIn (CondIsWellScoped c) o k → IsWellFormedIn (CondIsWellFormed c) o k
@@ -141,15 +141,15 @@ module _ (c : CondD) (body : StmtsD) where
       widths = λ w. all_sides ContextHasBoundedWidths s.no (some_side (IsTrueSide c false k) ContextHasBoundedWidths s.no (λ y side. side.widths (of_one ContextHasBoundedWidths k w)) decided.no);
     }
 
-    pub leave_cond_fails : (p : ℕ) (f : Fault) → IsFaultOf k (CondFails c) f → FailsWithin (leave_run p c) k f
-    leave_cond_fails p f h = bare_within (CondFails c) (leave_run p c) k f (λ s at kind bad. inl (bad, refl)) h
+    pub leave_cond_fails : (ordered : Bool) (p : ℕ) (f : Fault) → IsFaultOf ordered k (CondFails c) f → FailsWithin ordered (leave_run p c) k f
+    leave_cond_fails ordered p f h = bare_within ordered (CondFails c) (leave_run p c) k f (λ s at kind bad. inl (bad, refl)) h
 
-    pub limit_fails : (at : Pos) (y : Context) (f : Fault) → IsTrueSide c true k y → IsFaultWith at TurnLimit y.sample f → FailsWithin (leave_run at.offset c) k f
-    limit_fails at y f side h =
+    pub limit_fails : (ordered : Bool) (at : Pos) (y : Context) (f : Fault) → AdmitsContext ordered y → IsTrueSide c true k y → IsFaultWith at TurnLimit y.sample f → FailsWithin ordered (leave_run at.offset c) k f
+    limit_fails ordered at y f admits side h =
         let adm_y : IsAdmitted (sampled f.sample.items) y = subst (λ z. IsAdmitted (sampled z) y) (sym h.sample) (own_sample y) in
-        bare_within (λ s place kind. HasTruth c s true × (place ≡ at.offset) × (kind ≡ TurnLimit)) (leave_run at.offset c) k f (λ s place kind bad. inr (bad.0, bad.1, bad.2, refl)) (record {
-          admitted = side.within (sampled f.sample.items) adm_y;
-          failure = λ a stand. (side.truth a (admitted_alike y f.sample.items a stand adm_y), ap (λ z. z.offset) h.place, h.kind);
+        bare_within ordered (λ s place kind. HasTruth c s true × (place ≡ at.offset) × (kind ≡ TurnLimit)) (leave_run at.offset c) k f (λ s place kind bad. inr (bad.0, bad.1, bad.2, refl)) (record {
+          admitted = λ a stand. side.within a (admitted_alike ordered y f.sample.items a admits stand adm_y);
+          failure = λ a stand. (side.truth a (admitted_alike ordered y f.sample.items a admits stand adm_y), ap (λ z. z.offset) h.place, h.kind);
           elements = h.elements;
         })
 
@@ -269,14 +269,14 @@ module _ (p : ℕ) (c : CondD) (n : ℕ) (body : StmtsD) (k : Context) where
     widths = λ w. all_left ContextHasBoundedWidths done rest (h.widths w);
   }
 
-  pub turn_fails_at : (i : ℕ) → i < n → (done rest : List Context) (f : Fault) → HasTurned i done rest → FailsFrom (turn_run c body) rest f → FailsWithin (stmt_run (while p c n body)) k f
-  turn_fails_at i lt done rest f h (d, there, bad) =
+  pub turn_fails_at : (ordered : Bool) (i : ℕ) → i < n → (done rest : List Context) (f : Fault) → HasTurned i done rest → FailsFrom ordered (turn_run c body) rest f → FailsWithin ordered (stmt_run (while p c n body)) k f
+  turn_fails_at ordered i lt done rest f h (d, there, bad) =
       fails_later (turns_run c body i) (turn_run c body) (stmt_run (while p c n body)) k d f (turns_fail c body p n i lt)
       (λ o placed. All-contains (IsWellFormedIn (TurnIsWellScoped c body) o) rest d (turned_placed i done rest h o placed) there)
-      (λ w. All-contains ContextHasBoundedWidths rest d (turned_widths i done rest h w) there) (h.going d there) bad
+      (λ w. All-contains ContextHasBoundedWidths rest d (turned_widths i done rest h w) there) ordered (h.going d there) bad
 
-  pub leave_fails_at : (done rest : List Context) (f : Fault) → HasTurned n done rest → FailsFrom (leave_run p c) rest f → FailsWithin (stmt_run (while p c n body)) k f
-  leave_fails_at done rest f h (d, there, bad) =
+  pub leave_fails_at : (ordered : Bool) (done rest : List Context) (f : Fault) → HasTurned n done rest → FailsFrom ordered (leave_run p c) rest f → FailsWithin ordered (stmt_run (while p c n body)) k f
+  leave_fails_at ordered done rest f h (d, there, bad) =
       fails_later (turns_run c body n) (leave_run p c) (stmt_run (while p c n body)) k d f (leave_fails c body p n)
       (λ o placed. All-contains (IsWellFormedIn (CondIsWellScoped c) o) rest d (turned_leaves n done rest h o placed) there)
-      (λ w. All-contains ContextHasBoundedWidths rest d (turned_widths n done rest h w) there) (h.going d there) bad
+      (λ w. All-contains ContextHasBoundedWidths rest d (turned_widths n done rest h w) there) ordered (h.going d there) bad

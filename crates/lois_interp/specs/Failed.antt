@@ -36,23 +36,23 @@ pub record FailsAt (run : Run) (k : Context) (f : Fault) (c : List Atom) : Type 
   pub named : AreSameNamed path (line_values c f.elements)
 
 -- The run fails at the fault's sample, and at all atoms that stand as its numbers do.
-pub record FailsWithin (run : Run) (k : Context) (f : Fault) : Type 0 where
-  pub fails_at : (c : List Atom) → StandFor c f → FailsAt run k f c
+pub record FailsWithin (ordered : Bool) (run : Run) (k : Context) (f : Fault) : Type 0 where
+  pub fails_at : (c : List Atom) → StandFor ordered c f → FailsAt run k f c
   pub elements : AreElements run.stands k (length f.sample.items) f.elements
 
 -- The fault is of one of a block's statements, and those before it end at each choice that the context admits.
-pub record FailsBehind (block : List StmtD) (k : Context) (f : Fault) : Type 0 where
+pub record FailsBehind (ordered : Bool) (block : List StmtD) (k : Context) (f : Fault) : Type 0 where
   pub before : List StmtD
   pub one : StmtD
   pub behind : List StmtD
   pub whole : block ≡ before ++ one ∷ behind
   pub end_always : (c : List Atom) → IsAdmitted c k → (t lines : NamedValues) × ListEnds (stmts_of before) (store_at c k.store) t lines
-  pub within : FailsWithin (block_run_at before one behind) k f
+  pub within : FailsWithin ordered (block_run_at before one behind) k f
 
 -- the run fails with this place and kind, along some path
 abbrev pub FailsAlongSome : Run → Failure
 FailsAlongSome run s at kind = (path : NamedValues) × run.fails s at kind path
 
 -- the fault is one of a run from one of the contexts
-abbrev pub FailsFrom : Run → List Context → Fault → Type 0
-FailsFrom run before f = (k : Context) × Contains before k × FailsWithin run k f
+abbrev pub FailsFrom : Bool → Run → List Context → Fault → Type 0
+FailsFrom ordered run before f = (k : Context) × Contains before k × FailsWithin ordered run k f

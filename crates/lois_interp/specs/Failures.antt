@@ -26,10 +26,11 @@ pub record IsFailureAt (s : ScriptD) (f : Fault) (c : List Atom) : Type 0 where
   pub first : FailsBehindEnds s (take (length s.parameters) c) f.pos.offset f.kind path
   pub named : AreSameNamed path (line_values c f.elements)
 
--- The script fails so at the fault's sample, and at all atoms that stand as its numbers do.
+-- The script fails so at the fault's sample, and at all atoms that stand as its numbers do: that are equal where these are, and
+-- over ordered atoms in the same order.
 pub record IsFailureOf (s : ScriptD) (f : Fault) : Type 0 where
   pub enough : length s.parameters ≤ length f.sample.items
-  pub fails_at : (c : List Atom) → StandFor c f → IsFailureAt s f c
+  pub fails_at : (c : List Atom) → StandFor s.ordered c f → IsFailureAt s f c
   pub levels : LinesFit (length f.sample.items) f.elements
   pub brackets : All (λ l. depth l.term ≤ 64) f.elements
   pub operators : All (λ l. AdmitsTerm s.ordered l.term) f.elements

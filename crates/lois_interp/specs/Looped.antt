@@ -49,8 +49,8 @@ pub record FailsInsideAt (x : List ℕ) (c : CondD) (body : StmtsD) (d : Context
   pub path : AreSameNamed (named x member ∷ rest) (line_values a f.elements)
 
 -- So it is at the fault's sample, and at all atoms that stand as its numbers do.
-pub record FailsInside (x : List ℕ) (c : CondD) (body : StmtsD) (d : Context) (f : Fault) : Type 0 where
-  pub fails_at : (a : List Atom) → StandFor a f → FailsInsideAt x c body d f a
+pub record FailsInside (ordered : Bool) (x : List ℕ) (c : CondD) (body : StmtsD) (d : Context) (f : Fault) : Type 0 where
+  pub fails_at : (a : List Atom) → StandFor ordered a f → FailsInsideAt x c body d f a
   pub elements : AreElements (TurnIsWellScoped c body) d (length f.sample.items) f.elements
 
 -- at each choice the name holds the term

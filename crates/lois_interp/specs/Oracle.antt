@@ -47,19 +47,19 @@ JoinCalls F D = (f : F) (before : MutBor D) → Global → Context → Vec Conte
 pub record EntersMembers {F D : Type 0} (o : Bool) (pre : F → MutBor D → Global → Bor Expr → Bor (List ℕ) → Bor Context → Type 0) (post : EnterCalls F D) : Type 0 where
   pub callable : (f : F) (d : MutBor D) (m : Global) (e : Bor Expr) (x : Bor (List ℕ)) (k : Bor Context) → IsWellFormedIn (IsWellFormed (tree e.now)) o k.now → IsNew x.now k.now.store → pre f d m e x k
   pub entered : (f : F) (d g : MutBor D) (m : Global) (e : Bor Expr) (x : Bor (List ℕ)) (k : Bor Context) (r : Result (Vec Context) Stop) → IsWellFormedIn (IsWellFormed (tree e.now)) o k.now → IsNew x.now k.now.store → post f d m e x k r g → IfOk r (λ inside. IsEntered (tree e.now) x.now k.now inside.items)
-  pub fault : (f : F) (d g : MutBor D) (m : Global) (e : Bor Expr) (x : Bor (List ℕ)) (k : Bor Context) (r : Result (Vec Context) Stop) → IsWellFormedIn (IsWellFormed (tree e.now)) o k.now → IsNew x.now k.now.store → post f d m e x k r g → IfErr r (λ s. IfFault s (IsFaultOf k.now (SetFails (tree e.now))))
+  pub fault : (f : F) (d g : MutBor D) (m : Global) (e : Bor Expr) (x : Bor (List ℕ)) (k : Bor Context) (r : Result (Vec Context) Stop) → IsWellFormedIn (IsWellFormed (tree e.now)) o k.now → IsNew x.now k.now.store → post f d m e x k r g → IfErr r (λ s. IfFault s (IsFaultOf o k.now (SetFails (tree e.now))))
 
 -- it may be called for a condition that stands there, and answers with both sides
 pub record DecidesSides {F D : Type 0} (o : Bool) (pre : F → MutBor D → Global → Bor Cond → Context → Type 0) (post : SidesCalls F D) : Type 0 where
   pub callable : (f : F) (d : MutBor D) (m : Global) (c : Bor Cond) (k : Context) → IsWellFormedIn (CondIsWellFormed (cond_tree c.now)) o k → pre f d m c k
   pub decided : (f : F) (d g : MutBor D) (m : Global) (c : Bor Cond) (k : Context) (r : Result Split Stop) → IsWellFormedIn (CondIsWellFormed (cond_tree c.now)) o k → post f d m c k r g → IfOk r (IsDecided (cond_tree c.now) k)
-  pub fault : (f : F) (d g : MutBor D) (m : Global) (c : Bor Cond) (k : Context) (r : Result Split Stop) → IsWellFormedIn (CondIsWellFormed (cond_tree c.now)) o k → post f d m c k r g → IfErr r (λ s. IfFault s (IsFaultOf k (CondFails (cond_tree c.now))))
+  pub fault : (f : F) (d g : MutBor D) (m : Global) (c : Bor Cond) (k : Context) (r : Result Split Stop) → IsWellFormedIn (CondIsWellFormed (cond_tree c.now)) o k → post f d m c k r g → IfErr r (λ s. IfFault s (IsFaultOf o k (CondFails (cond_tree c.now))))
 
 -- it may be called for a statement that may stand there, and runs it
 pub record RunsStatements {F D : Type 0} (o : Bool) (pre : F → MutBor D → Global → Bor Stmt → Context → Type 0) (post : SimpleCalls F D) : Type 0 where
   pub callable : (f : F) (d : MutBor D) (m : Global) (a : Bor Stmt) (k : Context) → IsLeaf (stmt_tree a.now) → IsWellFormedIn (StmtIsWellScoped (stmt_tree a.now)) o k → pre f d m a k
   pub runs : (f : F) (d g : MutBor D) (m : Global) (a : Bor Stmt) (k : Context) (r : Result (Vec Context) Stop) → IsLeaf (stmt_tree a.now) → IsWellFormedIn (StmtIsWellScoped (stmt_tree a.now)) o k → post f d m a k r g → IfOk r (λ ds. RunsAs (stmt_run (stmt_tree a.now)) k ds.items)
-  pub fault : (f : F) (d g : MutBor D) (m : Global) (a : Bor Stmt) (k : Context) (r : Result (Vec Context) Stop) → IsLeaf (stmt_tree a.now) → IsWellFormedIn (StmtIsWellScoped (stmt_tree a.now)) o k → post f d m a k r g → IfErr r (λ s. IfFault s (FailsWithin (stmt_run (stmt_tree a.now)) k))
+  pub fault : (f : F) (d g : MutBor D) (m : Global) (a : Bor Stmt) (k : Context) (r : Result (Vec Context) Stop) → IsLeaf (stmt_tree a.now) → IsWellFormedIn (StmtIsWellScoped (stmt_tree a.now)) o k → post f d m a k r g → IfErr r (λ s. IfFault s (FailsWithin o (stmt_run (stmt_tree a.now)) k))
 
 -- it may be called for a context and ends of a loop from it, and answers with what stands behind the loop
 pub record JoinsLoops {F D : Type 0} (o : Bool) (pre : F → MutBor D → Global → Context → Vec Context → Type 0) (post : JoinCalls F D) : Type 0 where

@@ -33,7 +33,7 @@ pub(crate) fn check_depth<T: Structure>(
     requires levels { Fits context.now.size (tree term.now) }
     requires operators { AdmitsTerm T.ordered (tree term.now) }
     ensures shallow { OnOk result ((c : List Atom) → IsAdmitted c context.now → IsShallow (point (tree term.now) c)) }
-    ensures fault { IfErr result (λ s. IfFault s (IsDepthFault context.now (tree term.now) pos.offset)) }
+    ensures fault { IfErr result (λ s. IfFault s (IsDepthFault T.ordered context.now (tree term.now) pos.offset)) }
 
     // whatever is answered
     ensures only_asked { HasOnlyAsked (λ b. (⟦<dyn Decider as Decider>⟧ b.vtable).kind_of b.value) (λ b. (⟦<dyn Decider as Decider>⟧ b.vtable).questions b.value) chosen.old chosen.new }

@@ -39,7 +39,7 @@ pub(crate) fn enter_members<T: Structure>(
     requires placed { IsWellFormedIn (IsWellFormed (tree e.now)) T.ordered context.now }
     requires new_name { IsNew name.now context.now.store }
     ensures entered { IfOk result (λ r. IsEntered (tree e.now) name.now context.now r.items) }
-    ensures fault { IfErr result (λ s. IfFault s (IsFaultOf context.now (SetFails (tree e.now)))) }
+    ensures fault { IfErr result (λ s. IfFault s (IsFaultOf T.ordered context.now (SetFails (tree e.now)))) }
 
     // whatever is answered
     ensures only_asked { HasOnlyAsked (λ b. (⟦<dyn Decider as Decider>⟧ b.vtable).kind_of b.value) (λ b. (⟦<dyn Decider as Decider>⟧ b.vtable).questions b.value) chosen.old chosen.new }
@@ -62,7 +62,7 @@ fn elements_of<T: Structure>(
     ensures levels { IfOk result (λ t. Fits context.now.size (term_tree t)) }
     ensures operators { IfOk result (λ t. (ordered : Bool) → IsWellFormedIn (IsWellFormed (tree e.now)) ordered context.now → AdmitsTerm ordered (term_tree t)) }
     ensures widths { IfOk result (λ t. ContextHasBoundedWidths context.now → HasBoundedWidths (term_tree t)) }
-    ensures fault { IfErr result (λ s. IfFault s (IsFaultOf context.now (SetFails (tree e.now)))) }
+    ensures fault { IfErr result (λ s. IfFault s (IsFaultOf T.ordered context.now (SetFails (tree e.now)))) }
 
     // whatever is answered
     ensures only_asked { HasOnlyAsked (λ b. (⟦<dyn Decider as Decider>⟧ b.vtable).kind_of b.value) (λ b. (⟦<dyn Decider as Decider>⟧ b.vtable).questions b.value) chosen.old chosen.new }

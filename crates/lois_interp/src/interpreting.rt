@@ -82,7 +82,7 @@ fn run_body<T: Structure>(
 ) -> Result<Vec<Context>, Stop>
     requires { IsWellFormedIn (BlockIsWellScoped (stmts_of (stmts_list body.now))) T.ordered opening }
     ensures runs { IfOk result (λ r. RunsAs (block_run (stmts_of (stmts_list body.now))) opening r.items) }
-    ensures fault { IfErr result (λ s. IfFault s (IsSplitFrom (FailsBehind (stmts_list body.now) opening))) }
+    ensures fault { IfErr result (λ s. IfFault s (IsSplitFrom (FailsBehind T.ordered (stmts_list body.now) opening))) }
     ensures only_asked { HasOnlyAsked (λ b. (⟦<dyn Decider as Decider>⟧ b.vtable).kind_of b.value) (λ b. (⟦<dyn Decider as Decider>⟧ b.vtable).questions b.value) chosen.old chosen.new }
 {
     match run_block::<T>(alloc, body, opening, chosen) {

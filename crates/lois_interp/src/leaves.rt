@@ -43,7 +43,7 @@ pub(crate) fn run_simple<T: Structure>(
     requires leaf { IsLeaf (stmt_tree stmt.now) }
     requires placed { IsWellFormedIn (StmtIsWellScoped (stmt_tree stmt.now)) T.ordered context }
     ensures runs { IfOk result (λ r. RunsAs (stmt_run (stmt_tree stmt.now)) context r.items) }
-    ensures fault { IfErr result (λ s. IfFault s (FailsWithin (stmt_run (stmt_tree stmt.now)) context)) }
+    ensures fault { IfErr result (λ s. IfFault s (FailsWithin T.ordered (stmt_run (stmt_tree stmt.now)) context)) }
 
     // whatever is answered
     ensures only_asked { HasOnlyAsked (λ b. (⟦<dyn Decider as Decider>⟧ b.vtable).kind_of b.value) (λ b. (⟦<dyn Decider as Decider>⟧ b.vtable).questions b.value) chosen.old chosen.new }
@@ -68,7 +68,7 @@ fn run_let<T: Structure>(
 ) -> Result<Vec<Context>, Stop>
     requires { IsWellFormedIn (StmtIsWellScoped («let» pos.offset name.now (tree e.now))) T.ordered context }
     ensures runs { IfOk result (λ r. RunsAs (stmt_run («let» pos.offset name.now (tree e.now))) context r.items) }
-    ensures fault { IfErr result (λ s. IfFault s (FailsWithin (stmt_run («let» pos.offset name.now (tree e.now))) context)) }
+    ensures fault { IfErr result (λ s. IfFault s (FailsWithin T.ordered (stmt_run («let» pos.offset name.now (tree e.now))) context)) }
     ensures only_asked { HasOnlyAsked (λ b. (⟦<dyn Decider as Decider>⟧ b.vtable).kind_of b.value) (λ b. (⟦<dyn Decider as Decider>⟧ b.vtable).questions b.value) chosen.old chosen.new }
 {
     let term = normal_value::<T>(alloc, e, &context, chosen)?;
@@ -86,7 +86,7 @@ fn run_assign<T: Structure>(
 ) -> Result<Vec<Context>, Stop>
     requires { IsWellFormedIn (StmtIsWellScoped (assign pos.offset name.now (tree e.now))) T.ordered context }
     ensures runs { IfOk result (λ r. RunsAs (stmt_run (assign pos.offset name.now (tree e.now))) context r.items) }
-    ensures fault { IfErr result (λ s. IfFault s (FailsWithin (stmt_run (assign pos.offset name.now (tree e.now))) context)) }
+    ensures fault { IfErr result (λ s. IfFault s (FailsWithin T.ordered (stmt_run (assign pos.offset name.now (tree e.now))) context)) }
     ensures only_asked { HasOnlyAsked (λ b. (⟦<dyn Decider as Decider>⟧ b.vtable).kind_of b.value) (λ b. (⟦<dyn Decider as Decider>⟧ b.vtable).questions b.value) chosen.old chosen.new }
 {
     let term = normal_value::<T>(alloc, e, &context, chosen)?;
@@ -107,7 +107,7 @@ fn run_add<T: Structure>(
 ) -> Result<Vec<Context>, Stop>
     requires { IsWellFormedIn (StmtIsWellScoped (add (tree e.now) pos.offset name.now)) T.ordered context }
     ensures runs { IfOk result (λ r. RunsAs (stmt_run (add (tree e.now) pos.offset name.now)) context r.items) }
-    ensures fault { IfErr result (λ s. IfFault s (FailsWithin (stmt_run (add (tree e.now) pos.offset name.now)) context)) }
+    ensures fault { IfErr result (λ s. IfFault s (FailsWithin T.ordered (stmt_run (add (tree e.now) pos.offset name.now)) context)) }
     ensures only_asked { HasOnlyAsked (λ b. (⟦<dyn Decider as Decider>⟧ b.vtable).kind_of b.value) (λ b. (⟦<dyn Decider as Decider>⟧ b.vtable).questions b.value) chosen.old chosen.new }
 {
     let item = normal_value::<T>(alloc, e, &context, chosen)?;
@@ -143,7 +143,7 @@ fn run_assert<T: Structure>(
 ) -> Result<Vec<Context>, Stop>
     requires { IsWellFormedIn (StmtIsWellScoped (assert pos.offset (cond_tree condition.now))) T.ordered context }
     ensures runs { IfOk result (λ r. RunsAs (stmt_run (assert pos.offset (cond_tree condition.now))) context r.items) }
-    ensures fault { IfErr result (λ s. IfFault s (FailsWithin (stmt_run (assert pos.offset (cond_tree condition.now))) context)) }
+    ensures fault { IfErr result (λ s. IfFault s (FailsWithin T.ordered (stmt_run (assert pos.offset (cond_tree condition.now))) context)) }
     ensures only_asked { HasOnlyAsked (λ b. (⟦<dyn Decider as Decider>⟧ b.vtable).kind_of b.value) (λ b. (⟦<dyn Decider as Decider>⟧ b.vtable).questions b.value) chosen.old chosen.new }
 {
     let decided = decide::<T>(alloc, condition, &context, chosen)?;
@@ -162,7 +162,7 @@ fn run_print(
 ) -> Result<Vec<Context>, Stop>
     requires { (ordered : Bool) × IsWellFormedIn (StmtIsWellScoped (print pos.offset place.offset name.now)) ordered context }
     ensures runs { IfOk result (λ r. RunsAs (stmt_run (print pos.offset place.offset name.now)) context r.items) }
-    ensures fault { IfErr result (λ s. IfFault s (FailsWithin (stmt_run (print pos.offset place.offset name.now)) context)) }
+    ensures fault { IfErr result (λ s. IfFault s (λ f. ⊥)) }
 {
     let line = Line {
         name: name.copy(alloc)?,

@@ -46,7 +46,7 @@ pub(crate) trait Oracle<T: Structure> {
         requires placed { IsWellFormedIn (IsWellFormed (tree elements.now)) T.ordered context.now }
         requires new_name { IsNew name.now context.now.store }
         ensures entered { IfOk result (λ r. IsEntered (tree elements.now) name.now context.now r.items) }
-        ensures fault { IfErr result (λ s. IfFault s (IsFaultOf context.now (SetFails (tree elements.now)))) }
+        ensures fault { IfErr result (λ s. IfFault s (IsFaultOf T.ordered context.now (SetFails (tree elements.now)))) }
         ensures asked { reaches self.old self.new };
 
     /// The sides on which a condition is true and false.
@@ -54,7 +54,7 @@ pub(crate) trait Oracle<T: Structure> {
         requires sound { sound }
         requires placed { IsWellFormedIn (CondIsWellFormed (cond_tree condition.now)) T.ordered context }
         ensures decided { IfOk result (IsDecided (cond_tree condition.now) context) }
-        ensures fault { IfErr result (λ s. IfFault s (IsFaultOf context (CondFails (cond_tree condition.now)))) }
+        ensures fault { IfErr result (λ s. IfFault s (IsFaultOf T.ordered context (CondFails (cond_tree condition.now)))) }
         ensures asked { reaches self.old self.new };
 
     /// Runs a statement that holds no others.
@@ -63,7 +63,7 @@ pub(crate) trait Oracle<T: Structure> {
         requires leaf { IsLeaf (stmt_tree stmt.now) }
         requires placed { IsWellFormedIn (StmtIsWellScoped (stmt_tree stmt.now)) T.ordered context }
         ensures runs { IfOk result (λ r. RunsAs (stmt_run (stmt_tree stmt.now)) context r.items) }
-        ensures fault { IfErr result (λ s. IfFault s (FailsWithin (stmt_run (stmt_tree stmt.now)) context)) }
+        ensures fault { IfErr result (λ s. IfFault s (FailsWithin T.ordered (stmt_run (stmt_tree stmt.now)) context)) }
         ensures asked { reaches self.old self.new };
 
     /// What stands behind a loop.

@@ -54,8 +54,8 @@ pub fn run_block<T: Structure>(
     ensures runs { IfOk result (λ r. RunsAs (block_run (stmts_of (stmts_list body.now))) context r.items) }
     ensures different { IfOk result (λ r. HaveDifferentContents r.items) }
     ensures nowhere { IfOk result (λ r. FailsNowhere context (FailsAlongSome (block_run (stmts_of (stmts_list body.now))))) }
-    ensures fault { IfErr result (λ s. IfFault s (FailsWithin (block_run (stmts_of (stmts_list body.now))) context)) }
-    ensures first { IfErr result (λ s. IfFault s (FailsBehind (stmts_list body.now) context)) }
+    ensures fault { IfErr result (λ s. IfFault s (FailsWithin T.ordered (block_run (stmts_of (stmts_list body.now))) context)) }
+    ensures first { IfErr result (λ s. IfFault s (FailsBehind T.ordered (stmts_list body.now) context)) }
 
     // whatever is answered
     ensures only_asked { HasOnlyAsked (λ b. (⟦<dyn Decider as Decider>⟧ b.vtable).kind_of b.value) (λ b. (⟦<dyn Decider as Decider>⟧ b.vtable).questions b.value) chosen.old chosen.new }
@@ -66,20 +66,20 @@ pub fn run_block<T: Structure>(
             requires placed { IsWellFormedIn (IsWellFormed (tree e.now)) T.ordered context.now }
             requires new_name { IsNew name.now context.now.store }
             ensures entered { IfOk result (λ r. IsEntered (tree e.now) name.now context.now r.items) }
-            ensures fault { IfErr result (λ s. IfFault s (IsFaultOf context.now (SetFails (tree e.now)))) }
+            ensures fault { IfErr result (λ s. IfFault s (IsFaultOf T.ordered context.now (SetFails (tree e.now)))) }
             ensures only_asked { HasOnlyAsked (λ b. kind_of (b.vtable, b.value)) (λ b. questions (b.vtable, b.value)) asked.old asked.new }
         { enter_members::<T>(alloc, e, name, context, asked) },
         sides: |asked: &mut Chosen, alloc: Global, condition: &Cond, context: Context|
             requires placed { IsWellFormedIn (CondIsWellFormed (cond_tree condition.now)) T.ordered context }
             ensures decided { IfOk result (IsDecided (cond_tree condition.now) context) }
-            ensures fault { IfErr result (λ s. IfFault s (IsFaultOf context (CondFails (cond_tree condition.now)))) }
+            ensures fault { IfErr result (λ s. IfFault s (IsFaultOf T.ordered context (CondFails (cond_tree condition.now)))) }
             ensures only_asked { HasOnlyAsked (λ b. kind_of (b.vtable, b.value)) (λ b. questions (b.vtable, b.value)) asked.old asked.new }
         { sides_of::<T>(alloc, condition, context, asked) },
         simple: |asked: &mut Chosen, alloc: Global, stmt: &Stmt, context: Context|
             requires leaf { IsLeaf (stmt_tree stmt.now) }
             requires placed { IsWellFormedIn (StmtIsWellScoped (stmt_tree stmt.now)) T.ordered context }
             ensures runs { IfOk result (λ r. RunsAs (stmt_run (stmt_tree stmt.now)) context r.items) }
-            ensures fault { IfErr result (λ s. IfFault s (FailsWithin (stmt_run (stmt_tree stmt.now)) context)) }
+            ensures fault { IfErr result (λ s. IfFault s (FailsWithin T.ordered (stmt_run (stmt_tree stmt.now)) context)) }
             ensures only_asked { HasOnlyAsked (λ b. kind_of (b.vtable, b.value)) (λ b. questions (b.vtable, b.value)) asked.old asked.new }
         { run_simple::<T>(alloc, stmt, context, asked) },
         join: |asked: &mut Chosen, alloc: Global, before: Context, ends: Vec<Context>|
@@ -104,8 +104,8 @@ fn run_stmts<T: Structure, S: Oracle<T>>(
     requires placed { IsWellFormedIn (BlockIsWellScoped (stmts_of (stmts_list body.now))) T.ordered context }
     ensures runs { IfOk result (λ r. RunsAs (block_run (stmts_of (stmts_list body.now))) context r.items) }
     ensures different { IfOk result (λ r. HaveDifferentContents r.items) }
-    ensures fault { IfErr result (λ s. IfFault s (FailsWithin (block_run (stmts_of (stmts_list body.now))) context)) }
-    ensures first { IfErr result (λ s. IfFault s (FailsBehind (stmts_list body.now) context)) }
+    ensures fault { IfErr result (λ s. IfFault s (FailsWithin T.ordered (block_run (stmts_of (stmts_list body.now))) context)) }
+    ensures first { IfErr result (λ s. IfFault s (FailsBehind T.ordered (stmts_list body.now) context)) }
     ensures asked { S.reaches steps.old steps.new }
 {
     let outside = context.store.len();
@@ -129,7 +129,7 @@ fn run_each<T: Structure, S: Oracle<T>>(
     requires placed { All (IsWellFormedIn (StmtIsWellScoped (stmt_tree stmt.now)) T.ordered) contexts.items }
     requires apart { AreDisjoint contexts.items }
     ensures runs { IfOk result (λ r. RunsFrom (stmt_run (stmt_tree stmt.now)) contexts.items r.items) }
-    ensures fault { IfErr result (λ s. IfFault s (FailsFrom (stmt_run (stmt_tree stmt.now)) contexts.items)) }
+    ensures fault { IfErr result (λ s. IfFault s (FailsFrom T.ordered (stmt_run (stmt_tree stmt.now)) contexts.items)) }
     ensures asked { S.reaches steps.old steps.new }
 {
     let mut next = Vec::new(alloc);
@@ -150,7 +150,7 @@ fn run_stmt<T: Structure, S: Oracle<T>>(
     requires sound { S.sound }
     requires placed { IsWellFormedIn (StmtIsWellScoped (stmt_tree stmt.now)) T.ordered context }
     ensures runs { IfOk result (λ r. RunsAs (stmt_run (stmt_tree stmt.now)) context r.items) }
-    ensures fault { IfErr result (λ s. IfFault s (FailsWithin (stmt_run (stmt_tree stmt.now)) context)) }
+    ensures fault { IfErr result (λ s. IfFault s (FailsWithin T.ordered (stmt_run (stmt_tree stmt.now)) context)) }
     ensures asked { S.reaches steps.old steps.new }
 {
     match stmt {
@@ -179,7 +179,7 @@ fn run_for<T: Structure, S: Oracle<T>>(
     requires sound { S.sound }
     requires placed { IsWellFormedIn (StmtIsWellScoped (for (binding_tree binding.now) (cond_tree guard.now) (stmts_of (stmts_list body.now)))) T.ordered context }
     ensures runs { IfOk result (λ r. RunsAs (stmt_run (for (binding_tree binding.now) (cond_tree guard.now) (stmts_of (stmts_list body.now)))) context r.items) }
-    ensures fault { IfErr result (λ s. IfFault s (FailsWithin (stmt_run (for (binding_tree binding.now) (cond_tree guard.now) (stmts_of (stmts_list body.now)))) context)) }
+    ensures fault { IfErr result (λ s. IfFault s (FailsWithin T.ordered (stmt_run (for (binding_tree binding.now) (cond_tree guard.now) (stmts_of (stmts_list body.now)))) context)) }
     ensures asked { S.reaches steps.old steps.new }
 {
     let inside = steps.enter(alloc, &binding.from, &binding.name, &context)?;
@@ -202,7 +202,7 @@ fn run_inside<T: Structure, S: Oracle<T>>(
     requires placed { All (IsWellFormedIn (TurnIsWellScoped (cond_tree guard.now) (stmts_of (stmts_list body.now))) T.ordered) inside.items }
     requires elements { All (λ d. HoldsElement name.now d.store) inside.items }
     ensures runs { IfOk result (λ r. LoopRuns (cond_tree guard.now) (stmts_of (stmts_list body.now)) inside.items r.items) }
-    ensures fault { IfErr result (λ s. IfFault s (λ f. (d : Context) × Contains inside.items d × FailsInside name.now (cond_tree guard.now) (stmts_of (stmts_list body.now)) d f)) }
+    ensures fault { IfErr result (λ s. IfFault s (λ f. (d : Context) × Contains inside.items d × FailsInside T.ordered name.now (cond_tree guard.now) (stmts_of (stmts_list body.now)) d f)) }
     ensures asked { S.reaches steps.old steps.new }
 {
     let mut ends = Vec::new(alloc);
@@ -227,7 +227,7 @@ fn run_member<T: Structure, S: Oracle<T>>(
     requires placed { IsWellFormedIn (TurnIsWellScoped (cond_tree guard.now) (stmts_of (stmts_list body.now))) T.ordered context }
     requires element { HoldsElement name.now context.store }
     ensures runs { IfOk result (λ r. LoopRuns (cond_tree guard.now) (stmts_of (stmts_list body.now)) (context ∷ []) r.items) }
-    ensures fault { IfErr result (λ s. IfFault s (FailsInside name.now (cond_tree guard.now) (stmts_of (stmts_list body.now)) context)) }
+    ensures fault { IfErr result (λ s. IfFault s (FailsInside T.ordered name.now (cond_tree guard.now) (stmts_of (stmts_list body.now)) context)) }
     ensures asked { S.reaches steps.old steps.new }
 {
     let item = item_of(alloc, &context.store, name)?;
@@ -250,7 +250,7 @@ fn run_passing<T: Structure, S: Oracle<T>>(
     requires sound { S.sound }
     requires placed { IsWellFormedIn (TurnIsWellScoped (cond_tree guard.now) (stmts_of (stmts_list body.now))) T.ordered context }
     ensures runs { IfOk result (λ r. LoopRuns (cond_tree guard.now) (stmts_of (stmts_list body.now)) (context ∷ []) r.items) }
-    ensures fault { IfErr result (λ s. IfFault s (FailsWithin (turn_run (cond_tree guard.now) (stmts_of (stmts_list body.now))) context)) }
+    ensures fault { IfErr result (λ s. IfFault s (FailsWithin T.ordered (turn_run (cond_tree guard.now) (stmts_of (stmts_list body.now))) context)) }
     ensures asked { S.reaches steps.old steps.new }
 {
     let sides = steps.sides(alloc, guard, context)?;
@@ -273,7 +273,7 @@ fn run_if<T: Structure, S: Oracle<T>>(
     requires sound { S.sound }
     requires placed { IsWellFormedIn (StmtIsWellScoped ((if) (cond_tree condition.now) (stmts_of (stmts_list yes.now)) (stmts_of (stmts_list no.now)))) T.ordered context }
     ensures runs { IfOk result (λ r. RunsAs (stmt_run ((if) (cond_tree condition.now) (stmts_of (stmts_list yes.now)) (stmts_of (stmts_list no.now)))) context r.items) }
-    ensures fault { IfErr result (λ s. IfFault s (FailsWithin (stmt_run ((if) (cond_tree condition.now) (stmts_of (stmts_list yes.now)) (stmts_of (stmts_list no.now)))) context)) }
+    ensures fault { IfErr result (λ s. IfFault s (FailsWithin T.ordered (stmt_run ((if) (cond_tree condition.now) (stmts_of (stmts_list yes.now)) (stmts_of (stmts_list no.now)))) context)) }
     ensures asked { S.reaches steps.old steps.new }
 {
     let sides = steps.sides(alloc, condition, context)?;
@@ -298,7 +298,7 @@ fn run_side<T: Structure, S: Oracle<T>>(
     requires sound { S.sound }
     requires placed { IfSome side (IsWellFormedIn (BlockIsWellScoped (stmts_of (stmts_list body.now))) T.ordered) }
     ensures runs { IfOk result (λ r. RunsFrom (block_run (stmts_of (stmts_list body.now))) (listed_context side) r.items) }
-    ensures fault { IfErr result (λ s. IfFault s (FailsFrom (block_run (stmts_of (stmts_list body.now))) (listed_context side))) }
+    ensures fault { IfErr result (λ s. IfFault s (FailsFrom T.ordered (block_run (stmts_of (stmts_list body.now))) (listed_context side))) }
     ensures asked { S.reaches steps.old steps.new }
 {
     match side {
@@ -321,7 +321,7 @@ fn run_while<T: Structure, S: Oracle<T>>(
     requires sound { S.sound }
     requires placed { IsWellFormedIn (StmtIsWellScoped (while pos.offset (cond_tree condition.now) turns (stmts_of (stmts_list body.now)))) T.ordered context }
     ensures runs { IfOk result (λ r. RunsAs (stmt_run (while pos.offset (cond_tree condition.now) turns (stmts_of (stmts_list body.now)))) context r.items) }
-    ensures fault { IfErr result (λ s. IfFault s (FailsWithin (stmt_run (while pos.offset (cond_tree condition.now) turns (stmts_of (stmts_list body.now)))) context)) }
+    ensures fault { IfErr result (λ s. IfFault s (FailsWithin T.ordered (stmt_run (while pos.offset (cond_tree condition.now) turns (stmts_of (stmts_list body.now)))) context)) }
     ensures asked { S.reaches steps.old steps.new }
 {
     let mut done = Vec::new(alloc);
@@ -356,7 +356,7 @@ fn run_turn<T: Structure, S: Oracle<T>>(
     requires placed { All (IsWellFormedIn (TurnIsWellScoped (cond_tree condition.now) (stmts_of (stmts_list body.now))) T.ordered) contexts.items }
     requires apart { AreDisjoint contexts.items }
     ensures turn { IfOk result (IsTurn (cond_tree condition.now) (stmts_of (stmts_list body.now)) contexts.items) }
-    ensures fault { IfErr result (λ s. IfFault s (FailsFrom (turn_run (cond_tree condition.now) (stmts_of (stmts_list body.now))) contexts.items)) }
+    ensures fault { IfErr result (λ s. IfFault s (FailsFrom T.ordered (turn_run (cond_tree condition.now) (stmts_of (stmts_list body.now))) contexts.items)) }
     ensures asked { S.reaches steps.old steps.new }
 {
     let mut left = Vec::new(alloc);

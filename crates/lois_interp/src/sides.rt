@@ -25,7 +25,7 @@ pub(crate) fn sides_of<T: Structure>(
 ) -> Result<Split, Stop>
     requires { IsWellFormedIn (CondIsWellFormed (cond_tree condition.now)) T.ordered context }
     ensures decided { IfOk result (IsDecided (cond_tree condition.now) context) }
-    ensures fault { IfErr result (λ s. IfFault s (IsFaultOf context (CondFails (cond_tree condition.now)))) }
+    ensures fault { IfErr result (λ s. IfFault s (IsFaultOf T.ordered context (CondFails (cond_tree condition.now)))) }
 
     // whatever is answered
     ensures only_asked { HasOnlyAsked (λ b. (⟦<dyn Decider as Decider>⟧ b.vtable).kind_of b.value) (λ b. (⟦<dyn Decider as Decider>⟧ b.vtable).questions b.value) chosen.old chosen.new }

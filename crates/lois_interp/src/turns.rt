@@ -38,7 +38,7 @@ pub(crate) fn leave_all<T: Structure, S: Oracle<T>>(
     requires sound { S.sound }
     requires placed { All (IsWellFormedIn (CondIsWellScoped (cond_tree condition.now)) T.ordered) contexts.items }
     ensures runs { IfOk result (λ r. RunsFrom (leave_run pos.offset (cond_tree condition.now)) contexts.items r.items) }
-    ensures fault { IfErr result (λ s. IfFault s (FailsFrom (leave_run pos.offset (cond_tree condition.now)) contexts.items)) }
+    ensures fault { IfErr result (λ s. IfFault s (FailsFrom T.ordered (leave_run pos.offset (cond_tree condition.now)) contexts.items)) }
     ensures asked { S.reaches steps.old steps.new }
 {
     let mut left = Vec::new(alloc);
@@ -60,7 +60,7 @@ fn leave<T: Structure, S: Oracle<T>>(
     requires sound { S.sound }
     requires placed { IsWellFormedIn (CondIsWellScoped (cond_tree condition.now)) T.ordered context }
     ensures runs { IfOk result (λ r. RunsAs (leave_run pos.offset (cond_tree condition.now)) context r.items) }
-    ensures fault { IfErr result (λ s. IfFault s (FailsWithin (leave_run pos.offset (cond_tree condition.now)) context)) }
+    ensures fault { IfErr result (λ s. IfFault s (FailsWithin T.ordered (leave_run pos.offset (cond_tree condition.now)) context)) }
     ensures asked { S.reaches steps.old steps.new }
 {
     let sides = steps.sides(alloc, condition, context)?;

@@ -1,5 +1,5 @@
 -- From a fault of a script to its trace.
-use Rattle.std.proofs.Common.{◌≡◌, ℕ, ◌^◌, ◌<◌, ◌≤◌, ◌==◌, not, true, List, [], ◌∷◌, length, map, take, sym, ap, ◌∙◌, subst, arith}
+use Rattle.std.proofs.Common.{◌≡◌, ℕ, ◌^◌, ◌<◌, ◌≤◌, ◌==◌, not, List, [], ◌∷◌, length, map, take, sym, ap, ◌∙◌, subst, arith}
 use Rattle.std.specs.List.{All, Contains}
 use Rattle.std.proofs.lemmas.List.{length-map, length-take, take-map}
 use Rattle.std.proofs.lemmas.List.Elements.{All-contains, All-map}
@@ -34,7 +34,7 @@ use Rattle.lois_interp.proofs.FreeNames.{are_parameters}
 use Rattle.lois_shortest_word.specs.Shortened.{IsShortenedWord, IsShortenedEverywhere}
 use Rattle.lois_shortest_word.specs.Words.{values_at, AreUsedBetween}
 use Rattle.lois_shortest_word.specs.declared.words.Word.{Word}
-use Rattle.lois_ranks.specs.Ranks.{HaveNoGaps}
+use Rattle.lois_ranks.specs.Ranks.{AreRanks}
 use Rattle.lois_run.specs.Headline.{NamesFailure}
 use Rattle.lois_command.specs.Places.{IsPlaceOf}
 use Rattle.lois_run.proofs.PathNames.{path_free, named_free}
@@ -68,13 +68,13 @@ module _ (text : List ℕ) (s : ScriptD) (spelled : Spells text s) (scoped : IsW
   numbers = sampled f.sample.items
 
   here : IsFailureAt s f numbers
-  here = h.fails_at numbers (alike_itself f.sample.items)
+  here = h.fails_at numbers (alike_itself s.ordered f.sample.items)
 
   free : All (λ l. IsFreeName l.name) f.elements
   free = named_free numbers here.path f.elements here.named (path_free text s spelled (take n numbers) f.pos.offset f.kind here.path here.failed)
 
   -- ---- the elements with other terms, which have the same values at the ranks
-  module _ (w r : Word) (sample : w.sample ≡ f.sample.items) (letters : w.letters ≡ map (λ l. l.term) f.elements) (short : IsShortenedWord n w r) (everywhere : IsShortenedEverywhere n w r) (ranks : List ℕ) (alike : AreAlike true (sampled r.sample) (sampled ranks)) (no_gaps : HaveNoGaps ranks)
+  module _ (w r : Word) (sample : w.sample ≡ f.sample.items) (letters : w.letters ≡ map (λ l. l.term) f.elements) (short : IsShortenedWord n w r) (everywhere : IsShortenedEverywhere n w r) (ranks : List ℕ) (alike : AreAlike s.ordered (sampled r.sample) (sampled ranks)) (are_ranks : AreRanks s.ordered ranks)
       (ms : List LineD) (names : map (λ l. l.name) ms ≡ map (λ l. l.name) f.elements) (terms : map (λ l. l.term) ms ≡ r.letters) where
     as_many : length ranks ≡ length r.sample
     as_many = omega (arith, alike.count, length-map ranks whole, length-map r.sample whole)
@@ -107,11 +107,11 @@ module _ (text : List ℕ) (s : ScriptD) (spelled : Spells text s) (scoped : IsW
     }
 
     -- atoms at which the fault is one, and the letters have the values that they have at the ranks
-    before : (c : List Atom) × AreAlike true (sampled w.sample) c × (take n c ≡ take n (sampled ranks)) × AreSame (values_at c w.letters) (values_at (sampled ranks) r.letters)
-    before = everywhere true (sampled ranks) alike
+    before : (c : List Atom) × AreAlike s.ordered (sampled w.sample) c × (take n c ≡ take n (sampled ranks)) × AreSame (values_at c w.letters) (values_at (sampled ranks) r.letters)
+    before = everywhere s.ordered (sampled ranks) alike
 
     there : IsFailureAt s f before.0
-    there = h.fails_at before.0 (subst (λ k. AreAlike true (sampled k) before.0) sample before.1)
+    there = h.fails_at before.0 (subst (λ k. AreAlike s.ordered (sampled k) before.0) sample before.1)
 
     named_again : AreSameNamed there.path (line_values (sampled ranks) ms)
     named_again =
@@ -153,5 +153,5 @@ module _ (text : List ℕ) (s : ScriptD) (spelled : Spells text s) (scoped : IsW
           used = subst (λ k. AreUsedBetween n (length k) (map (λ l. l.term) t.elements)) (sym sample_is)
               (subst (λ ls. AreUsedBetween n (length ranks) (map (λ l. l.term) ls)) (sym elements)
               (subst (AreUsedBetween n (length ranks)) (sym terms) (subst (λ k. AreUsedBetween n k r.letters) (sym as_many) used)));
-          ranked = subst HaveNoGaps (sym sample_is) no_gaps;
+          ranked = subst (AreRanks s.ordered) (sym sample_is) are_ranks;
         }

@@ -17,7 +17,7 @@ use Rattle.lois_meaning.specs.Store.{NamedValues, AreSameNamed}
 use Rattle.lois_context.specs.LineValues.{line_values}
 use Rattle.lois_interp.specs.Interpreted.{parameter_name, IsChoiceOf, AreResultsOf, FailsBehindEnds}
 use Rattle.lois_command.specs.Places.{IsPlaceOf}
-use Rattle.lois_ranks.specs.Ranks.{HaveNoGaps}
+use Rattle.lois_ranks.specs.Ranks.{AreRanks}
 use Rattle.lois_shortest_word.specs.Words.{AreUsedBetween}
 use Rattle.lois_run.specs.declared.outcomes.Outcome.{Outcome}
 use Rattle.lois_run.specs.declared.outcomes.Outcome.TheVariants.{Completed, Failed, ReadFault}
@@ -30,7 +30,7 @@ pub record Completes (s : ScriptD) (r : Results) : Type 0 where
 -- The trace names where the script that the text spells fails, how, and under which choice: the first numbers of its sample,
 -- one for each parameter. The statements before the one that holds the place end at every choice. The path of the failure has the
 -- names of the trace's elements, and their values at the whole sample. The further numbers are for levels that stand in an
--- element. No number below one of the sample is missing in it.
+-- element. All numbers are ranks: by order where atoms are ordered, else each is how many others stand before its first place.
 pub record NamesFailure (text : List ℕ) (s : ScriptD) (t : Trace) : Type 0 where
   pub sound : IsSoundTrace t
   pub structure : t.order ≡ s.ordered
@@ -42,7 +42,7 @@ pub record NamesFailure (text : List ℕ) (s : ScriptD) (t : Trace) : Type 0 whe
   pub first : FailsBehindEnds s (sampled (take (length s.parameters) t.sample)) at t.kind path
   pub named : AreSameNamed path (line_values (sampled t.sample) t.elements)
   pub used : AreUsedBetween (length s.parameters) (length t.sample) (map (λ l. l.term) t.elements)
-  pub ranked : HaveNoGaps t.sample
+  pub ranked : AreRanks s.ordered t.sample
 
 -- under some choice of the parameters
 abbrev pub FailsSomewhere : ScriptD → Type 0

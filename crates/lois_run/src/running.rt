@@ -3,10 +3,13 @@
 ghost use Rattle.std.specs.Prelude.{◌≡◌, ◌≤◌, ◌<◌, ◌^◌, ℕ, List, length, map, IfOk, IfErr};
 ghost use Rattle.std.specs.List.{All};
 ghost use Rattle.lois_answers.specs.Sound.{HasTags};
+ghost use Rattle.lois_base.specs.Patterns.{AreAlike};
+ghost use Rattle.lois_base.specs.Truth.{sampled};
 ghost use Rattle.lois_base.specs.declared.limits.TheConstants.{LONGEST_TEXT};
 ghost use Rattle.lois_eval.specs.Throughout.{IfFault};
 ghost use Rattle.lois_interp.specs.Interpreted.{AreResultsOf};
 ghost use Rattle.lois_interp.specs.Failures.{IsFailureOf};
+ghost use Rattle.lois_ranks.specs.Ranks.{AreRanks};
 ghost use Rattle.lois_run.specs.Headline.{NamesFailure};
 ghost use Rattle.lois_run.specs.Run.{IsRunOf};
 ghost use Rattle.lois_script.specs.Limits.{Spells};
@@ -73,8 +76,7 @@ fn trace(alloc: Global, text: &[u8], script: &Scoped, fault: Fault) -> Result<Tr
     };
     let short = drop_unused_numbers(alloc, word, script.parameters.len())?;
     let Word { sample, letters } = short;
-    // by order without an order of atoms too: a fault is one at all atoms that stand in the same order
-    let sample = rank_sample::<OrderAtoms>(alloc, sample.as_slice())?;
+    let sample = ranks(alloc, script.order, sample.as_slice())?;
     let elements = with_terms(alloc, &fault.elements, &letters)?;
     let numbers = sample.as_slice();
     numbers_are_small(numbers);
@@ -88,6 +90,18 @@ fn trace(alloc: Global, text: &[u8], script: &Scoped, fault: Fault) -> Result<Tr
         sample,
         elements,
     })
+}
+
+// By order where atoms are ordered, else in turn: a fault is one at all atoms that stand as its numbers do.
+fn ranks(alloc: Global, ordered: bool, sample: &[u64]) -> Result<Numbers, NoMemory>
+    ensures alike { IfOk result (λ r. AreAlike ordered (sampled sample.now) (sampled r)) }
+    ensures ranked { IfOk result (AreRanks ordered) }
+{
+    if ordered {
+        rank_sample::<OrderAtoms>(alloc, sample)
+    } else {
+        rank_sample::<EqualityAtoms>(alloc, sample)
+    }
 }
 
 // Says of each number what its type says of each. It does nothing.

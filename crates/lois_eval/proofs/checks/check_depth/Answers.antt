@@ -1,4 +1,4 @@
-use Rattle.std.proofs.Common.{true, sym, ap, subst, ◌∙◌}
+use Rattle.std.proofs.Common.{sym, ap, subst, ◌∙◌}
 use Rattle.std.specs.Prelude.{IfSome, is_some}
 use Rattle.lois_base.specs.Patterns.{AreAlike}
 use Rattle.lois_base.specs.Tree.{tree}
@@ -14,12 +14,12 @@ returns-in-Some-clause-fault g c =
     let s = c.in-Some.sample.items in
     let meets = subst (λ o. IfSome o (λ v. MeetsBoth k.size k.«when» c.in_ok-deep.deep v.items)) c.in-Some.is c.in_ok-sample.ensures.some in
     let both = met_admitted k c.in_ok-deep.deep s meets in
-    if_fault c.fault.result (IsFaultWith c.args.pos DepthLimit s) (IsDepthFault k (tree c.args.term.now) c.args.pos.offset) (λ f h. record {
+    if_fault c.fault.result (IsFaultWith c.args.pos DepthLimit s) (IsDepthFault g.T.Structure.ordered k (tree c.args.term.now) c.args.pos.offset) (λ f h. record {
       fault = fault_at k c.args.pos DepthLimit s both.0 f h;
       kind = h.kind;
       deep = λ d stand.
-          let alike = subst (λ z. AreAlike true (sampled z) d) h.sample stand in
-          (c.in_ok-deep.ensures.truth d (sym alike.count ∙ both.0.0)).0 (met_alike k c.in_ok-deep.deep s d c.in_ok-deep.ensures.levels meets alike);
+          let alike = subst (λ z. AreAlike g.T.Structure.ordered (sampled z) d) h.sample stand in
+          (c.in_ok-deep.ensures.truth d (sym alike.count ∙ both.0.0)).0 (met_alike g.T.Structure.ordered k c.in_ok-deep.deep s d c.in_ok-deep.ensures.levels c.in_ok-deep.ensures.operators meets alike);
     }) c.fault.ensures
 
 pub returns-clause-shallow : goal.returns-clause-shallow

@@ -40,7 +40,7 @@ use Rattle.lois_eval.proofs.Emptiness.{empty_decided, empty_fails}
 use Rattle.lois_eval.proofs.Evaluations.{placed_as, terms_none, terms_more, some_fails, joint_fails, joint_placed}
 use Rattle.lois_eval.proofs.FaultsAt.{if_fault, fault_weaker, fault_within}
 use Rattle.lois_eval.proofs.Gathering.{gathered_more, found_more}
-use Rattle.lois_eval.proofs.LoopExit.{handed_fault, handed_same, handed_ok, item_there, passed_on}
+use Rattle.lois_eval.proofs.LoopExit.{handed_fault, handed_same, handed_ok, item_there, passed_on, term_given}
 use Rattle.lois_eval.proofs.Nodes.{part_made, part_fails, made_as, breaks_as, too_deep_fails}
 use Rattle.lois_eval.proofs.Parts.{is_expr_of, is_cond_of}
 use Rattle.lois_eval.proofs.Plain.{truth_decided, falsity_decided, decided_as, cond_fails_as}
@@ -72,8 +72,8 @@ all_decided-returns-in_err-one-clause-fault g t c =
     let p = is_cond_of c.as_slice-part-items.result.now (conds_list c.args.parts.now) c.loop-part.part-index one c.as_slice-part-items.ensures.items c.loop-part-test.true c.part-item.is in
     let before = conds_of (map cond_tree (take c.loop-part.part-index c.as_slice-part-items.result.now)) in
     let S = CondIsWellFormed (joint c.args.every cs) in
-    passed_on c.from_residual-in_err-one.result c.in_err-one.field-0.0 (IsFaultOf k (CondFails (cond_tree one))) (IsFaultOf k (CondFails (joint c.args.every cs))) c.from_residual-in_err-one.ensures.1
-    (λ f h. joint_fails k S c.args.every cs before c.loop-part.found (cond_tree one) f p c.loop-part.invariant.constraint h) c.in_err-one.ensures.fault
+    passed_on c.from_residual-in_err-one.result c.in_err-one.field-0.0 (IsFaultOf g.T.Structure.ordered k (CondFails (cond_tree one))) (IsFaultOf g.T.Structure.ordered k (CondFails (joint c.args.every cs))) c.from_residual-in_err-one.ensures.1
+    (λ f h. joint_fails k S g.T.Structure.ordered c.args.every cs before c.loop-part.found (cond_tree one) f p c.loop-part.invariant.constraint h) c.in_err-one.ensures.fault
 
 pub all_decided-loop-part-preserved : goal.all_decided-loop-part-preserved
 all_decided-loop-part-preserved g t c =
@@ -109,8 +109,8 @@ all_evaluated-returns-in_err-evaluated-clause-fault g t c =
     let e = c.e-item.result in
     let p = is_expr_of c.as_slice-e-items.result.now (exprs_list c.args.es.now) c.loop-e.e-index e c.as_slice-e-items.ensures.items c.loop-e-test.true c.e-item.is in
     let before = exprs_of (map tree (take c.loop-e.e-index c.as_slice-e-items.result.now)) in
-    passed_on c.from_residual.result c.in_err-evaluated.field-0.0 (IsFaultOf k (Fails (tree e))) (IsFaultOf k (SomeFails es)) c.from_residual.ensures.1
-    (λ f h. some_fails k (AreWellFormed es) es before c.loop-e.values (tree e) f p c.loop-e.invariant.terms h) c.in_err-evaluated.ensures.fault
+    passed_on c.from_residual.result c.in_err-evaluated.field-0.0 (IsFaultOf g.T.Structure.ordered k (Fails (tree e))) (IsFaultOf g.T.Structure.ordered k (SomeFails es)) c.from_residual.ensures.1
+    (λ f h. some_fails k (AreWellFormed es) g.T.Structure.ordered es before c.loop-e.values (tree e) f p c.loop-e.invariant.terms h) c.in_err-evaluated.ensures.fault
 
 pub all_evaluated-loop-e-preserved : goal.all_evaluated-loop-e-preserved
 all_evaluated-loop-e-preserved g t c =
@@ -203,8 +203,8 @@ decided-returns-in_ok-evaluated-in-Empty-clause-fault g t c =
     let e = c.in-Empty.e in
     let u = term_tree c.in_ok-evaluated-in-Empty.field-0 in
     let is = ap cond_tree c.in-Empty.is ∙ cond_Empty e in
-    let P = IsValueFault k IsNoAutomaton u c.pos-pos.result.offset in
-    IfErr-weaker c.wordless.result (λ s. IfFault s P) _ (λ s h. if_fault s P (IsFaultOf k (CondFails (cond_tree c.args.c.now))) (λ f bad. cond_fails_as k (cond_tree c.args.c.now) (empty (tree e)) f is (empty_fails k u (tree e) c.in_ok-evaluated-in-Empty.ensures.term f (subst (λ z. IsValueFault k IsNoAutomaton u z f) c.pos-pos.ensures.first_token bad))) h) c.wordless.ensures.fault
+    let P = IsValueFault g.T.Structure.ordered k IsNoAutomaton u c.pos-pos.result.offset in
+    IfErr-weaker c.wordless.result (λ s. IfFault s P) _ (λ s h. if_fault s P (IsFaultOf g.T.Structure.ordered k (CondFails (cond_tree c.args.c.now))) (λ f bad. cond_fails_as g.T.Structure.ordered k (cond_tree c.args.c.now) (empty (tree e)) f is (empty_fails k u (tree e) c.in_ok-evaluated-in-Empty.ensures.term g.T.Structure.ordered f c.requires.placed.operators (subst (λ z. IsValueFault g.T.Structure.ordered k IsNoAutomaton u z f) c.pos-pos.ensures.first_token bad))) h) c.wordless.ensures.fault
 
 pub decided-returns-in_ok-unit-in-True-clause-constraint :
     goal.decided-returns-in_ok-unit-in-True-clause-constraint
@@ -231,19 +231,23 @@ decided-returns-in_ok-negate-in-Not-clause-constraint g t c =
     decided_as k (cond_tree c.args.c.now) (not (cond_tree negated.value)) r (ap cond_tree c.in-Not.is ∙ cond_Not negated)
     (not_decided k (cond_tree negated.value) c.in_ok-held-in-Not.held r held done.truth (done.fits k.size held.levels) done.operators)
 
+pub evaluated-returns-clause-term : goal.evaluated-returns-clause-term
+evaluated-returns-clause-term g t c =
+    term_given c.args.context.now (tree c.args.e.now) (term_tree c.in_ok-made.field-0) c.shallow.result c.in_ok-made.ensures.term c.shallow.ensures.same c.shallow.ensures.shallow
+
 pub evaluated-returns-clause-fault : goal.evaluated-returns-clause-fault
 evaluated-returns-clause-fault g t c =
     let k = c.args.context.now in
     let e = tree c.args.e.now in
     let m = term_tree c.in_ok-made.field-0 in
-    IfErr-weaker c.shallow.result (λ s. IfFault s (IsDepthFault k m c.pos-pos.result.offset)) _ (λ s h. if_fault s (IsDepthFault k m c.pos-pos.result.offset) (IsFaultOf k (Fails e)) (λ f d. too_deep_fails k e m f c.in_ok-made.ensures.term (subst (λ z. IsDepthFault k m z f) c.pos-pos.ensures.first_token d)) h) c.shallow.ensures.fault
+    IfErr-weaker c.shallow.result (λ s. IfFault s (IsDepthFault g.T.Structure.ordered k m c.pos-pos.result.offset)) _ (λ s h. if_fault s (IsDepthFault g.T.Structure.ordered k m c.pos-pos.result.offset) (IsFaultOf g.T.Structure.ordered k (Fails e)) (λ f d. too_deep_fails k g.T.Structure.ordered e m f c.requires.placed.operators c.in_ok-made.ensures.term (subst (λ z. IsDepthFault g.T.Structure.ordered k m z f) c.pos-pos.ensures.first_token d)) h) c.shallow.ensures.fault
 
 pub found_inside-returns-in_err-held-clause-fault :
     goal.found_inside-returns-in_err-held-clause-fault
 found_inside-returns-in_err-held-clause-fault g t c =
     let d = c.context-item.result in
     let fails = CondFails (cond_tree c.args.body.now) in
-    passed_on c.from_residual.result c.in_err-held.field-0.0 (IsFaultOf d fails) (IsFaultInside c.args.inner.now fails) c.from_residual.ensures.1 (λ f h. (d, item_there c.args.inner.now c.loop-context.context-index d c.loop-context-test.true c.context-item.is, h)) c.in_err-held.ensures.fault
+    passed_on c.from_residual.result c.in_err-held.field-0.0 (IsFaultOf g.T.Structure.ordered d fails) (IsFaultInside g.T.Structure.ordered c.args.inner.now fails) c.from_residual.ensures.1 (λ f h. (d, item_there c.args.inner.now c.loop-context.context-index d c.loop-context-test.true c.context-item.is, h)) c.in_err-held.ensures.fault
 
 pub found_inside-loop-context-preserved : goal.found_inside-loop-context-preserved
 found_inside-loop-context-preserved g t c =
@@ -285,7 +289,7 @@ gathered-returns-in_err-inner-clause-fault g t c =
     let l : i < length bs = omega arith in
     let is = c.index-bindings-from.is in
     let t = term_tree c.in_ok-elements.elements in
-    passed_on c.from_residual-in_err-inner.result c.in_err-inner.field-0.0 (IsSetFault k t c.pos.result.offset) (IsFaultOf k (Breaks (each_from item bs i cond))) c.from_residual-in_err-inner.ensures.1 (λ f h. first_no_set k item bs i b cond l is t c.in_ok-elements.ensures.term f (subst (λ z. IsSetFault k t z f) c.pos.ensures.first_token h)) c.in_err-inner.ensures.fault
+    passed_on c.from_residual-in_err-inner.result c.in_err-inner.field-0.0 (IsSetFault k t c.pos.result.offset) (IsFaultOf g.T.Structure.ordered k (Breaks (each_from item bs i cond))) c.from_residual-in_err-inner.ensures.1 (λ f h. first_no_set k item bs i b cond l is t c.in_ok-elements.ensures.term g.T.Structure.ordered f c.requires.placed.operators (subst (λ z. IsSetFault k t z f) c.pos.ensures.first_token h)) c.in_err-inner.ensures.fault
 
 pub gathered-gathered_inside-requires : goal.gathered-gathered_inside-requires
 gathered-gathered_inside-requires g t c κs within =
@@ -345,7 +349,7 @@ gathered-returns-clause-fault g t c =
     let is = c.index-bindings-from.is in
     let t = term_tree c.in_ok-elements.elements in
     let ds = c.deref.result.now in
-    handed_fault c.leave_loop_with_comps.result c.gathered_inside.result k.size (IsFaultInside ds (Breaks (each_from item bs (i + 1) cond))) (IsFaultOf k (Breaks (each_from item bs i cond))) c.leave_loop_with_comps.ensures.fault c.gathered_inside.ensures.fault (λ f h inside cut. first_fails k item bs i b cond l is t c.in_ok-elements.ensures.term ds c.in_ok-inner.ensures.set (subst (AreEntered k b.name t) (sym c.deref.ensures.value) c.in_ok-inner.ensures.entered) f h inside cut)
+    handed_fault c.leave_loop_with_comps.result c.gathered_inside.result k.size (IsFaultInside g.T.Structure.ordered ds (Breaks (each_from item bs (i + 1) cond))) (IsFaultOf g.T.Structure.ordered k (Breaks (each_from item bs i cond))) c.leave_loop_with_comps.ensures.fault c.gathered_inside.ensures.fault (λ f h inside cut. first_fails k item bs i b cond l is t c.in_ok-elements.ensures.term ds c.in_ok-inner.ensures.set (subst (AreEntered k b.name t) (sym c.deref.ensures.value) c.in_ok-inner.ensures.entered) g.T.Structure.ordered f h inside cut)
 
 pub gathered_here-returns-in_default-clause-term :
     goal.gathered_here-returns-in_default-clause-term
@@ -383,7 +387,7 @@ gathered_here-returns-in_err-evaluated-clause-fault g t c =
     let d = c.in-Some.here in
     let side = subst (λ o. IfSome o (IsSide k (λ a. holds a wanted))) c.in-Some.is c.in_ok-here.ensures.side in
     let kept = λ (o : Bool) (p : AdmitsContext o k) (q : AdmitsConstraint o wanted). subst (λ z. IfSome z (AdmitsContext o)) c.in-Some.is (c.in_ok-here.ensures.operators o p q) in
-    passed_on c.from_residual-in_err-evaluated.result c.in_err-evaluated.field-0.0 (IsFaultOf d (Fails (tree item))) (IsFaultOf k (Breaks (each_from item bs (length bs) cond))) c.from_residual-in_err-evaluated.ensures.1 (λ f h. last_item_fails k item bs cond wanted held d side kept f h) c.in_err-evaluated.ensures.fault
+    passed_on c.from_residual-in_err-evaluated.result c.in_err-evaluated.field-0.0 (IsFaultOf g.T.Structure.ordered d (Fails (tree item))) (IsFaultOf g.T.Structure.ordered k (Breaks (each_from item bs (length bs) cond))) c.from_residual-in_err-evaluated.ensures.1 (λ f h. last_item_fails k item bs cond wanted held d side kept g.T.Structure.ordered f h) c.in_err-evaluated.ensures.fault
 
 pub gathered_here-returns-clause-term : goal.gathered_here-returns-clause-term
 gathered_here-returns-clause-term g t c =
@@ -419,7 +423,7 @@ pub gathered_inside-returns-in_err-more-clause-fault :
 gathered_inside-returns-in_err-more-clause-fault g t c =
     let d = c.context-item.result in
     let fails = Breaks (each_from c.args.item.now c.args.bindings.now c.args.from c.args.condition.now) in
-    passed_on c.from_residual.result c.in_err-more.field-0.0 (IsFaultOf d fails) (IsFaultInside c.args.inner.now fails) c.from_residual.ensures.1 (λ f h. (d, item_there c.args.inner.now c.loop-context.context-index d c.loop-context-test.true c.context-item.is, h)) c.in_err-more.ensures.fault
+    passed_on c.from_residual.result c.in_err-more.field-0.0 (IsFaultOf g.T.Structure.ordered d fails) (IsFaultInside g.T.Structure.ordered c.args.inner.now fails) c.from_residual.ensures.1 (λ f h. (d, item_there c.args.inner.now c.loop-context.context-index d c.loop-context-test.true c.context-item.is, h)) c.in_err-more.ensures.fault
 
 pub gathered_inside-loop-context-preserved : goal.gathered_inside-loop-context-preserved
 gathered_inside-loop-context-preserved g t c =
@@ -473,7 +477,7 @@ made-returns-in_ok-evaluated-in-Part-clause-fault g t c =
     let u = term_tree c.in_ok-evaluated-in-Part.field-0 in
     let is = ap tree c.in-Part.is ∙ tree_Part p whole n in
     let own = subst (λ (z : Expr). IsTermOf k (Gives (tree z)) (IsWellFormed (tree z)) u) c.deref-in-Part-2.ensures c.in_ok-evaluated-in-Part.ensures.term in
-    IfErr-weaker c.part.result (λ s. IfFault s (IsPartFault k u n c.pos-pos.result.offset)) _ (λ s h. if_fault s (IsPartFault k u n c.pos-pos.result.offset) (IsFaultOf k (Breaks (tree c.args.e.now))) (λ f d. breaks_as k (tree c.args.e.now) (part p.offset (tree whole.value) n) f is (part_fails k p.offset (tree whole.value) n u f own (subst (λ z. IsPartFault k u n z f) (c.pos-pos.ensures.first_token ∙ ap (λ (z : Expr). pos (tree z)) c.deref-in-Part.ensures) d))) h) c.part.ensures.fault
+    IfErr-weaker c.part.result (λ s. IfFault s (IsPartFault k u n c.pos-pos.result.offset)) _ (λ s h. if_fault s (IsPartFault k u n c.pos-pos.result.offset) (IsFaultOf g.T.Structure.ordered k (Breaks (tree c.args.e.now))) (λ f d. breaks_as g.T.Structure.ordered k (tree c.args.e.now) (part p.offset (tree whole.value) n) f is (part_fails g.T.Structure.ordered k p.offset (tree whole.value) n u f c.requires.placed.operators own (subst (λ z. IsPartFault k u n z f) (c.pos-pos.ensures.first_token ∙ ap (λ (z : Expr). pos (tree z)) c.deref-in-Part.ensures) d))) h) c.part.ensures.fault
 
 pub quantified-entered-requires-clause-new_name : goal.quantified-entered-requires-clause-new_name
 quantified-entered-requires-clause-new_name g t c =
@@ -491,7 +495,7 @@ quantified-returns-in_err-inner-clause-fault g t c =
     let body = c.args.body.now in
     let some = c.args.some in
     let t = term_tree c.in_ok-elements.elements in
-    passed_on c.from_residual-in_err-inner.result c.in_err-inner.field-0.0 (IsSetFault k t c.pos.result.offset) (IsFaultOf k (CondFails (quantifier some (binding_tree b) (cond_tree body)))) c.from_residual-in_err-inner.ensures.1 (λ f h. bound_no_set k some b body t c.in_ok-elements.ensures.term f (subst (λ z. IsSetFault k t z f) c.pos.ensures.first_token h)) c.in_err-inner.ensures.fault
+    passed_on c.from_residual-in_err-inner.result c.in_err-inner.field-0.0 (IsSetFault k t c.pos.result.offset) (IsFaultOf g.T.Structure.ordered k (CondFails (quantifier some (binding_tree b) (cond_tree body)))) c.from_residual-in_err-inner.ensures.1 (λ f h. bound_no_set k some b body t c.in_ok-elements.ensures.term g.T.Structure.ordered f c.requires.placed.operators (subst (λ z. IsSetFault k t z f) c.pos.ensures.first_token h)) c.in_err-inner.ensures.fault
 
 pub quantified-found_inside-requires : goal.quantified-found_inside-requires
 quantified-found_inside-requires g t c κs within =
@@ -533,7 +537,7 @@ quantified-returns-clause-fault g t c =
     let set = c.in_ok-inner.ensures.set in
     let entered = subst (AreEntered k b.name t) (sym c.deref.ensures.value) c.in_ok-inner.ensures.entered in
     let own = c.in_ok-elements.ensures.term in
-    handed_fault c.leave_loop_with_constraint.result c.found_inside.result k.size (IsFaultInside ds (CondFails (cond_tree body))) (IsFaultOf k (CondFails (quantifier some (binding_tree b) (cond_tree body)))) c.leave_loop_with_constraint.ensures.fault c.found_inside.ensures.fault (λ f h there cut. bound_fails k some b body t own ds set entered f h there cut)
+    handed_fault c.leave_loop_with_constraint.result c.found_inside.result k.size (IsFaultInside g.T.Structure.ordered ds (CondFails (cond_tree body))) (IsFaultOf g.T.Structure.ordered k (CondFails (quantifier some (binding_tree b) (cond_tree body)))) c.leave_loop_with_constraint.ensures.fault c.found_inside.ensures.fault (λ f h there cut. bound_fails k some b body t own ds set entered g.T.Structure.ordered f h there cut)
 
 pub both_evaluated-returns-in_err-right-clause-fault :
     goal.both_evaluated-returns-in_err-right-clause-fault
@@ -542,8 +546,8 @@ both_evaluated-returns-in_err-right-clause-fault g t c =
     let e = tree c.args.e.now in
     let f = tree c.args.f.now in
     let s = term_tree c.in_ok-left.left in
-    passed_on c.from_residual-in_err-right.result c.in_err-right.field-0.0 (IsFaultOf k (Fails f)) (IsFaultOf k (SomeFails (two e f))) c.from_residual-in_err-right.ensures.1
-    (λ x h. fault_within k (Fails f) (SomeFails (two e f)) x (λ d a at kind bad. inr (point s d, c.in_ok-left.ensures.term.value d a, inl bad)) h) c.in_err-right.ensures.fault
+    passed_on c.from_residual-in_err-right.result c.in_err-right.field-0.0 (IsFaultOf g.T.Structure.ordered k (Fails f)) (IsFaultOf g.T.Structure.ordered k (SomeFails (two e f))) c.from_residual-in_err-right.ensures.1
+    (λ x h. fault_within g.T.Structure.ordered k (Fails f) (SomeFails (two e f)) x (λ d a at kind bad. inr (point s d, c.in_ok-left.ensures.term.value d a, inl bad)) h) c.in_err-right.ensures.fault
 
 pub decided-returns-in_err-values-in-Same-clause-fault :
     goal.decided-returns-in_err-values-in-Same-clause-fault
@@ -551,8 +555,8 @@ decided-returns-in_err-values-in-Same-clause-fault g t c =
     let k = c.args.context.now in
     let e = c.in-Same.e in
     let f = c.in-Same.f in
-    passed_on c.from_residual-in_err-values-in-Same.result c.in_err-values-in-Same.field-0.0 (IsFaultOf k (SomeFails (two (tree e) (tree f)))) (IsFaultOf k (CondFails (cond_tree c.args.c.now))) c.from_residual-in_err-values-in-Same.ensures.1
-    (λ x h. sides_fail k (cond_tree c.args.c.now) (same (tree e) (tree f)) (tree e) (tree f) x (ap cond_tree c.in-Same.is ∙ cond_Same e f) (λ s at kind bad. bad) h) c.in_err-values-in-Same.ensures.fault
+    passed_on c.from_residual-in_err-values-in-Same.result c.in_err-values-in-Same.field-0.0 (IsFaultOf g.T.Structure.ordered k (SomeFails (two (tree e) (tree f)))) (IsFaultOf g.T.Structure.ordered k (CondFails (cond_tree c.args.c.now))) c.from_residual-in_err-values-in-Same.ensures.1
+    (λ x h. sides_fail g.T.Structure.ordered k (cond_tree c.args.c.now) (same (tree e) (tree f)) (tree e) (tree f) x (ap cond_tree c.in-Same.is ∙ cond_Same e f) (λ s at kind bad. bad) h) c.in_err-values-in-Same.ensures.fault
 
 pub decided-returns-in_err-values-in-Differ-clause-fault :
     goal.decided-returns-in_err-values-in-Differ-clause-fault
@@ -560,8 +564,8 @@ decided-returns-in_err-values-in-Differ-clause-fault g t c =
     let k = c.args.context.now in
     let e = c.in-Differ.e in
     let f = c.in-Differ.f in
-    passed_on c.from_residual-in_err-values-in-Differ.result c.in_err-values-in-Differ.field-0.0 (IsFaultOf k (SomeFails (two (tree e) (tree f)))) (IsFaultOf k (CondFails (cond_tree c.args.c.now))) c.from_residual-in_err-values-in-Differ.ensures.1
-    (λ x h. sides_fail k (cond_tree c.args.c.now) (differ (tree e) (tree f)) (tree e) (tree f) x (ap cond_tree c.in-Differ.is ∙ cond_Differ e f) (λ s at kind bad. bad) h) c.in_err-values-in-Differ.ensures.fault
+    passed_on c.from_residual-in_err-values-in-Differ.result c.in_err-values-in-Differ.field-0.0 (IsFaultOf g.T.Structure.ordered k (SomeFails (two (tree e) (tree f)))) (IsFaultOf g.T.Structure.ordered k (CondFails (cond_tree c.args.c.now))) c.from_residual-in_err-values-in-Differ.ensures.1
+    (λ x h. sides_fail g.T.Structure.ordered k (cond_tree c.args.c.now) (differ (tree e) (tree f)) (tree e) (tree f) x (ap cond_tree c.in-Differ.is ∙ cond_Differ e f) (λ s at kind bad. bad) h) c.in_err-values-in-Differ.ensures.fault
 
 pub decided-returns-in_err-values-in-Below-clause-fault :
     goal.decided-returns-in_err-values-in-Below-clause-fault
@@ -569,8 +573,8 @@ decided-returns-in_err-values-in-Below-clause-fault g t c =
     let k = c.args.context.now in
     let e = c.in-Below.e in
     let f = c.in-Below.f in
-    passed_on c.from_residual-in_err-values-in-Below.result c.in_err-values-in-Below.field-0.0 (IsFaultOf k (SomeFails (two (tree e) (tree f)))) (IsFaultOf k (CondFails (cond_tree c.args.c.now))) c.from_residual-in_err-values-in-Below.ensures.1
-    (λ x h. sides_fail k (cond_tree c.args.c.now) (below c.in-Below.field-0.offset (tree e) (tree f)) (tree e) (tree f) x (ap cond_tree c.in-Below.is ∙ cond_Below c.in-Below.field-0 e f) (λ s at kind bad. elim bad [ inl a ↦ inl a | inr b ↦ inr (inl b) ]) h) c.in_err-values-in-Below.ensures.fault
+    passed_on c.from_residual-in_err-values-in-Below.result c.in_err-values-in-Below.field-0.0 (IsFaultOf g.T.Structure.ordered k (SomeFails (two (tree e) (tree f)))) (IsFaultOf g.T.Structure.ordered k (CondFails (cond_tree c.args.c.now))) c.from_residual-in_err-values-in-Below.ensures.1
+    (λ x h. sides_fail g.T.Structure.ordered k (cond_tree c.args.c.now) (below c.in-Below.field-0.offset (tree e) (tree f)) (tree e) (tree f) x (ap cond_tree c.in-Below.is ∙ cond_Below c.in-Below.field-0 e f) (λ s at kind bad. elim bad [ inl a ↦ inl a | inr b ↦ inr (inl b) ]) h) c.in_err-values-in-Below.ensures.fault
 
 pub decided-returns-in_err-values-in-Member-clause-fault :
     goal.decided-returns-in_err-values-in-Member-clause-fault
@@ -578,8 +582,8 @@ decided-returns-in_err-values-in-Member-clause-fault g t c =
     let k = c.args.context.now in
     let e = c.in-Member.e in
     let f = c.in-Member.f in
-    passed_on c.from_residual-in_err-values-in-Member.result c.in_err-values-in-Member.field-0.0 (IsFaultOf k (SomeFails (two (tree e) (tree f)))) (IsFaultOf k (CondFails (cond_tree c.args.c.now))) c.from_residual-in_err-values-in-Member.ensures.1
-    (λ x h. sides_fail k (cond_tree c.args.c.now) (member (tree e) (tree f)) (tree e) (tree f) x (ap cond_tree c.in-Member.is ∙ cond_Member e f) (λ s at kind bad. elim bad [ inl a ↦ inl a | inr b ↦ inr (inl b) ]) h) c.in_err-values-in-Member.ensures.fault
+    passed_on c.from_residual-in_err-values-in-Member.result c.in_err-values-in-Member.field-0.0 (IsFaultOf g.T.Structure.ordered k (SomeFails (two (tree e) (tree f)))) (IsFaultOf g.T.Structure.ordered k (CondFails (cond_tree c.args.c.now))) c.from_residual-in_err-values-in-Member.ensures.1
+    (λ x h. sides_fail g.T.Structure.ordered k (cond_tree c.args.c.now) (member (tree e) (tree f)) (tree e) (tree f) x (ap cond_tree c.in-Member.is ∙ cond_Member e f) (λ s at kind bad. elim bad [ inl a ↦ inl a | inr b ↦ inr (inl b) ]) h) c.in_err-values-in-Member.ensures.fault
 
 pub decided-returns-in_err-values-in-Included-clause-fault :
     goal.decided-returns-in_err-values-in-Included-clause-fault
@@ -587,8 +591,8 @@ decided-returns-in_err-values-in-Included-clause-fault g t c =
     let k = c.args.context.now in
     let e = c.in-Included.e in
     let f = c.in-Included.f in
-    passed_on c.from_residual-in_err-values-in-Included.result c.in_err-values-in-Included.field-0.0 (IsFaultOf k (SomeFails (two (tree e) (tree f)))) (IsFaultOf k (CondFails (cond_tree c.args.c.now))) c.from_residual-in_err-values-in-Included.ensures.1
-    (λ x h. sides_fail k (cond_tree c.args.c.now) (included (tree e) (tree f)) (tree e) (tree f) x (ap cond_tree c.in-Included.is ∙ cond_Included e f) (λ s at kind bad. elim bad [ inl a ↦ inl a | inr b ↦ inr (inl b) ]) h) c.in_err-values-in-Included.ensures.fault
+    passed_on c.from_residual-in_err-values-in-Included.result c.in_err-values-in-Included.field-0.0 (IsFaultOf g.T.Structure.ordered k (SomeFails (two (tree e) (tree f)))) (IsFaultOf g.T.Structure.ordered k (CondFails (cond_tree c.args.c.now))) c.from_residual-in_err-values-in-Included.ensures.1
+    (λ x h. sides_fail g.T.Structure.ordered k (cond_tree c.args.c.now) (included (tree e) (tree f)) (tree e) (tree f) x (ap cond_tree c.in-Included.is ∙ cond_Included e f) (λ s at kind bad. elim bad [ inl a ↦ inl a | inr b ↦ inr (inl b) ]) h) c.in_err-values-in-Included.ensures.fault
 
 pub gathered-returns-in_err-elements-clause-fault :
     goal.gathered-returns-in_err-elements-clause-fault
@@ -601,7 +605,7 @@ gathered-returns-in_err-elements-clause-fault g t c =
     let b = c.index-bindings-from.result in
     let l : i < length bs = omega arith in
     let is = c.index-bindings-from.is in
-    passed_on c.from_residual.result c.in_err-elements.field-0.0 (IsFaultOf k (Fails (tree b.from))) (IsFaultOf k (Breaks (each_from item bs i cond))) c.from_residual.ensures.1 (λ f h. first_set_fails k item bs i b cond l is f h) c.in_err-elements.ensures.fault
+    passed_on c.from_residual.result c.in_err-elements.field-0.0 (IsFaultOf g.T.Structure.ordered k (Fails (tree b.from))) (IsFaultOf g.T.Structure.ordered k (Breaks (each_from item bs i cond))) c.from_residual.ensures.1 (λ f h. first_set_fails k item bs i b cond l is g.T.Structure.ordered f h) c.in_err-elements.ensures.fault
 
 pub made-returns-in_err-gathered-in-Each-clause-fault :
     goal.made-returns-in_err-gathered-in-Each-clause-fault
@@ -613,9 +617,9 @@ made-returns-in_err-gathered-in-Each-clause-fault g t c =
     let cond = c.in-Each.condition in
     let is = ap tree c.in-Each.is ∙ tree_Each p item bindings cond in
     let bs = c.as_slice.result.now in
-    let Bad : Expr → Cond → Fault → Type 0 = λ e d. IsFaultOf k (Breaks (each_from e bs 0 d)) in
-    passed_on c.from_residual-in_err-gathered-in-Each.result c.in_err-gathered-in-Each.field-0.0 (Bad c.deref.result.now c.deref-in-Each.result.now) (IsFaultOf k (Breaks (tree c.args.e.now))) c.from_residual-in_err-gathered-in-Each.ensures.1 (λ f h.
+    let Bad : Expr → Cond → Fault → Type 0 = λ e d. IsFaultOf g.T.Structure.ordered k (Breaks (each_from e bs 0 d)) in
+    passed_on c.from_residual-in_err-gathered-in-Each.result c.in_err-gathered-in-Each.field-0.0 (Bad c.deref.result.now c.deref-in-Each.result.now) (IsFaultOf g.T.Structure.ordered k (Breaks (tree c.args.e.now))) c.from_residual-in_err-gathered-in-Each.ensures.1 (λ f h.
     let here = subst (λ e. Bad e cond.value f) c.deref.ensures (subst (λ d. Bad c.deref.result.now d f) c.deref-in-Each.ensures h) in
-    let own = fault_weaker k (Breaks (each_from item.value bs 0 cond.value)) (Breaks (each p.offset (tree item.value) (bindings_of (map binding_tree bs)) (cond_tree cond.value))) f (λ s at kind bad. bad) here in
-    breaks_as k (tree c.args.e.now) (each p.offset (tree item.value) (bindings_of (bindings_list bindings)) (cond_tree cond.value)) f is
-    (subst (λ z. IsFaultOf k (Breaks (each p.offset (tree item.value) (bindings_of z) (cond_tree cond.value))) f) c.as_slice.ensures.items own)) c.in_err-gathered-in-Each.ensures.fault
+    let own = fault_weaker g.T.Structure.ordered k (Breaks (each_from item.value bs 0 cond.value)) (Breaks (each p.offset (tree item.value) (bindings_of (map binding_tree bs)) (cond_tree cond.value))) f (λ s at kind bad. bad) here in
+    breaks_as g.T.Structure.ordered k (tree c.args.e.now) (each p.offset (tree item.value) (bindings_of (bindings_list bindings)) (cond_tree cond.value)) f is
+    (subst (λ z. IsFaultOf g.T.Structure.ordered k (Breaks (each p.offset (tree item.value) (bindings_of z) (cond_tree cond.value))) f) c.as_slice.ensures.items own)) c.in_err-gathered-in-Each.ensures.fault

@@ -19,12 +19,17 @@ put_set-requires-clause-levels g c =
     let comp = is_comp_of c.as_slice-comp-items.result.now c.args.comps.now c.loop-comp.comp-index c.comp-item.result c.as_slice-comp-items.ensures c.loop-comp-test.true c.comp-item.is in
     comp.fits c.args.context.now.size c.requires.levels
 
+pub put_set-requires-clause-operators : goal.put_set-requires-clause-operators
+put_set-requires-clause-operators g c =
+    let comp = is_comp_of c.as_slice-comp-items.result.now c.args.comps.now c.loop-comp.comp-index c.comp-item.result c.as_slice-comp-items.ensures c.loop-comp-test.true c.comp-item.is in
+    comp.admits g.T.Structure.ordered c.requires.operators
+
 pub returns-in_err-put_set-clause-fault : goal.returns-in_err-put_set-clause-fault
 returns-in_err-put_set-clause-fault g c =
     let k = c.args.context.now in
     let l = comp_of c.comp-item.result in
-    passed_on c.from_residual.result c.in_err-put_set.field-0.0 (IsMemberFault k (coll (comps_of (l ∷ []))) c.args.pos.offset) (IsMemberFault k (coll (comps_of c.args.comps.now)) c.args.pos.offset) c.from_residual.ensures.1
-    (λ f h. fault_of_comp k c.as_slice-comp-items.result.now c.args.comps.now c.loop-comp.comp-index c.comp-item.result c.args.pos.offset f c.as_slice-comp-items.ensures c.loop-comp-test.true c.comp-item.is h) c.in_err-put_set.ensures.fault
+    passed_on c.from_residual.result c.in_err-put_set.field-0.0 (IsMemberFault g.T.Structure.ordered k (coll (comps_of (l ∷ []))) c.args.pos.offset) (IsMemberFault g.T.Structure.ordered k (coll (comps_of c.args.comps.now)) c.args.pos.offset) c.from_residual.ensures.1
+    (λ f h. fault_of_comp g.T.Structure.ordered k c.as_slice-comp-items.result.now c.args.comps.now c.loop-comp.comp-index c.comp-item.result c.args.pos.offset f c.as_slice-comp-items.ensures c.loop-comp-test.true c.comp-item.is h) c.in_err-put_set.ensures.fault
 
 pub loop-comp-preserved : goal.loop-comp-preserved
 loop-comp-preserved g c =

@@ -11,5 +11,6 @@ pub check_empty-requires : goal.check_empty-requires
 check_empty-requires g c = record {
   sound = c.requires.sound;
   levels = c.requires.levels;
+  operators = c.requires.operators;
   item = λ set. false≢true (sym c.if-is_set.false ∙ c.is_set.ensures.1 set);
 }

@@ -94,8 +94,8 @@ returns-in-Below-clause-fault g c =
     let both = sides_as k (cond_tree c.args.c.now) (below c.in-Below.field-0.offset e f) (s ∷ t ∷ []) is c.requires.values in
     let p = c.in-Below.field-0 in
     let P = IsBelowFault k s c.pos.result.offset t c.pos-in-Below.result.offset in
-    IfErr-weaker c.below.result (λ z. IfFault z P) _ (λ z h. if_fault z P (IsFaultOf k (CondFails (cond_tree c.args.c.now))) (λ x bad. cond_fails_as k (cond_tree c.args.c.now) (below p.offset e f) x is
-    (below_fails k e f s t (CondIsWellFormed (below p.offset e f)) both x p.offset (subst (λ at. IsBelowFault k s at t (pos f) x) c.pos.ensures.first_token (subst (λ at. IsBelowFault k s c.pos.result.offset t at x) c.pos-in-Below.ensures.first_token bad)))) h) c.below.ensures.fault
+    IfErr-weaker c.below.result (λ z. IfFault z P) _ (λ z h. if_fault z P (IsFaultOf g.T.Structure.ordered k (CondFails (cond_tree c.args.c.now))) (λ x bad. cond_fails_as g.T.Structure.ordered k (cond_tree c.args.c.now) (below p.offset e f) x is
+    (below_fails k e f s t (CondIsWellFormed (below p.offset e f)) both x g.T.Structure.ordered c.requires.context_operators p.offset (subst (λ at. IsBelowFault k s at t (pos f) x) c.pos.ensures.first_token (subst (λ at. IsBelowFault k s c.pos.result.offset t at x) c.pos-in-Below.ensures.first_token bad)))) h) c.below.ensures.fault
 
 pub returns-in_err-check_set-in-Member-clause-fault : goal.returns-in_err-check_set-in-Member-clause-fault
 returns-in_err-check_set-in-Member-clause-fault g c =
@@ -106,8 +106,8 @@ returns-in_err-check_set-in-Member-clause-fault g c =
     let f = tree c.in-Member.f in
     let is = ap cond_tree c.in-Member.is ∙ cond_Member c.in-Member.field-0 c.in-Member.f in
     let both = sides_as k (cond_tree c.args.c.now) (member e f) (s ∷ t ∷ []) is c.requires.values in
-    passed_on c.from_residual-in_err-check_set-in-Member.result c.in_err-check_set-in-Member.field-0.0 (IsSetFault k t c.pos-in-Member.result.offset) (IsFaultOf k (CondFails (cond_tree c.args.c.now))) c.from_residual-in_err-check_set-in-Member.ensures.1
-    (λ x bad. cond_fails_as k (cond_tree c.args.c.now) (member e f) x is (member_fails k e f s t (CondIsWellFormed (member e f)) both x (subst (λ at. IsSetFault k t at x) c.pos-in-Member.ensures.first_token bad))) c.in_err-check_set-in-Member.ensures.fault
+    passed_on c.from_residual-in_err-check_set-in-Member.result c.in_err-check_set-in-Member.field-0.0 (IsSetFault k t c.pos-in-Member.result.offset) (IsFaultOf g.T.Structure.ordered k (CondFails (cond_tree c.args.c.now))) c.from_residual-in_err-check_set-in-Member.ensures.1
+    (λ x bad. cond_fails_as g.T.Structure.ordered k (cond_tree c.args.c.now) (member e f) x is (member_fails k e f s t (CondIsWellFormed (member e f)) both x g.T.Structure.ordered c.requires.context_operators (subst (λ at. IsSetFault k t at x) c.pos-in-Member.ensures.first_token bad))) c.in_err-check_set-in-Member.ensures.fault
 
 pub returns-in_err-check_set-in-Included-clause-fault : goal.returns-in_err-check_set-in-Included-clause-fault
 returns-in_err-check_set-in-Included-clause-fault g c =
@@ -118,8 +118,8 @@ returns-in_err-check_set-in-Included-clause-fault g c =
     let f = tree c.in-Included.f in
     let is = ap cond_tree c.in-Included.is ∙ cond_Included c.in-Included.e c.in-Included.f in
     let both = sides_as k (cond_tree c.args.c.now) (included e f) (s ∷ t ∷ []) is c.requires.values in
-    passed_on c.from_residual-in_err-check_set-in-Included.result c.in_err-check_set-in-Included.field-0.0 (IsSetFault k s c.pos-in-Included.result.offset) (IsFaultOf k (CondFails (cond_tree c.args.c.now))) c.from_residual-in_err-check_set-in-Included.ensures.1
-    (λ x bad. cond_fails_as k (cond_tree c.args.c.now) (included e f) x is (included_fails_left k e f s t (CondIsWellFormed (included e f)) both x (subst (λ at. IsSetFault k s at x) c.pos-in-Included.ensures.first_token bad))) c.in_err-check_set-in-Included.ensures.fault
+    passed_on c.from_residual-in_err-check_set-in-Included.result c.in_err-check_set-in-Included.field-0.0 (IsSetFault k s c.pos-in-Included.result.offset) (IsFaultOf g.T.Structure.ordered k (CondFails (cond_tree c.args.c.now))) c.from_residual-in_err-check_set-in-Included.ensures.1
+    (λ x bad. cond_fails_as g.T.Structure.ordered k (cond_tree c.args.c.now) (included e f) x is (included_fails_left k e f s t (CondIsWellFormed (included e f)) both x g.T.Structure.ordered c.requires.context_operators (subst (λ at. IsSetFault k s at x) c.pos-in-Included.ensures.first_token bad))) c.in_err-check_set-in-Included.ensures.fault
 
 pub returns-in_err-check_set-in-Included-2-clause-fault : goal.returns-in_err-check_set-in-Included-2-clause-fault
 returns-in_err-check_set-in-Included-2-clause-fault g c =
@@ -130,5 +130,5 @@ returns-in_err-check_set-in-Included-2-clause-fault g c =
     let f = tree c.in-Included.f in
     let is = ap cond_tree c.in-Included.is ∙ cond_Included c.in-Included.e c.in-Included.f in
     let both = sides_as k (cond_tree c.args.c.now) (included e f) (s ∷ t ∷ []) is c.requires.values in
-    passed_on c.from_residual-in_err-check_set-in-Included-2.result c.in_err-check_set-in-Included-2.field-0.0 (IsSetFault k t c.pos-in-Included-2.result.offset) (IsFaultOf k (CondFails (cond_tree c.args.c.now))) c.from_residual-in_err-check_set-in-Included-2.ensures.1
-    (λ x bad. cond_fails_as k (cond_tree c.args.c.now) (included e f) x is (included_fails_right k e f s t (CondIsWellFormed (included e f)) both x c.in_ok-check_set-in-Included.ensures.set (subst (λ at. IsSetFault k t at x) c.pos-in-Included-2.ensures.first_token bad))) c.in_err-check_set-in-Included-2.ensures.fault
+    passed_on c.from_residual-in_err-check_set-in-Included-2.result c.in_err-check_set-in-Included-2.field-0.0 (IsSetFault k t c.pos-in-Included-2.result.offset) (IsFaultOf g.T.Structure.ordered k (CondFails (cond_tree c.args.c.now))) c.from_residual-in_err-check_set-in-Included-2.ensures.1
+    (λ x bad. cond_fails_as g.T.Structure.ordered k (cond_tree c.args.c.now) (included e f) x is (included_fails_right k e f s t (CondIsWellFormed (included e f)) both x g.T.Structure.ordered c.requires.context_operators c.in_ok-check_set-in-Included.ensures.set (subst (λ at. IsSetFault k t at x) c.pos-in-Included-2.ensures.first_token bad))) c.in_err-check_set-in-Included-2.ensures.fault

@@ -82,5 +82,5 @@ returns-in-Apply-clause-fault g c =
     let es = exprs_of (exprs_list c.in-Apply.operands) in
     let is = ap tree c.in-Apply.is ∙ tree_Apply p op c.in-Apply.operands in
     let values = subst (λ z. AreTermsOf k (parts_of z) (IsWellFormed z) ts) is c.requires.values in
-    let P = IsUnfitFault k op es (terms_of ts) in
-    IfErr-weaker c.applied.result (λ s. IfFault s P) _ (λ s h. if_fault s P (IsFaultOf k (Breaks (tree c.args.e.now))) (λ f unfit. breaks_as k (tree c.args.e.now) (apply p.offset op es) f is (apply_fails k p.offset op es ts f values unfit)) h) c.applied.ensures.fault
+    let P = IsUnfitFault g.T.Structure.ordered k op es (terms_of ts) in
+    IfErr-weaker c.applied.result (λ s. IfFault s P) _ (λ s h. if_fault s P (IsFaultOf g.T.Structure.ordered k (Breaks (tree c.args.e.now))) (λ f unfit. breaks_as g.T.Structure.ordered k (tree c.args.e.now) (apply p.offset op es) f is (apply_fails k g.T.Structure.ordered p.offset op es ts f c.requires.placed.operators values unfit)) h) c.applied.ensures.fault

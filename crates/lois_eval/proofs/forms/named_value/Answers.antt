@@ -25,8 +25,8 @@ returns-in_err-check_depth-clause-fault g c =
     let k = c.args.context.now in
     let e = tree c.args.e.now in
     let t = term_tree c.in_ok-held.held in
-    passed_on c.from_residual-in_err-check_depth.result c.in_err-check_depth.field-0.0 (IsDepthFault k (term_tree c.get.result.now) c.pos.result.offset) (IsFaultOf k (Fails e)) c.from_residual-in_err-check_depth.ensures.1
-    (λ f d. too_deep_fails k e t f c.in_ok-held.ensures.term (subst (λ at. IsDepthFault k t at f) c.pos.ensures.first_token (subst (λ z. IsDepthFault k (term_tree z) c.pos.result.offset f) c.get.ensures.same d))) c.in_err-check_depth.ensures.fault
+    passed_on c.from_residual-in_err-check_depth.result c.in_err-check_depth.field-0.0 (IsDepthFault g.T.Structure.ordered k (term_tree c.get.result.now) c.pos.result.offset) (IsFaultOf g.T.Structure.ordered k (Fails e)) c.from_residual-in_err-check_depth.ensures.1
+    (λ f d. too_deep_fails k g.T.Structure.ordered e t f c.requires.placed.operators c.in_ok-held.ensures.term (subst (λ at. IsDepthFault g.T.Structure.ordered k t at f) c.pos.ensures.first_token (subst (λ z. IsDepthFault g.T.Structure.ordered k (term_tree z) c.pos.result.offset f) c.get.ensures.same d))) c.in_err-check_depth.ensures.fault
 
 pub returns-clause-term : goal.returns-clause-term
 returns-clause-term g c =

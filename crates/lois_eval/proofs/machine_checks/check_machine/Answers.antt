@@ -21,4 +21,4 @@ returns-clause-fault g c =
     let t = tree c.args.value.now in
     let v = c.in_ok-verdict.verdict in
     let P = IsFailureOfVerdict v c.args.pos NotAutomaton in
-    IfErr-weaker c.passed.result (λ s. IfFault s P) _ (λ s h. if_fault s P (IsValueFault k IsNoAutomaton t c.args.pos.offset) (no_automaton k t c.args.pos v c.in_ok-verdict.ensures.verdict) h) c.passed.ensures.fault
+    IfErr-weaker c.passed.result (λ s. IfFault s P) _ (λ s h. if_fault s P (IsValueFault g.T.Structure.ordered k IsNoAutomaton t c.args.pos.offset) (no_automaton g.T.Structure.ordered k t c.requires.levels c.requires.operators c.requires.context_operators c.args.pos v c.in_ok-verdict.ensures.verdict) h) c.passed.ensures.fault

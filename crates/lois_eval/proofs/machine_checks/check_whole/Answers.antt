@@ -21,16 +21,16 @@ returns-in_err-check_machine-clause-fault g c =
     let k = c.args.context.now in
     let t = tree c.args.value.now in
     let at = c.args.pos.offset in
-    passed_on c.from_residual.result c.in_err-check_machine.field-0.0 (IsValueFault k IsNoAutomaton t at) (IsValueFault k (IsInvalidOperand Minimise) t at) c.from_residual.ensures.1
-    (λ f h. value_fault_weaker k t IsNoAutomaton (IsInvalidOperand Minimise) at f (λ v kind no. inl no) h) c.in_err-check_machine.ensures.fault
+    passed_on c.from_residual.result c.in_err-check_machine.field-0.0 (IsValueFault g.T.Structure.ordered k IsNoAutomaton t at) (IsValueFault g.T.Structure.ordered k (IsInvalidOperand Minimise) t at) c.from_residual.ensures.1
+    (λ f h. value_fault_weaker k t g.T.Structure.ordered IsNoAutomaton (IsInvalidOperand Minimise) at f (λ v kind no. inl no) h) c.in_err-check_machine.ensures.fault
 
 pub returns-in_err-passed-clause-fault : goal.returns-in_err-passed-clause-fault
 returns-in_err-passed-clause-fault g c =
     let k = c.args.context.now in
     let t = tree c.args.value.now in
     let v = c.in_ok-single.single in
-    passed_on c.from_residual-in_err-passed.result c.in_err-passed.field-0.0 (IsFailureOfVerdict v c.args.pos NotDeterministic) (IsValueFault k (IsInvalidOperand Minimise) t c.args.pos.offset) c.from_residual-in_err-passed.ensures.1
-    (not_deterministic k t c.in_ok-check_machine.ensures.automaton c.args.pos v c.in_ok-single.ensures.verdict) c.in_err-passed.ensures.fault
+    passed_on c.from_residual-in_err-passed.result c.in_err-passed.field-0.0 (IsFailureOfVerdict v c.args.pos NotDeterministic) (IsValueFault g.T.Structure.ordered k (IsInvalidOperand Minimise) t c.args.pos.offset) c.from_residual-in_err-passed.ensures.1
+    (not_deterministic g.T.Structure.ordered k t c.requires.levels c.requires.operators c.requires.context_operators c.in_ok-check_machine.ensures.automaton c.args.pos v c.in_ok-single.ensures.verdict) c.in_err-passed.ensures.fault
 
 pub returns-clause-whole : goal.returns-clause-whole
 returns-clause-whole g c =
@@ -47,4 +47,4 @@ returns-clause-fault g c =
     let v = c.in_ok-total.total in
     let P = IsFailureOfVerdict v c.args.pos NotComplete in
     let single = subst (IsVerdictOn k.size k.«when» (IsDeterministicAt t)) c.in_ok-passed.ensures.holds c.in_ok-single.ensures.verdict in
-    IfErr-weaker c.passed-2.result (λ s. IfFault s P) _ (λ s h. if_fault s P (IsValueFault k (IsInvalidOperand Minimise) t c.args.pos.offset) (not_complete k t single c.args.pos v c.in_ok-total.ensures.verdict) h) c.passed-2.ensures.fault
+    IfErr-weaker c.passed-2.result (λ s. IfFault s P) _ (λ s h. if_fault s P (IsValueFault g.T.Structure.ordered k (IsInvalidOperand Minimise) t c.args.pos.offset) (not_complete g.T.Structure.ordered k t c.requires.levels c.requires.operators c.requires.context_operators single c.args.pos v c.in_ok-total.ensures.verdict) h) c.passed-2.ensures.fault

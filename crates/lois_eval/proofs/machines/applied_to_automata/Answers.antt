@@ -32,6 +32,7 @@ product_of-requires g c =
       operators = admits.0;
       other_levels = fits.1.0;
       other_operators = admits.1.0;
+      context_operators = c.requires.operands.context_operators;
     }
 
 pub returns-in-Product-clause-made : goal.returns-in-Product-clause-made
@@ -47,11 +48,11 @@ returns-in-Product-clause-fault g c =
     let f = c.two_exprs.result.1.now in
     let s = term_tree c.two_terms.result.0.now in
     let t = term_tree c.two_terms.result.1.now in
-    let P = IsProductFault k s c.pos.result.offset t c.pos-in-Product.result.offset in
-    let Q = IsUnfitFault k c.args.operation (exprs_of (exprs_list c.args.operands.now)) (terms_of c.args.values.now) in
+    let P = IsProductFault g.T.Structure.ordered k s c.pos.result.offset t c.pos-in-Product.result.offset in
+    let Q = IsUnfitFault g.T.Structure.ordered k c.args.operation (exprs_of (exprs_list c.args.operands.now)) (terms_of c.args.values.now) in
     IfErr-weaker c.product_of.result (λ z. IfFault z P) _
-    (λ z h. if_fault z P Q (λ x unfit. subst (λ op. IsUnfitFault k op (exprs_of (exprs_list c.args.operands.now)) (terms_of c.args.values.now) x) (sym c.in-Product.is)
-    (product_unfit k (exprs_list c.args.operands.now) c.args.values.now x (tree e) (tree f) s t c.pos.result.offset c.pos-in-Product.result.offset c.two_exprs.ensures c.two_terms.ensures c.pos.ensures.first_token c.pos-in-Product.ensures.first_token unfit)) h) c.product_of.ensures.fault
+    (λ z h. if_fault z P Q (λ x unfit. subst (λ op. IsUnfitFault g.T.Structure.ordered k op (exprs_of (exprs_list c.args.operands.now)) (terms_of c.args.values.now) x) (sym c.in-Product.is)
+    (product_unfit g.T.Structure.ordered k (exprs_list c.args.operands.now) c.args.values.now x (tree e) (tree f) s t c.pos.result.offset c.pos-in-Product.result.offset c.two_exprs.ensures c.two_terms.ensures c.pos.ensures.first_token c.pos-in-Product.ensures.first_token c.requires.operands.context_operators unfit)) h) c.product_of.ensures.fault
 
 pub one_expr-requires : goal.one_expr-requires
 one_expr-requires g c =
@@ -83,7 +84,7 @@ returns-in_default-clause-fault g c =
     let k = c.args.context.now in
     let op = c.args.operation in
     let t = term_tree c.one_term.result.now in
-    let P = IsValueFault k (IsInvalidOperand op) t c.pos-pos.result.offset in
-    let Q = IsUnfitFault k op (exprs_of (exprs_list c.args.operands.now)) (terms_of c.args.values.now) in
+    let P = IsValueFault g.T.Structure.ordered k (IsInvalidOperand op) t c.pos-pos.result.offset in
+    let Q = IsUnfitFault g.T.Structure.ordered k op (exprs_of (exprs_list c.args.operands.now)) (terms_of c.args.values.now) in
     IfErr-weaker c.of_one.result (λ z. IfFault z P) _
-    (λ z h. if_fault z P Q (λ x unfit. one_unfit k op (exprs_list c.args.operands.now) c.args.values.now x (tree c.one_expr.result.now) t c.pos-pos.result.offset c.one_expr.ensures c.one_term.ensures c.pos-pos.ensures.first_token unfit) h) c.of_one.ensures.fault
+    (λ z h. if_fault z P Q (λ x unfit. one_unfit g.T.Structure.ordered k op (exprs_list c.args.operands.now) c.args.values.now x (tree c.one_expr.result.now) t c.pos-pos.result.offset c.one_expr.ensures c.one_term.ensures c.pos-pos.ensures.first_token unfit) h) c.of_one.ensures.fault

@@ -12,7 +12,7 @@ returns-in_err-check_machine-clause-fault g c =
     let k = c.args.context.now in
     let a = tree c.args.a.now in
     let at = c.args.a_pos.offset in
-    passed_on c.from_residual.result c.in_err-check_machine.field-0.0 (IsValueFault k IsNoAutomaton a at) (IsProductFault k a at (tree c.args.b.now) c.args.b_pos.offset) c.from_residual.ensures.1
+    passed_on c.from_residual.result c.in_err-check_machine.field-0.0 (IsValueFault g.T.Structure.ordered k IsNoAutomaton a at) (IsProductFault g.T.Structure.ordered k a at (tree c.args.b.now) c.args.b_pos.offset) c.from_residual.ensures.1
     (λ f h. inl h) c.in_err-check_machine.ensures.fault
 
 pub returns-in_err-check_machine-2-clause-fault : goal.returns-in_err-check_machine-2-clause-fault
@@ -20,7 +20,7 @@ returns-in_err-check_machine-2-clause-fault g c =
     let k = c.args.context.now in
     let b = tree c.args.b.now in
     let there = c.args.b_pos.offset in
-    passed_on c.from_residual-in_err-check_machine-2.result c.in_err-check_machine-2.field-0.0 (IsValueFault k IsNoAutomaton b there) (IsProductFault k (tree c.args.a.now) c.args.a_pos.offset b there) c.from_residual-in_err-check_machine-2.ensures.1
+    passed_on c.from_residual-in_err-check_machine-2.result c.in_err-check_machine-2.field-0.0 (IsValueFault g.T.Structure.ordered k IsNoAutomaton b there) (IsProductFault g.T.Structure.ordered k (tree c.args.a.now) c.args.a_pos.offset b there) c.from_residual-in_err-check_machine-2.ensures.1
     (λ f h. inr (λ d a. c.in_ok-check_machine.ensures.automaton d a.0 a.1, h)) c.in_err-check_machine-2.ensures.fault
 
 pub returns-clause-made : goal.returns-clause-made

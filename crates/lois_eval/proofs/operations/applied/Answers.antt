@@ -54,6 +54,9 @@ one_term-requires g c = c.requires.count ∙ ap arity c.in-Flatten.is
 pub flattened-requires-clause-levels : goal.flattened-requires-clause-levels
 flattened-requires-clause-levels g c = (subst (λ z. PartsFit c.args.context.now.size (terms_of z)) c.one_term.ensures c.requires.levels).0
 
+pub flattened-requires-clause-operators : goal.flattened-requires-clause-operators
+flattened-requires-clause-operators g c = (subst (λ z. AdmitsParts g.T.Structure.ordered (terms_of z)) c.one_term.ensures c.requires.operators).0
+
 pub returns-in-Flatten-clause-applied : goal.returns-in-Flatten-clause-applied
 returns-in-Flatten-clause-applied g c =
     let k = c.args.context.now in
@@ -76,10 +79,10 @@ returns-in-Flatten-clause-fault g c =
     let e = c.one_expr.result.now in
     let s = term_tree c.one_term.result.now in
     let at = c.pos-pos.result.offset in
-    let P = λ (f : Fault). IsSetFault k s at f ⊎ IsMemberFault k s at f in
-    let Q = IsUnfitFault k c.args.operation (exprs_of (exprs_list c.args.operands.now)) (terms_of c.args.values.now) in
+    let P = λ (f : Fault). IsSetFault k s at f ⊎ IsMemberFault g.T.Structure.ordered k s at f in
+    let Q = IsUnfitFault g.T.Structure.ordered k c.args.operation (exprs_of (exprs_list c.args.operands.now)) (terms_of c.args.values.now) in
     IfErr-weaker c.flattened.result (λ z. IfFault z P) _
-    (λ z h. if_fault z P Q (λ f unfit. flatten_unfit k f (tree e) s c.args.operation (exprs_list c.args.operands.now) c.args.values.now at c.in-Flatten.is c.one_expr.ensures c.one_term.ensures c.pos-pos.ensures.first_token unfit) h) c.flattened.ensures.fault
+    (λ z h. if_fault z P Q (λ f unfit. flatten_unfit g.T.Structure.ordered k f (tree e) s c.args.operation (exprs_list c.args.operands.now) c.args.values.now at c.in-Flatten.is c.one_expr.ensures c.one_term.ensures c.pos-pos.ensures.first_token unfit) h) c.flattened.ensures.fault
 
 pub returns-in-Union-clause-operators : goal.returns-in-Union-clause-operators
 returns-in-Union-clause-operators g c =

@@ -18,8 +18,8 @@ returns-in_err-check_set-clause-fault g c =
     let f = c.two_exprs.result.1.now in
     let s = c.two_terms.result.0.now in
     let t = c.two_terms.result.1.now in
-    passed_on c.from_residual.result c.in_err-check_set.field-0.0 (IsSetFault k (term_tree s) c.pos.result.offset) (IsUnfitFault k c.args.operation (exprs_of (exprs_list c.args.operands.now)) (terms_of c.args.values.now)) c.from_residual.ensures.1
-    (λ x h. left_unfit k x c.args.operation c.requires.operation (tree e) (tree f) (term_tree s) (term_tree t) (exprs_list c.args.operands.now) c.args.values.now c.pos.result.offset c.two_exprs.ensures c.two_terms.ensures c.pos.ensures.first_token h) c.in_err-check_set.ensures.fault
+    passed_on c.from_residual.result c.in_err-check_set.field-0.0 (IsSetFault k (term_tree s) c.pos.result.offset) (IsUnfitFault g.T.Structure.ordered k c.args.operation (exprs_of (exprs_list c.args.operands.now)) (terms_of c.args.values.now)) c.from_residual.ensures.1
+    (λ x h. left_unfit g.T.Structure.ordered k x c.args.operation c.requires.operation (tree e) (tree f) (term_tree s) (term_tree t) (exprs_list c.args.operands.now) c.args.values.now c.pos.result.offset c.two_exprs.ensures c.two_terms.ensures c.pos.ensures.first_token h) c.in_err-check_set.ensures.fault
 
 pub returns-in_err-check_set-2-clause-fault : goal.returns-in_err-check_set-2-clause-fault
 returns-in_err-check_set-2-clause-fault g c =
@@ -28,8 +28,8 @@ returns-in_err-check_set-2-clause-fault g c =
     let f = c.two_exprs.result.1.now in
     let s = c.two_terms.result.0.now in
     let t = c.two_terms.result.1.now in
-    passed_on c.from_residual-in_err-check_set-2.result c.in_err-check_set-2.field-0.0 (IsSetFault k (term_tree t) c.pos-2.result.offset) (IsUnfitFault k c.args.operation (exprs_of (exprs_list c.args.operands.now)) (terms_of c.args.values.now)) c.from_residual-in_err-check_set-2.ensures.1
-    (λ x h. right_unfit k x c.args.operation c.requires.operation (tree e) (tree f) (term_tree s) (term_tree t) (exprs_list c.args.operands.now) c.args.values.now c.pos-2.result.offset c.two_exprs.ensures c.two_terms.ensures c.pos-2.ensures.first_token c.in_ok-check_set.ensures.set h) c.in_err-check_set-2.ensures.fault
+    passed_on c.from_residual-in_err-check_set-2.result c.in_err-check_set-2.field-0.0 (IsSetFault k (term_tree t) c.pos-2.result.offset) (IsUnfitFault g.T.Structure.ordered k c.args.operation (exprs_of (exprs_list c.args.operands.now)) (terms_of c.args.values.now)) c.from_residual-in_err-check_set-2.ensures.1
+    (λ x h. right_unfit g.T.Structure.ordered k x c.args.operation c.requires.operation (tree e) (tree f) (term_tree s) (term_tree t) (exprs_list c.args.operands.now) c.args.values.now c.pos-2.result.offset c.two_exprs.ensures c.two_terms.ensures c.pos-2.ensures.first_token c.in_ok-check_set.ensures.set h) c.in_err-check_set-2.ensures.fault
 
 pub combination-requires : goal.combination-requires
 combination-requires g c =

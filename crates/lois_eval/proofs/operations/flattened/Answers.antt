@@ -9,13 +9,13 @@ use Rattle.lois_eval.proofs.operations.flattened.Goals as goal
 pub returns-in_err-check_set-clause-fault : goal.returns-in_err-check_set-clause-fault
 returns-in_err-check_set-clause-fault g c =
     let P = IsSetFault c.args.context.now (tree c.args.set.now) c.args.pos.offset in
-    let Q = IsMemberFault c.args.context.now (tree c.args.set.now) c.args.pos.offset in
+    let Q = IsMemberFault g.T.Structure.ordered c.args.context.now (tree c.args.set.now) c.args.pos.offset in
     passed_on c.from_residual.result c.in_err-check_set.field-0.0 P (λ f. P f ⊎ Q f) c.from_residual.ensures.1 (λ f h. inl h) c.in_err-check_set.ensures.fault
 
 pub returns-in_err-sets-clause-fault : goal.returns-in_err-sets-clause-fault
 returns-in_err-sets-clause-fault g c =
     let P = IsSetFault c.args.context.now (tree c.args.set.now) c.args.pos.offset in
-    let Q = IsMemberFault c.args.context.now (tree c.args.set.now) c.args.pos.offset in
+    let Q = IsMemberFault g.T.Structure.ordered c.args.context.now (tree c.args.set.now) c.args.pos.offset in
     passed_on c.from_residual-in_err-sets.result c.in_err-sets.field-0.0 Q (λ f. P f ⊎ Q f) c.from_residual-in_err-sets.ensures.1 (λ f h. inr h) c.in_err-sets.ensures.fault
 
 pub returns-clause-applied : goal.returns-clause-applied

@@ -1,4 +1,4 @@
-use Rattle.std.proofs.Common.{◌∙◌, true, sym, ap, subst}
+use Rattle.std.proofs.Common.{◌∙◌, sym, ap, subst}
 use Rattle.std.specs.Prelude.{IfSome, is_some}
 use Rattle.lois_base.specs.Fits.{Fits}
 use Rattle.lois_base.specs.Patterns.{AreAlike}
@@ -31,12 +31,12 @@ returns-in-Some-clause-fault g c =
     let meets = meets_both k.size k.«when» deep met.constraint met.sample own in
     let both = met_admitted k deep met.sample meets in
     let same = c.into_vec.ensures in
-    if_fault c.fault.result (IsFaultWith c.args.pos DepthLimit c.into_vec.result.items) (IsDepthFault k (tree c.args.term.now) c.args.pos.offset) (λ f h. record {
+    if_fault c.fault.result (IsFaultWith c.args.pos DepthLimit c.into_vec.result.items) (IsDepthFault g.T.Structure.ordered k (tree c.args.term.now) c.args.pos.offset) (λ f h. record {
       fault = fault_at k c.args.pos DepthLimit c.into_vec.result.items (subst (λ z. IsAdmitted (sampled z) k) (sym same) both.0) f h;
       kind = h.kind;
       deep = λ d stand.
-          let alike : AreAlike true (sampled met.sample) d = subst (λ z. AreAlike true (sampled z) d) (h.sample ∙ same) stand in
-          let there = (c.in_ok-deep.ensures.truth d (sym alike.count ∙ both.0.0)).0 (met_alike k deep met.sample d c.in_ok-deep.ensures.levels meets alike) in
+          let alike : AreAlike g.T.Structure.ordered (sampled met.sample) d = subst (λ z. AreAlike g.T.Structure.ordered (sampled z) d) (h.sample ∙ same) stand in
+          let there = (c.in_ok-deep.ensures.truth d (sym alike.count ∙ both.0.0)).0 (met_alike g.T.Structure.ordered k deep met.sample d c.in_ok-deep.ensures.levels c.in_ok-deep.ensures.operators meets alike) in
           subst (λ t. IsDeeper (point (tree t) d) depth_limit) (c.get.ensures.same ∙ c.in_ok-whole.ensures.same) there;
     }) c.fault.ensures
 

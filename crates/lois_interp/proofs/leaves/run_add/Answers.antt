@@ -29,7 +29,7 @@ normal_value-requires g c = add_set c.args.pos.offset c.args.name.now (tree c.ar
 pub returns-in_err-item-clause-fault : goal.returns-in_err-item-clause-fault
 returns-in_err-item-clause-fault g c =
     let p = c.args.pos.offset in let x = c.args.name.now in let e = tree c.args.e.now in let k = c.args.context in
-    passed_on c.from_residual.result c.in_err-item.field-0.0 (IsFaultOf k (Fails e)) (FailsWithin (stmt_run (add e p x)) k) c.from_residual.ensures.1 (λ f h. add_fails p x e k f h) c.in_err-item.ensures.fault
+    passed_on c.from_residual.result c.in_err-item.field-0.0 (IsFaultOf g.T.Structure.ordered k (Fails e)) (FailsWithin g.T.Structure.ordered (stmt_run (add e p x)) k) c.from_residual.ensures.1 (λ f h. add_fails g.T.Structure.ordered p x e k f h) c.in_err-item.ensures.fault
 
 pub unreachable-requires : goal.unreachable-requires
 unreachable-requires g c =
@@ -48,8 +48,8 @@ returns-in_default-extended-clause-fault g c =
     let taken = c.in_ok-out.out in let t = term_tree taken.term in
     let held = slot_held k x i (held_of taken) c.in-Some.ensures.found c.in_ok-out.ensures.slot in
     let none = subst (IsExtended t (term_tree c.in_ok-item.item)) (c.in_default-extended.is) c.in_ok-extended.ensures in
-    if_fault c.fault_under.result (IsFaultWith c.args.pos NotASet taken.rest.sample) (FailsWithin (stmt_run (add e c.args.pos.offset x)) k)
-    (λ f h. add_no_set c.args.pos x e k t (λ a. held_value x k.store t a held) f (term_tree c.in_ok-item.item) c.in_ok-item.ensures.value none (subst (λ z. IsFaultWith c.args.pos NotASet z f) c.in_ok-out.ensures.sample h)) c.fault_under.ensures
+    if_fault c.fault_under.result (IsFaultWith c.args.pos NotASet taken.rest.sample) (FailsWithin g.T.Structure.ordered (stmt_run (add e c.args.pos.offset x)) k)
+    (λ f h. add_no_set c.args.pos x e k t (λ a. held_value x k.store t a held) f g.T.Structure.ordered c.requires.operators (term_tree c.in_ok-item.item) c.in_ok-item.ensures.value none (subst (λ z. IsFaultWith c.args.pos NotASet z f) c.in_ok-out.ensures.sample h)) c.fault_under.ensures
 
 pub check_depth-requires-clause-levels : goal.check_depth-requires-clause-levels
 check_depth-requires-clause-levels g c =
@@ -73,9 +73,9 @@ returns-in_err-check_depth-clause-fault g c =
     let taken = c.in_ok-out.out in let T = c.in_ok-out.ensures in let t = term_tree taken.term in
     let item = term_tree c.in_ok-item.item in let set = term_tree c.in-Some-extended.set in
     let more = subst (IsExtended t item) c.in-Some-extended.is c.in_ok-extended.ensures in
-    passed_on c.from_residual-in_err-check_depth.result c.in_err-check_depth.field-0.0 (IsDepthFault taken.rest set c.args.pos.offset) (FailsWithin (stmt_run (add e c.args.pos.offset x)) k) c.from_residual-in_err-check_depth.ensures.1
-    (λ f h. add_too_deep c.args.pos x e k t (λ a. held_value x k.store t a (slot_held k x i (held_of taken) found T.slot)) f item set c.in_ok-item.ensures.value (set_joined k x i (held_of taken) found T.slot item set more)
-    (depth_fault_there k taken.rest T.size T.«when» set c.args.pos.offset f h)) c.in_err-check_depth.ensures.fault
+    passed_on c.from_residual-in_err-check_depth.result c.in_err-check_depth.field-0.0 (IsDepthFault g.T.Structure.ordered taken.rest set c.args.pos.offset) (FailsWithin g.T.Structure.ordered (stmt_run (add e c.args.pos.offset x)) k) c.from_residual-in_err-check_depth.ensures.1
+    (λ f h. add_too_deep c.args.pos x e k t (λ a. held_value x k.store t a (slot_held k x i (held_of taken) found T.slot)) f g.T.Structure.ordered c.requires.operators item set c.in_ok-item.ensures.value (set_joined k x i (held_of taken) found T.slot item set more)
+    (depth_fault_there k taken.rest T.size T.«when» g.T.Structure.ordered set c.args.pos.offset f h)) c.in_err-check_depth.ensures.fault
 
 pub with_slot_at-requires-clause-levels : goal.with_slot_at-requires-clause-levels
 with_slot_at-requires-clause-levels g c =

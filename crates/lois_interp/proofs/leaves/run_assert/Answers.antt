@@ -24,7 +24,7 @@ decide-requires g c = assert_cond c.args.pos.offset (cond_tree c.args.condition.
 pub returns-in_err-decided-clause-fault : goal.returns-in_err-decided-clause-fault
 returns-in_err-decided-clause-fault g c =
     let p = c.args.pos.offset in let q = cond_tree c.args.condition.now in let k = c.args.context in
-    passed_on c.from_residual.result c.in_err-decided.field-0.0 (IsFaultOf k (CondFails q)) (FailsWithin (stmt_run (assert p q)) k) c.from_residual.ensures.1 (λ f h. assert_fails p q k f h) c.in_err-decided.ensures.fault
+    passed_on c.from_residual.result c.in_err-decided.field-0.0 (IsFaultOf g.T.Structure.ordered k (CondFails q)) (FailsWithin g.T.Structure.ordered (stmt_run (assert p q)) k) c.from_residual.ensures.1 (λ f h. assert_fails g.T.Structure.ordered p q k f h) c.in_err-decided.ensures.fault
 
 pub returns-in-Some-clause-fault : goal.returns-in-Some-clause-fault
 returns-in-Some-clause-fault g c =
@@ -32,7 +32,7 @@ returns-in-Some-clause-fault g c =
     let decided = c.in_ok-decided.decided in
     let sample = c.in-Some.sample.items in
     let parts = some_is (λ s. IsCounterexample k.size k.«when» decided s.items) c.in_ok-sample.field-0 c.in-Some.sample c.in-Some.is c.in_ok-sample.ensures.sample in
-    if_fault c.fault.result (IsFaultWith c.args.pos Assertion sample) (FailsWithin (stmt_run (assert c.args.pos.offset q)) k) (λ f h. assertion_fails c.args.pos q k decided sample f c.in_ok-decided.ensures.truth c.in_ok-decided.ensures.levels parts h) c.fault.ensures
+    if_fault c.fault.result (IsFaultWith c.args.pos Assertion sample) (FailsWithin g.T.Structure.ordered (stmt_run (assert c.args.pos.offset q)) k) (λ f h. assertion_fails g.T.Structure.ordered c.args.pos q k decided sample f c.requires.operators (c.in_ok-decided.ensures.operators g.T.Structure.ordered (assert_cond c.args.pos.offset q g.T.Structure.ordered k c.requires)) c.in_ok-decided.ensures.truth c.in_ok-decided.ensures.levels parts h) c.fault.ensures
 
 pub returns-in_ok-one-in-None-clause-runs : goal.returns-in_ok-one-in-None-clause-runs
 returns-in_ok-one-in-None-clause-runs g c =

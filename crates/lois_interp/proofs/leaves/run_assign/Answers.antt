@@ -24,7 +24,7 @@ normal_value-requires g c = assign_set c.args.pos.offset c.args.name.now (tree c
 pub returns-in_err-term-clause-fault : goal.returns-in_err-term-clause-fault
 returns-in_err-term-clause-fault g c =
     let p = c.args.pos.offset in let x = c.args.name.now in let e = tree c.args.e.now in let k = c.args.context in
-    passed_on c.from_residual.result c.in_err-term.field-0.0 (IsFaultOf k (Fails e)) (FailsWithin (stmt_run (assign p x e)) k) c.from_residual.ensures.1 (λ f h. assign_fails p x e k f h) c.in_err-term.ensures.fault
+    passed_on c.from_residual.result c.in_err-term.field-0.0 (IsFaultOf g.T.Structure.ordered k (Fails e)) (FailsWithin g.T.Structure.ordered (stmt_run (assign p x e)) k) c.from_residual.ensures.1 (λ f h. assign_fails g.T.Structure.ordered p x e k f h) c.in_err-term.ensures.fault
 
 pub unreachable-requires : goal.unreachable-requires
 unreachable-requires g c =

@@ -61,7 +61,7 @@ run_each-returns-in_err-ends-clause-fault g t c =
     let k = c.in-Some.context in
     let gives = c.into_iter-context-iterator.ensures.into_iter_gives in
     let turn = YieldsList-turn (YieldsList-from_vec {s = c.into_iter-context-iterator.result} c.args.contexts.items gives.0 (gives.1 ∙ c.args.contexts.ok.0)) c.loop-context.yielded c.loop-context.context-iterator c.loop-context.yielded_by c.next.result c.next.new.self k c.in-Some.is c.next.ensures.steps in
-    passed_on c.from_residual.result c.in_err-ends.field-0.0 (FailsWithin R k) (FailsFrom R c.args.contexts.items) c.from_residual.ensures.1
+    passed_on c.from_residual.result c.in_err-ends.field-0.0 (FailsWithin g.T.Structure.ordered R k) (FailsFrom g.T.Structure.ordered R c.args.contexts.items) c.from_residual.ensures.1
     (λ f h. (k, item_there c.args.contexts.items (length c.loop-context.yielded) k turn.0 turn.1, h)) c.in_err-ends.ensures.fault
 
 pub run_each-returns-clause-runs : goal.run_each-returns-clause-runs
@@ -90,8 +90,8 @@ pub run_for-returns-in_err-inside-clause-fault : goal.run_for-returns-in_err-ins
 run_for-returns-in_err-inside-clause-fault g t c =
     let k = c.args.context in let b = c.args.binding.now in
     let q = cond_tree c.args.guard.now in let body = stmts_of (stmts_list c.args.body.now) in
-    subst (λ z. IfErr c.from_residual.result (λ t. IfFault t (FailsWithin (stmt_run (for z q body)) k))) (sym (binding_is b))
-    (passed_on c.from_residual.result c.in_err-inside.field-0.0 (IsFaultOf k (SetFails (tree b.from))) (FailsWithin (stmt_run (for (binding b.pos.offset b.name (tree b.from)) q body)) k) c.from_residual.ensures.1 (λ f h. for_fails_set b.pos.offset b.name (tree b.from) q body k f h) c.in_err-inside.ensures.fault)
+    subst (λ z. IfErr c.from_residual.result (λ t. IfFault t (FailsWithin g.T.Structure.ordered (stmt_run (for z q body)) k))) (sym (binding_is b))
+    (passed_on c.from_residual.result c.in_err-inside.field-0.0 (IsFaultOf g.T.Structure.ordered k (SetFails (tree b.from))) (FailsWithin g.T.Structure.ordered (stmt_run (for (binding b.pos.offset b.name (tree b.from)) q body)) k) c.from_residual.ensures.1 (λ f h. for_fails_set b.pos.offset b.name (tree b.from) q body k g.T.Structure.ordered f h) c.in_err-inside.ensures.fault)
 
 pub run_for-run_inside-requires : goal.run_for-run_inside-requires
 run_for-run_inside-requires g t c κs within =
@@ -106,8 +106,8 @@ run_for-returns-in_err-ends-clause-fault g t c =
     let o = g.T.Structure.ordered in let k = c.args.context in let b = c.args.binding.now in
     let q = cond_tree c.args.guard.now in let body = stmts_of (stmts_list c.args.body.now) in
     let may = subst (λ z. IsWellFormedIn (StmtIsWellScoped (for z q body)) o k) (binding_is b) c.requires.placed in
-    subst (λ z. IfErr c.from_residual-in_err-ends.result (λ t. IfFault t (FailsWithin (stmt_run (for z q body)) k))) (sym (binding_is b))
-    (passed_on c.from_residual-in_err-ends.result c.in_err-ends.field-0.0 (λ f. (d : Context) × Contains c.in_ok-inside.inside.items d × FailsInside b.name q body d f) (FailsWithin (stmt_run (for (binding b.pos.offset b.name (tree b.from)) q body)) k) c.from_residual-in_err-ends.ensures.1
+    subst (λ z. IfErr c.from_residual-in_err-ends.result (λ t. IfFault t (FailsWithin g.T.Structure.ordered (stmt_run (for z q body)) k))) (sym (binding_is b))
+    (passed_on c.from_residual-in_err-ends.result c.in_err-ends.field-0.0 (λ f. (d : Context) × Contains c.in_ok-inside.inside.items d × FailsInside g.T.Structure.ordered b.name q body d f) (FailsWithin g.T.Structure.ordered (stmt_run (for (binding b.pos.offset b.name (tree b.from)) q body)) k) c.from_residual-in_err-ends.ensures.1
     (λ f h. for_fails_inside b.pos.offset b.name (tree b.from) q body k o may c.in_ok-inside.inside.items c.in_ok-inside.ensures.entered f h) c.in_err-ends.ensures.fault)
 
 pub run_for-join-requires-clause-ends : goal.run_for-join-requires-clause-ends
@@ -169,7 +169,7 @@ run_inside-returns-in_err-more-clause-fault g t c =
     let k = c.in-Some.context in
     let gives = c.into_iter-context-iterator.ensures.into_iter_gives in
     let turn = YieldsList-turn (YieldsList-from_vec {s = c.into_iter-context-iterator.result} c.args.inside.items gives.0 (gives.1 ∙ c.args.inside.ok.0)) c.loop-context.yielded c.loop-context.context-iterator c.loop-context.yielded_by c.next.result c.next.new.self k c.in-Some.is c.next.ensures.steps in
-    passed_on c.from_residual.result c.in_err-more.field-0.0 (FailsInside x q body k) (λ f. (d : Context) × Contains c.args.inside.items d × FailsInside x q body d f) c.from_residual.ensures.1
+    passed_on c.from_residual.result c.in_err-more.field-0.0 (FailsInside g.T.Structure.ordered x q body k) (λ f. (d : Context) × Contains c.args.inside.items d × FailsInside g.T.Structure.ordered x q body d f) c.from_residual.ensures.1
     (λ f h. (k, item_there c.args.inside.items (length c.loop-context.yielded) k turn.0 turn.1, h)) c.in_err-more.ensures.fault
 
 pub run_inside-returns-clause-runs : goal.run_inside-returns-clause-runs
@@ -186,11 +186,11 @@ run_member-named_inside-requires-clause-levels g t c = held_fits c.args.name.now
 pub run_member-named_inside-requires-clause-sample : goal.run_member-named_inside-requires-clause-sample
 run_member-named_inside-requires-clause-sample g t c =
     let q = cond_tree c.args.guard.now in let body = stmts_of (stmts_list c.args.body.now) in let k = c.args.context in
-    if_fault c.in-Err.stop (FailsWithin (turn_run q body) k) (λ f. k.size ≤ length f.sample.items) (λ f h. long_enough (turn_run q body) k f h) c.in-Err.ensures.fault
+    if_fault c.in-Err.stop (FailsWithin g.T.Structure.ordered (turn_run q body) k) (λ f. k.size ≤ length f.sample.items) (λ f h. long_enough g.T.Structure.ordered (turn_run q body) k f h) c.in-Err.ensures.fault
 
 pub run_member-returns-clause-fault : goal.run_member-returns-clause-fault
 run_member-returns-clause-fault g t c =
-    named_stop c.args.name.now (term_tree c.in_ok-item.item) (cond_tree c.args.guard.now) (stmts_of (stmts_list c.args.body.now)) c.args.context c.in-Err.stop c.named_inside.result c.requires.element c.in_ok-item.ensures c.in-Err.ensures.fault c.named_inside.ensures
+    named_stop g.T.Structure.ordered c.args.name.now (term_tree c.in_ok-item.item) (cond_tree c.args.guard.now) (stmts_of (stmts_list c.args.body.now)) c.args.context c.in-Err.stop c.named_inside.result c.requires.element c.in_ok-item.ensures c.in-Err.ensures.fault c.named_inside.ensures
 
 pub run_member-item_of-requires : goal.run_member-item_of-requires
 run_member-item_of-requires g t c = (c.requires.element.item, c.requires.element.held)
@@ -203,7 +203,7 @@ run_passing-sides-requires-clause-placed g t c =
 pub run_passing-returns-in_err-sides-clause-fault : goal.run_passing-returns-in_err-sides-clause-fault
 run_passing-returns-in_err-sides-clause-fault g t c =
     let q = cond_tree c.args.guard.now in let body = stmts_of (stmts_list c.args.body.now) in let k = c.args.context in
-    passed_on c.from_residual.result c.in_err-sides.field-0.0 (IsFaultOf k (CondFails q)) (FailsWithin (turn_run q body) k) c.from_residual.ensures.1 (λ f h. cond_within q body k f h) c.in_err-sides.ensures.fault
+    passed_on c.from_residual.result c.in_err-sides.field-0.0 (IsFaultOf g.T.Structure.ordered k (CondFails q)) (FailsWithin g.T.Structure.ordered (turn_run q body) k) c.from_residual.ensures.1 (λ f h. cond_within q body g.T.Structure.ordered k f h) c.in_err-sides.ensures.fault
 
 pub run_passing-run_stmts-requires : goal.run_passing-run_stmts-requires
 run_passing-run_stmts-requires g t c κs within =
@@ -221,7 +221,7 @@ pub run_passing-returns-in-Some-clause-fault : goal.run_passing-returns-in-Some-
 run_passing-returns-in-Some-clause-fault g t c =
     let k = c.args.context in let q = cond_tree c.args.guard.now in let body = stmts_of (stmts_list c.args.body.now) in
     let side : IsTrueSide q true k c.in-Some.passing = subst (λ z. IfSome z (IsTrueSide q true k)) c.in-Some.is c.in_ok-sides.ensures.decided.yes in
-    err_weaker c.run_stmts.result (FailsWithin (block_run body) c.in-Some.passing) (FailsWithin (turn_run q body) k) (λ f h. side_within q body k c.in-Some.passing f side h) c.run_stmts.ensures.fault
+    err_weaker c.run_stmts.result (FailsWithin g.T.Structure.ordered (block_run body) c.in-Some.passing) (FailsWithin g.T.Structure.ordered (turn_run q body) k) (λ f h. side_within q body g.T.Structure.ordered k c.in-Some.passing f side h) c.run_stmts.ensures.fault
 
 pub run_passing-returns-in-Some-clause-asked : goal.run_passing-returns-in-Some-clause-asked
 run_passing-returns-in-Some-clause-asked g t c = g.met.S.Oracle.reaches_then c.args.steps.now c.sides.new.self c.run_stmts.new.steps c.sides.ensures.asked c.run_stmts.ensures.asked
@@ -245,7 +245,7 @@ run_stmt-returns-in-For-clause-runs g t c =
 pub run_stmt-returns-in-For-clause-fault : goal.run_stmt-returns-in-For-clause-fault
 run_stmt-returns-in-For-clause-fault g t c =
     let is : stmt_tree c.args.stmt.now ≡ for (binding_tree c.in-For.binding) (cond_tree c.in-For.guard) (stmts_of (stmts_list c.in-For.body)) = ap stmt_tree c.in-For.is ∙ stmt_For c.in-For.binding c.in-For.guard c.in-For.body in
-    subst (λ z. IfErr c.run_for.result (λ s. IfFault s (FailsWithin (stmt_run z) c.args.context))) (sym is) c.run_for.ensures.fault
+    subst (λ z. IfErr c.run_for.result (λ s. IfFault s (FailsWithin g.T.Structure.ordered (stmt_run z) c.args.context))) (sym is) c.run_for.ensures.fault
 
 pub run_stmt-run_if-requires : goal.run_stmt-run_if-requires
 run_stmt-run_if-requires g t c κs within =
@@ -263,7 +263,7 @@ pub run_stmt-returns-in-If-clause-fault : goal.run_stmt-returns-in-If-clause-fau
 run_stmt-returns-in-If-clause-fault g t c =
     let q = cond_tree c.in-If.condition in let a = stmts_of (stmts_list c.in-If.yes) in let b = stmts_of (stmts_list c.in-If.no) in
     let is : stmt_tree c.args.stmt.now ≡ (if) q a b = ap stmt_tree c.in-If.is ∙ stmt_If c.in-If.condition c.in-If.yes c.in-If.no in
-    subst (λ z. IfErr c.run_if.result (λ s. IfFault s (FailsWithin (stmt_run z) c.args.context))) (sym is) c.run_if.ensures.fault
+    subst (λ z. IfErr c.run_if.result (λ s. IfFault s (FailsWithin g.T.Structure.ordered (stmt_run z) c.args.context))) (sym is) c.run_if.ensures.fault
 
 pub run_stmt-run_while-requires : goal.run_stmt-run_while-requires
 run_stmt-run_while-requires g t c κs within =
@@ -281,7 +281,7 @@ pub run_stmt-returns-in-While-clause-fault : goal.run_stmt-returns-in-While-clau
 run_stmt-returns-in-While-clause-fault g t c =
     let q = cond_tree c.in-While.condition in let body = stmts_of (stmts_list c.in-While.body) in
     let is : stmt_tree c.args.stmt.now ≡ while c.in-While.pos.offset q c.in-While.turns body = ap stmt_tree c.in-While.is ∙ stmt_While c.in-While.pos c.in-While.condition c.in-While.turns c.in-While.body in
-    subst (λ z. IfErr c.run_while.result (λ s. IfFault s (FailsWithin (stmt_run z) c.args.context))) (sym is) c.run_while.ensures.fault
+    subst (λ z. IfErr c.run_while.result (λ s. IfFault s (FailsWithin g.T.Structure.ordered (stmt_run z) c.args.context))) (sym is) c.run_while.ensures.fault
 
 pub run_stmt-simple-requires-clause-leaf : goal.run_stmt-simple-requires-clause-leaf
 run_stmt-simple-requires-clause-leaf g t c = is_leaf c.args.stmt.now c.in_default.not-For c.in_default.not-If c.in_default.not-While
@@ -324,13 +324,13 @@ run_stmts-returns-in_err-contexts-2-clause-first g t c =
     let done = map stmt_tree (take i items) in
     let rest = map stmt_tree (drop (suc i) items) in
     let whole : stmts_list c.args.body.now ≡ done ++ a ∷ rest = sym c.as_slice-stmt-items.ensures.items ∙ split_at stmt_tree items i c.stmt-item.result c.loop-stmt-test.true c.stmt-item.is in
-    subst (λ z. IfErr c.from_residual-in_err-contexts-2.result (λ t. IfFault t (FailsBehind z k))) (sym whole)
-    (passed_on c.from_residual-in_err-contexts-2.result c.in_err-contexts-2.field-0.0 (FailsFrom (stmt_run a) c.loop-stmt.contexts.items) (FailsBehind (done ++ a ∷ rest) k) c.from_residual-in_err-contexts-2.ensures.1 (λ f h. list_fails_at done a rest k c.loop-stmt.contexts.items c.loop-stmt.invariant.runs f h) c.in_err-contexts-2.ensures.fault)
+    subst (λ z. IfErr c.from_residual-in_err-contexts-2.result (λ t. IfFault t (FailsBehind g.T.Structure.ordered z k))) (sym whole)
+    (passed_on c.from_residual-in_err-contexts-2.result c.in_err-contexts-2.field-0.0 (FailsFrom g.T.Structure.ordered (stmt_run a) c.loop-stmt.contexts.items) (FailsBehind g.T.Structure.ordered (done ++ a ∷ rest) k) c.from_residual-in_err-contexts-2.ensures.1 (λ f h. list_fails_at done a rest k c.loop-stmt.contexts.items c.loop-stmt.invariant.runs g.T.Structure.ordered f h) c.in_err-contexts-2.ensures.fault)
 
 pub run_stmts-returns-in_err-contexts-2-clause-fault : goal.run_stmts-returns-in_err-contexts-2-clause-fault
 run_stmts-returns-in_err-contexts-2-clause-fault g t c =
     let k = c.args.context in let l = stmts_list c.args.body.now in
-    err_weaker c.from_residual-in_err-contexts-2.result (FailsBehind l k) (FailsWithin (block_run (stmts_of l)) k) (λ f h. fails_whole l k f h) (run_stmts-returns-in_err-contexts-2-clause-first g t c)
+    err_weaker c.from_residual-in_err-contexts-2.result (FailsBehind g.T.Structure.ordered l k) (FailsWithin g.T.Structure.ordered (block_run (stmts_of l)) k) (λ f h. fails_whole g.T.Structure.ordered l k f h) (run_stmts-returns-in_err-contexts-2-clause-first g t c)
 
 pub run_stmts-loop-stmt-preserved : goal.run_stmts-loop-stmt-preserved
 run_stmts-loop-stmt-preserved g t c =
@@ -370,7 +370,7 @@ pub run_if-returns-in_err-sides-clause-fault : goal.run_if-returns-in_err-sides-
 run_if-returns-in_err-sides-clause-fault g t c =
     let k = c.args.context in let q = cond_tree c.args.condition.now in
     let a = stmts_of (stmts_list c.args.yes.now) in let b = stmts_of (stmts_list c.args.no.now) in
-    passed_on c.from_residual.result c.in_err-sides.field-0.0 (IsFaultOf k (CondFails q)) (FailsWithin (stmt_run ((if) q a b)) k) c.from_residual.ensures.1 (λ f h. if_cond_fails q a b k f h) c.in_err-sides.ensures.fault
+    passed_on c.from_residual.result c.in_err-sides.field-0.0 (IsFaultOf g.T.Structure.ordered k (CondFails q)) (FailsWithin g.T.Structure.ordered (stmt_run ((if) q a b)) k) c.from_residual.ensures.1 (λ f h. if_cond_fails q a b k g.T.Structure.ordered f h) c.in_err-sides.ensures.fault
 
 pub run_if-run_side-requires : goal.run_if-run_side-requires
 run_if-run_side-requires g t c κs within =
@@ -388,13 +388,13 @@ pub run_if-returns-in_err-ends-clause-fault : goal.run_if-returns-in_err-ends-cl
 run_if-returns-in_err-ends-clause-fault g t c =
     let k = c.args.context in let q = cond_tree c.args.condition.now in
     let a = stmts_of (stmts_list c.args.yes.now) in let b = stmts_of (stmts_list c.args.no.now) in
-    passed_on c.from_residual-in_err-ends.result c.in_err-ends.field-0.0 (FailsFrom (block_run a) (listed_context c.in_ok-sides.sides.yes)) (FailsWithin (stmt_run ((if) q a b)) k) c.from_residual-in_err-ends.ensures.1 (λ f h. if_yes_fails q a b k c.in_ok-sides.sides f c.in_ok-sides.ensures.decided h) c.in_err-ends.ensures.fault
+    passed_on c.from_residual-in_err-ends.result c.in_err-ends.field-0.0 (FailsFrom g.T.Structure.ordered (block_run a) (listed_context c.in_ok-sides.sides.yes)) (FailsWithin g.T.Structure.ordered (stmt_run ((if) q a b)) k) c.from_residual-in_err-ends.ensures.1 (λ f h. if_yes_fails q a b k g.T.Structure.ordered c.in_ok-sides.sides f c.in_ok-sides.ensures.decided h) c.in_err-ends.ensures.fault
 
 pub run_if-returns-in_err-others-clause-fault : goal.run_if-returns-in_err-others-clause-fault
 run_if-returns-in_err-others-clause-fault g t c =
     let k = c.args.context in let q = cond_tree c.args.condition.now in
     let a = stmts_of (stmts_list c.args.yes.now) in let b = stmts_of (stmts_list c.args.no.now) in
-    passed_on c.from_residual-in_err-others.result c.in_err-others.field-0.0 (FailsFrom (block_run b) (listed_context c.in_ok-sides.sides.no)) (FailsWithin (stmt_run ((if) q a b)) k) c.from_residual-in_err-others.ensures.1 (λ f h. if_no_fails q a b k c.in_ok-sides.sides f c.in_ok-sides.ensures.decided h) c.in_err-others.ensures.fault
+    passed_on c.from_residual-in_err-others.result c.in_err-others.field-0.0 (FailsFrom g.T.Structure.ordered (block_run b) (listed_context c.in_ok-sides.sides.no)) (FailsWithin g.T.Structure.ordered (stmt_run ((if) q a b)) k) c.from_residual-in_err-others.ensures.1 (λ f h. if_no_fails q a b k g.T.Structure.ordered c.in_ok-sides.sides f c.in_ok-sides.ensures.decided h) c.in_err-others.ensures.fault
 
 pub run_if-returns-clause-runs : goal.run_if-returns-clause-runs
 run_if-returns-clause-runs g t c =
@@ -406,8 +406,8 @@ run_if-returns-clause-runs g t c =
 pub run_side-returns-in-Some-clause-fault : goal.run_side-returns-in-Some-clause-fault
 run_side-returns-in-Some-clause-fault g t c =
     let body = stmts_of (stmts_list c.args.body.now) in let k = c.in-Some.context in
-    err_weaker c.run_stmts.result (FailsWithin (block_run body) k) (FailsFrom (block_run body) (listed_context c.args.side))
-    (λ f h. subst (λ z. FailsFrom (block_run body) (listed_context z) f) (sym c.in-Some.is) (k, Contains-push [] k, h)) c.run_stmts.ensures.fault
+    err_weaker c.run_stmts.result (FailsWithin g.T.Structure.ordered (block_run body) k) (FailsFrom g.T.Structure.ordered (block_run body) (listed_context c.args.side))
+    (λ f h. subst (λ z. FailsFrom g.T.Structure.ordered (block_run body) (listed_context z) f) (sym c.in-Some.is) (k, Contains-push [] k, h)) c.run_stmts.ensures.fault
 
 -- ---- one turn
 pub run_turn-loop-context-init : goal.run_turn-loop-context-init
@@ -435,8 +435,8 @@ run_turn-returns-in_err-sides-clause-fault g t c =
     let k = c.in-Some.context in
     let gives = c.into_iter-context-iterator.ensures.into_iter_gives in
     let turn = YieldsList-turn (YieldsList-from_vec {s = c.into_iter-context-iterator.result} c.args.contexts.items gives.0 (gives.1 ∙ c.args.contexts.ok.0)) c.loop-context.yielded c.loop-context.context-iterator c.loop-context.yielded_by c.next.result c.next.new.self k c.in-Some.is c.next.ensures.steps in
-    passed_on c.from_residual.result c.in_err-sides.field-0.0 (IsFaultOf k (CondFails q)) (FailsFrom (turn_run q body) c.args.contexts.items) c.from_residual.ensures.1
-    (λ f h. (k, item_there c.args.contexts.items (length c.loop-context.yielded) k turn.0 turn.1, turn_cond_fails q body k f h)) c.in_err-sides.ensures.fault
+    passed_on c.from_residual.result c.in_err-sides.field-0.0 (IsFaultOf g.T.Structure.ordered k (CondFails q)) (FailsFrom g.T.Structure.ordered (turn_run q body) c.args.contexts.items) c.from_residual.ensures.1
+    (λ f h. (k, item_there c.args.contexts.items (length c.loop-context.yielded) k turn.0 turn.1, turn_cond_fails q body k g.T.Structure.ordered f h)) c.in_err-sides.ensures.fault
 
 pub run_turn-run_side-requires : goal.run_turn-run_side-requires
 run_turn-run_side-requires g t c κs within =
@@ -453,8 +453,8 @@ run_turn-returns-in_err-more-clause-fault g t c =
     let k = c.in-Some.context in
     let gives = c.into_iter-context-iterator.ensures.into_iter_gives in
     let turn = YieldsList-turn (YieldsList-from_vec {s = c.into_iter-context-iterator.result} c.args.contexts.items gives.0 (gives.1 ∙ c.args.contexts.ok.0)) c.loop-context.yielded c.loop-context.context-iterator c.loop-context.yielded_by c.next.result c.next.new.self k c.in-Some.is c.next.ensures.steps in
-    passed_on c.from_residual-in_err-more.result c.in_err-more.field-0.0 (FailsFrom (block_run body) (listed_context c.in_ok-sides.sides.yes)) (FailsFrom (turn_run q body) c.args.contexts.items) c.from_residual-in_err-more.ensures.1
-    (λ f h. (k, item_there c.args.contexts.items (length c.loop-context.yielded) k turn.0 turn.1, turn_body_fails q body k c.in_ok-sides.sides f c.in_ok-sides.ensures.decided h)) c.in_err-more.ensures.fault
+    passed_on c.from_residual-in_err-more.result c.in_err-more.field-0.0 (FailsFrom g.T.Structure.ordered (block_run body) (listed_context c.in_ok-sides.sides.yes)) (FailsFrom g.T.Structure.ordered (turn_run q body) c.args.contexts.items) c.from_residual-in_err-more.ensures.1
+    (λ f h. (k, item_there c.args.contexts.items (length c.loop-context.yielded) k turn.0 turn.1, turn_body_fails q body k g.T.Structure.ordered c.in_ok-sides.sides f c.in_ok-sides.ensures.decided h)) c.in_err-more.ensures.fault
 
 pub run_turn-loop-context-preserved : goal.run_turn-loop-context-preserved
 run_turn-loop-context-preserved g t c =
@@ -506,8 +506,8 @@ pub run_while-returns-in_err-behind-clause-fault : goal.run_while-returns-in_err
 run_while-returns-in_err-behind-clause-fault g t c =
     let q = cond_tree c.args.condition.now in let body = stmts_of (stmts_list c.args.body.now) in let k = c.args.context in
     let i = c.loop-turn._turn in
-    passed_on c.from_residual-in_err-behind.result c.in_err-behind.field-0.0 (FailsFrom (turn_run q body) c.loop-turn.going.items) (FailsWithin (stmt_run (while c.args.pos.offset q c.args.turns body)) k) c.from_residual-in_err-behind.ensures.1
-    (λ f h. turn_fails_at c.args.pos.offset q c.args.turns body k i c.loop-turn-test.true c.loop-turn.done.items c.loop-turn.going.items f c.loop-turn.invariant.turned h) c.in_err-behind.ensures.fault
+    passed_on c.from_residual-in_err-behind.result c.in_err-behind.field-0.0 (FailsFrom g.T.Structure.ordered (turn_run q body) c.loop-turn.going.items) (FailsWithin g.T.Structure.ordered (stmt_run (while c.args.pos.offset q c.args.turns body)) k) c.from_residual-in_err-behind.ensures.1
+    (λ f h. turn_fails_at c.args.pos.offset q c.args.turns body k g.T.Structure.ordered i c.loop-turn-test.true c.loop-turn.done.items c.loop-turn.going.items f c.loop-turn.invariant.turned h) c.in_err-behind.ensures.fault
 
 pub run_while-loop-turn-preserved : goal.run_while-loop-turn-preserved
 run_while-loop-turn-preserved g t c =
@@ -531,8 +531,8 @@ run_while-returns-in_err-last-clause-fault g t c =
     let q = cond_tree c.args.condition.now in let body = stmts_of (stmts_list c.args.body.now) in let k = c.args.context in
     let all : c.loop-turn._turn ≡ c.args.turns = omega arith in
     let turned = subst (λ i. HasTurned c.args.pos.offset q c.args.turns body k i c.loop-turn.done.items c.loop-turn.going.items) all c.loop-turn.invariant.turned in
-    passed_on c.from_residual-in_err-last.result c.in_err-last.field-0.0 (FailsFrom (leave_run c.args.pos.offset q) c.loop-turn.going.items) (FailsWithin (stmt_run (while c.args.pos.offset q c.args.turns body)) k) c.from_residual-in_err-last.ensures.1
-    (λ f h. leave_fails_at c.args.pos.offset q c.args.turns body k c.loop-turn.done.items c.loop-turn.going.items f turned h) c.in_err-last.ensures.fault
+    passed_on c.from_residual-in_err-last.result c.in_err-last.field-0.0 (FailsFrom g.T.Structure.ordered (leave_run c.args.pos.offset q) c.loop-turn.going.items) (FailsWithin g.T.Structure.ordered (stmt_run (while c.args.pos.offset q c.args.turns body)) k) c.from_residual-in_err-last.ensures.1
+    (λ f h. leave_fails_at c.args.pos.offset q c.args.turns body k g.T.Structure.ordered c.loop-turn.done.items c.loop-turn.going.items f turned h) c.in_err-last.ensures.fault
 
 pub run_while-returns-clause-runs : goal.run_while-returns-clause-runs
 run_while-returns-clause-runs g t c =

@@ -21,14 +21,14 @@ sides-requires-clause-placed g c = leave_placed (cond_tree c.args.condition.now)
 pub returns-in_err-sides-clause-fault : goal.returns-in_err-sides-clause-fault
 returns-in_err-sides-clause-fault g c =
     let k = c.args.context in let q = cond_tree c.args.condition.now in let p = c.args.pos.offset in
-    passed_on c.from_residual.result c.in_err-sides.field-0.0 (IsFaultOf k (CondFails q)) (FailsWithin (leave_run p q) k) c.from_residual.ensures.1 (λ f h. leave_cond_fails q no_stmts k p f h) c.in_err-sides.ensures.fault
+    passed_on c.from_residual.result c.in_err-sides.field-0.0 (IsFaultOf g.T.Structure.ordered k (CondFails q)) (FailsWithin g.T.Structure.ordered (leave_run p q) k) c.from_residual.ensures.1 (λ f h. leave_cond_fails q no_stmts k g.T.Structure.ordered p f h) c.in_err-sides.ensures.fault
 
 pub returns-in-Some-clause-fault : goal.returns-in-Some-clause-fault
 returns-in-Some-clause-fault g c =
     let k = c.args.context in let q = cond_tree c.args.condition.now in
     let still = c.in-Some.still in
     let side = subst (λ z. IfSome z (IsTrueSide q true k)) c.in-Some.is c.in_ok-sides.ensures.decided.yes in
-    if_fault c.fault_under.result (IsFaultWith c.args.pos TurnLimit still.sample) (FailsWithin (leave_run c.args.pos.offset q) k) (λ f h. limit_fails q no_stmts k c.args.pos still f side h) c.fault_under.ensures
+    if_fault c.fault_under.result (IsFaultWith c.args.pos TurnLimit still.sample) (FailsWithin g.T.Structure.ordered (leave_run c.args.pos.offset q) k) (λ f h. limit_fails q no_stmts k g.T.Structure.ordered c.args.pos still f (side.operators g.T.Structure.ordered (leave_placed q no_stmts k g.T.Structure.ordered c.requires.placed)) side h) c.fault_under.ensures
 
 pub returns-in_ok-put-in-None-clause-runs : goal.returns-in_ok-put-in-None-clause-runs
 returns-in_ok-put-in-None-clause-runs g c =

@@ -31,7 +31,7 @@ returns-in_err-more-clause-fault g c =
     let R = leave_run c.args.pos.offset (cond_tree c.args.condition.now) in
     let k = c.in-Some.context in
     let turn = YieldsList-turn (YieldsList-from_vec c.args.contexts.items (cc) (cc)) c.loop-context.yielded c.loop-context.context-iterator c.loop-context.yielded_by c.next.result c.next.new.self k c.in-Some.is c.next.ensures.steps in
-    passed_on c.from_residual.result c.in_err-more.field-0.0 (FailsWithin R k) (FailsFrom R c.args.contexts.items) c.from_residual.ensures.1
+    passed_on c.from_residual.result c.in_err-more.field-0.0 (FailsWithin g.T.Structure.ordered R k) (FailsFrom g.T.Structure.ordered R c.args.contexts.items) c.from_residual.ensures.1
     (λ f h. (k, item_there c.args.contexts.items (length c.loop-context.yielded) k turn.0 turn.1, h)) c.in_err-more.ensures.fault
 
 pub returns-clause-runs : goal.returns-clause-runs
