@@ -13,3 +13,4 @@ pub mod Counted
 pub mod Merged
 pub mod Hash
 pub mod Joined
+pub mod Raised

@@ -3,7 +3,9 @@
 ghost use Rattle.std.specs.Prelude.{◌≡◌, ◌+◌, ◌<◌, ◌≤◌, ◌^◌, ◌↔◌, List, [], ◌∷◌, ◌++◌, length, get_or, map, take, drop, IfOk, OnOk, IsTrue, Contains};
 ghost use Rattle.lois_base.specs.Atom.{Atom};
 ghost use Rattle.lois_base.specs.Data.{CompD, comps_of, depth};
+ghost use Rattle.lois_base.specs.Fits.{Fits};
 ghost use Rattle.lois_base.specs.ListDepth.{depth_of_comps};
+ghost use Rattle.lois_base.specs.Shift.{shift};
 ghost use Rattle.lois_base.specs.Tree.{tree, comp_of};
 ghost use Rattle.lois_base.specs.Values.{point, IsDeeper};
 ghost use Rattle.lois_base.specs.declared.limits.TheConstants.{GREATEST_DEPTH};
@@ -15,20 +17,22 @@ ghost use Rattle.lois_context.specs.Entered.{comps_listed};
 ghost use Rattle.lois_context.specs.Hash.{content_hash};
 ghost use Rattle.lois_context.specs.Noted.{IsNotedOf};
 ghost use Rattle.lois_context.specs.Put.{AreParts, IsWithOnce};
+ghost use Rattle.lois_context.specs.Raised.{IsRaised};
 ghost use Rattle.lois_context.specs.ItemCounts.{comps_in};
 
 use crate::hashing::hash_comps;
+use crate::memo::{Memo, Raised};
 use crate::places::searched;
 use crate::{Places, Shared};
 use lois_base::limits::GREATEST_DEPTH;
 use lois_base::{Comp, Comps, NoMemory, Term};
-use lois_terms::{binds_nothing, hash_term, is_within_depth};
+use lois_terms::{binds_nothing, hash_term, is_within_depth, shift_term};
 use std::alloc::Global;
 use std::marker::Model;
 
 /// What is noted of a term, so that nobody goes through it again. Where it is `false`, nothing is known.
 #[derive(Clone, Copy, Drop)]
-struct Noted {
+pub(crate) struct Noted {
     binds_nothing: bool,
     is_shallow: bool,
 }
@@ -42,6 +46,9 @@ pub struct Content {
     base_places: Shared<Places>,
     added: Shared<Comps>,
     added_places: Shared<Places>,
+
+    // what the term was carried to, for the loops that are still to be entered
+    memo: Option<Shared<Memo>>,
 }
 
 impl Model for Content {
@@ -72,9 +79,46 @@ impl Content {
         ensures same { IfOk result (λ r. r ≡ base) }
     {
         let noted = note(base.get());
+        let memo = memo_for(alloc, noted)?;
+        Content::unadded(alloc, base, noted, memo)
+    }
+
+    // The term with what is noted of it, to which nothing was added.
+    #[tactic(auto, using(crate::proofs::Contents::with_none))]
+    fn unadded(
+        alloc: Global,
+        base: Shared<Term>,
+        noted: Noted,
+        memo: Option<Shared<Memo>>,
+    ) -> Result<Self, NoMemory>
+        requires { IsNotedOf noted base }
+        ensures same { IfOk result (λ r. r ≡ base) }
+    {
         let places = Shared::new(alloc, Places::new(alloc))?;
         let none = Shared::new(alloc, Places::new(alloc))?;
-        holding(alloc, base, noted, places, Comps::new(alloc), none)
+        let content = holding(alloc, base, noted, places, Comps::new(alloc), none)?;
+        Ok(content.remembering(memo))
+    }
+
+    fn remembering(self, memo: Option<Shared<Memo>>) -> Self
+        ensures { result ≡ self }
+    {
+        let Content {
+            base,
+            noted,
+            base_places,
+            added,
+            added_places,
+            ..
+        } = self;
+        Content {
+            base,
+            noted,
+            base_places,
+            added,
+            added_places,
+            memo,
+        }
     }
 
     /// The same, which shares all that it has: nothing is copied.
@@ -87,7 +131,22 @@ impl Content {
             base_places: self.base_places.share()?,
             added: self.added.share()?,
             added_places: self.added_places.share()?,
+            memo: shared_memo(&self.memo)?,
         })
+    }
+
+    /// The same term with `by` levels put in after the first `size`. It is made once, as long as that is remembered: so loops beside
+    /// one another, and those inside of them, don't make it again.
+    pub(crate) fn carried(&self, alloc: Global, size: usize, by: usize) -> Result<Self, NoMemory>
+        requires fits { Fits size (tree self.now) }
+        requires levels { size + by < 2 ^ 64 }
+        ensures carried { IfOk result (λ r. tree r ≡ shift size by (tree self.now)) }
+        ensures fits { IfOk result (λ r. Fits (size + by) (tree r)) }
+    {
+        let source = self.whole(alloc)?;
+        let Raised { term, noted } = raised_by(alloc, &self.memo, source, size, by)?;
+        let memo = shared_memo(&self.memo)?;
+        Content::unadded(alloc, term, noted, memo)
     }
 
     /// The same, whose term is copied only where something was added to it: then that stands in the term.
@@ -204,6 +263,7 @@ impl Content {
             base_places,
             added,
             added_places,
+            ..
         } = self;
         let added = appended(added.into_comps(alloc)?, more)?;
         holding(alloc, base, noted, base_places, added, added_places)
@@ -231,6 +291,7 @@ impl Content {
             base_places,
             added,
             added_places,
+            memo,
         } = self;
         let base_places = searched(alloc, base_places, comps_of_set(base.get()))?;
         let added_places = searched(alloc, added_places, added.get().as_slice())?;
@@ -240,6 +301,7 @@ impl Content {
             base_places,
             added,
             added_places,
+            memo,
         })
     }
 
@@ -267,6 +329,7 @@ impl Content {
             base_places,
             added,
             added_places,
+            ..
         } = self;
         let mut more = added.into_comps(alloc)?;
         more.push(comp)?;
@@ -330,7 +393,80 @@ fn holding(
         base_places,
         added: Shared::new(alloc, added)?,
         added_places,
+        memo: None,
     })
+}
+
+// A term without binders is never made anew.
+fn memo_for(alloc: Global, noted: Noted) -> Result<Option<Shared<Memo>>, NoMemory> {
+    if noted.binds_nothing {
+        return Ok(None);
+    }
+    Ok(Some(Shared::new(alloc, Memo::new(alloc))?))
+}
+
+fn shared_memo(memo: &Option<Shared<Memo>>) -> Result<Option<Shared<Memo>>, NoMemory> {
+    match memo {
+        Some(memo) => Ok(Some(memo.share()?)),
+        None => Ok(None),
+    }
+}
+
+// The term with `by` levels put in after the first `size`: as it is remembered, or made and remembered.
+fn raised_by(
+    alloc: Global,
+    memo: &Option<Shared<Memo>>,
+    source: Shared<Term>,
+    size: usize,
+    by: usize,
+) -> Result<Raised, NoMemory>
+    requires fits { Fits size (tree source) }
+    requires levels { size + by < 2 ^ 64 }
+    ensures { IfOk result (IsRaised size by (tree source)) }
+{
+    let Some(memo) = memo else {
+        return made_raised(alloc, &source, size, by);
+    };
+    if let Some(known) = memo.get().known(source.get(), size, by)? {
+        return Ok(known);
+    }
+    let made = made_raised(alloc, &source, size, by)?;
+    memo.get().remember(source, size, by, made.share()?)?;
+    Ok(made)
+}
+
+// Binders inside of the term may come to lie above the greatest usize.
+fn made_raised(
+    alloc: Global,
+    source: &Shared<Term>,
+    size: usize,
+    by: usize,
+) -> Result<Raised, NoMemory>
+    requires fits { Fits size (tree source.now) }
+    requires levels { size + by < 2 ^ 64 }
+    ensures { IfOk result (IsRaised size by (tree source.now)) }
+{
+    let term = Shared::new(alloc, carried_term(alloc, source.get(), size, by)?)?;
+    let noted = note(term.get());
+    Ok(Raised { term, noted })
+}
+
+/// The term with `by` levels put in after the first `size`. Binders inside of it may come to lie above the greatest usize.
+pub(crate) fn carried_term(
+    alloc: Global,
+    term: &Term,
+    size: usize,
+    by: usize,
+) -> Result<Term, NoMemory>
+    requires fits { Fits size (tree term.now) }
+    requires levels { size + by < 2 ^ 64 }
+    ensures carried { IfOk result (λ r. tree r ≡ shift size by (tree term.now)) }
+    ensures fits { IfOk result (λ r. Fits (size + by) (tree r)) }
+{
+    if !term.fits(size + by) {
+        return Err(NoMemory);
+    }
+    shift_term(alloc, term, size, by)
 }
 
 fn parted_whole(alloc: Global, set: Term, first: usize) -> Result<(Content, Comps), NoMemory>

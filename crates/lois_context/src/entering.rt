@@ -13,11 +13,11 @@ ghost use Rattle.lois_context.specs.Kept.{IsSlot, AreSlots, LinesFit, HasDistinc
 ghost use Rattle.lois_context.specs.Slots.{IsNew};
 ghost use Rattle.lois_context.specs.SlotView.{slot_of};
 
+use crate::content::carried_term;
 use crate::{Content, Context, Shared, Slot, Store};
 use lois_answers::{Line, Lines};
 use lois_base::{Comp, Comps, Decider, Name, NoMemory, Term};
 use lois_deciders::Chosen;
-use lois_terms::shift_term;
 use std::alloc::Global;
 
 /// Enters a loop over a set: one context for each comprehension that has members where the context admits, in which `name`
@@ -233,8 +233,7 @@ fn carried_content(
     if stays(&settled, size, by) {
         return Ok(settled);
     }
-    let term = settled.whole(alloc)?;
-    Content::new(alloc, carried_term(alloc, term.get(), size, by)?)
+    settled.carried(alloc, size, by)
 }
 
 // Whether no level is put in, or the term has none that would move.
@@ -280,17 +279,4 @@ fn shifted_lines(alloc: Global, lines: &Lines, size: usize, by: usize) -> Result
         })?;
     }
     Ok(moved)
-}
-
-// Binders inside of the term may come to lie above the greatest usize.
-fn carried_term(alloc: Global, term: &Term, size: usize, by: usize) -> Result<Term, NoMemory>
-    requires fits { Fits size (tree term.now) }
-    requires levels { size + by < 2 ^ 64 }
-    ensures carried { IfOk result (λ r. tree r ≡ shift size by (tree term.now)) }
-    ensures fits { IfOk result (λ r. Fits (size + by) (tree r)) }
-{
-    if !term.fits(size + by) {
-        return Err(NoMemory);
-    }
-    shift_term(alloc, term, size, by)
 }

@@ -7,6 +7,7 @@ mod contexts;
 mod entering;
 mod hashing;
 mod joining;
+mod memo;
 mod merging;
 mod places;
 mod shared;

@@ -1,6 +1,7 @@
 //! Answers that a person can read: normal terms whose comprehensions are split where each part needs fewer binders.
 #![tactic(auto)]
 
+mod alike;
 mod joining;
 mod lines;
 mod losing;

@@ -12,6 +12,7 @@ ghost use Rattle.lois_simplify.specs.Irredundant.{HasNormalGuards};
 ghost use Rattle.lois_simplify.specs.Plain.{HasPlainGuards};
 ghost use Rattle.lois_simplify.specs.Simplification.{IsSameWhere, IsSimplification};
 
+use crate::alike::has_alike;
 use crate::joining::join;
 use crate::splitting::split;
 use crate::strengthening::strengthen;
@@ -93,6 +94,9 @@ fn read_joined<T: Structure>(
     ensures readable { IfOk result (λ r. IsReadable under.now size (tree term) (tree r)) }
     ensures only_asked { HasOnlyAsked (λ b. (⟦<dyn Decider as Decider>⟧ b.vtable).kind_of b.value) (λ b. (⟦<dyn Decider as Decider>⟧ b.vtable).questions b.value) chosen.old chosen.new }
 {
+    if !has_alike(alloc, &term)? {
+        return Ok(term);
+    }
     let joined = join(alloc, &term)?;
     if joined.is_equal(&term) {
         return Ok(term);

@@ -7,8 +7,8 @@ use Rattle.lois_context.specs.Noted.{IsNotedOf}
 use Rattle.lois_context.proofs.Contents.{with_none, with_twice}
 use Rattle.lois_context.proofs.content.Content.with_comp.Goals as goal
 
-pub returns-in_ok-none-in-Ok : goal.returns-in_ok-none-in-Ok
-returns-in_ok-none-in-Ok c =
+pub returns-in-Ok : goal.returns-in-Ok
+returns-in-Ok c =
     let k = comp_of c.args.comp in
     let base = c.self.inside.base in let added = c.self.inside.added in
     let more = c.push.new.self in
