@@ -28,9 +28,12 @@ returns-in_default-t c =
       truth = tt;
       levels = tt;
       operators = tt;
-      fault = if_fault c.fault_under.result (IsFaultWith c.args.t_pos NotAtoms k.sample) (IsBelowFault k (tree c.args.s.now) c.args.s_pos.offset (tree c.args.t.now) c.args.t_pos.offset) (λ f h. inr ((c.in-Var.left, ap tree c.in-Var.is), record {
-        fault = fault_at k c.args.t_pos NotAtoms k.sample (own_sample k) f h;
-        kind = h.kind;
-        no_atom = no_var c.args.t.now c.in_default-t.not-Var;
-      })) c.fault_under.ensures;
+      fault = if_fault c.fault_under.result (IsFaultWith c.args.t_pos NotAtoms k.sample) (IsBelowFault k (tree c.args.s.now) c.args.s_pos.offset (tree c.args.t.now) c.args.t_pos.offset) (λ f h. inr (
+        (c.in-Var.left, ap tree c.in-Var.is),
+        record {
+          fault = fault_at k c.args.t_pos NotAtoms k.sample (own_sample k) f h;
+          kind = h.kind;
+          no_atom = no_var c.args.t.now c.in_default-t.not-Var;
+        },
+      )) c.fault_under.ensures;
     }
