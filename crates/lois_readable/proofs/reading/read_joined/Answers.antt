@@ -4,6 +4,10 @@ use Rattle.lois_readable.proofs.Joined.{kept_where}
 use Rattle.lois_readable.proofs.Readable.{readable_from}
 use Rattle.lois_readable.proofs.reading.read_joined.Goals as goal
 
+pub returns-then-not-branch-clause-readable : goal.returns-then-not-branch-clause-readable
+returns-then-not-branch-clause-readable g c =
+    record { kept = kept_refl c.args.under.now c.args.size (tree c.args.term); normal = c.requires.normal; guards = c.requires.guards; plain = c.requires.plain }
+
 pub returns-then-is_equal-clause-readable : goal.returns-then-is_equal-clause-readable
 returns-then-is_equal-clause-readable g c =
     record { kept = kept_refl c.args.under.now c.args.size (tree c.args.term); normal = c.requires.normal; guards = c.requires.guards; plain = c.requires.plain }
