@@ -44,7 +44,7 @@ returns-in_err-ends-clause-fault g c =
     let body = stmts_list c.script-script.result.now.body in
     let r = c.from_residual-in_err-ends.result in
     subst (λ x. IfErr r (λ z. IfFault z (IsFailureOf (script_tree x)))) same
-    (passed_on r c.in_err-ends.field-0.0 (IsSplitFrom (FailsBehind g.T.Structure.ordered body o)) (IsFailureOf s) c.from_residual-in_err-ends.ensures.1 (λ g h. failure_of text s spelled scoped o c.in_ok-opening.ensures body refl h.0 g h.2 (subst (λ x. FailsBehind x body o h.0) (sym (subst (λ x. (script_tree x).ordered ≡ g.T.Structure.ordered) (sym same) c.requires.structure)) h.1)) c.in_err-ends.ensures.fault)
+    (passed_on r c.in_err-ends.field-0.0 (IsSplitFrom (FailsBehind g.T.Structure.ordered body o)) (IsFailureOf s) c.from_residual-in_err-ends.ensures.1 (λ f h. failure_of text s spelled scoped o c.in_ok-opening.ensures body refl h.0 f h.2 (subst (λ x. FailsBehind x body o h.0) (sym (subst (λ x. (script_tree x).ordered ≡ g.T.Structure.ordered) (sym same) c.requires.structure)) h.1)) c.in_err-ends.ensures.fault)
 
 pub retold-requires : goal.retold-requires
 retold-requires g c =
