@@ -10,7 +10,7 @@ use Rattle.lois_base.specs.Values.{PointValue, point}
 use Rattle.lois_base.specs.declared.guards.Lit.{Lit}
 use Rattle.lois_deciders.proofs.Oracle.{on_ok}
 use Rattle.lois_meaning.specs.Automata.{Automaton, IsAutomatonOf, IsComplete}
-use Rattle.lois_meaning.specs.Expressions.{IsValidOperand, IsResultOf}
+use Rattle.lois_meaning.specs.Expressions.{IsValidOperand, IsResultOf, Gives}
 use Rattle.lois_meaning.specs.Faults.{IsNoAutomaton, IsInvalidOperand}
 use Rattle.lois_meaning.specs.declared.faults.Fault.{Fault}
 use Rattle.lois_answers.specs.declared.faults.FaultKind.{FaultKind}
@@ -30,12 +30,15 @@ use Rattle.lois_meaning.proofs.Alike.{parts_one}
 use Rattle.lois_base.specs.Fits.{Fits}
 use Rattle.lois_base.specs.Validity.{AdmitsTerm}
 use Rattle.lois_context.specs.Choices.{IsAdmitted, AdmitsContext}
+use Rattle.lois_context.specs.Slots.{store_at}
 use Rattle.lois_context.specs.declared.contexts.Context.{Context}
-use Rattle.lois_eval.specs.Automata.{IsOfOneAutomaton, IsOfAutomata, IsOperationResult, IsValueFault, IsProductFault, IsFailureOfVerdict}
+use Rattle.lois_eval.specs.Automata.{GivesAutomata, IsOfOneAutomaton, IsOfAutomata, IsOperationResult, IsValueFault, IsProductFault, IsFailureOfVerdict}
 use Rattle.lois_eval.specs.Operands.{IsAppliedThroughout, IsUnfitFault}
+use Rattle.lois_eval.specs.Throughout.{IsValueThroughout, AreValuesThroughout}
 use Rattle.lois_eval.specs.WellFormed.{arity}
 use Rattle.lois_base.proofs.Moves.{alike_sym}
 use Rattle.lois_eval.proofs.AlikeMachines.{automaton_alike, deterministic_alike, complete_alike}
+use Rattle.lois_eval.proofs.Conditions.{two_given}
 use Rattle.lois_eval.proofs.FaultsAt.{admitted_alike, fault_at}
 
 -- an automaton has one list of five sets
@@ -52,6 +55,24 @@ one_machine v a b is own =
     (subst (λ z. a ≡ record { states = b.states; letters = b.letters; steps = z; initial = a.initial; final = a.final }) e3
     (subst (λ z. a ≡ record { states = b.states; letters = z; steps = a.steps; initial = a.initial; final = a.final }) e2
     (subst (λ z. a ≡ record { states = z; letters = a.letters; steps = a.steps; initial = a.initial; final = a.final }) e1 refl))))
+
+-- ---- the values of operands
+
+-- of an expression that gives nothing else each value is an automaton
+pub given_throughout : (k : Context) (e : ExprD) (t : TermD) → GivesAutomata e → IsValueThroughout k e t → HoldsThroughout k.size k.«when» (IsAutomatonAt t)
+given_throughout k e t gives given c n h = gives (store_at c k.store) (point t c) (given c (n, h))
+
+-- the values of one operand, and of two
+pub one_given : (k : Context) (e : ExprD) (t : TermD) → AreValuesThroughout k (exprs_of (e ∷ [])) (t ∷ []) → IsValueThroughout k e t
+one_given k e t given c a =
+    let (v, more, is, own, others) = given c a in
+    let first : v ≡ point t c = cc in
+    subst (Gives e (store_at c k.store)) first own
+
+pub both_given : (k : Context) (e f : ExprD) (s t : TermD) → AreValuesThroughout k (exprs_of (e ∷ f ∷ [])) (s ∷ t ∷ []) → IsValueThroughout k e s × IsValueThroughout k f t
+both_given k e f s t given =
+    let both = λ (c : List Atom) (a : IsAdmitted c k). two_given e f (store_at c k.store) (point s c) (point t c) (given c a) in
+    (λ c a. (both c a).0, λ c a. (both c a).1)
 
 -- ---- what the checks say
 
@@ -138,24 +159,24 @@ of_one_automaton Minus h other = absurd h
 of_one_automaton Flatten h other = absurd h
 
 module _ (o : Bool) (k : Context) (op : Operation) (es : List ExprD) (ts : List TermD) (x : Fault) where
-  pub one_unfit : (e : ExprD) (t : TermD) (at : ℕ) → es ≡ e ∷ [] → ts ≡ t ∷ [] → at ≡ pos e → IsValueFault o k (IsInvalidOperand op) t at x → IsUnfitFault o k op (exprs_of es) (terms_of ts) x
-  one_unfit e t at operands values place h = subst (λ z. IsUnfitFault o k op (exprs_of es) (terms_of z) x) (sym values) (subst (λ z. IsUnfitFault o k op (exprs_of z) (terms_of (t ∷ [])) x) (sym operands) (record {
+  pub one_unfit : (e : ExprD) (t : TermD) → es ≡ e ∷ [] → ts ≡ t ∷ [] → IsValueFault o k (IsInvalidOperand op) t (pos e) x → IsUnfitFault o k op (exprs_of es) (terms_of ts) x
+  one_unfit e t operands values h = subst (λ z. IsUnfitFault o k op (exprs_of es) (terms_of z) x) (sym values) (subst (λ z. IsUnfitFault o k op (exprs_of z) (terms_of (t ∷ [])) x) (sym operands) (record {
     admitted = h.fault.admitted;
-    unfit = λ c stand. inl (h.fault.place ∙ place, h.unfit c stand);
+    unfit = λ c stand. inl (h.fault.place, h.unfit c stand);
     elements = h.fault.elements;
   }))
 
-pub product_unfit : (o : Bool) (k : Context) (es : List ExprD) (ts : List TermD) (x : Fault) (e f : ExprD) (s t : TermD) (at other : ℕ) → es ≡ e ∷ f ∷ [] → ts ≡ s ∷ t ∷ [] → at ≡ pos e → other ≡ pos f → AdmitsContext o k → IsProductFault o k s at t other x → IsUnfitFault o k Product (exprs_of es) (terms_of ts) x
-product_unfit o k es ts x e f s t at other operands values place second admits h = subst (λ z. IsUnfitFault o k Product (exprs_of es) (terms_of z) x) (sym values) (subst (λ z. IsUnfitFault o k Product (exprs_of z) (terms_of (s ∷ t ∷ [])) x) (sym operands) (of h))
+pub product_unfit : (o : Bool) (k : Context) (es : List ExprD) (ts : List TermD) (x : Fault) (e f : ExprD) (s t : TermD) → es ≡ e ∷ f ∷ [] → ts ≡ s ∷ t ∷ [] → AdmitsContext o k → IsProductFault o k s (pos e) t (pos f) x → IsUnfitFault o k Product (exprs_of es) (terms_of ts) x
+product_unfit o k es ts x e f s t operands values admits h = subst (λ z. IsUnfitFault o k Product (exprs_of es) (terms_of z) x) (sym values) (subst (λ z. IsUnfitFault o k Product (exprs_of z) (terms_of (s ∷ t ∷ [])) x) (sym operands) (of h))
   where
-    of : IsProductFault o k s at t other x → IsUnfitFault o k Product (exprs_of (e ∷ f ∷ [])) (terms_of (s ∷ t ∷ [])) x
+    of : IsProductFault o k s (pos e) t (pos f) x → IsUnfitFault o k Product (exprs_of (e ∷ f ∷ [])) (terms_of (s ∷ t ∷ [])) x
     of (inl h) = record {
       admitted = h.fault.admitted;
-      unfit = λ c stand. inl (h.fault.place ∙ place, h.unfit c stand);
+      unfit = λ c stand. inl (h.fault.place, h.unfit c stand);
       elements = h.fault.elements;
     }
     of (inr (left, h)) = record {
       admitted = h.fault.admitted;
-      unfit = λ c stand. inr (left c (admitted_alike o k x.sample.items c admits stand h.fault.admitted), inl (h.fault.place ∙ second, h.unfit c stand));
+      unfit = λ c stand. inr (left c (admitted_alike o k x.sample.items c admits stand h.fault.admitted), inl (h.fault.place, h.unfit c stand));
       elements = h.fault.elements;
     }

@@ -8,9 +8,11 @@ use Rattle.lois_base.specs.Validity.{AdmitsConstraint, AdmitsTerm, AdmitsParts, 
 use Rattle.lois_base.specs.Values.{PointValue, point}
 use Rattle.lois_base.specs.declared.guards.Lit.{Lit}
 use Rattle.lois_meaning.specs.Automata.{Automaton, IsAutomatonOf, IsAutomaton, Accepts}
-use Rattle.lois_meaning.specs.Expressions.{IsTruthOf}
+use Rattle.lois_meaning.specs.Expressions.{IsResultOf, IsTruthOf, Gives}
 use Rattle.lois_meaning.specs.Faults.{IsNoAutomaton}
+use Rattle.lois_meaning.specs.Store.{NamedValues}
 use Rattle.lois_script.specs.Tree.{ExprD}
+use Rattle.lois_script.specs.View.{exprs_of}
 use Rattle.lois_script.specs.declared.syntax.Operation.{Operation}
 use Rattle.lois_script.specs.declared.syntax.Operation.TheVariants.{Reach, Product, Complement, Minimise}
 use Rattle.lois_answers.specs.declared.faults.FaultKind.{FaultKind}
@@ -20,7 +22,7 @@ use Rattle.lois_context.specs.declared.contexts.Context.{Context}
 use Rattle.lois_automata.specs.declared.verdicts.Verdict.{Verdict}
 use Rattle.lois_automata.specs.declared.verdicts.Verdict.TheVariants.{Holds, Fails}
 use Rattle.lois_script.specs.declared.syntax.Pos.{Pos}
-use Rattle.lois_eval.specs.Throughout.{StandFor}
+use Rattle.lois_eval.specs.Throughout.{AreValuesThroughout, StandFor}
 use Rattle.lois_eval.specs.Checks.{IsFaultAt, IsFaultWith}
 use Rattle.lois_eval.specs.Operands.{IsAppliedThroughout}
 use Rattle.lois_eval.specs.WellFormed.{arity}
@@ -36,11 +38,20 @@ abbrev pub IsOfAutomata : Operation → Type 0
 IsOfAutomata Product = Unit {0}
 IsOfAutomata op = IsOfOneAutomaton op
 
--- as many operands and values as the operation takes; the values fit the context
+-- whatever the operation makes is an automaton
+abbrev pub MakesAutomaton : Operation → Type 0
+MakesAutomaton op = (v : PointValue) (us : List PointValue) → IsResultOf v op us → IsAutomaton v
+
+-- each value that the expression gives is an automaton
+abbrev pub GivesAutomata : ExprD → Type 0
+GivesAutomata e = (s : NamedValues) (v : PointValue) → Gives e s v → IsAutomaton v
+
+-- as many operands as the operation takes, and their values, which fit the context
 pub record AreOperands (o : Bool) (k : Context) (op : Operation) (es : List ExprD) (ts : List TermD) : Type 0 where
   pub operation : IsOfAutomata op
   pub operands : length es ≡ arity op
   pub count : length ts ≡ arity op
+  pub given : AreValuesThroughout k (exprs_of es) ts
   pub levels : PartsFit k.size (terms_of ts)
   pub operators : AdmitsParts o (terms_of ts)
   pub context_operators : AdmitsContext o k

@@ -7,13 +7,12 @@ use Rattle.lois_base.specs.Truth.{holds}
 use Rattle.lois_base.specs.Validity.{AdmitsConstraint, AdmitsTerm, AdmitsParts, HasBoundedWidths, PartsHaveBoundedWidths}
 use Rattle.lois_base.specs.Values.{PointValue, point, IsMember}
 use Rattle.lois_base.specs.declared.guards.Lit.{Lit}
-use Rattle.lois_meaning.specs.Expressions.{GiveAll}
-use Rattle.lois_meaning.specs.Kinds.{part_values}
 use Rattle.lois_meaning.specs.Store.{NamedValues}
 use Rattle.lois_script.specs.Tree.{ExprsD}
 use Rattle.lois_context.specs.Choices.{IsAdmitted, ContextHasBoundedWidths}
 use Rattle.lois_context.specs.Slots.{store_at}
 use Rattle.lois_context.specs.declared.contexts.Context.{Context}
+use Rattle.lois_eval.specs.Throughout.{AreValuesThroughout}
 use Rattle.lois_eval.specs.WellFormed.{IsWellFormedIn, count_of}
 
 -- The term has, at each choice that the context admits, a value that P holds of at the store there. It fits the context, and
@@ -27,7 +26,7 @@ pub record IsTermOf (k : Context) (P : NamedValues → PointValue → Type 0) (s
 -- the same of terms for a list of expressions
 pub record AreTermsOf (k : Context) (es : ExprsD) (stands : Bool → List (List ℕ) → Type 0) (ts : List TermD) : Type 0 where
   pub count : length ts ≡ count_of es
-  pub values : (c : List Atom) → IsAdmitted c k → GiveAll es (store_at c k.store) (part_values (terms_of ts) c)
+  pub values : AreValuesThroughout k es ts
   pub levels : PartsFit k.size (terms_of ts)
   pub operators : (o : Bool) → IsWellFormedIn stands o k → AdmitsParts o (terms_of ts)
   pub widths : ContextHasBoundedWidths k → PartsHaveBoundedWidths (terms_of ts)

@@ -15,11 +15,12 @@ use Rattle.lois_base.specs.declared.guards.Constraint.{Constraint}
 use Rattle.lois_base.specs.declared.values.Term.{Term}
 use Rattle.lois_meaning.specs.Faults.{IsNoAutomaton}
 use Rattle.lois_meaning.specs.declared.faults.Stop.{Stop}
-use Rattle.lois_script.specs.View.{exprs_of}
+use Rattle.lois_script.specs.Tree.{pos}
+use Rattle.lois_script.specs.View.{tree as expr_tree, exprs_of}
 use Rattle.lois_script.specs.Lists.{exprs_list}
+use Rattle.lois_script.specs.declared.syntax.Expr.{Expr}
 use Rattle.lois_script.specs.declared.syntax.Exprs.{Exprs}
 use Rattle.lois_script.specs.declared.syntax.Operation.{Operation}
-use Rattle.lois_script.specs.declared.syntax.Pos.{Pos}
 use Rattle.lois_terms.specs.Collections.{IsColl}
 use Rattle.lois_context.specs.Choices.{IsAdmitted, IsAdmittedBy, AdmitsContext}
 use Rattle.lois_context.specs.Entered.{AreEntered}
@@ -28,10 +29,10 @@ use Rattle.lois_context.specs.Slots.{IsNew}
 use Rattle.lois_context.specs.declared.contexts.Context.{Context}
 use Rattle.lois_eval.specs.Automata.{AreOperands, IsEmptiness, IsOperationResult, IsValueFault}
 use Rattle.lois_eval.specs.Operands.{IsUnfitFault}
-use Rattle.lois_eval.specs.Throughout.{IfFault}
+use Rattle.lois_eval.specs.Throughout.{IfFault, IsValueThroughout}
 
 -- what a call of f is given and leaves: with a context, a set and a name; with a context and a condition; with an operation, its
--- operands and their values; with a place and an automaton
+-- operands and their values; with an operand and its value
 abbrev pub LoopCalls : Type 0 → Type 0 → Type 1
 LoopCalls F D =
     (f : F) (before : MutBor D) → Global → Bor Context → Bor Term → Bor (List ℕ) → Result (Vec Context) NoMemory → (after : MutBor D) → Type 0
@@ -46,7 +47,7 @@ ApplyCalls F D =
 
 abbrev pub EmptyCalls : Type 0 → Type 0 → Type 1
 EmptyCalls F D =
-    (f : F) (before : MutBor D) → Global → Pos → Bor Term → Bor Context → Result Constraint Stop → (after : MutBor D) → Type 0
+    (f : F) (before : MutBor D) → Global → Bor Expr → Bor Term → Bor Context → Result Constraint Stop → (after : MutBor D) → Type 0
 
 -- it may be called for a set of the context's levels and a new name, and answers with the contexts for its members
 pub record EntersLoops {F D : Type 0} (pre : F → MutBor D → Global → Bor Context → Bor Term → Bor (List ℕ) → Type 0) (post : LoopCalls F D) : Type 0 where
@@ -67,10 +68,10 @@ pub record AppliesToAutomata {F D : Type 0} (o : Bool) (pre : F → MutBor D →
   pub fault : (f : F) (d e : MutBor D) (m : Global) (op : Operation) (es : Bor Exprs) (ts : Bor (List TermD)) (k : Bor Context) (r : Result Term Stop) → AreOperands o k.now op (exprs_list es.now) ts.now → post f d m op es ts k r e → IfErr r (λ s. IfFault s (IsUnfitFault o k.now op (exprs_of (exprs_list es.now)) (terms_of ts.now)))
 
 -- it may be called for a value of the context's levels, and answers where that accepts no word
-pub record FindsEmptiness {F D : Type 0} (o : Bool) (pre : F → MutBor D → Global → Pos → Bor Term → Bor Context → Type 0) (post : EmptyCalls F D) : Type 0 where
-  pub callable : (f : F) (d : MutBor D) (m : Global) (p : Pos) (t : Bor Term) (k : Bor Context) → Fits k.now.size (tree t.now) → AdmitsTerm o (tree t.now) → AdmitsContext o k.now → pre f d m p t k
-  pub emptiness : (f : F) (d e : MutBor D) (m : Global) (p : Pos) (t : Bor Term) (k : Bor Context) (r : Result Constraint Stop) → Fits k.now.size (tree t.now) → AdmitsTerm o (tree t.now) → AdmitsContext o k.now → post f d m p t k r e → IfOk r (IsEmptiness k.now (tree t.now))
-  pub fault : (f : F) (d e : MutBor D) (m : Global) (p : Pos) (t : Bor Term) (k : Bor Context) (r : Result Constraint Stop) → Fits k.now.size (tree t.now) → AdmitsTerm o (tree t.now) → AdmitsContext o k.now → post f d m p t k r e → IfErr r (λ s. IfFault s (IsValueFault o k.now IsNoAutomaton (tree t.now) p.offset))
+pub record FindsEmptiness {F D : Type 0} (o : Bool) (pre : F → MutBor D → Global → Bor Expr → Bor Term → Bor Context → Type 0) (post : EmptyCalls F D) : Type 0 where
+  pub callable : (f : F) (d : MutBor D) (m : Global) (e : Bor Expr) (t : Bor Term) (k : Bor Context) → IsValueThroughout k.now (expr_tree e.now) (tree t.now) → Fits k.now.size (tree t.now) → AdmitsTerm o (tree t.now) → AdmitsContext o k.now → pre f d m e t k
+  pub emptiness : (f : F) (d d' : MutBor D) (m : Global) (e : Bor Expr) (t : Bor Term) (k : Bor Context) (r : Result Constraint Stop) → IsValueThroughout k.now (expr_tree e.now) (tree t.now) → Fits k.now.size (tree t.now) → AdmitsTerm o (tree t.now) → AdmitsContext o k.now → post f d m e t k r d' → IfOk r (IsEmptiness k.now (tree t.now))
+  pub fault : (f : F) (d d' : MutBor D) (m : Global) (e : Bor Expr) (t : Bor Term) (k : Bor Context) (r : Result Constraint Stop) → IsValueThroughout k.now (expr_tree e.now) (tree t.now) → Fits k.now.size (tree t.now) → AdmitsTerm o (tree t.now) → AdmitsContext o k.now → post f d m e t k r d' → IfErr r (λ s. IfFault s (IsValueFault o k.now IsNoAutomaton (tree t.now) (pos (expr_tree e.now))))
 
 -- entering a loop may leave q of p
 pub record LeadsByLoop {F D : Type 0} (post : LoopCalls F D) (p q : D) : Type 0 where
@@ -120,10 +121,10 @@ pub record LeadsByEmptiness {F D : Type 0} (post : EmptyCalls F D) (p q : D) : T
   pub before : MutBor D
   pub after : MutBor D
   pub memory : Global
-  pub place : Pos
+  pub operand : Bor Expr
   pub automaton : Bor Term
   pub context : Bor Context
   pub answer : Result Constraint Stop
-  pub call : post asked before memory place automaton context answer after
+  pub call : post asked before memory operand automaton context answer after
   pub from : before.now ≡ p
   pub to : after.now ≡ q

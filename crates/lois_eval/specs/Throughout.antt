@@ -1,14 +1,15 @@
 -- What holds at each choice of atoms that a context admits, and what fails at some.
 use Rattle.std.specs.Prelude.{◌≡◌, ℕ, Bool, List, []}
 use Rattle.lois_base.specs.Atom.{Atom}
-use Rattle.lois_base.specs.Data.{TermD}
+use Rattle.lois_base.specs.Data.{TermD, terms_of}
 use Rattle.lois_base.specs.Patterns.{AreAlike}
 use Rattle.lois_base.specs.Truth.{holds, sampled}
 use Rattle.lois_base.specs.Values.{point}
 use Rattle.lois_base.specs.declared.guards.Lit.{Lit}
-use Rattle.lois_meaning.specs.Expressions.{Gives, HasTruth}
+use Rattle.lois_meaning.specs.Expressions.{Gives, GiveAll, HasTruth}
+use Rattle.lois_meaning.specs.Kinds.{part_values}
 use Rattle.lois_meaning.specs.Store.{NamedValues}
-use Rattle.lois_script.specs.Tree.{ExprD, CondD}
+use Rattle.lois_script.specs.Tree.{ExprD, ExprsD, CondD}
 use Rattle.lois_meaning.specs.declared.faults.Fault.{Fault}
 use Rattle.lois_answers.specs.declared.faults.FaultKind.{FaultKind}
 use Rattle.lois_meaning.specs.declared.faults.Stop.{Stop}
@@ -20,6 +21,10 @@ use Rattle.lois_context.specs.declared.contexts.Context.{Context}
 -- at each choice that the context admits, the expression gives the value of the term
 abbrev pub IsValueThroughout : Context → ExprD → TermD → Type 0
 IsValueThroughout k e t = (c : List Atom) → IsAdmitted c k → Gives e (store_at c k.store) (point t c)
+
+-- the same of the expressions and the terms, one by one
+abbrev pub AreValuesThroughout : Context → ExprsD → List TermD → Type 0
+AreValuesThroughout k es ts = (c : List Atom) → IsAdmitted c k → GiveAll es (store_at c k.store) (part_values (terms_of ts) c)
 
 -- at each choice that the context admits, the condition has the truth that the constraint has there
 abbrev pub IsTruthThroughout : Context → CondD → List (List Lit) → Type 0

@@ -12,7 +12,7 @@ ghost use Rattle.lois_deciders.specs.Conjunction.{AreInconsistent};
 ghost use Rattle.lois_deciders.specs.OnlyAsked.{HasOnlyAsked};
 ghost use Rattle.lois_meaning.specs.Expressions.{Gives, Makes, HasTruth};
 ghost use Rattle.lois_meaning.specs.Faults.{Fails, Breaks, SomeFails, CondFails, IsNoAutomaton};
-ghost use Rattle.lois_script.specs.Tree.{each};
+ghost use Rattle.lois_script.specs.Tree.{each, pos};
 ghost use Rattle.lois_script.specs.View.{tree, cond_tree, binding_tree, exprs_of, bindings_of, conds_of};
 ghost use Rattle.lois_script.specs.Lists.{exprs_list, conds_list};
 ghost use Rattle.lois_terms.specs.Collections.{IsColl};
@@ -43,7 +43,7 @@ use lois_constraint::negate;
 use lois_context::{Context, Shared, enter_loop, side};
 use lois_deciders::Chosen;
 use lois_meaning::Stop;
-use lois_script::{Binding, Cond, Conds, Expr, Exprs, Operation, Pos};
+use lois_script::{Binding, Cond, Conds, Expr, Exprs, Operation};
 use std::alloc::Global;
 
 /// The value of an expression at all choices that a context admits. Ok comes exactly where it fails at none of them.
@@ -94,14 +94,15 @@ pub fn eval<T: Structure>(
             ensures fault { IfErr result (λ s. IfFault s (IsUnfitFault T.ordered context.now operation (exprs_of (exprs_list operands.now)) (terms_of values.now))) }
             ensures only_asked { HasOnlyAsked (λ b. kind_of (b.vtable, b.value)) (λ b. questions (b.vtable, b.value)) asked.old asked.new }
         { applied_to_automata::<T>(alloc, operation, operands, values, context, asked) },
-        empty: |asked: &mut Chosen, alloc: Global, pos: Pos, automaton: &Term, context: &Context|
+        empty: |asked: &mut Chosen, alloc: Global, operand: &Expr, automaton: &Term, context: &Context|
+            requires given { IsValueThroughout context.now (tree operand.now) (term_tree automaton.now) }
             requires levels { Fits context.now.size (term_tree automaton.now) }
             requires operators { AdmitsTerm T.ordered (term_tree automaton.now) }
             requires context_operators { AdmitsContext T.ordered context.now }
             ensures emptiness { IfOk result (IsEmptiness context.now (term_tree automaton.now)) }
-            ensures fault { IfErr result (λ s. IfFault s (IsValueFault T.ordered context.now IsNoAutomaton (term_tree automaton.now) pos.offset)) }
+            ensures fault { IfErr result (λ s. IfFault s (IsValueFault T.ordered context.now IsNoAutomaton (term_tree automaton.now) (pos (tree operand.now)))) }
             ensures only_asked { HasOnlyAsked (λ b. kind_of (b.vtable, b.value)) (λ b. questions (b.vtable, b.value)) asked.old asked.new }
-        { where_empty::<T>(alloc, pos, automaton, context, asked) },
+        { where_empty::<T>(alloc, operand, automaton, context, asked) },
     };
     evaluated::<T, _>(alloc, e, context, &mut asking)
 }
@@ -153,14 +154,15 @@ pub fn decide<T: Structure>(
             ensures fault { IfErr result (λ s. IfFault s (IsUnfitFault T.ordered context.now operation (exprs_of (exprs_list operands.now)) (terms_of values.now))) }
             ensures only_asked { HasOnlyAsked (λ b. kind_of (b.vtable, b.value)) (λ b. questions (b.vtable, b.value)) asked.old asked.new }
         { applied_to_automata::<T>(alloc, operation, operands, values, context, asked) },
-        empty: |asked: &mut Chosen, alloc: Global, pos: Pos, automaton: &Term, context: &Context|
+        empty: |asked: &mut Chosen, alloc: Global, operand: &Expr, automaton: &Term, context: &Context|
+            requires given { IsValueThroughout context.now (tree operand.now) (term_tree automaton.now) }
             requires levels { Fits context.now.size (term_tree automaton.now) }
             requires operators { AdmitsTerm T.ordered (term_tree automaton.now) }
             requires context_operators { AdmitsContext T.ordered context.now }
             ensures emptiness { IfOk result (IsEmptiness context.now (term_tree automaton.now)) }
-            ensures fault { IfErr result (λ s. IfFault s (IsValueFault T.ordered context.now IsNoAutomaton (term_tree automaton.now) pos.offset)) }
+            ensures fault { IfErr result (λ s. IfFault s (IsValueFault T.ordered context.now IsNoAutomaton (term_tree automaton.now) (pos (tree operand.now)))) }
             ensures only_asked { HasOnlyAsked (λ b. kind_of (b.vtable, b.value)) (λ b. questions (b.vtable, b.value)) asked.old asked.new }
-        { where_empty::<T>(alloc, pos, automaton, context, asked) },
+        { where_empty::<T>(alloc, operand, automaton, context, asked) },
     };
     decided::<T, _>(alloc, c, context, &mut asking)
 }
@@ -443,16 +445,13 @@ fn decided<T: Structure, D: Oracle<T>>(
             let values = both_evaluated::<T, D>(alloc, e, f, context, decider)?;
             compared::<T>(alloc, c, &values, context)
         }
-        Cond::Empty(e) => {
-            let pos = e.pos();
-            wordless::<T, D>(
-                alloc,
-                pos,
-                evaluated::<T, D>(alloc, e, context, decider)?,
-                context,
-                decider,
-            )
-        }
+        Cond::Empty(e) => wordless::<T, D>(
+            alloc,
+            e,
+            evaluated::<T, D>(alloc, e, context, decider)?,
+            context,
+            decider,
+        ),
         Cond::Not(negated) => {
             let held = decided::<T, D>(alloc, negated, context, decider)?;
             Ok(negate(alloc, &held)?)

@@ -8,6 +8,7 @@ ghost use Rattle.lois_algebra.specs.Sets.{HasAllAtoms};
 ghost use Rattle.lois_terms.specs.Collections.{IsColl};
 ghost use Rattle.lois_meaning.specs.Expressions.{Gives, Makes, HasTruth};
 ghost use Rattle.lois_meaning.specs.Faults.{Breaks, Fails, CondFails, IsNoAutomaton};
+ghost use Rattle.lois_script.specs.Tree.{pos};
 ghost use Rattle.lois_script.specs.View.{tree, cond_tree};
 ghost use Rattle.lois_context.specs.Choices.{AdmitsContext};
 ghost use Rattle.lois_eval.specs.Automata.{IsEmptiness, IsValueFault};
@@ -15,7 +16,7 @@ ghost use Rattle.lois_eval.specs.Evaluated.{IsTermOf, AreTermsOf, IsConstraintOf
 ghost use Rattle.lois_eval.specs.Forms.{parts_of, sides_of, IsName, IsSimple, IsComposed, IsComparisonCond};
 ghost use Rattle.lois_eval.specs.Sides.{sides_listed};
 ghost use Rattle.lois_eval.specs.WellFormed.{IsWellFormedIn, IsWellFormed, CondIsWellFormed};
-ghost use Rattle.lois_eval.specs.Throughout.{IsFaultOf, IfFault};
+ghost use Rattle.lois_eval.specs.Throughout.{IsFaultOf, IfFault, IsValueThroughout};
 
 use crate::checks::{check_depth, check_set};
 use crate::making::{look_up, set_of, share_named};
@@ -26,7 +27,7 @@ use lois_algebra::all_atoms;
 use lois_base::{Constraint, NoMemory, Structure, Term, Terms};
 use lois_context::{Context, Shared};
 use lois_meaning::Stop;
-use lois_script::{Cond, Expr, Pos};
+use lois_script::{Cond, Expr};
 use std::alloc::Global;
 
 // The greatest usize can't be a binder's level.
@@ -184,21 +185,22 @@ fn compared_with<T: Structure>(
     }
 }
 
-/// Where an automaton with this value accepts no word. Errors: a fault at the place where the value is no automaton.
+/// Where the automaton that is the operand's value accepts no word. Errors: a fault at the operand where that is none.
 pub(crate) fn wordless<T: Structure, D: Oracle<T>>(
     alloc: Global,
-    pos: Pos,
+    operand: &Expr,
     automaton: Term,
     context: &Context,
     decider: &mut D,
 ) -> Result<Constraint, Stop>
     requires sound { D.sound }
+    requires given { IsValueThroughout context.now (tree operand.now) (term_tree automaton) }
     requires levels { Fits context.now.size (term_tree automaton) }
     requires operators { AdmitsTerm T.ordered (term_tree automaton) }
     requires context_operators { AdmitsContext T.ordered context.now }
     ensures emptiness { IfOk result (IsEmptiness context.now (term_tree automaton)) }
-    ensures fault { IfErr result (λ s. IfFault s (IsValueFault T.ordered context.now IsNoAutomaton (term_tree automaton) pos.offset)) }
+    ensures fault { IfErr result (λ s. IfFault s (IsValueFault T.ordered context.now IsNoAutomaton (term_tree automaton) (pos (tree operand.now)))) }
     ensures asked { D.reaches decider.old decider.new }
 {
-    decider.empty(alloc, pos, &automaton, context)
+    decider.empty(alloc, operand, &automaton, context)
 }

@@ -13,7 +13,7 @@ ghost use Rattle.lois_context.specs.Choices.{AdmitsContext};
 ghost use Rattle.lois_eval.specs.Checks.{IsSetFault};
 ghost use Rattle.lois_eval.specs.Operands.{IsOfTwoSets, IsAppliedThroughout, IsUnfitFault, IsMemberFault};
 ghost use Rattle.lois_eval.specs.WellFormed.{arity};
-ghost use Rattle.lois_eval.specs.Throughout.{IfFault};
+ghost use Rattle.lois_eval.specs.Throughout.{AreValuesThroughout, IfFault};
 
 use crate::checks::check_set;
 use crate::flattening::sets_in;
@@ -38,6 +38,7 @@ pub(crate) fn applied<T: Structure, D: Oracle<T>>(
     requires sound { D.sound }
     requires operands { length (exprs_list operands.now) ≡ arity operation }
     requires count { length values.now ≡ arity operation }
+    requires given { AreValuesThroughout context.now (exprs_of (exprs_list operands.now)) values.now }
     requires levels { PartsFit context.now.size (terms_of values.now) }
     requires operators { AdmitsParts T.ordered (terms_of values.now) }
     requires context_operators { AdmitsContext T.ordered context.now }

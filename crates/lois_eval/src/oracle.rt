@@ -11,7 +11,8 @@ ghost use Rattle.lois_base.specs.Validity.{AdmitsConstraint, AdmitsTerm};
 ghost use Rattle.lois_deciders.specs.Conjunction.{AreInconsistent};
 ghost use Rattle.lois_deciders.specs.OnlyAsked.{HasOnlyAsked};
 ghost use Rattle.lois_meaning.specs.Faults.{IsNoAutomaton};
-ghost use Rattle.lois_script.specs.View.{exprs_of};
+ghost use Rattle.lois_script.specs.Tree.{pos};
+ghost use Rattle.lois_script.specs.View.{tree as expr_tree, exprs_of};
 ghost use Rattle.lois_script.specs.Lists.{exprs_list};
 ghost use Rattle.lois_terms.specs.Collections.{IsColl};
 ghost use Rattle.lois_context.specs.Choices.{IsAdmitted, IsAdmittedBy, AdmitsContext};
@@ -21,13 +22,13 @@ ghost use Rattle.lois_context.specs.Slots.{IsNew};
 ghost use Rattle.lois_eval.specs.Automata.{AreOperands, IsEmptiness, IsOperationResult, IsValueFault};
 ghost use Rattle.lois_eval.specs.Checks.{MeetsBoth};
 ghost use Rattle.lois_eval.specs.Operands.{IsUnfitFault};
-ghost use Rattle.lois_eval.specs.Throughout.{IfFault};
+ghost use Rattle.lois_eval.specs.Throughout.{IfFault, IsValueThroughout};
 
 use lois_base::{Constraint, Decider, Name, NoMemory, Structure, Term, Terms};
 use lois_context::Context;
 use lois_deciders::Chosen;
 use lois_meaning::Stop;
-use lois_script::{Exprs, Operation, Pos};
+use lois_script::{Expr, Exprs, Operation};
 use std::alloc::Global;
 
 pub(crate) trait Oracle<T: Structure> {
@@ -96,20 +97,21 @@ pub(crate) trait Oracle<T: Structure> {
         ensures fault { IfErr result (λ s. IfFault s (IsUnfitFault T.ordered context.now operation (exprs_of (exprs_list operands.now)) (terms_of values.now))) }
         ensures asked { reaches self.old self.new };
 
-    /// Where an automaton accepts no word.
+    /// Where the automaton that is the operand's value accepts no word.
     fn empty(
         &mut self,
         alloc: Global,
-        pos: Pos,
+        operand: &Expr,
         automaton: &Term,
         context: &Context,
     ) -> Result<Constraint, Stop>
         requires sound { sound }
+        requires given { IsValueThroughout context.now (expr_tree operand.now) (tree automaton.now) }
         requires levels { Fits context.now.size (tree automaton.now) }
         requires operators { AdmitsTerm T.ordered (tree automaton.now) }
         requires context_operators { AdmitsContext T.ordered context.now }
         ensures emptiness { IfOk result (IsEmptiness context.now (tree automaton.now)) }
-        ensures fault { IfErr result (λ s. IfFault s (IsValueFault T.ordered context.now IsNoAutomaton (tree automaton.now) pos.offset)) }
+        ensures fault { IfErr result (λ s. IfFault s (IsValueFault T.ordered context.now IsNoAutomaton (tree automaton.now) (pos (expr_tree operand.now)))) }
         ensures asked { reaches self.old self.new };
 
     ghost reaches_itself: { (a : Self) → reaches a a };
@@ -136,7 +138,7 @@ impl<
     E: Fn(&mut D, Global, &Context, &Term, &Name) -> Result<Vec<Context>, NoMemory>,
     K: Fn(&mut D, Global, &Context, &Constraint) -> Result<Option<Context>, NoMemory>,
     A: Fn(&mut D, Global, Operation, &Exprs, &Terms, &Context) -> Result<Term, Stop>,
-    W: Fn(&mut D, Global, Pos, &Term, &Context) -> Result<Constraint, Stop>,
+    W: Fn(&mut D, Global, &Expr, &Term, &Context) -> Result<Constraint, Stop>,
 > Oracle<T> for Queries<'a, D, S, E, K, A, W> {
     ghost use Rattle.std.specs.Prelude.{◌≡◌, ◌⊎◌};
     ghost use Rattle.lois_deciders.specs.Oracle.{AnswersPairs, LeadsByTwo};
@@ -196,11 +198,11 @@ impl<
     fn empty(
         &mut self,
         alloc: Global,
-        pos: Pos,
+        operand: &Expr,
         automaton: &Term,
         context: &Context,
     ) -> Result<Constraint, Stop> {
-        (self.empty)(self.decider, alloc, pos, automaton, context)
+        (self.empty)(self.decider, alloc, operand, automaton, context)
     }
 }
 

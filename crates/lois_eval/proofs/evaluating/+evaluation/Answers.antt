@@ -182,6 +182,7 @@ decided-wordless-requires g t c =
     let placed = subst (λ z. IsWellFormedIn (CondIsWellFormed z) o c.args.context.now) is c.requires.placed in
     record {
       sound = c.requires.sound;
+      given = own.value;
       levels = own.levels;
       operators = own.operators o (record { names = placed.names; operators = placed.operators });
       context_operators = placed.operators;
@@ -203,8 +204,8 @@ decided-returns-in_ok-evaluated-in-Empty-clause-fault g t c =
     let e = c.in-Empty.e in
     let u = term_tree c.in_ok-evaluated-in-Empty.field-0 in
     let is = ap cond_tree c.in-Empty.is ∙ cond_Empty e in
-    let P = IsValueFault g.T.Structure.ordered k IsNoAutomaton u c.pos-pos.result.offset in
-    IfErr-weaker c.wordless.result (λ s. IfFault s P) _ (λ s h. if_fault s P (IsFaultOf g.T.Structure.ordered k (CondFails (cond_tree c.args.c.now))) (λ f bad. cond_fails_as g.T.Structure.ordered k (cond_tree c.args.c.now) (empty (tree e)) f is (empty_fails k u (tree e) c.in_ok-evaluated-in-Empty.ensures.term g.T.Structure.ordered f c.requires.placed.operators (subst (λ z. IsValueFault g.T.Structure.ordered k IsNoAutomaton u z f) c.pos-pos.ensures.first_token bad))) h) c.wordless.ensures.fault
+    let P = IsValueFault g.T.Structure.ordered k IsNoAutomaton u (pos (tree e)) in
+    IfErr-weaker c.wordless.result (λ s. IfFault s P) _ (λ s h. if_fault s P (IsFaultOf g.T.Structure.ordered k (CondFails (cond_tree c.args.c.now))) (λ f bad. cond_fails_as g.T.Structure.ordered k (cond_tree c.args.c.now) (empty (tree e)) f is (empty_fails k u (tree e) c.in_ok-evaluated-in-Empty.ensures.term g.T.Structure.ordered f c.requires.placed.operators bad)) h) c.wordless.ensures.fault
 
 pub decided-returns-in_ok-unit-in-True-clause-constraint :
     goal.decided-returns-in_ok-unit-in-True-clause-constraint

@@ -55,6 +55,7 @@ applied-requires g c =
       sound = c.requires.sound;
       operands = sym (count_of-more es) ∙ placed.names.0;
       count = values.count ∙ placed.names.0;
+      given = values.values;
       levels = values.levels;
       operators = values.operators o placed;
       context_operators = placed.operators;

@@ -8,6 +8,8 @@ use Rattle.lois_automata.specs.Throughout.{HoldsThroughout}
 use Rattle.lois_automata.specs.Verdicts.{IsVerdictOn}
 use Rattle.lois_answers.specs.declared.faults.FaultKind.TheVariants.{NotDeterministic, NotComplete}
 use Rattle.lois_meaning.specs.Faults.{IsNoAutomaton, IsInvalidOperand}
+use Rattle.lois_script.specs.Tree.{pos}
+use Rattle.lois_script.specs.View.{tree as expr_tree}
 use Rattle.lois_script.specs.declared.syntax.Operation.TheVariants.{Minimise}
 use Rattle.lois_eval.specs.Automata.{IsFailureOfVerdict, IsValueFault}
 use Rattle.lois_eval.specs.Throughout.{IfFault}
@@ -20,7 +22,7 @@ pub returns-in_err-check_machine-clause-fault : goal.returns-in_err-check_machin
 returns-in_err-check_machine-clause-fault g c =
     let k = c.args.context.now in
     let t = tree c.args.value.now in
-    let at = c.args.pos.offset in
+    let at = pos (expr_tree c.args.operand.now) in
     passed_on c.from_residual.result c.in_err-check_machine.field-0.0 (IsValueFault g.T.Structure.ordered k IsNoAutomaton t at) (IsValueFault g.T.Structure.ordered k (IsInvalidOperand Minimise) t at) c.from_residual.ensures.1
     (λ f h. value_fault_weaker k t g.T.Structure.ordered IsNoAutomaton (IsInvalidOperand Minimise) at f (λ v kind no. inl no) h) c.in_err-check_machine.ensures.fault
 
@@ -29,8 +31,10 @@ returns-in_err-passed-clause-fault g c =
     let k = c.args.context.now in
     let t = tree c.args.value.now in
     let v = c.in_ok-single.single in
-    passed_on c.from_residual-in_err-passed.result c.in_err-passed.field-0.0 (IsFailureOfVerdict v c.args.pos NotDeterministic) (IsValueFault g.T.Structure.ordered k (IsInvalidOperand Minimise) t c.args.pos.offset) c.from_residual-in_err-passed.ensures.1
-    (not_deterministic g.T.Structure.ordered k t c.requires.levels c.requires.operators c.requires.context_operators c.in_ok-check_machine.ensures.automaton c.args.pos v c.in_ok-single.ensures.verdict) c.in_err-passed.ensures.fault
+    let at = c.pos.result in
+    let Q = IsValueFault g.T.Structure.ordered k (IsInvalidOperand Minimise) t in
+    passed_on c.from_residual-in_err-passed.result c.in_err-passed.field-0.0 (IsFailureOfVerdict v at NotDeterministic) (Q (pos (expr_tree c.args.operand.now))) c.from_residual-in_err-passed.ensures.1
+    (λ f broken. subst (λ z. Q z f) c.pos.ensures.first_token (not_deterministic g.T.Structure.ordered k t c.requires.levels c.requires.operators c.requires.context_operators c.in_ok-check_machine.ensures.automaton at v c.in_ok-single.ensures.verdict f broken)) c.in_err-passed.ensures.fault
 
 pub returns-clause-whole : goal.returns-clause-whole
 returns-clause-whole g c =
@@ -45,6 +49,9 @@ returns-clause-fault g c =
     let k = c.args.context.now in
     let t = tree c.args.value.now in
     let v = c.in_ok-total.total in
-    let P = IsFailureOfVerdict v c.args.pos NotComplete in
+    let at = c.pos-2.result in
+    let P = IsFailureOfVerdict v at NotComplete in
+    let Q = IsValueFault g.T.Structure.ordered k (IsInvalidOperand Minimise) t in
     let single = subst (IsVerdictOn k.size k.«when» (IsDeterministicAt t)) c.in_ok-passed.ensures.holds c.in_ok-single.ensures.verdict in
-    IfErr-weaker c.passed-2.result (λ s. IfFault s P) _ (λ s h. if_fault s P (IsValueFault g.T.Structure.ordered k (IsInvalidOperand Minimise) t c.args.pos.offset) (not_complete g.T.Structure.ordered k t c.requires.levels c.requires.operators c.requires.context_operators single c.args.pos v c.in_ok-total.ensures.verdict) h) c.passed-2.ensures.fault
+    IfErr-weaker c.passed-2.result (λ s. IfFault s P) _
+    (λ s h. if_fault s P (Q (pos (expr_tree c.args.operand.now))) (λ f broken. subst (λ z. Q z f) c.pos-2.ensures.first_token (not_complete g.T.Structure.ordered k t c.requires.levels c.requires.operators c.requires.context_operators single at v c.in_ok-total.ensures.verdict f broken)) h) c.passed-2.ensures.fault

@@ -5,14 +5,15 @@ use Rattle.lois_base.specs.Fits.{PartsFit}
 use Rattle.lois_base.specs.Tree.{tree as term_tree}
 use Rattle.lois_base.specs.Validity.{AdmitsParts}
 use Rattle.lois_meaning.specs.Faults.{IsInvalidOperand}
+use Rattle.lois_script.specs.Tree.{pos}
 use Rattle.lois_script.specs.View.{tree, exprs_of}
 use Rattle.lois_script.specs.Lists.{exprs_list}
 use Rattle.lois_script.specs.declared.syntax.Operation.TheVariants.{Product}
 use Rattle.lois_eval.specs.Automata.{IsOperationResult, IsValueFault, IsProductFault}
 use Rattle.lois_eval.specs.Operands.{IsUnfitFault}
 use Rattle.lois_eval.specs.WellFormed.{arity}
-use Rattle.lois_eval.specs.Throughout.{IfFault}
-use Rattle.lois_eval.proofs.Automata.{made_of, of_one_automaton, one_unfit, product_unfit}
+use Rattle.lois_eval.specs.Throughout.{AreValuesThroughout, IfFault}
+use Rattle.lois_eval.proofs.Automata.{both_given, made_of, of_one_automaton, one_given, one_unfit, product_unfit}
 use Rattle.lois_eval.proofs.FaultsAt.{if_fault}
 use Rattle.lois_eval.proofs.machines.applied_to_automata.Goals as goal
 
@@ -27,7 +28,14 @@ product_of-requires g c =
     let k = c.args.context.now in
     let fits = subst (λ z. PartsFit k.size (terms_of z)) c.two_terms.ensures c.requires.operands.levels in
     let admits = subst (λ z. AdmitsParts g.T.Structure.ordered (terms_of z)) c.two_terms.ensures c.requires.operands.operators in
+    let e = tree c.two_exprs.result.0.now in
+    let f = tree c.two_exprs.result.1.now in
+    let s = term_tree c.two_terms.result.0.now in
+    let t = term_tree c.two_terms.result.1.now in
+    let given = both_given k e f s t (subst (λ z. AreValuesThroughout k (exprs_of z) (s ∷ t ∷ [])) c.two_exprs.ensures (subst (λ z. AreValuesThroughout k (exprs_of (exprs_list c.args.operands.now)) z) c.two_terms.ensures c.requires.operands.given)) in
     record {
+      given = given.0;
+      other_given = given.1;
       levels = fits.0;
       operators = admits.0;
       other_levels = fits.1.0;
@@ -48,11 +56,11 @@ returns-in-Product-clause-fault g c =
     let f = c.two_exprs.result.1.now in
     let s = term_tree c.two_terms.result.0.now in
     let t = term_tree c.two_terms.result.1.now in
-    let P = IsProductFault g.T.Structure.ordered k s c.pos.result.offset t c.pos-in-Product.result.offset in
+    let P = IsProductFault g.T.Structure.ordered k s (pos (tree e)) t (pos (tree f)) in
     let Q = IsUnfitFault g.T.Structure.ordered k c.args.operation (exprs_of (exprs_list c.args.operands.now)) (terms_of c.args.values.now) in
     IfErr-weaker c.product_of.result (λ z. IfFault z P) _
     (λ z h. if_fault z P Q (λ x unfit. subst (λ op. IsUnfitFault g.T.Structure.ordered k op (exprs_of (exprs_list c.args.operands.now)) (terms_of c.args.values.now) x) (sym c.in-Product.is)
-    (product_unfit g.T.Structure.ordered k (exprs_list c.args.operands.now) c.args.values.now x (tree e) (tree f) s t c.pos.result.offset c.pos-in-Product.result.offset c.two_exprs.ensures c.two_terms.ensures c.pos.ensures.first_token c.pos-in-Product.ensures.first_token c.requires.operands.context_operators unfit)) h) c.product_of.ensures.fault
+    (product_unfit g.T.Structure.ordered k (exprs_list c.args.operands.now) c.args.values.now x (tree e) (tree f) s t c.two_exprs.ensures c.two_terms.ensures c.requires.operands.context_operators unfit)) h) c.product_of.ensures.fault
 
 pub one_expr-requires : goal.one_expr-requires
 one_expr-requires g c =
@@ -65,7 +73,10 @@ one_term-requires g c =
 pub of_one-requires : goal.of_one-requires
 of_one-requires g c =
     let k = c.args.context.now in
+    let e = tree c.one_expr.result.now in
+    let t = term_tree c.one_term.result.now in
     record {
+      given = one_given k e t (subst (λ z. AreValuesThroughout k (exprs_of z) (t ∷ [])) c.one_expr.ensures (subst (λ z. AreValuesThroughout k (exprs_of (exprs_list c.args.operands.now)) z) c.one_term.ensures c.requires.operands.given));
       operation = (of_one_automaton c.args.operation c.requires.operands.operation c.in_default.not-Product).0;
       levels = (subst (λ z. PartsFit k.size (terms_of z)) c.one_term.ensures c.requires.operands.levels).0;
       operators = (subst (λ z. AdmitsParts g.T.Structure.ordered (terms_of z)) c.one_term.ensures c.requires.operands.operators).0;
@@ -84,7 +95,7 @@ returns-in_default-clause-fault g c =
     let k = c.args.context.now in
     let op = c.args.operation in
     let t = term_tree c.one_term.result.now in
-    let P = IsValueFault g.T.Structure.ordered k (IsInvalidOperand op) t c.pos-pos.result.offset in
+    let P = IsValueFault g.T.Structure.ordered k (IsInvalidOperand op) t (pos (tree c.one_expr.result.now)) in
     let Q = IsUnfitFault g.T.Structure.ordered k op (exprs_of (exprs_list c.args.operands.now)) (terms_of c.args.values.now) in
     IfErr-weaker c.of_one.result (λ z. IfFault z P) _
-    (λ z h. if_fault z P Q (λ x unfit. one_unfit g.T.Structure.ordered k op (exprs_list c.args.operands.now) c.args.values.now x (tree c.one_expr.result.now) t c.pos-pos.result.offset c.one_expr.ensures c.one_term.ensures c.pos-pos.ensures.first_token unfit) h) c.of_one.ensures.fault
+    (λ z h. if_fault z P Q (λ x unfit. one_unfit g.T.Structure.ordered k op (exprs_list c.args.operands.now) c.args.values.now x (tree c.one_expr.result.now) t c.one_expr.ensures c.one_term.ensures unfit) h) c.of_one.ensures.fault

@@ -2,6 +2,8 @@ use Rattle.std.proofs.Common.{[], ◌∷◌, sym, subst}
 use Rattle.std.specs.Prelude.{IfOk, IfErr}
 use Rattle.lois_base.specs.Tree.{tree}
 use Rattle.lois_meaning.specs.Faults.{IsInvalidOperand}
+use Rattle.lois_script.specs.Tree.{pos}
+use Rattle.lois_script.specs.View.{tree as expr_tree}
 use Rattle.lois_eval.specs.Automata.{IsOperationResult, IsValueFault}
 use Rattle.lois_eval.specs.Throughout.{IfFault}
 use Rattle.lois_eval.proofs.machines.of_one.Goals as goal
@@ -16,7 +18,7 @@ pub returns-in-Reach-clause-fault : goal.returns-in-Reach-clause-fault
 returns-in-Reach-clause-fault g c =
     let k = c.args.context.now in
     let t = tree c.args.automaton.now in
-    subst (λ op. IfErr c.reach_of.result (λ s. IfFault s (IsValueFault g.T.Structure.ordered k (IsInvalidOperand op) t c.args.pos.offset))) (sym c.in-Reach.is) c.reach_of.ensures.fault
+    subst (λ op. IfErr c.reach_of.result (λ s. IfFault s (IsValueFault g.T.Structure.ordered k (IsInvalidOperand op) t (pos (expr_tree c.args.operand.now))))) (sym c.in-Reach.is) c.reach_of.ensures.fault
 
 pub returns-in-Complement-clause-made : goal.returns-in-Complement-clause-made
 returns-in-Complement-clause-made g c =
@@ -28,7 +30,7 @@ pub returns-in-Complement-clause-fault : goal.returns-in-Complement-clause-fault
 returns-in-Complement-clause-fault g c =
     let k = c.args.context.now in
     let t = tree c.args.automaton.now in
-    subst (λ op. IfErr c.complement_of.result (λ s. IfFault s (IsValueFault g.T.Structure.ordered k (IsInvalidOperand op) t c.args.pos.offset))) (sym c.in-Complement.is) c.complement_of.ensures.fault
+    subst (λ op. IfErr c.complement_of.result (λ s. IfFault s (IsValueFault g.T.Structure.ordered k (IsInvalidOperand op) t (pos (expr_tree c.args.operand.now))))) (sym c.in-Complement.is) c.complement_of.ensures.fault
 
 pub returns-in-Minimise-clause-made : goal.returns-in-Minimise-clause-made
 returns-in-Minimise-clause-made g c =
@@ -40,4 +42,4 @@ pub returns-in-Minimise-clause-fault : goal.returns-in-Minimise-clause-fault
 returns-in-Minimise-clause-fault g c =
     let k = c.args.context.now in
     let t = tree c.args.automaton.now in
-    subst (λ op. IfErr c.minimal_of.result (λ s. IfFault s (IsValueFault g.T.Structure.ordered k (IsInvalidOperand op) t c.args.pos.offset))) (sym c.in-Minimise.is) c.minimal_of.ensures.fault
+    subst (λ op. IfErr c.minimal_of.result (λ s. IfFault s (IsValueFault g.T.Structure.ordered k (IsInvalidOperand op) t (pos (expr_tree c.args.operand.now))))) (sym c.in-Minimise.is) c.minimal_of.ensures.fault

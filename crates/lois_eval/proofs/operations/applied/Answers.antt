@@ -101,6 +101,7 @@ apply-requires-clause-operands g c = record {
   operation = of_automata c.args.operation c.in_default.not-Union c.in_default.not-Inter c.in_default.not-Minus c.in_default.not-Flatten;
   operands = c.requires.operands;
   count = c.requires.count;
+  given = c.requires.given;
   levels = c.requires.levels;
   operators = c.requires.operators;
   context_operators = c.requires.context_operators;
