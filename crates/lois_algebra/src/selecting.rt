@@ -3,7 +3,8 @@
 ghost use Rattle.std.specs.Prelude.{◌≡◌, ℕ, ◌+◌, ◌≤◌, Bool, true, false, map, IfOk};
 ghost use Rattle.lois_base.specs.Data.{coll, comps_of, depth};
 ghost use Rattle.lois_base.specs.ListDepth.{depth_of_comps};
-ghost use Rattle.lois_base.specs.Fits.{ConstraintFits, Fits, CompFits, ItemsFit};
+ghost use Rattle.lois_base.specs.Fits.{ConstraintFits, Fits, ItemsFit};
+ghost use Rattle.lois_base.specs.Over.{IsOver, CompIsOver, ItemsAreOver};
 ghost use Rattle.lois_base.specs.Tree.{tree, comp_of};
 ghost use Rattle.lois_base.specs.Validity.{AdmitsConstraint, AdmitsTerm, AdmitsComp, AdmitsItems, HasBoundedWidths, ItemsHaveBoundedWidths};
 ghost use Rattle.lois_terms.specs.Collections.{IsColl};
@@ -21,12 +22,10 @@ use std::alloc::Global;
 
 /// The set that has the members that both sets have. Errors: `NoMemory`, also where a level would pass the greatest usize.
 pub fn inter<T: Structure>(alloc: Global, s: &Term, t: &Term, size: usize) -> Result<Term, NoMemory>
-    requires left { Fits size (tree s.now) }
+    requires left { IsOver T.ordered size (tree s.now) }
     requires left_set { IsColl (tree s.now) }
-    requires left_operators { AdmitsTerm T.ordered (tree s.now) }
-    requires right { Fits size (tree t.now) }
+    requires right { IsOver T.ordered size (tree t.now) }
     requires right_set { IsColl (tree t.now) }
-    requires right_operators { AdmitsTerm T.ordered (tree t.now) }
     ensures members { IfOk result (λ r. IsIntersection size (tree s.now) (tree t.now) (tree r)) }
     ensures set { IfOk result (λ r. IsColl (tree r)) }
     ensures levels { IfOk result (λ r. Fits size (tree r)) }
@@ -44,12 +43,10 @@ pub fn inter<T: Structure>(alloc: Global, s: &Term, t: &Term, size: usize) -> Re
 
 /// The set that has the members of `s` that aren't in `t`. Errors: `NoMemory`, also where a level would pass the greatest usize.
 pub fn minus<T: Structure>(alloc: Global, s: &Term, t: &Term, size: usize) -> Result<Term, NoMemory>
-    requires left { Fits size (tree s.now) }
+    requires left { IsOver T.ordered size (tree s.now) }
     requires left_set { IsColl (tree s.now) }
-    requires left_operators { AdmitsTerm T.ordered (tree s.now) }
-    requires right { Fits size (tree t.now) }
+    requires right { IsOver T.ordered size (tree t.now) }
     requires right_set { IsColl (tree t.now) }
-    requires right_operators { AdmitsTerm T.ordered (tree t.now) }
     ensures members { IfOk result (λ r. IsDifference size (tree s.now) (tree t.now) (tree r)) }
     ensures set { IfOk result (λ r. IsColl (tree r)) }
     ensures levels { IfOk result (λ r. Fits size (tree r)) }
@@ -73,10 +70,8 @@ fn selected<T: Structure>(
     size: usize,
     wanted: bool,
 ) -> Result<Comps, NoMemory>
-    requires left { ItemsFit size (comps_of comps.now) }
-    requires left_operators { AdmitsItems T.ordered (comps_of comps.now) }
-    requires right { ItemsFit size (comps_of others.now) }
-    requires right_operators { AdmitsItems T.ordered (comps_of others.now) }
+    requires left { ItemsAreOver T.ordered size (comps_of comps.now) }
+    requires right { ItemsAreOver T.ordered size (comps_of others.now) }
     ensures members { IfOk result (λ r. IsSelection size wanted (coll (comps_of comps.now)) (coll (comps_of others.now)) (coll (comps_of r))) }
     ensures levels { IfOk result (λ r. ItemsFit size (comps_of r)) }
     ensures operators { IfOk result (λ r. (ordered : Bool) → AdmitsItems ordered (comps_of comps.now) → AdmitsItems ordered (comps_of others.now) → AdmitsItems ordered (comps_of r)) }
@@ -109,10 +104,8 @@ pub fn selected_guard<T: Structure>(
     size: usize,
     wanted: bool,
 ) -> Result<Constraint, NoMemory>
-    requires left { CompFits size (comp_of comp.now) }
-    requires left_operators { AdmitsComp T.ordered (comp_of comp.now) }
-    requires right { ItemsFit size (comps_of others.now) }
-    requires right_operators { AdmitsItems T.ordered (comps_of others.now) }
+    requires left { CompIsOver T.ordered size (comp_of comp.now) }
+    requires right { ItemsAreOver T.ordered size (comps_of others.now) }
     ensures truth { IfOk result (IsSelectedGuard size comp.now.binders wanted comp.now.guard (tree comp.now.item) (coll (comps_of others.now))) }
     ensures levels { IfOk result (ConstraintFits (size + comp.now.binders)) }
     ensures operators { IfOk result (λ r. (ordered : Bool) → AdmitsComp ordered (comp_of comp.now) → AdmitsItems ordered (comps_of others.now) → AdmitsConstraint ordered r) }
@@ -130,10 +123,8 @@ fn guard_by_index<T: Structure>(
     size: usize,
     wanted: bool,
 ) -> Result<Constraint, NoMemory>
-    requires left { CompFits size (comp_of comp.now) }
-    requires left_operators { AdmitsComp T.ordered (comp_of comp.now) }
-    requires right { ItemsFit size (comps_of others.now) }
-    requires right_operators { AdmitsItems T.ordered (comps_of others.now) }
+    requires left { CompIsOver T.ordered size (comp_of comp.now) }
+    requires right { ItemsAreOver T.ordered size (comps_of others.now) }
     requires shapes { index.now ≡ map item_shape others.now }
     ensures truth { IfOk result (IsSelectedGuard size comp.now.binders wanted comp.now.guard (tree comp.now.item) (coll (comps_of others.now))) }
     ensures levels { IfOk result (ConstraintFits (size + comp.now.binders)) }

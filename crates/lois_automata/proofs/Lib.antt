@@ -16,6 +16,7 @@ pub mod Machines
 pub mod Shaping
 pub mod Joined
 pub mod FiveMachine
+pub mod FiveTerms
 pub mod KeyShapes
 pub mod Tests
 pub mod Clashes

@@ -8,4 +8,5 @@ pub mod RoundsLaw
 pub mod Adding
 pub mod Built
 pub mod Projections
+pub mod FiveSets
 pub mod KeyShapes

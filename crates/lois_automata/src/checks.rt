@@ -2,10 +2,10 @@
 
 ghost use Rattle.std.specs.Prelude.{◌≡◌, ℕ, ◌+◌, Bool, List, IfOk, IsTrue};
 ghost use Rattle.lois_base.specs.Atom.{Atom};
-ghost use Rattle.lois_base.specs.Fits.{ConstraintFits, Fits};
+ghost use Rattle.lois_base.specs.Fits.{ConstraintFits};
+ghost use Rattle.lois_base.specs.Over.{IsOver};
 ghost use Rattle.lois_base.specs.Tree.{tree};
 ghost use Rattle.lois_base.specs.Truth.{holds};
-ghost use Rattle.lois_base.specs.Validity.{AdmitsTerm};
 ghost use Rattle.lois_deciders.specs.OnlyAsked.{HasOnlyAsked};
 ghost use Rattle.lois_automata.specs.Machines.{IsAutomatonAt, IsCompleteAt};
 ghost use Rattle.lois_automata.specs.Deterministic.{IsDeterministicAt};
@@ -32,8 +32,7 @@ pub fn check_automaton<T: Structure>(
     size: usize,
     chosen: &mut Chosen,
 ) -> Result<Verdict, NoMemory>
-    requires levels { Fits size (tree a.now) }
-    requires operators { AdmitsTerm T.ordered (tree a.now) }
+    requires over { IsOver T.ordered size (tree a.now) }
     requires under { ConstraintFits size under.now }
     ensures verdict { IfOk result (IsVerdictOn size under.now (IsAutomatonAt (tree a.now))) }
 
@@ -80,8 +79,7 @@ pub fn check_deterministic<T: Structure>(
     size: usize,
     chosen: &mut Chosen,
 ) -> Result<Verdict, NoMemory>
-    requires levels { Fits size (tree a.now) }
-    requires operators { AdmitsTerm T.ordered (tree a.now) }
+    requires over { IsOver T.ordered size (tree a.now) }
     requires under { ConstraintFits size under.now }
     requires automaton { HoldsThroughout size under.now (IsAutomatonAt (tree a.now)) }
     ensures verdict { IfOk result (IsVerdictOn size under.now (IsDeterministicAt (tree a.now))) }
@@ -106,8 +104,7 @@ pub fn check_complete<T: Structure>(
     size: usize,
     chosen: &mut Chosen,
 ) -> Result<Verdict, NoMemory>
-    requires levels { Fits size (tree a.now) }
-    requires operators { AdmitsTerm T.ordered (tree a.now) }
+    requires over { IsOver T.ordered size (tree a.now) }
     requires under { ConstraintFits size under.now }
     requires automaton { HoldsThroughout size under.now (IsAutomatonAt (tree a.now)) }
     ensures verdict { IfOk result (IsVerdictOn size under.now (IsCompleteAt (tree a.now))) }

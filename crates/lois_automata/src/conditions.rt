@@ -3,9 +3,10 @@
 ghost use Rattle.std.specs.Prelude.{◌≡◌, ℕ, ◌+◌, ◌++◌, Bool, List, map, IfOk, OnOk};
 ghost use Rattle.lois_base.specs.Atom.{Atom};
 ghost use Rattle.lois_base.specs.Data.{coll, comps_of};
-ghost use Rattle.lois_base.specs.Fits.{ConstraintFits, Fits, CompFits, ItemsFit};
+ghost use Rattle.lois_base.specs.Fits.{ConstraintFits};
+ghost use Rattle.lois_base.specs.Over.{IsOver, CompIsOver, ItemsAreOver};
 ghost use Rattle.lois_base.specs.Tree.{tree, comp_of};
-ghost use Rattle.lois_base.specs.Validity.{AdmitsConstraint, AdmitsTerm, AdmitsComp, AdmitsItems};
+ghost use Rattle.lois_base.specs.Validity.{AdmitsConstraint, AdmitsComp, AdmitsItems};
 ghost use Rattle.lois_base.specs.Values.{PointValue, point, IsIn, IsIncluded, IsSame};
 ghost use Rattle.lois_algebra.specs.Gathered.{IsAmong, IsCompMember};
 ghost use Rattle.lois_terms.specs.Collections.{IsColl};
@@ -32,12 +33,10 @@ pub fn where_included<T: Structure>(
     t: &Term,
     size: usize,
 ) -> Result<Constraint, NoMemory>
-    requires levels { Fits size (tree s.now) }
+    requires over { IsOver T.ordered size (tree s.now) }
     requires set { IsColl (tree s.now) }
-    requires operators { AdmitsTerm T.ordered (tree s.now) }
-    requires other_levels { Fits size (tree t.now) }
+    requires other { IsOver T.ordered size (tree t.now) }
     requires other_set { IsColl (tree t.now) }
-    requires other_operators { AdmitsTerm T.ordered (tree t.now) }
     ensures truth { IfOk result (HoldsWhere size (λ c. IsIncluded (point (tree s.now) c) (point (tree t.now) c))) }
     ensures levels { IfOk result (ConstraintFits size) }
 {
@@ -51,8 +50,7 @@ pub fn where_inhabited<T: Structure>(
     items: &Comps,
     size: usize,
 ) -> Result<Constraint, NoMemory>
-    requires levels { ItemsFit size (comps_of items.now) }
-    requires operators { AdmitsItems T.ordered (comps_of items.now) }
+    requires over { ItemsAreOver T.ordered size (comps_of items.now) }
     ensures truth { IfOk result (HoldsWhere size (λ c. (w : PointValue) × IsIn w (point (coll (comps_of items.now)) c))) }
     ensures levels { IfOk result (ConstraintFits size) }
     ensures operators { IfOk result (λ r. (o : Bool) → AdmitsItems o (comps_of items.now) → AdmitsConstraint o r) }
@@ -70,8 +68,7 @@ fn where_making<T: Structure>(
     comp: &Comp,
     size: usize,
 ) -> Result<Constraint, NoMemory>
-    requires levels { CompFits size (comp_of comp.now) }
-    requires operators { AdmitsComp T.ordered (comp_of comp.now) }
+    requires over { CompIsOver T.ordered size (comp_of comp.now) }
     ensures truth { IfOk result (HoldsWhere size (λ c. (w : PointValue) × IsCompMember (comp_of comp.now) c w)) }
     ensures levels { IfOk result (ConstraintFits size) }
     ensures operators { IfOk result (λ r. (o : Bool) → AdmitsComp o (comp_of comp.now) → AdmitsConstraint o r) }
@@ -96,8 +93,7 @@ pub fn where_function<T: Structure>(
     items: &Comps,
     size: usize,
 ) -> Result<Constraint, NoMemory>
-    requires levels { ItemsFit size (comps_of items.now) }
-    requires operators { AdmitsItems T.ordered (comps_of items.now) }
+    requires over { ItemsAreOver T.ordered size (comps_of items.now) }
     ensures truth { IfOk result (HoldsWhere size (λ c. IsFunction (point (coll (comps_of items.now)) c))) }
     ensures levels { IfOk result (ConstraintFits size) }
 {
@@ -116,8 +112,7 @@ pub fn where_single<T: Structure>(
     items: &Comps,
     size: usize,
 ) -> Result<Constraint, NoMemory>
-    requires levels { ItemsFit size (comps_of items.now) }
-    requires operators { AdmitsItems T.ordered (comps_of items.now) }
+    requires over { ItemsAreOver T.ordered size (comps_of items.now) }
     ensures truth { IfOk result (HoldsWhere size (λ c. HasOneAtMost (point (coll (comps_of items.now)) c))) }
     ensures levels { IfOk result (ConstraintFits size) }
 {
@@ -134,8 +129,7 @@ pub fn where_targets_unique<T: Structure>(
     steps: &Comps,
     size: usize,
 ) -> Result<Constraint, NoMemory>
-    requires levels { ItemsFit size (comps_of steps.now) }
-    requires operators { AdmitsItems T.ordered (comps_of steps.now) }
+    requires over { ItemsAreOver T.ordered size (comps_of steps.now) }
     ensures truth { IfOk result (HoldsWhere size (λ c. HasUniqueTargets (point (coll (comps_of steps.now)) c))) }
     ensures levels { IfOk result (ConstraintFits size) }
 {
@@ -154,10 +148,8 @@ fn where_clashing<T: Structure>(
     index: &Index,
     size: usize,
 ) -> Result<Constraint, NoMemory>
-    requires first { CompFits size (comp_of first.now) }
-    requires first_operators { AdmitsComp T.ordered (comp_of first.now) }
-    requires second { ItemsFit size (comps_of others.now) }
-    requires second_operators { AdmitsItems T.ordered (comps_of others.now) }
+    requires first { CompIsOver T.ordered size (comp_of first.now) }
+    requires second { ItemsAreOver T.ordered size (comps_of others.now) }
     requires keys { index.now ≡ map comp_key_shape others.now }
     ensures truth { IfOk result (HoldsUnless size (λ c. AllAgree (IsCompMember (comp_of first.now) c) (IsAmong (comps_of others.now) c))) }
     ensures levels { IfOk result (ConstraintFits size) }
@@ -178,10 +170,8 @@ fn where_differing<T: Structure>(
     second: &Comp,
     size: usize,
 ) -> Result<Constraint, NoMemory>
-    requires first { CompFits size (comp_of first.now) }
-    requires first_operators { AdmitsComp T.ordered (comp_of first.now) }
-    requires second { CompFits size (comp_of second.now) }
-    requires second_operators { AdmitsComp T.ordered (comp_of second.now) }
+    requires first { CompIsOver T.ordered size (comp_of first.now) }
+    requires second { CompIsOver T.ordered size (comp_of second.now) }
     ensures truth { IfOk result (HoldsUnless size (λ c. AllAgree (IsCompMember (comp_of first.now) c) (IsCompMember (comp_of second.now) c))) }
     ensures levels { IfOk result (ConstraintFits size) }
 {
@@ -210,10 +200,8 @@ pub fn where_same<T: Structure>(
     t: &Term,
     size: usize,
 ) -> Result<Constraint, NoMemory>
-    requires levels { Fits size (tree s.now) }
-    requires operators { AdmitsTerm T.ordered (tree s.now) }
-    requires other_levels { Fits size (tree t.now) }
-    requires other_operators { AdmitsTerm T.ordered (tree t.now) }
+    requires over { IsOver T.ordered size (tree s.now) }
+    requires other { IsOver T.ordered size (tree t.now) }
     ensures truth { IfOk result (HoldsWhere size (λ c. IsSame (point (tree s.now) c) (point (tree t.now) c))) }
     ensures levels { IfOk result (ConstraintFits size) }
     ensures operators { IfOk result (AdmitsConstraint T.ordered) }
@@ -229,10 +217,8 @@ pub fn where_inside<T: Structure>(
     others: &Comps,
     size: usize,
 ) -> Result<Constraint, NoMemory>
-    requires levels { ItemsFit size (comps_of items.now) }
-    requires operators { AdmitsItems T.ordered (comps_of items.now) }
-    requires other_levels { ItemsFit size (comps_of others.now) }
-    requires other_operators { AdmitsItems T.ordered (comps_of others.now) }
+    requires over { ItemsAreOver T.ordered size (comps_of items.now) }
+    requires other { ItemsAreOver T.ordered size (comps_of others.now) }
     ensures truth { IfOk result (HoldsWhere size (λ c. IsIncluded (point (coll (comps_of items.now)) c) (point (coll (comps_of others.now)) c))) }
     ensures levels { IfOk result (ConstraintFits size) }
 {
@@ -247,12 +233,9 @@ pub fn where_joined<T: Structure>(
     sets: FiveSets<'_>,
     size: usize,
 ) -> Result<Constraint, NoMemory>
-    requires states { ItemsFit size (comps_of sets.states.now) }
-    requires states_operators { AdmitsItems T.ordered (comps_of sets.states.now) }
-    requires letters { ItemsFit size (comps_of sets.letters.now) }
-    requires letters_operators { AdmitsItems T.ordered (comps_of sets.letters.now) }
-    requires steps { ItemsFit size (comps_of sets.steps.now) }
-    requires steps_operators { AdmitsItems T.ordered (comps_of sets.steps.now) }
+    requires states { ItemsAreOver T.ordered size (comps_of sets.states.now) }
+    requires letters { ItemsAreOver T.ordered size (comps_of sets.letters.now) }
+    requires steps { ItemsAreOver T.ordered size (comps_of sets.steps.now) }
     ensures truth { IfOk result (HoldsWhere size (λ c. StepsJoin (point (coll (comps_of sets.entry.states.now)) c) (point (coll (comps_of sets.entry.letters.now)) c) (point (coll (comps_of sets.entry.steps.now)) c))) }
     ensures levels { IfOk result (ConstraintFits size) }
 {
@@ -271,8 +254,7 @@ fn where_triples<T: Structure>(
     steps: &Comps,
     size: usize,
 ) -> Result<Constraint, NoMemory>
-    requires levels { ItemsFit size (comps_of steps.now) }
-    requires operators { AdmitsItems T.ordered (comps_of steps.now) }
+    requires over { ItemsAreOver T.ordered size (comps_of steps.now) }
     ensures truth { IfOk result (HoldsWhere size (λ c. AreTriples (point (coll (comps_of steps.now)) c))) }
     ensures levels { IfOk result (ConstraintFits size) }
 {
@@ -289,10 +271,8 @@ fn where_parts_in<T: Structure>(
     whole: &Comps,
     size: usize,
 ) -> Result<Constraint, NoMemory>
-    requires levels { ItemsFit size (comps_of steps.now) }
-    requires operators { AdmitsItems T.ordered (comps_of steps.now) }
-    requires whole_levels { ItemsFit size (comps_of whole.now) }
-    requires whole_operators { AdmitsItems T.ordered (comps_of whole.now) }
+    requires over { ItemsAreOver T.ordered size (comps_of steps.now) }
+    requires whole { ItemsAreOver T.ordered size (comps_of whole.now) }
     ensures truth { IfOk result (HoldsWhere size (λ c. ArePartsIn shape (point (coll (comps_of steps.now)) c) (point (coll (comps_of whole.now)) c))) }
     ensures levels { IfOk result (ConstraintFits size) }
 {

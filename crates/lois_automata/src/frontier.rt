@@ -2,9 +2,10 @@
 
 ghost use Rattle.std.specs.Prelude.{◌≡◌, ℕ, ◌+◌, Bool, IfOk, OnOk, ◌⊎◌};
 ghost use Rattle.lois_base.specs.Data.{coll, comps_of};
-ghost use Rattle.lois_base.specs.Fits.{ConstraintFits, Fits, CompFits, ItemsFit};
+ghost use Rattle.lois_base.specs.Fits.{ConstraintFits, Fits, ItemsFit};
+ghost use Rattle.lois_base.specs.Over.{IsOver, CompIsOver, ItemsAreOver};
 ghost use Rattle.lois_base.specs.Tree.{tree, comp_of};
-ghost use Rattle.lois_base.specs.Validity.{AdmitsConstraint, AdmitsTerm, AdmitsComp, AdmitsItems, HasBoundedWidths, ItemsHaveBoundedWidths};
+ghost use Rattle.lois_base.specs.Validity.{AdmitsConstraint, AdmitsTerm, AdmitsItems, HasBoundedWidths, ItemsHaveBoundedWidths};
 ghost use Rattle.lois_terms.specs.Collections.{IsColl};
 ghost use Rattle.lois_automata.specs.Built.{AreTargets, AddsTarget};
 ghost use Rattle.lois_base.specs.OneProof.{items_prop};
@@ -104,11 +105,9 @@ pub fn targets_from<T: Structure>(
     held: &Term,
     size: usize,
 ) -> Result<Term, NoMemory>
-    requires levels { ItemsFit size (comps_of moves.now) }
-    requires operators { AdmitsItems T.ordered (comps_of moves.now) }
-    requires held_levels { Fits size (tree held.now) }
+    requires over { ItemsAreOver T.ordered size (comps_of moves.now) }
+    requires held { IsOver T.ordered size (tree held.now) }
     requires held_set { IsColl (tree held.now) }
-    requires held_operators { AdmitsTerm T.ordered (tree held.now) }
     ensures members { IfOk result (λ r. AreTargets size (coll (comps_of moves.now)) (tree held.now) (tree r)) }
     ensures set { IfOk result (λ r. IsColl (tree r)) }
     ensures levels { IfOk result (λ r. Fits size (tree r)) }
@@ -131,11 +130,9 @@ fn add_target<T: Structure>(
     index: &Index,
     size: usize,
 ) -> Result<(), NoMemory>
-    requires levels { CompFits size (comp_of comp.now) }
-    requires operators { AdmitsComp T.ordered (comp_of comp.now) }
-    requires held_levels { Fits size (tree held.now) }
+    requires over { CompIsOver T.ordered size (comp_of comp.now) }
+    requires held { IsOver T.ordered size (tree held.now) }
     requires held_set { IsColl (tree held.now) }
-    requires held_operators { AdmitsTerm T.ordered (tree held.now) }
     requires shapes { index.now ≡ shapes_in (tree held.now) }
     ensures { OnOk result (AddsTarget size (comp_of comp.now) (tree held.now) (comps_of targets.old) (comps_of targets.new)) }
 {

@@ -21,7 +21,10 @@ pub use frontier::targets_from;
 pub use memberships::{insert_levels, membership};
 pub use operations::{complement, empty, product, reach};
 pub use pairing::{PairedComp, pair_comps, pair_steps, pairs};
-pub use parts::{FiveSets, Step, five, of_five, pair, pair_parts, step_parts, triple};
+pub use parts::{
+    FiveSets, Step, StepTerms, five, into_step, of_five, pair, pair_of_terms, pair_parts,
+    step_parts, triple, triple_of_terms,
+};
 pub use projections::{Projection, non_triples, project_steps};
 pub use reaching::reachable_set;
 pub use verdicts::Verdict;

@@ -2,7 +2,8 @@
 
 ghost use Rattle.std.specs.Prelude.{◌≡◌, ℕ, ◌+◌, ◌<◌, ◌^◌, Bool, IfOk};
 ghost use Rattle.lois_base.specs.Data.{coll, comps_of};
-ghost use Rattle.lois_base.specs.Fits.{ConstraintFits, Fits, CompFits};
+ghost use Rattle.lois_base.specs.Fits.{ConstraintFits, Fits};
+ghost use Rattle.lois_base.specs.Over.{IsOver, CompIsOver};
 ghost use Rattle.lois_base.specs.Shift.{shift};
 ghost use Rattle.lois_base.specs.Tree.{tree, comp_of};
 ghost use Rattle.lois_base.specs.Validity.{AdmitsConstraint, AdmitsTerm, AdmitsComp, HasBoundedWidths};
@@ -43,11 +44,9 @@ pub fn membership<T: Structure>(
     by: usize,
 ) -> Result<Constraint, NoMemory>
     requires levels { size + by < 2 ^ 64 }
-    requires item { Fits (size + by) (tree item.now) }
-    requires item_operators { AdmitsTerm T.ordered (tree item.now) }
-    requires set_levels { Fits size (tree t.now) }
+    requires item { IsOver T.ordered (size + by) (tree item.now) }
+    requires set_over { IsOver T.ordered size (tree t.now) }
     requires set { IsColl (tree t.now) }
-    requires set_operators { AdmitsTerm T.ordered (tree t.now) }
     ensures truth { IfOk result (HoldsWhereMember size by (tree item.now) (tree t.now)) }
     ensures fits { IfOk result (ConstraintFits (size + by)) }
     ensures operators { IfOk result (λ r. (o : Bool) → AdmitsTerm o (tree item.now) → AdmitsTerm o (tree t.now) → AdmitsConstraint o r) }
@@ -79,11 +78,9 @@ pub(crate) fn membership_indexed<T: Structure>(
     by: usize,
 ) -> Result<Constraint, NoMemory>
     requires levels { size + by < 2 ^ 64 }
-    requires item { Fits (size + by) (tree item.now) }
-    requires item_operators { AdmitsTerm T.ordered (tree item.now) }
-    requires set_levels { Fits size (tree t.now) }
+    requires item { IsOver T.ordered (size + by) (tree item.now) }
+    requires set_over { IsOver T.ordered size (tree t.now) }
     requires set { IsColl (tree t.now) }
-    requires set_operators { AdmitsTerm T.ordered (tree t.now) }
     requires shapes { index.now ≡ shapes_in (tree t.now) }
     ensures truth { IfOk result (HoldsWhereMember size by (tree item.now) (tree t.now)) }
     ensures fits { IfOk result (ConstraintFits (size + by)) }
@@ -105,11 +102,9 @@ pub(crate) fn membership_under<T: Structure>(
     under: &Constraint,
     size: usize,
 ) -> Result<Constraint, NoMemory>
-    requires levels { CompFits size (comp_of comp.now) }
-    requires operators { AdmitsComp T.ordered (comp_of comp.now) }
-    requires set_levels { Fits size (tree t.now) }
+    requires over { CompIsOver T.ordered size (comp_of comp.now) }
+    requires set_over { IsOver T.ordered size (tree t.now) }
     requires set { IsColl (tree t.now) }
-    requires set_operators { AdmitsTerm T.ordered (tree t.now) }
     requires shapes { index.now ≡ shapes_in (tree t.now) }
     requires under { ConstraintFits size under.now }
     ensures truth { IfOk result (HoldsWhereAdmittedIn size comp.now.binders under.now comp.now.guard (tree comp.now.item) (tree t.now)) }

@@ -3,7 +3,8 @@
 ghost use Rattle.std.specs.Prelude.{◌≡◌, ℕ, ◌+◌, Bool, List, IfOk, IsTrue, IsFalse, ◌↔◌};
 ghost use Rattle.lois_base.specs.Atom.{Atom};
 ghost use Rattle.lois_base.specs.Data.{coll, comps_of};
-ghost use Rattle.lois_base.specs.Fits.{ConstraintFits, Fits, ItemsFit};
+ghost use Rattle.lois_base.specs.Fits.{ConstraintFits, Fits};
+ghost use Rattle.lois_base.specs.Over.{IsOver, ItemsAreOver, ConstraintIsOver};
 ghost use Rattle.lois_base.specs.Tree.{tree};
 ghost use Rattle.lois_base.specs.Truth.{holds};
 ghost use Rattle.lois_algebra.specs.Sets.{IsIntersection};
@@ -63,10 +64,8 @@ pub fn empty<T: Structure>(
     size: usize,
     chosen: &mut Chosen,
 ) -> Result<Constraint, NoMemory>
-    requires levels { Fits size (tree a.now) }
-    requires operators { AdmitsTerm T.ordered (tree a.now) }
-    requires under { ConstraintFits size under.now }
-    requires under_operators { AdmitsConstraint T.ordered under.now }
+    requires over { IsOver T.ordered size (tree a.now) }
+    requires under { ConstraintIsOver T.ordered size under.now }
     requires automaton { HoldsThroughout size under.now (IsAutomatonAt (tree a.now)) }
     ensures empty { IfOk result (λ r. HoldsThroughout size under.now (λ c. IsTrue (holds c r) ↔ IsEmptyAt (tree a.now) c)) }
     ensures accepts { IfOk result (λ r. HoldsThroughout size under.now (λ c. IsFalse (holds c r) → AcceptsSomeAt (tree a.now) c)) }
@@ -95,10 +94,8 @@ pub fn product<T: Structure>(
     size: usize,
     chosen: &mut Chosen,
 ) -> Result<Term, NoMemory>
-    requires levels { Fits size (tree a.now) }
-    requires operators { AdmitsTerm T.ordered (tree a.now) }
-    requires other_levels { Fits size (tree b.now) }
-    requires other_operators { AdmitsTerm T.ordered (tree b.now) }
+    requires over { IsOver T.ordered size (tree a.now) }
+    requires other { IsOver T.ordered size (tree b.now) }
     requires automaton { HoldsThroughout size under.now (IsAutomatonAt (tree a.now)) }
     requires other_automaton { HoldsThroughout size under.now (IsAutomatonAt (tree b.now)) }
     ensures product { IfOk result (λ r. HoldsThroughout size under.now (IsProductAt (tree a.now) (tree b.now) (tree r))) }
@@ -129,10 +126,8 @@ fn in_both<T: Structure>(
     other: &Comps,
     size: usize,
 ) -> Result<Term, NoMemory>
-    requires first { ItemsFit size (comps_of one.now) }
-    requires first_operators { AdmitsItems T.ordered (comps_of one.now) }
-    requires second { ItemsFit size (comps_of other.now) }
-    requires second_operators { AdmitsItems T.ordered (comps_of other.now) }
+    requires first { ItemsAreOver T.ordered size (comps_of one.now) }
+    requires second { ItemsAreOver T.ordered size (comps_of other.now) }
     ensures members { IfOk result (λ r. IsIntersection size (coll (comps_of one.now)) (coll (comps_of other.now)) (tree r)) }
     ensures set { IfOk result (λ r. IsColl (tree r)) }
     ensures levels { IfOk result (λ r. Fits size (tree r)) }
@@ -152,8 +147,7 @@ pub fn complement<T: Structure>(
     size: usize,
     chosen: &mut Chosen,
 ) -> Result<Term, NoMemory>
-    requires levels { Fits size (tree a.now) }
-    requires operators { AdmitsTerm T.ordered (tree a.now) }
+    requires over { IsOver T.ordered size (tree a.now) }
     requires whole { HoldsThroughout size under.now (IsCompleteDeterministicAt (tree a.now)) }
     ensures complement { IfOk result (λ r. HoldsThroughout size under.now (IsComplementAt (tree a.now) (tree r))) }
     ensures words { IfOk result (λ r. HoldsThroughout size under.now (AcceptsOthersAt (tree a.now) (tree r))) }

@@ -3,6 +3,7 @@
 ghost use Rattle.std.specs.Prelude.{◌≡◌, ℕ, ◌+◌, ◌<◌, ◌^◌, Bool, IfOk, OnOk};
 ghost use Rattle.lois_base.specs.Data.{coll, comps_of};
 ghost use Rattle.lois_base.specs.Fits.{ConstraintFits, Fits, CompFits, ItemsFit};
+ghost use Rattle.lois_base.specs.Over.{CompIsOver, ItemsAreOver};
 ghost use Rattle.lois_base.specs.Tree.{tree, comp_of};
 ghost use Rattle.lois_base.specs.Validity.{AdmitsConstraint, AdmitsTerm, AdmitsComp, AdmitsItems, HasBoundedWidths, CompHasBoundedWidths, ItemsHaveBoundedWidths};
 ghost use Rattle.lois_terms.specs.Collections.{IsColl};
@@ -11,7 +12,7 @@ ghost use Rattle.lois_automata.specs.Built.{AreBeside, ArePairs};
 ghost use Rattle.lois_automata.specs.Projections.{AreSideBySide, pair_of, triple_of};
 
 use crate::memberships::insert_levels;
-use crate::parts::{Step, pair, step_parts, triple};
+use crate::parts::{StepTerms, into_step, pair_of_terms, triple_of_terms};
 use crate::unmatched::letters_clash;
 use lois_algebra::push_comp;
 use lois_base::{Comp, Comps, Constraint, NoMemory, Structure, Term};
@@ -108,7 +109,7 @@ fn add_pair(
     ensures { OnOk result (AddsOfTwo IsPairOf size (comp_of first.now) (comp_of second.now) (comps_of made.old) (comps_of made.new)) }
 {
     let both = pair_comps(alloc, first, second, size)?;
-    let item = pair(alloc, &both.first, &both.second)?;
+    let item = pair_of_terms(alloc, both.first, both.second)?;
     push_comp(
         made,
         Comp {
@@ -126,10 +127,8 @@ pub fn pair_steps<T: Structure>(
     other: &Comps,
     size: usize,
 ) -> Result<Term, NoMemory>
-    requires first { ItemsFit size (comps_of one.now) }
-    requires first_operators { AdmitsItems T.ordered (comps_of one.now) }
-    requires second { ItemsFit size (comps_of other.now) }
-    requires second_operators { AdmitsItems T.ordered (comps_of other.now) }
+    requires first { ItemsAreOver T.ordered size (comps_of one.now) }
+    requires second { ItemsAreOver T.ordered size (comps_of other.now) }
     ensures members { IfOk result (λ r. AreSideBySide size (coll (comps_of one.now)) (coll (comps_of other.now)) (tree r)) }
     ensures set { IfOk result (λ r. IsColl (tree r)) }
     ensures levels { IfOk result (λ r. Fits size (tree r)) }
@@ -150,10 +149,8 @@ fn add_steps<T: Structure>(
     others: &Comps,
     size: usize,
 ) -> Result<(), NoMemory>
-    requires first { CompFits size (comp_of first.now) }
-    requires first_operators { AdmitsComp T.ordered (comp_of first.now) }
-    requires second { ItemsFit size (comps_of others.now) }
-    requires second_operators { AdmitsItems T.ordered (comps_of others.now) }
+    requires first { CompIsOver T.ordered size (comp_of first.now) }
+    requires second { ItemsAreOver T.ordered size (comps_of others.now) }
     ensures { OnOk result (AddsWithEach IsStepOf size (comp_of first.now) (comps_of others.now) (comps_of made.old) (comps_of made.new)) }
 {
     for second in others.as_slice() {
@@ -169,24 +166,22 @@ fn add_step<T: Structure>(
     second: &Comp,
     size: usize,
 ) -> Result<(), NoMemory>
-    requires first { CompFits size (comp_of first.now) }
-    requires first_operators { AdmitsComp T.ordered (comp_of first.now) }
-    requires second { CompFits size (comp_of second.now) }
-    requires second_operators { AdmitsComp T.ordered (comp_of second.now) }
+    requires first { CompIsOver T.ordered size (comp_of first.now) }
+    requires second { CompIsOver T.ordered size (comp_of second.now) }
     ensures { OnOk result (AddsOfTwo IsStepOf size (comp_of first.now) (comp_of second.now) (comps_of made.old) (comps_of made.new)) }
 {
     if letters_clash(first, second) {
         return Ok(());
     }
     let both = pair_comps(alloc, first, second, size)?;
-    let Some(one) = step_parts(&both.first) else {
+    let Some(one) = into_step(both.first) else {
         return Ok(());
     };
-    let Some(other) = step_parts(&both.second) else {
+    let Some(other) = into_step(both.second) else {
         return Ok(());
     };
     let inner = size + both.binders;
-    let same = equal_formula(alloc, one.letter, other.letter, inner)?;
+    let same = equal_formula(alloc, &one.letter, &other.letter, inner)?;
     let found = quantifier_free::<T>(alloc, &same, inner)?;
     let guard = meet(alloc, &both.guard, &found)?;
     let item = step_of(alloc, one, other)?;
@@ -201,10 +196,10 @@ fn add_step<T: Structure>(
 }
 
 // The step from the pair of the sources to the pair of the targets, with the letter of the first.
-fn step_of(alloc: Global, one: Step<'_>, other: Step<'_>) -> Result<Term, NoMemory>
-    ensures { IfOk result (λ r. tree r ≡ triple_of (pair_of (tree one.entry.source.now) (tree other.entry.source.now)) (tree one.entry.letter.now) (pair_of (tree one.entry.target.now) (tree other.entry.target.now))) }
+fn step_of(alloc: Global, one: StepTerms, other: StepTerms) -> Result<Term, NoMemory>
+    ensures { IfOk result (λ r. tree r ≡ triple_of (pair_of (tree one.source) (tree other.source)) (tree one.letter) (pair_of (tree one.target) (tree other.target))) }
 {
-    let source = pair(alloc, one.source, other.source)?;
-    let target = pair(alloc, one.target, other.target)?;
-    triple(alloc, &source, one.letter, &target)
+    let source = pair_of_terms(alloc, one.source, other.source)?;
+    let target = pair_of_terms(alloc, one.target, other.target)?;
+    triple_of_terms(alloc, source, one.letter, target)
 }

@@ -18,6 +18,14 @@ pub struct Step<'a> {
     pub target: &'a Term,
 }
 
+/// The three parts of a step that is taken apart.
+#[derive(Drop)]
+pub struct StepTerms {
+    pub source: Term,
+    pub letter: Term,
+    pub target: Term,
+}
+
 /// The five sets of an automaton, as they are written.
 #[derive(Clone, Copy)]
 pub struct FiveSets<'a> {
@@ -28,7 +36,7 @@ pub struct FiveSets<'a> {
     pub accepting: &'a Comps,
 }
 
-/// A tuple of two.
+/// A tuple of copies of two terms.
 pub fn pair(alloc: Global, first: &Term, second: &Term) -> Result<Term, NoMemory>
     ensures { IfOk result (λ r. tree r ≡ pair_of (tree first.now) (tree second.now)) }
 {
@@ -38,7 +46,7 @@ pub fn pair(alloc: Global, first: &Term, second: &Term) -> Result<Term, NoMemory
     Ok(Term::Tup(parts))
 }
 
-/// A tuple of three.
+/// A tuple of copies of three terms.
 pub fn triple(alloc: Global, source: &Term, letter: &Term, target: &Term) -> Result<Term, NoMemory>
     ensures { IfOk result (λ r. tree r ≡ triple_of (tree source.now) (tree letter.now) (tree target.now)) }
 {
@@ -46,6 +54,32 @@ pub fn triple(alloc: Global, source: &Term, letter: &Term, target: &Term) -> Res
     parts.push(source.copy(alloc)?)?;
     parts.push(letter.copy(alloc)?)?;
     parts.push(target.copy(alloc)?)?;
+    Ok(Term::Tup(parts))
+}
+
+/// A tuple of two terms, which are taken as they are.
+pub fn pair_of_terms(alloc: Global, first: Term, second: Term) -> Result<Term, NoMemory>
+    ensures { IfOk result (λ r. tree r ≡ pair_of (tree first) (tree second)) }
+{
+    let mut parts = Terms::new(alloc);
+    parts.push(first)?;
+    parts.push(second)?;
+    Ok(Term::Tup(parts))
+}
+
+/// A tuple of three terms, which are taken as they are.
+pub fn triple_of_terms(
+    alloc: Global,
+    source: Term,
+    letter: Term,
+    target: Term,
+) -> Result<Term, NoMemory>
+    ensures { IfOk result (λ r. tree r ≡ triple_of (tree source) (tree letter) (tree target)) }
+{
+    let mut parts = Terms::new(alloc);
+    parts.push(source)?;
+    parts.push(letter)?;
+    parts.push(target)?;
     Ok(Term::Tup(parts))
 }
 
@@ -100,6 +134,28 @@ pub fn step_parts(t: &Term) -> Option<Step<'_>>
         source: &parts[0],
         letter: &parts[1],
         target: &parts[2],
+    })
+}
+
+/// The parts of a tuple of three, which is taken apart.
+pub fn into_step(t: Term) -> Option<StepTerms>
+    ensures some { IfSome result (λ s. tree t ≡ triple_of (tree s.source) (tree s.letter) (tree s.target)) }
+    ensures none { IfNone result ((p l q : TermD) → tree t ≡ triple_of p l q → ⊥) }
+{
+    let Term::Tup(terms) = t else {
+        return None;
+    };
+    let mut parts = terms.into_vec();
+    if parts.len() != 3 {
+        return None;
+    }
+    let target = parts.pop()?;
+    let letter = parts.pop()?;
+    let source = parts.pop()?;
+    Some(StepTerms {
+        source,
+        letter,
+        target,
     })
 }
 

@@ -12,7 +12,7 @@ use Rattle.lois_base.specs.AtomMaps.{IsEmbedding}
 use Rattle.lois_base.specs.Truth.{atom_at, holds}
 use Rattle.lois_base.specs.Validity.{AdmitsLit, AdmitsConstraint, AdmitsTerm, AdmitsParts, AdmitsComp, AdmitsItems}
 use Rattle.lois_base.specs.FormulaOperators.{AdmitsFormula, AdmitsFormulas}
-use Rattle.lois_base.specs.Values.{IsExtension, MemberAt, SameAt, SamePartsAt, AllInAt, EachInAt, InAt, SomeIsAt, OneIsAt}
+use Rattle.lois_base.specs.Values.{point, IsSame, IsExtension, MemberAt, SameAt, SamePartsAt, AllInAt, EachInAt, InAt, SomeIsAt, OneIsAt}
 use Rattle.lois_base.specs.declared.guards.Lit.{Lit}
 use Rattle.lois_base.specs.declared.guards.Op.TheVariants.{Eq}
 use Rattle.lois_base.proofs.Truths.{LitAgrees, holds_agree}
@@ -203,3 +203,19 @@ module _ (ordered : Bool) (f : Atom → Atom) (keeps : IsEmbedding ordered f) wh
 
   pub alike_maps : (c d : List Atom) → AreAlike ordered (c ++ d) (map f c ++ map f d)
   alike_maps c d = subst (λ z. AreAlike ordered (c ++ d) z) (map-append f c d) (alike_map (c ++ d))
+
+-- the value of a term at two choices whose atoms are partners
+pub record Twinned (ordered : Bool) (ps : List Twins) (t : TermD) (c d : List Atom) : Type 0 where
+  pub size : ℕ
+  pub carried : IsCarried ps size c d
+  pub fits : Fits size t
+  pub admits : AdmitsTerm ordered t
+
+module _ (ordered : Bool) where
+  pub twinned_more : (ps qs : List Twins) (t : TermD) (c d : List Atom) → Within ps qs → Twinned ordered ps t c d → Twinned ordered qs t c d
+  twinned_more ps qs t c d w h =
+      record { size = h.size; carried = carried_more ps qs h.size c d w h.carried; fits = h.fits; admits = h.admits }
+
+  pub same_twinned : (ps : List Twins) → IsPattern ordered ps → (t : TermD) (c c' : List Atom) → Twinned ordered ps t c c' → (s : TermD) (d d' : List Atom) → Twinned ordered ps s d d' → IsSame (point t c) (point s d) → IsSame (point t c') (point s d')
+  same_twinned ps pattern t c c' h s d d' k same =
+      same_carried ordered t ps pattern h.size c c' h.carried h.fits h.admits s k.size d d' k.carried k.fits k.admits same

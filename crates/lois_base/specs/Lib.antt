@@ -17,6 +17,7 @@ pub mod Normal
 pub mod Rename
 pub mod Shift
 pub mod Validity
+pub mod Over
 pub mod UsedLevels
 pub mod OrderFree
 pub mod FormulaOperators

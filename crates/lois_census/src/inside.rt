@@ -1,9 +1,10 @@
 //! Where items are in orbits, as constraints.
 
 ghost use Rattle.std.specs.Prelude.{◌≡◌, ◌+◌, ◌<◌, ◌≤◌, ◌^◌, Bool, IfOk};
-ghost use Rattle.lois_base.specs.Fits.{ConstraintFits, Fits, CompFits};
+ghost use Rattle.lois_base.specs.Fits.{ConstraintFits, Fits};
+ghost use Rattle.lois_base.specs.Over.{IsOver, CompIsOver, ConstraintIsOver};
 ghost use Rattle.lois_base.specs.Tree.{tree, comp_of};
-ghost use Rattle.lois_base.specs.Validity.{AdmitsConstraint, AdmitsTerm, AdmitsComp};
+ghost use Rattle.lois_base.specs.Validity.{AdmitsConstraint, AdmitsTerm};
 ghost use Rattle.lois_terms.specs.Shifted.{IsShifted};
 ghost use Rattle.lois_census.specs.Left.{HoldsWhereInOrbit, HoldsOrInOrbit, IsUsable};
 ghost use Rattle.lois_census.specs.OrbitView.{orbit_of};
@@ -56,8 +57,7 @@ pub fn in_orbit<T: Structure>(
     size: usize,
     orbit: &Orbit,
 ) -> Result<Constraint, NoMemory>
-    requires item { Fits size (tree item.now) }
-    requires item_operators { AdmitsTerm T.ordered (tree item.now) }
+    requires item { IsOver T.ordered size (tree item.now) }
     requires orbit { IsUsable T.ordered (orbit_of orbit.now) }
     ensures truth { IfOk result (HoldsWhereInOrbit T.ordered size (tree item.now) (orbit_of orbit.now)) }
     ensures fits { IfOk result (ConstraintFits size) }
@@ -82,10 +82,8 @@ pub(crate) fn or_in_orbit<T: Structure>(
     comp: &Comp,
     orbit: &Orbit,
 ) -> Result<Constraint, NoMemory>
-    requires taken { ConstraintFits comp.now.binders taken }
-    requires taken_operators { AdmitsConstraint T.ordered taken }
-    requires levels { CompFits 0 (comp_of comp.now) }
-    requires operators { AdmitsComp T.ordered (comp_of comp.now) }
+    requires taken { ConstraintIsOver T.ordered comp.now.binders taken }
+    requires over { CompIsOver T.ordered 0 (comp_of comp.now) }
     requires orbit { IsUsable T.ordered (orbit_of orbit.now) }
     ensures truth { IfOk result (HoldsOrInOrbit T.ordered comp.now.binders (tree comp.now.item) (orbit_of orbit.now) taken) }
     ensures fits { IfOk result (ConstraintFits comp.now.binders) }
@@ -104,10 +102,8 @@ pub(crate) fn or_in_listed<T: Structure>(
     comp: &Comp,
     orbit: &Orbit,
 ) -> Result<Constraint, NoMemory>
-    requires taken { ConstraintFits comp.now.binders taken }
-    requires taken_operators { AdmitsConstraint T.ordered taken }
-    requires levels { CompFits 0 (comp_of comp.now) }
-    requires operators { AdmitsComp T.ordered (comp_of comp.now) }
+    requires taken { ConstraintIsOver T.ordered comp.now.binders taken }
+    requires over { CompIsOver T.ordered 0 (comp_of comp.now) }
     requires orbit { IsUsable T.ordered (orbit_of orbit.now) }
     ensures truth { IfOk result (HoldsOrInOrbit T.ordered comp.now.binders (tree comp.now.item) (orbit_of orbit.now) taken) }
     ensures fits { IfOk result (ConstraintFits comp.now.binders) }

@@ -3,10 +3,11 @@
 ghost use Rattle.std.specs.Prelude.{Bool, [], IfOk, OnOk, IsTrue};
 ghost use Rattle.std.specs.List.{All, AllPairs};
 ghost use Rattle.lois_base.specs.Data.{comps_of};
-ghost use Rattle.lois_base.specs.Fits.{ConstraintFits, Fits, CompFits, ItemsFit};
+ghost use Rattle.lois_base.specs.Fits.{ConstraintFits};
+ghost use Rattle.lois_base.specs.Over.{IsOver, CompIsOver, ItemsAreOver, ConstraintIsOver};
 ghost use Rattle.lois_base.specs.Tree.{tree, comp_of};
 ghost use Rattle.lois_base.specs.Truth.{holds, sampled};
-ghost use Rattle.lois_base.specs.Validity.{AdmitsConstraint, AdmitsTerm, AdmitsComp, AdmitsItems, HasBoundedWidths, IsStrictTerm};
+ghost use Rattle.lois_base.specs.Validity.{AdmitsConstraint, AdmitsTerm, HasBoundedWidths, IsStrictTerm};
 ghost use Rattle.lois_base.specs.Values.{PointValue, point, IsMember, IsIn};
 ghost use Rattle.lois_terms.specs.Collections.{IsColl};
 ghost use Rattle.lois_deciders.specs.OnlyAsked.{HasOnlyAsked};
@@ -32,8 +33,7 @@ pub fn census<T: Structure>(
     chosen: &mut Chosen,
 ) -> Result<Orbits, NoMemory>
     requires set { IsColl (tree set.now) }
-    requires levels { Fits 0 (tree set.now) }
-    requires operators { AdmitsTerm T.ordered (tree set.now) }
+    requires over { IsOver T.ordered 0 (tree set.now) }
 
     // each orbit is that of a member
     ensures levels { IfOk result (All FitsSample) }
@@ -64,8 +64,7 @@ fn all_orbits<T: Structure>(
     comps: &Comps,
     chosen: &mut Chosen,
 ) -> Result<Orbits, NoMemory>
-    requires levels { ItemsFit 0 (comps_of comps.now) }
-    requires operators { AdmitsItems T.ordered (comps_of comps.now) }
+    requires over { ItemsAreOver T.ordered 0 (comps_of comps.now) }
     ensures taken { IfOk result (All (IsTakenFromSome T.ordered comps.now)) }
     ensures in_order { IfOk result (AreTakenInOrder T.ordered (comps_of comps.now)) }
     ensures covered { IfOk result (λ r. All (IsCoveredByOrbits T.ordered r) comps.now) }
@@ -86,8 +85,7 @@ fn add_orbits<T: Structure>(
     orbits: &mut Orbits,
     chosen: &mut Chosen,
 ) -> Result<(), NoMemory>
-    requires levels { CompFits 0 (comp_of comp.now) }
-    requires operators { AdmitsComp T.ordered (comp_of comp.now) }
+    requires over { CompIsOver T.ordered 0 (comp_of comp.now) }
     requires usable { All (IsUsable T.ordered) orbits.old }
     requires apart { AllPairs (AreDisjointOrbits T.ordered) orbits.old }
     ensures added { OnOk result (AddsOnly (IsTakenFrom T.ordered (comp_of comp.now)) orbits.old orbits.new) }
@@ -111,8 +109,7 @@ fn in_listed<T: Structure>(
     comp: &Comp,
     orbits: &Orbits,
 ) -> Result<Constraint, NoMemory>
-    requires levels { CompFits 0 (comp_of comp.now) }
-    requires operators { AdmitsComp T.ordered (comp_of comp.now) }
+    requires over { CompIsOver T.ordered 0 (comp_of comp.now) }
     requires usable { All (IsUsable T.ordered) orbits.now }
     ensures truth { IfOk result (HoldsWhereListed T.ordered comp.now.binders (tree comp.now.item) orbits.now) }
     ensures fits { IfOk result (ConstraintFits comp.now.binders) }
@@ -133,13 +130,11 @@ fn list_sample<T: Structure>(
     taken: Constraint,
     orbits: &mut Orbits,
 ) -> Result<Constraint, NoMemory>
-    requires levels { CompFits 0 (comp_of comp.now) }
-    requires operators { AdmitsComp T.ordered (comp_of comp.now) }
+    requires over { CompIsOver T.ordered 0 (comp_of comp.now) }
     requires sample { IsConstraintSample comp.now.binders comp.now.guard sample.now }
     requires ranked { AreRanks T.ordered sample.now }
     requires taken { HoldsWhereListed T.ordered comp.now.binders (tree comp.now.item) orbits.old taken }
-    requires taken_fits { ConstraintFits comp.now.binders taken }
-    requires taken_operators { AdmitsConstraint T.ordered taken }
+    requires taken_over { ConstraintIsOver T.ordered comp.now.binders taken }
     requires apart { AllPairs (AreDisjointOrbits T.ordered) orbits.old }
     ensures truth { IfOk result (HoldsWhereListed T.ordered comp.now.binders (tree comp.now.item) orbits.new) }
     ensures holds { IfOk result (λ r. IsTrue (holds (sampled sample.now) r)) }

@@ -1,7 +1,7 @@
 -- Cubes of which none entails another.
-use Rattle.std.proofs.Common.{◌≡◌, ℕ, ◌+◌, ◌<◌, ◌≤◌, Bool, true, false, ◌&&◌, ◌||◌, List, [], ◌∷◌, ◌++◌, length, length-append, get_or, take, refl, sym, ap, ◌∙◌, subst, arith}
+use Rattle.std.proofs.Common.{◌≡◌, ℕ, ◌+◌, ◌<◌, ◌≤◌, Bool, true, false, ◌&&◌, ◌||◌, List, [], ◌∷◌, ◌++◌, length, length-append, get_or, take, drop, IsTrue, refl, sym, ap, ◌∙◌, subst, arith}
 use Rattle.std.specs.List.{All}
-use Rattle.std.proofs.lemmas.List.{get_or_append_left, get_or_default, get_or_push}
+use Rattle.std.proofs.lemmas.List.{get_or_append_left, get_or_default, get_or_push, take-append-drop}
 use Rattle.std.proofs.lemmas.List.Elements.{All-push}
 use Rattle.std.proofs.lemmas.List.Quantifiers.{all_pairs_push}
 use Rattle.std.proofs.lemmas.List.Folds.{list_any-append}
@@ -10,7 +10,6 @@ use Rattle.std.specs.List.Sorted.{IsPermutation}
 use Rattle.lois_base.specs.Atom.{Atom}
 use Rattle.lois_base.specs.Truth.{cube_holds, holds}
 use Rattle.lois_base.specs.declared.guards.Lit.{Lit}
-use Rattle.lois_base.proofs.Lists.{all_before}
 use Rattle.lois_constraint.specs.Entailment.{CubeIsSatisfiable, Entails, AreIncomparable, IsPruned}
 use Rattle.lois_constraint.proofs.Sorted.{pairs_permuted}
 use Rattle.lois_constraint.proofs.Tightened.{constraint_grows}
@@ -20,16 +19,29 @@ use Rattle.lois_constraint.proofs.Words.{or_nothing}
 abbrev pub ApartFrom : List (List Lit) → ℕ → List (List Lit) → Type 0
 ApartFrom xs i kept = (j : ℕ) (d : List Lit) → i ≤ j → j < length xs → All (λ k. AreIncomparable k (get_or xs j d)) kept
 
+-- the cubes before others
+pub before_pruned : (xs ys : List (List Lit)) → IsPruned (xs ++ ys) → IsPruned xs
+before_pruned xs ys p =
+    let longer : length (xs ++ ys) ≡ length xs + length ys = length-append xs ys in
+    record {
+      met = λ i d l. subst CubeIsSatisfiable (get_or_append_left xs ys d i l) (p.met i d (omega (arith, longer)));
+      apart = λ i j d l m. let h : AreIncomparable (get_or (xs ++ ys) i d) (get_or (xs ++ ys) j d) = p.apart i j d l (omega (arith, longer)) in subst (λ (k : List Lit). AreIncomparable k (get_or xs j d)) (get_or_append_left xs ys d i (omega arith)) (subst (AreIncomparable (get_or (xs ++ ys) i d)) (get_or_append_left xs ys d j m) h);
+    }
+
+pub first_pruned : (n : ℕ) (xs : List (List Lit)) → IsPruned xs → IsPruned (take n xs)
+first_pruned n xs p = before_pruned (take n xs) (drop n xs) (subst IsPruned (sym (take-append-drop n xs)) p)
+
+pub first_holds : (c : List Atom) (n : ℕ) (xs : List (List Lit)) → IsTrue (holds c (take n xs)) → IsTrue (holds c xs)
+first_holds c n xs h =
+    subst (λ (g : List (List Lit)). IsTrue (holds c g)) (take-append-drop n xs) (list_any-append (cube_holds c) (take n xs) (drop n xs) ∙ ap (λ p. p || holds c (drop n xs)) h)
+
 -- the cubes before the last one
 module _ (xs : List (List Lit)) (x : List Lit) (p : IsPruned (xs ++ x ∷ [])) where
   longer : length (xs ++ x ∷ []) ≡ length xs + 1
   longer = length-append xs (x ∷ [])
 
   pub front_pruned : IsPruned xs
-  front_pruned = record {
-    met = all_before CubeIsSatisfiable xs x p.met;
-    apart = λ i j d l m. let h : AreIncomparable (get_or (xs ++ x ∷ []) i d) (get_or (xs ++ x ∷ []) j d) = p.apart i j d l (omega (arith, longer)) in subst (λ (k : List Lit). AreIncomparable k (get_or xs j d)) (get_or_append_left xs (x ∷ []) d i (omega arith)) (subst (AreIncomparable (get_or (xs ++ x ∷ []) i d)) (get_or_append_left xs (x ∷ []) d j m) h);
-  }
+  front_pruned = before_pruned xs (x ∷ []) p
 
   pub front_apart : All (λ k. AreIncomparable k x) xs
   front_apart i d l =

@@ -44,9 +44,9 @@ constraint_grows c g r xs x i b is t e =
     e ∙ (ap (λ p. p || cube_holds c x) t ∙ (ap (λ y. holds c (take i xs) || cube_holds c y) is ∙ sym (list_any_more (cube_holds c) xs i x b)))
 
 -- what is left without the cubes that were read
-pub rest_shrinks : (c : List Atom) (s : Bool) (g xs : List (List Lit)) (x : List Lit) (refused : List (List Lit)) (i : ℕ) → i < length xs → x ≡ get_or xs i x → holds c g ≡ (s && not (holds c (take i xs))) → holds c refused ≡ not (cube_holds c x) → (holds c g && holds c refused) ≡ (s && not (holds c (take (i + 1) xs)))
-rest_shrinks c s g xs x refused i b is t fails =
-    rw (t, fails) (neither s (holds c (take i xs)) (cube_holds c x) ∙ ap (λ p. s && not p) (ap (λ y. holds c (take i xs) || cube_holds c y) is ∙ sym (list_any_more (cube_holds c) xs i x b)))
+pub rest_shrinks : (c : List Atom) (s : Bool) (g xs : List (List Lit)) (x : List Lit) (i : ℕ) → i < length xs → x ≡ get_or xs i x → holds c g ≡ (s && not (holds c (take i xs))) → (holds c g && not (cube_holds c x)) ≡ (s && not (holds c (take (i + 1) xs)))
+rest_shrinks c s g xs x i b is t =
+    rw t (neither s (holds c (take i xs)) (cube_holds c x) ∙ ap (λ p. s && not p) (ap (λ y. holds c (take i xs) || cube_holds c y) is ∙ sym (list_any_more (cube_holds c) xs i x b)))
   where
     neither : (s p q : Bool) → ((s && not p) && not q) ≡ (s && not (p || q))
     neither true true q = refl

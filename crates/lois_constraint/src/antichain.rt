@@ -304,6 +304,21 @@ impl Antichain {
         with_met(alloc, Antichain { items: within }, others, c)
     }
 
+    /// The first cubes, at most so many.
+    pub(crate) fn keep_first(self, most: usize) -> Self
+        ensures truth { (e : List Atom) → IsTrue (holds e result) → IsTrue (holds e self) }
+        ensures rules { (rule : Rule) → ConstraintObeys rule self → ConstraintObeys rule result }
+    {
+        let Antichain { mut items } = self;
+        items.truncate(most);
+        Antichain { items }
+    }
+
+    /// How many cubes there are.
+    pub(crate) fn len(&self) -> usize {
+        self.items.len()
+    }
+
     /// The cubes as a constraint.
     pub(crate) fn into_constraint(self, alloc: Global) -> Result<Constraint, NoMemory>
         ensures same { IfOk result (λ r. r ≡ self) }

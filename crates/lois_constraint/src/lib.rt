@@ -23,7 +23,7 @@ mod sorting;
 pub use conflicts::{alternatives, conflict, entails, implies};
 pub use covering::covers_cube;
 pub use levels::{shift, substitute, substitute_cube};
-pub use negation::{and_not, negate};
+pub use negation::{Remainder, and_not, and_not_partly, negate};
 pub use normal::normalise;
 pub use products::{and, conjoin_cube, or, singleton};
 pub use pruning::{meet, prune, tighten};

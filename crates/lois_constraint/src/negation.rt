@@ -1,14 +1,14 @@
 //! Negation, one cube after another, pruned after each.
 
-ghost use Rattle.std.specs.Prelude.{◌≡◌, ℕ, Bool, List, ◌∷◌, [], ◌++◌, ◌&&◌, not, map, IfOk, OnOk};
+ghost use Rattle.std.specs.Prelude.{◌≡◌, ℕ, Bool, List, ◌∷◌, [], ◌++◌, ◌&&◌, not, map, IfOk, IsTrue, OnOk};
 ghost use Rattle.lois_base.specs.Atom.{Atom};
 ghost use Rattle.lois_base.specs.Fits.{ConstraintFits};
-ghost use Rattle.lois_base.specs.Truth.{holds};
+ghost use Rattle.lois_base.specs.Truth.{cube_holds, holds};
 ghost use Rattle.lois_base.specs.Validity.{AdmitsConstraint};
 ghost use Rattle.lois_base.specs.UsedLevels.{UsesOnly};
 ghost use Rattle.lois_constraint.specs.Alternatives.{alternatives, denials};
 ghost use Rattle.lois_constraint.specs.Entailment.{IsPruned};
-ghost use Rattle.lois_constraint.specs.Rules.{Rule, ConstraintObeys, IsKeptByDenial};
+ghost use Rattle.lois_constraint.specs.Rules.{Rule, CubeObeys, ConstraintObeys, IsKeptByDenial};
 
 use crate::antichain::Antichain;
 use crate::closed_cube::ClosedCube;
@@ -39,6 +39,15 @@ fn denied(alloc: Global, cube: &Cube) -> Result<Constraint, NoMemory>
     Ok(denied)
 }
 
+// The antichain without the cube.
+fn take_off_cube(alloc: Global, antichain: Antichain, cube: &Cube) -> Result<Antichain, NoMemory>
+    ensures truth { IfOk result (λ r. (e : List Atom) → holds e r ≡ (holds e antichain && not (cube_holds e cube.now))) }
+    ensures rules { IfOk result (λ r. (rule : Rule) → IsKeptByDenial rule → ConstraintObeys rule antichain → CubeObeys rule cube.now → ConstraintObeys rule r) }
+{
+    let refused = denied(alloc, cube)?;
+    Ok(antichain.meet(alloc, &refused)?)
+}
+
 // The antichain without the constraint, one cube after the other.
 fn take_off(alloc: Global, antichain: Antichain, c: &Constraint) -> Result<Antichain, NoMemory>
     ensures truth { IfOk result (λ r. (e : List Atom) → holds e r ≡ (holds e antichain && not (holds e c.now))) }
@@ -46,10 +55,42 @@ fn take_off(alloc: Global, antichain: Antichain, c: &Constraint) -> Result<Antic
 {
     let mut rest = antichain;
     for cube in c.as_slice() {
-        let refused = denied(alloc, cube)?;
-        rest = rest.meet(alloc, &refused)?;
+        rest = take_off_cube(alloc, rest, cube)?;
     }
     Ok(rest)
+}
+
+// What is left of an antichain, or a part of it.
+#[derive(Drop)]
+struct Left {
+    antichain: Antichain,
+    whole: bool,
+}
+
+// The antichain without the constraint, of which only so many cubes are kept after each cube that is taken off.
+fn take_off_partly(
+    alloc: Global,
+    antichain: Antichain,
+    c: &Constraint,
+    most: usize,
+) -> Result<Left, NoMemory>
+    ensures part { IfOk result (λ r. (e : List Atom) → IsTrue (holds e r.antichain) → IsTrue (holds e antichain && not (holds e c.now))) }
+    ensures whole { IfOk result (λ r. IsTrue r.whole → (e : List Atom) → holds e r.antichain ≡ (holds e antichain && not (holds e c.now))) }
+    ensures rules { IfOk result (λ r. (rule : Rule) → IsKeptByDenial rule → ConstraintObeys rule antichain → ConstraintObeys rule c.now → ConstraintObeys rule r.antichain) }
+{
+    let mut rest = antichain;
+    let mut whole = true;
+    for cube in c.as_slice() {
+        rest = take_off_cube(alloc, rest, cube)?;
+        if rest.len() > most {
+            rest = rest.keep_first(most);
+            whole = false;
+        }
+    }
+    Ok(Left {
+        antichain: rest,
+        whole,
+    })
 }
 
 /// A constraint that holds exactly where the given one doesn't, pruned.
@@ -63,6 +104,32 @@ pub fn negate(alloc: Global, c: &Constraint) -> Result<Constraint, NoMemory>
     let everywhere = Antichain::new(alloc).put(alloc, ClosedCube::new(alloc))?;
     let rest = take_off(alloc, everywhere, c)?;
     rest.into_constraint(alloc)
+}
+
+/// What `and_not` makes, or a part of it.
+#[derive(Drop)]
+pub struct Remainder {
+    pub constraint: Constraint,
+    pub whole: bool,
+}
+
+/// A constraint that holds only where `a` does and `c` doesn't. It stays small: at most `most` cubes are kept after each cube of
+/// `c` that is taken off. Where none was dropped it is `whole`, and holds exactly there. Errors: `NoMemory`.
+pub fn and_not_partly(
+    alloc: Global,
+    a: &Constraint,
+    c: &Constraint,
+    most: usize,
+) -> Result<Remainder, NoMemory>
+    ensures part { IfOk result (λ r. (e : List Atom) → IsTrue (holds e r.constraint) → IsTrue (holds e a.now && not (holds e c.now))) }
+    ensures whole { IfOk result (λ r. IsTrue r.whole → (e : List Atom) → holds e r.constraint ≡ (holds e a.now && not (holds e c.now))) }
+    ensures fits { IfOk result (λ r. (n : ℕ) → ConstraintFits n a.now → ConstraintFits n c.now → ConstraintFits n r.constraint) }
+{
+    let left = take_off_partly(alloc, Antichain::of(alloc, a)?, c, most)?;
+    Ok(Remainder {
+        constraint: left.antichain.into_constraint(alloc)?,
+        whole: left.whole,
+    })
 }
 
 /// A constraint that holds exactly where `a` does and `c` doesn't, pruned.

@@ -1,6 +1,6 @@
 -- Questions about one cube after another.
 use Rattle.std.proofs.Common.{◌≡◌, ℕ, zero, suc, ◌+◌, ◌-◌, ◌<◌, ◌≤◌, ◌^◌, ◌⊎◌, inl, inr, Bool, true, false, not, ◌&&◌, List, [], ◌∷◌, length, get_or, set, Option, Some, None, Result, Ok, Err, IfOk, OnOk, IfSome, IsNone, ◌↔◌, refl, sym, ap, ◌∙◌, subst, arith}
-use Rattle.std.proofs.lemmas.Bool.{cases_lt, and_parts, and_from}
+use Rattle.std.proofs.lemmas.Bool.{cases_lt, and_parts, and_from, true≢false}
 use Rattle.std.proofs.lemmas.List.Folds.{Any-from_list_any}
 use Rattle.std.proofs.lemmas.List.{get_or_default, get_or-set_same, length-map}
 use Rattle.std.specs.Bool.{IsTrue, IsFalse}
@@ -54,30 +54,46 @@ true_unless : (q : Bool) → (IsFalse q → ⊥) → IsTrue q
 true_unless true f = refl
 true_unless false f = absurd (f refl)
 
-module _ (g h r : List (List Lit)) (e : (c : List Atom) → holds c r ≡ (holds c g && not (holds c h))) where
-  pub meets_parts : (n : ℕ) (s : List ℕ) → IsConstraintSample n r s → IsCounterexample n g h s
-  meets_parts n s m =
-      let b = both_true (holds (sampled s) g) (holds (sampled s) h) (sym (e (sampled s)) ∙ m.1) in
+-- what holds only there
+module _ (n : ℕ) (g h r : List (List Lit)) (e : (c : List Atom) → IsTrue (holds c r) → IsTrue (holds c g && not (holds c h))) where
+  pub meets_within : (s : List ℕ) → IsConstraintSample n r s → IsCounterexample n g h s
+  meets_within s m =
+      let b = both_true (holds (sampled s) g) (holds (sampled s) h) (e (sampled s) m.1) in
       (m.0, b.0, b.1)
 
-  pub unmet_entails : (n : ℕ) → (ConstraintIsSatisfiable n r → ⊥) → IsEntailed n g h
-  unmet_entails n f = λ c l t. true_unless (holds c h) (λ u. f (c, l, e c ∙ true_both (holds c g) (holds c h) t u))
-
-  pub entailed_unmet : (n : ℕ) → IsEntailed n g h → ConstraintIsSatisfiable n r → ⊥
-  entailed_unmet n f m =
-      let b = both_true (holds m.0 g) (holds m.0 h) (sym (e m.0) ∙ m.2) in
+  pub entailed_unmet_within : IsEntailed n g h → ConstraintIsSatisfiable n r → ⊥
+  entailed_unmet_within f m =
+      let b = both_true (holds m.0 g) (holds m.0 h) (e m.0 m.2) in
       let t : IsTrue (holds m.0 h) = f m.0 m.1 b.0 in
       let u : IsFalse (holds m.0 h) = b.1 in
       cc
 
-module _ {E : Type 0} (n : ℕ) (g h r : List (List Lit)) (e : (c : List Atom) → holds c r ≡ (holds c g && not (holds c h))) where
-  pub sample_parts : (a : Result (Option (Vec ℕ)) E) → IfOk a (λ o. IfSome o (λ s. IsConstraintSample n r s.items)) → IfOk a (λ o. IfSome o (λ s. IsCounterexample n g h s.items))
-  sample_parts (Ok (Some s)) m = meets_parts g h r e n s.items m
+  -- a sample of it, for which it was asked
+  pub met_not_entailed : (o : Option (Vec ℕ)) (s : Vec ℕ) → o ≡ Some s → (IsNone o ↔ (ConstraintIsSatisfiable n r → ⊥)) → IsNone (Some s) ↔ IsEntailed n g h
+  met_not_entailed o s is none = (λ i. absurd (true≢false i), λ f. subst IsNone is (none.1 (entailed_unmet_within f)))
+
+module _ (n : ℕ) (g h r : List (List Lit)) (e : (c : List Atom) → holds c r ≡ (holds c g && not (holds c h))) where
+  unmet_entails : (ConstraintIsSatisfiable n r → ⊥) → IsEntailed n g h
+  unmet_entails f = λ c l t. true_unless (holds c h) (λ u. f (c, l, e c ∙ true_both (holds c g) (holds c h) t u))
+
+  within : (c : List Atom) → IsTrue (holds c r) → IsTrue (holds c g && not (holds c h))
+  within c t = sym (e c) ∙ t
+
+  pub sample_parts : {E : Type 0} (a : Result (Option (Vec ℕ)) E) → IfOk a (λ o. IfSome o (λ s. IsConstraintSample n r s.items)) → IfOk a (λ o. IfSome o (λ s. IsCounterexample n g h s.items))
+  sample_parts (Ok (Some s)) m = meets_within n g h r within s.items m
   sample_parts (Ok None) m = m
   sample_parts (Err x) m = m
 
-  pub none_parts : (a : Result (Option (Vec ℕ)) E) → IfOk a (λ o. IsNone o ↔ (ConstraintIsSatisfiable n r → ⊥)) → IfOk a (λ o. IsNone o ↔ IsEntailed n g h)
-  none_parts (Ok o) w = (λ i. unmet_entails g h r e n (w.0 i), λ f. w.1 (entailed_unmet g h r e n f))
+  pub none_of_parts : (o : Option (Vec ℕ)) → (IsNone o ↔ (ConstraintIsSatisfiable n r → ⊥)) → IsNone o ↔ IsEntailed n g h
+  none_of_parts o w = (λ i. unmet_entails (w.0 i), λ f. w.1 (entailed_unmet_within n g h r within f))
+
+  -- of nothing that was found
+  pub none_found : (o : Option (Vec ℕ)) → ((s : Vec ℕ) → o ≡ Some s → ⊥) → (IsNone o ↔ (ConstraintIsSatisfiable n r → ⊥)) → (false ≡ false) ↔ IsEntailed n g h
+  none_found None f w = none_of_parts None w
+  none_found (Some s) f w = absurd (f s refl)
+
+  pub none_parts : {E : Type 0} (a : Result (Option (Vec ℕ)) E) → IfOk a (λ o. IsNone o ↔ (ConstraintIsSatisfiable n r → ⊥)) → IfOk a (λ o. IsNone o ↔ IsEntailed n g h)
+  none_parts (Ok o) w = none_of_parts o w
   none_parts (Err x) w = w
 
 -- ---- the cubes of a constraint one after another
@@ -110,6 +126,10 @@ is_met n g s m = (sampled s, length-map s whole ∙ m.0.count, m.1)
 -- ---- an answer that may be missing
 pub some_is : {X : Type 0} (P : X → Type 0) (o : Option X) (x : X) → o ≡ Some x → IfSome o P → P x
 some_is P o x e h = subst (λ z. IfSome z P) e h
+
+pub some_weaker : {X : Type 0} (P Q : X → Type 0) (o : Option X) → ((x : X) → P x → Q x) → IfSome o P → IfSome o Q
+some_weaker P Q (Some x) f h = f x h
+some_weaker P Q None f h = h
 
 pub none_is : {X : Type 0} (o : Option X) → o ≡ None → IsNone o
 none_is o e = ap is_some e

@@ -14,8 +14,11 @@ ghost use Rattle.lois_deciders.specs.FirstWanted.{IsFirstWanted};
 ghost use Rattle.lois_deciders.specs.Conjunction.{IsSampledConjunction, AreInconsistent};
 
 use lois_base::{Constraint, Cube, Decider, Kind, NoMemory, Numbers};
-use lois_constraint::{and, and_not, meet, singleton};
+use lois_constraint::{and, and_not, and_not_partly, meet, singleton};
 use std::alloc::Global;
+
+// A counterexample is looked for among so many cubes of what is left, before all that is left is made.
+const MOST_CUBES: usize = 16;
 
 /// A constraint, and numbers at which it holds.
 #[derive(Drop)]
@@ -200,6 +203,13 @@ impl Chosen {
         ensures only_asked { HasOnlyAsked (λ b. kind_of b) (λ b. questions b) self.old self.new }
     {
         let whole = singleton(alloc, cube)?;
+        let part = and_not_partly(alloc, &whole, d, MOST_CUBES)?;
+        if let Some(sample) = self.ask(alloc, &part.constraint, size)? {
+            return Ok(Some(sample));
+        }
+        if part.whole {
+            return Ok(None);
+        }
         let left = and_not(alloc, &whole, d)?;
         self.ask(alloc, &left, size)
     }

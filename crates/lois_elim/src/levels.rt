@@ -4,6 +4,7 @@ ghost use Rattle.std.specs.Prelude.{◌≡◌, ◌+◌, ◌<◌, ◌^◌, Bool, 
 ghost use Rattle.lois_base.specs.Fits.{ConstraintFits};
 ghost use Rattle.lois_base.specs.Validity.{AdmitsConstraint};
 ghost use Rattle.lois_base.specs.Bound.{HoldsForSome, HoldsForEach};
+ghost use Rattle.lois_base.specs.Over.{ConstraintIsOver};
 ghost use Rattle.lois_elim.specs.Bound.{HoldsForSomeMore};
 
 use lois_base::{Constraint, NoMemory, Structure};
@@ -26,8 +27,7 @@ pub fn for_some<T: Structure>(
     c: &Constraint,
     size: usize,
 ) -> Result<Constraint, NoMemory>
-    requires levels { ConstraintFits (size + 1) c.now }
-    requires operators { AdmitsConstraint T.ordered c.now }
+    requires over { ConstraintIsOver T.ordered (size + 1) c.now }
     ensures truth { IfOk result (HoldsForSome size c.now) }
     ensures levels { IfOk result (ConstraintFits size) }
     ensures operators { IfOk result (λ r. (o : Bool) → AdmitsConstraint o c.now → AdmitsConstraint o r) }
@@ -47,8 +47,7 @@ pub fn for_some_more<T: Structure>(
     by: usize,
 ) -> Result<Constraint, NoMemory>
     requires room { size + by < 2 ^ 64 }
-    requires levels { ConstraintFits (size + by) c }
-    requires operators { AdmitsConstraint T.ordered c }
+    requires over { ConstraintIsOver T.ordered (size + by) c }
     ensures truth { IfOk result (HoldsForSomeMore size by c) }
     ensures levels { IfOk result (ConstraintFits size) }
     ensures operators { IfOk result (λ r. (o : Bool) → AdmitsConstraint o c → AdmitsConstraint o r) }
@@ -68,8 +67,7 @@ pub(crate) fn for_each<T: Structure>(
     c: &Constraint,
     size: usize,
 ) -> Result<Constraint, NoMemory>
-    requires levels { ConstraintFits (size + 1) c.now }
-    requires operators { AdmitsConstraint T.ordered c.now }
+    requires over { ConstraintIsOver T.ordered (size + 1) c.now }
     ensures truth { IfOk result (HoldsForEach size c.now) }
     ensures levels { IfOk result (ConstraintFits size) }
     ensures operators { IfOk result (λ r. (o : Bool) → AdmitsConstraint o c.now → AdmitsConstraint o r) }

@@ -4,6 +4,7 @@ ghost use Rattle.std.specs.Prelude.{◌≡◌, ℕ, ◌<◌, ◌^◌, Bool, List
 ghost use Rattle.lois_base.specs.Atom.{Atom};
 ghost use Rattle.lois_base.specs.Data.{coll, comps_of};
 ghost use Rattle.lois_base.specs.Fits.{Fits, ItemsFit};
+ghost use Rattle.lois_base.specs.Over.{IsOver, ItemsAreOver};
 ghost use Rattle.lois_base.specs.Tree.{tree};
 ghost use Rattle.lois_base.specs.Validity.{AdmitsTerm, AdmitsItems, HasBoundedWidths, ItemsHaveBoundedWidths};
 ghost use Rattle.lois_base.specs.Values.{point, IsIn};
@@ -27,10 +28,8 @@ pub fn complete_automaton<T: Structure>(
     more: &Comps,
     size: usize,
 ) -> Result<Term, NoMemory>
-    requires levels { Fits size (tree t.now) }
-    requires operators { AdmitsTerm T.ordered (tree t.now) }
-    requires more { ItemsFit size (comps_of more.now) }
-    requires more_operators { AdmitsItems T.ordered (comps_of more.now) }
+    requires over { IsOver T.ordered size (tree t.now) }
+    requires more { ItemsAreOver T.ordered size (comps_of more.now) }
     ensures completion { IfOk result (λ r. (c : List Atom) → length c ≡ size → IsDeterministicAt (tree t.now) c → IsCompletionAt (tree t.now) (coll (comps_of more.now)) (tree r) c) }
     ensures levels { IfOk result (λ r. Fits size (tree r)) }
     ensures operators { IfOk result (λ r. (o : Bool) → AdmitsTerm o (tree t.now) → AdmitsItems o (comps_of more.now) → AdmitsTerm o (tree r)) }

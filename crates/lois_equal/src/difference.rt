@@ -2,9 +2,9 @@
 
 ghost use Rattle.std.specs.Prelude.{Bool, IfOk, IfSome, IsNone, ◌↔◌};
 ghost use Rattle.std.specs.List.{All};
-ghost use Rattle.lois_base.specs.Fits.{ConstraintFits, Fits};
+ghost use Rattle.lois_base.specs.Over.{IsOver, ConstraintIsOver};
 ghost use Rattle.lois_base.specs.Tree.{tree};
-ghost use Rattle.lois_base.specs.Validity.{AdmitsConstraint, AdmitsTerm, HasBoundedWidths, IsStrictTerm};
+ghost use Rattle.lois_base.specs.Validity.{AdmitsTerm, HasBoundedWidths, IsStrictTerm};
 ghost use Rattle.lois_deciders.specs.OnlyAsked.{HasOnlyAsked};
 ghost use Rattle.lois_automata.specs.Machines.{IsAutomatonAt};
 ghost use Rattle.lois_automata.specs.Deterministic.{IsDeterministicAt};
@@ -31,12 +31,9 @@ pub fn shortest_difference<T: Structure>(
     size: usize,
     chosen: &mut Chosen,
 ) -> Result<Option<Word>, NoMemory>
-    requires levels { Fits size (tree a.now) }
-    requires operators { AdmitsTerm T.ordered (tree a.now) }
-    requires other_levels { Fits size (tree b.now) }
-    requires other_operators { AdmitsTerm T.ordered (tree b.now) }
-    requires under { ConstraintFits size under.now }
-    requires under_operators { AdmitsConstraint T.ordered under.now }
+    requires over { IsOver T.ordered size (tree a.now) }
+    requires other { IsOver T.ordered size (tree b.now) }
+    requires under { ConstraintIsOver T.ordered size under.now }
     requires automaton { HoldsThroughout size under.now (IsAutomatonAt (tree a.now)) }
     requires deterministic { HoldsThroughout size under.now (IsDeterministicAt (tree b.now)) }
     ensures none { IfOk result (λ o. IsNone o → IsLanguageIncluded size under.now (tree a.now) (tree b.now)) }
@@ -61,12 +58,9 @@ fn find_difference<T: Structure>(
     size: usize,
     chosen: &mut Chosen,
 ) -> Result<Option<Word>, NoMemory>
-    requires levels { Fits size (tree a.now) }
-    requires operators { AdmitsTerm T.ordered (tree a.now) }
-    requires other_levels { Fits size (tree b.now) }
-    requires other_operators { AdmitsTerm T.ordered (tree b.now) }
-    requires under { ConstraintFits size under.now }
-    requires under_operators { AdmitsConstraint T.ordered under.now }
+    requires over { IsOver T.ordered size (tree a.now) }
+    requires other { IsOver T.ordered size (tree b.now) }
+    requires under { ConstraintIsOver T.ordered size under.now }
     requires automaton { HoldsThroughout size under.now (IsAutomatonAt (tree a.now)) }
     requires deterministic { HoldsThroughout size under.now (IsDeterministicAt (tree b.now)) }
     ensures none { IfOk result (λ o. IsNone o → IsLanguageIncluded size under.now (tree a.now) (tree b.now)) }

@@ -2,9 +2,9 @@
 
 ghost use Rattle.std.specs.Prelude.{◌≡◌, Bool, IfOk, ◌↔◌};
 ghost use Rattle.std.specs.List.{All};
-ghost use Rattle.lois_base.specs.Fits.{ConstraintFits, Fits};
+ghost use Rattle.lois_base.specs.Over.{IsOver, ConstraintIsOver};
 ghost use Rattle.lois_base.specs.Tree.{tree};
-ghost use Rattle.lois_base.specs.Validity.{AdmitsConstraint, AdmitsTerm, HasBoundedWidths, IsStrictTerm};
+ghost use Rattle.lois_base.specs.Validity.{AdmitsTerm, HasBoundedWidths, IsStrictTerm};
 ghost use Rattle.lois_deciders.specs.OnlyAsked.{HasOnlyAsked};
 ghost use Rattle.lois_automata.specs.Deterministic.{IsDeterministicAt};
 ghost use Rattle.lois_automata.specs.Throughout.{HoldsThroughout};
@@ -46,12 +46,9 @@ pub fn equal<T: Structure>(
     size: usize,
     chosen: &mut Chosen,
 ) -> Result<Equality, NoMemory>
-    requires levels { Fits size (tree a.now) }
-    requires operators { AdmitsTerm T.ordered (tree a.now) }
-    requires other_levels { Fits size (tree b.now) }
-    requires other_operators { AdmitsTerm T.ordered (tree b.now) }
-    requires under { ConstraintFits size under.now }
-    requires under_operators { AdmitsConstraint T.ordered under.now }
+    requires over { IsOver T.ordered size (tree a.now) }
+    requires other { IsOver T.ordered size (tree b.now) }
+    requires under { ConstraintIsOver T.ordered size under.now }
     requires deterministic { HoldsThroughout size under.now (IsDeterministicAt (tree a.now)) }
     requires other_deterministic { HoldsThroughout size under.now (IsDeterministicAt (tree b.now)) }
     ensures same { IfOk result (λ r. IsSameAnswer r ↔ HaveSameLanguage size under.now (tree a.now) (tree b.now)) }

@@ -3,9 +3,10 @@
 ghost use Rattle.std.specs.Prelude.{◌≡◌, ℕ, ◌+◌, Bool, List, length, IfOk, OnOk};
 ghost use Rattle.lois_base.specs.Atom.{Atom};
 ghost use Rattle.lois_base.specs.Data.{coll, comps_of};
-ghost use Rattle.lois_base.specs.Fits.{Fits, CompFits, ItemsFit};
+ghost use Rattle.lois_base.specs.Fits.{Fits, ItemsFit};
+ghost use Rattle.lois_base.specs.Over.{IsOver, CompIsOver, ItemsAreOver};
 ghost use Rattle.lois_base.specs.Tree.{tree, comp_of};
-ghost use Rattle.lois_base.specs.Validity.{AdmitsTerm, AdmitsComp, AdmitsItems, HasBoundedWidths, ItemsHaveBoundedWidths};
+ghost use Rattle.lois_base.specs.Validity.{AdmitsTerm, AdmitsItems, HasBoundedWidths, ItemsHaveBoundedWidths};
 ghost use Rattle.lois_base.specs.Values.{point};
 ghost use Rattle.lois_terms.specs.Collections.{IsColl};
 ghost use Rattle.lois_equal.specs.Completed.{AreTotal, AddsSinkSteps, LeadToSink};
@@ -27,12 +28,9 @@ pub fn total_steps<T: Structure>(
     sink: &Term,
     size: usize,
 ) -> Result<Term, NoMemory>
-    requires states { ItemsFit size (comps_of states.now) }
-    requires states_operators { AdmitsItems T.ordered (comps_of states.now) }
-    requires letters { ItemsFit size (comps_of letters.now) }
-    requires letters_operators { AdmitsItems T.ordered (comps_of letters.now) }
-    requires steps { ItemsFit size (comps_of steps.now) }
-    requires steps_operators { AdmitsItems T.ordered (comps_of steps.now) }
+    requires states { ItemsAreOver T.ordered size (comps_of states.now) }
+    requires letters { ItemsAreOver T.ordered size (comps_of letters.now) }
+    requires steps { ItemsAreOver T.ordered size (comps_of steps.now) }
     requires sink { Fits size (tree sink.now) }
     ensures total { IfOk result (λ r. (c : List Atom) → length c ≡ size → AreTotal (point (coll (comps_of states.now)) c) (point (coll (comps_of letters.now)) c) (point (coll (comps_of steps.now)) c) (point (tree sink.now) c) (point (tree r) c)) }
     ensures set { IfOk result (λ r. IsColl (tree r)) }
@@ -58,11 +56,9 @@ fn steps_to_sink<T: Structure>(
     sink: &Term,
     size: usize,
 ) -> Result<Comps, NoMemory>
-    requires pairs { ItemsFit size (comps_of pairs.now) }
-    requires pairs_operators { AdmitsItems T.ordered (comps_of pairs.now) }
-    requires there { Fits size (tree there.now) }
+    requires pairs { ItemsAreOver T.ordered size (comps_of pairs.now) }
+    requires there { IsOver T.ordered size (tree there.now) }
     requires there_set { IsColl (tree there.now) }
-    requires there_operators { AdmitsTerm T.ordered (tree there.now) }
     requires sink { Fits size (tree sink.now) }
     ensures led { IfOk result (λ r. (c : List Atom) → length c ≡ size → LeadToSink (point (coll (comps_of pairs.now)) c) (point (tree there.now) c) (point (tree sink.now) c) (point (coll (comps_of r)) c)) }
     ensures levels { IfOk result (λ r. ItemsFit size (comps_of r)) }
@@ -85,11 +81,9 @@ fn add_step_to_sink<T: Structure>(
     sink: &Term,
     size: usize,
 ) -> Result<(), NoMemory>
-    requires levels { CompFits size (comp_of comp.now) }
-    requires operators { AdmitsComp T.ordered (comp_of comp.now) }
-    requires there { Fits size (tree there.now) }
+    requires over { CompIsOver T.ordered size (comp_of comp.now) }
+    requires there { IsOver T.ordered size (tree there.now) }
     requires there_set { IsColl (tree there.now) }
-    requires there_operators { AdmitsTerm T.ordered (tree there.now) }
     requires sink { Fits size (tree sink.now) }
     ensures { OnOk result (AddsSinkSteps size (comp_of comp.now) (tree there.now) (tree sink.now) (comps_of made.old) (comps_of made.new)) }
 {

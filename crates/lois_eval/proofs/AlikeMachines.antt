@@ -1,31 +1,23 @@
 -- Whether a value is an automaton, deterministic, complete, depends on nothing but how the atoms of the choice stand to one another.
-use Rattle.std.proofs.Common.{◌≡◌, ℕ, Bool, List, [], ◌∷◌, length, refl, sym, subst, ◌∙◌, arith}
+use Rattle.std.proofs.Common.{◌≡◌, ℕ, Bool, List, length, refl, sym, subst, ◌∙◌, arith}
 use Rattle.lois_base.specs.Atom.{Atom}
-use Rattle.lois_base.specs.Data.{TermD, tup, coll, no_terms, term, CompsD}
+use Rattle.lois_base.specs.Data.{TermD, coll, CompsD}
 use Rattle.lois_base.specs.Fits.{Fits, ItemsFit}
 use Rattle.lois_base.specs.Patterns.{AreAlike}
 use Rattle.lois_base.specs.Validity.{AdmitsTerm, AdmitsItems}
 use Rattle.lois_base.specs.Values.{PointValue, point, MemberAt, IsSame, IsIn, IsIncluded}
 use Rattle.lois_base.proofs.Members.{same_refl, same_sym, same_trans, in_same, member_in}
-use Rattle.lois_base.proofs.Moves.{partner, same_carried}
+use Rattle.lois_base.proofs.Moves.{partner, same_carried, Twinned, twinned_more, same_twinned}
 use Rattle.lois_base.proofs.Twins.{Twins, Within, IsPattern, IsCarried, swapped, pattern_swap, within_back, carried_more, carried_swap, zipped, has_zipped, pattern_zipped}
 use Rattle.lois_meaning.specs.Automata.{IsTriple, IsComplete}
-use Rattle.lois_meaning.specs.Kinds.{IsSet, part_values}
-use Rattle.lois_meaning.proofs.Alike.{set_term}
 use Rattle.lois_meaning.proofs.Tuples.{triple_to}
 use Rattle.lois_automata.specs.Deterministic.{IsDeterministicAt}
 use Rattle.lois_automata.specs.Machines.{IsAutomatonAt, IsCompleteAt}
 use Rattle.lois_automata.specs.Projections.{five_of, automaton_at, triple_of, HasStepIn, HasOneAtMost, HasUniqueTargets, StepsJoin}
 use Rattle.lois_automata.proofs.Checked.{is_automaton, is_deterministic}
 use Rattle.lois_automata.proofs.FiveMachine.{five_equal, five_machine}
+use Rattle.lois_automata.proofs.FiveTerms.{five_sets}
 use Rattle.lois_automata.proofs.Written.{triple_term, triple_is}
-
--- the value of a term at two choices whose atoms are partners
-record Moved (o : Bool) (ps : List Twins) (t : TermD) (c d : List Atom) : Type 0 where
-  size : ℕ
-  carried : IsCarried ps size c d
-  fits : Fits size t
-  admits : AdmitsTerm o t
 
 -- a member of a set at the first choice, for one at the second
 record Origin (o : Bool) (ps : List Twins) (w : TermD) (x : List Atom) (ss : CompsD) (c : List Atom) : Type 0 where
@@ -34,18 +26,10 @@ record Origin (o : Bool) (ps : List Twins) (w : TermD) (x : List Atom) (ss : Com
   within : Within ps pairs
   first : List Atom
   member : MemberAt w first ss c
-  moved : Moved o pairs w first x
+  moved : Twinned o pairs w first x
 
 module _ (o : Bool) where
-  moved_more : (ps qs : List Twins) (t : TermD) (c d : List Atom) → Within ps qs → Moved o ps t c d → Moved o qs t c d
-  moved_more ps qs t c d w h =
-      record { size = h.size; carried = carried_more ps qs h.size c d w h.carried; fits = h.fits; admits = h.admits }
-
-  same_moved : (ps : List Twins) → IsPattern o ps → (t : TermD) (c c' : List Atom) → Moved o ps t c c' → (s : TermD) (d d' : List Atom) → Moved o ps s d d' → IsSame (point t c) (point s d) → IsSame (point t c') (point s d')
-  same_moved ps pattern t c c' h s d d' k same =
-      same_carried o t ps pattern h.size c c' h.carried h.fits h.admits s k.size d d' k.carried k.fits k.admits same
-
-  same_back : (ps : List Twins) → IsPattern o ps → (t : TermD) (c c' : List Atom) → Moved o ps t c c' → (s : TermD) (d d' : List Atom) → Moved o ps s d d' → IsSame (point t c') (point s d') → IsSame (point t c) (point s d)
+  same_back : (ps : List Twins) → IsPattern o ps → (t : TermD) (c c' : List Atom) → Twinned o ps t c c' → (s : TermD) (d d' : List Atom) → Twinned o ps s d d' → IsSame (point t c') (point s d') → IsSame (point t c) (point s d)
   same_back ps pattern t c c' h s d d' k same =
       same_carried o t (swapped ps) (pattern_swap o ps pattern) h.size c' c (carried_swap ps h.size c c' h.carried) h.fits h.admits s k.size d' d (carried_swap ps k.size d d' k.carried) k.fits k.admits same
 
@@ -63,11 +47,11 @@ module _ (o : Bool) where
           moved = record { size = i.size; carried = carried_swap i.pairs i.size x i.image i.carried; fits = i.fits; admits = i.admits };
         }
 
-    in_moved : (ss : CompsD) → ItemsFit n ss → AdmitsItems o ss → (ps : List Twins) → IsPattern o ps → IsCarried ps n c d → (t : TermD) (y x : List Atom) → Moved o ps t y x → IsIn (point t y) (point (coll ss) c) → IsIn (point t x) (point (coll ss) d)
+    in_moved : (ss : CompsD) → ItemsFit n ss → AdmitsItems o ss → (ps : List Twins) → IsPattern o ps → IsCarried ps n c d → (t : TermD) (y x : List Atom) → Twinned o ps t y x → IsIn (point t y) (point (coll ss) c) → IsIn (point t x) (point (coll ss) d)
     in_moved ss fits admits ps pattern here t y x h (u, m, same) =
         let i = partner ss o ps pattern n c d here fits admits u.term_of u.choice m in
-        let other : Moved o i.pairs u.term_of u.choice i.image = record { size = i.size; carried = i.carried; fits = i.fits; admits = i.admits } in
-        (point u.term_of i.image, i.member, same_moved i.pairs i.pattern t y x (moved_more ps i.pairs t y x i.within h) u.term_of u.choice i.image other same)
+        let other : Twinned o i.pairs u.term_of u.choice i.image = record { size = i.size; carried = i.carried; fits = i.fits; admits = i.admits } in
+        (point u.term_of i.image, i.member, same_twinned o i.pairs i.pattern t y x (twinned_more o ps i.pairs t y x i.within h) u.term_of u.choice i.image other same)
 
     included_moved : (is ss : CompsD) → ItemsFit n is → AdmitsItems o is → ItemsFit n ss → AdmitsItems o ss → (ps : List Twins) → IsPattern o ps → IsCarried ps n c d → IsIncluded (point (coll is) c) (point (coll ss) c) → IsIncluded (point (coll is) d) (point (coll ss) d)
     included_moved is ss fits admits fits' admits' ps pattern here inside x m =
@@ -75,7 +59,7 @@ module _ (o : Bool) where
         in_moved ss fits' admits' i.pairs i.pattern (carried_more ps i.pairs n c d i.within here) x.term_of i.first x.choice i.moved (inside (point x.term_of i.first) i.member)
 
     -- the parts of a step at both choices
-    part_moved : (ps : List Twins) (p a q : TermD) (w : TermD) (y x : List Atom) → w ≡ triple_of p a q → Moved o ps w y x → Moved o ps p y x × Moved o ps a y x × Moved o ps q y x
+    part_moved : (ps : List Twins) (p a q : TermD) (w : TermD) (y x : List Atom) → w ≡ triple_of p a q → Twinned o ps w y x → Twinned o ps p y x × Twinned o ps a y x × Twinned o ps q y x
     part_moved ps p a q w y x is h =
         let fit : Fits h.size (triple_of p a q) = subst (Fits h.size) is h.fits in
         let admit : AdmitsTerm o (triple_of p a q) = subst (AdmitsTerm o) is h.admits in (
@@ -107,7 +91,7 @@ module _ (o : Bool) where
           let i = origin ss fits admits ps pattern here u.term_of u.choice m in
           let j = origin ss fits admits i.pairs i.pattern (carried_more ps i.pairs n c d i.within here) v.term_of v.choice k in
           let before : IsSame (point u.term_of i.first) (point v.term_of j.first) = one (point u.term_of i.first) (point v.term_of j.first) (member_in (point u.term_of i.first) (point (coll ss) c) i.member) (member_in (point v.term_of j.first) (point (coll ss) c) j.member) in
-          let after : IsSame u v = same_moved j.pairs j.pattern u.term_of i.first u.choice (moved_more i.pairs j.pairs u.term_of i.first u.choice j.within i.moved) v.term_of j.first v.choice j.moved before in
+          let after : IsSame u v = same_twinned o j.pairs j.pattern u.term_of i.first u.choice (twinned_more o i.pairs j.pairs u.term_of i.first u.choice j.within i.moved) v.term_of j.first v.choice j.moved before in
           same_trans p u q same (same_trans u v q after (same_sym q v same'))
 
       unique_moved : HasUniqueTargets (point (coll t) c) → HasUniqueTargets (point (coll t) d)
@@ -116,7 +100,7 @@ module _ (o : Bool) where
           let j = origin t steps_fit steps_admit i.pairs i.pattern (carried_more ps i.pairs n c d i.within here) v.term_of v.choice k in
           let one = triple_term u.term_of u.choice p a q (triple_to x u p a q same first) in
           let two = triple_term v.term_of v.choice p a r (triple_to y v p a r same' second) in
-          let mine = part_moved j.pairs one.0 one.1 one.2 u.term_of i.first u.choice one.3 (moved_more i.pairs j.pairs u.term_of i.first u.choice j.within i.moved) in
+          let mine = part_moved j.pairs one.0 one.1 one.2 u.term_of i.first u.choice one.3 (twinned_more o i.pairs j.pairs u.term_of i.first u.choice j.within i.moved) in
           let other = part_moved j.pairs two.0 two.1 two.2 v.term_of j.first v.choice two.3 j.moved in
           let sources : IsSame (point one.0 i.first) (point two.0 j.first) = same_back j.pairs j.pattern one.0 i.first u.choice mine.0 two.0 j.first v.choice other.0 (same_trans (point one.0 u.choice) p (point two.0 v.choice) (same_sym p (point one.0 u.choice) one.4) two.4) in
           let letters : IsSame (point one.1 i.first) (point two.1 j.first) = same_back j.pairs j.pattern one.1 i.first u.choice mine.1 two.1 j.first v.choice other.1 (same_trans (point one.1 u.choice) a (point two.1 v.choice) (same_sym a (point one.1 u.choice) one.5) two.5) in
@@ -130,7 +114,7 @@ module _ (o : Bool) where
             member_in (point v.term_of j.first) (point (coll t) c) j.member,
             subst (λ z. IsTriple (point z j.first) (point one.0 i.first) (point one.1 i.first) (point two.2 j.first)) (sym two.3) (point two.0 j.first, point two.1 j.first, point two.2 j.first, refl, sources, letters, same_refl (point two.2 j.first)),
           ) in
-          let targets : IsSame (point one.2 u.choice) (point two.2 v.choice) = same_moved j.pairs j.pattern one.2 i.first u.choice mine.2 two.2 j.first v.choice other.2 (unique (point one.0 i.first) (point one.1 i.first) (point one.2 i.first) (point two.2 j.first) step again) in
+          let targets : IsSame (point one.2 u.choice) (point two.2 v.choice) = same_twinned o j.pairs j.pattern one.2 i.first u.choice mine.2 two.2 j.first v.choice other.2 (unique (point one.0 i.first) (point one.1 i.first) (point one.2 i.first) (point two.2 j.first) step again) in
           same_trans q (point one.2 u.choice) r one.6 (same_trans (point one.2 u.choice) (point two.2 v.choice) r targets (same_sym r (point two.2 v.choice) two.6))
 
       complete_moved : (s l i f : CompsD) → ItemsFit n s → AdmitsItems o s → ItemsFit n l → AdmitsItems o l → IsComplete (automaton_at s l t i f c) → IsComplete (automaton_at s l t i f d)
@@ -144,9 +128,9 @@ module _ (o : Bool) where
           let e = partner t o j.pairs j.pattern n c d (carried_more i.pairs j.pairs n c d j.within here') steps_fit steps_admit w.term_of w.choice member in
           let three = triple_term w.term_of w.choice state letter q (triple_to y w state letter q is triple) in
           let parts = part_moved e.pairs three.0 three.1 three.2 w.term_of w.choice e.image three.3 (record { size = e.size; carried = e.carried; fits = e.fits; admits = e.admits }) in
-          let wider : Moved o j.pairs u.term_of i.first u.choice = moved_more i.pairs j.pairs u.term_of i.first u.choice j.within i.moved in
-          let source : IsSame u (point three.0 e.image) = same_moved e.pairs e.pattern u.term_of i.first u.choice (moved_more j.pairs e.pairs u.term_of i.first u.choice e.within wider) three.0 w.choice e.image parts.0 three.4 in
-          let read : IsSame v (point three.1 e.image) = same_moved e.pairs e.pattern v.term_of j.first v.choice (moved_more j.pairs e.pairs v.term_of j.first v.choice e.within j.moved) three.1 w.choice e.image parts.1 three.5 in (
+          let wider : Twinned o j.pairs u.term_of i.first u.choice = twinned_more o i.pairs j.pairs u.term_of i.first u.choice j.within i.moved in
+          let source : IsSame u (point three.0 e.image) = same_twinned o e.pairs e.pattern u.term_of i.first u.choice (twinned_more o j.pairs e.pairs u.term_of i.first u.choice e.within wider) three.0 w.choice e.image parts.0 three.4 in
+          let read : IsSame v (point three.1 e.image) = same_twinned o e.pairs e.pattern v.term_of j.first v.choice (twinned_more o j.pairs e.pairs v.term_of j.first v.choice e.within j.moved) three.1 w.choice e.image parts.1 three.5 in (
             point three.2 e.image,
             (
               point w.term_of e.image,
@@ -154,29 +138,6 @@ module _ (o : Bool) where
               subst (λ z. IsTriple (point z e.image) p a (point three.2 e.image)) (sym three.3) (point three.0 e.image, point three.1 e.image, point three.2 e.image, refl, same_trans p u (point three.0 e.image) same source, same_trans a v (point three.1 e.image) same' read, same_refl (point three.2 e.image)),
             ),
           )
-
--- ---- the term of an automaton is a tuple of five sets
-five_written : (v w x y z : TermD) (s l u i f : CompsD) → v ≡ coll s → w ≡ coll l → x ≡ coll u → y ≡ coll i → z ≡ coll f → tup (term v (term w (term x (term y (term z no_terms))))) ≡ five_of s l u i f
-five_written v w x y z s l u i f p q r k m = rw (p, q, r, k, m) refl
-
-five_sets : (t : TermD) (c : List Atom) → IsAutomatonAt t c → (s l u i f : CompsD) × (t ≡ five_of s l u i f)
-five_sets (tup (term v (term w (term x (term y (term z no_terms)))))) c (m, is) =
-    let one = set_term v (subst IsSet (parts.0) is.states_set) in
-    let two = set_term w (subst IsSet (parts.1) is.letters_set) in
-    let three = set_term x (subst IsSet (parts.2) is.steps_set) in
-    let four = set_term y (subst IsSet (parts.3) is.initial_set) in
-    let five = set_term z (subst IsSet (parts.4) is.final_set) in
-    (one.0, two.0, three.0, four.0, five.0, five_written v w x y z one.0 two.0 three.0 four.0 five.0 one.1 two.1 three.1 four.1 five.1)
-  where
-    parts : (m.states ≡ point v c) × (m.letters ≡ point w c) × (m.steps ≡ point x c) × (m.initial ≡ point y c) × (m.final ≡ point z c)
-    parts = let five : m.states ∷ m.letters ∷ m.steps ∷ m.initial ∷ m.final ∷ [] ≡ point v c ∷ point w c ∷ point x c ∷ point y c ∷ point z c ∷ [] = is.five in (cc, cc, cc, cc, cc)
-five_sets (tup no_terms) c (m, is) = absurd (let five : m.states ∷ m.letters ∷ m.steps ∷ m.initial ∷ m.final ∷ [] ≡ [] = is.five in cc)
-five_sets (tup (term v no_terms)) c (m, is) = absurd (let five : m.states ∷ m.letters ∷ m.steps ∷ m.initial ∷ m.final ∷ [] ≡ point v c ∷ [] = is.five in cc)
-five_sets (tup (term v (term w no_terms))) c (m, is) = absurd (let five : m.states ∷ m.letters ∷ m.steps ∷ m.initial ∷ m.final ∷ [] ≡ point v c ∷ point w c ∷ [] = is.five in cc)
-five_sets (tup (term v (term w (term x no_terms)))) c (m, is) = absurd (let five : m.states ∷ m.letters ∷ m.steps ∷ m.initial ∷ m.final ∷ [] ≡ point v c ∷ point w c ∷ point x c ∷ [] = is.five in cc)
-five_sets (tup (term v (term w (term x (term y no_terms))))) c (m, is) = absurd (let five : m.states ∷ m.letters ∷ m.steps ∷ m.initial ∷ m.final ∷ [] ≡ point v c ∷ point w c ∷ point x c ∷ point y c ∷ [] = is.five in cc)
-five_sets (tup (term v (term w (term x (term y (term z (term k ks))))))) c (m, is) = absurd (let five : m.states ∷ m.letters ∷ m.steps ∷ m.initial ∷ m.final ∷ [] ≡ point v c ∷ point w c ∷ point x c ∷ point y c ∷ point z c ∷ point k c ∷ part_values ks c = is.five in cc)
-five_sets _ c (m, is) = absurd is.five
 
 -- ---- choices that stand alike
 module _ (o : Bool) (n : ℕ) (c d : List Atom) (count : length c ≡ n) (t : TermD) (fits : Fits n t) (admits : AdmitsTerm o t) (alike : AreAlike o c d) where

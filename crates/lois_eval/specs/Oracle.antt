@@ -7,9 +7,10 @@ use Rattle.std.specs.declared.alloc.Global.{Global}
 use Rattle.lois_base.specs.Atom.{Atom}
 use Rattle.lois_base.specs.Data.{TermD, terms_of}
 use Rattle.lois_base.specs.Fits.{ConstraintFits, Fits}
+use Rattle.lois_base.specs.Over.{IsOver}
 use Rattle.lois_base.specs.Tree.{tree}
 use Rattle.lois_base.specs.Truth.{holds}
-use Rattle.lois_base.specs.Validity.{AdmitsConstraint, AdmitsTerm}
+use Rattle.lois_base.specs.Validity.{AdmitsConstraint}
 use Rattle.lois_base.specs.declared.NoMemory.{NoMemory}
 use Rattle.lois_base.specs.declared.guards.Constraint.{Constraint}
 use Rattle.lois_base.specs.declared.values.Term.{Term}
@@ -69,9 +70,9 @@ pub record AppliesToAutomata {F D : Type 0} (o : Bool) (pre : F → MutBor D →
 
 -- it may be called for a value of the context's levels, and answers where that accepts no word
 pub record FindsEmptiness {F D : Type 0} (o : Bool) (pre : F → MutBor D → Global → Bor Expr → Bor Term → Bor Context → Type 0) (post : EmptyCalls F D) : Type 0 where
-  pub callable : (f : F) (d : MutBor D) (m : Global) (e : Bor Expr) (t : Bor Term) (k : Bor Context) → IsValueThroughout k.now (expr_tree e.now) (tree t.now) → Fits k.now.size (tree t.now) → AdmitsTerm o (tree t.now) → AdmitsContext o k.now → pre f d m e t k
-  pub emptiness : (f : F) (d d' : MutBor D) (m : Global) (e : Bor Expr) (t : Bor Term) (k : Bor Context) (r : Result Constraint Stop) → IsValueThroughout k.now (expr_tree e.now) (tree t.now) → Fits k.now.size (tree t.now) → AdmitsTerm o (tree t.now) → AdmitsContext o k.now → post f d m e t k r d' → IfOk r (IsEmptiness k.now (tree t.now))
-  pub fault : (f : F) (d d' : MutBor D) (m : Global) (e : Bor Expr) (t : Bor Term) (k : Bor Context) (r : Result Constraint Stop) → IsValueThroughout k.now (expr_tree e.now) (tree t.now) → Fits k.now.size (tree t.now) → AdmitsTerm o (tree t.now) → AdmitsContext o k.now → post f d m e t k r d' → IfErr r (λ s. IfFault s (IsValueFault o k.now IsNoAutomaton (tree t.now) (pos (expr_tree e.now))))
+  pub callable : (f : F) (d : MutBor D) (m : Global) (e : Bor Expr) (t : Bor Term) (k : Bor Context) → IsValueThroughout k.now (expr_tree e.now) (tree t.now) → IsOver o k.now.size (tree t.now) → AdmitsContext o k.now → pre f d m e t k
+  pub emptiness : (f : F) (d d' : MutBor D) (m : Global) (e : Bor Expr) (t : Bor Term) (k : Bor Context) (r : Result Constraint Stop) → IsValueThroughout k.now (expr_tree e.now) (tree t.now) → IsOver o k.now.size (tree t.now) → AdmitsContext o k.now → post f d m e t k r d' → IfOk r (IsEmptiness k.now (tree t.now))
+  pub fault : (f : F) (d d' : MutBor D) (m : Global) (e : Bor Expr) (t : Bor Term) (k : Bor Context) (r : Result Constraint Stop) → IsValueThroughout k.now (expr_tree e.now) (tree t.now) → IsOver o k.now.size (tree t.now) → AdmitsContext o k.now → post f d m e t k r d' → IfErr r (λ s. IfFault s (IsValueFault o k.now IsNoAutomaton (tree t.now) (pos (expr_tree e.now))))
 
 -- entering a loop may leave q of p
 pub record LeadsByLoop {F D : Type 0} (post : LoopCalls F D) (p q : D) : Type 0 where

@@ -2,10 +2,11 @@
 
 ghost use Rattle.std.specs.Prelude.{◌≡◌, ◌↔◌, List, length, IfOk, OnOk, IfErr, IsTrue};
 ghost use Rattle.lois_base.specs.Atom.{Atom};
-ghost use Rattle.lois_base.specs.Fits.{Fits, ConstraintFits};
+ghost use Rattle.lois_base.specs.Fits.{ConstraintFits};
+ghost use Rattle.lois_base.specs.Over.{IsOver};
 ghost use Rattle.lois_base.specs.Tree.{tree};
 ghost use Rattle.lois_base.specs.Truth.{holds};
-ghost use Rattle.lois_base.specs.Validity.{AdmitsConstraint, AdmitsTerm};
+ghost use Rattle.lois_base.specs.Validity.{AdmitsConstraint};
 ghost use Rattle.lois_base.specs.Values.{point, IsDeeper};
 ghost use Rattle.lois_meaning.specs.Store.{depth_limit, IsShallow};
 ghost use Rattle.lois_terms.specs.Collections.{IsColl};
@@ -46,8 +47,7 @@ pub(crate) fn shallow<T: Structure, D: Oracle<T>>(
     decider: &mut D,
 ) -> Result<Term, Stop>
     requires sound { D.sound }
-    requires levels { Fits context.now.size (tree term) }
-    requires operators { AdmitsTerm T.ordered (tree term) }
+    requires over { IsOver T.ordered context.now.size (tree term) }
     ensures same { IfOk result (λ r. tree r ≡ tree term) }
     ensures shallow { OnOk result ((c : List Atom) → IsAdmitted c context.now → IsShallow (point (tree term) c)) }
     ensures fault { IfErr result (λ s. IfFault s (IsDepthFault T.ordered context.now (tree term) pos.offset)) }
@@ -66,8 +66,7 @@ pub(crate) fn check_depth<T: Structure, D: Oracle<T>>(
     decider: &mut D,
 ) -> Result<(), Stop>
     requires sound { D.sound }
-    requires levels { Fits context.now.size (tree term.now) }
-    requires operators { AdmitsTerm T.ordered (tree term.now) }
+    requires over { IsOver T.ordered context.now.size (tree term.now) }
     ensures shallow { OnOk result ((c : List Atom) → IsAdmitted c context.now → IsShallow (point (tree term.now) c)) }
     ensures fault { IfErr result (λ s. IfFault s (IsDepthFault T.ordered context.now (tree term.now) pos.offset)) }
     ensures asked { D.reaches decider.old decider.new }
@@ -88,8 +87,7 @@ pub fn too_deep<T: Structure>(
     term: &Term,
     size: usize,
 ) -> Result<Constraint, NoMemory>
-    requires levels { Fits size (tree term.now) }
-    requires operators { AdmitsTerm T.ordered (tree term.now) }
+    requires over { IsOver T.ordered size (tree term.now) }
     ensures truth { IfOk result (λ r. (c : List Atom) → length c ≡ size → IsTrue (holds c r) ↔ IsDeeper (point (tree term.now) c) depth_limit) }
     ensures levels { IfOk result (ConstraintFits size) }
     ensures operators { IfOk result (AdmitsConstraint T.ordered) }

@@ -5,6 +5,7 @@ ghost use Rattle.std.specs.List.{All};
 ghost use Rattle.lois_base.specs.Atom.{Atom};
 ghost use Rattle.lois_base.specs.Data.{comps_of, coll, terms_of};
 ghost use Rattle.lois_base.specs.Fits.{ConstraintFits, Fits};
+ghost use Rattle.lois_base.specs.Over.{IsOver};
 ghost use Rattle.lois_base.specs.Tree.{tree as term_tree};
 ghost use Rattle.lois_base.specs.Truth.{holds};
 ghost use Rattle.lois_base.specs.Validity.{AdmitsConstraint, AdmitsTerm, HasBoundedWidths};
@@ -96,8 +97,7 @@ pub fn eval<T: Structure>(
         { applied_to_automata::<T>(alloc, operation, operands, values, context, asked) },
         empty: |asked: &mut Chosen, alloc: Global, operand: &Expr, automaton: &Term, context: &Context|
             requires given { IsValueThroughout context.now (tree operand.now) (term_tree automaton.now) }
-            requires levels { Fits context.now.size (term_tree automaton.now) }
-            requires operators { AdmitsTerm T.ordered (term_tree automaton.now) }
+            requires over { IsOver T.ordered context.now.size (term_tree automaton.now) }
             requires context_operators { AdmitsContext T.ordered context.now }
             ensures emptiness { IfOk result (IsEmptiness context.now (term_tree automaton.now)) }
             ensures fault { IfErr result (λ s. IfFault s (IsValueFault T.ordered context.now IsNoAutomaton (term_tree automaton.now) (pos (tree operand.now)))) }
@@ -156,8 +156,7 @@ pub fn decide<T: Structure>(
         { applied_to_automata::<T>(alloc, operation, operands, values, context, asked) },
         empty: |asked: &mut Chosen, alloc: Global, operand: &Expr, automaton: &Term, context: &Context|
             requires given { IsValueThroughout context.now (tree operand.now) (term_tree automaton.now) }
-            requires levels { Fits context.now.size (term_tree automaton.now) }
-            requires operators { AdmitsTerm T.ordered (term_tree automaton.now) }
+            requires over { IsOver T.ordered context.now.size (term_tree automaton.now) }
             requires context_operators { AdmitsContext T.ordered context.now }
             ensures emptiness { IfOk result (IsEmptiness context.now (term_tree automaton.now)) }
             ensures fault { IfErr result (λ s. IfFault s (IsValueFault T.ordered context.now IsNoAutomaton (term_tree automaton.now) (pos (tree operand.now)))) }

@@ -2,9 +2,8 @@
 
 ghost use Rattle.std.specs.Prelude.{◌↔◌, [], ◌∷◌, IfOk, IfErr, OnOk, IsTrue};
 ghost use Rattle.lois_base.specs.Data.{comps_of, coll};
-ghost use Rattle.lois_base.specs.Fits.{Fits, CompFits, ItemsFit};
+ghost use Rattle.lois_base.specs.Over.{IsOver, CompIsOver, ItemsAreOver};
 ghost use Rattle.lois_base.specs.Tree.{tree, comp_of};
-ghost use Rattle.lois_base.specs.Validity.{AdmitsTerm, AdmitsComp, AdmitsItems};
 ghost use Rattle.lois_terms.specs.Collections.{IsColl};
 ghost use Rattle.lois_context.specs.Entered.{HasNoMembers};
 ghost use Rattle.lois_eval.specs.Operands.{HasSetsOf, IsKeptIfSet, IsMemberFault};
@@ -29,8 +28,7 @@ pub(crate) fn sets_in<T: Structure, D: Oracle<T>>(
     decider: &mut D,
 ) -> Result<Term, Stop>
     requires sound { D.sound }
-    requires levels { Fits context.now.size (tree set.now) }
-    requires operators { AdmitsTerm T.ordered (tree set.now) }
+    requires over { IsOver T.ordered context.now.size (tree set.now) }
     requires set { IsColl (tree set.now) }
     ensures sets { IfOk result (λ r. HasSetsOf context.now (tree set.now) (tree r)) }
     ensures fault { IfErr result (λ s. IfFault s (IsMemberFault T.ordered context.now (tree set.now) pos.offset)) }
@@ -50,8 +48,7 @@ fn kept<T: Structure, D: Oracle<T>>(
     decider: &mut D,
 ) -> Result<Comps, Stop>
     requires sound { D.sound }
-    requires levels { ItemsFit context.now.size (comps_of comps.now) }
-    requires operators { AdmitsItems T.ordered (comps_of comps.now) }
+    requires over { ItemsAreOver T.ordered context.now.size (comps_of comps.now) }
     ensures sets { IfOk result (λ r. HasSetsOf context.now (coll (comps_of comps.now)) (coll (comps_of r))) }
     ensures fault { IfErr result (λ s. IfFault s (IsMemberFault T.ordered context.now (coll (comps_of comps.now)) pos.offset)) }
     ensures asked { D.reaches decider.old decider.new }
@@ -73,8 +70,7 @@ fn put_set<T: Structure, D: Oracle<T>>(
     decider: &mut D,
 ) -> Result<(), Stop>
     requires sound { D.sound }
-    requires levels { CompFits context.now.size (comp_of comp.now) }
-    requires operators { AdmitsComp T.ordered (comp_of comp.now) }
+    requires over { CompIsOver T.ordered context.now.size (comp_of comp.now) }
     ensures kept { OnOk result (IsKeptIfSet context.now (comp_of comp.now) kept.old kept.new) }
     ensures fault { IfErr result (λ s. IfFault s (IsMemberFault T.ordered context.now (coll (comps_of (comp_of comp.now ∷ []))) pos.offset)) }
     ensures asked { D.reaches decider.old decider.new }
@@ -101,8 +97,7 @@ fn check_empty<T: Structure, D: Oracle<T>>(
     decider: &mut D,
 ) -> Result<(), Stop>
     requires sound { D.sound }
-    requires levels { CompFits context.now.size (comp_of comp.now) }
-    requires operators { AdmitsComp T.ordered (comp_of comp.now) }
+    requires over { CompIsOver T.ordered context.now.size (comp_of comp.now) }
     requires item { IsColl (tree comp.now.item) → ⊥ }
     ensures empty { OnOk result (HasNoMembers context.now (comp_of comp.now)) }
     ensures fault { IfErr result (λ s. IfFault s (IsMemberFault T.ordered context.now (coll (comps_of (comp_of comp.now ∷ []))) pos.offset)) }

@@ -1,9 +1,8 @@
 //! What contexts inside of a loop come to outside.
 
 ghost use Rattle.std.specs.Prelude.{◌≡◌, ◌++◌, ◌≤◌, map, IfOk, OnOk};
-ghost use Rattle.lois_base.specs.Fits.{ConstraintFits};
+ghost use Rattle.lois_base.specs.Over.{ConstraintIsOver};
 ghost use Rattle.lois_base.specs.Tree.{comp_of};
-ghost use Rattle.lois_base.specs.Validity.{AdmitsConstraint};
 ghost use Rattle.lois_context.specs.Choices.{AdmitsContext};
 ghost use Rattle.lois_eval.specs.Folded.{outward, HasFoundToo};
 
@@ -53,8 +52,7 @@ pub(crate) fn found_too<T: Structure>(
     size: usize,
 ) -> Result<Constraint, NoMemory>
     requires longer { size ≤ context.now.size }
-    requires levels { ConstraintFits context.now.size held }
-    requires operators { AdmitsConstraint T.ordered held }
+    requires over { ConstraintIsOver T.ordered context.now.size held }
     requires context_operators { AdmitsContext T.ordered context.now }
     ensures found { IfOk result (HasFoundToo context.now size wanted found held) }
 {

@@ -2,6 +2,7 @@
 
 ghost use Rattle.std.specs.Prelude.{◌≡◌, [], ◌∷◌, Bool, IfOk, IfErr};
 ghost use Rattle.lois_base.specs.Fits.{Fits};
+ghost use Rattle.lois_base.specs.Over.{IsOver};
 ghost use Rattle.lois_base.specs.Tree.{tree as term_tree};
 ghost use Rattle.lois_base.specs.Validity.{AdmitsTerm, HasBoundedWidths};
 ghost use Rattle.lois_algebra.specs.Sets.{HasAllAtoms};
@@ -160,10 +161,8 @@ fn compared_with<T: Structure>(
 ) -> Result<Constraint, Stop>
     requires form { IsComparisonCond (cond_tree c.now) }
     requires values { AreTermsOf context.now (sides_of (cond_tree c.now)) (CondIsWellFormed (cond_tree c.now)) (term_tree s.now ∷ term_tree t.now ∷ []) }
-    requires left { Fits context.now.size (term_tree s.now) }
-    requires left_operators { AdmitsTerm T.ordered (term_tree s.now) }
-    requires right { Fits context.now.size (term_tree t.now) }
-    requires right_operators { AdmitsTerm T.ordered (term_tree t.now) }
+    requires left { IsOver T.ordered context.now.size (term_tree s.now) }
+    requires right { IsOver T.ordered context.now.size (term_tree t.now) }
     requires context_operators { AdmitsContext T.ordered context.now }
     ensures constraint { IfOk result (IsConstraintOf context.now (HasTruth (cond_tree c.now)) (CondIsWellFormed (cond_tree c.now))) }
     ensures fault { IfErr result (λ s. IfFault s (IsFaultOf T.ordered context.now (CondFails (cond_tree c.now)))) }
@@ -195,8 +194,7 @@ pub(crate) fn wordless<T: Structure, D: Oracle<T>>(
 ) -> Result<Constraint, Stop>
     requires sound { D.sound }
     requires given { IsValueThroughout context.now (tree operand.now) (term_tree automaton) }
-    requires levels { Fits context.now.size (term_tree automaton) }
-    requires operators { AdmitsTerm T.ordered (term_tree automaton) }
+    requires over { IsOver T.ordered context.now.size (term_tree automaton) }
     requires context_operators { AdmitsContext T.ordered context.now }
     ensures emptiness { IfOk result (IsEmptiness context.now (term_tree automaton)) }
     ensures fault { IfErr result (λ s. IfFault s (IsValueFault T.ordered context.now IsNoAutomaton (term_tree automaton) (pos (tree operand.now)))) }

@@ -1,9 +1,8 @@
 //! What is asked of values that operations on automata take.
 
 ghost use Rattle.std.specs.Prelude.{◌≡◌, IfErr, IsTrue, OnOk};
-ghost use Rattle.lois_base.specs.Fits.{Fits};
+ghost use Rattle.lois_base.specs.Over.{IsOver};
 ghost use Rattle.lois_base.specs.Tree.{tree};
-ghost use Rattle.lois_base.specs.Validity.{AdmitsTerm};
 ghost use Rattle.lois_deciders.specs.OnlyAsked.{HasOnlyAsked};
 ghost use Rattle.lois_automata.specs.Machines.{IsAutomatonAt, IsCompleteDeterministicAt};
 ghost use Rattle.lois_automata.specs.Throughout.{HoldsThroughout};
@@ -36,8 +35,7 @@ pub(crate) fn check_machine<T: Structure>(
     chosen: &mut Chosen,
 ) -> Result<(), Stop>
     requires given { IsValueThroughout context.now (expr_tree operand.now) (tree value.now) }
-    requires levels { Fits context.now.size (tree value.now) }
-    requires operators { AdmitsTerm T.ordered (tree value.now) }
+    requires over { IsOver T.ordered context.now.size (tree value.now) }
     requires context_operators { AdmitsContext T.ordered context.now }
     ensures automaton { OnOk result (HoldsThroughout context.now.size context.now.«when» (IsAutomatonAt (tree value.now))) }
     ensures fault { IfErr result (λ s. IfFault s (IsValueFault T.ordered context.now IsNoAutomaton (tree value.now) (pos (expr_tree operand.now)))) }
@@ -80,8 +78,7 @@ pub(crate) fn check_whole<T: Structure>(
     chosen: &mut Chosen,
 ) -> Result<(), Stop>
     requires given { IsValueThroughout context.now (expr_tree operand.now) (tree value.now) }
-    requires levels { Fits context.now.size (tree value.now) }
-    requires operators { AdmitsTerm T.ordered (tree value.now) }
+    requires over { IsOver T.ordered context.now.size (tree value.now) }
     requires context_operators { AdmitsContext T.ordered context.now }
     ensures whole { OnOk result (HoldsThroughout context.now.size context.now.«when» (IsCompleteDeterministicAt (tree value.now))) }
     ensures fault { IfErr result (λ s. IfFault s (IsValueFault T.ordered context.now (IsInvalidOperand Minimise) (tree value.now) (pos (expr_tree operand.now)))) }

@@ -2,9 +2,8 @@
 
 ghost use Rattle.std.specs.Prelude.{[], ◌∷◌, IfOk, IfErr};
 ghost use Rattle.lois_base.specs.Data.{terms_of};
-ghost use Rattle.lois_base.specs.Fits.{Fits};
+ghost use Rattle.lois_base.specs.Over.{IsOver};
 ghost use Rattle.lois_base.specs.Tree.{tree};
-ghost use Rattle.lois_base.specs.Validity.{AdmitsTerm};
 ghost use Rattle.lois_deciders.specs.OnlyAsked.{HasOnlyAsked};
 ghost use Rattle.lois_meaning.specs.Faults.{IsNoAutomaton, IsInvalidOperand};
 ghost use Rattle.lois_script.specs.Tree.{pos};
@@ -68,8 +67,7 @@ fn of_one<T: Structure>(
 ) -> Result<Term, Stop>
     requires operation { IsOfOneAutomaton operation }
     requires given { IsValueThroughout context.now (expr_tree operand.now) (tree automaton.now) }
-    requires levels { Fits context.now.size (tree automaton.now) }
-    requires operators { AdmitsTerm T.ordered (tree automaton.now) }
+    requires over { IsOver T.ordered context.now.size (tree automaton.now) }
     requires context_operators { AdmitsContext T.ordered context.now }
     ensures made { IfOk result (λ r. IsOperationResult context.now operation (tree automaton.now ∷ []) (tree r)) }
     ensures fault { IfErr result (λ s. IfFault s (IsValueFault T.ordered context.now (IsInvalidOperand operation) (tree automaton.now) (pos (expr_tree operand.now)))) }
@@ -91,8 +89,7 @@ fn reach_of<T: Structure>(
     chosen: &mut Chosen,
 ) -> Result<Term, Stop>
     requires given { IsValueThroughout context.now (expr_tree operand.now) (tree automaton.now) }
-    requires levels { Fits context.now.size (tree automaton.now) }
-    requires operators { AdmitsTerm T.ordered (tree automaton.now) }
+    requires over { IsOver T.ordered context.now.size (tree automaton.now) }
     requires context_operators { AdmitsContext T.ordered context.now }
     ensures made { IfOk result (λ r. IsOperationResult context.now Reach (tree automaton.now ∷ []) (tree r)) }
     ensures fault { IfErr result (λ s. IfFault s (IsValueFault T.ordered context.now (IsInvalidOperand Reach) (tree automaton.now) (pos (expr_tree operand.now)))) }
@@ -112,11 +109,9 @@ fn product_of<T: Structure>(
     chosen: &mut Chosen,
 ) -> Result<Term, Stop>
     requires given { IsValueThroughout context.now (expr_tree left.now) (tree a.now) }
-    requires levels { Fits context.now.size (tree a.now) }
-    requires operators { AdmitsTerm T.ordered (tree a.now) }
+    requires over { IsOver T.ordered context.now.size (tree a.now) }
     requires other_given { IsValueThroughout context.now (expr_tree right.now) (tree b.now) }
-    requires other_levels { Fits context.now.size (tree b.now) }
-    requires other_operators { AdmitsTerm T.ordered (tree b.now) }
+    requires other { IsOver T.ordered context.now.size (tree b.now) }
     requires context_operators { AdmitsContext T.ordered context.now }
     ensures made { IfOk result (λ r. IsOperationResult context.now Product (tree a.now ∷ tree b.now ∷ []) (tree r)) }
     ensures fault { IfErr result (λ s. IfFault s (IsProductFault T.ordered context.now (tree a.now) (pos (expr_tree left.now)) (tree b.now) (pos (expr_tree right.now)))) }
@@ -135,8 +130,7 @@ fn complement_of<T: Structure>(
     chosen: &mut Chosen,
 ) -> Result<Term, Stop>
     requires given { IsValueThroughout context.now (expr_tree operand.now) (tree automaton.now) }
-    requires levels { Fits context.now.size (tree automaton.now) }
-    requires operators { AdmitsTerm T.ordered (tree automaton.now) }
+    requires over { IsOver T.ordered context.now.size (tree automaton.now) }
     requires context_operators { AdmitsContext T.ordered context.now }
     ensures made { IfOk result (λ r. IsOperationResult context.now Complement (tree automaton.now ∷ []) (tree r)) }
     ensures fault { IfErr result (λ s. IfFault s (IsValueFault T.ordered context.now (IsInvalidOperand Complement) (tree automaton.now) (pos (expr_tree operand.now)))) }
@@ -154,8 +148,7 @@ fn minimal_of<T: Structure>(
     chosen: &mut Chosen,
 ) -> Result<Term, Stop>
     requires given { IsValueThroughout context.now (expr_tree operand.now) (tree automaton.now) }
-    requires levels { Fits context.now.size (tree automaton.now) }
-    requires operators { AdmitsTerm T.ordered (tree automaton.now) }
+    requires over { IsOver T.ordered context.now.size (tree automaton.now) }
     requires context_operators { AdmitsContext T.ordered context.now }
     ensures made { IfOk result (λ r. IsOperationResult context.now Minimise (tree automaton.now ∷ []) (tree r)) }
     ensures fault { IfErr result (λ s. IfFault s (IsValueFault T.ordered context.now (IsInvalidOperand Minimise) (tree automaton.now) (pos (expr_tree operand.now)))) }
@@ -182,8 +175,7 @@ pub(crate) fn where_empty<T: Structure>(
     chosen: &mut Chosen,
 ) -> Result<Constraint, Stop>
     requires given { IsValueThroughout context.now (expr_tree operand.now) (tree automaton.now) }
-    requires levels { Fits context.now.size (tree automaton.now) }
-    requires operators { AdmitsTerm T.ordered (tree automaton.now) }
+    requires over { IsOver T.ordered context.now.size (tree automaton.now) }
     requires context_operators { AdmitsContext T.ordered context.now }
     ensures emptiness { IfOk result (IsEmptiness context.now (tree automaton.now)) }
     ensures fault { IfErr result (λ s. IfFault s (IsValueFault T.ordered context.now IsNoAutomaton (tree automaton.now) (pos (expr_tree operand.now)))) }

@@ -2,7 +2,8 @@
 
 ghost use Rattle.std.specs.Prelude.{◌≡◌, ◌⊎◌, [], ◌∷◌, Bool, length, IfOk, IfErr};
 ghost use Rattle.lois_base.specs.Data.{terms_of};
-ghost use Rattle.lois_base.specs.Fits.{Fits, PartsFit};
+ghost use Rattle.lois_base.specs.Fits.{Fits};
+ghost use Rattle.lois_base.specs.Over.{IsOver, PartsAreOver};
 ghost use Rattle.lois_base.specs.Tree.{tree};
 ghost use Rattle.lois_base.specs.Validity.{AdmitsTerm, AdmitsParts, HasBoundedWidths, PartsHaveBoundedWidths};
 ghost use Rattle.lois_script.specs.View.{exprs_of};
@@ -39,8 +40,7 @@ pub(crate) fn applied<T: Structure, D: Oracle<T>>(
     requires operands { length (exprs_list operands.now) ≡ arity operation }
     requires count { length values.now ≡ arity operation }
     requires given { AreValuesThroughout context.now (exprs_of (exprs_list operands.now)) values.now }
-    requires levels { PartsFit context.now.size (terms_of values.now) }
-    requires operators { AdmitsParts T.ordered (terms_of values.now) }
+    requires over { PartsAreOver T.ordered context.now.size (terms_of values.now) }
     requires context_operators { AdmitsContext T.ordered context.now }
     ensures applied { IfOk result (λ r. IsAppliedThroughout context.now operation values.now (tree r)) }
     ensures levels { IfOk result (λ r. Fits context.now.size (tree r)) }
@@ -73,8 +73,7 @@ fn combined<T: Structure>(
     requires operation { IsOfTwoSets operation }
     requires operands { length (exprs_list operands.now) ≡ 2 }
     requires count { length values.now ≡ 2 }
-    requires levels { PartsFit context.now.size (terms_of values.now) }
-    requires operators { AdmitsParts T.ordered (terms_of values.now) }
+    requires over { PartsAreOver T.ordered context.now.size (terms_of values.now) }
     ensures applied { IfOk result (λ r. IsAppliedThroughout context.now operation values.now (tree r)) }
     ensures levels { IfOk result (λ r. Fits context.now.size (tree r)) }
     ensures operators { IfOk result (λ r. (o : Bool) → AdmitsParts o (terms_of values.now) → AdmitsTerm o (tree r)) }
@@ -97,12 +96,10 @@ fn combination<T: Structure>(
     context: &Context,
 ) -> Result<Term, NoMemory>
     requires operation { IsOfTwoSets operation }
-    requires left { Fits context.now.size (tree s.now) }
+    requires left { IsOver T.ordered context.now.size (tree s.now) }
     requires left_set { IsColl (tree s.now) }
-    requires left_operators { AdmitsTerm T.ordered (tree s.now) }
-    requires right { Fits context.now.size (tree t.now) }
+    requires right { IsOver T.ordered context.now.size (tree t.now) }
     requires right_set { IsColl (tree t.now) }
-    requires right_operators { AdmitsTerm T.ordered (tree t.now) }
     ensures applied { IfOk result (λ r. IsAppliedThroughout context.now operation (tree s.now ∷ tree t.now ∷ []) (tree r)) }
     ensures levels { IfOk result (λ r. Fits context.now.size (tree r)) }
     ensures operators { IfOk result (λ r. (o : Bool) → AdmitsTerm o (tree s.now) → AdmitsTerm o (tree t.now) → AdmitsTerm o (tree r)) }
@@ -125,8 +122,7 @@ fn flattened<T: Structure, D: Oracle<T>>(
     decider: &mut D,
 ) -> Result<Term, Stop>
     requires sound { D.sound }
-    requires levels { Fits context.now.size (tree set.now) }
-    requires operators { AdmitsTerm T.ordered (tree set.now) }
+    requires over { IsOver T.ordered context.now.size (tree set.now) }
     ensures applied { IfOk result (λ r. IsAppliedThroughout context.now Flatten (tree set.now ∷ []) (tree r)) }
     ensures levels { IfOk result (λ r. Fits context.now.size (tree r)) }
     ensures operators { IfOk result (λ r. (o : Bool) → AdmitsTerm o (tree set.now) → AdmitsTerm o (tree r)) }

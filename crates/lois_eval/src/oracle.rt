@@ -5,9 +5,10 @@ ghost use Rattle.std.specs.Prelude.{◌↔◌, Bool, List, IfOk, IfErr, IfSome, 
 ghost use Rattle.lois_base.specs.Atom.{Atom};
 ghost use Rattle.lois_base.specs.Data.{terms_of};
 ghost use Rattle.lois_base.specs.Fits.{ConstraintFits, Fits};
+ghost use Rattle.lois_base.specs.Over.{IsOver};
 ghost use Rattle.lois_base.specs.Tree.{tree};
 ghost use Rattle.lois_base.specs.Truth.{holds};
-ghost use Rattle.lois_base.specs.Validity.{AdmitsConstraint, AdmitsTerm};
+ghost use Rattle.lois_base.specs.Validity.{AdmitsConstraint};
 ghost use Rattle.lois_deciders.specs.Conjunction.{AreInconsistent};
 ghost use Rattle.lois_deciders.specs.OnlyAsked.{HasOnlyAsked};
 ghost use Rattle.lois_meaning.specs.Faults.{IsNoAutomaton};
@@ -107,8 +108,7 @@ pub(crate) trait Oracle<T: Structure> {
     ) -> Result<Constraint, Stop>
         requires sound { sound }
         requires given { IsValueThroughout context.now (expr_tree operand.now) (tree automaton.now) }
-        requires levels { Fits context.now.size (tree automaton.now) }
-        requires operators { AdmitsTerm T.ordered (tree automaton.now) }
+        requires over { IsOver T.ordered context.now.size (tree automaton.now) }
         requires context_operators { AdmitsContext T.ordered context.now }
         ensures emptiness { IfOk result (IsEmptiness context.now (tree automaton.now)) }
         ensures fault { IfErr result (λ s. IfFault s (IsValueFault T.ordered context.now IsNoAutomaton (tree automaton.now) (pos (expr_tree operand.now)))) }

@@ -10,6 +10,7 @@ ghost use Rattle.lois_base.specs.Tree.{tree, comp_of};
 ghost use Rattle.lois_base.specs.Truth.{holds};
 ghost use Rattle.lois_base.specs.Validity.{AdmitsTerm, AdmitsConstraint};
 ghost use Rattle.lois_base.specs.FormulaOperators.{AdmitsFormula};
+ghost use Rattle.lois_base.specs.Over.{IsOver};
 ghost use Rattle.lois_base.specs.Values.{point, IsSame, IsIn, IsIncluded};
 ghost use Rattle.lois_relate.specs.Relations.{HoldsWhereIn};
 ghost use Rattle.lois_terms.specs.Collections.{IsColl};
@@ -36,10 +37,8 @@ pub(crate) fn equal<T: Structure>(
     t: &Term,
     size: usize,
 ) -> Result<Constraint, NoMemory>
-    requires left { Fits size (tree s.now) }
-    requires left_operators { AdmitsTerm T.ordered (tree s.now) }
-    requires right { Fits size (tree t.now) }
-    requires right_operators { AdmitsTerm T.ordered (tree t.now) }
+    requires left { IsOver T.ordered size (tree s.now) }
+    requires right { IsOver T.ordered size (tree t.now) }
     ensures truth { IfOk result (λ r. (c : List Atom) → length c ≡ size → IsTrue (holds c r) ↔ IsSame (point (tree s.now) c) (point (tree t.now) c)) }
     ensures levels { IfOk result (λ r. ConstraintFits size r) }
     ensures operators { IfOk result (λ r. (o : Bool) → AdmitsTerm o (tree s.now) → AdmitsTerm o (tree t.now) → AdmitsConstraint o r) }
@@ -55,10 +54,8 @@ pub(crate) fn unequal<T: Structure>(
     t: &Term,
     size: usize,
 ) -> Result<Constraint, NoMemory>
-    requires left { Fits size (tree s.now) }
-    requires left_operators { AdmitsTerm T.ordered (tree s.now) }
-    requires right { Fits size (tree t.now) }
-    requires right_operators { AdmitsTerm T.ordered (tree t.now) }
+    requires left { IsOver T.ordered size (tree s.now) }
+    requires right { IsOver T.ordered size (tree t.now) }
     ensures truth { IfOk result (λ r. (c : List Atom) → length c ≡ size → IsFalse (holds c r) ↔ IsSame (point (tree s.now) c) (point (tree t.now) c)) }
     ensures levels { IfOk result (λ r. ConstraintFits size r) }
     ensures operators { IfOk result (λ r. (o : Bool) → AdmitsTerm o (tree s.now) → AdmitsTerm o (tree t.now) → AdmitsConstraint o r) }
@@ -74,11 +71,9 @@ pub(crate) fn within<T: Structure>(
     t: &Term,
     size: usize,
 ) -> Result<Constraint, NoMemory>
-    requires left { Fits size (tree s.now) }
-    requires left_operators { AdmitsTerm T.ordered (tree s.now) }
-    requires right { Fits size (tree t.now) }
+    requires left { IsOver T.ordered size (tree s.now) }
+    requires right { IsOver T.ordered size (tree t.now) }
     requires right_set { IsColl (tree t.now) }
-    requires right_operators { AdmitsTerm T.ordered (tree t.now) }
     ensures truth { IfOk result (λ r. (c : List Atom) → length c ≡ size → IsTrue (holds c r) ↔ IsIn (point (tree s.now) c) (point (tree t.now) c)) }
     ensures levels { IfOk result (λ r. ConstraintFits size r) }
     ensures operators { IfOk result (λ r. (o : Bool) → AdmitsTerm o (tree s.now) → AdmitsTerm o (tree t.now) → AdmitsConstraint o r) }
@@ -154,12 +149,10 @@ pub(crate) fn included<T: Structure>(
     t: &Term,
     size: usize,
 ) -> Result<Constraint, NoMemory>
-    requires left { Fits size (tree s.now) }
+    requires left { IsOver T.ordered size (tree s.now) }
     requires left_set { IsColl (tree s.now) }
-    requires left_operators { AdmitsTerm T.ordered (tree s.now) }
-    requires right { Fits size (tree t.now) }
+    requires right { IsOver T.ordered size (tree t.now) }
     requires right_set { IsColl (tree t.now) }
-    requires right_operators { AdmitsTerm T.ordered (tree t.now) }
     ensures truth { IfOk result (λ r. (c : List Atom) → length c ≡ size → IsTrue (holds c r) ↔ IsIncluded (point (tree s.now) c) (point (tree t.now) c)) }
     ensures levels { IfOk result (λ r. ConstraintFits size r) }
     ensures operators { IfOk result (λ r. (o : Bool) → AdmitsTerm o (tree s.now) → AdmitsTerm o (tree t.now) → AdmitsConstraint o r) }

@@ -2,9 +2,8 @@
 
 ghost use Rattle.std.specs.Prelude.{◌≡◌, List, OnOk, IfErr};
 ghost use Rattle.lois_base.specs.Atom.{Atom};
-ghost use Rattle.lois_base.specs.Fits.{Fits};
+ghost use Rattle.lois_base.specs.Over.{IsOver};
 ghost use Rattle.lois_base.specs.Tree.{tree};
-ghost use Rattle.lois_base.specs.Validity.{AdmitsTerm};
 ghost use Rattle.lois_base.specs.Values.{point};
 ghost use Rattle.lois_deciders.specs.OnlyAsked.{HasOnlyAsked};
 ghost use Rattle.lois_meaning.specs.Store.{IsShallow};
@@ -30,8 +29,7 @@ pub(crate) fn check_depth<T: Structure>(
     context: &Context,
     chosen: &mut Chosen,
 ) -> Result<(), Stop>
-    requires levels { Fits context.now.size (tree term.now) }
-    requires operators { AdmitsTerm T.ordered (tree term.now) }
+    requires over { IsOver T.ordered context.now.size (tree term.now) }
     ensures shallow { OnOk result ((c : List Atom) → IsAdmitted c context.now → IsShallow (point (tree term.now) c)) }
     ensures fault { IfErr result (λ s. IfFault s (IsDepthFault T.ordered context.now (tree term.now) pos.offset)) }
 

@@ -2,9 +2,9 @@
 
 ghost use Rattle.std.specs.Prelude.{◌≡◌, ◌<◌, ◌≤◌, length, get_or, ◌↔◌, IsTrue, IfOk};
 ghost use Rattle.std.specs.List.{All};
-ghost use Rattle.lois_base.specs.Fits.{ConstraintFits, Fits};
+ghost use Rattle.lois_base.specs.Over.{IsOver, ConstraintIsOver};
 ghost use Rattle.lois_base.specs.Tree.{tree};
-ghost use Rattle.lois_base.specs.Validity.{AdmitsConstraint, AdmitsTerm};
+ghost use Rattle.lois_base.specs.Validity.{AdmitsTerm};
 ghost use Rattle.lois_deciders.specs.Satisfiability.{ConstraintIsSatisfiable};
 ghost use Rattle.lois_deciders.specs.OnlyAsked.{HasOnlyAsked};
 ghost use Rattle.lois_terms.specs.Collections.{IsColl};
@@ -80,9 +80,8 @@ fn tidied_store<T: Structure>(
     requires counted { AreCounted counts.now store }
     requires slots { AreSlots size store }
     requires met { ConstraintIsSatisfiable size when.now }
-    requires when_levels { ConstraintFits size when.now }
+    requires when { ConstraintIsOver T.ordered size when.now }
     requires operators { All (λ s. AdmitsTerm T.ordered s.term) store }
-    requires when_operators { AdmitsConstraint T.ordered when.now }
     ensures tidied { IfOk result (AreTidied size when.now counts.now store) }
 
     // whatever is answered
@@ -114,11 +113,9 @@ fn tidied_slot<T: Structure>(
     chosen: &mut Chosen,
 ) -> Result<Slot, NoMemory>
     requires count { first ≤ comps_in (tree slot.term) }
-    requires levels { Fits size (tree slot.term) }
+    requires over { IsOver T.ordered size (tree slot.term) }
     requires met { ConstraintIsSatisfiable size when.now }
-    requires when_levels { ConstraintFits size when.now }
-    requires operators { AdmitsTerm T.ordered (tree slot.term) }
-    requires when_operators { AdmitsConstraint T.ordered when.now }
+    requires when { ConstraintIsOver T.ordered size when.now }
     ensures tidied { IfOk result (λ r. IsTidiedSlot size when.now first (slot_of slot) (slot_of r)) }
 
     // whatever is answered
@@ -153,11 +150,9 @@ fn tidied_set<T: Structure>(
     chosen: &mut Chosen,
 ) -> Result<Content, NoMemory>
     requires count { first < comps_in (tree set) }
-    requires levels { Fits size (tree set) }
+    requires over { IsOver T.ordered size (tree set) }
     requires met { ConstraintIsSatisfiable size when.now }
-    requires when_levels { ConstraintFits size when.now }
-    requires operators { AdmitsTerm T.ordered (tree set) }
-    requires when_operators { AdmitsConstraint T.ordered when.now }
+    requires when { ConstraintIsOver T.ordered size when.now }
     ensures tidied { IfOk result (λ r. IsTidied size when.now first (tree set) (tree r)) }
 
     // whatever is answered

@@ -2,9 +2,8 @@
 
 ghost use Rattle.std.specs.Prelude.{◌≡◌, IfOk};
 ghost use Rattle.std.specs.List.{All, AllZip};
-ghost use Rattle.lois_base.specs.Fits.{Fits, ConstraintFits};
+ghost use Rattle.lois_base.specs.Over.{IsOver, ConstraintIsOver};
 ghost use Rattle.lois_base.specs.Tree.{tree};
-ghost use Rattle.lois_base.specs.Validity.{AdmitsConstraint, AdmitsTerm};
 ghost use Rattle.lois_answers.specs.LineView.{line_of};
 ghost use Rattle.lois_deciders.specs.OnlyAsked.{HasOnlyAsked};
 ghost use Rattle.lois_context.specs.Choices.{AdmitsContext};
@@ -85,10 +84,8 @@ fn printed_line<T: Structure>(
     size: usize,
     chosen: &mut Chosen,
 ) -> Result<Line, NoMemory>
-    requires levels { Fits size (tree line.now.term) }
-    requires under_levels { ConstraintFits size under.now }
-    requires operators { AdmitsTerm T.ordered (tree line.now.term) }
-    requires under_operators { AdmitsConstraint T.ordered under.now }
+    requires over { IsOver T.ordered size (tree line.now.term) }
+    requires under { ConstraintIsOver T.ordered size under.now }
     ensures printed { IfOk result (λ r. IsPrintedLine size under.now (line_of line.now) (line_of r)) }
     ensures only_asked { HasOnlyAsked (λ b. (⟦<dyn Decider as Decider>⟧ b.vtable).kind_of b.value) (λ b. (⟦<dyn Decider as Decider>⟧ b.vtable).questions b.value) chosen.old chosen.new }
 {

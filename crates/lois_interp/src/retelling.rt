@@ -2,9 +2,9 @@
 
 ghost use Rattle.std.specs.Prelude.{◌≡◌, ◌∷◌, ◌++◌, [], IfOk, IsTrue};
 ghost use Rattle.std.specs.List.{All, AllZip};
-ghost use Rattle.lois_base.specs.Fits.{Fits};
+ghost use Rattle.lois_base.specs.Over.{IsOver};
 ghost use Rattle.lois_base.specs.Tree.{tree};
-ghost use Rattle.lois_base.specs.Validity.{AdmitsConstraint, AdmitsTerm};
+ghost use Rattle.lois_base.specs.Validity.{AdmitsConstraint};
 ghost use Rattle.lois_answers.specs.LineView.{line_of};
 ghost use Rattle.lois_context.specs.Choices.{AdmitsContext};
 ghost use Rattle.lois_context.specs.Kept.{LinesFit};
@@ -151,10 +151,8 @@ fn tells_line<T: Structure>(
     chosen: &mut Chosen,
 ) -> Result<bool, NoMemory>
     requires own { AdmitsConstraint T.ordered own.now.«when» }
-    requires levels { Fits own.now.size (tree line.now.term) }
-    requires operators { AdmitsTerm T.ordered (tree line.now.term) }
-    requires other_levels { Fits own.now.size (tree other.now.term) }
-    requires other_operators { AdmitsTerm T.ordered (tree other.now.term) }
+    requires over { IsOver T.ordered own.now.size (tree line.now.term) }
+    requires other { IsOver T.ordered own.now.size (tree other.now.term) }
     ensures same { IfOk result (λ b. IsTrue b → IsRetoldLine own.now.size own.now.«when» (line_of line.now) (line_of other.now)) }
     ensures only_asked { HasOnlyAsked (λ b. (⟦<dyn Decider as Decider>⟧ b.vtable).kind_of b.value) (λ b. (⟦<dyn Decider as Decider>⟧ b.vtable).questions b.value) chosen.old chosen.new }
 {

@@ -1,9 +1,9 @@
 //! Lines that can't be asked for words.
 
 ghost use Rattle.std.specs.Prelude.{IfOk};
-ghost use Rattle.lois_base.specs.Fits.{ConstraintFits, Fits};
+ghost use Rattle.lois_base.specs.Fits.{ConstraintFits};
+ghost use Rattle.lois_base.specs.Over.{IsOver};
 ghost use Rattle.lois_base.specs.Tree.{tree};
-ghost use Rattle.lois_base.specs.Validity.{AdmitsTerm};
 ghost use Rattle.lois_deciders.specs.OnlyAsked.{HasOnlyAsked};
 ghost use Rattle.lois_languages.specs.Faults.{DecidesAutomaton};
 
@@ -32,8 +32,7 @@ pub fn is_automaton<T: Structure>(
     size: usize,
     chosen: &mut Chosen,
 ) -> Result<bool, NoMemory>
-    requires levels { Fits size (tree t.now) }
-    requires operators { AdmitsTerm T.ordered (tree t.now) }
+    requires over { IsOver T.ordered size (tree t.now) }
     requires under { ConstraintFits size under.now }
     ensures answer { IfOk result (DecidesAutomaton size under.now (tree t.now)) }
     ensures only_asked { HasOnlyAsked (λ b. (⟦<dyn Decider as Decider>⟧ b.vtable).kind_of b.value) (λ b. (⟦<dyn Decider as Decider>⟧ b.vtable).questions b.value) chosen.old chosen.new }

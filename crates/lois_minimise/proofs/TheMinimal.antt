@@ -65,9 +65,9 @@ module _ (n : ℕ) (u : List (List Lit)) (a states : TermD) (s l t i f nodes : C
   pub whole_throughout : HoldsThroughout n u (λ c. IsCompleteDeterministicWithReach (automaton_at s l t i f c) (point (coll nodes) c))
   whole_throughout c k h = whole_with_reach s l t i f c (coll nodes) (whole_of c k h) (reach_of c k h)
 
-  pub minimal_throughout : (alike pairs r : TermD) → HoldsThroughout n u (λ c. AreIndistinguishable (automaton_at s l t i f c) (point alike c)) → ((c : List Atom) → length c ≡ n → AreClassed (point (coll nodes) c) (point alike c) (point pairs c)) → IsQuotientTerm n s l t i f pairs r →
+  pub minimal_throughout : (alike pairs r : TermD) → HoldsThroughout n u (λ c. AreIndistinguishable (automaton_at s l t i f c) (point alike c)) → HoldsThroughout n u (λ c. AreClassed (point (coll nodes) c) (point alike c) (point pairs c)) → IsQuotientTerm n s l t i f pairs r →
       HoldsThroughout n u (IsMinimalAt a r) × HoldsThroughout n u (IsLeastAt a r)
   minimal_throughout alike pairs r tells classed quotient =
       let both : (c : List Atom) → length c ≡ n → IsTrue (holds c u) → IsMinimalAt a r c × IsLeastAt a r c = λ c k h.
-      subst (λ z. IsMinimalAt z r c × IsLeastAt z r c) (sym is) (minimal_at s l t i f c n (coll nodes) alike pairs r k (whole_of c k h) (reach_of c k h) (tells c k h) (classed c k) quotient) in
+      subst (λ z. IsMinimalAt z r c × IsLeastAt z r c) (sym is) (minimal_at s l t i f c n (coll nodes) alike pairs r k (whole_of c k h) (reach_of c k h) (tells c k h) (classed c k h) quotient) in
       (λ c k h. (both c k h).0, λ c k h. (both c k h).1)

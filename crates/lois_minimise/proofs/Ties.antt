@@ -1,7 +1,7 @@
 -- Ties between two terms, the names that they give to levels, and what holds under names.
-use Rattle.std.proofs.Common.{◌≡◌, ℕ, ◌+◌, ◌<◌, ◌≤◌, ◌⊎◌, inl, inr, ◌↔◌, Bool, ◌&&◌, ◌||◌, Some, List, [], ◌∷◌, ◌++◌, length, length-append, get_or, take, drop, map, refl, sym, ap, ◌∙◌, subst, arith}
+use Rattle.std.proofs.Common.{◌≡◌, ℕ, ◌+◌, ◌<◌, ◌≤◌, ◌⊎◌, inl, inr, ◌↔◌, Bool, ◌&&◌, ◌||◌, Some, List, [], ◌∷◌, ◌++◌, length, length-append, replicate, get_or, take, drop, map, refl, sym, ap, ◌∙◌, subst, arith}
 use Rattle.std.proofs.lemmas.Bool.{cases_lt}
-use Rattle.std.proofs.lemmas.List.{get_or_append_left, get_or_push, drop_all, length-take-le, get_or-take, take-append-drop, length-drop, get_or_default, get_or-map, same_lists}
+use Rattle.std.proofs.lemmas.List.{get_or_append_left, get_or_push, drop_all, length-take-le, get_or-take, take-append-drop, length-drop, get_or_default, get_or-map, same_lists, length-replicate}
 use Rattle.std.proofs.lemmas.List.Elements.{All-nil, All-cons, All-head, All-tail, All-push, All-pop, All-weaker, All-map, All-from_get_or}
 use Rattle.std.specs.Bool.{IsTrue}
 use Rattle.std.specs.List.{All}
@@ -107,6 +107,13 @@ unused_level n g fits c l =
     let own : ConstraintFits (length c) g = subst (λ z. ConstraintFits z g) (sym l) fits in (
       λ h. (whole 0, subst IsTrue (sym (holds_longer c (whole 0 ∷ []) g own)) h),
       λ h. subst IsTrue (holds_longer c (h.0 ∷ []) g own) h.1,
+    )
+
+pub unused_levels : (n m : ℕ) (g : List (List Lit)) → ConstraintFits n g → HoldsForSomeMore n m g g
+unused_levels n m g fits c l =
+    let more : (e : List Atom) → holds (c ++ e) g ≡ holds c g = λ e. holds_longer c e g (subst (λ z. ConstraintFits z g) (sym l) fits) in (
+      λ t. (replicate m (whole 0), length-replicate m (whole 0), more (replicate m (whole 0)) ∙ t),
+      λ h. sym (more h.0) ∙ h.2,
     )
 
 -- ---- what holds under names

@@ -3,17 +3,17 @@
 ghost use Rattle.std.specs.Prelude.{◌≡◌, ℕ, ◌+◌, ◌<◌, ◌^◌, Bool, List, length, IfOk, OnOk};
 ghost use Rattle.lois_base.specs.Atom.{Atom};
 ghost use Rattle.lois_base.specs.Data.{coll, comps_of};
-ghost use Rattle.lois_base.specs.Fits.{Fits, CompFits, ItemsFit};
+ghost use Rattle.lois_base.specs.Fits.{Fits, ItemsFit};
+ghost use Rattle.lois_base.specs.Over.{IsOver, CompIsOver, ItemsAreOver};
 ghost use Rattle.lois_base.specs.Tree.{tree, comp_of};
-ghost use Rattle.lois_base.specs.Validity.{AdmitsTerm, AdmitsComp, AdmitsItems, HasBoundedWidths, ItemsHaveBoundedWidths};
+ghost use Rattle.lois_base.specs.Validity.{AdmitsTerm, AdmitsItems, HasBoundedWidths, ItemsHaveBoundedWidths};
 ghost use Rattle.lois_base.specs.Values.{point};
 ghost use Rattle.lois_terms.specs.Collections.{IsColl};
 ghost use Rattle.lois_terms.specs.Shapes.{shape_of};
 ghost use Rattle.lois_minimise.specs.Classes.{AreClassed, ArePairsOfShape, AddsClass, AddsOfShape, IsClassTerm, IsSingletonOf};
 
-use crate::pairs::pair_of_terms;
 use lois_algebra::push_comp;
-use lois_automata::{insert_levels, pair_parts, targets_from};
+use lois_automata::{insert_levels, pair_of_terms, pair_parts, targets_from};
 use lois_base::{Comp, Comps, Constraint, NoMemory, Structure, Term};
 use lois_terms::shape;
 use std::alloc::Global;
@@ -25,10 +25,8 @@ pub fn with_classes<T: Structure>(
     alike: &Comps,
     size: usize,
 ) -> Result<Comps, NoMemory>
-    requires nodes { ItemsFit size (comps_of nodes.now) }
-    requires nodes_operators { AdmitsItems T.ordered (comps_of nodes.now) }
-    requires alike { ItemsFit size (comps_of alike.now) }
-    requires alike_operators { AdmitsItems T.ordered (comps_of alike.now) }
+    requires nodes { ItemsAreOver T.ordered size (comps_of nodes.now) }
+    requires alike { ItemsAreOver T.ordered size (comps_of alike.now) }
     ensures classed { IfOk result (λ r. (c : List Atom) → length c ≡ size → AreClassed (point (coll (comps_of nodes.now)) c) (point (coll (comps_of alike.now)) c) (point (coll (comps_of r)) c)) }
     ensures levels { IfOk result (λ r. ItemsFit size (comps_of r)) }
     ensures operators { IfOk result (λ r. (o : Bool) → AdmitsItems o (comps_of nodes.now) → AdmitsItems o (comps_of alike.now) → AdmitsItems o (comps_of r)) }
@@ -48,10 +46,8 @@ fn add_class<T: Structure>(
     alike: &Comps,
     size: usize,
 ) -> Result<(), NoMemory>
-    requires levels { CompFits size (comp_of comp.now) }
-    requires operators { AdmitsComp T.ordered (comp_of comp.now) }
-    requires alike { ItemsFit size (comps_of alike.now) }
-    requires alike_operators { AdmitsItems T.ordered (comps_of alike.now) }
+    requires over { CompIsOver T.ordered size (comp_of comp.now) }
+    requires alike { ItemsAreOver T.ordered size (comps_of alike.now) }
     ensures { OnOk result (AddsClass size (comp_of comp.now) (coll (comps_of alike.now)) (comps_of classes.old) (comps_of classes.new)) }
 {
     let class = class_of::<T>(alloc, &comp.item, alike, size, comp.binders)?;
@@ -77,10 +73,8 @@ fn class_of<T: Structure>(
     by: usize,
 ) -> Result<Term, NoMemory>
     requires room { size + by < 2 ^ 64 }
-    requires item { Fits (size + by) (tree item.now) }
-    requires item_operators { AdmitsTerm T.ordered (tree item.now) }
-    requires alike { ItemsFit size (comps_of alike.now) }
-    requires alike_operators { AdmitsItems T.ordered (comps_of alike.now) }
+    requires item { IsOver T.ordered (size + by) (tree item.now) }
+    requires alike { ItemsAreOver T.ordered size (comps_of alike.now) }
     ensures class { IfOk result (λ r. IsClassTerm size by (coll (comps_of alike.now)) (tree item.now) (tree r)) }
     ensures set { IfOk result (λ r. IsColl (tree r)) }
     ensures levels { IfOk result (λ r. Fits (size + by) (tree r)) }

@@ -2,7 +2,8 @@
 
 ghost use Rattle.std.specs.Prelude.{◌≡◌, ◌+◌, ◌<◌, ◌^◌, Bool, IsTrue, ◌↔◌, [], ◌∷◌, map, IfOk};
 ghost use Rattle.lois_base.specs.Data.{coll, comps_of};
-ghost use Rattle.lois_base.specs.Fits.{ConstraintFits, Fits, ItemsFit};
+ghost use Rattle.lois_base.specs.Fits.{ConstraintFits, ItemsFit};
+ghost use Rattle.lois_base.specs.Over.{IsOver, ItemsAreOver};
 ghost use Rattle.lois_base.specs.Tree.{tree};
 ghost use Rattle.lois_base.specs.Validity.{AdmitsConstraint, AdmitsTerm, AdmitsItems, ItemsHaveBoundedWidths};
 ghost use Rattle.lois_terms.specs.Shapes.{item_shape};
@@ -26,10 +27,8 @@ pub fn indexed_membership<T: Structure>(
     by: usize,
 ) -> Result<Constraint, NoMemory>
     requires levels { size + by < 2 ^ 64 }
-    requires item { Fits (size + by) (tree item.now) }
-    requires item_operators { AdmitsTerm T.ordered (tree item.now) }
-    requires set_levels { ItemsFit size (comps_of set.now) }
-    requires set_operators { AdmitsItems T.ordered (comps_of set.now) }
+    requires item { IsOver T.ordered (size + by) (tree item.now) }
+    requires set { ItemsAreOver T.ordered size (comps_of set.now) }
     requires shapes { index.now ≡ map item_shape set.now }
     ensures truth { IfOk result (HoldsWhereMember size by (tree item.now) (coll (comps_of set.now))) }
     ensures fits { IfOk result (ConstraintFits (size + by)) }
@@ -68,10 +67,8 @@ pub fn targets_in<T: Structure>(
     held: &Comps,
     size: usize,
 ) -> Result<Comps, NoMemory>
-    requires levels { ItemsFit size (comps_of moves.now) }
-    requires operators { AdmitsItems T.ordered (comps_of moves.now) }
-    requires held_levels { ItemsFit size (comps_of held.now) }
-    requires held_operators { AdmitsItems T.ordered (comps_of held.now) }
+    requires over { ItemsAreOver T.ordered size (comps_of moves.now) }
+    requires held { ItemsAreOver T.ordered size (comps_of held.now) }
     ensures members { IfOk result (λ r. AreTargets size (coll (comps_of moves.now)) (coll (comps_of held.now)) (coll (comps_of r))) }
     ensures levels { IfOk result (λ r. ItemsFit size (comps_of r)) }
     ensures operators { IfOk result (λ r. (o : Bool) → AdmitsItems o (comps_of moves.now) → AdmitsItems o (comps_of held.now) → AdmitsItems o (comps_of r)) }

@@ -2,7 +2,8 @@
 
 ghost use Rattle.std.specs.Prelude.{ℕ, ◌+◌, ◌<◌, ◌^◌, Bool, IfOk};
 ghost use Rattle.lois_base.specs.Bound.{HoldsForSome};
-ghost use Rattle.lois_base.specs.Fits.{ConstraintFits, Fits, CompFits};
+ghost use Rattle.lois_base.specs.Fits.{ConstraintFits};
+ghost use Rattle.lois_base.specs.Over.{IsOver, CompIsOver, ConstraintIsOver};
 ghost use Rattle.lois_base.specs.Tree.{tree, comp_of};
 ghost use Rattle.lois_base.specs.Validity.{AdmitsConstraint, AdmitsTerm, AdmitsComp};
 ghost use Rattle.lois_elim.specs.Bound.{HoldsForSomeMore};
@@ -25,10 +26,8 @@ pub fn comp_membership<T: Structure>(
     size: usize,
     by: usize,
 ) -> Result<Constraint, NoMemory>
-    requires item { Fits (size + by) (tree item.now) }
-    requires item_operators { AdmitsTerm T.ordered (tree item.now) }
-    requires levels { CompFits size (comp_of comp.now) }
-    requires operators { AdmitsComp T.ordered (comp_of comp.now) }
+    requires item { IsOver T.ordered (size + by) (tree item.now) }
+    requires over { CompIsOver T.ordered size (comp_of comp.now) }
     ensures truth { IfOk result (HoldsWhereOne size by (tree item.now) (comp_of comp.now)) }
     ensures fits { IfOk result (ConstraintFits (size + by)) }
     ensures operators { IfOk result (λ r. (o : Bool) → AdmitsTerm o (tree item.now) → AdmitsComp o (comp_of comp.now) → AdmitsConstraint o r) }
@@ -56,8 +55,7 @@ fn tied_membership<T: Structure>(
 ) -> Result<Constraint, NoMemory>
     requires room { size + by + comp.now.binders < 2 ^ 64 }
     requires ties { TiesFit (size + comp.now.binders) (size + by) ties.now }
-    requires levels { CompFits size (comp_of comp.now) }
-    requires operators { AdmitsComp T.ordered (comp_of comp.now) }
+    requires over { CompIsOver T.ordered size (comp_of comp.now) }
     ensures truth { IfOk result (HoldsWhereTied size by comp.now.binders comp.now.guard ties.now) }
     ensures fits { IfOk result (ConstraintFits (size + by)) }
     ensures operators { IfOk result (λ r. (o : Bool) → AdmitsConstraint o comp.now.guard → AdmitsConstraint o r) }
@@ -79,12 +77,14 @@ fn without_levels<T: Structure>(
     by: usize,
 ) -> Result<Constraint, NoMemory>
     requires room { size + by < 2 ^ 64 }
-    requires levels { ConstraintFits (size + by) c }
-    requires operators { AdmitsConstraint T.ordered c }
+    requires over { ConstraintIsOver T.ordered (size + by) c }
     ensures truth { IfOk result (HoldsForSomeMore size by c) }
     ensures levels { IfOk result (ConstraintFits size) }
     ensures operators { IfOk result (λ r. (o : Bool) → AdmitsConstraint o c → AdmitsConstraint o r) }
 {
+    if c.fits(size) {
+        return Ok(c);
+    }
     let mut left = c;
     let mut more = by;
     'levels: while more > 0 {
@@ -100,8 +100,7 @@ fn without_level<T: Structure>(
     c: Constraint,
     size: usize,
 ) -> Result<Constraint, NoMemory>
-    requires levels { ConstraintFits (size + 1) c }
-    requires operators { AdmitsConstraint T.ordered c }
+    requires over { ConstraintIsOver T.ordered (size + 1) c }
     ensures truth { IfOk result (HoldsForSome size c) }
     ensures levels { IfOk result (ConstraintFits size) }
     ensures operators { IfOk result (λ r. (o : Bool) → AdmitsConstraint o c → AdmitsConstraint o r) }

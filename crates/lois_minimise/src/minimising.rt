@@ -2,7 +2,8 @@
 
 ghost use Rattle.std.specs.Prelude.{Bool, IfOk};
 ghost use Rattle.lois_base.specs.Data.{coll, comps_of};
-ghost use Rattle.lois_base.specs.Fits.{ConstraintFits, Fits, ItemsFit};
+ghost use Rattle.lois_base.specs.Fits.{Fits};
+ghost use Rattle.lois_base.specs.Over.{IsOver, ItemsAreOver, ConstraintIsOver};
 ghost use Rattle.lois_base.specs.Tree.{tree};
 ghost use Rattle.lois_base.specs.Validity.{AdmitsConstraint, AdmitsTerm, AdmitsItems, HasBoundedWidths, ItemsHaveBoundedWidths};
 ghost use Rattle.lois_deciders.specs.OnlyAsked.{HasOnlyAsked};
@@ -18,12 +19,13 @@ use crate::transitions::class_steps;
 use lois_automata::{FiveSets, five, of_five, targets_from};
 use lois_base::{Comps, Constraint, Decider, NoMemory, Structure, Term};
 use lois_deciders::Chosen;
+use lois_simplify::simplify;
 use std::alloc::Global;
 
 /// The minimal automaton of the complete deterministic automaton `a`, whose reachable states are the set `reached`, at each
 /// choice that `under` admits. Errors: `NoMemory`, also where a level or the number of rounds would pass the greatest usize.
-/// Nothing is asked: what can't be met is found when constraints are pruned. The decider is borrowed as by all calls on
-/// automata.
+/// The decider is asked where states with their classes are simplified; otherwise what can't be met is found when constraints
+/// are pruned.
 pub fn minimise<T: Structure>(
     alloc: Global,
     a: &Term,
@@ -32,12 +34,9 @@ pub fn minimise<T: Structure>(
     size: usize,
     chosen: &mut Chosen,
 ) -> Result<Term, NoMemory>
-    requires levels { Fits size (tree a.now) }
-    requires operators { AdmitsTerm T.ordered (tree a.now) }
-    requires reached_levels { Fits size (tree reached.now) }
-    requires reached_operators { AdmitsTerm T.ordered (tree reached.now) }
-    requires under { ConstraintFits size under.now }
-    requires under_operators { AdmitsConstraint T.ordered under.now }
+    requires over { IsOver T.ordered size (tree a.now) }
+    requires reached_over { IsOver T.ordered size (tree reached.now) }
+    requires under { ConstraintIsOver T.ordered size under.now }
     requires whole { HoldsThroughout size under.now (IsCompleteDeterministicAt (tree a.now)) }
     requires reached { HoldsThroughout size under.now (IsReachAt (tree a.now) (tree reached.now)) }
     ensures minimal { IfOk result (λ r. HoldsThroughout size under.now (IsMinimalAt (tree a.now) (tree r))) }
@@ -56,8 +55,12 @@ pub fn minimise<T: Structure>(
         return a.copy(alloc);
     };
     let alike = indistinguishable_pairs::<T>(alloc, sets, nodes, size)?;
-    let classes = with_classes::<T>(alloc, nodes, &alike, size)?;
-    quotient::<T>(alloc, sets, &classes, size)
+    let classes = Term::Coll(with_classes::<T>(alloc, nodes, &alike, size)?);
+    let lean = simplify::<T>(alloc, &classes, under, size, chosen)?;
+    let Term::Coll(pairs) = lean else {
+        return a.copy(alloc);
+    };
+    quotient::<T>(alloc, sets, &pairs, size)
 }
 
 // The automaton whose five sets have the second parts of the pairs in the place of their first parts.
@@ -67,16 +70,11 @@ fn quotient<T: Structure>(
     classes: &Comps,
     size: usize,
 ) -> Result<Term, NoMemory>
-    requires letters { ItemsFit size (comps_of sets.letters.now) }
-    requires letters_operators { AdmitsItems T.ordered (comps_of sets.letters.now) }
-    requires steps { ItemsFit size (comps_of sets.steps.now) }
-    requires steps_operators { AdmitsItems T.ordered (comps_of sets.steps.now) }
-    requires initial { ItemsFit size (comps_of sets.initial.now) }
-    requires initial_operators { AdmitsItems T.ordered (comps_of sets.initial.now) }
-    requires accepting { ItemsFit size (comps_of sets.accepting.now) }
-    requires accepting_operators { AdmitsItems T.ordered (comps_of sets.accepting.now) }
-    requires classes { ItemsFit size (comps_of classes.now) }
-    requires classes_operators { AdmitsItems T.ordered (comps_of classes.now) }
+    requires letters { ItemsAreOver T.ordered size (comps_of sets.letters.now) }
+    requires steps { ItemsAreOver T.ordered size (comps_of sets.steps.now) }
+    requires initial { ItemsAreOver T.ordered size (comps_of sets.initial.now) }
+    requires accepting { ItemsAreOver T.ordered size (comps_of sets.accepting.now) }
+    requires classes { ItemsAreOver T.ordered size (comps_of classes.now) }
     ensures quotient { IfOk result (λ r. IsQuotientTerm size (comps_of sets.entry.states.now) (comps_of sets.entry.letters.now) (comps_of sets.entry.steps.now) (comps_of sets.entry.initial.now) (comps_of sets.entry.accepting.now) (coll (comps_of classes.now)) (tree r)) }
     ensures levels { IfOk result (λ r. Fits size (tree r)) }
     ensures operators { IfOk result (λ r. (o : Bool) → AdmitsItems o (comps_of sets.entry.letters.now) → AdmitsItems o (comps_of sets.entry.steps.now) → AdmitsItems o (comps_of sets.entry.initial.now) → AdmitsItems o (comps_of sets.entry.accepting.now) → AdmitsItems o (comps_of classes.now) → AdmitsTerm o (tree r)) }

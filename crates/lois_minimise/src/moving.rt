@@ -1,20 +1,19 @@
 //! Moves from the targets of steps back to their sources.
 
-ghost use Rattle.std.specs.Prelude.{◌≡◌, Bool, List, length, IsTrue, IfOk, IfSome, IfNone, OnOk};
+ghost use Rattle.std.specs.Prelude.{◌≡◌, Bool, List, length, IsTrue, IfOk, OnOk};
 ghost use Rattle.lois_base.specs.Atom.{Atom};
 ghost use Rattle.lois_base.specs.Data.{TermD, coll, comps_of};
-ghost use Rattle.lois_base.specs.Fits.{CompFits, ItemsFit};
+ghost use Rattle.lois_base.specs.Fits.{ItemsFit};
+ghost use Rattle.lois_base.specs.Over.{CompIsOver, ItemsAreOver};
 ghost use Rattle.lois_base.specs.Tree.{tree, comp_of};
-ghost use Rattle.lois_base.specs.Validity.{AdmitsComp, AdmitsItems};
+ghost use Rattle.lois_base.specs.Validity.{AdmitsItems};
 ghost use Rattle.lois_base.specs.Values.{PointValue, point};
 ghost use Rattle.lois_algebra.specs.Gathered.{IsCompMember};
 ghost use Rattle.lois_automata.specs.Adding.{AddsOfTwo, AddsWithEach, IsMadeOfTwo};
-ghost use Rattle.lois_automata.specs.Projections.{triple_of};
 ghost use Rattle.lois_minimise.specs.Classes.{AreBackward, IsMoveBack, IsOrderedTerm};
 
-use crate::pairs::pair_of_terms;
 use lois_algebra::push_comp;
-use lois_automata::{pair_comps, step_parts};
+use lois_automata::{into_step, pair_comps, pair_of_terms, step_parts};
 use lois_base::{Comp, Comps, NoMemory, Structure, Term};
 use lois_constraint::meet;
 use lois_elim::quantifier_free;
@@ -25,8 +24,7 @@ use std::alloc::Global;
 /// Of two steps with the same letter, whose sources are in order, a move from the pair of the targets, put in order, back to the
 /// pair of the sources.
 pub fn backward<T: Structure>(alloc: Global, steps: &Comps, size: usize) -> Result<Comps, NoMemory>
-    requires steps { ItemsFit size (comps_of steps.now) }
-    requires operators { AdmitsItems T.ordered (comps_of steps.now) }
+    requires steps { ItemsAreOver T.ordered size (comps_of steps.now) }
     ensures moves { IfOk result (λ r. (c : List Atom) → length c ≡ size → AreBackward (point (coll (comps_of steps.now)) c) (point (coll (comps_of r)) c)) }
     ensures levels { IfOk result (λ r. ItemsFit size (comps_of r)) }
     ensures operators { IfOk result (λ r. (o : Bool) → AdmitsItems o (comps_of steps.now) → AdmitsItems o (comps_of r)) }
@@ -45,10 +43,8 @@ fn add_moves<T: Structure>(
     others: &Comps,
     size: usize,
 ) -> Result<(), NoMemory>
-    requires first { CompFits size (comp_of first.now) }
-    requires first_operators { AdmitsComp T.ordered (comp_of first.now) }
-    requires second { ItemsFit size (comps_of others.now) }
-    requires second_operators { AdmitsItems T.ordered (comps_of others.now) }
+    requires first { CompIsOver T.ordered size (comp_of first.now) }
+    requires second { ItemsAreOver T.ordered size (comps_of others.now) }
     ensures { OnOk result (AddsWithEach IsMoveBack size (comp_of first.now) (comps_of others.now) (comps_of moves.old) (comps_of moves.new)) }
 {
     for second in others.as_slice() {
@@ -64,10 +60,8 @@ fn add_move_back<T: Structure>(
     second: &Comp,
     size: usize,
 ) -> Result<(), NoMemory>
-    requires first { CompFits size (comp_of first.now) }
-    requires first_operators { AdmitsComp T.ordered (comp_of first.now) }
-    requires second { CompFits size (comp_of second.now) }
-    requires second_operators { AdmitsComp T.ordered (comp_of second.now) }
+    requires first { CompIsOver T.ordered size (comp_of first.now) }
+    requires second { CompIsOver T.ordered size (comp_of second.now) }
     ensures { OnOk result (AddsOfTwo IsMoveBack size (comp_of first.now) (comp_of second.now) (comps_of moves.old) (comps_of moves.new)) }
 {
     if has_no_move(first, second) {
@@ -114,35 +108,6 @@ fn has_no_move(first: &Comp, second: &Comp) -> bool
         return true;
     }
     clash(one.letter, other.letter)
-}
-
-// The three parts of a step, which is taken apart.
-#[derive(Drop)]
-struct StepTerms {
-    source: Term,
-    letter: Term,
-    target: Term,
-}
-
-fn into_step(t: Term) -> Option<StepTerms>
-    ensures some { IfSome result (λ s. tree t ≡ triple_of (tree s.source) (tree s.letter) (tree s.target)) }
-    ensures none { IfNone result ((p l q : TermD) → tree t ≡ triple_of p l q → ⊥) }
-{
-    let Term::Tup(terms) = t else {
-        return None;
-    };
-    let mut parts = terms.into_vec();
-    if parts.len() != 3 {
-        return None;
-    }
-    let target = parts.pop()?;
-    let letter = parts.pop()?;
-    let source = parts.pop()?;
-    Some(StepTerms {
-        source,
-        letter,
-        target,
-    })
 }
 
 // The two in a pair, in order.

@@ -1,28 +1,18 @@
-//! Pairs, and the second parts of pairs.
+//! The second parts of pairs.
 
-ghost use Rattle.std.specs.Prelude.{◌≡◌, ℕ, Bool, IfOk, OnOk};
+ghost use Rattle.std.specs.Prelude.{ℕ, Bool, IfOk, OnOk};
 ghost use Rattle.lois_base.specs.Data.{coll, comps_of};
 ghost use Rattle.lois_base.specs.Fits.{Fits, ItemsFit};
 ghost use Rattle.lois_base.specs.Tree.{tree, comp_of};
 ghost use Rattle.lois_base.specs.Validity.{AdmitsTerm, AdmitsItems, HasBoundedWidths, ItemsHaveBoundedWidths};
 ghost use Rattle.lois_terms.specs.Collections.{IsColl};
-ghost use Rattle.lois_automata.specs.Projections.{AddsOfOne, pair_of};
+ghost use Rattle.lois_automata.specs.Projections.{AddsOfOne};
 ghost use Rattle.lois_minimise.specs.Classes.{AreSeconds, IsSecondOf};
 
 use lois_algebra::push_comp;
 use lois_automata::pair_parts;
-use lois_base::{Comp, Comps, NoMemory, Term, Terms};
+use lois_base::{Comp, Comps, NoMemory, Term};
 use std::alloc::Global;
-
-/// A tuple of two terms that are taken as they are.
-pub fn pair_of_terms(alloc: Global, first: Term, second: Term) -> Result<Term, NoMemory>
-    ensures { IfOk result (λ r. tree r ≡ pair_of (tree first) (tree second)) }
-{
-    let mut parts = Terms::new(alloc);
-    parts.push(first)?;
-    parts.push(second)?;
-    Ok(Term::Tup(parts))
-}
 
 /// The second parts of the pairs.
 pub fn second_parts(alloc: Global, pairs: &Comps) -> Result<Term, NoMemory>

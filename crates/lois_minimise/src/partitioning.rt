@@ -3,9 +3,10 @@
 ghost use Rattle.std.specs.Prelude.{◌≡◌, ℕ, Bool, not, ◌&&◌, List, length, map, IfOk, OnOk};
 ghost use Rattle.lois_base.specs.Atom.{Atom};
 ghost use Rattle.lois_base.specs.Data.{coll, comp, comps_of};
-ghost use Rattle.lois_base.specs.Fits.{ConstraintFits, CompFits, ItemsFit};
+ghost use Rattle.lois_base.specs.Fits.{ConstraintFits, ItemsFit};
+ghost use Rattle.lois_base.specs.Over.{CompIsOver, ItemsAreOver};
 ghost use Rattle.lois_base.specs.Tree.{tree, comp_of};
-ghost use Rattle.lois_base.specs.Validity.{AdmitsConstraint, AdmitsComp, AdmitsItems, ItemsHaveBoundedWidths};
+ghost use Rattle.lois_base.specs.Validity.{AdmitsConstraint, AdmitsItems, ItemsHaveBoundedWidths};
 ghost use Rattle.lois_base.specs.Truth.{holds};
 ghost use Rattle.lois_base.specs.Values.{point};
 ghost use Rattle.lois_terms.specs.Shapes.{item_shape};
@@ -33,10 +34,8 @@ pub fn partition_by<T: Structure>(
     set: &Comps,
     size: usize,
 ) -> Result<Partition, NoMemory>
-    requires levels { ItemsFit size (comps_of items.now) }
-    requires operators { AdmitsItems T.ordered (comps_of items.now) }
-    requires set_levels { ItemsFit size (comps_of set.now) }
-    requires set_operators { AdmitsItems T.ordered (comps_of set.now) }
+    requires over { ItemsAreOver T.ordered size (comps_of items.now) }
+    requires set { ItemsAreOver T.ordered size (comps_of set.now) }
     ensures shared { IfOk result (λ r. (c : List Atom) → length c ≡ size → IsPartition (point (coll (comps_of items.now)) c) (point (coll (comps_of set.now)) c) (point (coll (comps_of r.inside)) c) (point (coll (comps_of r.outside)) c)) }
     ensures levels { IfOk result (λ r. ItemsFit size (comps_of r.inside) × ItemsFit size (comps_of r.outside)) }
     ensures operators { IfOk result (λ r. (o : Bool) → AdmitsItems o (comps_of items.now) → AdmitsItems o (comps_of set.now) → AdmitsItems o (comps_of r.inside) × AdmitsItems o (comps_of r.outside)) }
@@ -60,10 +59,8 @@ fn partition_comp<T: Structure>(
     index: &Index,
     size: usize,
 ) -> Result<(), NoMemory>
-    requires levels { CompFits size (comp_of one.now) }
-    requires operators { AdmitsComp T.ordered (comp_of one.now) }
-    requires set_levels { ItemsFit size (comps_of set.now) }
-    requires set_operators { AdmitsItems T.ordered (comps_of set.now) }
+    requires over { CompIsOver T.ordered size (comp_of one.now) }
+    requires set { ItemsAreOver T.ordered size (comps_of set.now) }
     requires shapes { index.now ≡ map item_shape set.now }
     ensures { OnOk result (AddsPartition size (comp_of one.now) (coll (comps_of set.now)) (comps_of inside.old) (comps_of inside.new) (comps_of outside.old) (comps_of outside.new)) }
 {

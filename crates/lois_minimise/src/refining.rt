@@ -4,9 +4,10 @@ ghost use Rattle.std.specs.Prelude.{◌≡◌, Bool, List, length, IfOk};
 ghost use Rattle.lois_base.specs.Atom.{Atom};
 ghost use Rattle.lois_base.specs.Data.{coll, comps_of};
 ghost use Rattle.lois_base.specs.Fits.{ItemsFit};
+ghost use Rattle.lois_base.specs.Over.{ItemsAreOver};
 ghost use Rattle.lois_base.specs.Validity.{AdmitsItems, ItemsHaveBoundedWidths};
 ghost use Rattle.lois_base.specs.Values.{point};
-ghost use Rattle.lois_automata.specs.Projections.{automaton_at};
+ghost use Rattle.lois_automata.specs.FiveSets.{automaton_of};
 ghost use Rattle.lois_minimise.specs.Classes.{IsCompleteDeterministicWithReach, AreIndistinguishable, ArePairsAcross, AreSplitPairs};
 
 use crate::moving::backward;
@@ -27,13 +28,10 @@ pub fn indistinguishable_pairs<T: Structure>(
     nodes: &Comps,
     size: usize,
 ) -> Result<Comps, NoMemory>
-    requires steps { ItemsFit size (comps_of sets.steps.now) }
-    requires steps_operators { AdmitsItems T.ordered (comps_of sets.steps.now) }
-    requires accepting { ItemsFit size (comps_of sets.accepting.now) }
-    requires accepting_operators { AdmitsItems T.ordered (comps_of sets.accepting.now) }
-    requires nodes { ItemsFit size (comps_of nodes.now) }
-    requires nodes_operators { AdmitsItems T.ordered (comps_of nodes.now) }
-    ensures alike { IfOk result (λ r. (c : List Atom) → length c ≡ size → IsCompleteDeterministicWithReach (automaton_at (comps_of sets.entry.states.now) (comps_of sets.entry.letters.now) (comps_of sets.entry.steps.now) (comps_of sets.entry.initial.now) (comps_of sets.entry.accepting.now) c) (point (coll (comps_of nodes.now)) c) → AreIndistinguishable (automaton_at (comps_of sets.entry.states.now) (comps_of sets.entry.letters.now) (comps_of sets.entry.steps.now) (comps_of sets.entry.initial.now) (comps_of sets.entry.accepting.now) c) (point (coll (comps_of r)) c)) }
+    requires steps { ItemsAreOver T.ordered size (comps_of sets.steps.now) }
+    requires accepting { ItemsAreOver T.ordered size (comps_of sets.accepting.now) }
+    requires nodes { ItemsAreOver T.ordered size (comps_of nodes.now) }
+    ensures alike { IfOk result (λ r. (c : List Atom) → length c ≡ size → IsCompleteDeterministicWithReach (automaton_of sets.entry c) (point (coll (comps_of nodes.now)) c) → AreIndistinguishable (automaton_of sets.entry c) (point (coll (comps_of r)) c)) }
     ensures levels { IfOk result (λ r. ItemsFit size (comps_of r)) }
     ensures operators { IfOk result (λ r. (o : Bool) → AdmitsItems o (comps_of sets.entry.steps.now) → AdmitsItems o (comps_of sets.entry.accepting.now) → AdmitsItems o (comps_of nodes.now) → AdmitsItems o (comps_of r)) }
     ensures widths { IfOk result (λ r. ItemsHaveBoundedWidths (comps_of nodes.now) → ItemsHaveBoundedWidths (comps_of r)) }
@@ -63,10 +61,8 @@ fn split_pairs<T: Structure>(
     set: &Comps,
     size: usize,
 ) -> Result<Partition, NoMemory>
-    requires nodes { ItemsFit size (comps_of nodes.now) }
-    requires nodes_operators { AdmitsItems T.ordered (comps_of nodes.now) }
-    requires set { ItemsFit size (comps_of set.now) }
-    requires set_operators { AdmitsItems T.ordered (comps_of set.now) }
+    requires nodes { ItemsAreOver T.ordered size (comps_of nodes.now) }
+    requires set { ItemsAreOver T.ordered size (comps_of set.now) }
     ensures pairs { IfOk result (λ r. (c : List Atom) → length c ≡ size → AreSplitPairs (point (coll (comps_of nodes.now)) c) (point (coll (comps_of set.now)) c) (point (coll (comps_of r.inside)) c) (point (coll (comps_of r.outside)) c)) }
     ensures levels { IfOk result (λ r. ItemsFit size (comps_of r.inside) × ItemsFit size (comps_of r.outside)) }
     ensures operators { IfOk result (λ r. (o : Bool) → AdmitsItems o (comps_of nodes.now) → AdmitsItems o (comps_of set.now) → AdmitsItems o (comps_of r.inside) × AdmitsItems o (comps_of r.outside)) }

@@ -2,9 +2,10 @@
 
 ghost use Rattle.std.specs.Prelude.{◌≡◌, ℕ, Bool, List, map, slice_get, Some, IfOk, OnOk, IsTrue};
 ghost use Rattle.lois_base.specs.Data.{CompD, coll, comps_of};
-ghost use Rattle.lois_base.specs.Fits.{CompFits, ItemsFit};
+ghost use Rattle.lois_base.specs.Fits.{ItemsFit};
+ghost use Rattle.lois_base.specs.Over.{CompIsOver, ItemsAreOver};
 ghost use Rattle.lois_base.specs.Tree.{tree, comp_of};
-ghost use Rattle.lois_base.specs.Validity.{AdmitsComp, AdmitsItems};
+ghost use Rattle.lois_base.specs.Validity.{AdmitsItems};
 ghost use Rattle.lois_terms.specs.Shapes.{shape_of, item_shape};
 ghost use Rattle.lois_minimise.specs.Classes.{AddsTold, AreTold};
 
@@ -25,10 +26,8 @@ pub fn told_pairs<T: Structure>(
     left: &Comps,
     size: usize,
 ) -> Result<Comps, NoMemory>
-    requires levels { ItemsFit size (comps_of moves.now) }
-    requires operators { AdmitsItems T.ordered (comps_of moves.now) }
-    requires held_levels { ItemsFit size (comps_of held.now) }
-    requires held_operators { AdmitsItems T.ordered (comps_of held.now) }
+    requires over { ItemsAreOver T.ordered size (comps_of moves.now) }
+    requires held { ItemsAreOver T.ordered size (comps_of held.now) }
     ensures members { IfOk result (λ r. AreTold size (coll (comps_of moves.now)) (coll (comps_of held.now)) (coll (comps_of left.now)) (coll (comps_of r))) }
     ensures levels { IfOk result (λ r. ItemsFit size (comps_of r)) }
     ensures operators { IfOk result (λ r. (o : Bool) → AdmitsItems o (comps_of moves.now) → AdmitsItems o (comps_of held.now) → AdmitsItems o (comps_of r)) }
@@ -51,10 +50,8 @@ fn add_told<T: Structure>(
     wanted: &Index,
     size: usize,
 ) -> Result<(), NoMemory>
-    requires levels { CompFits size (comp_of comp.now) }
-    requires operators { AdmitsComp T.ordered (comp_of comp.now) }
-    requires held_levels { ItemsFit size (comps_of held.now) }
-    requires held_operators { AdmitsItems T.ordered (comps_of held.now) }
+    requires over { CompIsOver T.ordered size (comp_of comp.now) }
+    requires held { ItemsAreOver T.ordered size (comps_of held.now) }
     requires shapes { index.now ≡ map item_shape held.now }
     ensures { OnOk result ((left : List CompD) → wanted.now ≡ map item_shape left → AddsTold size (comp_of comp.now) (coll (comps_of held.now)) (coll (comps_of left)) (comps_of told.old) (comps_of told.new)) }
 {

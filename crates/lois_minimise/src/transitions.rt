@@ -4,6 +4,7 @@ ghost use Rattle.std.specs.Prelude.{◌≡◌, ℕ, Bool, IsTrue, List, length, 
 ghost use Rattle.lois_base.specs.Atom.{Atom};
 ghost use Rattle.lois_base.specs.Data.{TermD, CompD, coll, comps_of};
 ghost use Rattle.lois_base.specs.Fits.{Fits, CompFits, ItemsFit};
+ghost use Rattle.lois_base.specs.Over.{ItemsAreOver};
 ghost use Rattle.lois_base.specs.Tree.{tree, comp_of};
 ghost use Rattle.lois_base.specs.Validity.{AdmitsTerm, AdmitsItems, HasBoundedWidths, ItemsHaveBoundedWidths};
 ghost use Rattle.lois_base.specs.Values.{point};
@@ -13,9 +14,8 @@ ghost use Rattle.lois_automata.specs.Projections.{AddsOfOne, pair_of, triple_of}
 ghost use Rattle.lois_minimise.specs.Classes.{AreClassSteps, AreStepMoves, AreTransitions, AddsTransition, AddsTransitions, IsStepMove, transition_of};
 
 use crate::indexed::targets_in;
-use crate::pairs::pair_of_terms;
 use lois_algebra::push_comp;
-use lois_automata::{pair_comps, pair_parts, pairs, triple};
+use lois_automata::{pair_comps, pair_of_terms, pair_parts, pairs, triple};
 use lois_base::{Comp, Comps, NoMemory, Structure, Term};
 use lois_terms::{Index, index_by_shape, shape};
 use std::alloc::Global;
@@ -39,12 +39,9 @@ pub fn class_steps<T: Structure>(
     steps: &Comps,
     size: usize,
 ) -> Result<Term, NoMemory>
-    requires classes { ItemsFit size (comps_of classes.now) }
-    requires classes_operators { AdmitsItems T.ordered (comps_of classes.now) }
-    requires letters { ItemsFit size (comps_of letters.now) }
-    requires letters_operators { AdmitsItems T.ordered (comps_of letters.now) }
-    requires steps { ItemsFit size (comps_of steps.now) }
-    requires steps_operators { AdmitsItems T.ordered (comps_of steps.now) }
+    requires classes { ItemsAreOver T.ordered size (comps_of classes.now) }
+    requires letters { ItemsAreOver T.ordered size (comps_of letters.now) }
+    requires steps { ItemsAreOver T.ordered size (comps_of steps.now) }
     ensures steps { IfOk result (λ r. (c : List Atom) → length c ≡ size → AreClassSteps (point (coll (comps_of classes.now)) c) (point (coll (comps_of letters.now)) c) (point (coll (comps_of steps.now)) c) (point (tree r) c)) }
     ensures set { IfOk result (λ r. IsColl (tree r)) }
     ensures levels { IfOk result (λ r. Fits size (tree r)) }

@@ -2,9 +2,8 @@
 
 ghost use Rattle.std.specs.Prelude.{◌≡◌, [], IfOk};
 ghost use Rattle.lois_base.specs.Data.{coll, comps_of};
-ghost use Rattle.lois_base.specs.Fits.{Fits};
+ghost use Rattle.lois_base.specs.Over.{IsOver};
 ghost use Rattle.lois_base.specs.Tree.{tree};
-ghost use Rattle.lois_base.specs.Validity.{AdmitsTerm};
 ghost use Rattle.lois_base.specs.Values.{point};
 ghost use Rattle.lois_automata.specs.Projections.{five_of};
 ghost use Rattle.lois_deciders.specs.OnlyAsked.{HasOnlyAsked};
@@ -27,8 +26,7 @@ pub fn draw_value<T: Structure>(
     value: &Term,
     chosen: &mut Chosen,
 ) -> Result<Option<Graph>, NoMemory>
-    requires levels { Fits 0 (tree value.now) }
-    requires operators { AdmitsTerm T.ordered (tree value.now) }
+    requires over { IsOver T.ordered 0 (tree value.now) }
     ensures graph { IfOk result (IsGraphOrNone T.ordered (tree value.now)) }
     ensures only_asked { HasOnlyAsked (λ b. (⟦<dyn Decider as Decider>⟧ b.vtable).kind_of b.value) (λ b. (⟦<dyn Decider as Decider>⟧ b.vtable).questions b.value) chosen.old chosen.new }
 {
@@ -48,8 +46,7 @@ fn draw_five<T: Structure>(
     sets: FiveSets<'_>,
     chosen: &mut Chosen,
 ) -> Result<Option<Graph>, NoMemory>
-    requires levels { Fits 0 (tree value.now) }
-    requires operators { AdmitsTerm T.ordered (tree value.now) }
+    requires over { IsOver T.ordered 0 (tree value.now) }
     requires five { tree value.now ≡ five_of (comps_of sets.states.now) (comps_of sets.letters.now) (comps_of sets.steps.now) (comps_of sets.initial.now) (comps_of sets.accepting.now) }
     ensures graph { IfOk result (IsGraphOrNone T.ordered (tree value.now)) }
     ensures only_asked { HasOnlyAsked (λ b. (⟦<dyn Decider as Decider>⟧ b.vtable).kind_of b.value) (λ b. (⟦<dyn Decider as Decider>⟧ b.vtable).questions b.value) chosen.old chosen.new }
@@ -80,8 +77,7 @@ fn draw_relation<T: Structure>(
     pairs: &Comps,
     chosen: &mut Chosen,
 ) -> Result<Option<Graph>, NoMemory>
-    requires levels { Fits 0 (coll (comps_of pairs.now)) }
-    requires operators { AdmitsTerm T.ordered (coll (comps_of pairs.now)) }
+    requires over { IsOver T.ordered 0 (coll (comps_of pairs.now)) }
     ensures graph { IfOk result (IsRelationGraphOrNone T.ordered (coll (comps_of pairs.now))) }
     ensures only_asked { HasOnlyAsked (λ b. (⟦<dyn Decider as Decider>⟧ b.vtable).kind_of b.value) (λ b. (⟦<dyn Decider as Decider>⟧ b.vtable).questions b.value) chosen.old chosen.new }
 {

@@ -2,10 +2,9 @@
 
 ghost use Rattle.std.specs.Prelude.{◌≡◌, length, map, IfOk, OnOk};
 ghost use Rattle.std.specs.List.{All};
-ghost use Rattle.lois_base.specs.Fits.{Fits};
+ghost use Rattle.lois_base.specs.Over.{IsOver};
 ghost use Rattle.lois_base.specs.Tree.{tree};
 ghost use Rattle.lois_base.specs.Truth.{sampled};
-ghost use Rattle.lois_base.specs.Validity.{AdmitsTerm};
 ghost use Rattle.lois_base.specs.Values.{point};
 ghost use Rattle.lois_census.specs.Left.{IsUsable};
 ghost use Rattle.lois_census.specs.OrbitView.{orbit_of};
@@ -87,8 +86,7 @@ fn find_node<T: Structure>(
     nodes: &Nodes,
     shapes: &Index,
 ) -> Result<usize, NoMemory>
-    requires levels { Fits (length sample.now) (tree t.now) }
-    requires operators { AdmitsTerm T.ordered (tree t.now) }
+    requires over { IsOver T.ordered (length sample.now) (tree t.now) }
     requires nodes { All (λ v. IsUsable T.ordered v.orbit) nodes.now }
     requires shapes { shapes.now ≡ shapes_of nodes.now }
     requires listed { IsInListedOrbit T.ordered (node_orbits nodes.now) (point (tree t.now) (sampled sample.now)) }
@@ -110,8 +108,7 @@ fn lies_in<T: Structure>(
     sample: &[u64],
     node: &Node,
 ) -> Result<bool, NoMemory>
-    requires levels { Fits (length sample.now) (tree t.now) }
-    requires operators { AdmitsTerm T.ordered (tree t.now) }
+    requires over { IsOver T.ordered (length sample.now) (tree t.now) }
     requires node { IsUsable T.ordered (orbit_of node.now.orbit) }
     ensures { IfOk result (TellsOrbit T.ordered (tree t.now) sample.now (orbit_of node.now.orbit)) }
 {

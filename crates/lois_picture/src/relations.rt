@@ -2,9 +2,9 @@
 
 ghost use Rattle.std.specs.Prelude.{[], IfOk, OnOk};
 ghost use Rattle.lois_base.specs.Data.{coll, comps_of};
-ghost use Rattle.lois_base.specs.Fits.{CompFits, ItemsFit};
+ghost use Rattle.lois_base.specs.Fits.{CompFits};
+ghost use Rattle.lois_base.specs.Over.{ItemsAreOver};
 ghost use Rattle.lois_base.specs.Tree.{tree, comp_of};
-ghost use Rattle.lois_base.specs.Validity.{AdmitsItems};
 ghost use Rattle.lois_algebra.specs.Gathered.{IsPut};
 ghost use Rattle.lois_deciders.specs.OnlyAsked.{HasOnlyAsked};
 ghost use Rattle.lois_picture.specs.Drawing.{AddsEndsOrNot, AreEndsOrNone, end_comp};
@@ -21,8 +21,7 @@ pub fn ends_in<T: Structure>(
     pairs: &Comps,
     chosen: &mut Chosen,
 ) -> Result<Option<Term>, NoMemory>
-    requires levels { ItemsFit 0 (comps_of pairs.now) }
-    requires operators { AdmitsItems T.ordered (comps_of pairs.now) }
+    requires over { ItemsAreOver T.ordered 0 (comps_of pairs.now) }
     ensures ends { IfOk result (AreEndsOrNone T.ordered (coll (comps_of pairs.now))) }
     ensures only_asked { HasOnlyAsked (λ b. (⟦<dyn Decider as Decider>⟧ b.vtable).kind_of b.value) (λ b. (⟦<dyn Decider as Decider>⟧ b.vtable).questions b.value) chosen.old chosen.new }
 {

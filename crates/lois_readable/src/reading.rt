@@ -4,8 +4,9 @@ ghost use Rattle.std.specs.Prelude.{◌≤◌, Bool, IfOk};
 ghost use Rattle.lois_base.specs.Data.{depth};
 ghost use Rattle.lois_base.specs.Fits.{ConstraintFits, Fits};
 ghost use Rattle.lois_base.specs.Normal.{IsNormal};
+ghost use Rattle.lois_base.specs.Over.{IsOver, ConstraintIsOver};
 ghost use Rattle.lois_base.specs.Tree.{tree};
-ghost use Rattle.lois_base.specs.Validity.{AdmitsConstraint, AdmitsTerm, HasBoundedWidths};
+ghost use Rattle.lois_base.specs.Validity.{AdmitsTerm, HasBoundedWidths};
 ghost use Rattle.lois_deciders.specs.OnlyAsked.{HasOnlyAsked};
 ghost use Rattle.lois_readable.specs.Readable.{IsReadable};
 ghost use Rattle.lois_simplify.specs.Irredundant.{HasNormalGuards};
@@ -38,10 +39,8 @@ pub fn make_readable<T: Structure>(
     size: usize,
     chosen: &mut Chosen,
 ) -> Result<Term, NoMemory>
-    requires levels { Fits size (tree term.now) }
-    requires under_levels { ConstraintFits size under.now }
-    requires operators { AdmitsTerm T.ordered (tree term.now) }
-    requires under_operators { AdmitsConstraint T.ordered under.now }
+    requires over { IsOver T.ordered size (tree term.now) }
+    requires under { ConstraintIsOver T.ordered size under.now }
     ensures value { IfOk result (λ r. IsSameWhere under.now size (tree term.now) (tree r)) }
     ensures normal { IfOk result (λ r. IsNormal (tree r) under.now size) }
     ensures guards { IfOk result (λ r. HasNormalGuards (tree r)) }
@@ -65,10 +64,8 @@ fn read<T: Structure>(
     size: usize,
     chosen: &mut Chosen,
 ) -> Result<Term, NoMemory>
-    requires levels { Fits size (tree term.now) }
-    requires under_levels { ConstraintFits size under.now }
-    requires operators { AdmitsTerm T.ordered (tree term.now) }
-    requires under_operators { AdmitsConstraint T.ordered under.now }
+    requires over { IsOver T.ordered size (tree term.now) }
+    requires under { ConstraintIsOver T.ordered size under.now }
     ensures readable { IfOk result (λ r. IsReadable under.now size (tree term.now) (tree r)) }
     ensures only_asked { HasOnlyAsked (λ b. (⟦<dyn Decider as Decider>⟧ b.vtable).kind_of b.value) (λ b. (⟦<dyn Decider as Decider>⟧ b.vtable).questions b.value) chosen.old chosen.new }
 {
@@ -84,10 +81,8 @@ fn read_joined<T: Structure>(
     size: usize,
     chosen: &mut Chosen,
 ) -> Result<Term, NoMemory>
-    requires levels { Fits size (tree term) }
-    requires under_levels { ConstraintFits size under.now }
-    requires operators { AdmitsTerm T.ordered (tree term) }
-    requires under_operators { AdmitsConstraint T.ordered under.now }
+    requires over { IsOver T.ordered size (tree term) }
+    requires under { ConstraintIsOver T.ordered size under.now }
     requires normal { IsNormal (tree term) under.now size }
     requires guards { HasNormalGuards (tree term) }
     requires plain { HasPlainGuards (tree term) under.now size }
@@ -118,10 +113,8 @@ fn read_parted<T: Structure>(
     size: usize,
     chosen: &mut Chosen,
 ) -> Result<Term, NoMemory>
-    requires levels { Fits size (tree term.now) }
-    requires under_levels { ConstraintFits size under.now }
-    requires operators { AdmitsTerm T.ordered (tree term.now) }
-    requires under_operators { AdmitsConstraint T.ordered under.now }
+    requires over { IsOver T.ordered size (tree term.now) }
+    requires under { ConstraintIsOver T.ordered size under.now }
     ensures readable { IfOk result (λ r. IsReadable under.now size (tree term.now) (tree r)) }
     ensures only_asked { HasOnlyAsked (λ b. (⟦<dyn Decider as Decider>⟧ b.vtable).kind_of b.value) (λ b. (⟦<dyn Decider as Decider>⟧ b.vtable).questions b.value) chosen.old chosen.new }
 {
@@ -149,10 +142,8 @@ fn read_parts<T: Structure>(
     size: usize,
     chosen: &mut Chosen,
 ) -> Result<Term, NoMemory>
-    requires levels { Fits size (tree term) }
-    requires under_levels { ConstraintFits size under.now }
-    requires operators { AdmitsTerm T.ordered (tree term) }
-    requires under_operators { AdmitsConstraint T.ordered under.now }
+    requires over { IsOver T.ordered size (tree term) }
+    requires under { ConstraintIsOver T.ordered size under.now }
     requires normal { IsNormal (tree term) under.now size }
     requires guards { HasNormalGuards (tree term) }
     requires plain { HasPlainGuards (tree term) under.now size }
@@ -200,10 +191,8 @@ fn simplified<T: Structure>(
     size: usize,
     chosen: &mut Chosen,
 ) -> Result<Term, NoMemory>
-    requires levels { Fits size (tree term.now) }
-    requires under_levels { ConstraintFits size under.now }
-    requires operators { AdmitsTerm T.ordered (tree term.now) }
-    requires under_operators { AdmitsConstraint T.ordered under.now }
+    requires over { IsOver T.ordered size (tree term.now) }
+    requires under { ConstraintIsOver T.ordered size under.now }
     ensures readable { IfOk result (λ r. IsReadable under.now size (tree term.now) (tree r)) }
     ensures only_asked { HasOnlyAsked (λ b. (⟦<dyn Decider as Decider>⟧ b.vtable).kind_of b.value) (λ b. (⟦<dyn Decider as Decider>⟧ b.vtable).questions b.value) chosen.old chosen.new }
 {

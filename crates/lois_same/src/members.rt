@@ -1,9 +1,9 @@
 //! Members of one set that another lacks.
 
 ghost use Rattle.std.specs.Prelude.{◌≡◌, ◌+◌, IfOk, IfSome, IsNone};
-ghost use Rattle.lois_base.specs.Fits.{ConstraintFits, Fits, CompFits};
+ghost use Rattle.lois_base.specs.Fits.{ConstraintFits};
+ghost use Rattle.lois_base.specs.Over.{IsOver, CompIsOver};
 ghost use Rattle.lois_base.specs.Tree.{tree, comp_of};
-ghost use Rattle.lois_base.specs.Validity.{AdmitsComp, AdmitsTerm};
 ghost use Rattle.lois_deciders.specs.OnlyAsked.{HasOnlyAsked};
 ghost use Rattle.lois_terms.specs.Collections.{IsColl};
 ghost use Rattle.lois_same.specs.Members.{IsIncludedUnder, IsMemberAlone, CompIsIncluded, IsSampleAlone};
@@ -30,11 +30,9 @@ pub(crate) fn find_member_alone<T: Structure>(
     size: usize,
     chosen: &mut Chosen,
 ) -> Result<Option<MemberAlone>, NoMemory>
-    requires levels { Fits size (tree set.now) }
-    requires operators { AdmitsTerm T.ordered (tree set.now) }
+    requires over { IsOver T.ordered size (tree set.now) }
     requires set { IsColl (tree set.now) }
-    requires other_levels { Fits size (tree other.now) }
-    requires other_operators { AdmitsTerm T.ordered (tree other.now) }
+    requires other { IsOver T.ordered size (tree other.now) }
     requires other_set { IsColl (tree other.now) }
     requires under { ConstraintFits size under.now }
     ensures none { IfOk result (λ o. IsNone o → IsIncludedUnder size under.now (tree set.now) (tree other.now)) }
@@ -63,10 +61,8 @@ fn find_item_alone<T: Structure>(
     size: usize,
     chosen: &mut Chosen,
 ) -> Result<Option<Numbers>, NoMemory>
-    requires levels { CompFits size (comp_of comp.now) }
-    requires operators { AdmitsComp T.ordered (comp_of comp.now) }
-    requires other_levels { Fits size (tree other.now) }
-    requires other_operators { AdmitsTerm T.ordered (tree other.now) }
+    requires over { CompIsOver T.ordered size (comp_of comp.now) }
+    requires other { IsOver T.ordered size (tree other.now) }
     requires other_set { IsColl (tree other.now) }
     requires under { ConstraintFits size under.now }
     ensures none { IfOk result (λ o. IsNone o → CompIsIncluded size under.now (comp_of comp.now) (tree other.now)) }

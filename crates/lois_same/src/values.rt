@@ -1,9 +1,9 @@
 //! Whether two terms have the same value.
 
 ghost use Rattle.std.specs.Prelude.{◌≡◌, IfOk, IfSome, IsNone, IsTrue, ◌↔◌};
-ghost use Rattle.lois_base.specs.Fits.{ConstraintFits, Fits};
+ghost use Rattle.lois_base.specs.Fits.{ConstraintFits};
+ghost use Rattle.lois_base.specs.Over.{IsOver};
 ghost use Rattle.lois_base.specs.Tree.{tree};
-ghost use Rattle.lois_base.specs.Validity.{AdmitsTerm};
 ghost use Rattle.lois_deciders.specs.OnlyAsked.{HasOnlyAsked};
 ghost use Rattle.lois_deciders.specs.Satisfiability.{IsCounterexample};
 ghost use Rattle.lois_terms.specs.Collections.{IsColl};
@@ -40,10 +40,8 @@ pub(crate) fn compare_values<T: Structure>(
     size: usize,
     chosen: &mut Chosen,
 ) -> Result<Option<ValueContrast>, NoMemory>
-    requires levels { Fits size (tree term.now) }
-    requires operators { AdmitsTerm T.ordered (tree term.now) }
-    requires other_levels { Fits size (tree other.now) }
-    requires other_operators { AdmitsTerm T.ordered (tree other.now) }
+    requires over { IsOver T.ordered size (tree term.now) }
+    requires other { IsOver T.ordered size (tree other.now) }
     requires under { ConstraintFits size under.now }
     ensures contrast { IfOk result (IsValueContrastOrNone size under.now (tree term.now) (tree other.now)) }
     ensures only_asked { HasOnlyAsked (λ b. (⟦<dyn Decider as Decider>⟧ b.vtable).kind_of b.value) (λ b. (⟦<dyn Decider as Decider>⟧ b.vtable).questions b.value) chosen.old chosen.new }
@@ -69,11 +67,9 @@ fn compare_sets<T: Structure>(
     size: usize,
     chosen: &mut Chosen,
 ) -> Result<Option<ValueContrast>, NoMemory>
-    requires levels { Fits size (tree set.now) }
-    requires operators { AdmitsTerm T.ordered (tree set.now) }
+    requires over { IsOver T.ordered size (tree set.now) }
     requires set { IsColl (tree set.now) }
-    requires other_levels { Fits size (tree other.now) }
-    requires other_operators { AdmitsTerm T.ordered (tree other.now) }
+    requires other { IsOver T.ordered size (tree other.now) }
     requires other_set { IsColl (tree other.now) }
     requires under { ConstraintFits size under.now }
     ensures contrast { IfOk result (IsValueContrastOrNone size under.now (tree set.now) (tree other.now)) }
@@ -98,10 +94,8 @@ fn find_other_values<T: Structure>(
     size: usize,
     chosen: &mut Chosen,
 ) -> Result<Option<Numbers>, NoMemory>
-    requires levels { Fits size (tree term.now) }
-    requires operators { AdmitsTerm T.ordered (tree term.now) }
-    requires other_levels { Fits size (tree other.now) }
-    requires other_operators { AdmitsTerm T.ordered (tree other.now) }
+    requires over { IsOver T.ordered size (tree term.now) }
+    requires other { IsOver T.ordered size (tree other.now) }
     requires under { ConstraintFits size under.now }
     ensures none { IfOk result (λ o. IsNone o → AreSameUnder size under.now (tree term.now) (tree other.now)) }
     ensures sample { IfOk result (λ o. IfSome o (AreOtherUnder size under.now (tree term.now) (tree other.now))) }

@@ -4,40 +4,24 @@ use Rattle.std.proofs.lemmas.List.{get_or-take, length-take-le}
 use Rattle.std.proofs.lemmas.List.Elements.{All-head, All-tail}
 use Rattle.std.specs.List.{All}
 use Rattle.lois_base.specs.Atom.{Atom, whole}
-use Rattle.lois_base.specs.Data.{TermD, tup, coll, no_terms, term, CompsD}
+use Rattle.lois_base.specs.Data.{TermD, CompsD}
 use Rattle.lois_base.specs.Fits.{Fits, ItemsFit}
 use Rattle.lois_base.specs.Patterns.{AreAlike}
 use Rattle.lois_base.specs.Validity.{AdmitsTerm, AdmitsItems}
 use Rattle.lois_base.specs.Values.{PointValue, point, IsSame}
 use Rattle.lois_base.proofs.Members.{same_refl, same_sym, same_trans}
-use Rattle.lois_base.proofs.Moves.{partner, same_carried}
+use Rattle.lois_base.proofs.Moves.{partner, Twinned, twinned_more, same_twinned}
 use Rattle.lois_base.proofs.Twins.{Twins, Within, IsPattern, IsCarried, carried_more, zipped, has_zipped, pattern_zipped}
 use Rattle.lois_meaning.specs.Automata.{IsTriple, IsAutomatonOf, HasStep, Reads, Accepts}
-use Rattle.lois_meaning.specs.Kinds.{IsSet, part_values}
-use Rattle.lois_meaning.proofs.Alike.{set_term}
 use Rattle.lois_meaning.proofs.Tuples.{triple_to}
 use Rattle.lois_automata.specs.Machines.{IsAutomatonAt}
 use Rattle.lois_automata.specs.Projections.{five_of, automaton_at, triple_of}
 use Rattle.lois_automata.proofs.FiveMachine.{five_equal, five_machine}
+use Rattle.lois_automata.proofs.FiveTerms.{five_sets}
 use Rattle.lois_automata.proofs.Written.{triple_term}
 use Rattle.lois_shortest_word.specs.Words.{AcceptsAt, values_at}
 
--- the value of a term at two choices whose atoms are partners
-record Twinned (o : Bool) (ps : List Twins) (t : TermD) (c d : List Atom) : Type 0 where
-  size : ℕ
-  carried : IsCarried ps size c d
-  fits : Fits size t
-  admits : AdmitsTerm o t
-
 module _ (o : Bool) where
-  twinned_more : (ps qs : List Twins) (t : TermD) (c d : List Atom) → Within ps qs → Twinned o ps t c d → Twinned o qs t c d
-  twinned_more ps qs t c d w h =
-      record { size = h.size; carried = carried_more ps qs h.size c d w h.carried; fits = h.fits; admits = h.admits }
-
-  same_twinned : (ps : List Twins) → IsPattern o ps → (t : TermD) (c c' : List Atom) → Twinned o ps t c c' → (s : TermD) (d d' : List Atom) → Twinned o ps s d d' → IsSame (point t c) (point s d) → IsSame (point t c') (point s d')
-  same_twinned ps pattern t c c' h s d d' k same =
-      same_carried o t ps pattern h.size c c' h.carried h.fits h.admits s k.size d d' k.carried k.fits k.admits same
-
   -- the sets of an automaton at two choices, and the letters of a word at two others
   module _ (states letters steps initial final : CompsD) (n : ℕ) (c c' : List Atom) (steps_fit : ItemsFit n steps) (steps_admit : AdmitsItems o steps) (final_fit : ItemsFit n final) (final_admit : AdmitsItems o final) (initial_fit : ItemsFit n initial) (initial_admit : AdmitsItems o initial) (m : ℕ) (e e' : List Atom) where
     -- a step of the first automaton, and its partner
@@ -67,8 +51,8 @@ module _ (o : Bool) where
         let third : Twinned o i.pairs d u.choice i.image = record { size = i.size; carried = i.carried; fits = fit.1.1.0; admits = admit.1.1.0 } in
         let letter : Twinned o i.pairs l e e' = record { size = m; carried = carried_more ps i.pairs m e e' i.within there; fits = fits; admits = admits } in
         let source_same : IsSame (point t x') (point a i.image) =
-        same_twinned i.pairs i.pattern t x x' (twinned_more ps i.pairs t x x' i.within tw) a u.choice i.image first (same_trans (point t x) p (point a u.choice) (same_sym p (point t x) is) three.4) in
-        let letter_same : IsSame (point l e') (point b i.image) = same_twinned i.pairs i.pattern l e e' letter b u.choice i.image second three.5 in
+        same_twinned o i.pairs i.pattern t x x' (twinned_more o ps i.pairs t x x' i.within tw) a u.choice i.image first (same_trans (point t x) p (point a u.choice) (same_sym p (point t x) is) three.4) in
+        let letter_same : IsSame (point l e') (point b i.image) = same_twinned o i.pairs i.pattern l e e' letter b u.choice i.image second three.5 in
         record {
           pairs = i.pairs;
           pattern = i.pattern;
@@ -133,7 +117,7 @@ module _ (o : Bool) where
         let j = partner final o b.pairs b.pattern n c c' (carried_more i.pairs b.pairs n c c' b.within here') final_fit final_admit v.term_of v.choice last in
         let ended : Twinned o j.pairs v.term_of v.choice j.image = record { size = j.size; carried = j.carried; fits = j.fits; admits = j.admits } in
         let same : IsSame (point b.target b.other) (point v.term_of j.image) =
-        same_twinned j.pairs j.pattern b.target b.choice b.other (twinned_more b.pairs j.pairs b.target b.choice b.other j.within b.twinned) v.term_of v.choice j.image ended (same_trans (point b.target b.choice) q v (same_sym q (point b.target b.choice) b.same) q_is) in (
+        same_twinned o j.pairs j.pattern b.target b.choice b.other (twinned_more o b.pairs j.pairs b.target b.choice b.other j.within b.twinned) v.term_of v.choice j.image ended (same_trans (point b.target b.choice) q v (same_sym q (point b.target b.choice) b.same) q_is) in (
           point u.term_of i.image,
           (point u.term_of i.image, i.member, same_refl (point u.term_of i.image)),
           (point b.target b.other, (point v.term_of j.image, j.member, same), b.reads),
@@ -160,29 +144,6 @@ first_carried o n c d le h = record {
   right = length-take-le n d (omega (arith, h.count));
   atoms = λ i l. rw (get_or-take n c i (whole 0) l, get_or-take n d i (whole 0) l) (has_zipped c d i (omega arith) (omega (arith, h.count)));
 }
-
-five_written : (v w x y z : TermD) (s l u i f : CompsD) → v ≡ coll s → w ≡ coll l → x ≡ coll u → y ≡ coll i → z ≡ coll f → tup (term v (term w (term x (term y (term z no_terms))))) ≡ five_of s l u i f
-five_written v w x y z s l u i f p q r k m = rw (p, q, r, k, m) refl
-
--- the term of an automaton is a tuple of five sets
-five_sets : (t : TermD) (c : List Atom) → IsAutomatonAt t c → (s l u i f : CompsD) × (t ≡ five_of s l u i f)
-five_sets (tup (term v (term w (term x (term y (term z no_terms)))))) c (m, is) =
-    let one = set_term v (subst IsSet (parts.0) is.states_set) in
-    let two = set_term w (subst IsSet (parts.1) is.letters_set) in
-    let three = set_term x (subst IsSet (parts.2) is.steps_set) in
-    let four = set_term y (subst IsSet (parts.3) is.initial_set) in
-    let five = set_term z (subst IsSet (parts.4) is.final_set) in
-    (one.0, two.0, three.0, four.0, five.0, five_written v w x y z one.0 two.0 three.0 four.0 five.0 one.1 two.1 three.1 four.1 five.1)
-  where
-    parts : (m.states ≡ point v c) × (m.letters ≡ point w c) × (m.steps ≡ point x c) × (m.initial ≡ point y c) × (m.final ≡ point z c)
-    parts = let five : m.states ∷ m.letters ∷ m.steps ∷ m.initial ∷ m.final ∷ [] ≡ point v c ∷ point w c ∷ point x c ∷ point y c ∷ point z c ∷ [] = is.five in (cc, cc, cc, cc, cc)
-five_sets (tup no_terms) c (m, is) = absurd (let five : m.states ∷ m.letters ∷ m.steps ∷ m.initial ∷ m.final ∷ [] ≡ [] = is.five in cc)
-five_sets (tup (term v no_terms)) c (m, is) = absurd (let five : m.states ∷ m.letters ∷ m.steps ∷ m.initial ∷ m.final ∷ [] ≡ point v c ∷ [] = is.five in cc)
-five_sets (tup (term v (term w no_terms))) c (m, is) = absurd (let five : m.states ∷ m.letters ∷ m.steps ∷ m.initial ∷ m.final ∷ [] ≡ point v c ∷ point w c ∷ [] = is.five in cc)
-five_sets (tup (term v (term w (term x no_terms)))) c (m, is) = absurd (let five : m.states ∷ m.letters ∷ m.steps ∷ m.initial ∷ m.final ∷ [] ≡ point v c ∷ point w c ∷ point x c ∷ [] = is.five in cc)
-five_sets (tup (term v (term w (term x (term y no_terms))))) c (m, is) = absurd (let five : m.states ∷ m.letters ∷ m.steps ∷ m.initial ∷ m.final ∷ [] ≡ point v c ∷ point w c ∷ point x c ∷ point y c ∷ [] = is.five in cc)
-five_sets (tup (term v (term w (term x (term y (term z (term k ks))))))) c (m, is) = absurd (let five : m.states ∷ m.letters ∷ m.steps ∷ m.initial ∷ m.final ∷ [] ≡ point v c ∷ point w c ∷ point x c ∷ point y c ∷ point z c ∷ point k c ∷ part_values ks c = is.five in cc)
-five_sets _ c (m, is) = absurd is.five
 
 -- ---- of one automaton, at choices that stand alike
 module _ (o : Bool) (n : ℕ) (c d : List Atom) (le : n ≤ length c) (alike : AreAlike o c d) (t : TermD) (fits : Fits n t) (admits : AdmitsTerm o t) where

@@ -2,7 +2,8 @@
 
 ghost use Rattle.std.specs.Prelude.{◌≡◌, ◌↔◌, Bool, IfOk, IfSome, IsNone};
 ghost use Rattle.std.specs.List.{All};
-ghost use Rattle.lois_base.specs.Fits.{ConstraintFits, Fits};
+ghost use Rattle.lois_base.specs.Fits.{ConstraintFits};
+ghost use Rattle.lois_base.specs.Over.{IsOver};
 ghost use Rattle.lois_base.specs.Tree.{tree};
 ghost use Rattle.lois_base.specs.Validity.{AdmitsTerm, HasBoundedWidths};
 ghost use Rattle.lois_automata.specs.Machines.{IsAutomatonAt};
@@ -30,10 +31,8 @@ pub fn shortest_common_word<T: Structure>(
     size: usize,
     chosen: &mut Chosen,
 ) -> Result<Option<Word>, NoMemory>
-    requires levels { Fits size (tree a.now) }
-    requires operators { AdmitsTerm T.ordered (tree a.now) }
-    requires other_levels { Fits size (tree b.now) }
-    requires other_operators { AdmitsTerm T.ordered (tree b.now) }
+    requires over { IsOver T.ordered size (tree a.now) }
+    requires other { IsOver T.ordered size (tree b.now) }
     requires under { ConstraintFits size under.now }
     requires automaton { HoldsThroughout size under.now (IsAutomatonAt (tree a.now)) }
     requires other_automaton { HoldsThroughout size under.now (IsAutomatonAt (tree b.now)) }

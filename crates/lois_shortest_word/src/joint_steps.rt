@@ -2,9 +2,10 @@
 
 ghost use Rattle.std.specs.Prelude.{◌≡◌, ◌+◌, Bool, IfOk, OnOk};
 ghost use Rattle.lois_base.specs.Data.{coll, comp, comps_of, no_comps, more};
-ghost use Rattle.lois_base.specs.Fits.{Fits, CompFits, ItemsFit};
+ghost use Rattle.lois_base.specs.Fits.{ItemsFit};
+ghost use Rattle.lois_base.specs.Over.{IsOver, CompIsOver, ItemsAreOver};
 ghost use Rattle.lois_base.specs.Tree.{tree, comp_of};
-ghost use Rattle.lois_base.specs.Validity.{AdmitsTerm, AdmitsComp, AdmitsItems, ItemsHaveBoundedWidths};
+ghost use Rattle.lois_base.specs.Validity.{AdmitsItems, ItemsHaveBoundedWidths};
 ghost use Rattle.lois_shortest_word.specs.Layers.{IsReadable};
 ghost use Rattle.lois_shortest_word.specs.Pairs.{AddsStepFrom, AddsStepsFrom, AddsJointSteps, AreJointSteps};
 
@@ -23,12 +24,9 @@ pub fn joint_steps<T: Structure>(
     other: &Comps,
     size: usize,
 ) -> Result<Comps, NoMemory>
-    requires levels { ItemsFit size (comps_of pairs.now) }
-    requires operators { AdmitsItems T.ordered (comps_of pairs.now) }
-    requires first { ItemsFit size (comps_of one.now) }
-    requires first_operators { AdmitsItems T.ordered (comps_of one.now) }
-    requires second { ItemsFit size (comps_of other.now) }
-    requires second_operators { AdmitsItems T.ordered (comps_of other.now) }
+    requires over { ItemsAreOver T.ordered size (comps_of pairs.now) }
+    requires first { ItemsAreOver T.ordered size (comps_of one.now) }
+    requires second { ItemsAreOver T.ordered size (comps_of other.now) }
     ensures members { IfOk result (λ r. AreJointSteps size (coll (comps_of pairs.now)) (coll (comps_of one.now)) (coll (comps_of other.now)) (coll (comps_of r))) }
     ensures levels { IfOk result (λ r. ItemsFit size (comps_of r)) }
     ensures operators { IfOk result (λ r. (o : Bool) → AdmitsItems o (comps_of pairs.now) → AdmitsItems o (comps_of one.now) → AdmitsItems o (comps_of other.now) → AdmitsItems o (comps_of r)) }
@@ -49,12 +47,9 @@ fn add_joint_steps<T: Structure>(
     other: &Comps,
     size: usize,
 ) -> Result<(), NoMemory>
-    requires levels { CompFits size (comp_of comp.now) }
-    requires operators { AdmitsComp T.ordered (comp_of comp.now) }
-    requires first { ItemsFit size (comps_of one.now) }
-    requires first_operators { AdmitsItems T.ordered (comps_of one.now) }
-    requires second { ItemsFit size (comps_of other.now) }
-    requires second_operators { AdmitsItems T.ordered (comps_of other.now) }
+    requires over { CompIsOver T.ordered size (comp_of comp.now) }
+    requires first { ItemsAreOver T.ordered size (comps_of one.now) }
+    requires second { ItemsAreOver T.ordered size (comps_of other.now) }
     ensures { OnOk result (AddsJointSteps size (comp_of comp.now) (comps_of one.now) (comps_of other.now) (comps_of made.old) (comps_of made.new)) }
 {
     let Some((first, second)) = pair_parts(&comp.item) else {
@@ -77,12 +72,9 @@ fn steps_from<T: Structure>(
     part: &Term,
     size: usize,
 ) -> Result<Comps, NoMemory>
-    requires levels { CompFits size (comp_of origin.now) }
-    requires operators { AdmitsComp T.ordered (comp_of origin.now) }
-    requires part { Fits (size + origin.now.binders) (tree part.now) }
-    requires part_operators { AdmitsTerm T.ordered (tree part.now) }
-    requires steps { ItemsFit size (comps_of steps.now) }
-    requires steps_operators { AdmitsItems T.ordered (comps_of steps.now) }
+    requires over { CompIsOver T.ordered size (comp_of origin.now) }
+    requires part { IsOver T.ordered (size + origin.now.binders) (tree part.now) }
+    requires steps { ItemsAreOver T.ordered size (comps_of steps.now) }
     ensures { IfOk result (λ r. AddsStepsFrom size (coll (more (comp origin.now.binders origin.now.guard (tree part.now)) no_comps)) (comps_of steps.now) no_comps (comps_of r)) }
 {
     let held = values_of(alloc, origin, part)?;
@@ -112,8 +104,7 @@ fn add_steps_from<T: Structure>(
     held: &Term,
     size: usize,
 ) -> Result<(), NoMemory>
-    requires levels { ItemsFit size (comps_of steps.now) }
-    requires operators { AdmitsItems T.ordered (comps_of steps.now) }
+    requires over { ItemsAreOver T.ordered size (comps_of steps.now) }
     requires held { IsReadable T.ordered size (tree held.now) }
     ensures { OnOk result (AddsStepsFrom size (tree held.now) (comps_of steps.now) (comps_of made.old) (comps_of made.new)) }
 {
@@ -130,8 +121,7 @@ fn add_step_from<T: Structure>(
     held: &Term,
     size: usize,
 ) -> Result<(), NoMemory>
-    requires levels { CompFits size (comp_of comp.now) }
-    requires operators { AdmitsComp T.ordered (comp_of comp.now) }
+    requires over { CompIsOver T.ordered size (comp_of comp.now) }
     requires held { IsReadable T.ordered size (tree held.now) }
     ensures { OnOk result (AddsStepFrom size (comp_of comp.now) (tree held.now) (comps_of made.old) (comps_of made.new)) }
 {

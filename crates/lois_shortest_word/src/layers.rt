@@ -2,9 +2,8 @@
 
 ghost use Rattle.std.specs.Prelude.{◌≡◌, ℕ, Bool, IfOk, OnOk};
 ghost use Rattle.lois_base.specs.Data.{coll, comps_of};
-ghost use Rattle.lois_base.specs.Fits.{Fits, CompFits, ItemsFit};
+ghost use Rattle.lois_base.specs.Over.{CompIsOver, ItemsAreOver};
 ghost use Rattle.lois_base.specs.Tree.{tree, comp_of};
-ghost use Rattle.lois_base.specs.Validity.{AdmitsTerm, AdmitsComp, AdmitsItems};
 ghost use Rattle.lois_shortest_word.specs.Layers.{IsReadable, AreSources, AddsSource};
 
 use lois_algebra::push_comp;
@@ -20,8 +19,7 @@ pub fn sources<T: Structure>(
     layer: &Term,
     size: usize,
 ) -> Result<Term, NoMemory>
-    requires levels { ItemsFit size (comps_of steps.now) }
-    requires operators { AdmitsItems T.ordered (comps_of steps.now) }
+    requires over { ItemsAreOver T.ordered size (comps_of steps.now) }
     requires layer { IsReadable T.ordered size (tree layer.now) }
     ensures members { IfOk result (λ r. AreSources size (coll (comps_of steps.now)) (tree layer.now) (tree r)) }
     ensures readable { IfOk result (λ r. IsReadable T.ordered size (tree r)) }
@@ -40,8 +38,7 @@ fn add_source<T: Structure>(
     layer: &Term,
     size: usize,
 ) -> Result<(), NoMemory>
-    requires levels { CompFits size (comp_of comp.now) }
-    requires operators { AdmitsComp T.ordered (comp_of comp.now) }
+    requires over { CompIsOver T.ordered size (comp_of comp.now) }
     requires layer { IsReadable T.ordered size (tree layer.now) }
     ensures { OnOk result (AddsSource size (comp_of comp.now) (tree layer.now) (comps_of made.old) (comps_of made.new)) }
 {

@@ -2,10 +2,12 @@
 
 ghost use Rattle.std.specs.Prelude.{◌≡◌, ℕ, ◌+◌, ◌<◌, ◌^◌, Bool, IfOk, IfSome, IsNone, OnOk};
 ghost use Rattle.lois_base.specs.Data.{coll, comps_of, no_comps};
-ghost use Rattle.lois_base.specs.Fits.{ConstraintFits, CompFits, ItemsFit};
+ghost use Rattle.lois_base.specs.Fits.{ConstraintFits, ItemsFit};
+ghost use Rattle.lois_base.specs.Over.{CompIsOver, ItemsAreOver};
 ghost use Rattle.lois_base.specs.Tree.{tree, comp_of};
-ghost use Rattle.lois_base.specs.Validity.{AdmitsComp, AdmitsItems, ItemsHaveBoundedWidths};
+ghost use Rattle.lois_base.specs.Validity.{AdmitsItems, ItemsHaveBoundedWidths};
 ghost use Rattle.lois_automata.specs.Built.{ArePairs};
+ghost use Rattle.lois_automata.specs.FiveSets.{automaton_of};
 ghost use Rattle.lois_automata.specs.Projections.{automaton_at};
 ghost use Rattle.lois_deciders.specs.OnlyAsked.{HasOnlyAsked};
 ghost use Rattle.lois_shortest_word.specs.Layers.{IsReadable};
@@ -39,20 +41,15 @@ pub fn first_meeting<T: Structure>(
     size: usize,
     chosen: &mut Chosen,
 ) -> Result<Option<Meeting>, NoMemory>
-    requires starts { ItemsFit size (comps_of starts.now) }
-    requires starts_operators { AdmitsItems T.ordered (comps_of starts.now) }
+    requires starts { ItemsAreOver T.ordered size (comps_of starts.now) }
     requires pairs { ArePairs size (coll (comps_of one.initial.now)) (coll (comps_of other.initial.now)) (coll (comps_of starts.now)) }
-    requires steps { ItemsFit size (comps_of one.steps.now) }
-    requires steps_operators { AdmitsItems T.ordered (comps_of one.steps.now) }
-    requires accepting { ItemsFit size (comps_of one.accepting.now) }
-    requires accepting_operators { AdmitsItems T.ordered (comps_of one.accepting.now) }
-    requires other_steps { ItemsFit size (comps_of other.steps.now) }
-    requires other_steps_operators { AdmitsItems T.ordered (comps_of other.steps.now) }
-    requires other_accepting { ItemsFit size (comps_of other.accepting.now) }
-    requires other_accepting_operators { AdmitsItems T.ordered (comps_of other.accepting.now) }
+    requires steps { ItemsAreOver T.ordered size (comps_of one.steps.now) }
+    requires accepting { ItemsAreOver T.ordered size (comps_of one.accepting.now) }
+    requires other_steps { ItemsAreOver T.ordered size (comps_of other.steps.now) }
+    requires other_accepting { ItemsAreOver T.ordered size (comps_of other.accepting.now) }
     requires under { ConstraintFits size under.now }
-    ensures some { IfOk result (λ o. IfSome o (λ r. LeadsToCommon size under.now (automaton_at (comps_of one.entry.states.now) (comps_of one.entry.letters.now) (comps_of one.entry.steps.now) (comps_of one.entry.initial.now) (comps_of one.entry.accepting.now)) (automaton_at (comps_of other.entry.states.now) (comps_of other.entry.letters.now) (comps_of other.entry.steps.now) (comps_of other.entry.initial.now) (comps_of other.entry.accepting.now)) (automaton_at no_comps no_comps (comps_of r.steps) (comps_of starts.now) (comps_of r.common)))) }
-    ensures none { IfOk result (λ o. IsNone o → HaveNoCommonWord size under.now (automaton_at (comps_of one.entry.states.now) (comps_of one.entry.letters.now) (comps_of one.entry.steps.now) (comps_of one.entry.initial.now) (comps_of one.entry.accepting.now)) (automaton_at (comps_of other.entry.states.now) (comps_of other.entry.letters.now) (comps_of other.entry.steps.now) (comps_of other.entry.initial.now) (comps_of other.entry.accepting.now))) }
+    ensures some { IfOk result (λ o. IfSome o (λ r. LeadsToCommon size under.now (automaton_of one.entry) (automaton_of other.entry) (automaton_at no_comps no_comps (comps_of r.steps) (comps_of starts.now) (comps_of r.common)))) }
+    ensures none { IfOk result (λ o. IsNone o → HaveNoCommonWord size under.now (automaton_of one.entry) (automaton_of other.entry)) }
     ensures levels { IfOk result (λ o. IfSome o (λ r. ItemsFit size (comps_of r.steps) × ItemsFit size (comps_of r.common))) }
     ensures common_operators { IfOk result (λ o. IfSome o (λ r. AdmitsItems T.ordered (comps_of r.common))) }
     ensures operators { IfOk result (λ o. IfSome o (λ r. (o : Bool) → AdmitsItems o (comps_of starts.now) → AdmitsItems o (comps_of one.entry.steps.now) → AdmitsItems o (comps_of other.entry.steps.now) → AdmitsItems o (comps_of r.steps))) }
@@ -97,8 +94,7 @@ fn common_pairs<T: Structure>(
     other: &Term,
     size: usize,
 ) -> Result<Comps, NoMemory>
-    requires levels { ItemsFit size (comps_of pairs.now) }
-    requires operators { AdmitsItems T.ordered (comps_of pairs.now) }
+    requires over { ItemsAreOver T.ordered size (comps_of pairs.now) }
     requires first { IsReadable T.ordered size (tree one.now) }
     requires second { IsReadable T.ordered size (tree other.now) }
     ensures members { IfOk result (λ r. AreCommon size (coll (comps_of pairs.now)) (tree one.now) (tree other.now) (coll (comps_of r))) }
@@ -120,8 +116,7 @@ fn add_common<T: Structure>(
     other: &Term,
     size: usize,
 ) -> Result<(), NoMemory>
-    requires levels { CompFits size (comp_of comp.now) }
-    requires operators { AdmitsComp T.ordered (comp_of comp.now) }
+    requires over { CompIsOver T.ordered size (comp_of comp.now) }
     requires first { IsReadable T.ordered size (tree one.now) }
     requires second { IsReadable T.ordered size (tree other.now) }
     ensures { OnOk result (AddsCommon size (comp_of comp.now) (tree one.now) (tree other.now) (comps_of made.old) (comps_of made.new)) }

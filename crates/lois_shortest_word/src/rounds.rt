@@ -2,9 +2,9 @@
 
 ghost use Rattle.std.specs.Prelude.{ℕ, Bool, IfOk, IfSome, IsNone, OnOk};
 ghost use Rattle.lois_base.specs.Data.{coll, comps_of};
-ghost use Rattle.lois_base.specs.Fits.{CompFits, ItemsFit};
+ghost use Rattle.lois_base.specs.Over.{CompIsOver, ItemsAreOver};
 ghost use Rattle.lois_base.specs.Tree.{comp_of};
-ghost use Rattle.lois_base.specs.Validity.{AdmitsComp, AdmitsItems, ItemsHaveBoundedWidths};
+ghost use Rattle.lois_base.specs.Validity.{AdmitsItems, ItemsHaveBoundedWidths};
 ghost use Rattle.lois_shortest_word.specs.Pairs.{AddsFresh, AreFresh};
 ghost use Rattle.lois_shortest_word.specs.Rounds.{IsRound, IsLastRound, AdmitsReached, HasReachedLevels};
 
@@ -32,10 +32,8 @@ fn take_fresh<T: Structure>(
     members: &Comps,
     size: usize,
 ) -> Result<Comps, NoMemory>
-    requires levels { ItemsFit size (comps_of members.now) }
-    requires operators { AdmitsItems T.ordered (comps_of members.now) }
-    requires seen { ItemsFit size (comps_of seen.now) }
-    requires seen_operators { AdmitsItems T.ordered (comps_of seen.now) }
+    requires over { ItemsAreOver T.ordered size (comps_of members.now) }
+    requires seen { ItemsAreOver T.ordered size (comps_of seen.now) }
     ensures { IfOk result (λ r. AreFresh size (comps_of members.now) (comps_of seen.old) (comps_of seen.new) (comps_of r)) }
 {
     let mut fresh = Comps::new(alloc);
@@ -52,10 +50,8 @@ fn add_fresh<T: Structure>(
     comp: &Comp,
     size: usize,
 ) -> Result<(), NoMemory>
-    requires levels { CompFits size (comp_of comp.now) }
-    requires operators { AdmitsComp T.ordered (comp_of comp.now) }
-    requires seen { ItemsFit size (comps_of seen.now) }
-    requires seen_operators { AdmitsItems T.ordered (comps_of seen.now) }
+    requires over { CompIsOver T.ordered size (comp_of comp.now) }
+    requires seen { ItemsAreOver T.ordered size (comps_of seen.now) }
     ensures { OnOk result (AddsFresh size (comp_of comp.now) (comps_of seen.old) (comps_of fresh.old) (comps_of seen.new) (comps_of fresh.new)) }
 {
     let formula = item_formula(alloc, &comp.item, seen.as_slice(), size, comp.binders)?;
@@ -81,10 +77,8 @@ pub fn next_round<T: Structure>(
 ) -> Result<Option<Reached>, NoMemory>
     requires levels { HasReachedLevels size reached }
     requires operators { AdmitsReached T.ordered reached }
-    requires first { ItemsFit size (comps_of one.now) }
-    requires first_operators { AdmitsItems T.ordered (comps_of one.now) }
-    requires second { ItemsFit size (comps_of other.now) }
-    requires second_operators { AdmitsItems T.ordered (comps_of other.now) }
+    requires first { ItemsAreOver T.ordered size (comps_of one.now) }
+    requires second { ItemsAreOver T.ordered size (comps_of other.now) }
     ensures some { IfOk result (λ o. IfSome o (IsRound size (coll (comps_of one.now)) (coll (comps_of other.now)) reached)) }
     ensures none { IfOk result (λ o. IsNone o → IsLastRound size (coll (comps_of one.now)) (coll (comps_of other.now)) reached) }
     ensures levels { IfOk result (λ o. IfSome o (HasReachedLevels size)) }

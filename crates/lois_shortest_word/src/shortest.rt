@@ -2,9 +2,9 @@
 
 ghost use Rattle.std.specs.Prelude.{◌≡◌, Bool, IfOk, IfSome, IsNone, ◌↔◌};
 ghost use Rattle.std.specs.List.{All};
-ghost use Rattle.lois_base.specs.Fits.{ConstraintFits, Fits};
+ghost use Rattle.lois_base.specs.Over.{IsOver, ConstraintIsOver};
 ghost use Rattle.lois_base.specs.Tree.{tree};
-ghost use Rattle.lois_base.specs.Validity.{AdmitsConstraint, AdmitsTerm, HasBoundedWidths};
+ghost use Rattle.lois_base.specs.Validity.{AdmitsTerm, HasBoundedWidths};
 ghost use Rattle.lois_automata.specs.Machines.{IsAutomatonAt, IsEmptyAt};
 ghost use Rattle.lois_automata.specs.Throughout.{HoldsThroughout};
 ghost use Rattle.lois_deciders.specs.OnlyAsked.{HasOnlyAsked};
@@ -28,10 +28,8 @@ pub fn shortest_word<T: Structure>(
     size: usize,
     chosen: &mut Chosen,
 ) -> Result<Option<Word>, NoMemory>
-    requires levels { Fits size (tree a.now) }
-    requires operators { AdmitsTerm T.ordered (tree a.now) }
-    requires under { ConstraintFits size under.now }
-    requires under_operators { AdmitsConstraint T.ordered under.now }
+    requires over { IsOver T.ordered size (tree a.now) }
+    requires under { ConstraintIsOver T.ordered size under.now }
     requires automaton { HoldsThroughout size under.now (IsAutomatonAt (tree a.now)) }
     ensures none { IfOk result (λ o. IsNone o ↔ HoldsThroughout size under.now (IsEmptyAt (tree a.now))) }
     ensures found { IfOk result (λ o. IfSome o (IsShortestWord size under.now (tree a.now))) }

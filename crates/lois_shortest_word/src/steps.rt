@@ -2,7 +2,8 @@
 
 ghost use Rattle.std.specs.Prelude.{◌≡◌, ℕ, ◌+◌, ◌<◌, ◌^◌, Bool, IfOk, IfSome, IsNone};
 ghost use Rattle.lois_base.specs.Data.{comps_of};
-ghost use Rattle.lois_base.specs.Fits.{ConstraintFits, Fits, CompFits, ItemsFit};
+ghost use Rattle.lois_base.specs.Fits.{ConstraintFits};
+ghost use Rattle.lois_base.specs.Over.{IsOver, CompIsOver, ItemsAreOver};
 ghost use Rattle.lois_base.specs.Tree.{tree, comp_of};
 ghost use Rattle.lois_base.specs.Validity.{AdmitsTerm, AdmitsComp, AdmitsItems, HasBoundedWidths, CompHasBoundedWidths, ItemsHaveBoundedWidths};
 ghost use Rattle.lois_algebra.specs.Gathered.{IsAmong, IsCompMember};
@@ -39,8 +40,7 @@ pub fn step_from<T: Structure>(
 ) -> Result<Option<SymbolicStep>, NoMemory>
     requires stage { IsSymbolicState size stage.now }
     requires state_operators { AdmitsTerm T.ordered (tree stage.now.state) }
-    requires levels { ItemsFit size (comps_of steps.now) }
-    requires operators { AdmitsItems T.ordered (comps_of steps.now) }
+    requires over { ItemsAreOver T.ordered size (comps_of steps.now) }
     requires layer { IsReadable T.ordered size (tree layer.now) }
     ensures some { IfOk result (λ o. IfSome o (IsSymbolicStep size stage.now (IsAmong (comps_of steps.now)) (tree layer.now))) }
     ensures none { IfOk result (λ o. IsNone o → NeverAdvances size stage.now (IsAmong (comps_of steps.now)) (tree layer.now)) }
@@ -67,8 +67,7 @@ fn step_by<T: Structure>(
 ) -> Result<Option<SymbolicStep>, NoMemory>
     requires stage { IsSymbolicState size stage.now }
     requires state_operators { AdmitsTerm T.ordered (tree stage.now.state) }
-    requires levels { CompFits size (comp_of comp.now) }
-    requires operators { AdmitsComp T.ordered (comp_of comp.now) }
+    requires over { CompIsOver T.ordered size (comp_of comp.now) }
     requires layer { IsReadable T.ordered size (tree layer.now) }
     ensures some { IfOk result (λ o. IfSome o (IsSymbolicStep size stage.now (IsCompMember (comp_of comp.now)) (tree layer.now))) }
     ensures none { IfOk result (λ o. IsNone o → NeverAdvances size stage.now (IsCompMember (comp_of comp.now)) (tree layer.now)) }
@@ -116,10 +115,8 @@ fn where_going<T: Structure>(
     requires state_operators { AdmitsTerm T.ordered (tree stage.now.state) }
     requires count { size + stage.now.more + binders < 2 ^ 64 }
     requires guard { ConstraintFits (size + stage.now.more + binders) guard.now }
-    requires source { Fits (size + stage.now.more + binders) (tree step.source.now) }
-    requires source_operators { AdmitsTerm T.ordered (tree step.source.now) }
-    requires target { Fits (size + stage.now.more + binders) (tree step.target.now) }
-    requires target_operators { AdmitsTerm T.ordered (tree step.target.now) }
+    requires source { IsOver T.ordered (size + stage.now.more + binders) (tree step.source.now) }
+    requires target { IsOver T.ordered (size + stage.now.more + binders) (tree step.target.now) }
     requires layer { IsReadable T.ordered size (tree layer.now) }
     ensures truth { IfOk result (HoldsWhereAdvancing size stage.now.more binders stage.now.admitted guard.now (tree stage.now.state) (tree step.entry.source.now) (tree step.entry.target.now) (tree layer.now)) }
     ensures levels { IfOk result (ConstraintFits (size + stage.now.more + binders)) }

@@ -2,9 +2,10 @@
 
 ghost use Rattle.std.specs.Prelude.{◌≡◌, ℕ, Bool, IfOk, IfSome, IsNone};
 ghost use Rattle.lois_base.specs.Data.{comps_of};
-ghost use Rattle.lois_base.specs.Fits.{ConstraintFits, CompFits, ItemsFit};
+ghost use Rattle.lois_base.specs.Fits.{ConstraintFits};
+ghost use Rattle.lois_base.specs.Over.{CompIsOver, ItemsAreOver};
 ghost use Rattle.lois_base.specs.Tree.{tree, comp_of};
-ghost use Rattle.lois_base.specs.Validity.{AdmitsTerm, AdmitsComp, AdmitsItems};
+ghost use Rattle.lois_base.specs.Validity.{AdmitsTerm};
 ghost use Rattle.lois_algebra.specs.Gathered.{IsAmong, IsCompMember};
 ghost use Rattle.lois_deciders.specs.OnlyAsked.{HasOnlyAsked};
 ghost use Rattle.lois_shortest_word.specs.Layers.{IsReadable};
@@ -36,8 +37,7 @@ pub fn initial_state<T: Structure>(
     size: usize,
     chosen: &mut Chosen,
 ) -> Result<Option<SymbolicState>, NoMemory>
-    requires levels { ItemsFit size (comps_of starts.now) }
-    requires operators { AdmitsItems T.ordered (comps_of starts.now) }
+    requires over { ItemsAreOver T.ordered size (comps_of starts.now) }
     requires layer { IsReadable T.ordered size (tree layer.now) }
     requires under { ConstraintFits size under.now }
     ensures some { IfOk result (λ o. IfSome o (IsInitialSymbolicState size under.now (IsAmong (comps_of starts.now)) (tree layer.now))) }
@@ -61,8 +61,7 @@ fn begun_by<T: Structure>(
     size: usize,
     chosen: &mut Chosen,
 ) -> Result<Option<SymbolicState>, NoMemory>
-    requires levels { CompFits size (comp_of comp.now) }
-    requires operators { AdmitsComp T.ordered (comp_of comp.now) }
+    requires over { CompIsOver T.ordered size (comp_of comp.now) }
     requires layer { IsReadable T.ordered size (tree layer.now) }
     requires under { ConstraintFits size under.now }
     ensures some { IfOk result (λ o. IfSome o (IsInitialSymbolicState size under.now (IsCompMember (comp_of comp.now)) (tree layer.now))) }

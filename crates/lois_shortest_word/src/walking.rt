@@ -4,10 +4,11 @@ ghost use Rattle.std.specs.Prelude.{◌≡◌, ℕ, ◌+◌, ◌<◌, ◌^◌, B
 ghost use Rattle.std.specs.List.{All};
 ghost use Rattle.lois_base.specs.Atom.{Atom};
 ghost use Rattle.lois_base.specs.Data.{comps_of};
-ghost use Rattle.lois_base.specs.Fits.{ConstraintFits, Fits, ItemsFit};
+ghost use Rattle.lois_base.specs.Fits.{ConstraintFits, Fits};
+ghost use Rattle.lois_base.specs.Over.{ItemsAreOver};
 ghost use Rattle.lois_base.specs.Tree.{tree};
 ghost use Rattle.lois_base.specs.Validity.{AdmitsTerm, AdmitsItems, HasBoundedWidths, ItemsHaveBoundedWidths};
-ghost use Rattle.lois_automata.specs.Projections.{automaton_at};
+ghost use Rattle.lois_automata.specs.FiveSets.{automaton_of};
 ghost use Rattle.lois_deciders.specs.OnlyAsked.{HasOnlyAsked};
 ghost use Rattle.lois_shortest_word.specs.Layers.{IsReadable, AreLayers};
 ghost use Rattle.lois_shortest_word.specs.Walks.{IsWay, HaveAtLeast, AreShiftedLetters, IsLengthened, IsWordOf};
@@ -37,14 +38,11 @@ pub fn word_of<T: Structure>(
     size: usize,
     chosen: &mut Chosen,
 ) -> Result<Word, NoMemory>
-    requires steps { ItemsFit size (comps_of sets.steps.now) }
-    requires steps_operators { AdmitsItems T.ordered (comps_of sets.steps.now) }
-    requires initial { ItemsFit size (comps_of sets.initial.now) }
-    requires initial_operators { AdmitsItems T.ordered (comps_of sets.initial.now) }
-    requires accepting { ItemsFit size (comps_of sets.accepting.now) }
-    requires accepting_operators { AdmitsItems T.ordered (comps_of sets.accepting.now) }
+    requires steps { ItemsAreOver T.ordered size (comps_of sets.steps.now) }
+    requires initial { ItemsAreOver T.ordered size (comps_of sets.initial.now) }
+    requires accepting { ItemsAreOver T.ordered size (comps_of sets.accepting.now) }
     requires under { ConstraintFits size under.now }
-    ensures word { IfOk result (λ w. IsWordOf size under.now (automaton_at (comps_of sets.entry.states.now) (comps_of sets.entry.letters.now) (comps_of sets.entry.steps.now) (comps_of sets.entry.initial.now) (comps_of sets.entry.accepting.now)) w) }
+    ensures word { IfOk result (λ w. IsWordOf size under.now (automaton_of sets.entry) w) }
     ensures operators { IfOk result (λ w. (o : Bool) → AdmitsItems o (comps_of sets.entry.steps.now) → All (AdmitsTerm o) w.letters) }
     ensures widths { IfOk result (λ w. ItemsHaveBoundedWidths (comps_of sets.entry.steps.now) → All HasBoundedWidths w.letters) }
     ensures only_asked { HasOnlyAsked (λ b. (⟦<dyn Decider as Decider>⟧ b.vtable).kind_of b.value) (λ b. (⟦<dyn Decider as Decider>⟧ b.vtable).questions b.value) chosen.old chosen.new }
@@ -81,17 +79,14 @@ fn nearest<T: Structure>(
     size: usize,
     chosen: &mut Chosen,
 ) -> Result<Found, NoMemory>
-    requires steps { ItemsFit size (comps_of sets.steps.now) }
-    requires steps_operators { AdmitsItems T.ordered (comps_of sets.steps.now) }
-    requires initial { ItemsFit size (comps_of sets.initial.now) }
-    requires initial_operators { AdmitsItems T.ordered (comps_of sets.initial.now) }
-    requires accepting { ItemsFit size (comps_of sets.accepting.now) }
-    requires accepting_operators { AdmitsItems T.ordered (comps_of sets.accepting.now) }
+    requires steps { ItemsAreOver T.ordered size (comps_of sets.steps.now) }
+    requires initial { ItemsAreOver T.ordered size (comps_of sets.initial.now) }
+    requires accepting { ItemsAreOver T.ordered size (comps_of sets.accepting.now) }
     requires under { ConstraintFits size under.now }
-    ensures layers { IfOk result (λ r. AreLayers size (automaton_at (comps_of sets.entry.states.now) (comps_of sets.entry.letters.now) (comps_of sets.entry.steps.now) (comps_of sets.entry.initial.now) (comps_of sets.entry.accepting.now)) r.layers) }
+    ensures layers { IfOk result (λ r. AreLayers size (automaton_of sets.entry) r.layers) }
     ensures readable { IfOk result (λ r. All (IsReadable T.ordered size) r.layers) }
-    ensures way { IfOk result (λ r. IsWay size under.now (automaton_at (comps_of sets.entry.states.now) (comps_of sets.entry.letters.now) (comps_of sets.entry.steps.now) (comps_of sets.entry.initial.now) (comps_of sets.entry.accepting.now)) (length r.layers) [] r.stage) }
-    ensures shortest { IfOk result (λ r. HaveAtLeast size under.now (automaton_at (comps_of sets.entry.states.now) (comps_of sets.entry.letters.now) (comps_of sets.entry.steps.now) (comps_of sets.entry.initial.now) (comps_of sets.entry.accepting.now)) (length r.layers)) }
+    ensures way { IfOk result (λ r. IsWay size under.now (automaton_of sets.entry) (length r.layers) [] r.stage) }
+    ensures shortest { IfOk result (λ r. HaveAtLeast size under.now (automaton_of sets.entry) (length r.layers)) }
     ensures operators { IfOk result (λ r. AdmitsTerm T.ordered (tree r.stage.state)) }
     ensures only_asked { HasOnlyAsked (λ b. (⟦<dyn Decider as Decider>⟧ b.vtable).kind_of b.value) (λ b. (⟦<dyn Decider as Decider>⟧ b.vtable).questions b.value) chosen.old chosen.new }
 {

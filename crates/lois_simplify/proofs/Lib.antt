@@ -13,6 +13,7 @@ pub mod Said
 pub mod Seen
 pub mod Shortened
 pub mod Single
+pub mod Tied
 pub mod Tuples
 pub mod Under
 pub mod Candidates

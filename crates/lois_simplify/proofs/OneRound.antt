@@ -105,6 +105,9 @@ module _ (u : List (List Lit)) (n : ℕ) where
     atom = λ o d l p q. fixed d l (here d ∙ (ap (λ z. z && holds d g) p ∙ q));
   }
 
+  pub tied_can_leave : (k b a : ℕ) (g : List (List Lit)) (t : TermD) → a < b → IsFixed k g b a → CanLeave u g k b a t
+  tied_can_leave k b a g t below fixed = record { place = λ o. below; atom = λ o d l p q. fixed d l q }
+
   pub unused_can_leave : (k b a : ℕ) (g : List (List Lit)) (t : TermD) → (Occurs b t → ⊥) → CanLeave u g k b a t
   unused_can_leave k b a g t unused =
       record { place = λ o. absurd (unused o); atom = λ o d l p q. absurd (unused o) }
@@ -159,6 +162,11 @@ module _ (n : ℕ) where
   unused_less m m' b g h t s count e from below some levels admits whole unused u f =
       binder_less u n m m' b 0 g h t s count e f from below some levels admits whole (unused_can_leave u n (n + m) b 0 g t unused)
 
+  -- a binder is left out that the guard ties to an earlier level
+  pub tied_less : (m m' b a : ℕ) (g h : List (List Lit)) (t s : TermD) → m' + 1 ≡ m → s ≡ rename (moved b a) t → n ≤ b → b < n + m → HoldsForSome (n + m') (rename_constraint (moved b (n + m')) g) h → ConstraintFits (n + m') h → ((o : Bool) → AdmitsConstraint o g → AdmitsConstraint o h) → CompFits n (comp m g t) → a < b → IsFixed (n + m) g b a → IsKeptEverywhere n (comp m g t) (comp m' h s)
+  tied_less m m' b a g h t s count e from below some levels admits whole lower fixed u f =
+      binder_less u n m m' b a g h t s count e f from below some levels admits whole (tied_can_leave u n (n + m) b a g t lower fixed)
+
 -- ---- a comprehension without binders, whose guard always holds
 pub always_open : (brief : Bool) (u : List (List Lit)) (n m : ℕ) (g : List (List Lit)) → m ≡ 0 → g ≡ [] ∷ [] → ConstraintFits n u → ConstraintIsSatisfiable n u → IsOpen brief u n m g u
 always_open brief u n m g none always fits met =
@@ -191,7 +199,7 @@ opened_without_unused brief u n k s (Open r) fits kept less o = (
   o.2,
 )
 
--- binders that were unused are left out
-pub record UsedSoFar (n : ℕ) (k r : Comp) : Type 0 where
+-- binders are left out
+pub record ShorterSoFar (n : ℕ) (k r : Comp) : Type 0 where
   pub kept : IsKeptEverywhere n (comp_of k) (comp_of r)
   pub binders : r.binders ≤ k.binders

@@ -3,12 +3,12 @@
 ghost use Rattle.std.specs.Prelude.{◌≡◌, ◌+◌, [], ◌∷◌, ◌++◌, drop, map, Bool, IfOk, OnOk, IsTrue, IsFalse, Contains, option_map, option_to_list};
 ghost use Rattle.std.specs.List.{All};
 ghost use Rattle.lois_base.specs.Data.{CompD, comp, var, comps_of};
-ghost use Rattle.lois_base.specs.Fits.{ConstraintFits, CompFits, ItemsFit};
+ghost use Rattle.lois_base.specs.Fits.{ConstraintFits};
 ghost use Rattle.lois_base.specs.FormulaData.{FormulaFits};
 ghost use Rattle.lois_base.specs.FormulaView.{view};
 ghost use Rattle.lois_base.specs.Tree.{tree, comp_of};
-ghost use Rattle.lois_base.specs.Validity.{AdmitsTerm, AdmitsComp, AdmitsItems};
 ghost use Rattle.lois_base.specs.FormulaOperators.{AdmitsFormula};
+ghost use Rattle.lois_base.specs.Over.{CompIsOver, ItemsAreOver};
 ghost use Rattle.lois_relate.specs.Relations.{HoldsWhereItemIn};
 ghost use Rattle.lois_terms.specs.Shapes.{item_shape};
 ghost use Rattle.lois_simplify.specs.Candidates.{AddsCandidates, behind};
@@ -97,11 +97,9 @@ fn is_covered_by<T: Structure, D: Oracle>(
     decider: &mut D,
 ) -> Result<bool, NoMemory>
     requires sound { D.sound }
-    requires levels { CompFits size (comp_of comp.now) }
-    requires other_levels { ItemsFit size (comps_of others.now) }
+    requires over { CompIsOver T.ordered size (comp_of comp.now) }
+    requires other { ItemsAreOver T.ordered size (comps_of others.now) }
     requires under_levels { ConstraintFits size under.now }
-    requires operators { AdmitsComp T.ordered (comp_of comp.now) }
-    requires other_operators { AdmitsItems T.ordered (comps_of others.now) }
     requires lean { IsIrredundantComp under.now size (comp_of comp.now) }
     ensures covered { IfOk result (λ b. IsTrue b → IsCovered under.now size others.now (comp_of comp.now)) }
     ensures own { IfOk result (λ b. IsFalse b → HasOwn under.now size others.now (comp_of comp.now)) }
@@ -137,15 +135,12 @@ fn is_covered<T: Structure, D: Oracle>(
     decider: &mut D,
 ) -> Result<bool, NoMemory>
     requires sound { D.sound }
-    requires levels { CompFits size (comp_of comp.now) }
-    requires kept_levels { ItemsFit size (comps_of kept.now) }
-    requires coming_levels { ItemsFit size (comps_of (map comp_of coming.now)) }
+    requires over { CompIsOver T.ordered size (comp_of comp.now) }
+    requires kept { ItemsAreOver T.ordered size (comps_of kept.now) }
+    requires coming { ItemsAreOver T.ordered size (comps_of (map comp_of coming.now)) }
     requires kept_shapes { kept_shapes.now ≡ map item_shape kept.now }
     requires coming_shapes { drop first shapes.now ≡ map item_shape (map comp_of coming.now) }
     requires under_levels { ConstraintFits size under.now }
-    requires operators { AdmitsComp T.ordered (comp_of comp.now) }
-    requires kept_operators { AdmitsItems T.ordered (comps_of kept.now) }
-    requires coming_operators { AdmitsItems T.ordered (comps_of (map comp_of coming.now)) }
     requires lean { IsIrredundantComp under.now size (comp_of comp.now) }
     ensures covered { IfOk result (λ b. IsTrue b → IsCovered under.now size (kept.now ++ map comp_of coming.now) (comp_of comp.now)) }
     ensures own { IfOk result (λ b. IsFalse b → HasOwn under.now size (kept.now ++ map comp_of coming.now) (comp_of comp.now)) }
@@ -186,9 +181,8 @@ pub(crate) fn uncovered<T: Structure, D: Oracle>(
     decider: &mut D,
 ) -> Result<Comps, NoMemory>
     requires sound { D.sound }
-    requires levels { ItemsFit size (comps_of comps) }
+    requires over { ItemsAreOver T.ordered size (comps_of comps) }
     requires under_levels { ConstraintFits size under.now }
-    requires operators { AdmitsItems T.ordered (comps_of comps) }
     requires lean { All (IsIrredundantComp under.now size) comps }
     ensures kept { IfOk result (λ r. IsSimplification under.now size (set_of comps) (set_of r)) }
     ensures only { IfOk result (λ r. (k : CompD) → Contains r k → Contains comps k) }

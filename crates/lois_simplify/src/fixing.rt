@@ -1,11 +1,12 @@
 //! Binders that a comprehension can do without: those that are fixed to an earlier level, and those that don't occur.
 
-ghost use Rattle.std.specs.Prelude.{◌≡◌, ℕ, ◌<◌, ◌≤◌, List, [], ◌∷◌, ◌&&◌, IfOk, IfSome, IsNone, IsTrue, IsFalse};
-ghost use Rattle.lois_base.specs.Atom.{Atom};
+ghost use Rattle.std.specs.Prelude.{◌≡◌, ℕ, ◌<◌, ◌≤◌, ◌⊎◌, ◌↔◌, List, [], ◌∷◌, ◌&&◌, IfOk, IfSome, IsNone, IsTrue, IsFalse};
+ghost use Rattle.std.specs.List.{All, Contains};
+ghost use Rattle.lois_base.specs.Atom.{Atom, equal};
 ghost use Rattle.lois_base.specs.Fits.{ConstraintFits};
 ghost use Rattle.lois_base.specs.Normal.{Occurs};
 ghost use Rattle.lois_base.specs.Tree.{tree};
-ghost use Rattle.lois_base.specs.Truth.{holds};
+ghost use Rattle.lois_base.specs.Truth.{atom_at, lit_holds, holds};
 ghost use Rattle.lois_deciders.specs.Satisfaction.{IsConstraintSample};
 ghost use Rattle.lois_deciders.specs.Satisfiability.{ConstraintIsSatisfiable};
 ghost use Rattle.lois_simplify.specs.Fixed.{IsFixed, CanBeApart};
@@ -123,6 +124,72 @@ pub(crate) fn unused_binder(item: &Term, from: usize, size: usize) -> Option<usi
     for binder in from..size {
         if !occurs(binder, item) {
             return Some(binder);
+        }
+    }
+    None
+}
+
+fn has_literal(cube: &Cube, lit: Lit) -> bool
+    ensures { IsTrue result ↔ Contains cube.now lit }
+{
+    cube.as_slice().contains(&lit)
+}
+
+fn each_has(constraint: &Constraint, lit: Lit) -> bool
+    ensures { IsTrue result ↔ All (λ (k : List Lit). Contains k lit) constraint.now }
+{
+    for cube in constraint.as_slice() {
+        if !has_literal(cube, lit) {
+            return false;
+        }
+    }
+    true
+}
+
+// The higher of two levels where it is a binder in `from..to`, with the lower one.
+fn higher_of(one: usize, other: usize, from: usize, to: usize) -> Option<Fixed>
+    ensures range { IfSome result (λ f. (from ≤ f.binder) × (f.binder < to) × (f.level < f.binder)) }
+    ensures levels { IfSome result (λ f. ((f.binder ≡ one) × (f.level ≡ other)) ⊎ ((f.binder ≡ other) × (f.level ≡ one))) }
+{
+    if from <= one && one < to && other < one {
+        return Some(Fixed {
+            binder: one,
+            level: other,
+        });
+    }
+    if from <= other && other < to && one < other {
+        return Some(Fixed {
+            binder: other,
+            level: one,
+        });
+    }
+    None
+}
+
+// The binder in `from..to` that the literal says to be equal to an earlier level.
+fn tie_of(lit: Lit, from: usize, to: usize) -> Option<Fixed>
+    ensures range { IfSome result (λ f. (from ≤ f.binder) × (f.binder < to) × (f.level < f.binder)) }
+    ensures tied { IfSome result (λ f. (c : List Atom) → IsTrue (lit_holds c lit) → IsTrue (equal (atom_at c f.binder) (atom_at c f.level))) }
+{
+    if lit.op != Op::Eq {
+        return None;
+    }
+    higher_of(lit.left, lit.right, from, to)
+}
+
+/// A binder in `from..to` that each cube says to be equal to an earlier level, with that level.
+pub(crate) fn tied_binder(guard: &Constraint, from: usize, to: usize) -> Option<Fixed>
+    ensures range { IfSome result (λ f. (from ≤ f.binder) × (f.binder < to) × (f.level < f.binder)) }
+    ensures tied { IfSome result (λ f. (n : ℕ) → IsFixed n guard.now f.binder f.level) }
+{
+    let Some(first) = guard.get(0) else {
+        return None;
+    };
+    for lit in first.as_slice() {
+        if let Some(tie) = tie_of(*lit, from, to) {
+            if each_has(guard, *lit) {
+                return Some(tie);
+            }
         }
     }
     None

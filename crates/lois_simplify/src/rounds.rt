@@ -1,13 +1,13 @@
 //! One round of making a comprehension lean: what is seen of it before its item is simplified, and after.
 
 ghost use Rattle.std.specs.Prelude.{◌≡◌, ◌+◌, ◌≤◌, [], ◌∷◌, IfOk, IsTrue};
-ghost use Rattle.lois_base.specs.Fits.{ConstraintFits, CompFits};
+ghost use Rattle.lois_base.specs.Fits.{ConstraintFits};
+ghost use Rattle.lois_base.specs.Over.{CompIsOver};
 ghost use Rattle.lois_base.specs.Tree.{comp_of};
-ghost use Rattle.lois_base.specs.Validity.{AdmitsComp};
 ghost use Rattle.lois_deciders.specs.Satisfiability.{ConstraintIsSatisfiable};
 ghost use Rattle.lois_simplify.specs.Rounds.{IsOpeningOf, IsClosingOf, IsKeptEverywhere};
 
-use crate::fixing::{fixed_binder, unused_binder};
+use crate::fixing::{fixed_binder, tied_binder, unused_binder};
 use crate::guards::is_always;
 use crate::moving::without_binder;
 use crate::oracle::Oracle;
@@ -39,14 +39,30 @@ pub(crate) enum Opening {
 
 // The comprehension without the binders that its item doesn't use.
 fn with_used_binders<T: Structure>(alloc: Global, comp: Comp, size: usize) -> Result<Comp, NoMemory>
-    requires levels { CompFits size (comp_of comp) }
-    requires operators { AdmitsComp T.ordered (comp_of comp) }
+    requires over { CompIsOver T.ordered size (comp_of comp) }
     ensures kept { IfOk result (λ r. IsKeptEverywhere size (comp_of comp) (comp_of r)) }
     ensures binders { IfOk result (λ r. r.binders ≤ comp.binders) }
 {
     let mut current = comp;
     while let Some(binder) = unused_binder(&current.item, size, size + current.binders) {
         current = without_binder::<T>(alloc, &current, size, binder, 0)?;
+    }
+    Ok(current)
+}
+
+// The comprehension without the binders that its guard says to be equal to earlier levels.
+fn without_tied_binders<T: Structure>(
+    alloc: Global,
+    comp: Comp,
+    size: usize,
+) -> Result<Comp, NoMemory>
+    requires over { CompIsOver T.ordered size (comp_of comp) }
+    ensures kept { IfOk result (λ r. IsKeptEverywhere size (comp_of comp) (comp_of r)) }
+    ensures binders { IfOk result (λ r. r.binders ≤ comp.binders) }
+{
+    let mut current = comp;
+    while let Some(tied) = tied_binder(&current.guard, size, size + current.binders) {
+        current = without_binder::<T>(alloc, &current, size, tied.binder, tied.level)?;
     }
     Ok(current)
 }
@@ -61,8 +77,8 @@ fn has_one_member(alloc: Global, comp: &Comp) -> Result<bool, NoMemory>
     is_always(alloc, &comp.guard)
 }
 
-/// Drops a comprehension without members, and leaves out the first binder that is fixed. Binders that the item doesn't use go
-/// before any decider is asked. `met` says that `under` is known to be met somewhere: then nothing is asked about a comprehension
+/// Drops a comprehension without members, and leaves out the first binder that is fixed. Binders that the item doesn't use, and
+/// those that the guard says to be equal to earlier levels, go before any decider is asked. `met` says that `under` is known to be met somewhere: then nothing is asked about a comprehension
 /// that has one member at each choice. `brief` says that the guard is to be read.
 pub(crate) fn open_round<T: Structure, D: Oracle>(
     alloc: Global,
@@ -74,14 +90,14 @@ pub(crate) fn open_round<T: Structure, D: Oracle>(
     decider: &mut D,
 ) -> Result<Opening, NoMemory>
     requires sound { D.sound }
-    requires levels { CompFits size (comp_of comp) }
+    requires over { CompIsOver T.ordered size (comp_of comp) }
     requires under_levels { ConstraintFits size under.now }
-    requires operators { AdmitsComp T.ordered (comp_of comp) }
     requires met { IsTrue met → ConstraintIsSatisfiable size under.now }
     ensures opening { IfOk result (IsOpeningOf brief under.now size comp) }
     ensures asked { D.reaches decider.old decider.new }
 {
-    let comp = with_used_binders::<T>(alloc, comp, size)?;
+    let used = with_used_binders::<T>(alloc, comp, size)?;
+    let comp = without_tied_binders::<T>(alloc, used, size)?;
     let single = has_one_member(alloc, &comp)?;
     if met && single {
         let here = under.copy(alloc)?;
@@ -100,9 +116,8 @@ fn open_asked<T: Structure, D: Oracle>(
     decider: &mut D,
 ) -> Result<Opening, NoMemory>
     requires sound { D.sound }
-    requires levels { CompFits size (comp_of comp) }
+    requires over { CompIsOver T.ordered size (comp_of comp) }
     requires under_levels { ConstraintFits size under.now }
-    requires operators { AdmitsComp T.ordered (comp_of comp) }
     ensures opening { IfOk result (IsOpeningOf brief under.now size comp) }
     ensures asked { D.reaches decider.old decider.new }
 {
@@ -130,8 +145,7 @@ pub(crate) fn close_round<T: Structure>(
     comp: Comp,
     size: usize,
 ) -> Result<Round, NoMemory>
-    requires levels { CompFits size (comp_of comp) }
-    requires operators { AdmitsComp T.ordered (comp_of comp) }
+    requires over { CompIsOver T.ordered size (comp_of comp) }
     ensures { IfOk result (IsClosingOf size comp) }
 {
     let inner = size + comp.binders;

@@ -3,10 +3,11 @@
 ghost use Rattle.std.specs.Prelude.{◌+◌, ◌<◌, ◌≤◌, ◌↔◌, Bool, IfOk, IfSome, IsNone, IsTrue};
 ghost use Rattle.std.specs.List.{All};
 ghost use Rattle.lois_base.specs.Data.{depth, tup, terms_of, comps_of};
-ghost use Rattle.lois_base.specs.Fits.{ConstraintFits, Fits, PartsFit, CompFits, ItemsFit};
+ghost use Rattle.lois_base.specs.Fits.{ConstraintFits, Fits};
 ghost use Rattle.lois_base.specs.Normal.{IsNormal, PartsAreNormal};
+ghost use Rattle.lois_base.specs.Over.{IsOver, PartsAreOver, CompIsOver, ItemsAreOver, ConstraintIsOver};
 ghost use Rattle.lois_base.specs.Tree.{tree, comp_of};
-ghost use Rattle.lois_base.specs.Validity.{AdmitsConstraint, AdmitsTerm, AdmitsParts, AdmitsComp, AdmitsItems, HasBoundedWidths};
+ghost use Rattle.lois_base.specs.Validity.{AdmitsTerm, HasBoundedWidths};
 ghost use Rattle.lois_deciders.specs.Satisfaction.{IsConstraintSample, IsEntailed};
 ghost use Rattle.lois_deciders.specs.Satisfiability.{ConstraintIsSatisfiable, IsCounterexample};
 ghost use Rattle.lois_deciders.specs.Conjunction.{IsSampledConjunction, AreInconsistent};
@@ -36,10 +37,8 @@ pub fn simplify<T: Structure>(
     size: usize,
     chosen: &mut Chosen,
 ) -> Result<Term, NoMemory>
-    requires levels { Fits size (tree term.now) }
-    requires under_levels { ConstraintFits size under.now }
-    requires operators { AdmitsTerm T.ordered (tree term.now) }
-    requires under_operators { AdmitsConstraint T.ordered under.now }
+    requires over { IsOver T.ordered size (tree term.now) }
+    requires under { ConstraintIsOver T.ordered size under.now }
     ensures value { IfOk result (λ r. IsSameWhere under.now size (tree term.now) (tree r)) }
     ensures normal { IfOk result (λ r. IsNormal (tree r) under.now size) }
     ensures guards { IfOk result (λ r. HasNormalGuards (tree r)) }
@@ -63,10 +62,8 @@ pub fn simplify_to_read<T: Structure>(
     size: usize,
     chosen: &mut Chosen,
 ) -> Result<Term, NoMemory>
-    requires levels { Fits size (tree term.now) }
-    requires under_levels { ConstraintFits size under.now }
-    requires operators { AdmitsTerm T.ordered (tree term.now) }
-    requires under_operators { AdmitsConstraint T.ordered under.now }
+    requires over { IsOver T.ordered size (tree term.now) }
+    requires under { ConstraintIsOver T.ordered size under.now }
     ensures value { IfOk result (λ r. IsSameWhere under.now size (tree term.now) (tree r)) }
     ensures normal { IfOk result (λ r. IsNormal (tree r) under.now size) }
     ensures guards { IfOk result (λ r. HasNormalGuards (tree r)) }
@@ -91,10 +88,8 @@ fn simplify_worded<T: Structure>(
     size: usize,
     chosen: &mut Chosen,
 ) -> Result<Term, NoMemory>
-    requires levels { Fits size (tree term.now) }
-    requires under_levels { ConstraintFits size under.now }
-    requires operators { AdmitsTerm T.ordered (tree term.now) }
-    requires under_operators { AdmitsConstraint T.ordered under.now }
+    requires over { IsOver T.ordered size (tree term.now) }
+    requires under { ConstraintIsOver T.ordered size under.now }
     ensures kept { IfOk result (λ r. IsSimplification under.now size (tree term.now) (tree r)) }
     ensures normal { IfOk result (λ r. IsNormal (tree r) under.now size) }
     ensures guards { IfOk result (λ r. HasNormalGuards (tree r)) }
@@ -185,10 +180,8 @@ fn simplified_copy<T: Structure, D: Oracle>(
     decider: &mut D,
 ) -> Result<Term, NoMemory>
     requires sound { D.sound }
-    requires levels { Fits size (tree term.now) }
-    requires under_levels { ConstraintFits size under.now }
-    requires operators { AdmitsTerm T.ordered (tree term.now) }
-    requires under_operators { AdmitsConstraint T.ordered under.now }
+    requires over { IsOver T.ordered size (tree term.now) }
+    requires under { ConstraintIsOver T.ordered size under.now }
     ensures kept { IfOk result (λ r. IsSimplification under.now size (tree term.now) (tree r)) }
     ensures normal { IfOk result (λ r. IsNormal (tree r) under.now size) }
     ensures guards { IfOk result (λ r. HasNormalGuards (tree r)) }
@@ -211,11 +204,9 @@ fn simplified<T: Structure, D: Oracle>(
     decider: &mut D,
 ) -> Result<Term, NoMemory>
     requires sound { D.sound }
-    requires levels { Fits size (tree term) }
-    requires under_levels { ConstraintFits size under.now }
+    requires over { IsOver T.ordered size (tree term) }
+    requires under { ConstraintIsOver T.ordered size under.now }
     requires met { IsTrue met → ConstraintIsSatisfiable size under.now }
-    requires operators { AdmitsTerm T.ordered (tree term) }
-    requires under_operators { AdmitsConstraint T.ordered under.now }
     ensures kept { IfOk result (λ r. IsSimplification under.now size (tree term) (tree r)) }
     ensures normal { IfOk result (λ r. IsNormal (tree r) under.now size) }
     ensures guards { IfOk result (λ r. HasNormalGuards (tree r)) }
@@ -246,11 +237,9 @@ fn simplified_parts<T: Structure, D: Oracle>(
     decider: &mut D,
 ) -> Result<Terms, NoMemory>
     requires sound { D.sound }
-    requires levels { PartsFit size (terms_of parts) }
-    requires under_levels { ConstraintFits size under.now }
+    requires over { PartsAreOver T.ordered size (terms_of parts) }
+    requires under { ConstraintIsOver T.ordered size under.now }
     requires met { IsTrue met → ConstraintIsSatisfiable size under.now }
-    requires operators { AdmitsParts T.ordered (terms_of parts) }
-    requires under_operators { AdmitsConstraint T.ordered under.now }
     ensures kept { IfOk result (λ r. IsSimplification under.now size (tup (terms_of parts)) (tup (terms_of r))) }
     ensures normal { IfOk result (λ r. PartsAreNormal (terms_of r) under.now size) }
     ensures guards { IfOk result (λ r. PartsHaveNormalGuards (terms_of r)) }
@@ -277,11 +266,9 @@ fn irredundant_comps<T: Structure, D: Oracle>(
     decider: &mut D,
 ) -> Result<Comps, NoMemory>
     requires sound { D.sound }
-    requires levels { ItemsFit size (comps_of comps) }
-    requires under_levels { ConstraintFits size under.now }
+    requires over { ItemsAreOver T.ordered size (comps_of comps) }
+    requires under { ConstraintIsOver T.ordered size under.now }
     requires met { IsTrue met → ConstraintIsSatisfiable size under.now }
-    requires operators { AdmitsItems T.ordered (comps_of comps) }
-    requires under_operators { AdmitsConstraint T.ordered under.now }
     ensures kept { IfOk result (λ r. IsSimplification under.now size (set_of comps) (set_of r)) }
     ensures lean { IfOk result (All (IsLeanComp brief under.now size)) }
     ensures asked { D.reaches decider.old decider.new }
@@ -310,11 +297,9 @@ fn irredundant_comp<T: Structure, D: Oracle>(
     decider: &mut D,
 ) -> Result<Option<Comp>, NoMemory>
     requires sound { D.sound }
-    requires levels { CompFits size (comp_of comp) }
-    requires under_levels { ConstraintFits size under.now }
+    requires over { CompIsOver T.ordered size (comp_of comp) }
+    requires under { ConstraintIsOver T.ordered size under.now }
     requires met { IsTrue met → ConstraintIsSatisfiable size under.now }
-    requires operators { AdmitsComp T.ordered (comp_of comp) }
-    requires under_operators { AdmitsConstraint T.ordered under.now }
     ensures kept { IfOk result (λ o. IsSimplification under.now size (set_of (only (comp_of comp))) (set_of (listed_comp o))) }
     ensures lean { IfOk result (λ o. IfSome o (λ k. IsLeanComp brief under.now size (comp_of k))) }
     ensures asked { D.reaches decider.old decider.new }
@@ -341,11 +326,9 @@ fn one_round<T: Structure, D: Oracle>(
     decider: &mut D,
 ) -> Result<Round, NoMemory>
     requires sound { D.sound }
-    requires levels { CompFits size (comp_of comp) }
-    requires under_levels { ConstraintFits size under.now }
+    requires over { CompIsOver T.ordered size (comp_of comp) }
+    requires under { ConstraintIsOver T.ordered size under.now }
     requires met { IsTrue met → ConstraintIsSatisfiable size under.now }
-    requires operators { AdmitsComp T.ordered (comp_of comp) }
-    requires under_operators { AdmitsConstraint T.ordered under.now }
     ensures round { IfOk result (IsRoundOf brief under.now size comp) }
     ensures asked { D.reaches decider.old decider.new }
 {

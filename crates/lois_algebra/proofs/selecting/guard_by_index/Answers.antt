@@ -13,14 +13,14 @@ use Rattle.lois_algebra.proofs.selecting.guard_by_index.Goals as goal
 
 pub item_formula_indexed-requires-clause-levels : goal.item_formula_indexed-requires-clause-levels
 item_formula_indexed-requires-clause-levels g c =
-    subst (λ z. ItemsFit c.args.size (comps_of z)) (sym c.as_slice-items.ensures) c.requires.right
+    subst (λ z. ItemsFit c.args.size (comps_of z)) (sym c.as_slice-items.ensures) c.requires.right.levels
 
 pub item_formula_indexed-requires-clause-shapes : goal.item_formula_indexed-requires-clause-shapes
 item_formula_indexed-requires-clause-shapes g c = c.requires.shapes ∙ ap (map item_shape) (sym c.as_slice-items.ensures)
 
 pub quantifier_free-requires-clause-operators : goal.quantifier_free-requires-clause-operators
 quantifier_free-requires-clause-operators g c =
-    c.in_ok-formula.ensures.operators g.T.Structure.ordered c.requires.left_operators.1 (subst (λ z. AdmitsItems g.T.Structure.ordered (comps_of z)) (sym c.as_slice-items.ensures) c.requires.right_operators)
+    c.in_ok-formula.ensures.operators g.T.Structure.ordered c.requires.left.operators.1 (subst (λ z. AdmitsItems g.T.Structure.ordered (comps_of z)) (sym c.as_slice-items.ensures) c.requires.right.operators)
 
 pub returns-clause-truth : goal.returns-clause-truth
 returns-clause-truth g c =
@@ -33,7 +33,7 @@ pub returns-clause-levels : goal.returns-clause-levels
 returns-clause-levels g c =
     let comp = c.args.comp.now in
     let n = c.args.size + comp.binders in
-    IfOk-weaker c.narrowed.result (λ r. (n : ℕ) → ConstraintFits n comp.guard → ConstraintFits n c.in_ok-found.found → ConstraintFits n r) (ConstraintFits n) (λ r fits. fits n c.requires.left.1 c.in_ok-found.ensures.levels) c.narrowed.ensures.fits
+    IfOk-weaker c.narrowed.result (λ r. (n : ℕ) → ConstraintFits n comp.guard → ConstraintFits n c.in_ok-found.found → ConstraintFits n r) (ConstraintFits n) (λ r fits. fits n c.requires.left.levels.1 c.in_ok-found.ensures.levels) c.narrowed.ensures.fits
 
 pub returns-clause-operators : goal.returns-clause-operators
 returns-clause-operators g c =

@@ -7,18 +7,18 @@ use Rattle.lois_algebra.proofs.Selections.{selection_of}
 use Rattle.lois_algebra.proofs.selecting.minus.Goals as goal
 
 pub selected-requires-clause-left : goal.selected-requires-clause-left
-selected-requires-clause-left g c = subst (λ z. Fits c.args.size (tree z)) c.in-Coll-Coll.is-0 c.requires.left
-
-pub selected-requires-clause-left_operators : goal.selected-requires-clause-left_operators
-selected-requires-clause-left_operators g c =
-    subst (λ z. AdmitsTerm g.T.Structure.ordered (tree z)) c.in-Coll-Coll.is-0 c.requires.left_operators
+selected-requires-clause-left g c =
+    record {
+      levels = subst (λ z. Fits c.args.size (tree z)) c.in-Coll-Coll.is-0 c.requires.left.levels;
+      operators = subst (λ z. AdmitsTerm g.T.Structure.ordered (tree z)) c.in-Coll-Coll.is-0 c.requires.left.operators;
+    }
 
 pub selected-requires-clause-right : goal.selected-requires-clause-right
-selected-requires-clause-right g c = subst (λ z. Fits c.args.size (tree z)) c.in-Coll-Coll.is-1 c.requires.right
-
-pub selected-requires-clause-right_operators : goal.selected-requires-clause-right_operators
-selected-requires-clause-right_operators g c =
-    subst (λ z. AdmitsTerm g.T.Structure.ordered (tree z)) c.in-Coll-Coll.is-1 c.requires.right_operators
+selected-requires-clause-right g c =
+    record {
+      levels = subst (λ z. Fits c.args.size (tree z)) c.in-Coll-Coll.is-1 c.requires.right.levels;
+      operators = subst (λ z. AdmitsTerm g.T.Structure.ordered (tree z)) c.in-Coll-Coll.is-1 c.requires.right.operators;
+    }
 
 pub returns-clause-members : goal.returns-clause-members
 returns-clause-members g c =

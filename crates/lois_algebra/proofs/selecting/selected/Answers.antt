@@ -9,12 +9,10 @@ use Rattle.lois_algebra.proofs.selecting.selected.Goals as goal
 pub guard_by_index-requires-clause-left : goal.guard_by_index-requires-clause-left
 guard_by_index-requires-clause-left g c =
     let k = is_comp_of c.as_slice-comp-items.result.now c.args.comps.now c.loop-comp.comp-index c.comp-item.result c.as_slice-comp-items.ensures c.loop-comp-test.true c.comp-item.is in
-    k.fits c.args.size c.requires.left
-
-pub guard_by_index-requires-clause-left_operators : goal.guard_by_index-requires-clause-left_operators
-guard_by_index-requires-clause-left_operators g c =
-    let k = is_comp_of c.as_slice-comp-items.result.now c.args.comps.now c.loop-comp.comp-index c.comp-item.result c.as_slice-comp-items.ensures c.loop-comp-test.true c.comp-item.is in
-    k.admits g.T.Structure.ordered c.requires.left_operators
+    record {
+      levels = k.fits c.args.size c.requires.left.levels;
+      operators = k.admits g.T.Structure.ordered c.requires.left.operators;
+    }
 
 pub guard_by_index-requires-clause-shapes : goal.guard_by_index-requires-clause-shapes
 guard_by_index-requires-clause-shapes g c = c.in_ok-index.ensures ∙ ap (map item_shape) c.as_slice.ensures
@@ -28,7 +26,7 @@ loop-comp-preserved g c =
     let items = c.as_slice-comp-items.result.now in
     let i = c.loop-comp.comp-index in
     let k = is_comp_of items c.args.comps.now i c.comp-item.result c.as_slice-comp-items.ensures c.loop-comp-test.true c.comp-item.is in
-    let fits = k.fits c.args.size c.requires.left in
+    let fits = k.fits c.args.size c.requires.left.levels in
     let item = tree (c.comp-item.result).item in
     let m = (c.comp-item.result).binders in
     let put = put_item m c.in_ok-guard.guard item (tree c.in_ok-item.item) (comps_of c.loop-comp.kept) (comps_of c.push_comp.new.comps) (ap tree c.in_ok-item.ensures) c.in_ok-push_comp.ensures.added in

@@ -34,18 +34,10 @@ where_differing-requires-clause-second g c =
     let inside : i < length items = omega (arith, within, ap length c.requires.keys, length-map c.args.others.now comp_key_shape, ap length c.as_slice-comps.ensures, length-map items comp_of) in
     let q = c.index-comps-place.result in
     let k = is_comp_of items c.args.others.now i q c.as_slice-comps.ensures inside c.index-comps-place.is in
-    k.fits c.args.size c.requires.second
-
-pub where_differing-requires-clause-second_operators : goal.where_differing-requires-clause-second_operators
-where_differing-requires-clause-second_operators g c =
-    let items = c.as_slice-comps.result.now in
-    let places = c.positions-place-items.result.now in
-    let i = get_or places c.loop-place.place-index 0 in
-    let within = c.positions-place-items.ensures.within c.loop-place.place-index 0 c.loop-place-test.true in
-    let inside : i < length items = omega (arith, within, ap length c.requires.keys, length-map c.args.others.now comp_key_shape, ap length c.as_slice-comps.ensures, length-map items comp_of) in
-    let q = c.index-comps-place.result in
-    let k = is_comp_of items c.args.others.now i q c.as_slice-comps.ensures inside c.index-comps-place.is in
-    k.admits g.T.Structure.ordered c.requires.second_operators
+    record {
+      levels = k.fits c.args.size c.requires.second.levels;
+      operators = k.admits g.T.Structure.ordered c.requires.second.operators;
+    }
 
 pub loop-place-init : goal.loop-place-init
 loop-place-init g c = (

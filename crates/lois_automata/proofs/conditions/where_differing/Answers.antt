@@ -1,4 +1,4 @@
-use Rattle.std.proofs.Common.{◌+◌, subst}
+use Rattle.std.proofs.Common.{◌+◌, subst, rules}
 use Rattle.std.proofs.lemmas.Result.{IfOk-weaker}
 use Rattle.lois_base.specs.Tree.{tree, comp_of}
 use Rattle.lois_elim.specs.Bound.{HoldsForSomeMore}
@@ -22,10 +22,13 @@ returns-in_default-pair_parts-clause-truth g c =
     let both = c.in_ok-both.both in
     second_is_no_pair c.args.size (comp_of c.args.first.now) (comp_of c.args.second.now) both.binders both.guard (tree both.first) (tree both.second) c.in_ok-both.ensures.made c.new-in_default-pair_parts.result c.new-in_default-pair_parts.ensures c.in_default-pair_parts.ensures.none
 
-pub for_some_more-requires-clause-levels : goal.for_some_more-requires-clause-levels
-for_some_more-requires-clause-levels g c =
+pub for_some_more-requires-clause-over : goal.for_some_more-requires-clause-over
+for_some_more-requires-clause-over g c =
     let inner = c.args.size + c.in_ok-both.both.binders in
-    c.in_ok-clash.ensures.fits inner (c.in_ok-keys.ensures.fits inner c.in_ok-both.ensures.guard_fits c.in_ok-same_key.ensures.levels) c.in_ok-same_value.ensures.levels
+    record {
+      levels = c.in_ok-clash.ensures.fits inner (c.in_ok-keys.ensures.fits inner c.in_ok-both.ensures.guard_fits c.in_ok-same_key.ensures.levels) c.in_ok-same_value.ensures.levels;
+      operators = search rules;
+    }
 
 pub returns-clause-truth : goal.returns-clause-truth
 returns-clause-truth g c =

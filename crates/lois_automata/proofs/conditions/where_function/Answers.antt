@@ -16,12 +16,10 @@ use Rattle.lois_automata.proofs.conditions.where_function.Goals as goal
 pub where_clashing-requires-clause-first : goal.where_clashing-requires-clause-first
 where_clashing-requires-clause-first g c =
     let k = is_comp_of c.as_slice-first-items.result.now c.args.items.now c.loop-first.first-index c.first-item.result c.as_slice-first-items.ensures c.loop-first-test.true c.first-item.is in
-    k.fits c.args.size c.requires.levels
-
-pub where_clashing-requires-clause-first_operators : goal.where_clashing-requires-clause-first_operators
-where_clashing-requires-clause-first_operators g c =
-    let k = is_comp_of c.as_slice-first-items.result.now c.args.items.now c.loop-first.first-index c.first-item.result c.as_slice-first-items.ensures c.loop-first-test.true c.first-item.is in
-    k.admits g.T.Structure.ordered c.requires.operators
+    record {
+      levels = k.fits c.args.size c.requires.over.levels;
+      operators = k.admits g.T.Structure.ordered c.requires.over.operators;
+    }
 
 pub loop-first-init : goal.loop-first-init
 loop-first-init g c = (

@@ -6,15 +6,15 @@ use Rattle.lois_relate.proofs.Parts.{is_comp_of}
 use Rattle.lois_automata.proofs.Tests.{some_begin, some_more, some_end}
 use Rattle.lois_automata.proofs.conditions.where_inhabited.Goals as goal
 
-pub where_making-requires-clause-levels : goal.where_making-requires-clause-levels
-where_making-requires-clause-levels g c =
+pub where_making-requires : goal.where_making-requires
+where_making-requires g c =
     let k = is_comp_of c.as_slice-comp-items.result.now c.args.items.now c.loop-comp.comp-index c.comp-item.result c.as_slice-comp-items.ensures c.loop-comp-test.true c.comp-item.is in
-    k.fits c.args.size c.requires.levels
-
-pub where_making-requires-clause-operators : goal.where_making-requires-clause-operators
-where_making-requires-clause-operators g c =
-    let k = is_comp_of c.as_slice-comp-items.result.now c.args.items.now c.loop-comp.comp-index c.comp-item.result c.as_slice-comp-items.ensures c.loop-comp-test.true c.comp-item.is in
-    k.admits g.T.Structure.ordered c.requires.operators
+    record {
+      over = record {
+        levels = k.fits c.args.size c.requires.over.levels;
+        operators = k.admits g.T.Structure.ordered c.requires.over.operators;
+      };
+    }
 
 pub loop-comp-init : goal.loop-comp-init
 loop-comp-init g c = (

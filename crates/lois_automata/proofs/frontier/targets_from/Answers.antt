@@ -9,15 +9,13 @@ use Rattle.lois_automata.proofs.Loops.{AddsOnes, ones_begin, ones_more, ones_end
 use Rattle.lois_automata.proofs.Targets.{are_targets}
 use Rattle.lois_automata.proofs.frontier.targets_from.Goals as goal
 
-pub add_target-requires-clause-levels : goal.add_target-requires-clause-levels
-add_target-requires-clause-levels g c =
+pub add_target-requires-clause-over : goal.add_target-requires-clause-over
+add_target-requires-clause-over g c =
     let k = is_comp_of c.as_slice-comp-items.result.now c.args.moves.now c.loop-comp.comp-index c.comp-item.result c.as_slice-comp-items.ensures c.loop-comp-test.true c.comp-item.is in
-    k.fits c.args.size c.requires.levels
-
-pub add_target-requires-clause-operators : goal.add_target-requires-clause-operators
-add_target-requires-clause-operators g c =
-    let k = is_comp_of c.as_slice-comp-items.result.now c.args.moves.now c.loop-comp.comp-index c.comp-item.result c.as_slice-comp-items.ensures c.loop-comp-test.true c.comp-item.is in
-    k.admits g.T.Structure.ordered c.requires.operators
+    record {
+      levels = k.fits c.args.size c.requires.over.levels;
+      operators = k.admits g.T.Structure.ordered c.requires.over.operators;
+    }
 
 pub loop-comp-init : goal.loop-comp-init
 loop-comp-init g c =
@@ -39,7 +37,7 @@ returns-clause-members g c =
     are_targets n (comps_of c.args.moves.now) made held (added_members n _ _ _ _ made added)
 
 pub returns-clause-levels : goal.returns-clause-levels
-returns-clause-levels g c = c.loop-comp.invariant.levels c.requires.levels tt
+returns-clause-levels g c = c.loop-comp.invariant.levels c.requires.over.levels tt
 
 pub returns-clause-operators : goal.returns-clause-operators
 returns-clause-operators g c = λ o a b. c.loop-comp.invariant.operators o (a, b) tt

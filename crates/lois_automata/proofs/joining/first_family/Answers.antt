@@ -7,15 +7,13 @@ use Rattle.lois_automata.specs.Built.{AreFirstMembers}
 use Rattle.lois_automata.proofs.Families.{first_more, first_end}
 use Rattle.lois_automata.proofs.joining.first_family.Goals as goal
 
-pub first_member-requires-clause-levels : goal.first_member-requires-clause-levels
-first_member-requires-clause-levels g c =
+pub first_member-requires-clause-over : goal.first_member-requires-clause-over
+first_member-requires-clause-over g c =
     let k = is_comp_of c.as_slice-comp-items.result.now c.args.nodes.now c.loop-comp.comp-index c.comp-item.result c.as_slice-comp-items.ensures c.loop-comp-test.true c.comp-item.is in
-    k.fits c.args.size c.requires.levels
-
-pub first_member-requires-clause-operators : goal.first_member-requires-clause-operators
-first_member-requires-clause-operators g c =
-    let k = is_comp_of c.as_slice-comp-items.result.now c.args.nodes.now c.loop-comp.comp-index c.comp-item.result c.as_slice-comp-items.ensures c.loop-comp-test.true c.comp-item.is in
-    k.admits g.T.Structure.ordered c.requires.operators
+    record {
+      levels = k.fits c.args.size c.requires.over.levels;
+      operators = k.admits g.T.Structure.ordered c.requires.over.operators;
+    }
 
 pub loop-comp-preserved : goal.loop-comp-preserved
 loop-comp-preserved g c =

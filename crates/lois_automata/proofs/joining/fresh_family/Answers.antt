@@ -32,15 +32,13 @@ fresh_member-requires-clause-fits g c =
     let l : c.loop-index.index < length members = omega (arith, c.loop-index-test.true, over_length c.args.size (map comp_of items) members over, length-map items comp_of) in
     subst MemberFits (sym c.index-members-index.is) (subst (λ z. MemberFits (slice_index_or z c.loop-index.index c.index-members-index.result)) (sym c.as_slice-members.ensures.items) (c.as_slice-members.ensures.fits c.loop-index.index c.index-members-index.result (subst (λ z. c.loop-index.index < length z) c.as_slice-members.ensures.items l)))
 
-pub fresh_member-requires-clause-levels : goal.fresh_member-requires-clause-levels
-fresh_member-requires-clause-levels g c =
+pub fresh_member-requires-clause-comp : goal.fresh_member-requires-clause-comp
+fresh_member-requires-clause-comp g c =
     let k = is_comp_of c.as_slice-comp-items.result.now c.args.nodes.now c.loop-index.index c.comp-item.result c.as_slice-comp-items.ensures c.loop-index-test.true c.comp-item.is in
-    k.fits c.args.size c.requires.levels
-
-pub fresh_member-requires-clause-operators : goal.fresh_member-requires-clause-operators
-fresh_member-requires-clause-operators g c =
-    let k = is_comp_of c.as_slice-comp-items.result.now c.args.nodes.now c.loop-index.index c.comp-item.result c.as_slice-comp-items.ensures c.loop-index-test.true c.comp-item.is in
-    k.admits g.T.Structure.ordered c.requires.operators
+    record {
+      levels = k.fits c.args.size c.requires.nodes.levels;
+      operators = k.admits g.T.Structure.ordered c.requires.nodes.operators;
+    }
 
 pub loop-index-preserved : goal.loop-index-preserved
 loop-index-preserved g c =

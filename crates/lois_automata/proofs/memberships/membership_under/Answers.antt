@@ -27,7 +27,7 @@ returns-clause-fits g c =
     let comp = c.args.comp.now in
     let n = c.args.size + comp.binders in
     let under : ConstraintFits n c.args.under.now = fits_more c.args.size n c.args.under.now (omega arith) c.requires.under in
-    IfOk-weaker c.meet-2.result (λ r. (n : ℕ) → ConstraintFits n c.in_ok-admitted.admitted → ConstraintFits n c.in_ok-found.found → ConstraintFits n r) (ConstraintFits n) (λ r fits. fits n (c.in_ok-admitted.ensures.fits n under c.requires.levels.1) c.in_ok-found.ensures.fits) c.meet-2.ensures.fits
+    IfOk-weaker c.meet-2.result (λ r. (n : ℕ) → ConstraintFits n c.in_ok-admitted.admitted → ConstraintFits n c.in_ok-found.found → ConstraintFits n r) (ConstraintFits n) (λ r fits. fits n (c.in_ok-admitted.ensures.fits n under c.requires.over.levels.1) c.in_ok-found.ensures.fits) c.meet-2.ensures.fits
 
 pub returns-clause-operators : goal.returns-clause-operators
 returns-clause-operators g c =

@@ -9,12 +9,10 @@ use Rattle.lois_automata.proofs.pairing.add_steps.Goals as goal
 pub add_step-requires-clause-second : goal.add_step-requires-clause-second
 add_step-requires-clause-second g c =
     let q = is_comp_of c.as_slice-second-items.result.now c.args.others.now c.loop-second.second-index c.second-item.result c.as_slice-second-items.ensures c.loop-second-test.true c.second-item.is in
-    q.fits c.args.size c.requires.second
-
-pub add_step-requires-clause-second_operators : goal.add_step-requires-clause-second_operators
-add_step-requires-clause-second_operators g c =
-    let q = is_comp_of c.as_slice-second-items.result.now c.args.others.now c.loop-second.second-index c.second-item.result c.as_slice-second-items.ensures c.loop-second-test.true c.second-item.is in
-    q.admits g.T.Structure.ordered c.requires.second_operators
+    record {
+      levels = q.fits c.args.size c.requires.second.levels;
+      operators = q.admits g.T.Structure.ordered c.requires.second.operators;
+    }
 
 pub loop-second-init : goal.loop-second-init
 loop-second-init g c = seconds_begin IsStepOf c.args.size (comp_of c.args.first.now) c.args.others.now (comps_of c.args.made.now) c.as_slice-second-items.result.now c.as_slice-second-items.ensures

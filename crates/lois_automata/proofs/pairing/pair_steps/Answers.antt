@@ -10,12 +10,10 @@ use Rattle.lois_automata.proofs.pairing.pair_steps.Goals as goal
 pub add_steps-requires-clause-first : goal.add_steps-requires-clause-first
 add_steps-requires-clause-first g c =
     let k = is_comp_of c.as_slice-first-items.result.now c.args.one.now c.loop-first.first-index c.first-item.result c.as_slice-first-items.ensures c.loop-first-test.true c.first-item.is in
-    k.fits c.args.size c.requires.first
-
-pub add_steps-requires-clause-first_operators : goal.add_steps-requires-clause-first_operators
-add_steps-requires-clause-first_operators g c =
-    let k = is_comp_of c.as_slice-first-items.result.now c.args.one.now c.loop-first.first-index c.first-item.result c.as_slice-first-items.ensures c.loop-first-test.true c.first-item.is in
-    k.admits g.T.Structure.ordered c.requires.first_operators
+    record {
+      levels = k.fits c.args.size c.requires.first.levels;
+      operators = k.admits g.T.Structure.ordered c.requires.first.operators;
+    }
 
 pub loop-first-init : goal.loop-first-init
 loop-first-init g c = firsts_begin IsStepOf c.args.size c.args.one.now c.args.other.now c.as_slice-first-items.result.now c.new-made.result c.as_slice-first-items.ensures c.new-made.ensures
@@ -32,7 +30,7 @@ returns-clause-members g c =
     are_side_by_side n (comps_of c.args.one.now) (comps_of c.args.other.now) made (added_members n _ _ _ _ made added)
 
 pub returns-clause-levels : goal.returns-clause-levels
-returns-clause-levels g c = c.loop-first.invariant.levels (c.requires.first, c.requires.second) tt
+returns-clause-levels g c = c.loop-first.invariant.levels (c.requires.first.levels, c.requires.second.levels) tt
 
 pub returns-clause-operators : goal.returns-clause-operators
 returns-clause-operators g c = λ o a b. c.loop-first.invariant.operators o (a, b) tt

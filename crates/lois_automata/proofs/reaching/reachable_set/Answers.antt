@@ -1,4 +1,4 @@
-use Rattle.std.proofs.Common.{[], ◌≡◌, sym, subst, ◌∙◌}
+use Rattle.std.proofs.Common.{[], ◌≡◌, sym, subst, ◌∙◌, rules}
 use Rattle.std.proofs.lemmas.Result.{IfOk-weaker}
 use Rattle.lois_base.specs.Data.{coll, comps_of}
 use Rattle.lois_base.specs.Fits.{Fits, ItemsFit}
@@ -17,11 +17,19 @@ use Rattle.lois_automata.proofs.ReachedBegin.{first_over, only_weakens, is_reach
 use Rattle.lois_automata.proofs.Rounding.{all_new, held_fits, held_admits, held_widths, over_sizes}
 use Rattle.lois_automata.proofs.reaching.reachable_set.Goals as goal
 
-pub first_family-requires-clause-operators : goal.first_family-requires-clause-operators
-first_family-requires-clause-operators c = items_admitted (comps_of c.args.nodes.now)
+pub first_family-requires-clause-over : goal.first_family-requires-clause-over
+first_family-requires-clause-over c =
+    record {
+      levels = search rules;
+      operators = items_admitted (comps_of c.args.nodes.now);
+    }
 
-pub first_family-requires-clause-set_operators : goal.first_family-requires-clause-set_operators
-first_family-requires-clause-set_operators c = term_admitted (tree c.args.start.now)
+pub first_family-requires-clause-set_over : goal.first_family-requires-clause-set_over
+first_family-requires-clause-set_over c =
+    record {
+      levels = search rules;
+      operators = term_admitted (tree c.args.start.now);
+    }
 
 pub invariant_of-round-clause-settled : goal.invariant_of-round-clause-settled
 invariant_of-round-clause-settled c =

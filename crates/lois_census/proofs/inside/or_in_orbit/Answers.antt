@@ -15,9 +15,9 @@ returns-clause-truth g c =
 pub returns-clause-fits : goal.returns-clause-fits
 returns-clause-fits g c =
     let P = CubeFits c.args.comp.now.binders in
-    subst (All P) (sym c.in_ok-append.ensures) (All-append P c.args.taken c.in_ok-inside.inside c.requires.taken c.in_ok-inside.ensures.fits)
+    subst (All P) (sym c.in_ok-append.ensures) (All-append P c.args.taken c.in_ok-inside.inside c.requires.taken.levels c.in_ok-inside.ensures.fits)
 
 pub returns-clause-operators : goal.returns-clause-operators
 returns-clause-operators g c =
     let P = AdmitsCube g.T.Structure.ordered in
-    subst (All P) (sym c.in_ok-append.ensures) (All-append P c.args.taken c.in_ok-inside.inside c.requires.taken_operators c.in_ok-inside.ensures.operators)
+    subst (All P) (sym c.in_ok-append.ensures) (All-append P c.args.taken c.in_ok-inside.inside c.requires.taken.operators c.in_ok-inside.ensures.operators)

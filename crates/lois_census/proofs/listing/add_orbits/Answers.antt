@@ -23,8 +23,8 @@ samples-init g c =
     let k = c.args.comp.now in
     record {
       left = left_begin g.T.Structure.ordered k.binders (tree k.item) k.guard c.args.orbits.now c.in_ok-left.left c.in_ok-left.ensures.truth;
-      fits = c.in_ok-left.ensures.fits k.binders (subst (λ z. ConstraintFits z k.guard) (zero-add k.binders) c.requires.levels.1);
-      operators = c.in_ok-left.ensures.operators g.T.Structure.ordered c.requires.operators.0;
+      fits = c.in_ok-left.ensures.fits k.binders (subst (λ z. ConstraintFits z k.guard) (zero-add k.binders) c.requires.over.levels.1);
+      operators = c.in_ok-left.ensures.operators g.T.Structure.ordered c.requires.over.operators.0;
       added = adds_nothing (IsTakenFrom g.T.Structure.ordered (comp_of k)) c.args.orbits.now;
       listed = c.in_ok-taken.ensures.truth;
       listed_fits = c.in_ok-taken.ensures.fits;

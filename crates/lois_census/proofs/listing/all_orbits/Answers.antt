@@ -11,19 +11,17 @@ use Rattle.lois_census.specs.Orbits.{AreTakenInOrder}
 use Rattle.lois_census.proofs.TheCensus.{all_usable, still_covered, still_taken, still_in_order}
 use Rattle.lois_census.proofs.listing.all_orbits.Goals as goal
 
-pub add_orbits-requires-clause-levels : goal.add_orbits-requires-clause-levels
-add_orbits-requires-clause-levels g c =
+pub add_orbits-requires-clause-over : goal.add_orbits-requires-clause-over
+add_orbits-requires-clause-over g c =
     let k = is_comp_of c.as_slice-comp-items.result.now c.args.comps.now c.loop-comp.comp-index c.comp-item.result c.as_slice-comp-items.ensures c.loop-comp-test.true c.comp-item.is in
-    k.fits 0 c.requires.levels
-
-pub add_orbits-requires-clause-operators : goal.add_orbits-requires-clause-operators
-add_orbits-requires-clause-operators g c =
-    let k = is_comp_of c.as_slice-comp-items.result.now c.args.comps.now c.loop-comp.comp-index c.comp-item.result c.as_slice-comp-items.ensures c.loop-comp-test.true c.comp-item.is in
-    k.admits g.T.Structure.ordered c.requires.operators
+    record {
+      levels = k.fits 0 c.requires.over.levels;
+      operators = k.admits g.T.Structure.ordered c.requires.over.operators;
+    }
 
 pub add_orbits-requires-clause-usable : goal.add_orbits-requires-clause-usable
 add_orbits-requires-clause-usable g c =
-    all_usable g.T.Structure.ordered c.args.comps.now c.requires.levels c.requires.operators c.loop-comp.orbits c.loop-comp.invariant.taken
+    all_usable g.T.Structure.ordered c.args.comps.now c.requires.over.levels c.requires.over.operators c.loop-comp.orbits c.loop-comp.invariant.taken
 
 pub loop-comp-preserved : goal.loop-comp-preserved
 loop-comp-preserved g c =

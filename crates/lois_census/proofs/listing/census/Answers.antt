@@ -15,7 +15,7 @@ pub returns-clause-levels : goal.returns-clause-levels
 returns-clause-levels g c =
     let ks = c.in-Coll.comps in
     let set : tree c.args.set.now ≡ coll (comps_of ks) = ap tree c.in-Coll.is in
-    IfOk-weaker c.all_orbits.result (All (IsTakenFromSome g.T.Structure.ordered ks)) (All FitsSample) (λ r h. all_fit g.T.Structure.ordered ks (subst (Fits 0) set c.requires.levels) r h) c.all_orbits.ensures.taken
+    IfOk-weaker c.all_orbits.result (All (IsTakenFromSome g.T.Structure.ordered ks)) (All FitsSample) (λ r h. all_fit g.T.Structure.ordered ks (subst (Fits 0) set c.requires.over.levels) r h) c.all_orbits.ensures.taken
 
 pub returns-clause-members : goal.returns-clause-members
 returns-clause-members g c =

@@ -17,7 +17,7 @@ use Rattle.lois_census.proofs.listing.list_sample.Goals as goal
 pub at-requires : goal.at-requires
 at-requires g c =
     let count : length c.as_slice.result.now ≡ c.args.comp.now.binders = ap length c.as_slice.ensures ∙ c.requires.sample.0.count in
-    subst (λ n. ConstraintFits n c.args.taken) (sym count) c.requires.taken_fits
+    subst (λ n. ConstraintFits n c.args.taken) (sym count) c.requires.taken_over.levels
 
 pub returns-then-at-clause-holds : goal.returns-then-at-clause-holds
 returns-then-at-clause-holds g c =
@@ -30,7 +30,7 @@ pub or_in_orbit-requires-clause-orbit : goal.or_in_orbit-requires-clause-orbit
 or_in_orbit-requires-clause-orbit g c =
     let k = c.args.comp.now in
     let o : OrbitD = record { item = tree c.in_ok-copy.field-0; sample = c.in_ok-copy-2.field-0 } in
-    taken_usable g.T.Structure.ordered (comp_of k) o c.requires.levels c.requires.operators (ap tree c.in_ok-copy.ensures, subst (IsConstraintSample k.binders k.guard) (sym c.in_ok-copy-2.ensures) c.requires.sample, subst (AreRanks g.T.Structure.ordered) (sym c.in_ok-copy-2.ensures) c.requires.ranked)
+    taken_usable g.T.Structure.ordered (comp_of k) o c.requires.over.levels c.requires.over.operators (ap tree c.in_ok-copy.ensures, subst (IsConstraintSample k.binders k.guard) (sym c.in_ok-copy-2.ensures) c.requires.sample, subst (AreRanks g.T.Structure.ordered) (sym c.in_ok-copy-2.ensures) c.requires.ranked)
 
 pub returns-clause-truth : goal.returns-clause-truth
 returns-clause-truth g c =
@@ -60,4 +60,4 @@ returns-clause-apart g c =
     let count : length o.sample ≡ k.binders = ap length c.in_ok-copy-2.ensures ∙ c.requires.sample.0.count in
     let outside : IsFalse (holds (sampled o.sample) taken) = subst (λ s. IsFalse (holds (sampled s) taken)) (c.as_slice.ensures ∙ sym c.in_ok-copy-2.ensures) (sym c.at.ensures ∙ c.if-at.false) in
     subst (AllPairs (AreDisjointOrbits g.T.Structure.ordered)) (sym c.in_ok-push.ensures.appended)
-    (pairs_more g.T.Structure.ordered os o c.requires.apart (apart_from g.T.Structure.ordered k.binders (tree k.item) os taken c.requires.taken c.requires.taken_fits c.requires.taken_operators o (ap tree c.in_ok-copy.ensures) count outside))
+    (pairs_more g.T.Structure.ordered os o c.requires.apart (apart_from g.T.Structure.ordered k.binders (tree k.item) os taken c.requires.taken c.requires.taken_over.levels c.requires.taken_over.operators o (ap tree c.in_ok-copy.ensures) count outside))

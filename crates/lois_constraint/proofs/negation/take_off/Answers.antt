@@ -1,9 +1,7 @@
-use Rattle.std.proofs.Common.{◌≡◌, not, ◌&&◌, List, take, sym, ap, ◌∙◌, subst, arith}
+use Rattle.std.proofs.Common.{◌≡◌, not, ◌&&◌, List, take, ap, ◌∙◌, arith}
 use Rattle.std.proofs.lemmas.Grind.{common_steps}
 use Rattle.lois_base.specs.Truth.{holds}
 use Rattle.lois_base.specs.declared.guards.Lit.{Lit}
-use Rattle.lois_constraint.specs.Rules.{ConstraintObeys}
-use Rattle.lois_constraint.proofs.NegatedLiterals.{denials_hold, denials_obey}
 use Rattle.lois_constraint.proofs.Tightened.{rest_shrinks}
 use Rattle.lois_constraint.proofs.Uses.{item_obeys}
 use Rattle.lois_constraint.proofs.negation.take_off.Goals as goal
@@ -13,8 +11,8 @@ loop-cube-preserved c =
     let x : List Lit = c.cube-item.result in
     let items : List (List Lit) = c.as_slice-cube-items.result.now in
     record {
-      truth = λ e. c.in_ok-rest.ensures.truth e ∙ rest_shrinks e (holds e c.args.antichain) c.loop-cube.rest items x c.in_ok-refused.refused c.loop-cube.cube-index (omega arith) c.cube-item.is (c.loop-cube.invariant.truth e) (ap (holds e) c.in_ok-refused.ensures ∙ denials_hold e x);
-      rules = λ rule d h k. c.in_ok-rest.ensures.rules rule (c.loop-cube.invariant.rules rule d h k) (subst (ConstraintObeys rule) (sym c.in_ok-refused.ensures) (denials_obey rule d x (item_obeys rule c.args.c.now items c.loop-cube.cube-index x c.as_slice-cube-items.ensures (omega arith) c.cube-item.is k)));
+      truth = λ e. c.in_ok-rest.ensures.truth e ∙ rest_shrinks e (holds e c.args.antichain) c.loop-cube.rest items x c.loop-cube.cube-index (omega arith) c.cube-item.is (c.loop-cube.invariant.truth e);
+      rules = λ rule d h k. c.in_ok-rest.ensures.rules rule d (c.loop-cube.invariant.rules rule d h k) (item_obeys rule c.args.c.now items c.loop-cube.cube-index x c.as_slice-cube-items.ensures (omega arith) c.cube-item.is k);
     }
 
 pub returns-clause-truth : goal.returns-clause-truth

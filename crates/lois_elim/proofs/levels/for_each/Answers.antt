@@ -1,4 +1,4 @@
-use Rattle.std.proofs.Common.{◌≡◌, ℕ, ◌+◌, Bool, not, List}
+use Rattle.std.proofs.Common.{◌≡◌, ℕ, ◌+◌, Bool, not, List, rules}
 use Rattle.std.proofs.lemmas.Result.{IfOk-weaker}
 use Rattle.lois_base.specs.Atom.{Atom}
 use Rattle.lois_base.specs.Fits.{ConstraintFits}
@@ -8,8 +8,14 @@ use Rattle.lois_elim.specs.Bound.{HoldsForEach}
 use Rattle.lois_elim.proofs.Truth.{each_of_some}
 use Rattle.lois_elim.proofs.levels.for_each.Goals as goal
 
-pub for_some-requires-clause-levels : goal.for_some-requires-clause-levels
-for_some-requires-clause-levels g c = c.in_ok-negate.ensures.fits (c.args.size + 1) c.requires.levels
+pub for_some-requires : goal.for_some-requires
+for_some-requires g c =
+    record {
+      over = record {
+        levels = c.in_ok-negate.ensures.fits (c.args.size + 1) c.requires.over.levels;
+        operators = search rules;
+      };
+    }
 
 pub returns-clause-truth : goal.returns-clause-truth
 returns-clause-truth g c =

@@ -4,14 +4,16 @@ use Rattle.lois_elim.proofs.BoundDown.{IsBoundDown, bound_none, bound_more, boun
 use Rattle.lois_elim.proofs.levels.for_some_more.Goals as goal
 
 pub levels-init : goal.levels-init
-levels-init g c = bound_none c.args.size c.args.by c.args.c c.requires.levels
+levels-init g c = bound_none c.args.size c.args.by c.args.c c.requires.over.levels
 
 pub for_some-requires : goal.for_some-requires
 for_some-requires g c =
     let e : c.args.size + c.levels.more ≡ c.args.size + (c.levels.more - 1) + 1 = omega (arith, c.levels-test.true) in
     record {
-      levels = subst (λ z. ConstraintFits z c.levels.left) e c.levels.invariant.levels;
-      operators = c.levels.invariant.operators g.T.Structure.ordered c.requires.operators;
+      over = record {
+        levels = subst (λ z. ConstraintFits z c.levels.left) e c.levels.invariant.levels;
+        operators = c.levels.invariant.operators g.T.Structure.ordered c.requires.over.operators;
+      };
     }
 
 pub levels-preserved : goal.levels-preserved

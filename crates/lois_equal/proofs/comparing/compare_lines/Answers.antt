@@ -4,21 +4,19 @@ use Rattle.lois_answers.specs.LineView.{line_of}
 use Rattle.lois_equal.proofs.CaseLines.{found_term, found_sound, fit_term, lines_ok, usual_ok}
 use Rattle.lois_equal.proofs.comparing.compare_lines.Goals as goal
 
-pub equal-requires-clause-levels : goal.equal-requires-clause-levels
-equal-requires-clause-levels g c =
-    (found_sound g.T.Structure.ordered c.args.size c.args.first.now (case_of c.args.case.now) (line_of c.in-Some.one.now) c.requires.sound c.in-Some.ensures.line).levels
+pub equal-requires-clause-over : goal.equal-requires-clause-over
+equal-requires-clause-over g c =
+    record {
+      levels = (found_sound g.T.Structure.ordered c.args.size c.args.first.now (case_of c.args.case.now) (line_of c.in-Some.one.now) c.requires.sound c.in-Some.ensures.line).levels;
+      operators = (found_sound g.T.Structure.ordered c.args.size c.args.first.now (case_of c.args.case.now) (line_of c.in-Some.one.now) c.requires.sound c.in-Some.ensures.line).operators;
+    }
 
-pub equal-requires-clause-operators : goal.equal-requires-clause-operators
-equal-requires-clause-operators g c =
-    (found_sound g.T.Structure.ordered c.args.size c.args.first.now (case_of c.args.case.now) (line_of c.in-Some.one.now) c.requires.sound c.in-Some.ensures.line).operators
-
-pub equal-requires-clause-other_levels : goal.equal-requires-clause-other_levels
-equal-requires-clause-other_levels g c =
-    (found_sound g.T.Structure.ordered c.args.size c.args.second.now (case_of c.args.case.now) (line_of c.in-Some-last_named.other.now) c.requires.sound c.in-Some-last_named.ensures.line).levels
-
-pub equal-requires-clause-other_operators : goal.equal-requires-clause-other_operators
-equal-requires-clause-other_operators g c =
-    (found_sound g.T.Structure.ordered c.args.size c.args.second.now (case_of c.args.case.now) (line_of c.in-Some-last_named.other.now) c.requires.sound c.in-Some-last_named.ensures.line).operators
+pub equal-requires-clause-other : goal.equal-requires-clause-other
+equal-requires-clause-other g c =
+    record {
+      levels = (found_sound g.T.Structure.ordered c.args.size c.args.second.now (case_of c.args.case.now) (line_of c.in-Some-last_named.other.now) c.requires.sound c.in-Some-last_named.ensures.line).levels;
+      operators = (found_sound g.T.Structure.ordered c.args.size c.args.second.now (case_of c.args.case.now) (line_of c.in-Some-last_named.other.now) c.requires.sound c.in-Some-last_named.ensures.line).operators;
+    }
 
 pub equal-requires-clause-deterministic : goal.equal-requires-clause-deterministic
 equal-requires-clause-deterministic g c =

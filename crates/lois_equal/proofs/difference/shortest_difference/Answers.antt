@@ -31,12 +31,12 @@ returns-clause-found g c =
     let b = tree c.args.b.now in
     let found = c.in_ok-found.found in
     let Settled : Word → Type 0 = λ w. IsShortestDifference n u a b w × All (AdmitsTerm o) w.letters in
-    let operators : IfSome found (λ w. All (AdmitsTerm o) w.letters) = IfSome_then found {P = λ w. (p : Bool) → AdmitsTerm p a → AdmitsTerm p b → All (AdmitsTerm p) w.letters} {Q = λ w. All (AdmitsTerm o) w.letters} c.in_ok-found.ensures.operators (λ w h. h o c.requires.operators c.requires.other_operators) in
+    let operators : IfSome found (λ w. All (AdmitsTerm o) w.letters) = IfSome_then found {P = λ w. (p : Bool) → AdmitsTerm p a → AdmitsTerm p b → All (AdmitsTerm p) w.letters} {Q = λ w. All (AdmitsTerm o) w.letters} c.in_ok-found.ensures.operators (λ w h. h o c.requires.over.operators c.requires.other.operators) in
     let both : IfSome found Settled = some_both (IsShortestDifference n u a b) (λ w. All (AdmitsTerm o) w.letters) found c.in_ok-found.ensures.found operators in
     IfOk-weaker c.rank_found.result (IsRankedOrNone o c.in_ok-split.split) _ (λ r is.
     settled_some o n found c.in_ok-split.split r c.in_ok-split.ensures is Settled Settled (IsShortestDifference n u a b)
     (λ w v h s. (split_difference n u a b w v h.0 s, s.short.operators o h.1))
-    (ranked_difference o n u a b c.requires.under c.requires.under_operators c.requires.levels c.requires.operators c.requires.other_levels c.requires.other_operators c.requires.automaton (λ d l h. let at = c.requires.deterministic d l h in (at.0, at.1))) both) c.rank_found.ensures
+    (ranked_difference o n u a b c.requires.under.levels c.requires.under.operators c.requires.over.levels c.requires.over.operators c.requires.other.levels c.requires.other.operators c.requires.automaton (λ d l h. let at = c.requires.deterministic d l h in (at.0, at.1))) both) c.rank_found.ensures
 
 pub returns-clause-operators : goal.returns-clause-operators
 returns-clause-operators g c =

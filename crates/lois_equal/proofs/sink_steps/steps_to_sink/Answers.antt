@@ -5,15 +5,13 @@ use Rattle.lois_relate.proofs.Parts.{comps_from, comps_are, no_comps_left, is_co
 use Rattle.lois_equal.proofs.SinkSteps.{led_begin, led_more, led_end}
 use Rattle.lois_equal.proofs.sink_steps.steps_to_sink.Goals as goal
 
-pub add_step_to_sink-requires-clause-levels : goal.add_step_to_sink-requires-clause-levels
-add_step_to_sink-requires-clause-levels g c =
+pub add_step_to_sink-requires-clause-over : goal.add_step_to_sink-requires-clause-over
+add_step_to_sink-requires-clause-over g c =
     let k = is_comp_of c.as_slice-comp-items.result.now c.args.pairs.now c.loop-comp.comp-index c.comp-item.result c.as_slice-comp-items.ensures c.loop-comp-test.true c.comp-item.is in
-    k.fits c.args.size c.requires.pairs
-
-pub add_step_to_sink-requires-clause-operators : goal.add_step_to_sink-requires-clause-operators
-add_step_to_sink-requires-clause-operators g c =
-    let k = is_comp_of c.as_slice-comp-items.result.now c.args.pairs.now c.loop-comp.comp-index c.comp-item.result c.as_slice-comp-items.ensures c.loop-comp-test.true c.comp-item.is in
-    k.admits g.T.Structure.ordered c.requires.pairs_operators
+    record {
+      levels = k.fits c.args.size c.requires.pairs.levels;
+      operators = k.admits g.T.Structure.ordered c.requires.pairs.operators;
+    }
 
 pub loop-comp-init : goal.loop-comp-init
 loop-comp-init g c = led_begin c.args.size (comps_of c.args.pairs.now) (tree c.args.there.now) (tree c.args.sink.now) (comps_from c.as_slice-comp-items.result.now 0) (comps_of c.new-made.result) (ap comps_of c.as_slice-comp-items.ensures) (ap comps_of c.new-made.ensures)
@@ -37,7 +35,7 @@ returns-clause-led g c =
     led_end c.args.size (comps_of c.args.pairs.now) (tree c.args.there.now) (tree c.args.sink.now) (comps_from items i) (comps_of c.loop-comp.made) (no_comps_left items i (omega (arith, c.loop-comp-test.false))) c.loop-comp.invariant
 
 pub returns-clause-levels : goal.returns-clause-levels
-returns-clause-levels g c = c.loop-comp.invariant.0.levels c.requires.pairs tt
+returns-clause-levels g c = c.loop-comp.invariant.0.levels c.requires.pairs.levels tt
 
 pub returns-clause-operators : goal.returns-clause-operators
 returns-clause-operators g c = λ o a b d. c.loop-comp.invariant.0.operators o (a, (b, d)) tt

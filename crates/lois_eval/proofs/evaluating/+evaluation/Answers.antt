@@ -183,8 +183,10 @@ decided-wordless-requires g t c =
     record {
       sound = c.requires.sound;
       given = own.value;
-      levels = own.levels;
-      operators = own.operators o (record { names = placed.names; operators = placed.operators });
+      over = record {
+        levels = own.levels;
+        operators = own.operators o (record { names = placed.names; operators = placed.operators });
+      };
       context_operators = placed.operators;
     }
 

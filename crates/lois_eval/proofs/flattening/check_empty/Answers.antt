@@ -23,7 +23,7 @@ returns-in-Some-clause-fault g c =
     let cut = take k.size s in
     let meets = subst (λ o. IfSome o (λ v. MeetsBoth (k.size + c.args.comp.now.binders) k.«when» c.args.comp.now.guard v.items)) c.in-Some.is c.in_ok-sample.ensures.some in
     if_fault c.fault.result (IsFaultWith c.args.pos NotASet c.truncate.new.self.items) (IsMemberFault g.T.Structure.ordered k (coll (comps_of (l ∷ []))) c.args.pos.offset)
-    (λ f h. member_fault k g.T.Structure.ordered l c.args.pos s f c.requires.item c.requires.levels c.requires.operators meets (subst (λ z. IsFaultWith c.args.pos NotASet z f) c.truncate.ensures.items h)) c.fault.ensures
+    (λ f h. member_fault k g.T.Structure.ordered l c.args.pos s f c.requires.item c.requires.over.levels c.requires.over.operators meets (subst (λ z. IsFaultWith c.args.pos NotASet z f) c.truncate.ensures.items h)) c.fault.ensures
 
 pub returns-in-None-clause-empty : goal.returns-in-None-clause-empty
 returns-in-None-clause-empty g c = c.in_ok-sample.ensures.none.0 (ap is_some c.in-None.is)

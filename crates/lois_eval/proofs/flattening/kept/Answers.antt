@@ -14,15 +14,13 @@ loop-comp-init g c = record {
   asked = g.met.D.Oracle.reaches_itself c.args.decider.now;
 }
 
-pub put_set-requires-clause-levels : goal.put_set-requires-clause-levels
-put_set-requires-clause-levels g c =
+pub put_set-requires-clause-over : goal.put_set-requires-clause-over
+put_set-requires-clause-over g c =
     let comp = is_comp_of c.as_slice-comp-items.result.now c.args.comps.now c.loop-comp.comp-index c.comp-item.result c.as_slice-comp-items.ensures c.loop-comp-test.true c.comp-item.is in
-    comp.fits c.args.context.now.size c.requires.levels
-
-pub put_set-requires-clause-operators : goal.put_set-requires-clause-operators
-put_set-requires-clause-operators g c =
-    let comp = is_comp_of c.as_slice-comp-items.result.now c.args.comps.now c.loop-comp.comp-index c.comp-item.result c.as_slice-comp-items.ensures c.loop-comp-test.true c.comp-item.is in
-    comp.admits g.T.Structure.ordered c.requires.operators
+    record {
+      levels = comp.fits c.args.context.now.size c.requires.over.levels;
+      operators = comp.admits g.T.Structure.ordered c.requires.over.operators;
+    }
 
 pub returns-in_err-put_set-clause-fault : goal.returns-in_err-put_set-clause-fault
 returns-in_err-put_set-clause-fault g c =
@@ -40,7 +38,7 @@ loop-comp-preserved g c =
     record {
       sets =
           subst (λ z. HasSetsOf k (coll (comps_of z)) (coll (comps_of c.put_set.new.kept))) (sym (one_more comp_of items i c.comp-item.result c.loop-comp-test.true c.comp-item.is))
-          (sets_more k (map comp_of (take i items)) c.loop-comp.kept c.put_set.new.kept (comp_of c.comp-item.result) c.loop-comp.invariant.sets (comp.fits k.size c.requires.levels) c.in_ok-put_set.ensures.kept);
+          (sets_more k (map comp_of (take i items)) c.loop-comp.kept c.put_set.new.kept (comp_of c.comp-item.result) c.loop-comp.invariant.sets (comp.fits k.size c.requires.over.levels) c.in_ok-put_set.ensures.kept);
       asked = g.met.D.Oracle.reaches_then c.args.decider.now c.loop-comp.decider c.put_set.new.decider c.loop-comp.invariant.asked c.put_set.ensures.asked;
     }
 

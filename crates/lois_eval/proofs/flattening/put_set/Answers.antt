@@ -10,7 +10,6 @@ returns-then-is_set-clause-kept g c =
 pub check_empty-requires : goal.check_empty-requires
 check_empty-requires g c = record {
   sound = c.requires.sound;
-  levels = c.requires.levels;
-  operators = c.requires.operators;
+  over = c.requires.over;
   item = λ set. false≢true (sym c.if-is_set.false ∙ c.is_set.ensures.1 set);
 }

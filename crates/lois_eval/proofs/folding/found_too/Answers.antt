@@ -1,13 +1,16 @@
-use Rattle.std.proofs.Common.{◌≡◌, ◌+◌, ◌-◌, subst, arith}
+use Rattle.std.proofs.Common.{◌≡◌, ◌+◌, ◌-◌, subst, arith, rules}
 use Rattle.lois_base.specs.Fits.{ConstraintFits}
 use Rattle.lois_eval.specs.Folded.{HasFoundToo}
 use Rattle.lois_eval.proofs.folding.found_too.Goals as goal
 
-pub for_some_more-requires-clause-levels : goal.for_some_more-requires-clause-levels
-for_some_more-requires-clause-levels g c =
+pub for_some_more-requires-clause-over : goal.for_some_more-requires-clause-over
+for_some_more-requires-clause-over g c =
     let k = c.args.context.now in
     let e : k.size ≡ c.args.size + (k.size - c.args.size) = omega (arith, c.requires.longer) in
-    subst (λ z. ConstraintFits z c.in_ok-there.there) e (c.in_ok-there.ensures.levels k.size k.levels c.requires.levels)
+    record {
+      levels = subst (λ z. ConstraintFits z c.in_ok-there.there) e (c.in_ok-there.ensures.levels k.size k.levels c.requires.over.levels);
+      operators = search rules;
+    }
 
 pub returns : goal.returns
 returns g c =

@@ -15,16 +15,14 @@ compared_with-requires-clause-values g c =
 
 pub compared_with-requires-clause-left : goal.compared_with-requires-clause-left
 compared_with-requires-clause-left g c =
-    subst (λ z. Fits c.args.context.now.size (tree z)) (sym c.get.ensures.same) c.requires.values.levels.0
-
-pub compared_with-requires-clause-left_operators : goal.compared_with-requires-clause-left_operators
-compared_with-requires-clause-left_operators g c =
-    subst (λ z. AdmitsTerm g.T.Structure.ordered (tree z)) (sym c.get.ensures.same) (c.requires.values.operators g.T.Structure.ordered c.requires.placed).0
+    record {
+      levels = subst (λ z. Fits c.args.context.now.size (tree z)) (sym c.get.ensures.same) c.requires.values.levels.0;
+      operators = subst (λ z. AdmitsTerm g.T.Structure.ordered (tree z)) (sym c.get.ensures.same) (c.requires.values.operators g.T.Structure.ordered c.requires.placed).0;
+    }
 
 pub compared_with-requires-clause-right : goal.compared_with-requires-clause-right
 compared_with-requires-clause-right g c =
-    subst (λ z. Fits c.args.context.now.size (tree z)) (sym c.get-2.ensures.same) c.requires.values.levels.1.0
-
-pub compared_with-requires-clause-right_operators : goal.compared_with-requires-clause-right_operators
-compared_with-requires-clause-right_operators g c =
-    subst (λ z. AdmitsTerm g.T.Structure.ordered (tree z)) (sym c.get-2.ensures.same) (c.requires.values.operators g.T.Structure.ordered c.requires.placed).1.0
+    record {
+      levels = subst (λ z. Fits c.args.context.now.size (tree z)) (sym c.get-2.ensures.same) c.requires.values.levels.1.0;
+      operators = subst (λ z. AdmitsTerm g.T.Structure.ordered (tree z)) (sym c.get-2.ensures.same) (c.requires.values.operators g.T.Structure.ordered c.requires.placed).1.0;
+    }

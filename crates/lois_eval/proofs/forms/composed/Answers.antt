@@ -56,8 +56,7 @@ applied-requires g c =
       operands = sym (count_of-more es) ∙ placed.names.0;
       count = values.count ∙ placed.names.0;
       given = values.values;
-      levels = values.levels;
-      operators = values.operators o placed;
+      over = record { levels = values.levels; operators = values.operators o placed };
       context_operators = placed.operators;
     }
 

@@ -12,13 +12,12 @@ use Rattle.lois_eval.proofs.LoopExit.{passed_on}
 use Rattle.lois_eval.proofs.Nodes.{too_deep_fails}
 use Rattle.lois_eval.proofs.forms.named_value.Goals as goal
 
-pub check_depth-requires-clause-levels : goal.check_depth-requires-clause-levels
-check_depth-requires-clause-levels g c =
-    subst (λ t. Fits c.args.context.now.size (term_tree t)) (sym c.get.ensures.same) c.in_ok-held.ensures.term.levels
-
-pub check_depth-requires-clause-operators : goal.check_depth-requires-clause-operators
-check_depth-requires-clause-operators g c =
-    subst (λ t. AdmitsTerm g.T.Structure.ordered (term_tree t)) (sym c.get.ensures.same) (c.in_ok-held.ensures.term.operators g.T.Structure.ordered c.requires.placed)
+pub check_depth-requires-clause-over : goal.check_depth-requires-clause-over
+check_depth-requires-clause-over g c =
+    record {
+      levels = subst (λ t. Fits c.args.context.now.size (term_tree t)) (sym c.get.ensures.same) c.in_ok-held.ensures.term.levels;
+      operators = subst (λ t. AdmitsTerm g.T.Structure.ordered (term_tree t)) (sym c.get.ensures.same) (c.in_ok-held.ensures.term.operators g.T.Structure.ordered c.requires.placed);
+    }
 
 pub returns-in_err-check_depth-clause-fault : goal.returns-in_err-check_depth-clause-fault
 returns-in_err-check_depth-clause-fault g c =

@@ -32,4 +32,4 @@ returns-clause-fault g c =
     let P = IsFailureOfVerdict v at NotAutomaton in
     let Q = IsValueFault g.T.Structure.ordered k IsNoAutomaton t in
     IfErr-weaker c.passed.result (λ s. IfFault s P) _
-    (λ s h. if_fault s P (Q (pos e)) (λ f broken. subst (λ z. Q z f) c.pos.ensures.first_token (no_automaton g.T.Structure.ordered k t c.requires.levels c.requires.operators c.requires.context_operators at v c.in_ok-verdict.ensures.verdict f broken)) h) c.passed.ensures.fault
+    (λ s h. if_fault s P (Q (pos e)) (λ f broken. subst (λ z. Q z f) c.pos.ensures.first_token (no_automaton g.T.Structure.ordered k t c.requires.over.levels c.requires.over.operators c.requires.context_operators at v c.in_ok-verdict.ensures.verdict f broken)) h) c.passed.ensures.fault

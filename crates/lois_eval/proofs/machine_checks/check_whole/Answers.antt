@@ -34,7 +34,7 @@ returns-in_err-passed-clause-fault g c =
     let at = c.pos.result in
     let Q = IsValueFault g.T.Structure.ordered k (IsInvalidOperand Minimise) t in
     passed_on c.from_residual-in_err-passed.result c.in_err-passed.field-0.0 (IsFailureOfVerdict v at NotDeterministic) (Q (pos (expr_tree c.args.operand.now))) c.from_residual-in_err-passed.ensures.1
-    (λ f broken. subst (λ z. Q z f) c.pos.ensures.first_token (not_deterministic g.T.Structure.ordered k t c.requires.levels c.requires.operators c.requires.context_operators c.in_ok-check_machine.ensures.automaton at v c.in_ok-single.ensures.verdict f broken)) c.in_err-passed.ensures.fault
+    (λ f broken. subst (λ z. Q z f) c.pos.ensures.first_token (not_deterministic g.T.Structure.ordered k t c.requires.over.levels c.requires.over.operators c.requires.context_operators c.in_ok-check_machine.ensures.automaton at v c.in_ok-single.ensures.verdict f broken)) c.in_err-passed.ensures.fault
 
 pub returns-clause-whole : goal.returns-clause-whole
 returns-clause-whole g c =
@@ -54,4 +54,4 @@ returns-clause-fault g c =
     let Q = IsValueFault g.T.Structure.ordered k (IsInvalidOperand Minimise) t in
     let single = subst (IsVerdictOn k.size k.«when» (IsDeterministicAt t)) c.in_ok-passed.ensures.holds c.in_ok-single.ensures.verdict in
     IfErr-weaker c.passed-2.result (λ s. IfFault s P) _
-    (λ s h. if_fault s P (Q (pos (expr_tree c.args.operand.now))) (λ f broken. subst (λ z. Q z f) c.pos-2.ensures.first_token (not_complete g.T.Structure.ordered k t c.requires.levels c.requires.operators c.requires.context_operators single at v c.in_ok-total.ensures.verdict f broken)) h) c.passed-2.ensures.fault
+    (λ s h. if_fault s P (Q (pos (expr_tree c.args.operand.now))) (λ f broken. subst (λ z. Q z f) c.pos-2.ensures.first_token (not_complete g.T.Structure.ordered k t c.requires.over.levels c.requires.over.operators c.requires.context_operators single at v c.in_ok-total.ensures.verdict f broken)) h) c.passed-2.ensures.fault

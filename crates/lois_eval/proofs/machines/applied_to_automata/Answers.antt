@@ -36,10 +36,8 @@ product_of-requires g c =
     record {
       given = given.0;
       other_given = given.1;
-      levels = fits.0;
-      operators = admits.0;
-      other_levels = fits.1.0;
-      other_operators = admits.1.0;
+      over = record { levels = fits.0; operators = admits.0 };
+      other = record { levels = fits.1.0; operators = admits.1.0 };
       context_operators = c.requires.operands.context_operators;
     }
 
@@ -78,8 +76,10 @@ of_one-requires g c =
     record {
       given = one_given k e t (subst (λ z. AreValuesThroughout k (exprs_of z) (t ∷ [])) c.one_expr.ensures (subst (λ z. AreValuesThroughout k (exprs_of (exprs_list c.args.operands.now)) z) c.one_term.ensures c.requires.operands.given));
       operation = (of_one_automaton c.args.operation c.requires.operands.operation c.in_default.not-Product).0;
-      levels = (subst (λ z. PartsFit k.size (terms_of z)) c.one_term.ensures c.requires.operands.levels).0;
-      operators = (subst (λ z. AdmitsParts g.T.Structure.ordered (terms_of z)) c.one_term.ensures c.requires.operands.operators).0;
+      over = record {
+        levels = (subst (λ z. PartsFit k.size (terms_of z)) c.one_term.ensures c.requires.operands.levels).0;
+        operators = (subst (λ z. AdmitsParts g.T.Structure.ordered (terms_of z)) c.one_term.ensures c.requires.operands.operators).0;
+      };
       context_operators = c.requires.operands.context_operators;
     }
 

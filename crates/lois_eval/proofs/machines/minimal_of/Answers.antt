@@ -12,12 +12,12 @@ pub minimise-requires : goal.minimise-requires
 minimise-requires g c =
     let h = c.in_ok-reached.ensures in
     record {
-      levels = c.requires.levels;
-      operators = c.requires.operators;
-      reached_levels = h.levels;
-      reached_operators = h.operators g.T.Structure.ordered c.requires.operators c.requires.context_operators.«when»;
-      under = c.args.context.now.levels;
-      under_operators = c.requires.context_operators.«when»;
+      over = c.requires.over;
+      reached_over = record {
+        levels = h.levels;
+        operators = h.operators g.T.Structure.ordered c.requires.over.operators c.requires.context_operators.«when»;
+      };
+      under = record { levels = c.args.context.now.levels; operators = c.requires.context_operators.«when» };
       whole = c.in_ok-check_whole.ensures.whole;
       reached = h.reached;
     }

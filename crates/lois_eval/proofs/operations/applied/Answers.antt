@@ -23,8 +23,7 @@ combined-requires g c = record {
   operation = subst IsOfTwoSets (sym c.in-Union.is) tt;
   operands = c.requires.operands ∙ ap arity c.in-Union.is;
   count = c.requires.count ∙ ap arity c.in-Union.is;
-  levels = c.requires.levels;
-  operators = c.requires.operators;
+  over = c.requires.over;
 }
 
 pub combined-requires-in-Inter : goal.combined-requires-in-Inter
@@ -32,8 +31,7 @@ combined-requires-in-Inter g c = record {
   operation = subst IsOfTwoSets (sym c.in-Inter.is) tt;
   operands = c.requires.operands ∙ ap arity c.in-Inter.is;
   count = c.requires.count ∙ ap arity c.in-Inter.is;
-  levels = c.requires.levels;
-  operators = c.requires.operators;
+  over = c.requires.over;
 }
 
 pub combined-requires-in-Minus : goal.combined-requires-in-Minus
@@ -41,8 +39,7 @@ combined-requires-in-Minus g c = record {
   operation = subst IsOfTwoSets (sym c.in-Minus.is) tt;
   operands = c.requires.operands ∙ ap arity c.in-Minus.is;
   count = c.requires.count ∙ ap arity c.in-Minus.is;
-  levels = c.requires.levels;
-  operators = c.requires.operators;
+  over = c.requires.over;
 }
 
 pub one_expr-requires : goal.one_expr-requires
@@ -51,11 +48,12 @@ one_expr-requires g c = c.requires.operands ∙ ap arity c.in-Flatten.is
 pub one_term-requires : goal.one_term-requires
 one_term-requires g c = c.requires.count ∙ ap arity c.in-Flatten.is
 
-pub flattened-requires-clause-levels : goal.flattened-requires-clause-levels
-flattened-requires-clause-levels g c = (subst (λ z. PartsFit c.args.context.now.size (terms_of z)) c.one_term.ensures c.requires.levels).0
-
-pub flattened-requires-clause-operators : goal.flattened-requires-clause-operators
-flattened-requires-clause-operators g c = (subst (λ z. AdmitsParts g.T.Structure.ordered (terms_of z)) c.one_term.ensures c.requires.operators).0
+pub flattened-requires-clause-over : goal.flattened-requires-clause-over
+flattened-requires-clause-over g c =
+    record {
+      levels = (subst (λ z. PartsFit c.args.context.now.size (terms_of z)) c.one_term.ensures c.requires.over.levels).0;
+      operators = (subst (λ z. AdmitsParts g.T.Structure.ordered (terms_of z)) c.one_term.ensures c.requires.over.operators).0;
+    }
 
 pub returns-in-Flatten-clause-applied : goal.returns-in-Flatten-clause-applied
 returns-in-Flatten-clause-applied g c =
@@ -102,8 +100,8 @@ apply-requires-clause-operands g c = record {
   operands = c.requires.operands;
   count = c.requires.count;
   given = c.requires.given;
-  levels = c.requires.levels;
-  operators = c.requires.operators;
+  levels = c.requires.over.levels;
+  operators = c.requires.over.operators;
   context_operators = c.requires.context_operators;
 }
 

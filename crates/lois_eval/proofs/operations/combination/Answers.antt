@@ -37,4 +37,4 @@ pub returns-in-Union-clause-levels : goal.returns-in-Union-clause-levels
 returns-in-Union-clause-levels g c =
     let s = tree c.args.s.now in
     let t = tree c.args.t.now in
-    IfOk-weaker c.union.result (λ r. (n : ℕ) → Fits n s → Fits n t → Fits n (tree r)) _ (λ r fits. fits c.args.context.now.size c.requires.left c.requires.right) c.union.ensures.levels
+    IfOk-weaker c.union.result (λ r. (n : ℕ) → Fits n s → Fits n t → Fits n (tree r)) _ (λ r fits. fits c.args.context.now.size c.requires.left.levels c.requires.right.levels) c.union.ensures.levels

@@ -34,16 +34,14 @@ returns-in_err-check_set-2-clause-fault g c =
 pub combination-requires : goal.combination-requires
 combination-requires g c =
     let k = c.args.context.now in
-    let fits = subst (λ z. PartsFit k.size (terms_of z)) c.two_terms.ensures c.requires.levels in
-    let admits = subst (λ z. AdmitsParts g.T.Structure.ordered (terms_of z)) c.two_terms.ensures c.requires.operators in
+    let fits = subst (λ z. PartsFit k.size (terms_of z)) c.two_terms.ensures c.requires.over.levels in
+    let admits = subst (λ z. AdmitsParts g.T.Structure.ordered (terms_of z)) c.two_terms.ensures c.requires.over.operators in
     record {
       operation = c.requires.operation;
-      left = fits.0;
+      left = record { levels = fits.0; operators = admits.0 };
       left_set = c.in_ok-check_set.ensures.set;
-      left_operators = admits.0;
-      right = fits.1.0;
+      right = record { levels = fits.1.0; operators = admits.1.0 };
       right_set = c.in_ok-check_set-2.ensures.set;
-      right_operators = admits.1.0;
     }
 
 pub returns-clause-applied : goal.returns-clause-applied

@@ -14,13 +14,14 @@ use Rattle.lois_eval.specs.Checks.{IsFaultWith, IsDepthFault}
 use Rattle.lois_eval.proofs.FaultsAt.{if_fault, fault_at, met_admitted, meets_both, met_alike}
 use Rattle.lois_interp.proofs.checks.check_depth.Goals as goal
 
-pub too_deep-requires-clause-levels : goal.too_deep-requires-clause-levels
-too_deep-requires-clause-levels g c =
-    subst (λ z. Fits c.args.context.now.size (tree z)) (sym (c.get.ensures.same ∙ c.in_ok-whole.ensures.same)) c.requires.levels
-
-pub too_deep-requires-clause-operators : goal.too_deep-requires-clause-operators
-too_deep-requires-clause-operators g c =
-    subst (λ z. AdmitsTerm g.T.Structure.ordered (tree z)) (sym (c.get.ensures.same ∙ c.in_ok-whole.ensures.same)) c.requires.operators
+pub too_deep-requires : goal.too_deep-requires
+too_deep-requires g c =
+    record {
+      over = record {
+        levels = subst (λ z. Fits c.args.context.now.size (tree z)) (sym (c.get.ensures.same ∙ c.in_ok-whole.ensures.same)) c.requires.over.levels;
+        operators = subst (λ z. AdmitsTerm g.T.Structure.ordered (tree z)) (sym (c.get.ensures.same ∙ c.in_ok-whole.ensures.same)) c.requires.over.operators;
+      };
+    }
 
 pub returns-in-Some-clause-fault : goal.returns-in-Some-clause-fault
 returns-in-Some-clause-fault g c =

@@ -1,4 +1,4 @@
-use Rattle.std.proofs.Common.{bytes_eq, sym, subst, ◌∙◌}
+use Rattle.std.proofs.Common.{bytes_eq, sym, subst, ◌∙◌, rules}
 use Rattle.std.specs.List.{IsDistinct}
 use Rattle.lois_base.specs.Truth.{sampled}
 use Rattle.lois_base.specs.Validity.{AdmitsTerm, HasBoundedWidths}
@@ -20,8 +20,12 @@ tidied_store-requires-clause-met g c = let j = c.in_ok-joined.joined in let own 
 pub tidied_store-requires-clause-operators : goal.tidied_store-requires-clause-operators
 tidied_store-requires-clause-operators g c = (c.in_ok-joined.ensures.operators g.T.Structure.ordered c.requires.operators c.requires.end_operators).store
 
-pub tidied_store-requires-clause-when_operators : goal.tidied_store-requires-clause-when_operators
-tidied_store-requires-clause-when_operators g c = (c.in_ok-joined.ensures.operators g.T.Structure.ordered c.requires.operators c.requires.end_operators).«when»
+pub tidied_store-requires-clause-when : goal.tidied_store-requires-clause-when
+tidied_store-requires-clause-when g c =
+    record {
+      levels = search rules;
+      operators = (c.in_ok-joined.ensures.operators g.T.Structure.ordered c.requires.operators c.requires.end_operators).«when»;
+    }
 
 pub invariant_of-result-clause-slots : goal.invariant_of-result-clause-slots
 invariant_of-result-clause-slots g c =

@@ -18,19 +18,18 @@ use Rattle.lois_interp.proofs.joining.tidied_set.Goals as goal
 pub parted-requires : goal.parted-requires
 parted-requires g c = counted_set (tree c.args.set) c.args.first c.requires.count
 
-pub simplify-requires-clause-levels : goal.simplify-requires-clause-levels
-simplify-requires-clause-levels g c =
-    let s = tree c.args.set in let ks = comps_listed s in let first = c.args.first in
-    let is = set_of s (counted_set s first c.requires.count) in
-    subst (λ z. ItemsFit c.args.size (comps_of z)) (sym c.in_ok-parts.ensures.added)
-    (items_fit_last c.args.size (take first ks) (drop first ks) (subst (λ z. ItemsFit c.args.size (comps_of z)) (sym (take-append-drop first ks)) (subst (Fits c.args.size) is c.requires.levels)))
-
-pub simplify-requires-clause-operators : goal.simplify-requires-clause-operators
-simplify-requires-clause-operators g c =
+pub simplify-requires-clause-over : goal.simplify-requires-clause-over
+simplify-requires-clause-over g c =
     let s = tree c.args.set in let ks = comps_listed s in let first = c.args.first in let o = g.T.Structure.ordered in
     let is = set_of s (counted_set s first c.requires.count) in
-    subst (λ z. AdmitsItems o (comps_of z)) (sym c.in_ok-parts.ensures.added)
-    (items_admit_last o (take first ks) (drop first ks) (subst (λ z. AdmitsItems o (comps_of z)) (sym (take-append-drop first ks)) (subst (AdmitsTerm o) is c.requires.operators)))
+    record {
+      levels =
+          subst (λ z. ItemsFit c.args.size (comps_of z)) (sym c.in_ok-parts.ensures.added)
+          (items_fit_last c.args.size (take first ks) (drop first ks) (subst (λ z. ItemsFit c.args.size (comps_of z)) (sym (take-append-drop first ks)) (subst (Fits c.args.size) is c.requires.over.levels)));
+      operators =
+          subst (λ z. AdmitsItems o (comps_of z)) (sym c.in_ok-parts.ensures.added)
+          (items_admit_last o (take first ks) (drop first ks) (subst (λ z. AdmitsItems o (comps_of z)) (sym (take-append-drop first ks)) (subst (AdmitsTerm o) is c.requires.over.operators)));
+    }
 
 pub with_items-requires-clause-set : goal.with_items-requires-clause-set
 with_items-requires-clause-set g c =
@@ -46,7 +45,7 @@ returns-clause-tidied g c =
     IfOk-weaker c.with_items.result (λ r. ArePutBehind (comps_listed (tree parts.0)) (comps_listed lean) (tree r)) (λ r. IsTidied n u first s (tree r))
     (λ r put.
     subst (λ z. IsTidied n u first z (tree r)) (sym is)
-    (set_tidied n u first ks lean (tree r) (omega (arith, c.requires.count, count_listed s)) (subst (Fits n) is c.requires.levels)
+    (set_tidied n u first ks lean (tree r) (omega (arith, c.requires.count, count_listed s)) (subst (Fits n) is c.requires.over.levels)
     (still_set n u (comps_of parts.1) lean c.requires.met E.value)
     (subst (λ z. ArePutBehind z (comps_listed lean) (tree r)) P.old put)
     E.levels

@@ -48,11 +48,10 @@ tidied_slot-requires-clause-count g c =
     let same : c.count_at-first.result ≡ get_or c.args.counts.now (length c.loop-slot.yielded) 0 = c.count_at-first.ensures ∙ ap (λ z. get_or c.args.counts.now z 0) (c.len.ensures.counted ∙ c.loop-slot.invariant.count) in
     omega (arith, least, same)
 
-pub tidied_slot-requires-clause-levels : goal.tidied_slot-requires-clause-levels
-tidied_slot-requires-clause-levels g c = (turn g (goal.at.tidied_slot-requires-clause-levels g c).In-Some).slot.0
-
-pub tidied_slot-requires-clause-operators : goal.tidied_slot-requires-clause-operators
-tidied_slot-requires-clause-operators g c = (turn g (goal.at.tidied_slot-requires-clause-operators g c).In-Some).admitted
+pub tidied_slot-requires-clause-over : goal.tidied_slot-requires-clause-over
+tidied_slot-requires-clause-over g c =
+    let t = turn g (goal.at.tidied_slot-requires-clause-over g c).In-Some in
+    record { levels = t.slot.0; operators = t.admitted }
 
 pub loop-slot-preserved : goal.loop-slot-preserved
 loop-slot-preserved g c =

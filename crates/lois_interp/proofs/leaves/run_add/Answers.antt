@@ -51,20 +51,21 @@ returns-in_default-extended-clause-fault g c =
     if_fault c.fault_under.result (IsFaultWith c.args.pos NotASet taken.rest.sample) (FailsWithin g.T.Structure.ordered (stmt_run (add e c.args.pos.offset x)) k)
     (λ f h. add_no_set c.args.pos x e k t (λ a. held_value x k.store t a held) f g.T.Structure.ordered c.requires.operators (term_tree c.in_ok-item.item) c.in_ok-item.ensures.value none (subst (λ z. IsFaultWith c.args.pos NotASet z f) c.in_ok-out.ensures.sample h)) c.fault_under.ensures
 
-pub check_depth-requires-clause-levels : goal.check_depth-requires-clause-levels
-check_depth-requires-clause-levels g c =
+pub check_depth-requires : goal.check_depth-requires
+check_depth-requires g c =
     let k = c.args.context in let taken = c.in_ok-out.out in let T = c.in_ok-out.ensures in let item = term_tree c.in_ok-item.item in
     let set = term_tree c.in-Some-extended.set in
     let more = subst (IsExtended (term_tree taken.term) item) c.in-Some-extended.is c.in_ok-extended.ensures in
-    subst (λ n. Fits n set) (sym T.size) (set_fits k c.args.name.now c.in-Some.index (held_of taken) c.in-Some.ensures.found T.slot item set more (omega arith) c.in_ok-item.ensures.levels)
-
-pub check_depth-requires-clause-operators : goal.check_depth-requires-clause-operators
-check_depth-requires-clause-operators g c =
     let x = c.args.name.now in let e = tree c.args.e.now in let k = c.args.context in let o = g.T.Structure.ordered in
     let taken = c.in_ok-out.out in let item = term_tree c.in_ok-item.item in
-    let more = subst (IsExtended (term_tree taken.term) item) c.in-Some-extended.is c.in_ok-extended.ensures in
-    set_admits k x c.in-Some.index (held_of taken) c.in-Some.ensures.found c.in_ok-out.ensures.slot item (term_tree c.in-Some-extended.set) more o c.requires.operators
-    (c.in_ok-item.ensures.operators o (add_set c.args.pos.offset x e o k c.requires))
+    record {
+      over = record {
+        levels = subst (λ n. Fits n set) (sym T.size) (set_fits k c.args.name.now c.in-Some.index (held_of taken) c.in-Some.ensures.found T.slot item set more (omega arith) c.in_ok-item.ensures.levels);
+        operators =
+            set_admits k x c.in-Some.index (held_of taken) c.in-Some.ensures.found c.in_ok-out.ensures.slot item (term_tree c.in-Some-extended.set) more o c.requires.operators
+            (c.in_ok-item.ensures.operators o (add_set c.args.pos.offset x e o k c.requires));
+      };
+    }
 
 pub returns-in_err-check_depth-clause-fault : goal.returns-in_err-check_depth-clause-fault
 returns-in_err-check_depth-clause-fault g c =

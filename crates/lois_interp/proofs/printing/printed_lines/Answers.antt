@@ -9,15 +9,13 @@ use Rattle.lois_deciders.proofs.OnlyAsked.{only_asked_then}
 use Rattle.lois_interp.specs.Printed.{IsPrintedLine}
 use Rattle.lois_interp.proofs.printing.printed_lines.Goals as goal
 
-pub printed_line-requires-clause-levels : goal.printed_line-requires-clause-levels
-printed_line-requires-clause-levels g c =
+pub printed_line-requires-clause-over : goal.printed_line-requires-clause-over
+printed_line-requires-clause-over g c =
     let k = c.args.context.now in
-    item_has line_of (λ l. Fits k.size l.term) c.as_slice-line-items.result.now k.lines c.loop-line.line-index c.line-item.result (c.as_slice-line-items.ensures.items ∙ c.get.ensures.same) c.loop-line-test.true c.line-item.is k.fitting
-
-pub printed_line-requires-clause-operators : goal.printed_line-requires-clause-operators
-printed_line-requires-clause-operators g c =
-    let k = c.args.context.now in
-    item_has line_of (λ l. AdmitsTerm g.T.Structure.ordered l.term) c.as_slice-line-items.result.now k.lines c.loop-line.line-index c.line-item.result (c.as_slice-line-items.ensures.items ∙ c.get.ensures.same) c.loop-line-test.true c.line-item.is c.requires.lines
+    record {
+      levels = item_has line_of (λ l. Fits k.size l.term) c.as_slice-line-items.result.now k.lines c.loop-line.line-index c.line-item.result (c.as_slice-line-items.ensures.items ∙ c.get.ensures.same) c.loop-line-test.true c.line-item.is k.fitting;
+      operators = item_has line_of (λ l. AdmitsTerm g.T.Structure.ordered l.term) c.as_slice-line-items.result.now k.lines c.loop-line.line-index c.line-item.result (c.as_slice-line-items.ensures.items ∙ c.get.ensures.same) c.loop-line-test.true c.line-item.is c.requires.lines;
+    }
 
 pub loop-line-preserved : goal.loop-line-preserved
 loop-line-preserved g c =

@@ -9,30 +9,26 @@ use Rattle.lois_deciders.proofs.OnlyAsked.{only_asked_then}
 use Rattle.lois_interp.specs.Retold.{IsRetoldLine}
 use Rattle.lois_interp.proofs.retelling.tells.Goals as goal
 
-pub tells_line-requires-clause-levels : goal.tells_line-requires-clause-levels
-tells_line-requires-clause-levels g c =
+pub tells_line-requires-clause-over : goal.tells_line-requires-clause-over
+tells_line-requires-clause-over g c =
     let k = c.args.own.now in
-    item_has line_of (λ l. Fits k.size l.term) c.as_slice-lines.result.now k.lines c.loop-i.i c.index-lines-i.result (c.as_slice-lines.ensures.items ∙ c.get.ensures.same) c.loop-i-test.true c.index-lines-i.is k.fitting
+    record {
+      levels = item_has line_of (λ l. Fits k.size l.term) c.as_slice-lines.result.now k.lines c.loop-i.i c.index-lines-i.result (c.as_slice-lines.ensures.items ∙ c.get.ensures.same) c.loop-i-test.true c.index-lines-i.is k.fitting;
+      operators = item_has line_of (λ l. AdmitsTerm g.T.Structure.ordered l.term) c.as_slice-lines.result.now k.lines c.loop-i.i c.index-lines-i.result (c.as_slice-lines.ensures.items ∙ c.get.ensures.same) c.loop-i-test.true c.index-lines-i.is c.requires.own.lines;
+    }
 
-pub tells_line-requires-clause-operators : goal.tells_line-requires-clause-operators
-tells_line-requires-clause-operators g c =
-    let k = c.args.own.now in
-    item_has line_of (λ l. AdmitsTerm g.T.Structure.ordered l.term) c.as_slice-lines.result.now k.lines c.loop-i.i c.index-lines-i.result (c.as_slice-lines.ensures.items ∙ c.get.ensures.same) c.loop-i-test.true c.index-lines-i.is c.requires.own.lines
-
-pub tells_line-requires-clause-other_levels : goal.tells_line-requires-clause-other_levels
-tells_line-requires-clause-other_levels g c =
+pub tells_line-requires-clause-other : goal.tells_line-requires-clause-other
+tells_line-requires-clause-other g c =
     let k = c.args.own.now in
     let d = c.args.other.now in
     let size : d.size ≡ k.size = omega (arith, c.if-other-own.false) in
     let below : c.loop-i.i < length c.as_slice-others.result.now = omega (arith, c.loop-i-test.true, c.if-others-lines.false) in
-    subst (λ n. Fits n (line_of c.index-others-i.result).term) size
-    (item_has line_of (λ l. Fits d.size l.term) c.as_slice-others.result.now d.lines c.loop-i.i c.index-others-i.result (c.as_slice-others.ensures.items ∙ c.get-2.ensures.same) below c.index-others-i.is d.fitting)
-
-pub tells_line-requires-clause-other_operators : goal.tells_line-requires-clause-other_operators
-tells_line-requires-clause-other_operators g c =
-    let d = c.args.other.now in
-    let below : c.loop-i.i < length c.as_slice-others.result.now = omega (arith, c.loop-i-test.true, c.if-others-lines.false) in
-    item_has line_of (λ l. AdmitsTerm g.T.Structure.ordered l.term) c.as_slice-others.result.now d.lines c.loop-i.i c.index-others-i.result (c.as_slice-others.ensures.items ∙ c.get-2.ensures.same) below c.index-others-i.is c.requires.other.lines
+    record {
+      levels =
+          subst (λ n. Fits n (line_of c.index-others-i.result).term) size
+          (item_has line_of (λ l. Fits d.size l.term) c.as_slice-others.result.now d.lines c.loop-i.i c.index-others-i.result (c.as_slice-others.ensures.items ∙ c.get-2.ensures.same) below c.index-others-i.is d.fitting);
+      operators = item_has line_of (λ l. AdmitsTerm g.T.Structure.ordered l.term) c.as_slice-others.result.now d.lines c.loop-i.i c.index-others-i.result (c.as_slice-others.ensures.items ∙ c.get-2.ensures.same) below c.index-others-i.is c.requires.other.lines;
+    }
 
 pub loop-i-preserved : goal.loop-i-preserved
 loop-i-preserved g c =

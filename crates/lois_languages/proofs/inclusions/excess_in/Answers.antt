@@ -11,21 +11,19 @@ use Rattle.lois_languages.proofs.LineFaults.{automaton_term}
 use Rattle.lois_languages.proofs.InclusionCases.{excess_word, bounded_excess}
 use Rattle.lois_languages.proofs.inclusions.excess_in.Goals as goal
 
-pub shortest_difference-requires-clause-levels : goal.shortest_difference-requires-clause-levels
-shortest_difference-requires-clause-levels g c =
-    (found_sound g.T.Structure.ordered c.args.size c.args.first.now (case_of c.args.case.now) (line_of c.in-Some.one.now) c.requires.sound c.in-Some.ensures.line).levels
+pub shortest_difference-requires-clause-over : goal.shortest_difference-requires-clause-over
+shortest_difference-requires-clause-over g c =
+    record {
+      levels = (found_sound g.T.Structure.ordered c.args.size c.args.first.now (case_of c.args.case.now) (line_of c.in-Some.one.now) c.requires.sound c.in-Some.ensures.line).levels;
+      operators = (found_sound g.T.Structure.ordered c.args.size c.args.first.now (case_of c.args.case.now) (line_of c.in-Some.one.now) c.requires.sound c.in-Some.ensures.line).operators;
+    }
 
-pub shortest_difference-requires-clause-operators : goal.shortest_difference-requires-clause-operators
-shortest_difference-requires-clause-operators g c =
-    (found_sound g.T.Structure.ordered c.args.size c.args.first.now (case_of c.args.case.now) (line_of c.in-Some.one.now) c.requires.sound c.in-Some.ensures.line).operators
-
-pub shortest_difference-requires-clause-other_levels : goal.shortest_difference-requires-clause-other_levels
-shortest_difference-requires-clause-other_levels g c =
-    (found_sound g.T.Structure.ordered c.args.size c.args.second.now (case_of c.args.case.now) (line_of c.in-Some-last_named.other.now) c.requires.sound c.in-Some-last_named.ensures.line).levels
-
-pub shortest_difference-requires-clause-other_operators : goal.shortest_difference-requires-clause-other_operators
-shortest_difference-requires-clause-other_operators g c =
-    (found_sound g.T.Structure.ordered c.args.size c.args.second.now (case_of c.args.case.now) (line_of c.in-Some-last_named.other.now) c.requires.sound c.in-Some-last_named.ensures.line).operators
+pub shortest_difference-requires-clause-other : goal.shortest_difference-requires-clause-other
+shortest_difference-requires-clause-other g c =
+    record {
+      levels = (found_sound g.T.Structure.ordered c.args.size c.args.second.now (case_of c.args.case.now) (line_of c.in-Some-last_named.other.now) c.requires.sound c.in-Some-last_named.ensures.line).levels;
+      operators = (found_sound g.T.Structure.ordered c.args.size c.args.second.now (case_of c.args.case.now) (line_of c.in-Some-last_named.other.now) c.requires.sound c.in-Some-last_named.ensures.line).operators;
+    }
 
 pub shortest_difference-requires-clause-automaton : goal.shortest_difference-requires-clause-automaton
 shortest_difference-requires-clause-automaton g c =

@@ -11,21 +11,19 @@ pub returns-in_default-last_named-clause-reason : goal.returns-in_default-last_n
 returns-in_default-last_named-clause-reason g c =
     inr (c.in_ok-name-2.ensures, found_line c.args.first.now (case_of c.args.case.now) (line_of c.in-Some.one.now) c.in-Some.ensures.line, sym c.in_default-last_named.ensures.line)
 
-pub is_automaton-requires-clause-levels : goal.is_automaton-requires-clause-levels
-is_automaton-requires-clause-levels g c =
-    (found_sound g.T.Structure.ordered c.args.size c.args.first.now (case_of c.args.case.now) (line_of c.in-Some.one.now) c.requires c.in-Some.ensures.line).levels
+pub is_automaton-requires-clause-over : goal.is_automaton-requires-clause-over
+is_automaton-requires-clause-over g c =
+    record {
+      levels = (found_sound g.T.Structure.ordered c.args.size c.args.first.now (case_of c.args.case.now) (line_of c.in-Some.one.now) c.requires c.in-Some.ensures.line).levels;
+      operators = (found_sound g.T.Structure.ordered c.args.size c.args.first.now (case_of c.args.case.now) (line_of c.in-Some.one.now) c.requires c.in-Some.ensures.line).operators;
+    }
 
-pub is_automaton-requires-clause-operators : goal.is_automaton-requires-clause-operators
-is_automaton-requires-clause-operators g c =
-    (found_sound g.T.Structure.ordered c.args.size c.args.first.now (case_of c.args.case.now) (line_of c.in-Some.one.now) c.requires c.in-Some.ensures.line).operators
-
-pub is_deterministic-requires-clause-levels : goal.is_deterministic-requires-clause-levels
-is_deterministic-requires-clause-levels g c =
-    (found_sound g.T.Structure.ordered c.args.size c.args.second.now (case_of c.args.case.now) (line_of c.in-Some-last_named.other.now) c.requires c.in-Some-last_named.ensures.line).levels
-
-pub is_deterministic-requires-clause-operators : goal.is_deterministic-requires-clause-operators
-is_deterministic-requires-clause-operators g c =
-    (found_sound g.T.Structure.ordered c.args.size c.args.second.now (case_of c.args.case.now) (line_of c.in-Some-last_named.other.now) c.requires c.in-Some-last_named.ensures.line).operators
+pub is_deterministic-requires-clause-over : goal.is_deterministic-requires-clause-over
+is_deterministic-requires-clause-over g c =
+    record {
+      levels = (found_sound g.T.Structure.ordered c.args.size c.args.second.now (case_of c.args.case.now) (line_of c.in-Some-last_named.other.now) c.requires c.in-Some-last_named.ensures.line).levels;
+      operators = (found_sound g.T.Structure.ordered c.args.size c.args.second.now (case_of c.args.case.now) (line_of c.in-Some-last_named.other.now) c.requires c.in-Some-last_named.ensures.line).operators;
+    }
 
 pub returns-then-not-branch-clause-reason : goal.returns-then-not-branch-clause-reason
 returns-then-not-branch-clause-reason g c =

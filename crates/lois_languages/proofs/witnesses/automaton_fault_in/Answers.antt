@@ -6,13 +6,12 @@ use Rattle.lois_equal.proofs.CaseLines.{found_term, found_sound}
 use Rattle.lois_languages.specs.Faults.{DecidesAutomaton}
 use Rattle.lois_languages.proofs.witnesses.automaton_fault_in.Goals as goal
 
-pub is_automaton-requires-clause-levels : goal.is_automaton-requires-clause-levels
-is_automaton-requires-clause-levels g c =
-    (found_sound g.T.Structure.ordered c.args.size c.args.name.now (case_of c.args.case.now) (line_of c.in-Some.line.now) c.requires c.in-Some.ensures.line).levels
-
-pub is_automaton-requires-clause-operators : goal.is_automaton-requires-clause-operators
-is_automaton-requires-clause-operators g c =
-    (found_sound g.T.Structure.ordered c.args.size c.args.name.now (case_of c.args.case.now) (line_of c.in-Some.line.now) c.requires c.in-Some.ensures.line).operators
+pub is_automaton-requires-clause-over : goal.is_automaton-requires-clause-over
+is_automaton-requires-clause-over g c =
+    record {
+      levels = (found_sound g.T.Structure.ordered c.args.size c.args.name.now (case_of c.args.case.now) (line_of c.in-Some.line.now) c.requires c.in-Some.ensures.line).levels;
+      operators = (found_sound g.T.Structure.ordered c.args.size c.args.name.now (case_of c.args.case.now) (line_of c.in-Some.line.now) c.requires c.in-Some.ensures.line).operators;
+    }
 
 pub returns-then-not-branch-clause-reason : goal.returns-then-not-branch-clause-reason
 returns-then-not-branch-clause-reason g c =

@@ -19,13 +19,12 @@ use Rattle.lois_languages.proofs.LineFaults.{automaton_term}
 use Rattle.lois_languages.proofs.WordCases.{bounded_letters, shortest_split}
 use Rattle.lois_languages.proofs.witnesses.word_in.Goals as goal
 
-pub shortest_word-requires-clause-levels : goal.shortest_word-requires-clause-levels
-shortest_word-requires-clause-levels g c =
-    (found_sound g.T.Structure.ordered c.args.size c.args.name.now (case_of c.args.case.now) (line_of c.in-Some.line.now) c.requires.sound c.in-Some.ensures.line).levels
-
-pub shortest_word-requires-clause-operators : goal.shortest_word-requires-clause-operators
-shortest_word-requires-clause-operators g c =
-    (found_sound g.T.Structure.ordered c.args.size c.args.name.now (case_of c.args.case.now) (line_of c.in-Some.line.now) c.requires.sound c.in-Some.ensures.line).operators
+pub shortest_word-requires-clause-over : goal.shortest_word-requires-clause-over
+shortest_word-requires-clause-over g c =
+    record {
+      levels = (found_sound g.T.Structure.ordered c.args.size c.args.name.now (case_of c.args.case.now) (line_of c.in-Some.line.now) c.requires.sound c.in-Some.ensures.line).levels;
+      operators = (found_sound g.T.Structure.ordered c.args.size c.args.name.now (case_of c.args.case.now) (line_of c.in-Some.line.now) c.requires.sound c.in-Some.ensures.line).operators;
+    }
 
 pub shortest_word-requires-clause-automaton : goal.shortest_word-requires-clause-automaton
 shortest_word-requires-clause-automaton g c =

@@ -5,15 +5,13 @@ use Rattle.lois_relate.proofs.Parts.{comps_from, comps_are, no_comps_left, is_co
 use Rattle.lois_minimise.proofs.ClassTerms.{classes_begin, classes_more, classes_end}
 use Rattle.lois_minimise.proofs.classing.with_classes.Goals as goal
 
-pub add_class-requires-clause-levels : goal.add_class-requires-clause-levels
-add_class-requires-clause-levels g c =
+pub add_class-requires-clause-over : goal.add_class-requires-clause-over
+add_class-requires-clause-over g c =
     let k = is_comp_of c.as_slice-comp-items.result.now c.args.nodes.now c.loop-comp.comp-index c.comp-item.result c.as_slice-comp-items.ensures c.loop-comp-test.true c.comp-item.is in
-    k.fits c.args.size c.requires.nodes
-
-pub add_class-requires-clause-operators : goal.add_class-requires-clause-operators
-add_class-requires-clause-operators g c =
-    let k = is_comp_of c.as_slice-comp-items.result.now c.args.nodes.now c.loop-comp.comp-index c.comp-item.result c.as_slice-comp-items.ensures c.loop-comp-test.true c.comp-item.is in
-    k.admits g.T.Structure.ordered c.requires.nodes_operators
+    record {
+      levels = k.fits c.args.size c.requires.nodes.levels;
+      operators = k.admits g.T.Structure.ordered c.requires.nodes.operators;
+    }
 
 pub loop-comp-init : goal.loop-comp-init
 loop-comp-init g c = classes_begin c.args.size (comps_of c.args.nodes.now) (coll (comps_of c.args.alike.now)) (comps_from c.as_slice-comp-items.result.now 0) (comps_of c.new-classes.result) (ap comps_of c.as_slice-comp-items.ensures) (ap comps_of c.new-classes.ensures)
@@ -38,7 +36,7 @@ returns-clause-classed g c =
     classes_end c.args.size (comps_of c.args.nodes.now) (coll (comps_of c.args.alike.now)) (comps_from items i) (comps_of c.loop-comp.classes) (no_comps_left items i (omega (arith, c.loop-comp-test.false))) c.loop-comp.invariant
 
 pub returns-clause-levels : goal.returns-clause-levels
-returns-clause-levels g c = c.loop-comp.invariant.0.levels c.requires.nodes tt
+returns-clause-levels g c = c.loop-comp.invariant.0.levels c.requires.nodes.levels tt
 
 pub returns-clause-operators : goal.returns-clause-operators
 returns-clause-operators g c = λ o a b. c.loop-comp.invariant.0.operators o (a, b) tt

@@ -16,21 +16,16 @@ use Rattle.lois_relate.proofs.Places.{places_are, of_shape, as_many_shapes}
 use Rattle.lois_minimise.proofs.Ties.{found_more, found_all, found_everywhere}
 use Rattle.lois_minimise.proofs.indexed.indexed_membership.Goals as goal
 
-pub comp_membership-requires-clause-levels : goal.comp_membership-requires-clause-levels
-comp_membership-requires-clause-levels g c =
+pub comp_membership-requires-clause-over : goal.comp_membership-requires-clause-over
+comp_membership-requires-clause-over g c =
     let items = c.as_slice-comps.result.now in
     let i = get_or c.positions-place-items.result.now c.loop-place.place-index 0 in
     let shapes = c.requires.shapes ∙ ap (map item_shape) (sym c.as_slice-comps.ensures) in
     let inside : i < length items = omega (arith, c.positions-place-items.ensures.within c.loop-place.place-index 0 c.loop-place-test.true, as_many_shapes items c.args.index.now shapes) in
-    (is_comp_of items c.args.set.now i c.index-comps-place.result c.as_slice-comps.ensures inside c.index-comps-place.is).fits c.args.size c.requires.set_levels
-
-pub comp_membership-requires-clause-operators : goal.comp_membership-requires-clause-operators
-comp_membership-requires-clause-operators g c =
-    let items = c.as_slice-comps.result.now in
-    let i = get_or c.positions-place-items.result.now c.loop-place.place-index 0 in
-    let shapes = c.requires.shapes ∙ ap (map item_shape) (sym c.as_slice-comps.ensures) in
-    let inside : i < length items = omega (arith, c.positions-place-items.ensures.within c.loop-place.place-index 0 c.loop-place-test.true, as_many_shapes items c.args.index.now shapes) in
-    (is_comp_of items c.args.set.now i c.index-comps-place.result c.as_slice-comps.ensures inside c.index-comps-place.is).admits g.T.Structure.ordered c.requires.set_operators
+    record {
+      levels = (is_comp_of items c.args.set.now i c.index-comps-place.result c.as_slice-comps.ensures inside c.index-comps-place.is).fits c.args.size c.requires.set.levels;
+      operators = (is_comp_of items c.args.set.now i c.index-comps-place.result c.as_slice-comps.ensures inside c.index-comps-place.is).admits g.T.Structure.ordered c.requires.set.operators;
+    }
 
 pub loop-place-preserved : goal.loop-place-preserved
 loop-place-preserved g c =

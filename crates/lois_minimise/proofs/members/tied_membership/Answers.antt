@@ -31,10 +31,10 @@ returns-clause-truth g c =
     let are : AreNames n m k ties names = subst (AreNames n m k ties) (sym c.as_slice-names.ensures.value) c.in_ok-owned.ensures in
     let tied : c.in_ok-tied.tied ≡ map (tie_lit names) ties ∷ [] = c.in_ok-tied.ensures.cubes ∙ ap (λ z. z ∷ []) c.in_ok-cube.ensures in
     let truth : (x : List Atom) → holds x met ≡ (holds x (named_constraint names guard) && holds x (map (tie_lit names) ties ∷ [])) = λ x. subst (λ z. holds x met ≡ (holds x z && holds x (map (tie_lit names) ties ∷ []))) c.in_ok-guard.ensures (subst (λ z. holds x met ≡ (holds x c.in_ok-guard.guard && holds x z)) tied (c.in_ok-met.ensures.truth x)) in
-    IfOk-weaker c.without_levels.result (HoldsForSomeMore (n + m) k met) _ (λ r some. holds_where_tied n m k ties names are c.requires.ties guard met r c.requires.levels.1 truth some) c.without_levels.ensures.truth
+    IfOk-weaker c.without_levels.result (HoldsForSomeMore (n + m) k met) _ (λ r some. holds_where_tied n m k ties names are c.requires.ties guard met r c.requires.over.levels.1 truth some) c.without_levels.ensures.truth
 
-pub without_levels-requires-clause-levels : goal.without_levels-requires-clause-levels
-without_levels-requires-clause-levels g c =
+pub without_levels-requires-clause-over : goal.without_levels-requires-clause-over
+without_levels-requires-clause-over g c =
     let n = c.args.size in
     let m = c.args.by in
     let k = c.args.comp.now.binders in
@@ -44,15 +44,14 @@ without_levels-requires-clause-levels g c =
     let guard = c.args.comp.now.guard in
     let are : AreNames n m k ties names = subst (AreNames n m k ties) (sym c.as_slice-names.ensures.value) c.in_ok-owned.ensures in
     let below = names_below n m k ties names are c.requires.ties in
-    c.in_ok-met.ensures.fits all
-    (subst (ConstraintFits all) (sym c.in_ok-guard.ensures) (named_fits all names below guard (subst (λ z. ConstraintFits z guard) (sym are.count) c.requires.levels.1)))
-    (subst (ConstraintFits all) (sym c.in_ok-tied.ensures.cubes) (All-cons (CubeFits all) c.in_ok-cube.cube [] (subst (CubeFits all) (sym c.in_ok-cube.ensures) (tied_fits all names ties below (ties_below n m k ties names are c.requires.ties))) (All-nil (CubeFits all))))
-
-pub without_levels-requires-clause-operators : goal.without_levels-requires-clause-operators
-without_levels-requires-clause-operators g c =
     let o = g.T.Structure.ordered in
-    let names = c.as_slice-names.result.now in
-    let ties = c.args.ties.now in
-    c.in_ok-met.ensures.operators o
-    (subst (AdmitsConstraint o) (sym c.in_ok-guard.ensures) (named_admits o names c.args.comp.now.guard c.requires.operators.0))
-    (subst (AdmitsConstraint o) (sym c.in_ok-tied.ensures.cubes) (All-cons (AdmitsCube o) c.in_ok-cube.cube [] (subst (AdmitsCube o) (sym c.in_ok-cube.ensures) (tied_admits o names ties)) (All-nil (AdmitsCube o))))
+    record {
+      levels =
+          c.in_ok-met.ensures.fits all
+          (subst (ConstraintFits all) (sym c.in_ok-guard.ensures) (named_fits all names below guard (subst (λ z. ConstraintFits z guard) (sym are.count) c.requires.over.levels.1)))
+          (subst (ConstraintFits all) (sym c.in_ok-tied.ensures.cubes) (All-cons (CubeFits all) c.in_ok-cube.cube [] (subst (CubeFits all) (sym c.in_ok-cube.ensures) (tied_fits all names ties below (ties_below n m k ties names are c.requires.ties))) (All-nil (CubeFits all))));
+      operators =
+          c.in_ok-met.ensures.operators o
+          (subst (AdmitsConstraint o) (sym c.in_ok-guard.ensures) (named_admits o names c.args.comp.now.guard c.requires.over.operators.0))
+          (subst (AdmitsConstraint o) (sym c.in_ok-tied.ensures.cubes) (All-cons (AdmitsCube o) c.in_ok-cube.cube [] (subst (AdmitsCube o) (sym c.in_ok-cube.ensures) (tied_admits o names ties)) (All-nil (AdmitsCube o))));
+    }

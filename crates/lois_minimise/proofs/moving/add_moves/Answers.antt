@@ -9,12 +9,10 @@ use Rattle.lois_minimise.proofs.moving.add_moves.Goals as goal
 pub add_move_back-requires-clause-second : goal.add_move_back-requires-clause-second
 add_move_back-requires-clause-second g c =
     let q = is_comp_of c.as_slice-second-items.result.now c.args.others.now c.loop-second.second-index c.second-item.result c.as_slice-second-items.ensures c.loop-second-test.true c.second-item.is in
-    q.fits c.args.size c.requires.second
-
-pub add_move_back-requires-clause-second_operators : goal.add_move_back-requires-clause-second_operators
-add_move_back-requires-clause-second_operators g c =
-    let q = is_comp_of c.as_slice-second-items.result.now c.args.others.now c.loop-second.second-index c.second-item.result c.as_slice-second-items.ensures c.loop-second-test.true c.second-item.is in
-    q.admits g.T.Structure.ordered c.requires.second_operators
+    record {
+      levels = q.fits c.args.size c.requires.second.levels;
+      operators = q.admits g.T.Structure.ordered c.requires.second.operators;
+    }
 
 pub loop-second-init : goal.loop-second-init
 loop-second-init g c = seconds_begin IsMoveBack c.args.size (comp_of c.args.first.now) c.args.others.now (comps_of c.args.moves.now) c.as_slice-second-items.result.now c.as_slice-second-items.ensures

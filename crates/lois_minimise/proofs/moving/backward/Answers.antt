@@ -10,12 +10,10 @@ use Rattle.lois_minimise.proofs.moving.backward.Goals as goal
 pub add_moves-requires-clause-first : goal.add_moves-requires-clause-first
 add_moves-requires-clause-first g c =
     let k = is_comp_of c.as_slice-first-items.result.now c.args.steps.now c.loop-first.first-index c.first-item.result c.as_slice-first-items.ensures c.loop-first-test.true c.first-item.is in
-    k.fits c.args.size c.requires.steps
-
-pub add_moves-requires-clause-first_operators : goal.add_moves-requires-clause-first_operators
-add_moves-requires-clause-first_operators g c =
-    let k = is_comp_of c.as_slice-first-items.result.now c.args.steps.now c.loop-first.first-index c.first-item.result c.as_slice-first-items.ensures c.loop-first-test.true c.first-item.is in
-    k.admits g.T.Structure.ordered c.requires.operators
+    record {
+      levels = k.fits c.args.size c.requires.steps.levels;
+      operators = k.admits g.T.Structure.ordered c.requires.steps.operators;
+    }
 
 pub loop-first-init : goal.loop-first-init
 loop-first-init g c = firsts_begin IsMoveBack c.args.size c.args.steps.now c.args.steps.now c.as_slice-first-items.result.now c.new-moves.result c.as_slice-first-items.ensures c.new-moves.ensures
@@ -32,7 +30,7 @@ returns-clause-moves g c =
     are_backward n (comps_of c.args.steps.now) made (added_members n _ _ _ _ made added)
 
 pub returns-clause-levels : goal.returns-clause-levels
-returns-clause-levels g c = c.loop-first.invariant.levels (c.requires.steps, c.requires.steps) tt
+returns-clause-levels g c = c.loop-first.invariant.levels (c.requires.steps.levels, c.requires.steps.levels) tt
 
 pub returns-clause-operators : goal.returns-clause-operators
 returns-clause-operators g c = λ o a. c.loop-first.invariant.operators o (a, a) tt

@@ -11,15 +11,13 @@ use Rattle.lois_minimise.proofs.Covering.{covers_begin, covers_more, covers_end}
 use Rattle.lois_minimise.proofs.Partitioned.{are_shared, still_shared}
 use Rattle.lois_minimise.proofs.partitioning.partition_by.Goals as goal
 
-pub partition_comp-requires-clause-levels : goal.partition_comp-requires-clause-levels
-partition_comp-requires-clause-levels g c =
+pub partition_comp-requires-clause-over : goal.partition_comp-requires-clause-over
+partition_comp-requires-clause-over g c =
     let k = is_comp_of c.as_slice-one-items.result.now c.args.items.now c.loop-one.one-index c.one-item.result c.as_slice-one-items.ensures c.loop-one-test.true c.one-item.is in
-    k.fits c.args.size c.requires.levels
-
-pub partition_comp-requires-clause-operators : goal.partition_comp-requires-clause-operators
-partition_comp-requires-clause-operators g c =
-    let k = is_comp_of c.as_slice-one-items.result.now c.args.items.now c.loop-one.one-index c.one-item.result c.as_slice-one-items.ensures c.loop-one-test.true c.one-item.is in
-    k.admits g.T.Structure.ordered c.requires.operators
+    record {
+      levels = k.fits c.args.size c.requires.over.levels;
+      operators = k.admits g.T.Structure.ordered c.requires.over.operators;
+    }
 
 pub loop-one-init : goal.loop-one-init
 loop-one-init g c =
@@ -60,7 +58,7 @@ returns-clause-shared g c =
     (covers_end n (comps_of c.args.items.now) (comps_from items i) (λ d w. IsAmong inside d w ⊎ IsAmong outside d w) (no_comps_left items i (omega (arith, c.loop-one-test.false))) before.2)
 
 pub returns-clause-levels : goal.returns-clause-levels
-returns-clause-levels g c = (c.loop-one.invariant.0.levels c.requires.levels tt, c.loop-one.invariant.1.levels c.requires.levels tt)
+returns-clause-levels g c = (c.loop-one.invariant.0.levels c.requires.over.levels tt, c.loop-one.invariant.1.levels c.requires.over.levels tt)
 
 pub returns-clause-operators : goal.returns-clause-operators
 returns-clause-operators g c = λ o a b. (c.loop-one.invariant.0.operators o (a, b) tt, c.loop-one.invariant.1.operators o (a, b) tt)

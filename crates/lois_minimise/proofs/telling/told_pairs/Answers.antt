@@ -10,18 +10,16 @@ use Rattle.lois_minimise.proofs.Matching.{MatchesOnes, ones_met_begin, ones_met_
 use Rattle.lois_minimise.proofs.OfShape.{are_told}
 use Rattle.lois_minimise.proofs.telling.told_pairs.Goals as goal
 
-pub add_told-requires-clause-levels : goal.add_told-requires-clause-levels
-add_told-requires-clause-levels g c =
+pub add_told-requires-clause-over : goal.add_told-requires-clause-over
+add_told-requires-clause-over g c =
     let k = is_comp_of c.as_slice-comp-items.result.now c.args.moves.now c.loop-comp.comp-index c.comp-item.result c.as_slice-comp-items.ensures c.loop-comp-test.true c.comp-item.is in
-    k.fits c.args.size c.requires.levels
+    record {
+      levels = k.fits c.args.size c.requires.over.levels;
+      operators = k.admits g.T.Structure.ordered c.requires.over.operators;
+    }
 
 pub add_told-requires-clause-shapes : goal.add_told-requires-clause-shapes
 add_told-requires-clause-shapes g c = c.in_ok-index.ensures ∙ ap (map item_shape) c.as_slice.ensures
-
-pub add_told-requires-clause-operators : goal.add_told-requires-clause-operators
-add_told-requires-clause-operators g c =
-    let k = is_comp_of c.as_slice-comp-items.result.now c.args.moves.now c.loop-comp.comp-index c.comp-item.result c.as_slice-comp-items.ensures c.loop-comp-test.true c.comp-item.is in
-    k.admits g.T.Structure.ordered c.requires.operators
 
 pub loop-comp-init : goal.loop-comp-init
 loop-comp-init g c =
@@ -47,7 +45,7 @@ returns-clause-members g c =
     are_told n c.args.moves.now made held left all
 
 pub returns-clause-levels : goal.returns-clause-levels
-returns-clause-levels g c = c.loop-comp.invariant.levels c.requires.levels tt
+returns-clause-levels g c = c.loop-comp.invariant.levels c.requires.over.levels tt
 
 pub returns-clause-operators : goal.returns-clause-operators
 returns-clause-operators g c = λ o a b. c.loop-comp.invariant.operators o (a, b) tt

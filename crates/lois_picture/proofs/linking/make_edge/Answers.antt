@@ -17,18 +17,15 @@ unreachable-requires g c =
     let parts = move_term t (sampled c.args.orbit.now.sample) leads.0 leads.1 leads.2 in
     c.in_default.ensures.none parts.0 parts.1 parts.2
 
-pub find_node-requires-clause-levels : goal.find_node-requires-clause-levels
-find_node-requires-clause-levels g c =
+pub find_node-requires-clause-over : goal.find_node-requires-clause-over
+find_node-requires-clause-over g c =
     let t = tree c.args.orbit.now.item in
     let ends = c.in-Some.ends in
     let n = length c.as_slice-sample.result.now in
-    (ends_fit t (tree ends.source.now) (tree ends.target.now) c.in-Some.ensures.some n (subst (λ s. Fits (length s) t) (sym c.as_slice-sample.ensures) c.requires.usable.levels)).0
-
-pub find_node-requires-clause-operators : goal.find_node-requires-clause-operators
-find_node-requires-clause-operators g c =
-    let t = tree c.args.orbit.now.item in
-    let ends = c.in-Some.ends in
-    (ends_admitted t (tree ends.source.now) (tree ends.target.now) c.in-Some.ensures.some g.T.Structure.ordered c.requires.usable.operators).0
+    record {
+      levels = (ends_fit t (tree ends.source.now) (tree ends.target.now) c.in-Some.ensures.some n (subst (λ s. Fits (length s) t) (sym c.as_slice-sample.ensures) c.requires.usable.levels)).0;
+      operators = (ends_admitted t (tree ends.source.now) (tree ends.target.now) c.in-Some.ensures.some g.T.Structure.ordered c.requires.usable.operators).0;
+    }
 
 pub find_node-requires-clause-listed : goal.find_node-requires-clause-listed
 find_node-requires-clause-listed g c =
@@ -39,18 +36,15 @@ find_node-requires-clause-listed g c =
     subst (λ s. IsInListedOrbit o os (point (tree ends.source.now) (sampled s))) (sym c.as_slice-sample.ensures)
     (ends_listed t (tree ends.source.now) (tree ends.target.now) c.in-Some.ensures.some o c.args.nodes.now c.args.orbit.now.sample c.requires.listed).0
 
-pub find_node-requires-2-clause-levels : goal.find_node-requires-2-clause-levels
-find_node-requires-2-clause-levels g c =
+pub find_node-requires-2-clause-over : goal.find_node-requires-2-clause-over
+find_node-requires-2-clause-over g c =
     let t = tree c.args.orbit.now.item in
     let ends = c.in-Some.ends in
     let n = length c.as_slice-sample.result.now in
-    (ends_fit t (tree ends.source.now) (tree ends.target.now) c.in-Some.ensures.some n (subst (λ s. Fits (length s) t) (sym c.as_slice-sample.ensures) c.requires.usable.levels)).1
-
-pub find_node-requires-2-clause-operators : goal.find_node-requires-2-clause-operators
-find_node-requires-2-clause-operators g c =
-    let t = tree c.args.orbit.now.item in
-    let ends = c.in-Some.ends in
-    (ends_admitted t (tree ends.source.now) (tree ends.target.now) c.in-Some.ensures.some g.T.Structure.ordered c.requires.usable.operators).1
+    record {
+      levels = (ends_fit t (tree ends.source.now) (tree ends.target.now) c.in-Some.ensures.some n (subst (λ s. Fits (length s) t) (sym c.as_slice-sample.ensures) c.requires.usable.levels)).1;
+      operators = (ends_admitted t (tree ends.source.now) (tree ends.target.now) c.in-Some.ensures.some g.T.Structure.ordered c.requires.usable.operators).1;
+    }
 
 pub find_node-requires-2-clause-listed : goal.find_node-requires-2-clause-listed
 find_node-requires-2-clause-listed g c =

@@ -6,22 +6,20 @@ use Rattle.lois_picture.specs.Drawing.{IsGraphOrNone}
 use Rattle.lois_picture.proofs.Cases.{at_case, the_line, line_sound}
 use Rattle.lois_picture.proofs.pictures.draw_case.Goals as goal
 
-pub draw_value-requires-clause-levels : goal.draw_value-requires-clause-levels
-draw_value-requires-clause-levels g c =
+pub draw_value-requires : goal.draw_value-requires
+draw_value-requires g c =
     let r = c.args.results.now in
     let case = case_of c.in-Some.case.now in
     let line = line_of c.in-Some-last_named.line.now in
     let is = at_case r.cases c.args.number case c.requires.holding c.in-Some.ensures.item in
-    (line_sound r.order r.parameters r.cases c.args.number case c.args.name.now line c.requires.parameters c.requires.sound.cases is.case c.in-Some-last_named.ensures.line).levels
-
-pub draw_value-requires-clause-operators : goal.draw_value-requires-clause-operators
-draw_value-requires-clause-operators g c =
-    let r = c.args.results.now in
-    let case = case_of c.in-Some.case.now in
-    let line = line_of c.in-Some-last_named.line.now in
-    let is = at_case r.cases c.args.number case c.requires.holding c.in-Some.ensures.item in
-    subst (λ o. AdmitsTerm o line.term) (sym c.requires.structure)
-    (line_sound r.order r.parameters r.cases c.args.number case c.args.name.now line c.requires.parameters c.requires.sound.cases is.case c.in-Some-last_named.ensures.line).operators
+    record {
+      over = record {
+        levels = (line_sound r.order r.parameters r.cases c.args.number case c.args.name.now line c.requires.parameters c.requires.sound.cases is.case c.in-Some-last_named.ensures.line).levels;
+        operators =
+            subst (λ o. AdmitsTerm o line.term) (sym c.requires.structure)
+            (line_sound r.order r.parameters r.cases c.args.number case c.args.name.now line c.requires.parameters c.requires.sound.cases is.case c.in-Some-last_named.ensures.line).operators;
+      };
+    }
 
 pub returns-in-Some-2-clause-picture : goal.returns-in-Some-2-clause-picture
 returns-in-Some-2-clause-picture g c =

@@ -16,7 +16,7 @@ use Rattle.lois_picture.proofs.relations.ends_in.Goals as goal
 
 pub add_ends-requires : goal.add_ends-requires
 add_ends-requires g c =
-    (is_comp_of c.as_slice-comp-items.result.now c.args.pairs.now c.loop-comp.comp-index c.comp-item.result c.as_slice-comp-items.ensures c.loop-comp-test.true c.comp-item.is).fits 0 c.requires.levels
+    (is_comp_of c.as_slice-comp-items.result.now c.args.pairs.now c.loop-comp.comp-index c.comp-item.result c.as_slice-comp-items.ensures c.loop-comp-test.true c.comp-item.is).fits 0 c.requires.over.levels
 
 pub returns-then-not-branch-clause-ends : goal.returns-then-not-branch-clause-ends
 returns-then-not-branch-clause-ends g c =
@@ -45,6 +45,6 @@ returns-clause-ends g c =
     let items = c.as_slice-comp-items.result.now in
     let i = c.loop-comp.comp-index in
     let whole = take_all i items c.loop-comp-test.false in
-    are_ends g.T.Structure.ordered c.args.pairs.now (comps_of c.loop-comp.ends) c.requires.levels c.requires.operators
+    are_ends g.T.Structure.ordered c.args.pairs.now (comps_of c.loop-comp.ends) c.requires.over.levels c.requires.over.operators
     (subst (All MakesPairs) c.as_slice-comp-items.ensures (All-map MakesPairs comp_of items (subst (All (λ x. MakesPairs (comp_of x))) whole c.loop-comp.invariant.pairs)))
     (ones_end (λ _. IsEndOf) (λ _. Unit {0}) 0 c.args.pairs.now items i (comps_of c.loop-comp.ends) c.loop-comp-test.false c.loop-comp.invariant.sofar)

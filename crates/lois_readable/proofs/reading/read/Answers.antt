@@ -8,10 +8,11 @@ pub read_joined-requires : goal.read_joined-requires
 read_joined-requires g c =
     let parted = c.in_ok-parted.ensures.readable in
     record {
-      levels = parted.kept.levels c.requires.levels;
-      under_levels = c.requires.under_levels;
-      operators = parted.kept.operators g.T.Structure.ordered c.requires.operators;
-      under_operators = c.requires.under_operators;
+      over = record {
+        levels = parted.kept.levels c.requires.over.levels;
+        operators = parted.kept.operators g.T.Structure.ordered c.requires.over.operators;
+      };
+      under = c.requires.under;
       normal = parted.normal;
       guards = parted.guards;
       plain = parted.plain;

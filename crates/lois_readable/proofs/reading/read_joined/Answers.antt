@@ -19,7 +19,7 @@ returns-then-weight-most-clause-readable g c =
 pub strengthen-requires : goal.strengthen-requires
 strengthen-requires g c =
     let joined = kept_where c.args.under.now c.args.size (tree c.args.term) (tree c.in_ok-joined.joined) c.in_ok-joined.ensures in
-    record { levels = joined.levels c.requires.levels; under_levels = c.requires.under_levels }
+    record { levels = joined.levels c.requires.over.levels; under_levels = c.requires.under.levels }
 
 pub simplified-requires : goal.simplified-requires
 simplified-requires g c =
@@ -27,10 +27,11 @@ simplified-requires g c =
     let joined = kept_where c.args.under.now c.args.size (tree c.args.term) (tree c.in_ok-joined.joined) c.in_ok-joined.ensures in
     let strong = c.in_ok-strong.ensures in
     record {
-      levels = strong.levels (joined.levels c.requires.levels);
-      under_levels = c.requires.under_levels;
-      operators = strong.operators o (joined.operators o c.requires.operators);
-      under_operators = c.requires.under_operators;
+      over = record {
+        levels = strong.levels (joined.levels c.requires.over.levels);
+        operators = strong.operators o (joined.operators o c.requires.over.operators);
+      };
+      under = c.requires.under;
     }
 
 pub returns-clause-readable : goal.returns-clause-readable

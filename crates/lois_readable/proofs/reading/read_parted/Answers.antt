@@ -8,14 +8,13 @@ pub returns-then-is_equal-clause-readable : goal.returns-then-is_equal-clause-re
 returns-then-is_equal-clause-readable g c =
     readable_from c.args.under.now c.args.size (tree c.args.term.now) (tree c.in_ok-parted.parted) (tree c.in_ok-readable.readable) c.in_ok-parted.ensures c.in_ok-readable.ensures.readable
 
-pub read_parts-requires-clause-levels : goal.read_parts-requires-clause-levels
-read_parts-requires-clause-levels g c =
-    c.in_ok-readable.ensures.readable.kept.levels (c.in_ok-parted.ensures.levels c.requires.levels)
-
-pub read_parts-requires-clause-operators : goal.read_parts-requires-clause-operators
-read_parts-requires-clause-operators g c =
+pub read_parts-requires-clause-over : goal.read_parts-requires-clause-over
+read_parts-requires-clause-over g c =
     let o = g.T.Structure.ordered in
-    c.in_ok-readable.ensures.readable.kept.operators o (c.in_ok-parted.ensures.operators o c.requires.operators)
+    record {
+      levels = c.in_ok-readable.ensures.readable.kept.levels (c.in_ok-parted.ensures.levels c.requires.over.levels);
+      operators = c.in_ok-readable.ensures.readable.kept.operators o (c.in_ok-parted.ensures.operators o c.requires.over.operators);
+    }
 
 pub returns-clause-readable : goal.returns-clause-readable
 returns-clause-readable g c =

@@ -11,7 +11,7 @@ use Rattle.lois_same.proofs.members.find_item_alone.Goals as goal
 pub ask-requires : goal.ask-requires
 ask-requires g c =
     let n = c.args.size + c.args.comp.now.binders in
-    c.in_ok-left.ensures.fits n (c.in_ok-admitted.ensures.fits n (fits_more c.args.size n c.args.under.now (omega arith) c.requires.under) c.requires.levels.1) c.in_ok-found.ensures.fits
+    c.in_ok-left.ensures.fits n (c.in_ok-admitted.ensures.fits n (fits_more c.args.size n c.args.under.now (omega arith) c.requires.under) c.requires.over.levels.1) c.in_ok-found.ensures.fits
 
 pub returns-in-Some-clause-sample : goal.returns-in-Some-clause-sample
 returns-in-Some-clause-sample g c =

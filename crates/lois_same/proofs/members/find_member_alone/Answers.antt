@@ -12,14 +12,13 @@ use Rattle.lois_same.specs.Members.{CompIsIncluded, IsSampleAlone, IsMemberAlone
 use Rattle.lois_same.proofs.SetMembers.{included_so_far, item_admits, member_alone}
 use Rattle.lois_same.proofs.members.find_member_alone.Goals as goal
 
-pub find_item_alone-requires-clause-levels : goal.find_item_alone-requires-clause-levels
-find_item_alone-requires-clause-levels g c =
-    item_fits c.args.size c.in-Coll.comps c.as_slice-comp-items.result.now c.loop-comp.comp-index c.comp-item.result c.as_slice-comp-items.ensures c.loop-comp-test.true c.comp-item.is (subst (Fits c.args.size) (ap tree c.in-Coll.is) c.requires.levels)
-
-pub find_item_alone-requires-clause-operators : goal.find_item_alone-requires-clause-operators
-find_item_alone-requires-clause-operators g c =
+pub find_item_alone-requires-clause-over : goal.find_item_alone-requires-clause-over
+find_item_alone-requires-clause-over g c =
     let o = g.T.Structure.ordered in
-    item_admits o c.in-Coll.comps c.as_slice-comp-items.result.now c.loop-comp.comp-index c.comp-item.result c.as_slice-comp-items.ensures c.loop-comp-test.true c.comp-item.is (subst (AdmitsTerm o) (ap tree c.in-Coll.is) c.requires.operators)
+    record {
+      levels = item_fits c.args.size c.in-Coll.comps c.as_slice-comp-items.result.now c.loop-comp.comp-index c.comp-item.result c.as_slice-comp-items.ensures c.loop-comp-test.true c.comp-item.is (subst (Fits c.args.size) (ap tree c.in-Coll.is) c.requires.over.levels);
+      operators = item_admits o c.in-Coll.comps c.as_slice-comp-items.result.now c.loop-comp.comp-index c.comp-item.result c.as_slice-comp-items.ensures c.loop-comp-test.true c.comp-item.is (subst (AdmitsTerm o) (ap tree c.in-Coll.is) c.requires.over.operators);
+    }
 
 pub loop-comp-preserved : goal.loop-comp-preserved
 loop-comp-preserved g c =
@@ -42,7 +41,7 @@ returns-in-Some-clause-member g c =
     let t = tree c.args.other.now in
     let x = c.comp-item.result in
     let s = c.in-Some.sample in
-    let fits = item_fits n c.in-Coll.comps c.as_slice-comp-items.result.now c.loop-comp.comp-index x c.as_slice-comp-items.ensures c.loop-comp-test.true c.comp-item.is (subst (Fits n) (ap tree c.in-Coll.is) c.requires.levels) in
+    let fits = item_fits n c.in-Coll.comps c.as_slice-comp-items.result.now c.loop-comp.comp-index x c.as_slice-comp-items.ensures c.loop-comp-test.true c.comp-item.is (subst (Fits n) (ap tree c.in-Coll.is) c.requires.over.levels) in
     let alone = some_is (IsSampleAlone n u (comp_of x) t) c.in_ok-found.found s c.in-Some.is c.in_ok-found.ensures.sample in
     subst (λ i. IsMemberAlone n u (tree c.args.set.now) t (record { sample = s; item = i })) (sym c.in_ok-item.ensures)
     (member_alone n u c.in-Coll.comps c.as_slice-comp-items.result.now c.loop-comp.comp-index x c.args.set.now t s (ap tree c.in-Coll.is) c.as_slice-comp-items.ensures c.loop-comp-test.true c.comp-item.is fits alone)

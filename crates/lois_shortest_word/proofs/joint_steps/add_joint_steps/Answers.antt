@@ -21,8 +21,8 @@ add_steps_from-requires-clause-held g c =
     let is = c.in_ok-here.ensures in
     record {
       set = (more (comp k.binders k.guard (tree k.item)) no_comps, is);
-      levels = subst (Fits c.args.size) (sym is) (c.requires.levels, tt);
-      operators = subst (AdmitsTerm o) (sym is) (c.requires.operators, tt);
+      levels = subst (Fits c.args.size) (sym is) (c.requires.over.levels, tt);
+      operators = subst (AdmitsTerm o) (sym is) (c.requires.over.operators, tt);
     }
 
 pub returns : goal.returns

@@ -8,15 +8,13 @@ use Rattle.lois_shortest_word.specs.Pairs.{IsStepFrom}
 use Rattle.lois_shortest_word.proofs.Each.{each_begin, each_more, each_end}
 use Rattle.lois_shortest_word.proofs.joint_steps.add_steps_from.Goals as goal
 
-pub add_step_from-requires-clause-levels : goal.add_step_from-requires-clause-levels
-add_step_from-requires-clause-levels g c =
+pub add_step_from-requires-clause-over : goal.add_step_from-requires-clause-over
+add_step_from-requires-clause-over g c =
     let k = is_comp_of c.as_slice-comp-items.result.now c.args.steps.now c.loop-comp.comp-index c.comp-item.result c.as_slice-comp-items.ensures c.loop-comp-test.true c.comp-item.is in
-    k.fits c.args.size c.requires.levels
-
-pub add_step_from-requires-clause-operators : goal.add_step_from-requires-clause-operators
-add_step_from-requires-clause-operators g c =
-    let k = is_comp_of c.as_slice-comp-items.result.now c.args.steps.now c.loop-comp.comp-index c.comp-item.result c.as_slice-comp-items.ensures c.loop-comp-test.true c.comp-item.is in
-    k.admits g.T.Structure.ordered c.requires.operators
+    record {
+      levels = k.fits c.args.size c.requires.over.levels;
+      operators = k.admits g.T.Structure.ordered c.requires.over.operators;
+    }
 
 pub loop-comp-init : goal.loop-comp-init
 loop-comp-init g c = each_begin (IsStepFrom (tree c.args.held.now)) c.args.size c.args.steps.now _ _ _ (comps_of c.args.made.now) c.as_slice-comp-items.result.now c.as_slice-comp-items.ensures

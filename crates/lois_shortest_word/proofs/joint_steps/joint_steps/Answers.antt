@@ -12,15 +12,13 @@ use Rattle.lois_shortest_word.proofs.Each.{EachSoFar, AddsEach, each_begin, each
 use Rattle.lois_shortest_word.proofs.StepsFrom.{are_joint_steps}
 use Rattle.lois_shortest_word.proofs.joint_steps.joint_steps.Goals as goal
 
-pub add_joint_steps-requires-clause-levels : goal.add_joint_steps-requires-clause-levels
-add_joint_steps-requires-clause-levels g c =
+pub add_joint_steps-requires-clause-over : goal.add_joint_steps-requires-clause-over
+add_joint_steps-requires-clause-over g c =
     let k = is_comp_of c.as_slice-comp-items.result.now c.args.pairs.now c.loop-comp.comp-index c.comp-item.result c.as_slice-comp-items.ensures c.loop-comp-test.true c.comp-item.is in
-    k.fits c.args.size c.requires.levels
-
-pub add_joint_steps-requires-clause-operators : goal.add_joint_steps-requires-clause-operators
-add_joint_steps-requires-clause-operators g c =
-    let k = is_comp_of c.as_slice-comp-items.result.now c.args.pairs.now c.loop-comp.comp-index c.comp-item.result c.as_slice-comp-items.ensures c.loop-comp-test.true c.comp-item.is in
-    k.admits g.T.Structure.ordered c.requires.operators
+    record {
+      levels = k.fits c.args.size c.requires.over.levels;
+      operators = k.admits g.T.Structure.ordered c.requires.over.operators;
+    }
 
 pub loop-comp-init : goal.loop-comp-init
 loop-comp-init g c =
@@ -62,7 +60,7 @@ returns-clause-members g c =
     are_joint_steps n (comps_of pairs) made (coll one) (coll other) (added_members n _ _ _ _ made added)
 
 pub returns-clause-levels : goal.returns-clause-levels
-returns-clause-levels g c = c.loop-comp.invariant.levels c.requires.levels tt
+returns-clause-levels g c = c.loop-comp.invariant.levels c.requires.over.levels tt
 
 pub returns-clause-operators : goal.returns-clause-operators
 returns-clause-operators g c = λ o a b d. c.loop-comp.invariant.operators o (a, (b, d)) tt

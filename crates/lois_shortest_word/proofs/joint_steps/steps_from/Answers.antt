@@ -12,8 +12,8 @@ add_steps_from-requires-clause-held g c =
     let values = more (comp k.binders k.guard (tree c.args.part.now)) no_comps in
     record {
       set = (values, c.in_ok-held.ensures);
-      levels = subst (λ z. Fits c.args.size z) (sym c.in_ok-held.ensures) ((c.requires.levels.0, c.requires.levels.1, c.requires.part), tt);
-      operators = subst (λ z. AdmitsTerm g.T.Structure.ordered z) (sym c.in_ok-held.ensures) ((c.requires.operators.0, c.requires.part_operators), tt);
+      levels = subst (λ z. Fits c.args.size z) (sym c.in_ok-held.ensures) ((c.requires.over.levels.0, c.requires.over.levels.1, c.requires.part.levels), tt);
+      operators = subst (λ z. AdmitsTerm g.T.Structure.ordered z) (sym c.in_ok-held.ensures) ((c.requires.over.operators.0, c.requires.part.operators), tt);
     }
 
 pub returns : goal.returns

@@ -9,15 +9,13 @@ use Rattle.lois_shortest_word.specs.Layers.{IsSourceTo}
 use Rattle.lois_shortest_word.proofs.Sources.{are_sources}
 use Rattle.lois_shortest_word.proofs.layers.sources.Goals as goal
 
-pub add_source-requires-clause-levels : goal.add_source-requires-clause-levels
-add_source-requires-clause-levels g c =
+pub add_source-requires-clause-over : goal.add_source-requires-clause-over
+add_source-requires-clause-over g c =
     let k = is_comp_of c.as_slice-comp-items.result.now c.args.steps.now c.loop-comp.comp-index c.comp-item.result c.as_slice-comp-items.ensures c.loop-comp-test.true c.comp-item.is in
-    k.fits c.args.size c.requires.levels
-
-pub add_source-requires-clause-operators : goal.add_source-requires-clause-operators
-add_source-requires-clause-operators g c =
-    let k = is_comp_of c.as_slice-comp-items.result.now c.args.steps.now c.loop-comp.comp-index c.comp-item.result c.as_slice-comp-items.ensures c.loop-comp-test.true c.comp-item.is in
-    k.admits g.T.Structure.ordered c.requires.operators
+    record {
+      levels = k.fits c.args.size c.requires.over.levels;
+      operators = k.admits g.T.Structure.ordered c.requires.over.operators;
+    }
 
 pub loop-comp-init : goal.loop-comp-init
 loop-comp-init g c =
@@ -41,6 +39,6 @@ returns-clause-members g c =
 pub returns-clause-readable : goal.returns-clause-readable
 returns-clause-readable g c = record {
   set = (comps_of c.loop-comp.made, refl);
-  levels = c.loop-comp.invariant.levels c.requires.levels tt;
-  operators = c.loop-comp.invariant.operators g.T.Structure.ordered (c.requires.operators, c.requires.layer.operators) tt;
+  levels = c.loop-comp.invariant.levels c.requires.over.levels tt;
+  operators = c.loop-comp.invariant.operators g.T.Structure.ordered (c.requires.over.operators, c.requires.layer.operators) tt;
 }

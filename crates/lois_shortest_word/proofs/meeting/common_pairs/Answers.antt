@@ -9,15 +9,13 @@ use Rattle.lois_shortest_word.specs.Pairs.{IsCommon}
 use Rattle.lois_shortest_word.proofs.CommonPairs.{are_common}
 use Rattle.lois_shortest_word.proofs.meeting.common_pairs.Goals as goal
 
-pub add_common-requires-clause-levels : goal.add_common-requires-clause-levels
-add_common-requires-clause-levels g c =
+pub add_common-requires-clause-over : goal.add_common-requires-clause-over
+add_common-requires-clause-over g c =
     let k = is_comp_of c.as_slice-comp-items.result.now c.args.pairs.now c.loop-comp.comp-index c.comp-item.result c.as_slice-comp-items.ensures c.loop-comp-test.true c.comp-item.is in
-    k.fits c.args.size c.requires.levels
-
-pub add_common-requires-clause-operators : goal.add_common-requires-clause-operators
-add_common-requires-clause-operators g c =
-    let k = is_comp_of c.as_slice-comp-items.result.now c.args.pairs.now c.loop-comp.comp-index c.comp-item.result c.as_slice-comp-items.ensures c.loop-comp-test.true c.comp-item.is in
-    k.admits g.T.Structure.ordered c.requires.operators
+    record {
+      levels = k.fits c.args.size c.requires.over.levels;
+      operators = k.admits g.T.Structure.ordered c.requires.over.operators;
+    }
 
 pub loop-comp-init : goal.loop-comp-init
 loop-comp-init g c =
@@ -42,7 +40,7 @@ returns-clause-members g c =
     are_common n (comps_of c.args.pairs.now) made one other (added_members n _ _ _ _ made added)
 
 pub returns-clause-levels : goal.returns-clause-levels
-returns-clause-levels g c = c.loop-comp.invariant.levels c.requires.levels tt
+returns-clause-levels g c = c.loop-comp.invariant.levels c.requires.over.levels tt
 
 pub returns-clause-operators : goal.returns-clause-operators
-returns-clause-operators g c = c.loop-comp.invariant.operators g.T.Structure.ordered (c.requires.operators, (c.requires.first.operators, c.requires.second.operators)) tt
+returns-clause-operators g c = c.loop-comp.invariant.operators g.T.Structure.ordered (c.requires.over.operators, (c.requires.first.operators, c.requires.second.operators)) tt

@@ -24,8 +24,8 @@ rounds-init g c =
       reached = reached_first n u (comps_of one.states.now) (comps_of one.letters.now) (comps_of one.steps.now) (comps_of one.initial.now) (comps_of one.accepting.now) (comps_of other.states.now) (comps_of other.letters.now) (comps_of other.steps.now) (comps_of other.initial.now) (comps_of other.accepting.now) (comps_of c.args.starts.now) c.requires.pairs (record { steps = c.new.result; seen = c.in_ok-seen.seen; frontier = c.in_ok-frontier.frontier }) (ap comps_of nothing) (ap comps_of seen) (ap comps_of frontier);
       levels = record {
         steps = subst (λ z. ItemsFit n (comps_of z)) (sym nothing) tt;
-        seen = subst (λ z. ItemsFit n (comps_of z)) (sym seen) c.requires.starts;
-        frontier = subst (λ z. ItemsFit n (comps_of z)) (sym frontier) c.requires.starts;
+        seen = subst (λ z. ItemsFit n (comps_of z)) (sym seen) c.requires.starts.levels;
+        frontier = subst (λ z. ItemsFit n (comps_of z)) (sym frontier) c.requires.starts.levels;
       };
       operators = λ o a b d. record {
         steps = subst (λ z. AdmitsItems o (comps_of z)) (sym nothing) tt;
@@ -39,15 +39,15 @@ rounds-init g c =
 pub common_pairs-requires-clause-first : goal.common_pairs-requires-clause-first
 common_pairs-requires-clause-first g c = record {
   set = (comps_of c.in_ok-copy.field-0, refl);
-  levels = subst (λ z. ItemsFit c.args.size (comps_of z)) (sym c.in_ok-copy.ensures) c.requires.accepting;
-  operators = subst (λ z. AdmitsItems g.T.Structure.ordered (comps_of z)) (sym c.in_ok-copy.ensures) c.requires.accepting_operators;
+  levels = subst (λ z. ItemsFit c.args.size (comps_of z)) (sym c.in_ok-copy.ensures) c.requires.accepting.levels;
+  operators = subst (λ z. AdmitsItems g.T.Structure.ordered (comps_of z)) (sym c.in_ok-copy.ensures) c.requires.accepting.operators;
 }
 
 pub common_pairs-requires-clause-second : goal.common_pairs-requires-clause-second
 common_pairs-requires-clause-second g c = record {
   set = (comps_of c.in_ok-copy-2.field-0, refl);
-  levels = subst (λ z. ItemsFit c.args.size (comps_of z)) (sym c.in_ok-copy-2.ensures) c.requires.other_accepting;
-  operators = subst (λ z. AdmitsItems g.T.Structure.ordered (comps_of z)) (sym c.in_ok-copy-2.ensures) c.requires.other_accepting_operators;
+  levels = subst (λ z. ItemsFit c.args.size (comps_of z)) (sym c.in_ok-copy-2.ensures) c.requires.other_accepting.levels;
+  operators = subst (λ z. AdmitsItems g.T.Structure.ordered (comps_of z)) (sym c.in_ok-copy-2.ensures) c.requires.other_accepting.operators;
 }
 
 pub returns-in-Some-clause-some : goal.returns-in-Some-clause-some

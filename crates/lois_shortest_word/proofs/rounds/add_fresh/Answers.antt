@@ -13,11 +13,11 @@ use Rattle.lois_shortest_word.proofs.rounds.add_fresh.Goals as goal
 
 pub item_formula-requires-clause-levels : goal.item_formula-requires-clause-levels
 item_formula-requires-clause-levels g c =
-    subst (λ z. ItemsFit c.args.size (comps_of z)) (sym c.as_slice.ensures) c.requires.seen
+    subst (λ z. ItemsFit c.args.size (comps_of z)) (sym c.as_slice.ensures) c.requires.seen.levels
 
 pub quantifier_free-requires-clause-operators : goal.quantifier_free-requires-clause-operators
 quantifier_free-requires-clause-operators g c =
-    c.in_ok-formula.ensures.operators g.T.Structure.ordered c.requires.operators.1 (subst (λ z. AdmitsItems g.T.Structure.ordered (comps_of z)) (sym c.as_slice.ensures) c.requires.seen_operators)
+    c.in_ok-formula.ensures.operators g.T.Structure.ordered c.requires.over.operators.1 (subst (λ z. AdmitsItems g.T.Structure.ordered (comps_of z)) (sym c.as_slice.ensures) c.requires.seen.operators)
 
 pub returns : goal.returns
 returns g c =
@@ -39,5 +39,5 @@ returns g c =
     adds_fresh n k.binders k.guard found guard item seen fresh seen' fresh'
     (found_is n k.binders seen item (view c.in_ok-formula.formula) found member own.truth) c.in_ok-guard.ensures.truth put
     (subst (λ z. IsPut (comp k.binders guard z) fresh fresh') same (subst (λ z. IsPut (comp_of z) fresh fresh') copied added))
-    (c.requires.levels.0, c.in_ok-guard.ensures.fits (n + k.binders) c.requires.levels.1 own.levels, c.requires.levels.2)
+    (c.requires.over.levels.0, c.in_ok-guard.ensures.fits (n + k.binders) c.requires.over.levels.1 own.levels, c.requires.over.levels.2)
     (λ o a h. (c.in_ok-guard.ensures.operators o a.0 (own.operators o (c.in_ok-formula.ensures.operators o a.1 (subst (λ z. AdmitsItems o (comps_of z)) (sym c.as_slice.ensures) h))), a.1))) c.push_comp-2.ensures.added

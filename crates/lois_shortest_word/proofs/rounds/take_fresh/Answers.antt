@@ -5,21 +5,21 @@ use Rattle.lois_shortest_word.proofs.Fresh.{fresh_begin, fresh_more, fresh_end}
 use Rattle.lois_shortest_word.proofs.rounds.take_fresh.Goals as goal
 
 pub loop-comp-init : goal.loop-comp-init
-loop-comp-init g c = fresh_begin c.args.size c.args.members.now (comps_of c.args.seen.now) c.as_slice-comp-items.result.now c.new-fresh.result c.as_slice-comp-items.ensures c.new-fresh.ensures c.requires.seen
+loop-comp-init g c = fresh_begin c.args.size c.args.members.now (comps_of c.args.seen.now) c.as_slice-comp-items.result.now c.new-fresh.result c.as_slice-comp-items.ensures c.new-fresh.ensures c.requires.seen.levels
 
-pub add_fresh-requires-clause-levels : goal.add_fresh-requires-clause-levels
-add_fresh-requires-clause-levels g c =
-    (is_comp_of c.as_slice-comp-items.result.now c.args.members.now c.loop-comp.comp-index c.comp-item.result c.as_slice-comp-items.ensures c.loop-comp-test.true c.comp-item.is).fits c.args.size c.requires.levels
-
-pub add_fresh-requires-clause-operators : goal.add_fresh-requires-clause-operators
-add_fresh-requires-clause-operators g c =
-    (is_comp_of c.as_slice-comp-items.result.now c.args.members.now c.loop-comp.comp-index c.comp-item.result c.as_slice-comp-items.ensures c.loop-comp-test.true c.comp-item.is).admits g.T.Structure.ordered c.requires.operators
+pub add_fresh-requires-clause-over : goal.add_fresh-requires-clause-over
+add_fresh-requires-clause-over g c =
+    record {
+      levels = (is_comp_of c.as_slice-comp-items.result.now c.args.members.now c.loop-comp.comp-index c.comp-item.result c.as_slice-comp-items.ensures c.loop-comp-test.true c.comp-item.is).fits c.args.size c.requires.over.levels;
+      operators = (is_comp_of c.as_slice-comp-items.result.now c.args.members.now c.loop-comp.comp-index c.comp-item.result c.as_slice-comp-items.ensures c.loop-comp-test.true c.comp-item.is).admits g.T.Structure.ordered c.requires.over.operators;
+    }
 
 pub add_fresh-requires-clause-seen : goal.add_fresh-requires-clause-seen
-add_fresh-requires-clause-seen g c = c.loop-comp.invariant.levels.0
-
-pub add_fresh-requires-clause-seen_operators : goal.add_fresh-requires-clause-seen_operators
-add_fresh-requires-clause-seen_operators g c = (c.loop-comp.invariant.operators g.T.Structure.ordered c.requires.operators c.requires.seen_operators).0
+add_fresh-requires-clause-seen g c =
+    record {
+      levels = c.loop-comp.invariant.levels.0;
+      operators = (c.loop-comp.invariant.operators g.T.Structure.ordered c.requires.over.operators c.requires.seen.operators).0;
+    }
 
 pub loop-comp-preserved : goal.loop-comp-preserved
 loop-comp-preserved g c =

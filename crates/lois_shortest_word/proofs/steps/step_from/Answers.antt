@@ -17,13 +17,12 @@ loop-comp-init g c = record {
   only_asked = only_asked_nothing (λ b. (goal.Decider-dyn g (b.vtable, b.value)).kind_of b.value) (λ b. (goal.Decider-dyn g (b.vtable, b.value)).questions b.value) c.args.chosen.now;
 }
 
-pub step_by-requires-clause-levels : goal.step_by-requires-clause-levels
-step_by-requires-clause-levels g c =
-    (is_comp_of c.as_slice-comp-items.result.now c.args.steps.now c.loop-comp.comp-index c.comp-item.result c.as_slice-comp-items.ensures c.loop-comp-test.true c.comp-item.is).fits c.args.size c.requires.levels
-
-pub step_by-requires-clause-operators : goal.step_by-requires-clause-operators
-step_by-requires-clause-operators g c =
-    (is_comp_of c.as_slice-comp-items.result.now c.args.steps.now c.loop-comp.comp-index c.comp-item.result c.as_slice-comp-items.ensures c.loop-comp-test.true c.comp-item.is).admits g.T.Structure.ordered c.requires.operators
+pub step_by-requires-clause-over : goal.step_by-requires-clause-over
+step_by-requires-clause-over g c =
+    record {
+      levels = (is_comp_of c.as_slice-comp-items.result.now c.args.steps.now c.loop-comp.comp-index c.comp-item.result c.as_slice-comp-items.ensures c.loop-comp-test.true c.comp-item.is).fits c.args.size c.requires.over.levels;
+      operators = (is_comp_of c.as_slice-comp-items.result.now c.args.steps.now c.loop-comp.comp-index c.comp-item.result c.as_slice-comp-items.ensures c.loop-comp-test.true c.comp-item.is).admits g.T.Structure.ordered c.requires.over.operators;
+    }
 
 pub returns-in-Some-clause-some : goal.returns-in-Some-clause-some
 returns-in-Some-clause-some g c =

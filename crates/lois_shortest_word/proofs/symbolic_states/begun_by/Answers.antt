@@ -14,7 +14,7 @@ satisfiable_cube-requires g c =
     let comp = c.args.comp.now in
     let n = c.args.size + comp.binders in
     let under : ConstraintFits n c.args.under.now = fits_more c.args.size n c.args.under.now (omega arith) c.requires.under in
-    c.in_ok-wanted.ensures.fits n (c.in_ok-admitted.ensures.fits n under c.requires.levels.1) c.in_ok-found.ensures.fits
+    c.in_ok-wanted.ensures.fits n (c.in_ok-admitted.ensures.fits n under c.requires.over.levels.1) c.in_ok-found.ensures.fits
 
 pub returns-in_default-clause-none : goal.returns-in_default-clause-none
 returns-in_default-clause-none g c = λ _.
@@ -28,4 +28,4 @@ returns-clause-some g c =
     let n = c.args.size in
     let is : HoldsWhereAdmittedIn n comp.binders c.args.under.now comp.guard (tree comp.item) (tree c.args.layer.now) c.in_ok-wanted.wanted = admitted_is n comp.binders c.args.under.now comp.guard (tree comp.item) (tree c.args.layer.now) c.in_ok-found.found c.in_ok-admitted.admitted c.in_ok-wanted.wanted c.requires.under c.in_ok-found.ensures.truth c.in_ok-admitted.ensures.truth c.in_ok-wanted.ensures.truth in
     let narrow = some_is (λ m. IsSatisfiableCube (n + comp.binders) c.in_ok-wanted.wanted m.constraint m.sample) c.in_ok-met.field-0 c.in-Some.met c.in-Some.is c.in_ok-met.ensures.some in
-    begun_is n c.args.under.now comp.guard (tree comp.item) (tree c.args.layer.now) c.in_ok-wanted.wanted (record { more = comp.binders; admitted = c.in-Some.met.constraint; state = c.in_ok-state.state; sample = c.in-Some.met.sample }) c.requires.levels.0 c.requires.levels.2 (ap tree c.in_ok-state.ensures) is narrow
+    begun_is n c.args.under.now comp.guard (tree comp.item) (tree c.args.layer.now) c.in_ok-wanted.wanted (record { more = comp.binders; admitted = c.in-Some.met.constraint; state = c.in_ok-state.state; sample = c.in-Some.met.sample }) c.requires.over.levels.0 c.requires.over.levels.2 (ap tree c.in_ok-state.ensures) is narrow

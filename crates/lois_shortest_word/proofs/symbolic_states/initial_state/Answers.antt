@@ -10,13 +10,12 @@ use Rattle.lois_shortest_word.proofs.Firsts.{among_item}
 use Rattle.lois_shortest_word.proofs.Starts.{begun_among, never_begins_more, never_begins_end}
 use Rattle.lois_shortest_word.proofs.symbolic_states.initial_state.Goals as goal
 
-pub begun_by-requires-clause-levels : goal.begun_by-requires-clause-levels
-begun_by-requires-clause-levels g c =
-    (is_comp_of c.as_slice-comp-items.result.now c.args.starts.now c.loop-comp.comp-index c.comp-item.result c.as_slice-comp-items.ensures c.loop-comp-test.true c.comp-item.is).fits c.args.size c.requires.levels
-
-pub begun_by-requires-clause-operators : goal.begun_by-requires-clause-operators
-begun_by-requires-clause-operators g c =
-    (is_comp_of c.as_slice-comp-items.result.now c.args.starts.now c.loop-comp.comp-index c.comp-item.result c.as_slice-comp-items.ensures c.loop-comp-test.true c.comp-item.is).admits g.T.Structure.ordered c.requires.operators
+pub begun_by-requires-clause-over : goal.begun_by-requires-clause-over
+begun_by-requires-clause-over g c =
+    record {
+      levels = (is_comp_of c.as_slice-comp-items.result.now c.args.starts.now c.loop-comp.comp-index c.comp-item.result c.as_slice-comp-items.ensures c.loop-comp-test.true c.comp-item.is).fits c.args.size c.requires.over.levels;
+      operators = (is_comp_of c.as_slice-comp-items.result.now c.args.starts.now c.loop-comp.comp-index c.comp-item.result c.as_slice-comp-items.ensures c.loop-comp-test.true c.comp-item.is).admits g.T.Structure.ordered c.requires.over.operators;
+    }
 
 pub returns-in-Some-clause-some : goal.returns-in-Some-clause-some
 returns-in-Some-clause-some g c =

@@ -37,8 +37,8 @@ layering-init g c =
       layer = subst (λ z. IsLayer n m (length z) (coll (comps_of c.in_ok-copy.field-0))) (sym none) (subst (λ z. IsLayer n m 0 (coll (comps_of z))) (sym copied) (first_layer s l t i f n));
       layer_readable = record {
         set = (comps_of c.in_ok-copy.field-0, refl);
-        levels = subst (λ z. ItemsFit n (comps_of z)) (sym copied) c.requires.accepting;
-        operators = subst (λ z. AdmitsItems o (comps_of z)) (sym copied) c.requires.accepting_operators;
+        levels = subst (λ z. ItemsFit n (comps_of z)) (sym copied) c.requires.accepting.levels;
+        operators = subst (λ z. AdmitsItems o (comps_of z)) (sym copied) c.requires.accepting.operators;
       };
       shortest = subst (λ z. HaveAtLeast n u m (length z)) (sym none) (none_shorter s l t i f n u);
       only_asked = only_asked_nothing (λ b. (goal.Decider-dyn g (b.vtable, b.value)).kind_of b.value) (λ b. (goal.Decider-dyn g (b.vtable, b.value)).questions b.value) c.args.chosen.now;

@@ -10,21 +10,16 @@ use Rattle.lois_simplify.specs.Lean.{HasOwn}
 use Rattle.lois_simplify.proofs.Candidates.{candidates_only, candidates_all, candidates_fit, candidates_admit, covered_by_all, own_beside_all}
 use Rattle.lois_simplify.proofs.covering.is_covered.Goals as goal
 
-pub is_covered_by-requires-clause-other_levels : goal.is_covered_by-requires-clause-other_levels
-is_covered_by-requires-clause-other_levels g c =
+pub is_covered_by-requires-clause-other : goal.is_covered_by-requires-clause-other
+is_covered_by-requires-clause-other g c =
     let x = c.shape-shape.result in
     let kept = c.args.kept.now in
     let coming = map comp_of c.args.coming.now in
     let one = subst (λ z. AddsCandidates x kept z c.add_candidates.new.candidates) c.new-candidates.ensures (subst (λ z. AddsCandidates x z c.new-candidates.result c.add_candidates.new.candidates) c.as_slice.ensures c.in_ok-add_candidates.ensures) in
-    candidates_fit x kept coming c.add_candidates.new.candidates c.add_candidates-2.new.candidates one c.in_ok-add_candidates-2.ensures c.args.size c.requires.kept_levels c.requires.coming_levels
-
-pub is_covered_by-requires-clause-other_operators : goal.is_covered_by-requires-clause-other_operators
-is_covered_by-requires-clause-other_operators g c =
-    let x = c.shape-shape.result in
-    let kept = c.args.kept.now in
-    let coming = map comp_of c.args.coming.now in
-    let one = subst (λ z. AddsCandidates x kept z c.add_candidates.new.candidates) c.new-candidates.ensures (subst (λ z. AddsCandidates x z c.new-candidates.result c.add_candidates.new.candidates) c.as_slice.ensures c.in_ok-add_candidates.ensures) in
-    candidates_admit x kept coming c.add_candidates.new.candidates c.add_candidates-2.new.candidates one c.in_ok-add_candidates-2.ensures g.T.Structure.ordered c.requires.kept_operators c.requires.coming_operators
+    record {
+      levels = candidates_fit x kept coming c.add_candidates.new.candidates c.add_candidates-2.new.candidates one c.in_ok-add_candidates-2.ensures c.args.size c.requires.kept.levels c.requires.coming.levels;
+      operators = candidates_admit x kept coming c.add_candidates.new.candidates c.add_candidates-2.new.candidates one c.in_ok-add_candidates-2.ensures g.T.Structure.ordered c.requires.kept.operators c.requires.coming.operators;
+    }
 
 pub returns-clause-covered : goal.returns-clause-covered
 returns-clause-covered g c =

@@ -16,11 +16,11 @@ use Rattle.lois_simplify.proofs.covering.is_covered_by.Goals as goal
 
 pub item_formula-requires-clause-levels : goal.item_formula-requires-clause-levels
 item_formula-requires-clause-levels g c =
-    subst (λ z. ItemsFit c.args.size (comps_of z)) (sym c.as_slice-items.ensures) c.requires.other_levels
+    subst (λ z. ItemsFit c.args.size (comps_of z)) (sym c.as_slice-items.ensures) c.requires.other.levels
 
 pub fails_at_sample-requires-clause-here : goal.fails_at_sample-requires-clause-here
 fails_at_sample-requires-clause-here g c =
-    c.in_ok-here.ensures.fits (c.args.size + c.args.comp.now.binders) (fits_longer c.args.size c.args.comp.now.binders c.args.under.now c.requires.under_levels) c.requires.levels.1
+    c.in_ok-here.ensures.fits (c.args.size + c.args.comp.now.binders) (fits_longer c.args.size c.args.comp.now.binders c.args.under.now c.requires.under_levels) c.requires.over.levels.1
 
 pub returns-then-is_false_formula-clause-own : goal.returns-then-is_false_formula-clause-own
 returns-then-is_false_formula-clause-own g c = λ e.
@@ -36,11 +36,11 @@ returns-then-branch-clause-own g c = λ f.
 
 pub quantifier_free-requires-clause-operators : goal.quantifier_free-requires-clause-operators
 quantifier_free-requires-clause-operators g c =
-    c.in_ok-membership.ensures.operators g.T.Structure.ordered c.requires.operators.1 (subst (λ z. AdmitsItems g.T.Structure.ordered (comps_of z)) (sym c.as_slice-items.ensures) c.requires.other_operators)
+    c.in_ok-membership.ensures.operators g.T.Structure.ordered c.requires.over.operators.1 (subst (λ z. AdmitsItems g.T.Structure.ordered (comps_of z)) (sym c.as_slice-items.ensures) c.requires.other.operators)
 
 pub counterexample-requires-clause-first : goal.counterexample-requires-clause-first
 counterexample-requires-clause-first g c =
-    c.in_ok-here.ensures.fits (c.args.size + c.args.comp.now.binders) (fits_longer c.args.size c.args.comp.now.binders c.args.under.now c.requires.under_levels) c.requires.levels.1
+    c.in_ok-here.ensures.fits (c.args.size + c.args.comp.now.binders) (fits_longer c.args.size c.args.comp.now.binders c.args.under.now c.requires.under_levels) c.requires.over.levels.1
 
 pub returns-clause-covered : goal.returns-clause-covered
 returns-clause-covered g c = λ t.

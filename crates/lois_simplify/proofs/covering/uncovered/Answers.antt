@@ -27,35 +27,44 @@ loop-index-init g c =
       asked = g.met.D.Oracle.reaches_itself c.args.decider.now;
     }
 
-pub is_covered-requires-clause-levels : goal.is_covered-requires-clause-levels
-is_covered-requires-clause-levels g c =
+pub is_covered-requires-clause-over : goal.is_covered-requires-clause-over
+is_covered-requires-clause-over g c =
     let u = c.args.under.now in
     let n = c.args.size in
     let now = c.deref.result.now in
     let i = c.loop-index.index in
     let k = c.replace-comp.result in
     let so_far = next_moved u n c.args.comps c.loop-index.kept c.loop-index.items.items now i k c.index_mut.result.now c.replace-comp.new.dest (omega (arith, c.loop-index-test.true, c.loop-index.invariant.count)) c.replace-comp.ensures.value c.index_mut.ensures.value c.deref.ensures.value c.loop-index.invariant.so_far in
-    items_fit_each n c.args.comps (comp_of k) c.requires.levels (next_is_there u n c.args.comps c.loop-index.kept (map comp_of (drop (i + 1) now)) (comp_of k) so_far)
+    record {
+      levels = items_fit_each n c.args.comps (comp_of k) c.requires.over.levels (next_is_there u n c.args.comps c.loop-index.kept (map comp_of (drop (i + 1) now)) (comp_of k) so_far);
+      operators = items_admit_each g.T.Structure.ordered c.args.comps (comp_of k) c.requires.over.operators (next_is_there u n c.args.comps c.loop-index.kept (map comp_of (drop (i + 1) now)) (comp_of k) so_far);
+    }
 
-pub is_covered-requires-clause-kept_levels : goal.is_covered-requires-clause-kept_levels
-is_covered-requires-clause-kept_levels g c =
+pub is_covered-requires-clause-kept : goal.is_covered-requires-clause-kept
+is_covered-requires-clause-kept g c =
     let u = c.args.under.now in
     let n = c.args.size in
     let now = c.deref.result.now in
     let i = c.loop-index.index in
     let k = c.replace-comp.result in
     let so_far = next_moved u n c.args.comps c.loop-index.kept c.loop-index.items.items now i k c.index_mut.result.now c.replace-comp.new.dest (omega (arith, c.loop-index-test.true, c.loop-index.invariant.count)) c.replace-comp.ensures.value c.index_mut.ensures.value c.deref.ensures.value c.loop-index.invariant.so_far in
-    kept_fit u n c.args.comps c.loop-index.kept (map comp_of (drop (i + 1) now)) (comp_of k) so_far c.requires.levels
+    record {
+      levels = kept_fit u n c.args.comps c.loop-index.kept (map comp_of (drop (i + 1) now)) (comp_of k) so_far c.requires.over.levels;
+      operators = kept_admit u n c.args.comps c.loop-index.kept (map comp_of (drop (i + 1) now)) (comp_of k) so_far g.T.Structure.ordered c.requires.over.operators;
+    }
 
-pub is_covered-requires-clause-coming_levels : goal.is_covered-requires-clause-coming_levels
-is_covered-requires-clause-coming_levels g c =
+pub is_covered-requires-clause-coming : goal.is_covered-requires-clause-coming
+is_covered-requires-clause-coming g c =
     let u = c.args.under.now in
     let n = c.args.size in
     let now = c.deref.result.now in
     let i = c.loop-index.index in
     let k = c.replace-comp.result in
     let so_far = next_moved u n c.args.comps c.loop-index.kept c.loop-index.items.items now i k c.index_mut.result.now c.replace-comp.new.dest (omega (arith, c.loop-index-test.true, c.loop-index.invariant.count)) c.replace-comp.ensures.value c.index_mut.ensures.value c.deref.ensures.value c.loop-index.invariant.so_far in
-    subst (λ z. ItemsFit n (comps_of (map comp_of z))) (sym (to_the_end now (i + 1))) (coming_fit u n c.args.comps c.loop-index.kept (map comp_of (drop (i + 1) now)) (comp_of k) so_far c.requires.levels)
+    record {
+      levels = subst (λ z. ItemsFit n (comps_of (map comp_of z))) (sym (to_the_end now (i + 1))) (coming_fit u n c.args.comps c.loop-index.kept (map comp_of (drop (i + 1) now)) (comp_of k) so_far c.requires.over.levels);
+      operators = subst (λ z. AdmitsItems g.T.Structure.ordered (comps_of (map comp_of z))) (sym (to_the_end now (i + 1))) (coming_admit u n c.args.comps c.loop-index.kept (map comp_of (drop (i + 1) now)) (comp_of k) so_far g.T.Structure.ordered c.requires.over.operators);
+    }
 
 pub is_covered-requires-clause-kept_shapes : goal.is_covered-requires-clause-kept_shapes
 is_covered-requires-clause-kept_shapes g c = c.loop-index.invariant.kept_shapes
@@ -66,36 +75,6 @@ is_covered-requires-clause-coming_shapes g c =
     let i = c.loop-index.index in
     ap (drop (i + 1)) (c.in_ok-shapes.ensures ∙ ap (map item_shape) (ap (map comp_of) c.as_slice.ensures.value ∙ c.into_vec-items.ensures))
     ∙ subst (λ z. drop (i + 1) (map item_shape c.args.comps) ≡ map item_shape (map comp_of z)) (sym (to_the_end now (i + 1))) (next_shapes (map item_shape c.args.comps) c.loop-index.items.items now i c.replace-comp.new.dest c.deref.ensures.value c.loop-index.invariant.shapes)
-
-pub is_covered-requires-clause-operators : goal.is_covered-requires-clause-operators
-is_covered-requires-clause-operators g c =
-    let u = c.args.under.now in
-    let n = c.args.size in
-    let now = c.deref.result.now in
-    let i = c.loop-index.index in
-    let k = c.replace-comp.result in
-    let so_far = next_moved u n c.args.comps c.loop-index.kept c.loop-index.items.items now i k c.index_mut.result.now c.replace-comp.new.dest (omega (arith, c.loop-index-test.true, c.loop-index.invariant.count)) c.replace-comp.ensures.value c.index_mut.ensures.value c.deref.ensures.value c.loop-index.invariant.so_far in
-    items_admit_each g.T.Structure.ordered c.args.comps (comp_of k) c.requires.operators (next_is_there u n c.args.comps c.loop-index.kept (map comp_of (drop (i + 1) now)) (comp_of k) so_far)
-
-pub is_covered-requires-clause-kept_operators : goal.is_covered-requires-clause-kept_operators
-is_covered-requires-clause-kept_operators g c =
-    let u = c.args.under.now in
-    let n = c.args.size in
-    let now = c.deref.result.now in
-    let i = c.loop-index.index in
-    let k = c.replace-comp.result in
-    let so_far = next_moved u n c.args.comps c.loop-index.kept c.loop-index.items.items now i k c.index_mut.result.now c.replace-comp.new.dest (omega (arith, c.loop-index-test.true, c.loop-index.invariant.count)) c.replace-comp.ensures.value c.index_mut.ensures.value c.deref.ensures.value c.loop-index.invariant.so_far in
-    kept_admit u n c.args.comps c.loop-index.kept (map comp_of (drop (i + 1) now)) (comp_of k) so_far g.T.Structure.ordered c.requires.operators
-
-pub is_covered-requires-clause-coming_operators : goal.is_covered-requires-clause-coming_operators
-is_covered-requires-clause-coming_operators g c =
-    let u = c.args.under.now in
-    let n = c.args.size in
-    let now = c.deref.result.now in
-    let i = c.loop-index.index in
-    let k = c.replace-comp.result in
-    let so_far = next_moved u n c.args.comps c.loop-index.kept c.loop-index.items.items now i k c.index_mut.result.now c.replace-comp.new.dest (omega (arith, c.loop-index-test.true, c.loop-index.invariant.count)) c.replace-comp.ensures.value c.index_mut.ensures.value c.deref.ensures.value c.loop-index.invariant.so_far in
-    subst (λ z. AdmitsItems g.T.Structure.ordered (comps_of (map comp_of z))) (sym (to_the_end now (i + 1))) (coming_admit u n c.args.comps c.loop-index.kept (map comp_of (drop (i + 1) now)) (comp_of k) so_far g.T.Structure.ordered c.requires.operators)
 
 pub is_covered-requires-clause-lean : goal.is_covered-requires-clause-lean
 is_covered-requires-clause-lean g c =

@@ -24,7 +24,7 @@ both-requires-clause-first g c =
 pub both-requires-clause-second : goal.both-requires-clause-second
 both-requires-clause-second g c =
     let inner = c.args.size + c.args.comp.binders in
-    c.in_ok-reduced.ensures.shortened.levels inner c.requires.levels.1
+    c.in_ok-reduced.ensures.shortened.levels inner c.requires.over.levels.1
 
 pub returns-in_default-clause-opening : goal.returns-in_default-clause-opening
 returns-in_default-clause-opening g c =
@@ -71,7 +71,7 @@ returns-in_default-2-clause-opening g c =
         operators = met.operators;
         here = met.truth;
         guard = c.in_ok-reduced.ensures.normalised;
-        plain = λ read. c.in_ok-reduced.ensures.plain read (n + k.binders) (fits_longer n k.binders u c.requires.under_levels) c.requires.levels.1;
+        plain = λ read. c.in_ok-reduced.ensures.plain read (n + k.binders) (fits_longer n k.binders u c.requires.under_levels) c.requires.over.levels.1;
         met = is_met (n + k.binders) c.in-Some.met.constraint c.in-Some.met.sample met.sample;
         free = c.in_ok-fixed.ensures.none (none_is c.in_ok-fixed.field-0 c.in_default-2.is);
       },
@@ -80,11 +80,11 @@ returns-in_default-2-clause-opening g c =
 pub without_binder-requires-clause-levels : goal.without_binder-requires-clause-levels
 without_binder-requires-clause-levels g c =
     let inner = c.args.size + c.args.comp.binders in
-    (c.requires.levels.0, c.in_ok-reduced.ensures.shortened.levels inner c.requires.levels.1, c.requires.levels.2)
+    (c.requires.over.levels.0, c.in_ok-reduced.ensures.shortened.levels inner c.requires.over.levels.1, c.requires.over.levels.2)
 
 pub without_binder-requires-clause-operators : goal.without_binder-requires-clause-operators
 without_binder-requires-clause-operators g c =
-    c.in_ok-reduced.ensures.shortened.operators g.T.Structure.ordered c.requires.operators.0
+    c.in_ok-reduced.ensures.shortened.operators g.T.Structure.ordered c.requires.over.operators.0
 
 pub returns-clause-opening : goal.returns-clause-opening
 returns-clause-opening g c =
@@ -103,7 +103,7 @@ returns-clause-opening g c =
       kept_trans u n (set_of (only (comp_of k))) (set_of (only (comp k.binders h (tree k.item)))) (set_of (only (comp_of r)))
           (guard_kept u n k.binders k.guard h (tree k.item) c.requires.under_levels (equally_true u k.guard h c.in_ok-reduced.ensures.shortened) c.in_ok-reduced.ensures.shortened.levels c.in_ok-reduced.ensures.shortened.operators)
           (binder_less u n k.binders r.binders b a h r.guard (tree k.item) (tree r.item) e.binders e.item c.requires.under_levels range.0 range.1 e.guard e.guard_levels e.guard_operators
-          (c.requires.levels.0, c.in_ok-reduced.ensures.shortened.levels inner c.requires.levels.1, c.requires.levels.2)
+          (c.requires.over.levels.0, c.in_ok-reduced.ensures.shortened.levels inner c.requires.over.levels.1, c.requires.over.levels.2)
           (fixed_can_leave u n (n + k.binders) b a h c.in-Some.met.constraint (tree k.item) met.truth range.2 fixed)),
       omega (arith, e.binders),
     )

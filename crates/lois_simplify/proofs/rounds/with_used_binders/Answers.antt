@@ -5,16 +5,16 @@ use Rattle.lois_simplify.proofs.rounds.with_used_binders.Goals as goal
 
 pub overflow_add-size : goal.overflow_add-size
 overflow_add-size g c =
-    let f = everywhere_fits c.args.size (comp_of c.args.comp) (comp_of c.loop-binder.current) c.loop-binder.invariant.kept c.requires.levels in
+    let f = everywhere_fits c.args.size (comp_of c.args.comp) (comp_of c.loop-binder.current) c.loop-binder.invariant.kept c.requires.over.levels in
     omega (arith, f.0)
 
 pub without_binder-requires-clause-levels : goal.without_binder-requires-clause-levels
 without_binder-requires-clause-levels g c =
-    everywhere_fits c.args.size (comp_of c.args.comp) (comp_of c.loop-binder.current) c.loop-binder.invariant.kept c.requires.levels
+    everywhere_fits c.args.size (comp_of c.args.comp) (comp_of c.loop-binder.current) c.loop-binder.invariant.kept c.requires.over.levels
 
 pub without_binder-requires-clause-operators : goal.without_binder-requires-clause-operators
 without_binder-requires-clause-operators g c =
-    (everywhere_admits c.args.size (comp_of c.args.comp) (comp_of c.loop-binder.current) c.loop-binder.invariant.kept g.T.Structure.ordered c.requires.operators).0
+    (everywhere_admits c.args.size (comp_of c.args.comp) (comp_of c.loop-binder.current) c.loop-binder.invariant.kept g.T.Structure.ordered c.requires.over.operators).0
 
 pub loop-binder-init : goal.loop-binder-init
 loop-binder-init g c =
@@ -26,7 +26,7 @@ loop-binder-preserved g c =
     let r = c.in_ok-current.current in
     let e = c.in_ok-current.ensures in
     let so_far = c.loop-binder.invariant in
-    let whole = everywhere_fits c.args.size (comp_of c.args.comp) (comp_of k) so_far.kept c.requires.levels in
+    let whole = everywhere_fits c.args.size (comp_of c.args.comp) (comp_of k) so_far.kept c.requires.over.levels in
     let less = unused_less c.args.size k.binders r.binders c.in-Some.binder k.guard r.guard (tree k.item) (tree r.item) e.binders e.item c.in-Some.ensures.range.0 c.in-Some.ensures.range.1 e.guard e.guard_levels e.guard_operators whole c.in-Some.ensures.some in
     record {
       kept = everywhere_trans c.args.size (comp_of c.args.comp) (comp_of k) (comp_of r) so_far.kept less;

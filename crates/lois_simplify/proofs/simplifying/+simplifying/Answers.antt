@@ -66,7 +66,7 @@ irredundant_comps-irredundant_comp-requires g t c κs within =
     let k : CompD = comp_of c.in-Some.comp in
     let turn = YieldsList-turn (YieldsList-from_vec items (cc) (cc)) seen c.loop-comp.comp-iterator c.loop-comp.yielded_by c.next.result c.next.new.self c.in-Some.comp c.in-Some.is c.next.ensures.steps in
     let there : Contains comps k = c.in_ok-several.ensures.only k (contains_item comp_of items c.in_ok-several.several (length seen) c.in-Some.comp c.into_vec-comp-items.ensures turn.0 turn.1) in
-    (omega (arith, comp_depth_le comps k there), (within.0, (within.1, (c.requires.sound, (items_fit_each c.args.size comps k c.requires.levels there, (c.requires.under_levels, (c.requires.met, (items_admit_each g.T.Structure.ordered comps k c.requires.operators there, c.requires.under_operators))))))))
+    (omega (arith, comp_depth_le comps k there), (within.0, (within.1, (c.requires.sound, (record { levels = items_fit_each c.args.size comps k c.requires.over.levels there; operators = items_admit_each g.T.Structure.ordered comps k c.requires.over.operators there }, (c.requires.under, c.requires.met))))))
 
 pub irredundant_comps-loop-comp-preserved-in-Continue-branch-4 : goal.irredundant_comps-loop-comp-preserved-in-Continue-branch-4
 irredundant_comps-loop-comp-preserved-in-Continue-branch-4 g t c =
@@ -119,17 +119,17 @@ pub irredundant_comps-returns-clause-lean : goal.irredundant_comps-returns-claus
 irredundant_comps-returns-clause-lean g t c =
     IfOk-weaker c.distinct-2.result (λ r. (k : CompD) → Contains r k → Contains c.loop-comp.found k) (All (IsLeanComp c.args.brief c.args.under.now c.args.size)) (λ r only. fewer_lean c.args.brief c.args.under.now c.args.size c.loop-comp.found r c.loop-comp.invariant.lean.lean only) c.distinct-2.ensures.only
 
-pub one_round-close_round-requires-clause-levels : goal.one_round-close_round-requires-clause-levels
-one_round-close_round-requires-clause-levels g t c =
+pub one_round-close_round-requires : goal.one_round-close_round-requires
+one_round-close_round-requires g t c =
     let opened = subst (IsOpeningOf c.args.brief c.args.under.now c.args.size c.args.comp) c.in-Open.is c.in_ok-round.ensures.opening in
-    let fits = ((opened.0).levels (c.requires.levels, tt)).0 in
-    (fits.0, fits.1, (c.in_ok-item.ensures.kept).levels fits.2)
-
-pub one_round-close_round-requires-clause-operators : goal.one_round-close_round-requires-clause-operators
-one_round-close_round-requires-clause-operators g t c =
-    let opened = subst (IsOpeningOf c.args.brief c.args.under.now c.args.size c.args.comp) c.in-Open.is c.in_ok-round.ensures.opening in
-    let admitted = ((opened.0).operators g.T.Structure.ordered (c.requires.operators, tt)).0 in
-    (admitted.0, (c.in_ok-item.ensures.kept).operators g.T.Structure.ordered admitted.1)
+    let fits = ((opened.0).levels (c.requires.over.levels, tt)).0 in
+    let admitted = ((opened.0).operators g.T.Structure.ordered (c.requires.over.operators, tt)).0 in
+    record {
+      over = record {
+        levels = (fits.0, fits.1, (c.in_ok-item.ensures.kept).levels fits.2);
+        operators = (admitted.0, (c.in_ok-item.ensures.kept).operators g.T.Structure.ordered admitted.1);
+      };
+    }
 
 pub one_round-returns-clause-round : goal.one_round-returns-clause-round
 one_round-returns-clause-round g t c =
@@ -141,9 +141,9 @@ one_round-returns-clause-round g t c =
     let now : Comp = record { binders = r.comp.binders; guard = r.comp.guard; item = item } in
     let opened = subst (IsOpeningOf c.args.brief u n k) c.in-Open.is c.in_ok-round.ensures.opening in
     let kept = kept_trans u n (set_of (only (comp_of k))) (set_of (only (comp_of r.comp))) (set_of (only (comp_of now))) opened.0
-    (item_kept u n r.comp.binders r.comp.guard r.here (tree r.comp.item) (tree item) c.requires.under_levels (opened.2).here c.in_ok-item.ensures.kept) in
+    (item_kept u n r.comp.binders r.comp.guard r.here (tree r.comp.item) (tree item) c.requires.under.levels (opened.2).here c.in_ok-item.ensures.kept) in
     IfOk-weaker c.close_round.result (IsClosingOf n now) (IsRoundOf c.args.brief u n k)
-    (λ x closing. round_closed c.args.brief u n k now r.here x c.requires.under_levels kept opened.1 opened.2 c.in_ok-item.ensures.normal c.in_ok-item.ensures.guards c.in_ok-item.ensures.plain closing)
+    (λ x closing. round_closed c.args.brief u n k now r.here x c.requires.under.levels kept opened.1 opened.2 c.in_ok-item.ensures.normal c.in_ok-item.ensures.guards c.in_ok-item.ensures.plain closing)
     c.close_round.ensures
 
 pub simplified-uncovered-requires-clause-lean : goal.simplified-uncovered-requires-clause-lean
@@ -197,7 +197,7 @@ simplified_parts-simplified-requires g t c κs within =
     let seen = c.loop-part.yielded in
     let turn = YieldsList-turn (YieldsList-from_vec items (cc) (cc)) seen c.loop-part.part-iterator c.loop-part.yielded_by c.next.result c.next.new.self c.in-Some.part c.in-Some.is c.next.ensures.steps in
     let p = is_part_of items c.args.parts (length seen) c.in-Some.part c.into_vec-part-items.ensures turn.0 turn.1 in
-    (omega (arith, p.depth), (within.0, (within.1, (c.requires.sound, (p.fits c.args.size c.requires.levels, (c.requires.under_levels, (c.requires.met, (p.admits g.T.Structure.ordered c.requires.operators, c.requires.under_operators))))))))
+    (omega (arith, p.depth), (within.0, (within.1, (c.requires.sound, (record { levels = p.fits c.args.size c.requires.over.levels; operators = p.admits g.T.Structure.ordered c.requires.over.operators }, (c.requires.under, c.requires.met))))))
 
 pub simplified_parts-loop-part-preserved : goal.simplified_parts-loop-part-preserved
 simplified_parts-loop-part-preserved g t c =

@@ -1,6 +1,11 @@
+use Rattle.std.proofs.Common.{rules}
 use Rattle.lois_base.specs.Data.{comps_of}
 use Rattle.lois_base.proofs.Validity.{items_admitted}
 use Rattle.lois_vectors_sets.proofs.simplify.simple.Goals as goal
 
-pub simplify-requires-clause-operators : goal.simplify-requires-clause-operators
-simplify-requires-clause-operators g c = items_admitted (comps_of c.args.comps)
+pub simplify-requires-clause-over : goal.simplify-requires-clause-over
+simplify-requires-clause-over g c =
+    record {
+      levels = search rules;
+      operators = items_admitted (comps_of c.args.comps);
+    }

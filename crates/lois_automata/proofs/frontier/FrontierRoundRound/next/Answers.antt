@@ -1,4 +1,4 @@
-use Rattle.std.proofs.Common.{refl, sym, subst, ◌∙◌}
+use Rattle.std.proofs.Common.{refl, sym, subst, ◌∙◌, rules}
 use Rattle.std.proofs.lemmas.Bool.{false≢true}
 use Rattle.lois_base.specs.Data.{coll, comps_of}
 use Rattle.lois_base.specs.Fits.{Fits}
@@ -28,8 +28,8 @@ set_of_family-requires c =
     let g_over = news_over x f g settled over in
     over_length x.size self.nodes g (over_sizes x.size x.nodes g f (weakened_sizes g f settled.within) ∙ over)
 
-pub targets_from-requires-clause-held_levels : goal.targets_from-requires-clause-held_levels
-targets_from-requires-clause-held_levels c =
+pub targets_from-requires-clause-held : goal.targets_from-requires-clause-held
+targets_from-requires-clause-held c =
     let self = c.args.self.now in
     let x : RoundParameters = record { size = self.size; under = self.under; nodes = comps_of self.nodes; moves = coll (comps_of self.moves) } in
     let f = c.args.family.now in
@@ -37,19 +37,31 @@ targets_from-requires-clause-held_levels c =
     let over = sym c.is_over_nodes.ensures ∙ c.if-not-is_over_nodes.false in
     let settled : IsSettled x f g = c.frontier_of-frontier.ensures x self.settled in
     let g_over = news_over x f g settled over in
-    subst (λ z. Fits self.size z) (sym c.in_ok-held.ensures) (held_fits self.size (comps_of self.nodes) g g_over c.as_slice-frontier.ensures.fits self.nodes_fit)
+    record {
+      levels = subst (λ z. Fits self.size z) (sym c.in_ok-held.ensures) (held_fits self.size (comps_of self.nodes) g g_over c.as_slice-frontier.ensures.fits self.nodes_fit);
+      operators = term_admitted (tree c.in_ok-held.held);
+    }
 
-pub targets_from-requires-clause-operators : goal.targets_from-requires-clause-operators
-targets_from-requires-clause-operators c = items_admitted (comps_of c.args.self.now.moves)
+pub targets_from-requires-clause-over : goal.targets_from-requires-clause-over
+targets_from-requires-clause-over c =
+    record {
+      levels = search rules;
+      operators = items_admitted (comps_of c.args.self.now.moves);
+    }
 
-pub targets_from-requires-clause-held_operators : goal.targets_from-requires-clause-held_operators
-targets_from-requires-clause-held_operators c = term_admitted (tree c.in_ok-held.held)
+pub fresh_family-requires-clause-nodes : goal.fresh_family-requires-clause-nodes
+fresh_family-requires-clause-nodes c =
+    record {
+      levels = search rules;
+      operators = items_admitted (comps_of c.args.self.now.nodes);
+    }
 
-pub fresh_family-requires-clause-operators : goal.fresh_family-requires-clause-operators
-fresh_family-requires-clause-operators c = items_admitted (comps_of c.args.self.now.nodes)
-
-pub fresh_family-requires-clause-set_operators : goal.fresh_family-requires-clause-set_operators
-fresh_family-requires-clause-set_operators c = term_admitted (tree c.in_ok-targets.targets)
+pub fresh_family-requires-clause-set_over : goal.fresh_family-requires-clause-set_over
+fresh_family-requires-clause-set_over c =
+    record {
+      levels = search rules;
+      operators = term_admitted (tree c.in_ok-targets.targets);
+    }
 
 pub returns-then-is_empty_family-clause-none : goal.returns-then-is_empty_family-clause-none
 returns-then-is_empty_family-clause-none c =

@@ -1,7 +1,7 @@
 use Rattle.std.proofs.Common.{ap, sym, ◌∙◌, arith}
 use Rattle.lois_base.specs.Tree.{tree}
 use Rattle.lois_automata.proofs.Written.{not_three}
-use Rattle.lois_minimise.proofs.moving.into_step.Goals as goal
+use Rattle.lois_automata.proofs.parts.into_step.Goals as goal
 
 pub returns-then-len-ne3-clause-none : goal.returns-then-len-ne3-clause-none
 returns-then-len-ne3-clause-none c p l q e =
