@@ -6,8 +6,8 @@ use crate::making::{Comparison, Dice, constraint_of, cube_of, lit};
 use lois_base::Op::{AtMost, Eq, Lt, Ne};
 use lois_base::{Constraint, Cube, NoMemory};
 use lois_constraint::{
-    alternatives, and, and_not, conflict, conjoin_cube, covers_cube, entails, implies, meet,
-    negate, normalise, or, prune, shift, substitute, substitute_cube, tighten,
+    alternatives, and, and_not, and_not_partly, conflict, conjoin_cube, covers_cube, entails,
+    implies, meet, negate, normalise, or, prune, shift, substitute, substitute_cube, tighten,
 };
 use std::alloc::Global;
 use std::process::Abort;
@@ -191,6 +191,23 @@ fn what_ties_and_sets_apart_is_told(rt: HostRuntime) -> Result<(), Fail> {
         let implied = is_implied(rt.alloc(), literals, comparison)?;
         assert_eq!(rt; implied, wanted, "{literals:?} {comparison:?}");
     }
+    Ok(())
+}
+
+#[test]
+fn a_difference_is_made_in_part(rt: HostRuntime) -> Result<(), Fail> {
+    let alloc = rt.alloc();
+    let everywhere = constraint_of(alloc, &[&[]])?;
+    let between = constraint_of(alloc, &[&BETWEEN])?;
+    let all = and_not_partly(alloc, &everywhere, &between, 2)?;
+    assert!(rt; all.whole);
+    assert!(rt; all.constraint.is_equal(&constraint_of(alloc, &REFUSED)?));
+    let part = and_not_partly(alloc, &everywhere, &between, 1)?;
+    assert!(rt; !part.whole);
+    assert!(rt;
+        part.constraint
+            .is_equal(&constraint_of(alloc, &[&[(2, AtMost, 0)]])?)
+    );
     Ok(())
 }
 

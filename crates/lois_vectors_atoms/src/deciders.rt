@@ -239,6 +239,36 @@ fn one_constraint_entails_another(rt: HostRuntime) -> Result<(), Fail> {
     Ok(())
 }
 
+// Taken off one after another, they leave 32 cubes.
+const STEPS: [&[Comparison]; 5] = [
+    &[(0, Lt, 1), (1, Lt, 2)],
+    &[(3, Lt, 4), (4, Lt, 5)],
+    &[(6, Lt, 7), (7, Lt, 8)],
+    &[(9, Lt, 10), (10, Lt, 11)],
+    &[(12, Lt, 13), (13, Lt, 14)],
+];
+
+#[test]
+fn a_counterexample_is_found_in_a_part(rt: HostRuntime) -> Result<(), Fail> {
+    let alloc = rt.alloc();
+    let mut chosen = chosen(alloc)?;
+    let everywhere = constraint_of(alloc, &[&[]])?;
+    let mut steps = constraint_of(alloc, &STEPS)?;
+    assert!(rt; everywhere.fits(15) && steps.fits(15));
+    let sample = chosen
+        .entails(alloc, &everywhere, &steps, 15)?
+        .ok_or("no counterexample")?;
+    assert!(rt; !steps.at(sample.as_slice()));
+    assert_eq!(rt; chosen.asked(), 1);
+
+    // there is none in what is dropped either
+    steps.push(Cube::new(alloc))?;
+    assert!(rt; steps.fits(15));
+    let none = chosen.entails(alloc, &everywhere, &steps, 15)?;
+    assert!(rt; none.is_none());
+    Ok(())
+}
+
 fn meeting(
     rt: &impl Abort,
     alloc: Global,
