@@ -1,5 +1,6 @@
 pub mod Binders
 pub mod Inside
+pub mod LeftToRight
 pub mod Outward
 pub mod Gathering
 pub mod Loops

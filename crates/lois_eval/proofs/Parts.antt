@@ -17,6 +17,11 @@ use Rattle.lois_answers.specs.declared.faults.FaultKind.{FaultKind}
 use Rattle.lois_script.specs.declared.syntax.Cond.{Cond}
 use Rattle.lois_script.specs.declared.syntax.Expr.{Expr}
 use Rattle.lois_eval.specs.WellFormed.{IsWellFormed, AreWellFormed, CondIsWellFormed, CondsAreWellFormed, count_of}
+use Rattle.lois_eval.specs.LeftToRight.{IsOfLeftmost, IsOfLeftmostOperand}
+use Rattle.lois_eval.specs.Throughout.{IsFaultOf}
+use Rattle.lois_context.specs.declared.contexts.Context.{Context}
+use Rattle.lois_meaning.specs.declared.faults.Fault.{Fault}
+use Rattle.lois_eval.proofs.LeftToRight.{AreGiven, first_nowhere, rest_given}
 use Rattle.lois_eval.proofs.Weights.{weight, weight_of_exprs, weight_of_cond, weight_of_conds}
 
 -- ---- expressions
@@ -26,6 +31,7 @@ pub record IsExprOf (es before : ExprsD) (e : ExprD) : Type 0 where
   pub weight : weight e ≤ weight_of_exprs es
   pub stands : (o : Bool) (xs : List (List ℕ)) → AreWellFormed es o xs → IsWellFormed e o xs
   pub fails : (s : NamedValues) (vs : List PointValue) (at : ℕ) (k : FaultKind) → GiveAll before s vs → Fails e s at k → SomeFails es s at k
+  pub leftmost : (o : Bool) (k : Context) (f : Fault) → AreGiven k before → IsFaultOf o k (Fails e) f × IsOfLeftmostOperand o k e f → IsOfLeftmost o k es f
 
 expr_at : (es : List Expr) (i : ℕ) (d : Expr) → i < length es → IsExprOf (exprs_of (map tree es)) (exprs_of (map tree (take i es))) (tree (get_or es i d))
 expr_at [] i d l = absurd (omega arith)
@@ -33,6 +39,7 @@ expr_at (e ∷ es) zero d l = record {
   weight = omega arith;
   stands = λ o xs h. h.0;
   fails = λ s vs at k given h. inl h;
+  leftmost = λ o k f given h. inl h;
 }
 expr_at (e ∷ es) (suc i) d l =
     let rest = expr_at es i d (omega arith) in
@@ -40,6 +47,7 @@ expr_at (e ∷ es) (suc i) d l =
       weight = omega (arith, rest.weight);
       stands = λ o xs h. rest.stands o xs h.1;
       fails = λ s vs at k (v, more, is, own, given) h. inr (v, own, rest.fails s more at k given h);
+      leftmost = λ o k f given h. inr (first_nowhere k (tree e) (exprs_of (map tree (take i es))) given, rest.leftmost o k f (rest_given k (tree e) (exprs_of (map tree (take i es))) given) h);
     }
 
 pub is_expr_of : (es : List Expr) (vs : List ExprD) (i : ℕ) (e : Expr) → map tree es ≡ vs → i < length es → e ≡ get_or es i e → IsExprOf (exprs_of vs) (exprs_of (map tree (take i es))) (tree e)

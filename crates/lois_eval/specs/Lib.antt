@@ -1,5 +1,6 @@
 pub mod WellFormed
 pub mod Throughout
+pub mod LeftToRight
 pub mod Checks
 pub mod Made
 pub mod Operands

@@ -25,7 +25,8 @@ ghost use Rattle.lois_eval.specs.Automata.{AreOperands, IsEmptiness, IsOperation
 ghost use Rattle.lois_eval.specs.Checks.{MeetsBoth};
 ghost use Rattle.lois_eval.specs.Evaluated.{IsTermOf, AreTermsOf, IsConstraintOf, HasMembersOnlyWhereAdmitted};
 ghost use Rattle.lois_eval.specs.Folded.{IsGatheredInside, IsFoundInside, IsFaultInside};
-ghost use Rattle.lois_eval.specs.Forms.{each_from, joint, quantifier, two};
+ghost use Rattle.lois_eval.specs.Forms.{each_from, joint, quantifier, two, sides_of};
+ghost use Rattle.lois_eval.specs.LeftToRight.{IsOfLeftmost, IsOfLeftmostOperand};
 ghost use Rattle.lois_eval.specs.Sides.{sides_listed};
 ghost use Rattle.lois_eval.specs.Operands.{IsUnfitFault};
 ghost use Rattle.lois_eval.specs.WellFormed.{IsWellFormedIn, IsWellFormed, AreWellFormed, CondIsWellFormed};
@@ -48,7 +49,8 @@ use lois_script::{Binding, Cond, Conds, Expr, Exprs, Operation};
 use std::alloc::Global;
 
 /// The value of an expression at all choices that a context admits. Ok comes exactly where it fails at none of them.
-/// Errors: a fault at some choice that the context admits, and `NoMemory`, also where a level would pass the greatest usize.
+/// Errors: a fault at some choice that the context admits, of the leftmost operand that fails at any of them; and `NoMemory`,
+/// also where a level would pass the greatest usize.
 pub fn eval<T: Structure>(
     alloc: Global,
     e: &Expr,
@@ -62,6 +64,7 @@ pub fn eval<T: Structure>(
     ensures operators { IfOk result (λ t. (ordered : Bool) → IsWellFormedIn (IsWellFormed (tree e.now)) ordered context.now → AdmitsTerm ordered (term_tree t)) }
     ensures widths { IfOk result (λ t. ContextHasBoundedWidths context.now → HasBoundedWidths (term_tree t)) }
     ensures fault { IfErr result (λ s. IfFault s (IsFaultOf T.ordered context.now (Fails (tree e.now)))) }
+    ensures leftmost { IfErr result (λ s. IfFault s (IsOfLeftmostOperand T.ordered context.now (tree e.now))) }
 
     // whatever is answered
     ensures only_asked { HasOnlyAsked (λ b. (⟦<dyn Decider as Decider>⟧ b.vtable).kind_of b.value) (λ b. (⟦<dyn Decider as Decider>⟧ b.vtable).questions b.value) chosen.old chosen.new }
@@ -108,7 +111,8 @@ pub fn eval<T: Structure>(
 }
 
 /// Where a condition is true, among all choices that a context admits. Ok comes exactly where it fails at none of them.
-/// Errors: a fault at some choice that the context admits, and `NoMemory`, also where a level would pass the greatest usize.
+/// Errors: a fault at some choice that the context admits, of the leftmost side of a comparison that fails at any of them; and
+/// `NoMemory`, also where a level would pass the greatest usize.
 pub fn decide<T: Structure>(
     alloc: Global,
     c: &Cond,
@@ -121,6 +125,7 @@ pub fn decide<T: Structure>(
     ensures levels { IfOk result (λ r. ConstraintFits context.now.size r) }
     ensures operators { IfOk result (λ r. (ordered : Bool) → IsWellFormedIn (CondIsWellFormed (cond_tree c.now)) ordered context.now → AdmitsConstraint ordered r) }
     ensures fault { IfErr result (λ s. IfFault s (IsFaultOf T.ordered context.now (CondFails (cond_tree c.now)))) }
+    ensures leftmost { IfErr result (λ s. IfFault s (IsOfLeftmost T.ordered context.now (sides_of (cond_tree c.now)))) }
 
     // whatever is answered
     ensures only_asked { HasOnlyAsked (λ b. (⟦<dyn Decider as Decider>⟧ b.vtable).kind_of b.value) (λ b. (⟦<dyn Decider as Decider>⟧ b.vtable).questions b.value) chosen.old chosen.new }
@@ -178,6 +183,7 @@ fn evaluated<T: Structure, D: Oracle<T>>(
     requires placed { IsWellFormedIn (IsWellFormed (tree e.now)) T.ordered context.now }
     ensures term { IfOk result (λ t. IsTermOf context.now (Gives (tree e.now)) (IsWellFormed (tree e.now)) (term_tree t)) }
     ensures fault { IfErr result (λ s. IfFault s (IsFaultOf T.ordered context.now (Fails (tree e.now)))) }
+    ensures leftmost { IfErr result (λ s. IfFault s (IsOfLeftmostOperand T.ordered context.now (tree e.now))) }
     ensures asked { D.reaches decider.old decider.new }
 {
     let pos = e.pos();
@@ -202,6 +208,7 @@ fn made<T: Structure, D: Oracle<T>>(
     requires placed { IsWellFormedIn (IsWellFormed (tree e.now)) T.ordered context.now }
     ensures term { IfOk result (λ t. IsTermOf context.now (Makes (tree e.now)) (IsWellFormed (tree e.now)) (term_tree t)) }
     ensures fault { IfErr result (λ s. IfFault s (IsFaultOf T.ordered context.now (Breaks (tree e.now)))) }
+    ensures leftmost { IfErr result (λ s. IfFault s (IsOfLeftmostOperand T.ordered context.now (tree e.now))) }
     ensures asked { D.reaches decider.old decider.new }
 {
     match e {
@@ -253,6 +260,7 @@ fn all_evaluated<T: Structure, D: Oracle<T>>(
     requires placed { IsWellFormedIn (AreWellFormed (exprs_of (exprs_list es.now))) T.ordered context.now }
     ensures terms { IfOk result (λ ts. AreTermsOf context.now (exprs_of (exprs_list es.now)) (AreWellFormed (exprs_of (exprs_list es.now))) ts) }
     ensures fault { IfErr result (λ s. IfFault s (IsFaultOf T.ordered context.now (SomeFails (exprs_of (exprs_list es.now))))) }
+    ensures leftmost { IfErr result (λ s. IfFault s (IsOfLeftmost T.ordered context.now (exprs_of (exprs_list es.now)))) }
     ensures asked { D.reaches decider.old decider.new }
 {
     let mut values = Terms::new(alloc);
@@ -275,6 +283,7 @@ fn both_evaluated<T: Structure, D: Oracle<T>>(
     requires placed { IsWellFormedIn (AreWellFormed (two (tree e.now) (tree f.now))) T.ordered context.now }
     ensures terms { IfOk result (λ r. AreTermsOf context.now (two (tree e.now) (tree f.now)) (AreWellFormed (two (tree e.now) (tree f.now))) (sides_listed r)) }
     ensures fault { IfErr result (λ s. IfFault s (IsFaultOf T.ordered context.now (SomeFails (two (tree e.now) (tree f.now))))) }
+    ensures leftmost { IfErr result (λ s. IfFault s (IsOfLeftmost T.ordered context.now (two (tree e.now) (tree f.now)))) }
     ensures asked { D.reaches decider.old decider.new }
 {
     let left = side_evaluated::<T, D>(alloc, e, context, decider)?;
@@ -294,6 +303,7 @@ fn side_evaluated<T: Structure, D: Oracle<T>>(
     requires placed { IsWellFormedIn (IsWellFormed (tree e.now)) T.ordered context.now }
     ensures term { IfOk result (λ t. IsTermOf context.now (Gives (tree e.now)) (IsWellFormed (tree e.now)) (term_tree t)) }
     ensures fault { IfErr result (λ s. IfFault s (IsFaultOf T.ordered context.now (Fails (tree e.now)))) }
+    ensures leftmost { IfErr result (λ s. IfFault s (IsOfLeftmostOperand T.ordered context.now (tree e.now))) }
     ensures asked { D.reaches decider.old decider.new }
 {
     match e {
@@ -419,6 +429,7 @@ fn decided<T: Structure, D: Oracle<T>>(
     requires placed { IsWellFormedIn (CondIsWellFormed (cond_tree c.now)) T.ordered context.now }
     ensures constraint { IfOk result (IsConstraintOf context.now (HasTruth (cond_tree c.now)) (CondIsWellFormed (cond_tree c.now))) }
     ensures fault { IfErr result (λ s. IfFault s (IsFaultOf T.ordered context.now (CondFails (cond_tree c.now)))) }
+    ensures leftmost { IfErr result (λ s. IfFault s (IsOfLeftmost T.ordered context.now (sides_of (cond_tree c.now)))) }
     ensures asked { D.reaches decider.old decider.new }
 {
     match c {

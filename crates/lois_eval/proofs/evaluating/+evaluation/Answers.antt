@@ -18,12 +18,12 @@ use Rattle.lois_context.specs.Choices.{IsAdmittedBy, AdmitsContext}
 use Rattle.lois_context.specs.Entered.{AreEntered}
 use Rattle.lois_context.specs.Sides.{IsSide}
 use Rattle.lois_base.proofs.Viewed.{one_more}
-use Rattle.lois_script.specs.Tree.{each, part, pos, truth, falsity, same, differ, below, member, included, empty, not}
+use Rattle.lois_script.specs.Tree.{tuple, listed, apply, each, part, pos, truth, falsity, same, differ, below, member, included, empty, not}
 use Rattle.lois_script.specs.View.{tree, cond_tree, binding_tree, exprs_of, bindings_of, conds_of}
 use Rattle.lois_script.specs.Lists.{exprs_list, bindings_list, conds_list}
 use Rattle.lois_script.specs.declared.syntax.Cond.{Cond}
 use Rattle.lois_script.specs.declared.syntax.Expr.{Expr}
-use Rattle.lois_script.proofs.Views.{tree_Part, tree_Each, cond_Not, cond_True, cond_False, cond_Same, cond_Differ, cond_Below, cond_Member, cond_Included, cond_Empty}
+use Rattle.lois_script.proofs.Views.{tree_Tuple, tree_Listed, tree_Apply, tree_Part, tree_Each, cond_Not, cond_True, cond_False, cond_Same, cond_Differ, cond_Below, cond_Member, cond_Included, cond_Empty}
 use Rattle.lois_eval.specs.Automata.{IsEmptiness, IsValueFault}
 use Rattle.lois_eval.specs.Checks.{IsDepthFault, IsSetFault}
 use Rattle.lois_eval.specs.Evaluated.{IsTermOf, AreTermsOf, IsConstraintOf, HasMembersOnlyWhereAdmitted}
@@ -37,13 +37,15 @@ use Rattle.lois_eval.proofs.Bindings.{first_weight, first_new, first_no_set, fir
 use Rattle.lois_eval.proofs.Comparing.{sides_from, sides_fail}
 use Rattle.lois_eval.proofs.Conditions.{joint_none, joint_more, not_decided}
 use Rattle.lois_eval.proofs.Emptiness.{empty_decided, empty_fails}
-use Rattle.lois_eval.proofs.Evaluations.{placed_as, terms_none, terms_more, some_fails, joint_fails, joint_placed}
+use Rattle.lois_eval.proofs.Evaluations.{fails_nowhere, placed_as, terms_none, terms_more, some_fails, joint_fails, joint_placed}
 use Rattle.lois_eval.proofs.FaultsAt.{if_fault, fault_weaker, fault_within}
 use Rattle.lois_eval.proofs.Gathering.{gathered_more, found_more}
 use Rattle.lois_eval.proofs.LoopExit.{handed_fault, handed_same, handed_ok, item_there, passed_on, term_given}
 use Rattle.lois_eval.proofs.Nodes.{part_made, part_fails, made_as, breaks_as, too_deep_fails}
 use Rattle.lois_eval.proofs.Parts.{is_expr_of, is_cond_of}
 use Rattle.lois_eval.proofs.Plain.{truth_decided, falsity_decided, decided_as, cond_fails_as}
+use Rattle.lois_eval.specs.LeftToRight.{IsOfLeftmost, IsOfLeftmostOperand}
+use Rattle.lois_eval.proofs.LeftToRight.{values_given, none_fails, own_fault, leftmost_as, sides_leftmost, both_faults, err_always}
 use Rattle.lois_eval.proofs.Weights.{weight_of_cond_positive}
 use Rattle.lois_eval.proofs.Wholes.{all_longer}
 use Rattle.lois_eval.proofs.evaluating.+evaluation.Goals as goal
@@ -626,3 +628,196 @@ made-returns-in_err-gathered-in-Each-clause-fault g t c =
     let own = fault_weaker g.T.Structure.ordered k (Breaks (each_from item.value bs 0 cond.value)) (Breaks (each p.offset (tree item.value) (bindings_of (map binding_tree bs)) (cond_tree cond.value))) f (λ s at kind bad. bad) here in
     breaks_as g.T.Structure.ordered k (tree c.args.e.now) (each p.offset (tree item.value) (bindings_of (bindings_list bindings)) (cond_tree cond.value)) f is
     (subst (λ z. IsFaultOf g.T.Structure.ordered k (Breaks (each p.offset (tree item.value) (bindings_of z) (cond_tree cond.value))) f) c.as_slice.ensures.items own)) c.in_err-gathered-in-Each.ensures.fault
+
+pub evaluated-returns-clause-leftmost : goal.evaluated-returns-clause-leftmost
+evaluated-returns-clause-leftmost g t c =
+    let k = c.args.context.now in
+    let e = tree c.args.e.now in
+    err_always c.shallow.result (IsOfLeftmostOperand g.T.Structure.ordered k e) (λ f. own_fault g.T.Structure.ordered k e (term_tree c.in_ok-made.field-0) f c.in_ok-made.ensures.term)
+
+pub all_evaluated-returns-in_err-evaluated-clause-leftmost :
+    goal.all_evaluated-returns-in_err-evaluated-clause-leftmost
+all_evaluated-returns-in_err-evaluated-clause-leftmost g t c =
+    let k = c.args.context.now in
+    let es = exprs_of (exprs_list c.args.es.now) in
+    let e = c.e-item.result in
+    let p = is_expr_of c.as_slice-e-items.result.now (exprs_list c.args.es.now) c.loop-e.e-index e c.as_slice-e-items.ensures.items c.loop-e-test.true c.e-item.is in
+    let before = exprs_of (map tree (take c.loop-e.e-index c.as_slice-e-items.result.now)) in
+    let Bad : Fault → Type 0 = IsFaultOf g.T.Structure.ordered k (Fails (tree e)) in
+    let Own : Fault → Type 0 = IsOfLeftmostOperand g.T.Structure.ordered k (tree e) in
+    passed_on c.from_residual.result c.in_err-evaluated.field-0.0 (λ f. Bad f × Own f) (IsOfLeftmost g.T.Structure.ordered k es) c.from_residual.ensures.1
+    (λ f h. p.leftmost g.T.Structure.ordered k f (values_given k before c.loop-e.values c.loop-e.invariant.terms.values) h) (both_faults c.in_err-evaluated.field-0.0 Bad Own c.in_err-evaluated.ensures.fault c.in_err-evaluated.ensures.leftmost)
+
+pub both_evaluated-returns-in_err-left-clause-leftmost :
+    goal.both_evaluated-returns-in_err-left-clause-leftmost
+both_evaluated-returns-in_err-left-clause-leftmost g t c =
+    let k = c.args.context.now in
+    let e = tree c.args.e.now in
+    let f = tree c.args.f.now in
+    let Bad : Fault → Type 0 = IsFaultOf g.T.Structure.ordered k (Fails e) in
+    let Own : Fault → Type 0 = IsOfLeftmostOperand g.T.Structure.ordered k e in
+    passed_on c.from_residual.result c.in_err-left.field-0.0 (λ x. Bad x × Own x) (IsOfLeftmost g.T.Structure.ordered k (two e f)) c.from_residual.ensures.1
+    (λ x h. inl h) (both_faults c.in_err-left.field-0.0 Bad Own c.in_err-left.ensures.fault c.in_err-left.ensures.leftmost)
+
+pub both_evaluated-returns-in_err-right-clause-leftmost :
+    goal.both_evaluated-returns-in_err-right-clause-leftmost
+both_evaluated-returns-in_err-right-clause-leftmost g t c =
+    let k = c.args.context.now in
+    let e = tree c.args.e.now in
+    let f = tree c.args.f.now in
+    let s = term_tree c.in_ok-left.left in
+    let Bad : Fault → Type 0 = IsFaultOf g.T.Structure.ordered k (Fails f) in
+    let Own : Fault → Type 0 = IsOfLeftmostOperand g.T.Structure.ordered k f in
+    passed_on c.from_residual-in_err-right.result c.in_err-right.field-0.0 (λ x. Bad x × Own x) (IsOfLeftmost g.T.Structure.ordered k (two e f)) c.from_residual-in_err-right.ensures.1
+    (λ x h. inr (fails_nowhere k e s c.in_ok-left.ensures.term.value, inl h)) (both_faults c.in_err-right.field-0.0 Bad Own c.in_err-right.ensures.fault c.in_err-right.ensures.leftmost)
+
+pub made-returns-in_err-values-in-Tuple-clause-leftmost : goal.made-returns-in_err-values-in-Tuple-clause-leftmost
+made-returns-in_err-values-in-Tuple-clause-leftmost g t c =
+    let k = c.args.context.now in
+    let es = c.in-Tuple.parts in
+    let d = tuple c.in-Tuple.field-0.offset (exprs_of (exprs_list es)) in
+    let is = ap tree c.in-Tuple.is ∙ tree_Tuple c.in-Tuple.field-0 es in
+    leftmost_as g.T.Structure.ordered k (tree c.args.e.now) d c.from_residual.result is (passed_on c.from_residual.result c.in_err-values-in-Tuple.field-0.0 (IsOfLeftmost g.T.Structure.ordered k (exprs_of (exprs_list es))) (IsOfLeftmostOperand g.T.Structure.ordered k d) c.from_residual.ensures.1 (λ f h. h) c.in_err-values-in-Tuple.ensures.leftmost)
+
+pub made-returns-in_ok-values-in-Tuple-clause-leftmost : goal.made-returns-in_ok-values-in-Tuple-clause-leftmost
+made-returns-in_ok-values-in-Tuple-clause-leftmost g t c =
+    let k = c.args.context.now in
+    let es = c.in-Tuple.parts in
+    let d = tuple c.in-Tuple.field-0.offset (exprs_of (exprs_list es)) in
+    let is = ap tree c.in-Tuple.is ∙ tree_Tuple c.in-Tuple.field-0 es in
+    leftmost_as g.T.Structure.ordered k (tree c.args.e.now) d c.composed.result is (err_always c.composed.result (IsOfLeftmostOperand g.T.Structure.ordered k d) (λ f. none_fails g.T.Structure.ordered k (exprs_of (exprs_list es)) f (values_given k (exprs_of (exprs_list es)) c.in_ok-values-in-Tuple.values c.in_ok-values-in-Tuple.ensures.terms.values)))
+
+pub made-returns-in_err-values-in-Listed-clause-leftmost : goal.made-returns-in_err-values-in-Listed-clause-leftmost
+made-returns-in_err-values-in-Listed-clause-leftmost g t c =
+    let k = c.args.context.now in
+    let es = c.in-Listed.items in
+    let d = listed c.in-Listed.field-0.offset (exprs_of (exprs_list es)) in
+    let is = ap tree c.in-Listed.is ∙ tree_Listed c.in-Listed.field-0 es in
+    leftmost_as g.T.Structure.ordered k (tree c.args.e.now) d c.from_residual-in_err-values-in-Listed.result is (passed_on c.from_residual-in_err-values-in-Listed.result c.in_err-values-in-Listed.field-0.0 (IsOfLeftmost g.T.Structure.ordered k (exprs_of (exprs_list es))) (IsOfLeftmostOperand g.T.Structure.ordered k d) c.from_residual-in_err-values-in-Listed.ensures.1 (λ f h. h) c.in_err-values-in-Listed.ensures.leftmost)
+
+pub made-returns-in_ok-values-in-Listed-clause-leftmost : goal.made-returns-in_ok-values-in-Listed-clause-leftmost
+made-returns-in_ok-values-in-Listed-clause-leftmost g t c =
+    let k = c.args.context.now in
+    let es = c.in-Listed.items in
+    let d = listed c.in-Listed.field-0.offset (exprs_of (exprs_list es)) in
+    let is = ap tree c.in-Listed.is ∙ tree_Listed c.in-Listed.field-0 es in
+    leftmost_as g.T.Structure.ordered k (tree c.args.e.now) d c.composed-in-Listed.result is (err_always c.composed-in-Listed.result (IsOfLeftmostOperand g.T.Structure.ordered k d) (λ f. none_fails g.T.Structure.ordered k (exprs_of (exprs_list es)) f (values_given k (exprs_of (exprs_list es)) c.in_ok-values-in-Listed.values c.in_ok-values-in-Listed.ensures.terms.values)))
+
+pub made-returns-in_err-values-in-Apply-clause-leftmost : goal.made-returns-in_err-values-in-Apply-clause-leftmost
+made-returns-in_err-values-in-Apply-clause-leftmost g t c =
+    let k = c.args.context.now in
+    let es = c.in-Apply.operands in
+    let d = apply c.in-Apply.field-0.offset c.in-Apply.field-1 (exprs_of (exprs_list es)) in
+    let is = ap tree c.in-Apply.is ∙ tree_Apply c.in-Apply.field-0 c.in-Apply.field-1 es in
+    leftmost_as g.T.Structure.ordered k (tree c.args.e.now) d c.from_residual-in_err-values-in-Apply.result is (passed_on c.from_residual-in_err-values-in-Apply.result c.in_err-values-in-Apply.field-0.0 (IsOfLeftmost g.T.Structure.ordered k (exprs_of (exprs_list es))) (IsOfLeftmostOperand g.T.Structure.ordered k d) c.from_residual-in_err-values-in-Apply.ensures.1 (λ f h. h) c.in_err-values-in-Apply.ensures.leftmost)
+
+pub made-returns-in_ok-values-in-Apply-clause-leftmost : goal.made-returns-in_ok-values-in-Apply-clause-leftmost
+made-returns-in_ok-values-in-Apply-clause-leftmost g t c =
+    let k = c.args.context.now in
+    let es = c.in-Apply.operands in
+    let d = apply c.in-Apply.field-0.offset c.in-Apply.field-1 (exprs_of (exprs_list es)) in
+    let is = ap tree c.in-Apply.is ∙ tree_Apply c.in-Apply.field-0 c.in-Apply.field-1 es in
+    leftmost_as g.T.Structure.ordered k (tree c.args.e.now) d c.composed-in-Apply.result is (err_always c.composed-in-Apply.result (IsOfLeftmostOperand g.T.Structure.ordered k d) (λ f. none_fails g.T.Structure.ordered k (exprs_of (exprs_list es)) f (values_given k (exprs_of (exprs_list es)) c.in_ok-values-in-Apply.values c.in_ok-values-in-Apply.ensures.terms.values)))
+
+pub decided-returns-in_err-values-in-Same-clause-leftmost : goal.decided-returns-in_err-values-in-Same-clause-leftmost
+decided-returns-in_err-values-in-Same-clause-leftmost g t c =
+    let k = c.args.context.now in
+    let e = c.in-Same.e in
+    let f = c.in-Same.f in
+    let sides = two (tree e) (tree f) in
+    let is = ap cond_tree c.in-Same.is ∙ cond_Same e f in
+    sides_leftmost g.T.Structure.ordered k (cond_tree c.args.c.now) (same (tree e) (tree f)) c.from_residual-in_err-values-in-Same.result is (passed_on c.from_residual-in_err-values-in-Same.result c.in_err-values-in-Same.field-0.0 (IsOfLeftmost g.T.Structure.ordered k sides) (IsOfLeftmost g.T.Structure.ordered k sides) c.from_residual-in_err-values-in-Same.ensures.1 (λ x h. h) c.in_err-values-in-Same.ensures.leftmost)
+
+pub decided-returns-in_ok-values-in-Same-clause-leftmost : goal.decided-returns-in_ok-values-in-Same-clause-leftmost
+decided-returns-in_ok-values-in-Same-clause-leftmost g t c =
+    let k = c.args.context.now in
+    let e = c.in-Same.e in
+    let f = c.in-Same.f in
+    let sides = two (tree e) (tree f) in
+    let is = ap cond_tree c.in-Same.is ∙ cond_Same e f in
+    sides_leftmost g.T.Structure.ordered k (cond_tree c.args.c.now) (same (tree e) (tree f)) c.compared.result is (err_always c.compared.result (IsOfLeftmost g.T.Structure.ordered k sides) (λ x. none_fails g.T.Structure.ordered k sides x (values_given k sides (sides_listed c.in_ok-values-in-Same.values) c.in_ok-values-in-Same.ensures.terms.values)))
+
+pub decided-returns-in_err-values-in-Differ-clause-leftmost : goal.decided-returns-in_err-values-in-Differ-clause-leftmost
+decided-returns-in_err-values-in-Differ-clause-leftmost g t c =
+    let k = c.args.context.now in
+    let e = c.in-Differ.e in
+    let f = c.in-Differ.f in
+    let sides = two (tree e) (tree f) in
+    let is = ap cond_tree c.in-Differ.is ∙ cond_Differ e f in
+    sides_leftmost g.T.Structure.ordered k (cond_tree c.args.c.now) (differ (tree e) (tree f)) c.from_residual-in_err-values-in-Differ.result is (passed_on c.from_residual-in_err-values-in-Differ.result c.in_err-values-in-Differ.field-0.0 (IsOfLeftmost g.T.Structure.ordered k sides) (IsOfLeftmost g.T.Structure.ordered k sides) c.from_residual-in_err-values-in-Differ.ensures.1 (λ x h. h) c.in_err-values-in-Differ.ensures.leftmost)
+
+pub decided-returns-in_ok-values-in-Differ-clause-leftmost : goal.decided-returns-in_ok-values-in-Differ-clause-leftmost
+decided-returns-in_ok-values-in-Differ-clause-leftmost g t c =
+    let k = c.args.context.now in
+    let e = c.in-Differ.e in
+    let f = c.in-Differ.f in
+    let sides = two (tree e) (tree f) in
+    let is = ap cond_tree c.in-Differ.is ∙ cond_Differ e f in
+    sides_leftmost g.T.Structure.ordered k (cond_tree c.args.c.now) (differ (tree e) (tree f)) c.compared-in-Differ.result is (err_always c.compared-in-Differ.result (IsOfLeftmost g.T.Structure.ordered k sides) (λ x. none_fails g.T.Structure.ordered k sides x (values_given k sides (sides_listed c.in_ok-values-in-Differ.values) c.in_ok-values-in-Differ.ensures.terms.values)))
+
+pub decided-returns-in_err-values-in-Below-clause-leftmost : goal.decided-returns-in_err-values-in-Below-clause-leftmost
+decided-returns-in_err-values-in-Below-clause-leftmost g t c =
+    let k = c.args.context.now in
+    let e = c.in-Below.e in
+    let f = c.in-Below.f in
+    let sides = two (tree e) (tree f) in
+    let is = ap cond_tree c.in-Below.is ∙ cond_Below c.in-Below.field-0 e f in
+    sides_leftmost g.T.Structure.ordered k (cond_tree c.args.c.now) (below c.in-Below.field-0.offset (tree e) (tree f)) c.from_residual-in_err-values-in-Below.result is (passed_on c.from_residual-in_err-values-in-Below.result c.in_err-values-in-Below.field-0.0 (IsOfLeftmost g.T.Structure.ordered k sides) (IsOfLeftmost g.T.Structure.ordered k sides) c.from_residual-in_err-values-in-Below.ensures.1 (λ x h. h) c.in_err-values-in-Below.ensures.leftmost)
+
+pub decided-returns-in_ok-values-in-Below-clause-leftmost : goal.decided-returns-in_ok-values-in-Below-clause-leftmost
+decided-returns-in_ok-values-in-Below-clause-leftmost g t c =
+    let k = c.args.context.now in
+    let e = c.in-Below.e in
+    let f = c.in-Below.f in
+    let sides = two (tree e) (tree f) in
+    let is = ap cond_tree c.in-Below.is ∙ cond_Below c.in-Below.field-0 e f in
+    sides_leftmost g.T.Structure.ordered k (cond_tree c.args.c.now) (below c.in-Below.field-0.offset (tree e) (tree f)) c.compared-in-Below.result is (err_always c.compared-in-Below.result (IsOfLeftmost g.T.Structure.ordered k sides) (λ x. none_fails g.T.Structure.ordered k sides x (values_given k sides (sides_listed c.in_ok-values-in-Below.values) c.in_ok-values-in-Below.ensures.terms.values)))
+
+pub decided-returns-in_err-values-in-Member-clause-leftmost : goal.decided-returns-in_err-values-in-Member-clause-leftmost
+decided-returns-in_err-values-in-Member-clause-leftmost g t c =
+    let k = c.args.context.now in
+    let e = c.in-Member.e in
+    let f = c.in-Member.f in
+    let sides = two (tree e) (tree f) in
+    let is = ap cond_tree c.in-Member.is ∙ cond_Member e f in
+    sides_leftmost g.T.Structure.ordered k (cond_tree c.args.c.now) (member (tree e) (tree f)) c.from_residual-in_err-values-in-Member.result is (passed_on c.from_residual-in_err-values-in-Member.result c.in_err-values-in-Member.field-0.0 (IsOfLeftmost g.T.Structure.ordered k sides) (IsOfLeftmost g.T.Structure.ordered k sides) c.from_residual-in_err-values-in-Member.ensures.1 (λ x h. h) c.in_err-values-in-Member.ensures.leftmost)
+
+pub decided-returns-in_ok-values-in-Member-clause-leftmost : goal.decided-returns-in_ok-values-in-Member-clause-leftmost
+decided-returns-in_ok-values-in-Member-clause-leftmost g t c =
+    let k = c.args.context.now in
+    let e = c.in-Member.e in
+    let f = c.in-Member.f in
+    let sides = two (tree e) (tree f) in
+    let is = ap cond_tree c.in-Member.is ∙ cond_Member e f in
+    sides_leftmost g.T.Structure.ordered k (cond_tree c.args.c.now) (member (tree e) (tree f)) c.compared-in-Member.result is (err_always c.compared-in-Member.result (IsOfLeftmost g.T.Structure.ordered k sides) (λ x. none_fails g.T.Structure.ordered k sides x (values_given k sides (sides_listed c.in_ok-values-in-Member.values) c.in_ok-values-in-Member.ensures.terms.values)))
+
+pub decided-returns-in_err-values-in-Included-clause-leftmost : goal.decided-returns-in_err-values-in-Included-clause-leftmost
+decided-returns-in_err-values-in-Included-clause-leftmost g t c =
+    let k = c.args.context.now in
+    let e = c.in-Included.e in
+    let f = c.in-Included.f in
+    let sides = two (tree e) (tree f) in
+    let is = ap cond_tree c.in-Included.is ∙ cond_Included e f in
+    sides_leftmost g.T.Structure.ordered k (cond_tree c.args.c.now) (included (tree e) (tree f)) c.from_residual-in_err-values-in-Included.result is (passed_on c.from_residual-in_err-values-in-Included.result c.in_err-values-in-Included.field-0.0 (IsOfLeftmost g.T.Structure.ordered k sides) (IsOfLeftmost g.T.Structure.ordered k sides) c.from_residual-in_err-values-in-Included.ensures.1 (λ x h. h) c.in_err-values-in-Included.ensures.leftmost)
+
+pub decided-returns-in_ok-values-in-Included-clause-leftmost : goal.decided-returns-in_ok-values-in-Included-clause-leftmost
+decided-returns-in_ok-values-in-Included-clause-leftmost g t c =
+    let k = c.args.context.now in
+    let e = c.in-Included.e in
+    let f = c.in-Included.f in
+    let sides = two (tree e) (tree f) in
+    let is = ap cond_tree c.in-Included.is ∙ cond_Included e f in
+    sides_leftmost g.T.Structure.ordered k (cond_tree c.args.c.now) (included (tree e) (tree f)) c.compared-in-Included.result is (err_always c.compared-in-Included.result (IsOfLeftmost g.T.Structure.ordered k sides) (λ x. none_fails g.T.Structure.ordered k sides x (values_given k sides (sides_listed c.in_ok-values-in-Included.values) c.in_ok-values-in-Included.ensures.terms.values)))
+
+pub made-returns-in_ok-evaluated-in-Part-clause-leftmost :
+    goal.made-returns-in_ok-evaluated-in-Part-clause-leftmost
+made-returns-in_ok-evaluated-in-Part-clause-leftmost g t c =
+    let k = c.args.context.now in
+    let p = c.in-Part.field-0 in
+    let whole = c.in-Part.whole in
+    let n = c.in-Part.n in
+    let u = term_tree c.in_ok-evaluated-in-Part.field-0 in
+    let d = part p.offset (tree whole.value) n in
+    let is = ap tree c.in-Part.is ∙ tree_Part p whole n in
+    let own = subst (λ (z : Expr). IsTermOf k (Gives (tree z)) (IsWellFormed (tree z)) u) c.deref-in-Part-2.ensures c.in_ok-evaluated-in-Part.ensures.term in
+    leftmost_as g.T.Structure.ordered k (tree c.args.e.now) d c.part.result is (err_always c.part.result (IsOfLeftmostOperand g.T.Structure.ordered k d) (λ f. inr (fails_nowhere k (tree whole.value) u own.value)))
