@@ -15,10 +15,16 @@ names() {
   echo "$list"
 }
 
-# the state of a queue with these atoms
+# the state of a queue with these atoms; a tuple has at most 8 parts
 queue_state() {
   local count=$1 atoms=$2
-  if [ "$count" -eq 0 ]; then echo "'q0"; else echo "('q$count, $atoms)"; fi
+  if [ "$count" -eq 0 ]; then
+    echo "'q0"
+  elif [ "$count" -lt 8 ]; then
+    echo "('q$count, $atoms)"
+  else
+    echo "('q$count, ($atoms))"
+  fi
 }
 
 # for x1 in atoms, ..
@@ -78,7 +84,7 @@ timed() {
 }
 
 printf '%-52s %-28s %9s %10s\n' question answer bytes seconds
-for room in 2 3 5 7; do
+for room in 2 3 5 7 8; do
   right=$(queue "$room" "$(names 2 "$room")")
   turned="x2"
   [ "$room" -eq 2 ] || turned="$(names 3 "$room"), x2"
