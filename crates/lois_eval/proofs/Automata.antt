@@ -162,21 +162,21 @@ module _ (o : Bool) (k : Context) (op : Operation) (es : List ExprD) (ts : List 
   pub one_unfit : (e : ExprD) (t : TermD) → es ≡ e ∷ [] → ts ≡ t ∷ [] → IsValueFault o k (IsInvalidOperand op) t (pos e) x → IsUnfitFault o k op (exprs_of es) (terms_of ts) x
   one_unfit e t operands values h = subst (λ z. IsUnfitFault o k op (exprs_of es) (terms_of z) x) (sym values) (subst (λ z. IsUnfitFault o k op (exprs_of z) (terms_of (t ∷ [])) x) (sym operands) (record {
     admitted = h.fault.admitted;
-    unfit = λ c stand. inl (h.fault.place, h.unfit c stand);
+    first = inl (h.fault.place, h.unfit);
     elements = h.fault.elements;
   }))
 
-pub product_unfit : (o : Bool) (k : Context) (es : List ExprD) (ts : List TermD) (x : Fault) (e f : ExprD) (s t : TermD) → es ≡ e ∷ f ∷ [] → ts ≡ s ∷ t ∷ [] → AdmitsContext o k → IsProductFault o k s (pos e) t (pos f) x → IsUnfitFault o k Product (exprs_of es) (terms_of ts) x
-product_unfit o k es ts x e f s t operands values admits h = subst (λ z. IsUnfitFault o k Product (exprs_of es) (terms_of z) x) (sym values) (subst (λ z. IsUnfitFault o k Product (exprs_of z) (terms_of (s ∷ t ∷ [])) x) (sym operands) (of h))
+pub product_unfit : (o : Bool) (k : Context) (es : List ExprD) (ts : List TermD) (x : Fault) (e f : ExprD) (s t : TermD) → es ≡ e ∷ f ∷ [] → ts ≡ s ∷ t ∷ [] → IsProductFault o k s (pos e) t (pos f) x → IsUnfitFault o k Product (exprs_of es) (terms_of ts) x
+product_unfit o k es ts x e f s t operands values h = subst (λ z. IsUnfitFault o k Product (exprs_of es) (terms_of z) x) (sym values) (subst (λ z. IsUnfitFault o k Product (exprs_of z) (terms_of (s ∷ t ∷ [])) x) (sym operands) (of h))
   where
     of : IsProductFault o k s (pos e) t (pos f) x → IsUnfitFault o k Product (exprs_of (e ∷ f ∷ [])) (terms_of (s ∷ t ∷ [])) x
     of (inl h) = record {
       admitted = h.fault.admitted;
-      unfit = λ c stand. inl (h.fault.place, h.unfit c stand);
+      first = inl (h.fault.place, h.unfit);
       elements = h.fault.elements;
     }
     of (inr (left, h)) = record {
       admitted = h.fault.admitted;
-      unfit = λ c stand. inr (left c (admitted_alike o k x.sample.items c admits stand h.fault.admitted), inl (h.fault.place, h.unfit c stand));
+      first = inr (left, inl (h.fault.place, h.unfit));
       elements = h.fault.elements;
     }

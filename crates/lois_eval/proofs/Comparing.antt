@@ -3,9 +3,10 @@ use Rattle.std.proofs.Common.{◌≡◌, ℕ, ◌⊎◌, Bool, inl, inr, List, [
 use Rattle.lois_base.specs.Atom.{Atom}
 use Rattle.lois_base.specs.Data.{TermD, var}
 use Rattle.lois_base.specs.Truth.{atom_at}
-use Rattle.lois_base.specs.Values.{PointValue, point}
+use Rattle.lois_base.specs.Values.{PointValue, point, IsSame}
 use Rattle.lois_base.proofs.Order.{equal_refl}
 use Rattle.lois_meaning.specs.Faults.{IsNoAtom, IsNoSet, OperandFails, SomeOperandFails, FailsBehind, Fails, SomeFails, CondFails}
+use Rattle.lois_meaning.proofs.Alike.{is_set_same, is_atom_same}
 use Rattle.lois_meaning.specs.Kinds.{IsAtomAt, IsAtomValue, IsSet}
 use Rattle.lois_meaning.specs.Store.{NamedValues}
 use Rattle.lois_answers.specs.declared.faults.FaultKind.{FaultKind}
@@ -18,10 +19,12 @@ use Rattle.lois_eval.specs.Checks.{IsFaultAt, IsSetFault, IsAtomFault}
 use Rattle.lois_eval.specs.Compared.{IsBelowFault}
 use Rattle.lois_eval.specs.Evaluated.{AreTermsOf}
 use Rattle.lois_eval.specs.Forms.{two, sides_of}
+use Rattle.lois_eval.specs.LeftToRight.{IsOfLeftmostUnfit, IsOfLeftmost, IsOfLeftmostSide}
 use Rattle.lois_eval.specs.WellFormed.{IsWellFormed, AreWellFormed, CondIsWellFormed, names_of}
 use Rattle.lois_eval.specs.Throughout.{IsFaultOf}
 use Rattle.lois_eval.proofs.Conditions.{sides, no_set_fails}
 use Rattle.lois_eval.proofs.FaultsAt.{admitted_alike, fault_weaker, fault_within}
+use Rattle.lois_eval.proofs.LeftToRight.{values_given, none_fails, fit_nowhere, unfit_operand}
 use Rattle.lois_eval.proofs.TermKinds.{set_at, no_set_at, atom_term}
 
 -- the values of the sides of a condition that is this one
@@ -73,6 +76,33 @@ module _ (k : Context) (e f : ExprD) (s t : TermD) (stands : Bool → List (List
   included_fails_right left h =
       fault_weaker o k (SomeOperandFails IsSet IsNoSet (two e f)) (CondFails (included e f)) x (λ s at kind bad. inr (inr bad))
       (right_fails IsSet IsNoSet h.fault (λ c. set_at s c left) (λ c. (h.kind, no_set_at t c h.no_set)))
+
+  -- the side is the leftmost unfit one; where both give values neither fails by itself
+  neither_fails : IsOfLeftmost o k (two e f) x
+  neither_fails = none_fails o k (two e f) x (values_given k (two e f) (s ∷ t ∷ []) both.values)
+
+  unfit_left : (row : PointValue → FaultKind → Type 0) → IsFaultAt k (pos e) x → ((c : List Atom) → row (point s c) x.kind) → IsOfLeftmostUnfit o k row (two e f) x
+  unfit_left row h bad = inl (unfit_operand o k row e s x admits (λ c a. (sides k e f s t stands both c a).0) h.admitted h.place (λ c stand. bad c) h.elements)
+
+  unfit_right : (row : PointValue → FaultKind → Type 0) → IsFaultAt k (pos f) x → ((c : List Atom) (w : PointValue) (kind : FaultKind) → IsSame (point s c) w → row w kind → ⊥) → ((c : List Atom) → row (point t c) x.kind) → IsOfLeftmostUnfit o k row (two e f) x
+  unfit_right row h fit bad = inr (
+    fit_nowhere k row e (λ c a. (point s c, (sides k e f s t stands both c a).0, fit c)),
+    inl (unfit_operand o k row f t x admits (λ c a. (sides k e f s t stands both c a).1) h.admitted h.place (λ c stand. bad c) h.elements),
+  )
+
+  pub below_leftmost : (p : ℕ) → IsBelowFault k s (pos e) t (pos f) x → IsOfLeftmostSide o k (below p e f) x
+  below_leftmost p (inl h) = (neither_fails, λ none. unfit_left IsNoAtom h.fault (no_atom s (pos e) k x h))
+  below_leftmost p (inr (one, h)) = (neither_fails, λ none. unfit_right IsNoAtom h.fault (λ c w kind same bad. let (a, is) = is_atom s c one in bad.1 a (is_atom_same (point s c) w a same is)) (no_atom t (pos f) k x h))
+
+  pub member_leftmost : IsOfLeftmostSide o k (member e f) x
+  member_leftmost = neither_fails
+
+  pub included_leftmost_left : IsSetFault k s (pos e) x → IsOfLeftmostSide o k (included e f) x
+  included_leftmost_left h = (neither_fails, λ none. unfit_left IsNoSet h.fault (λ c. (h.kind, no_set_at s c h.no_set)))
+
+  pub included_leftmost_right : IsColl s → IsSetFault k t (pos f) x → IsOfLeftmostSide o k (included e f) x
+  included_leftmost_right left h =
+      (neither_fails, λ none. unfit_right IsNoSet h.fault (λ c w kind same bad. bad.1 (is_set_same (point s c) w same (set_at s c left))) (λ c. (h.kind, no_set_at t c h.no_set)))
 
 -- a condition fails where its left side does, and where its right one does behind a value of the left one
 pub sides_fail : (o : Bool) (k : Context) (c d : CondD) (e f : ExprD) (x : Fault) → c ≡ d → ((s : NamedValues) (at : ℕ) (kind : FaultKind) → Fails e s at kind ⊎ FailsBehind e (Fails f) s at kind → CondFails d s at kind) → IsFaultOf o k (SomeFails (two e f)) x → IsFaultOf o k (CondFails c) x

@@ -9,7 +9,7 @@ use Rattle.lois_meaning.specs.Kinds.{part_values}
 use Rattle.lois_script.specs.Tree.{ExprD, ExprsD, CondD, CondsD}
 use Rattle.lois_script.specs.View.{exprs_of}
 use Rattle.lois_meaning.specs.declared.faults.Fault.{Fault}
-use Rattle.lois_meaning.proofs.NotBoth.{gives_fails, truth_fails}
+use Rattle.lois_meaning.proofs.NotBoth.{truth_fails}
 use Rattle.lois_context.specs.Slots.{store_at}
 use Rattle.lois_context.specs.declared.contexts.Context.{Context}
 use Rattle.lois_base.specs.declared.guards.Lit.{Lit}
@@ -20,6 +20,7 @@ use Rattle.lois_eval.specs.Throughout.{IsValueThroughout, IsTruthThroughout, Fai
 use Rattle.lois_meaning.specs.Store.{NamedValues}
 use Rattle.lois_answers.specs.declared.faults.FaultKind.{FaultKind}
 use Rattle.lois_eval.proofs.FaultsAt.{fault_within}
+use Rattle.lois_eval.proofs.LeftToRight.{given_nowhere}
 use Rattle.lois_eval.proofs.Parts.{IsExprOf, IsCondOf, give_all_more, parts_at-append, parts_fit-more, parts_admit-more, parts_widths-more, count_of-more}
 
 pub placed_as : (k : Context) (o : Bool) (S R : Bool → List (List ℕ) → Type 0) → ((o : Bool) (xs : List (List ℕ)) → S o xs → R o xs) → IsWellFormedIn S o k → IsWellFormedIn R o k
@@ -58,7 +59,7 @@ module _ (k : Context) (S : Bool → List (List ℕ) → Type 0) where
 
 -- what is promised outside: no admitted choice fails
 pub fails_nowhere : (k : Context) (e : ExprD) (t : TermD) → IsValueThroughout k e t → FailsNowhere k (Fails e)
-fails_nowhere k e t h = λ c a at kind bad. gives_fails e (store_at c k.store) (point t c) at kind (h c a) bad
+fails_nowhere k e t h = given_nowhere k e (λ c a. (point t c, h c a))
 
 pub cond_fails_nowhere : (k : Context) (c : CondD) (g : List (List Lit)) → IsTruthThroughout k c g → FailsNowhere k (CondFails c)
 cond_fails_nowhere k c g h = λ d a at kind bad. truth_fails c (store_at d k.store) (holds d g) at kind (h d a) bad

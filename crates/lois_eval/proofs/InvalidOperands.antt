@@ -45,14 +45,14 @@ module _ (ordered : Bool) (k : Context) (x : Fault) where
   pub left_unfit : (op : Operation) → IsOfTwoSets op → (e f : ExprD) (s t : TermD) (es : List ExprD) (ts : List TermD) (at : ℕ) → es ≡ e ∷ f ∷ [] → ts ≡ s ∷ t ∷ [] → at ≡ pos e → IsSetFault k s at x → IsUnfitFault ordered k op (exprs_of es) (terms_of ts) x
   left_unfit op o e f s t es ts at operands values place h = subst (λ z. IsUnfitFault ordered k op (exprs_of es) (terms_of z) x) (sym values) (subst (λ z. IsUnfitFault ordered k op (exprs_of z) (terms_of (s ∷ t ∷ [])) x) (sym operands) (record {
     admitted = h.fault.admitted;
-    unfit = λ c stand. inl (h.fault.place ∙ place, unfit_set op o (point s c) x.kind (no_set s at h c));
+    first = inl (h.fault.place ∙ place, λ c stand. unfit_set op o (point s c) x.kind (no_set s at h c));
     elements = h.fault.elements;
   }))
 
   pub right_unfit : (op : Operation) → IsOfTwoSets op → (e f : ExprD) (s t : TermD) (es : List ExprD) (ts : List TermD) (at : ℕ) → es ≡ e ∷ f ∷ [] → ts ≡ s ∷ t ∷ [] → at ≡ pos f → IsColl s → IsSetFault k t at x → IsUnfitFault ordered k op (exprs_of es) (terms_of ts) x
   right_unfit op o e f s t es ts at operands values place left h = subst (λ z. IsUnfitFault ordered k op (exprs_of es) (terms_of z) x) (sym values) (subst (λ z. IsUnfitFault ordered k op (exprs_of z) (terms_of (s ∷ t ∷ [])) x) (sym operands) (record {
     admitted = h.fault.admitted;
-    unfit = λ c stand. inr (valid_set op o (point s c) (set_at s c left), inl (h.fault.place ∙ place, unfit_set op o (point t c) x.kind (no_set t at h c)));
+    first = inr (λ c a. valid_set op o (point s c) (set_at s c left), inl (h.fault.place ∙ place, λ c stand. unfit_set op o (point t c) x.kind (no_set t at h c)));
     elements = h.fault.elements;
   }))
 
@@ -62,11 +62,11 @@ module _ (ordered : Bool) (k : Context) (x : Fault) where
       of : IsSetFault k s at x ⊎ IsMemberFault ordered k s at x → IsUnfitFault ordered k Flatten (exprs_of (e ∷ [])) (terms_of (s ∷ [])) x
       of (inl h) = record {
         admitted = h.fault.admitted;
-        unfit = λ c stand. inl (h.fault.place ∙ place, inl (no_set s at h c));
+        first = inl (h.fault.place ∙ place, λ c stand. inl (no_set s at h c));
         elements = h.fault.elements;
       }
       of (inr h) = record {
         admitted = h.fault.admitted;
-        unfit = λ c stand. let (u, m, none) = h.no_set c stand in inl (h.fault.place ∙ place, inr (h.kind, u, m, none));
+        first = inl (h.fault.place ∙ place, λ c stand. let (u, m, none) = h.no_set c stand in inr (h.kind, u, m, none));
         elements = h.fault.elements;
       }

@@ -55,6 +55,17 @@ pub err_weaker : {A : Type 0} (r : Result A Stop) (P Q : Fault → Type 0) → (
 err_weaker (Ok x) P Q to h = tt
 err_weaker (Err s) P Q to h = if_fault s P Q to h
 
+-- what is known twice of a fault
+pub both_faults : (s : Stop) (P Q : Fault → Type 0) → IfFault s P → IfFault s Q → IfFault s (λ f. P f × Q f)
+both_faults (Stops.Fault f) P Q p q = (p, q)
+both_faults Stops.NoMemory P Q p q = tt
+
+-- whatever the fault is
+pub err_always : {A : Type 0} (r : Result A Stop) (P : Fault → Type 0) → ((f : Fault) → P f) → IfErr r (λ s. IfFault s P)
+err_always (Ok x) P h = tt
+err_always (Err (Stops.Fault f)) P h = h f
+err_always (Err Stops.NoMemory) P h = tt
+
 -- an error that `?` hands on
 pub passed_on : {A : Type 0} (r : Result A Stop) (s : Stop) (P Q : Fault → Type 0) → IsErrAnd r (λ t. t ≡ s) → ((f : Fault) → P f → Q f) → IfFault s P → IfErr r (λ t. IfFault t Q)
 passed_on (Ok x) s P Q same to h = absurd same

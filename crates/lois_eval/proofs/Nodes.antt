@@ -10,23 +10,23 @@ use Rattle.lois_base.specs.Values.{PointValue, point, IsIn, IsSame, MemberAt}
 use Rattle.lois_base.proofs.Members.{same_refl}
 use Rattle.lois_base.proofs.Order.{equal_refl}
 use Rattle.lois_algebra.specs.Sets.{HasAllAtoms, IsAtom}
-use Rattle.lois_meaning.specs.Expressions.{Makes, Gives, IsPartOf}
-use Rattle.lois_meaning.specs.Faults.{Breaks, Fails, HasNoPart}
+use Rattle.lois_meaning.specs.Expressions.{Makes, Gives, IsPartOf, IsValidOperand}
+use Rattle.lois_meaning.specs.Faults.{Breaks, Fails, HasNoPart, IsInvalidOperand, IsUnfitAmong}
 use Rattle.lois_meaning.specs.declared.faults.Fault.{Fault}
 use Rattle.lois_answers.specs.declared.faults.FaultKind.{FaultKind}
 use Rattle.lois_script.specs.declared.syntax.Operation.{Operation}
 use Rattle.lois_algebra.specs.Parts.{part_at, part_of}
 use Rattle.lois_meaning.specs.Kinds.{IsAtomAt, IsAtomValue, IsOneOf, part_values}
-use Rattle.lois_script.specs.Tree.{ExprD, atoms, var, tuple, listed, part, apply, ExprsD, pos}
+use Rattle.lois_script.specs.Tree.{ExprD, atoms, var, tuple, listed, part, apply, ExprsD, no_exprs, expr, pos}
 use Rattle.lois_meaning.proofs.Alike.{are_same_refl}
 use Rattle.lois_context.specs.ItemCounts.{comps_in}
-use Rattle.lois_context.specs.Choices.{AdmitsContext}
+use Rattle.lois_context.specs.Choices.{IsAdmitted, AdmitsContext}
 use Rattle.lois_context.specs.declared.contexts.Context.{Context}
 use Rattle.lois_terms.specs.Collections.{IsColl as IsSetTerm}
 use Rattle.lois_eval.specs.Evaluated.{IsTermOf, AreTermsOf}
 use Rattle.lois_eval.specs.Checks.{IsDepthFault}
-use Rattle.lois_eval.specs.Operands.{IsAppliedThroughout, IsUnfitFault}
-use Rattle.lois_eval.specs.Throughout.{IsFaultOf}
+use Rattle.lois_eval.specs.Operands.{IsAppliedThroughout, IsAtFirstUnfit, IsUnfitFault}
+use Rattle.lois_eval.specs.Throughout.{StandFor, IsFaultOf}
 use Rattle.lois_eval.specs.Made.{bare, IsHeldBy, missing_part, IsPartFault}
 use Rattle.lois_eval.specs.WellFormed.{IsWellFormedIn, IsWellFormed}
 use Rattle.lois_eval.proofs.FaultsAt.{admitted_alike}
@@ -36,6 +36,13 @@ use Rattle.std.proofs.lemmas.List.Elements.{All-nil, All-cons, All-weaker}
 
 atom_value : (w : PointValue) → IsAtom w ↔ ((a : Atom) × IsAtomValue w a)
 atom_value w = (λ (i, e). (atom_at w.choice i, subst (λ t. IsAtomAt t w.choice (atom_at w.choice i)) (sym e) (equal_refl (atom_at w.choice i))), λ (a, h). atom_term w.term_of w.choice a h)
+
+-- of operands with the values of these terms one is unfit, and those to its left are valid
+unfit_among : (o : Bool) (k : Context) (op : Operation) (es : ExprsD) (ts : TermsD) (f : Fault) (c : List Atom) → IsAdmitted c k → StandFor o c f → IsAtFirstUnfit o k op es ts f → IsUnfitAmong (λ v. IsValidOperand v op) (IsInvalidOperand op) es (part_values ts c) f.pos.offset f.kind
+unfit_among o k op (expr e es) (term t ts) f c a stand (inl (place, bad)) = inl (place, bad c stand)
+unfit_among o k op (expr e es) (term t ts) f c a stand (inr (valid, rest)) = inr (valid c a, unfit_among o k op es ts f c a stand rest)
+unfit_among o k op (expr e es) no_terms f c a stand h = absurd h
+unfit_among o k op no_exprs ts f c a stand h = absurd h
 
 module _ (k : Context) where
   pub atoms_made : (p : ℕ) (t : TermD) → HasAllAtoms k.size t → IsSetTerm t → Fits k.size t → ((o : Bool) → AdmitsTerm o t) → HasBoundedWidths t → IsTermOf k (Makes (atoms p)) (IsWellFormed (atoms p)) t
@@ -152,7 +159,9 @@ module _ (k : Context) where
   pub apply_fails : (o : Bool) (p : ℕ) (op : Operation) (es : ExprsD) (ts : List TermD) (f : Fault) → AdmitsContext o k → AreTermsOf k es (IsWellFormed (apply p op es)) ts → IsUnfitFault o k op es (terms_of ts) f → IsFaultOf o k (Breaks (apply p op es)) f
   apply_fails o p op es ts f admits all h = record {
     admitted = λ c stand. admitted_alike o k f.sample.items c admits stand h.admitted;
-    failure = λ c stand. inr (part_values (terms_of ts) c, all.values c (admitted_alike o k f.sample.items c admits stand h.admitted), h.unfit c stand);
+    failure = λ c stand.
+        let a = admitted_alike o k f.sample.items c admits stand h.admitted in
+        inr (part_values (terms_of ts) c, all.values c a, unfit_among o k op es (terms_of ts) f c a stand h.first);
     elements = h.elements;
   }
 

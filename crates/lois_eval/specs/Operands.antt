@@ -1,14 +1,14 @@
 -- Operations on operands that have values: which fit, what comes of them, and which operand fails.
 use Rattle.std.specs.Prelude.{◌≡◌, ℕ, ◌⊎◌, ◌↔◌, Bool, List, [], ◌∷◌, ◌++◌}
 use Rattle.lois_base.specs.Atom.{Atom}
-use Rattle.lois_base.specs.Data.{TermD, TermsD, terms_of, CompD}
+use Rattle.lois_base.specs.Data.{TermD, TermsD, term, terms_of, CompD}
 use Rattle.lois_base.specs.Fits.{Fits}
 use Rattle.lois_base.specs.Validity.{AdmitsTerm, HasBoundedWidths}
 use Rattle.lois_base.specs.Values.{PointValue, point, IsMember}
 use Rattle.lois_meaning.specs.Expressions.{IsValidOperand, AreValidOperands, IsResultOf}
-use Rattle.lois_meaning.specs.Faults.{IsInvalidOperand, IsUnfitAmong}
+use Rattle.lois_meaning.specs.Faults.{IsInvalidOperand}
 use Rattle.lois_meaning.specs.Kinds.{part_values, IsSet}
-use Rattle.lois_script.specs.Tree.{ExprsD}
+use Rattle.lois_script.specs.Tree.{ExprsD, expr, pos}
 use Rattle.lois_algebra.specs.Sets.{IsSetOfSets}
 use Rattle.lois_answers.specs.declared.faults.FaultKind.TheVariants.{NotASet}
 use Rattle.lois_meaning.specs.declared.faults.Fault.{Fault}
@@ -34,10 +34,18 @@ abbrev pub IsAppliedThroughout : Context → Operation → List TermD → TermD 
 IsAppliedThroughout k op ts t =
     (c : List Atom) → IsAdmitted c k → AreValidOperands (part_values (terms_of ts) c) op × IsResultOf (point t c) op (part_values (terms_of ts) c)
 
--- the fault of an operand behind valid ones, at a sample that the context admits, and at all atoms that stand as its numbers do
+-- The fault is of the first operand, and its value is unfit at the fault's sample and at all atoms that stand as its numbers do; or
+-- the first operand is valid at each choice that the context admits, and the fault is of one behind it.
+abbrev pub IsAtFirstUnfit : Bool → Context → Operation → ExprsD → TermsD → Fault → Type 0
+IsAtFirstUnfit ordered k op (expr e es) (term t ts) f =
+    ((f.pos.offset ≡ pos e) × ((c : List Atom) → StandFor ordered c f → IsInvalidOperand op (point t c) f.kind)) ⊎
+    (((c : List Atom) → IsAdmitted c k → IsValidOperand (point t c) op) × IsAtFirstUnfit ordered k op es ts f)
+IsAtFirstUnfit ordered k op _ _ f = ⊥
+
+-- the fault of an operand that is unfit, under a sample that the context admits
 pub record IsUnfitFault (ordered : Bool) (k : Context) (op : Operation) (es : ExprsD) (ts : TermsD) (f : Fault) : Type 0 where
   pub admitted : IsAdmitted (sampled f.sample.items) k
-  pub unfit : (c : List Atom) → StandFor ordered c f → IsUnfitAmong (λ v. IsValidOperand v op) (IsInvalidOperand op) es (part_values ts c) f.pos.offset f.kind
+  pub first : IsAtFirstUnfit ordered k op es ts f
   pub elements : f.elements ≡ []
 
 -- The sets among the members of t at each choice that the context admits are all of them, and r has these.

@@ -25,8 +25,8 @@ ghost use Rattle.lois_eval.specs.Automata.{AreOperands, IsEmptiness, IsOperation
 ghost use Rattle.lois_eval.specs.Checks.{MeetsBoth};
 ghost use Rattle.lois_eval.specs.Evaluated.{IsTermOf, AreTermsOf, IsConstraintOf, HasMembersOnlyWhereAdmitted};
 ghost use Rattle.lois_eval.specs.Folded.{IsGatheredInside, IsFoundInside, IsFaultInside};
-ghost use Rattle.lois_eval.specs.Forms.{each_from, joint, quantifier, two, sides_of};
-ghost use Rattle.lois_eval.specs.LeftToRight.{IsOfLeftmost, IsOfLeftmostOperand};
+ghost use Rattle.lois_eval.specs.Forms.{each_from, joint, quantifier, two};
+ghost use Rattle.lois_eval.specs.LeftToRight.{IsOfLeftmost, IsOfLeftmostOperand, IsOfLeftmostSide};
 ghost use Rattle.lois_eval.specs.Sides.{sides_listed};
 ghost use Rattle.lois_eval.specs.Operands.{IsUnfitFault};
 ghost use Rattle.lois_eval.specs.WellFormed.{IsWellFormedIn, IsWellFormed, AreWellFormed, CondIsWellFormed};
@@ -49,8 +49,8 @@ use lois_script::{Binding, Cond, Conds, Expr, Exprs, Operation};
 use std::alloc::Global;
 
 /// The value of an expression at all choices that a context admits. Ok comes exactly where it fails at none of them.
-/// Errors: a fault at some choice that the context admits, of the leftmost operand that fails at any of them; and `NoMemory`,
-/// also where a level would pass the greatest usize.
+/// Errors: a fault at some choice that the context admits, of the leftmost operand that fails at any of them, and else of the
+/// leftmost whose value is unfit at any of them; and `NoMemory`, also where a level would pass the greatest usize.
 pub fn eval<T: Structure>(
     alloc: Global,
     e: &Expr,
@@ -111,8 +111,8 @@ pub fn eval<T: Structure>(
 }
 
 /// Where a condition is true, among all choices that a context admits. Ok comes exactly where it fails at none of them.
-/// Errors: a fault at some choice that the context admits, of the leftmost side of a comparison that fails at any of them; and
-/// `NoMemory`, also where a level would pass the greatest usize.
+/// Errors: a fault at some choice that the context admits, of the leftmost side of a comparison that fails at any of them, and
+/// else of the leftmost whose value is unfit; and `NoMemory`, also where a level would pass the greatest usize.
 pub fn decide<T: Structure>(
     alloc: Global,
     c: &Cond,
@@ -125,7 +125,7 @@ pub fn decide<T: Structure>(
     ensures levels { IfOk result (λ r. ConstraintFits context.now.size r) }
     ensures operators { IfOk result (λ r. (ordered : Bool) → IsWellFormedIn (CondIsWellFormed (cond_tree c.now)) ordered context.now → AdmitsConstraint ordered r) }
     ensures fault { IfErr result (λ s. IfFault s (IsFaultOf T.ordered context.now (CondFails (cond_tree c.now)))) }
-    ensures leftmost { IfErr result (λ s. IfFault s (IsOfLeftmost T.ordered context.now (sides_of (cond_tree c.now)))) }
+    ensures leftmost { IfErr result (λ s. IfFault s (IsOfLeftmostSide T.ordered context.now (cond_tree c.now))) }
 
     // whatever is answered
     ensures only_asked { HasOnlyAsked (λ b. (⟦<dyn Decider as Decider>⟧ b.vtable).kind_of b.value) (λ b. (⟦<dyn Decider as Decider>⟧ b.vtable).questions b.value) chosen.old chosen.new }
@@ -429,7 +429,7 @@ fn decided<T: Structure, D: Oracle<T>>(
     requires placed { IsWellFormedIn (CondIsWellFormed (cond_tree c.now)) T.ordered context.now }
     ensures constraint { IfOk result (IsConstraintOf context.now (HasTruth (cond_tree c.now)) (CondIsWellFormed (cond_tree c.now))) }
     ensures fault { IfErr result (λ s. IfFault s (IsFaultOf T.ordered context.now (CondFails (cond_tree c.now)))) }
-    ensures leftmost { IfErr result (λ s. IfFault s (IsOfLeftmost T.ordered context.now (sides_of (cond_tree c.now)))) }
+    ensures leftmost { IfErr result (λ s. IfFault s (IsOfLeftmostSide T.ordered context.now (cond_tree c.now))) }
     ensures asked { D.reaches decider.old decider.new }
 {
     match c {

@@ -15,6 +15,7 @@ ghost use Rattle.lois_context.specs.Choices.{AdmitsContext};
 ghost use Rattle.lois_eval.specs.Automata.{IsEmptiness, IsValueFault};
 ghost use Rattle.lois_eval.specs.Evaluated.{IsTermOf, AreTermsOf, IsConstraintOf};
 ghost use Rattle.lois_eval.specs.Forms.{parts_of, sides_of, IsName, IsSimple, IsComposed, IsComparisonCond};
+ghost use Rattle.lois_eval.specs.LeftToRight.{IsOfLeftmostOperand, IsOfLeftmostSide};
 ghost use Rattle.lois_eval.specs.Sides.{sides_listed};
 ghost use Rattle.lois_eval.specs.WellFormed.{IsWellFormedIn, IsWellFormed, CondIsWellFormed};
 ghost use Rattle.lois_eval.specs.Throughout.{IsFaultOf, IfFault, IsValueThroughout};
@@ -74,6 +75,7 @@ pub(crate) fn composed<T: Structure, D: Oracle<T>>(
     requires values { AreTermsOf context.now (parts_of (tree e.now)) (IsWellFormed (tree e.now)) values }
     ensures term { IfOk result (λ t. IsTermOf context.now (Makes (tree e.now)) (IsWellFormed (tree e.now)) (term_tree t)) }
     ensures fault { IfErr result (λ s. IfFault s (IsFaultOf T.ordered context.now (Breaks (tree e.now)))) }
+    ensures leftmost { IfErr result (λ s. IfFault s (IsOfLeftmostOperand T.ordered context.now (tree e.now))) }
     ensures asked { D.reaches decider.old decider.new }
 {
     match e {
@@ -147,6 +149,7 @@ pub(crate) fn compared<T: Structure>(
     requires values { AreTermsOf context.now (sides_of (cond_tree c.now)) (CondIsWellFormed (cond_tree c.now)) (sides_listed values.now) }
     ensures constraint { IfOk result (IsConstraintOf context.now (HasTruth (cond_tree c.now)) (CondIsWellFormed (cond_tree c.now))) }
     ensures fault { IfErr result (λ s. IfFault s (IsFaultOf T.ordered context.now (CondFails (cond_tree c.now)))) }
+    ensures leftmost { IfErr result (λ s. IfFault s (IsOfLeftmostSide T.ordered context.now (cond_tree c.now))) }
 {
     compared_with::<T>(alloc, c, values.left.get(), values.right.get(), context)
 }
@@ -166,6 +169,7 @@ fn compared_with<T: Structure>(
     requires context_operators { AdmitsContext T.ordered context.now }
     ensures constraint { IfOk result (IsConstraintOf context.now (HasTruth (cond_tree c.now)) (CondIsWellFormed (cond_tree c.now))) }
     ensures fault { IfErr result (λ s. IfFault s (IsFaultOf T.ordered context.now (CondFails (cond_tree c.now)))) }
+    ensures leftmost { IfErr result (λ s. IfFault s (IsOfLeftmostSide T.ordered context.now (cond_tree c.now))) }
 {
     match c {
         Cond::Same(_, _) => Ok(equal::<T>(alloc, s, t, context.size)?),

@@ -8,7 +8,7 @@ ghost use Rattle.lois_base.specs.Validity.{AdmitsComp, AdmitsLit};
 use crate::losing::{count_fixed, count_lost, has_loose_binder};
 use crate::ordering::comp_has_order;
 use lois_base::{Comp, Comps, Constraint, Cube, Lit, NoMemory, Op, Term, Terms};
-use lois_constraint::{and_not, meet};
+use lois_constraint::{and_not, implies, meet};
 use std::alloc::Global;
 
 // All ways are tried on all of what holds in a comprehension, so one with more cubes isn't split.
@@ -101,19 +101,21 @@ struct Whole<'a> {
     here: &'a Constraint,
     size: usize,
     inner: usize,
+    loose: bool,
     lost: usize,
     ordered: bool,
 }
 
-// How many binders are fixed or idle where `here` holds. Only one of which guards alone speak can be idle.
+// How many binders are fixed or idle where `here` holds. Only a loose one can be idle.
 fn lost_binders(
     alloc: Global,
     item: &Term,
     here: &Constraint,
     size: usize,
     inner: usize,
+    loose: bool,
 ) -> Result<usize, NoMemory> {
-    if has_loose_binder(item, size, inner) {
+    if loose {
         return count_lost(alloc, item, here, size, inner);
     }
     count_fixed(alloc, here, size, inner)
@@ -124,7 +126,14 @@ fn loses_binder(alloc: Global, whole: Whole, part: &Constraint) -> Result<bool, 
     if part.len() == 0 {
         return Ok(false);
     }
-    let lost = lost_binders(alloc, whole.item, part, whole.size, whole.inner)?;
+    let lost = lost_binders(
+        alloc,
+        whole.item,
+        part,
+        whole.size,
+        whole.inner,
+        whole.loose,
+    )?;
     Ok(lost > whole.lost)
 }
 
@@ -146,6 +155,25 @@ fn is_met(alloc: Global, whole: Whole, lit: Lit) -> Result<bool, NoMemory> {
     Ok(part.len() != 0)
 }
 
+fn cubes_where_not(alloc: Global, here: &Constraint, equal: Lit) -> Result<Constraint, NoMemory> {
+    let mut rest = Constraint::new(alloc);
+    for cube in here.as_slice() {
+        if !implies(alloc, cube, equal)? {
+            rest.push(cube.copy(alloc)?)?;
+        }
+    }
+    Ok(rest)
+}
+
+// Whether a binder is lost where the levels differ. In a cube that lets them differ no other one is fixed where they do.
+fn loses_where_differ(alloc: Global, whole: Whole, equal: Lit) -> Result<bool, NoMemory> {
+    if whole.loose {
+        return loses_where_not(alloc, whole, equal);
+    }
+    let rest = cubes_where_not(alloc, whole.here, equal)?;
+    loses_binder(alloc, whole, &rest)
+}
+
 // The literal of the two levels by which the comprehension is split. Where the levels are equal the right one is fixed. Where `<`
 // and `>` each lose a binder, what differs is split once more in the next round.
 fn split_at(alloc: Global, whole: Whole, pair: Pair) -> Result<Option<Lit>, NoMemory>
@@ -155,8 +183,8 @@ fn split_at(alloc: Global, whole: Whole, pair: Pair) -> Result<Option<Lit>, NoMe
     ensures operators { IfOk result (λ o. IfSome o (λ l. (ordered : Bool) → (IsTrue whole.entry.ordered → IsTrue ordered) → AdmitsLit ordered l)) }
 {
     let equal = literal(Op::Eq, pair.left, pair.right);
-    let meets = is_met(alloc, whole, equal)?;
-    if meets && loses_where_not(alloc, whole, equal)? {
+    let differ = loses_where_differ(alloc, whole, equal)?;
+    if differ && is_met(alloc, whole, equal)? {
         return Ok(Some(equal));
     }
     if !whole.ordered {
@@ -172,7 +200,7 @@ fn split_at(alloc: Global, whole: Whole, pair: Pair) -> Result<Option<Lit>, NoMe
     if upper && loses_where_not(alloc, whole, above)? {
         return Ok(Some(above));
     }
-    if meets && lower && upper {
+    if lower && upper && is_met(alloc, whole, equal)? {
         return Ok(Some(equal));
     }
     Ok(None)
@@ -198,12 +226,14 @@ pub(crate) fn split_of(
     }
     let mut pairs = Vec::new(alloc);
     put_pairs_of_comp(&mut pairs, comp)?;
+    let loose = has_loose_binder(&comp.item, size, inner);
     let whole = Whole {
         item: &comp.item,
         here: &here,
         size,
         inner,
-        lost: lost_binders(alloc, &comp.item, &here, size, inner)?,
+        loose,
+        lost: lost_binders(alloc, &comp.item, &here, size, inner, loose)?,
         ordered: comp_has_order(comp),
     };
     for pair in pairs.iter() {

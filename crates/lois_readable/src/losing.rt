@@ -1,7 +1,7 @@
 //! Which parts of a comprehension need fewer binders. Nothing rests on what is found.
 
 use crate::surroundings::{is_known, short_under};
-use lois_base::{Comps, Constraint, Lit, NoMemory, Op, Term, Terms};
+use lois_base::{Comps, Constraint, Cube, Lit, NoMemory, Op, Term, Terms};
 use lois_terms::occurs;
 use std::alloc::Global;
 
@@ -45,14 +45,36 @@ pub(crate) fn has_loose_binder(item: &Term, size: usize, inner: usize) -> bool {
     false
 }
 
+fn speaks_of_equal(cube: &Cube, level: usize) -> bool {
+    for lit in cube.as_slice() {
+        if lit.op == Op::Eq && (lit.left == level || lit.right == level) {
+            return true;
+        }
+    }
+    false
+}
+
+fn all_speak_of_equal(here: &Constraint, level: usize) -> bool {
+    for cube in here.as_slice() {
+        if !speaks_of_equal(cube, level) {
+            return false;
+        }
+    }
+    true
+}
+
+// What is equal in a tight cube is so by literals with `=`.
 fn is_fixed(alloc: Global, here: &Constraint, binder: usize) -> Result<bool, NoMemory> {
+    if !all_speak_of_equal(here, binder) {
+        return Ok(false);
+    }
     for level in 0..binder {
         let equal = Lit {
             op: Op::Eq,
             left: level,
             right: binder,
         };
-        if is_known(alloc, here, equal)? {
+        if all_speak_of_equal(here, level) && is_known(alloc, here, equal)? {
             return Ok(true);
         }
     }

@@ -11,7 +11,7 @@ use Rattle.lois_base.specs.Validity.{AdmitsConstraint}
 use Rattle.lois_base.specs.Values.{point}
 use Rattle.lois_algebra.specs.Parts.{part_of}
 use Rattle.lois_meaning.specs.Expressions.{Makes, Gives, HasTruth}
-use Rattle.lois_meaning.specs.Faults.{Fails, Breaks, SomeFails, CondFails, IsNoAutomaton}
+use Rattle.lois_meaning.specs.Faults.{Fails, Breaks, SomeFails, CondFails, IsInvalidOperand, IsNoAtom, IsNoAutomaton, IsNoSet}
 use Rattle.lois_meaning.specs.declared.faults.Fault.{Fault}
 use Rattle.lois_meaning.proofs.Determined.{makes_same, truth_same}
 use Rattle.lois_context.specs.Choices.{IsAdmittedBy, AdmitsContext}
@@ -40,12 +40,12 @@ use Rattle.lois_eval.proofs.Emptiness.{empty_decided, empty_fails}
 use Rattle.lois_eval.proofs.Evaluations.{fails_nowhere, placed_as, terms_none, terms_more, some_fails, joint_fails, joint_placed}
 use Rattle.lois_eval.proofs.FaultsAt.{if_fault, fault_weaker, fault_within}
 use Rattle.lois_eval.proofs.Gathering.{gathered_more, found_more}
-use Rattle.lois_eval.proofs.LoopExit.{handed_fault, handed_same, handed_ok, item_there, passed_on, term_given}
+use Rattle.lois_eval.proofs.LoopExit.{both_faults, err_always, handed_fault, handed_same, handed_ok, item_there, passed_on, term_given}
 use Rattle.lois_eval.proofs.Nodes.{part_made, part_fails, made_as, breaks_as, too_deep_fails}
 use Rattle.lois_eval.proofs.Parts.{is_expr_of, is_cond_of}
 use Rattle.lois_eval.proofs.Plain.{truth_decided, falsity_decided, decided_as, cond_fails_as}
-use Rattle.lois_eval.specs.LeftToRight.{IsOfLeftmost, IsOfLeftmostOperand}
-use Rattle.lois_eval.proofs.LeftToRight.{values_given, none_fails, own_fault, leftmost_as, sides_leftmost, both_faults, err_always}
+use Rattle.lois_eval.specs.LeftToRight.{IsOfLeftmost, IsOfLeftmostOperand, IsOfLeftmostSide}
+use Rattle.lois_eval.proofs.LeftToRight.{values_given, own_fault, fault_of_operand, leftmost_as, sides_leftmost}
 use Rattle.lois_eval.proofs.Weights.{weight_of_cond_positive}
 use Rattle.lois_eval.proofs.Wholes.{all_longer}
 use Rattle.lois_eval.proofs.evaluating.+evaluation.Goals as goal
@@ -679,14 +679,6 @@ made-returns-in_err-values-in-Tuple-clause-leftmost g t c =
     let is = ap tree c.in-Tuple.is ∙ tree_Tuple c.in-Tuple.field-0 es in
     leftmost_as g.T.Structure.ordered k (tree c.args.e.now) d c.from_residual.result is (passed_on c.from_residual.result c.in_err-values-in-Tuple.field-0.0 (IsOfLeftmost g.T.Structure.ordered k (exprs_of (exprs_list es))) (IsOfLeftmostOperand g.T.Structure.ordered k d) c.from_residual.ensures.1 (λ f h. h) c.in_err-values-in-Tuple.ensures.leftmost)
 
-pub made-returns-in_ok-values-in-Tuple-clause-leftmost : goal.made-returns-in_ok-values-in-Tuple-clause-leftmost
-made-returns-in_ok-values-in-Tuple-clause-leftmost g t c =
-    let k = c.args.context.now in
-    let es = c.in-Tuple.parts in
-    let d = tuple c.in-Tuple.field-0.offset (exprs_of (exprs_list es)) in
-    let is = ap tree c.in-Tuple.is ∙ tree_Tuple c.in-Tuple.field-0 es in
-    leftmost_as g.T.Structure.ordered k (tree c.args.e.now) d c.composed.result is (err_always c.composed.result (IsOfLeftmostOperand g.T.Structure.ordered k d) (λ f. none_fails g.T.Structure.ordered k (exprs_of (exprs_list es)) f (values_given k (exprs_of (exprs_list es)) c.in_ok-values-in-Tuple.values c.in_ok-values-in-Tuple.ensures.terms.values)))
-
 pub made-returns-in_err-values-in-Listed-clause-leftmost : goal.made-returns-in_err-values-in-Listed-clause-leftmost
 made-returns-in_err-values-in-Listed-clause-leftmost g t c =
     let k = c.args.context.now in
@@ -695,29 +687,17 @@ made-returns-in_err-values-in-Listed-clause-leftmost g t c =
     let is = ap tree c.in-Listed.is ∙ tree_Listed c.in-Listed.field-0 es in
     leftmost_as g.T.Structure.ordered k (tree c.args.e.now) d c.from_residual-in_err-values-in-Listed.result is (passed_on c.from_residual-in_err-values-in-Listed.result c.in_err-values-in-Listed.field-0.0 (IsOfLeftmost g.T.Structure.ordered k (exprs_of (exprs_list es))) (IsOfLeftmostOperand g.T.Structure.ordered k d) c.from_residual-in_err-values-in-Listed.ensures.1 (λ f h. h) c.in_err-values-in-Listed.ensures.leftmost)
 
-pub made-returns-in_ok-values-in-Listed-clause-leftmost : goal.made-returns-in_ok-values-in-Listed-clause-leftmost
-made-returns-in_ok-values-in-Listed-clause-leftmost g t c =
-    let k = c.args.context.now in
-    let es = c.in-Listed.items in
-    let d = listed c.in-Listed.field-0.offset (exprs_of (exprs_list es)) in
-    let is = ap tree c.in-Listed.is ∙ tree_Listed c.in-Listed.field-0 es in
-    leftmost_as g.T.Structure.ordered k (tree c.args.e.now) d c.composed-in-Listed.result is (err_always c.composed-in-Listed.result (IsOfLeftmostOperand g.T.Structure.ordered k d) (λ f. none_fails g.T.Structure.ordered k (exprs_of (exprs_list es)) f (values_given k (exprs_of (exprs_list es)) c.in_ok-values-in-Listed.values c.in_ok-values-in-Listed.ensures.terms.values)))
-
 pub made-returns-in_err-values-in-Apply-clause-leftmost : goal.made-returns-in_err-values-in-Apply-clause-leftmost
 made-returns-in_err-values-in-Apply-clause-leftmost g t c =
     let k = c.args.context.now in
     let es = c.in-Apply.operands in
     let d = apply c.in-Apply.field-0.offset c.in-Apply.field-1 (exprs_of (exprs_list es)) in
+    let operands = exprs_of (exprs_list es) in
+    let Bad : Fault → Type 0 = IsFaultOf g.T.Structure.ordered k (SomeFails operands) in
+    let Own : Fault → Type 0 = IsOfLeftmost g.T.Structure.ordered k operands in
     let is = ap tree c.in-Apply.is ∙ tree_Apply c.in-Apply.field-0 c.in-Apply.field-1 es in
-    leftmost_as g.T.Structure.ordered k (tree c.args.e.now) d c.from_residual-in_err-values-in-Apply.result is (passed_on c.from_residual-in_err-values-in-Apply.result c.in_err-values-in-Apply.field-0.0 (IsOfLeftmost g.T.Structure.ordered k (exprs_of (exprs_list es))) (IsOfLeftmostOperand g.T.Structure.ordered k d) c.from_residual-in_err-values-in-Apply.ensures.1 (λ f h. h) c.in_err-values-in-Apply.ensures.leftmost)
-
-pub made-returns-in_ok-values-in-Apply-clause-leftmost : goal.made-returns-in_ok-values-in-Apply-clause-leftmost
-made-returns-in_ok-values-in-Apply-clause-leftmost g t c =
-    let k = c.args.context.now in
-    let es = c.in-Apply.operands in
-    let d = apply c.in-Apply.field-0.offset c.in-Apply.field-1 (exprs_of (exprs_list es)) in
-    let is = ap tree c.in-Apply.is ∙ tree_Apply c.in-Apply.field-0 c.in-Apply.field-1 es in
-    leftmost_as g.T.Structure.ordered k (tree c.args.e.now) d c.composed-in-Apply.result is (err_always c.composed-in-Apply.result (IsOfLeftmostOperand g.T.Structure.ordered k d) (λ f. none_fails g.T.Structure.ordered k (exprs_of (exprs_list es)) f (values_given k (exprs_of (exprs_list es)) c.in_ok-values-in-Apply.values c.in_ok-values-in-Apply.ensures.terms.values)))
+    leftmost_as g.T.Structure.ordered k (tree c.args.e.now) d c.from_residual-in_err-values-in-Apply.result is (passed_on c.from_residual-in_err-values-in-Apply.result c.in_err-values-in-Apply.field-0.0 (λ f. Bad f × Own f) (IsOfLeftmostOperand g.T.Structure.ordered k d) c.from_residual-in_err-values-in-Apply.ensures.1
+    (λ f h. fault_of_operand g.T.Structure.ordered k (IsInvalidOperand c.in-Apply.field-1) operands f h.0 h.1) (both_faults c.in_err-values-in-Apply.field-0.0 Bad Own c.in_err-values-in-Apply.ensures.fault c.in_err-values-in-Apply.ensures.leftmost))
 
 pub decided-returns-in_err-values-in-Same-clause-leftmost : goal.decided-returns-in_err-values-in-Same-clause-leftmost
 decided-returns-in_err-values-in-Same-clause-leftmost g t c =
@@ -726,16 +706,7 @@ decided-returns-in_err-values-in-Same-clause-leftmost g t c =
     let f = c.in-Same.f in
     let sides = two (tree e) (tree f) in
     let is = ap cond_tree c.in-Same.is ∙ cond_Same e f in
-    sides_leftmost g.T.Structure.ordered k (cond_tree c.args.c.now) (same (tree e) (tree f)) c.from_residual-in_err-values-in-Same.result is (passed_on c.from_residual-in_err-values-in-Same.result c.in_err-values-in-Same.field-0.0 (IsOfLeftmost g.T.Structure.ordered k sides) (IsOfLeftmost g.T.Structure.ordered k sides) c.from_residual-in_err-values-in-Same.ensures.1 (λ x h. h) c.in_err-values-in-Same.ensures.leftmost)
-
-pub decided-returns-in_ok-values-in-Same-clause-leftmost : goal.decided-returns-in_ok-values-in-Same-clause-leftmost
-decided-returns-in_ok-values-in-Same-clause-leftmost g t c =
-    let k = c.args.context.now in
-    let e = c.in-Same.e in
-    let f = c.in-Same.f in
-    let sides = two (tree e) (tree f) in
-    let is = ap cond_tree c.in-Same.is ∙ cond_Same e f in
-    sides_leftmost g.T.Structure.ordered k (cond_tree c.args.c.now) (same (tree e) (tree f)) c.compared.result is (err_always c.compared.result (IsOfLeftmost g.T.Structure.ordered k sides) (λ x. none_fails g.T.Structure.ordered k sides x (values_given k sides (sides_listed c.in_ok-values-in-Same.values) c.in_ok-values-in-Same.ensures.terms.values)))
+    sides_leftmost g.T.Structure.ordered k (cond_tree c.args.c.now) (same (tree e) (tree f)) c.from_residual-in_err-values-in-Same.result is (passed_on c.from_residual-in_err-values-in-Same.result c.in_err-values-in-Same.field-0.0 (IsOfLeftmost g.T.Structure.ordered k sides) (IsOfLeftmostSide g.T.Structure.ordered k (same (tree e) (tree f))) c.from_residual-in_err-values-in-Same.ensures.1 (λ x h. h) c.in_err-values-in-Same.ensures.leftmost)
 
 pub decided-returns-in_err-values-in-Differ-clause-leftmost : goal.decided-returns-in_err-values-in-Differ-clause-leftmost
 decided-returns-in_err-values-in-Differ-clause-leftmost g t c =
@@ -744,16 +715,7 @@ decided-returns-in_err-values-in-Differ-clause-leftmost g t c =
     let f = c.in-Differ.f in
     let sides = two (tree e) (tree f) in
     let is = ap cond_tree c.in-Differ.is ∙ cond_Differ e f in
-    sides_leftmost g.T.Structure.ordered k (cond_tree c.args.c.now) (differ (tree e) (tree f)) c.from_residual-in_err-values-in-Differ.result is (passed_on c.from_residual-in_err-values-in-Differ.result c.in_err-values-in-Differ.field-0.0 (IsOfLeftmost g.T.Structure.ordered k sides) (IsOfLeftmost g.T.Structure.ordered k sides) c.from_residual-in_err-values-in-Differ.ensures.1 (λ x h. h) c.in_err-values-in-Differ.ensures.leftmost)
-
-pub decided-returns-in_ok-values-in-Differ-clause-leftmost : goal.decided-returns-in_ok-values-in-Differ-clause-leftmost
-decided-returns-in_ok-values-in-Differ-clause-leftmost g t c =
-    let k = c.args.context.now in
-    let e = c.in-Differ.e in
-    let f = c.in-Differ.f in
-    let sides = two (tree e) (tree f) in
-    let is = ap cond_tree c.in-Differ.is ∙ cond_Differ e f in
-    sides_leftmost g.T.Structure.ordered k (cond_tree c.args.c.now) (differ (tree e) (tree f)) c.compared-in-Differ.result is (err_always c.compared-in-Differ.result (IsOfLeftmost g.T.Structure.ordered k sides) (λ x. none_fails g.T.Structure.ordered k sides x (values_given k sides (sides_listed c.in_ok-values-in-Differ.values) c.in_ok-values-in-Differ.ensures.terms.values)))
+    sides_leftmost g.T.Structure.ordered k (cond_tree c.args.c.now) (differ (tree e) (tree f)) c.from_residual-in_err-values-in-Differ.result is (passed_on c.from_residual-in_err-values-in-Differ.result c.in_err-values-in-Differ.field-0.0 (IsOfLeftmost g.T.Structure.ordered k sides) (IsOfLeftmostSide g.T.Structure.ordered k (differ (tree e) (tree f))) c.from_residual-in_err-values-in-Differ.ensures.1 (λ x h. h) c.in_err-values-in-Differ.ensures.leftmost)
 
 pub decided-returns-in_err-values-in-Below-clause-leftmost : goal.decided-returns-in_err-values-in-Below-clause-leftmost
 decided-returns-in_err-values-in-Below-clause-leftmost g t c =
@@ -761,17 +723,11 @@ decided-returns-in_err-values-in-Below-clause-leftmost g t c =
     let e = c.in-Below.e in
     let f = c.in-Below.f in
     let sides = two (tree e) (tree f) in
+    let Bad : Fault → Type 0 = IsFaultOf g.T.Structure.ordered k (SomeFails sides) in
+    let Own : Fault → Type 0 = IsOfLeftmost g.T.Structure.ordered k sides in
     let is = ap cond_tree c.in-Below.is ∙ cond_Below c.in-Below.field-0 e f in
-    sides_leftmost g.T.Structure.ordered k (cond_tree c.args.c.now) (below c.in-Below.field-0.offset (tree e) (tree f)) c.from_residual-in_err-values-in-Below.result is (passed_on c.from_residual-in_err-values-in-Below.result c.in_err-values-in-Below.field-0.0 (IsOfLeftmost g.T.Structure.ordered k sides) (IsOfLeftmost g.T.Structure.ordered k sides) c.from_residual-in_err-values-in-Below.ensures.1 (λ x h. h) c.in_err-values-in-Below.ensures.leftmost)
-
-pub decided-returns-in_ok-values-in-Below-clause-leftmost : goal.decided-returns-in_ok-values-in-Below-clause-leftmost
-decided-returns-in_ok-values-in-Below-clause-leftmost g t c =
-    let k = c.args.context.now in
-    let e = c.in-Below.e in
-    let f = c.in-Below.f in
-    let sides = two (tree e) (tree f) in
-    let is = ap cond_tree c.in-Below.is ∙ cond_Below c.in-Below.field-0 e f in
-    sides_leftmost g.T.Structure.ordered k (cond_tree c.args.c.now) (below c.in-Below.field-0.offset (tree e) (tree f)) c.compared-in-Below.result is (err_always c.compared-in-Below.result (IsOfLeftmost g.T.Structure.ordered k sides) (λ x. none_fails g.T.Structure.ordered k sides x (values_given k sides (sides_listed c.in_ok-values-in-Below.values) c.in_ok-values-in-Below.ensures.terms.values)))
+    sides_leftmost g.T.Structure.ordered k (cond_tree c.args.c.now) (below c.in-Below.field-0.offset (tree e) (tree f)) c.from_residual-in_err-values-in-Below.result is (passed_on c.from_residual-in_err-values-in-Below.result c.in_err-values-in-Below.field-0.0 (λ x. Bad x × Own x) (IsOfLeftmostSide g.T.Structure.ordered k (below c.in-Below.field-0.offset (tree e) (tree f))) c.from_residual-in_err-values-in-Below.ensures.1
+    (λ x h. fault_of_operand g.T.Structure.ordered k IsNoAtom sides x h.0 h.1) (both_faults c.in_err-values-in-Below.field-0.0 Bad Own c.in_err-values-in-Below.ensures.fault c.in_err-values-in-Below.ensures.leftmost))
 
 pub decided-returns-in_err-values-in-Member-clause-leftmost : goal.decided-returns-in_err-values-in-Member-clause-leftmost
 decided-returns-in_err-values-in-Member-clause-leftmost g t c =
@@ -780,16 +736,7 @@ decided-returns-in_err-values-in-Member-clause-leftmost g t c =
     let f = c.in-Member.f in
     let sides = two (tree e) (tree f) in
     let is = ap cond_tree c.in-Member.is ∙ cond_Member e f in
-    sides_leftmost g.T.Structure.ordered k (cond_tree c.args.c.now) (member (tree e) (tree f)) c.from_residual-in_err-values-in-Member.result is (passed_on c.from_residual-in_err-values-in-Member.result c.in_err-values-in-Member.field-0.0 (IsOfLeftmost g.T.Structure.ordered k sides) (IsOfLeftmost g.T.Structure.ordered k sides) c.from_residual-in_err-values-in-Member.ensures.1 (λ x h. h) c.in_err-values-in-Member.ensures.leftmost)
-
-pub decided-returns-in_ok-values-in-Member-clause-leftmost : goal.decided-returns-in_ok-values-in-Member-clause-leftmost
-decided-returns-in_ok-values-in-Member-clause-leftmost g t c =
-    let k = c.args.context.now in
-    let e = c.in-Member.e in
-    let f = c.in-Member.f in
-    let sides = two (tree e) (tree f) in
-    let is = ap cond_tree c.in-Member.is ∙ cond_Member e f in
-    sides_leftmost g.T.Structure.ordered k (cond_tree c.args.c.now) (member (tree e) (tree f)) c.compared-in-Member.result is (err_always c.compared-in-Member.result (IsOfLeftmost g.T.Structure.ordered k sides) (λ x. none_fails g.T.Structure.ordered k sides x (values_given k sides (sides_listed c.in_ok-values-in-Member.values) c.in_ok-values-in-Member.ensures.terms.values)))
+    sides_leftmost g.T.Structure.ordered k (cond_tree c.args.c.now) (member (tree e) (tree f)) c.from_residual-in_err-values-in-Member.result is (passed_on c.from_residual-in_err-values-in-Member.result c.in_err-values-in-Member.field-0.0 (IsOfLeftmost g.T.Structure.ordered k sides) (IsOfLeftmostSide g.T.Structure.ordered k (member (tree e) (tree f))) c.from_residual-in_err-values-in-Member.ensures.1 (λ x h. h) c.in_err-values-in-Member.ensures.leftmost)
 
 pub decided-returns-in_err-values-in-Included-clause-leftmost : goal.decided-returns-in_err-values-in-Included-clause-leftmost
 decided-returns-in_err-values-in-Included-clause-leftmost g t c =
@@ -797,17 +744,11 @@ decided-returns-in_err-values-in-Included-clause-leftmost g t c =
     let e = c.in-Included.e in
     let f = c.in-Included.f in
     let sides = two (tree e) (tree f) in
+    let Bad : Fault → Type 0 = IsFaultOf g.T.Structure.ordered k (SomeFails sides) in
+    let Own : Fault → Type 0 = IsOfLeftmost g.T.Structure.ordered k sides in
     let is = ap cond_tree c.in-Included.is ∙ cond_Included e f in
-    sides_leftmost g.T.Structure.ordered k (cond_tree c.args.c.now) (included (tree e) (tree f)) c.from_residual-in_err-values-in-Included.result is (passed_on c.from_residual-in_err-values-in-Included.result c.in_err-values-in-Included.field-0.0 (IsOfLeftmost g.T.Structure.ordered k sides) (IsOfLeftmost g.T.Structure.ordered k sides) c.from_residual-in_err-values-in-Included.ensures.1 (λ x h. h) c.in_err-values-in-Included.ensures.leftmost)
-
-pub decided-returns-in_ok-values-in-Included-clause-leftmost : goal.decided-returns-in_ok-values-in-Included-clause-leftmost
-decided-returns-in_ok-values-in-Included-clause-leftmost g t c =
-    let k = c.args.context.now in
-    let e = c.in-Included.e in
-    let f = c.in-Included.f in
-    let sides = two (tree e) (tree f) in
-    let is = ap cond_tree c.in-Included.is ∙ cond_Included e f in
-    sides_leftmost g.T.Structure.ordered k (cond_tree c.args.c.now) (included (tree e) (tree f)) c.compared-in-Included.result is (err_always c.compared-in-Included.result (IsOfLeftmost g.T.Structure.ordered k sides) (λ x. none_fails g.T.Structure.ordered k sides x (values_given k sides (sides_listed c.in_ok-values-in-Included.values) c.in_ok-values-in-Included.ensures.terms.values)))
+    sides_leftmost g.T.Structure.ordered k (cond_tree c.args.c.now) (included (tree e) (tree f)) c.from_residual-in_err-values-in-Included.result is (passed_on c.from_residual-in_err-values-in-Included.result c.in_err-values-in-Included.field-0.0 (λ x. Bad x × Own x) (IsOfLeftmostSide g.T.Structure.ordered k (included (tree e) (tree f))) c.from_residual-in_err-values-in-Included.ensures.1
+    (λ x h. fault_of_operand g.T.Structure.ordered k IsNoSet sides x h.0 h.1) (both_faults c.in_err-values-in-Included.field-0.0 Bad Own c.in_err-values-in-Included.ensures.fault c.in_err-values-in-Included.ensures.leftmost))
 
 pub made-returns-in_ok-evaluated-in-Part-clause-leftmost :
     goal.made-returns-in_ok-evaluated-in-Part-clause-leftmost

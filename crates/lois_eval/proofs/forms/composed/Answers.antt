@@ -12,11 +12,13 @@ use Rattle.lois_script.proofs.Views.{tree_Tuple, tree_Listed, tree_Apply}
 use Rattle.lois_context.specs.Choices.{AdmitsContext}
 use Rattle.lois_eval.specs.Evaluated.{AreTermsOf}
 use Rattle.lois_eval.specs.Forms.{parts_of}
+use Rattle.lois_eval.specs.LeftToRight.{IsOfLeftmostOperand}
 use Rattle.lois_eval.specs.Operands.{IsAppliedThroughout, IsUnfitFault}
 use Rattle.lois_eval.specs.WellFormed.{IsWellFormedIn, IsWellFormed}
 use Rattle.lois_eval.specs.Throughout.{IfFault, IsFaultOf}
 use Rattle.lois_eval.proofs.FaultsAt.{if_fault}
-use Rattle.lois_eval.proofs.LoopExit.{four_ok}
+use Rattle.lois_eval.proofs.LeftToRight.{leftmost_as, unfit_fault}
+use Rattle.lois_eval.proofs.LoopExit.{four_ok, err_weaker}
 use Rattle.lois_eval.proofs.Nodes.{tuple_made, listed_made, apply_made, apply_fails, made_as, breaks_as}
 use Rattle.lois_eval.proofs.Parts.{count_of-more}
 use Rattle.lois_eval.proofs.forms.composed.Goals as goal
@@ -84,3 +86,16 @@ returns-in-Apply-clause-fault g c =
     let values = subst (λ z. AreTermsOf k (parts_of z) (IsWellFormed z) ts) is c.requires.values in
     let P = IsUnfitFault g.T.Structure.ordered k op es (terms_of ts) in
     IfErr-weaker c.applied.result (λ s. IfFault s P) _ (λ s h. if_fault s P (IsFaultOf g.T.Structure.ordered k (Breaks (tree c.args.e.now))) (λ f unfit. breaks_as g.T.Structure.ordered k (tree c.args.e.now) (apply p.offset op es) f is (apply_fails k g.T.Structure.ordered p.offset op es ts f c.requires.placed.operators values unfit)) h) c.applied.ensures.fault
+
+pub returns-in-Apply-clause-leftmost : goal.returns-in-Apply-clause-leftmost
+returns-in-Apply-clause-leftmost g c =
+    let o = g.T.Structure.ordered in
+    let k = c.args.context.now in
+    let p = c.in-Apply.field-0 in
+    let op = c.in-Apply.operation in
+    let ts = c.args.values in
+    let es = exprs_of (exprs_list c.in-Apply.operands) in
+    let d = apply p.offset op es in
+    let is = ap tree c.in-Apply.is ∙ tree_Apply p op c.in-Apply.operands in
+    let values = subst (λ z. AreTermsOf k (parts_of z) (IsWellFormed z) ts) is c.requires.values in
+    leftmost_as o k (tree c.args.e.now) d c.applied.result is (err_weaker c.applied.result (IsUnfitFault o k op es (terms_of ts)) (IsOfLeftmostOperand o k d) (λ f unfit. unfit_fault o k p.offset op es ts f c.requires.placed.operators values.values unfit) c.applied.ensures.fault)

@@ -58,7 +58,7 @@ returns-in-Product-clause-fault g c =
     let Q = IsUnfitFault g.T.Structure.ordered k c.args.operation (exprs_of (exprs_list c.args.operands.now)) (terms_of c.args.values.now) in
     IfErr-weaker c.product_of.result (λ z. IfFault z P) _
     (λ z h. if_fault z P Q (λ x unfit. subst (λ op. IsUnfitFault g.T.Structure.ordered k op (exprs_of (exprs_list c.args.operands.now)) (terms_of c.args.values.now) x) (sym c.in-Product.is)
-    (product_unfit g.T.Structure.ordered k (exprs_list c.args.operands.now) c.args.values.now x (tree e) (tree f) s t c.two_exprs.ensures c.two_terms.ensures c.requires.operands.context_operators unfit)) h) c.product_of.ensures.fault
+    (product_unfit g.T.Structure.ordered k (exprs_list c.args.operands.now) c.args.values.now x (tree e) (tree f) s t c.two_exprs.ensures c.two_terms.ensures unfit)) h) c.product_of.ensures.fault
 
 pub one_expr-requires : goal.one_expr-requires
 one_expr-requires g c =
