@@ -18,13 +18,6 @@ pub record AreWithClasses (pairs : PointValue) (a : Automaton) : Type 0 where
   pub classed : (y q x : PointValue) → IsIn y pairs → IsPair y q x → IsReachable a q × IsClassOf a x q
   pub each : (q : PointValue) → IsReachable a q → (y x : PointValue) × IsIn y pairs × IsPair y q x
 
--- the same set says the same
-pub classed_same : (nodes alike v w : PointValue) → IsSame v w → AreClassed nodes alike v → AreClassed nodes alike w
-classed_same nodes alike v w s a = record {
-  classed = λ y i. a.classed y (same_in y w v (same_sym v w s) i);
-  each = λ p i. let f = a.each p i in (f.0, same_in f.0 v w s f.1, f.2);
-}
-
 -- the pairs of states that words don't tell apart give each reachable state its class
 module _ (a : Automaton) (nodes alike pairs : PointValue) (reached : IsSetOf nodes (IsReachable a)) (tells : AreIndistinguishable a alike) (are : AreClassed nodes alike pairs) where
   is_class : (p q x x' : PointValue) → IsSame p q → IsSame x x' → IsReachable a q → IsSetOfLed alike p x → IsClassOf a x' q

@@ -19,13 +19,12 @@ use crate::transitions::class_steps;
 use lois_automata::{FiveSets, five, of_five, targets_from};
 use lois_base::{Comps, Constraint, Decider, NoMemory, Structure, Term};
 use lois_deciders::Chosen;
-use lois_simplify::simplify;
 use std::alloc::Global;
 
 /// The minimal automaton of the complete deterministic automaton `a`, whose reachable states are the set `reached`, at each
 /// choice that `under` admits. Errors: `NoMemory`, also where a level or the number of rounds would pass the greatest usize.
-/// The decider is asked where states with their classes are simplified; otherwise what can't be met is found when constraints
-/// are pruned.
+/// Nothing is asked: what can't be met is found when constraints are pruned. The decider is borrowed as by all calls on
+/// automata.
 pub fn minimise<T: Structure>(
     alloc: Global,
     a: &Term,
@@ -55,12 +54,8 @@ pub fn minimise<T: Structure>(
         return a.copy(alloc);
     };
     let alike = indistinguishable_pairs::<T>(alloc, sets, nodes, size)?;
-    let classes = Term::Coll(with_classes::<T>(alloc, nodes, &alike, size)?);
-    let lean = simplify::<T>(alloc, &classes, under, size, chosen)?;
-    let Term::Coll(pairs) = lean else {
-        return a.copy(alloc);
-    };
-    quotient::<T>(alloc, sets, &pairs, size)
+    let classes = with_classes::<T>(alloc, nodes, &alike, size)?;
+    quotient::<T>(alloc, sets, &classes, size)
 }
 
 // The automaton whose five sets have the second parts of the pairs in the place of their first parts.

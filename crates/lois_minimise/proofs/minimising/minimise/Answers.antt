@@ -1,13 +1,8 @@
-use Rattle.std.proofs.Common.{◌≡◌, List, length, ap, subst}
-use Rattle.std.specs.Bool.{IsTrue}
+use Rattle.std.proofs.Common.{◌≡◌, ap}
 use Rattle.std.proofs.lemmas.Result.{IfOk-weaker}
-use Rattle.lois_base.specs.Atom.{Atom}
 use Rattle.lois_base.specs.Data.{coll, comps_of}
 use Rattle.lois_base.specs.Tree.{tree}
-use Rattle.lois_base.specs.Truth.{holds}
-use Rattle.lois_base.specs.Values.{point, IsSame}
 use Rattle.lois_minimise.specs.Classes.{IsQuotientTerm}
-use Rattle.lois_minimise.proofs.Classes.{classed_same}
 use Rattle.lois_minimise.proofs.TheMinimal.{whole_throughout, minimal_throughout}
 use Rattle.lois_minimise.proofs.minimising.minimise.Goals as goal
 
@@ -23,12 +18,10 @@ returns-clause-minimal g c =
     let sets = c.in-Some.sets in
     let alike = coll (comps_of c.in_ok-alike.alike) in
     let whole = whole_throughout n c.args.under.now (tree c.args.a.now) (tree c.args.reached.now) (comps_of sets.states.now) (comps_of sets.letters.now) (comps_of sets.steps.now) (comps_of sets.initial.now) (comps_of sets.accepting.now) (comps_of c.in-Coll.nodes) c.in-Some.ensures.some (ap tree c.in-Coll.is) c.requires.whole c.requires.reached in
-    let made = coll (comps_of c.in_ok-with_classes.field-0) in
-    let classes = coll (comps_of c.in-Coll-lean.pairs) in
-    let lean : (d : List Atom) → length d ≡ n → IsTrue (holds d c.args.under.now) → IsSame (point made d) (point classes d) = λ d l u. subst (λ z. IsSame (point made d) (point z d)) (ap tree c.in-Coll-lean.is) (c.in_ok-lean.ensures.value d l u) in
-    IfOk-weaker c.quotient.result (λ r. IsQuotientTerm n (comps_of sets.states.now) (comps_of sets.letters.now) (comps_of sets.steps.now) (comps_of sets.initial.now) (comps_of sets.accepting.now) classes (tree r)) _ (λ r quotient.
+    let classes = coll (comps_of c.in_ok-classes.classes) in
+    IfOk-weaker c.quotient.result (λ r. IsQuotientTerm n (comps_of sets.states.now) (comps_of sets.letters.now) (comps_of sets.steps.now) (comps_of sets.initial.now) (comps_of sets.accepting.now) classes (tree r)) _ (λ r made.
     (minimal_throughout n c.args.under.now (tree c.args.a.now) (tree c.args.reached.now) (comps_of sets.states.now) (comps_of sets.letters.now) (comps_of sets.steps.now) (comps_of sets.initial.now) (comps_of sets.accepting.now) (comps_of c.in-Coll.nodes) c.in-Some.ensures.some (ap tree c.in-Coll.is) c.requires.whole c.requires.reached
-    alike classes (tree r) (λ d l u. c.in_ok-alike.ensures.alike d l (whole d l u)) (λ d l u. classed_same (point (coll (comps_of c.in-Coll.nodes)) d) (point alike d) (point made d) (point classes d) (lean d l u) (c.in_ok-with_classes.ensures.classed d l)) quotient).0) c.quotient.ensures.quotient
+    alike classes (tree r) (λ d l u. c.in_ok-alike.ensures.alike d l (whole d l u)) (λ d l u. c.in_ok-classes.ensures.classed d l) made).0) c.quotient.ensures.quotient
 
 pub returns-clause-least : goal.returns-clause-least
 returns-clause-least g c =
@@ -36,9 +29,7 @@ returns-clause-least g c =
     let sets = c.in-Some.sets in
     let alike = coll (comps_of c.in_ok-alike.alike) in
     let whole = whole_throughout n c.args.under.now (tree c.args.a.now) (tree c.args.reached.now) (comps_of sets.states.now) (comps_of sets.letters.now) (comps_of sets.steps.now) (comps_of sets.initial.now) (comps_of sets.accepting.now) (comps_of c.in-Coll.nodes) c.in-Some.ensures.some (ap tree c.in-Coll.is) c.requires.whole c.requires.reached in
-    let made = coll (comps_of c.in_ok-with_classes.field-0) in
-    let classes = coll (comps_of c.in-Coll-lean.pairs) in
-    let lean : (d : List Atom) → length d ≡ n → IsTrue (holds d c.args.under.now) → IsSame (point made d) (point classes d) = λ d l u. subst (λ z. IsSame (point made d) (point z d)) (ap tree c.in-Coll-lean.is) (c.in_ok-lean.ensures.value d l u) in
-    IfOk-weaker c.quotient.result (λ r. IsQuotientTerm n (comps_of sets.states.now) (comps_of sets.letters.now) (comps_of sets.steps.now) (comps_of sets.initial.now) (comps_of sets.accepting.now) classes (tree r)) _ (λ r quotient.
+    let classes = coll (comps_of c.in_ok-classes.classes) in
+    IfOk-weaker c.quotient.result (λ r. IsQuotientTerm n (comps_of sets.states.now) (comps_of sets.letters.now) (comps_of sets.steps.now) (comps_of sets.initial.now) (comps_of sets.accepting.now) classes (tree r)) _ (λ r made.
     (minimal_throughout n c.args.under.now (tree c.args.a.now) (tree c.args.reached.now) (comps_of sets.states.now) (comps_of sets.letters.now) (comps_of sets.steps.now) (comps_of sets.initial.now) (comps_of sets.accepting.now) (comps_of c.in-Coll.nodes) c.in-Some.ensures.some (ap tree c.in-Coll.is) c.requires.whole c.requires.reached
-    alike classes (tree r) (λ d l u. c.in_ok-alike.ensures.alike d l (whole d l u)) (λ d l u. classed_same (point (coll (comps_of c.in-Coll.nodes)) d) (point alike d) (point made d) (point classes d) (lean d l u) (c.in_ok-with_classes.ensures.classed d l)) quotient).1) c.quotient.ensures.quotient
+    alike classes (tree r) (λ d l u. c.in_ok-alike.ensures.alike d l (whole d l u)) (λ d l u. c.in_ok-classes.ensures.classed d l) made).1) c.quotient.ensures.quotient
